@@ -1,0 +1,24 @@
+//! Byte strings.
+ghost use Rattle.std.specs.Prelude.{◌≡◌, IfOk};
+
+use crate::sequence::Sequence;
+use std::alloc::{AllocError, Global};
+
+/// Bytes of a file, a value or a printed line.
+pub type Bytes = Sequence<u8>;
+
+/// A file's name (1 to 255 bytes, none of them `/` or 0), or an object's.
+pub type Name = Sequence<u8>;
+
+/// A path as its bytes, at most 4,096 of them where it is walked.
+pub type Path = Sequence<u8>;
+
+/// Text in UTF-8, as a volume's name, a bucket or a place.
+pub type Text = Sequence<u8>;
+
+/// A copy of bytes.
+pub fn copied(alloc: Global, bytes: &[u8]) -> Result<Bytes, AllocError>
+    ensures { IfOk result (λ copy. copy ≡ bytes.now) }
+{
+    Ok(Sequence::from_vec(bytes.to_vec(alloc)?))
+}

@@ -1,0 +1,108 @@
+//! Refusals, and the errors of devices, readings and transactions.
+use crate::basics::Moment;
+use crate::bytes::Bytes;
+use crate::row::RowKey;
+use crate::slice::List;
+use thiserror::Error;
+
+/// A device that an operation uses.
+#[derive(Clone, Copy, Debug, PartialEq, Eq)]
+pub enum Device {
+    Keeper,
+    Depot,
+    Shelf,
+    Carrier,
+}
+
+/// What an operation found gone.
+#[derive(Clone, Copy, Debug, PartialEq, Eq)]
+pub enum Gone {
+    Session(u64),
+    Node(u64),
+}
+
+/// Why an operation gave way to others.
+#[derive(Clone, Copy, Debug, PartialEq, Eq)]
+pub enum Busy {
+    /// Blocks of a read went away as many times.
+    Misses(u32),
+    /// A compaction found another list than the one it looked at, by their numbers of records.
+    Lists { looked: u32, found: u32 },
+}
+
+/// A refusal of an operation, by the error of POSIX whose name is printed.
+#[derive(Clone, Copy, Debug, PartialEq, Eq)]
+pub enum Fault {
+    /// ENOENT: there is no such entry.
+    NotFound,
+    /// EEXIST: the entry is there.
+    AlreadyExists,
+    /// ENOTDIR.
+    NotADirectory,
+    /// EISDIR.
+    IsADirectory,
+    /// ENOTEMPTY.
+    DirectoryNotEmpty,
+    /// EINVAL.
+    Invalid,
+    /// ENAMETOOLONG: a name of over 255 bytes, or a path or target of over 4,096.
+    NameTooLong,
+    /// EBADF: the handle isn't open.
+    BadHandle,
+    /// ENOSPC: a limit of the volume, or a stored count at its greatest number.
+    NoSpace,
+    /// EFBIG: a position past 2^40.
+    FileTooLarge,
+    /// ELOOP: over 40 symlinks in one walk.
+    SymlinkLoop,
+    /// EPERM.
+    NotPermitted,
+    /// EMFILE: 1,024 handles are open.
+    TooManyHandles,
+    /// EAGAIN: bytes of that Commit (0: from before the run) are still staged at another client.
+    TryAgain { commit: u64 },
+    /// ESTALE: the session or the inode is gone.
+    Stale(Gone),
+    /// ETIMEDOUT: an upload's commit came 3,600 seconds after its start, or later.
+    TimedOut { started: Moment, now: Moment },
+    /// EBUSY.
+    Contended(Busy),
+    /// EIO: the device failed.
+    DeviceFailed(Device),
+    /// ENOTCONN: the client isn't mounted.
+    NotConnected,
+    /// EALREADY: an operation is in progress, or the client is mounted.
+    InProgress,
+    /// ENOMEM: want of memory.
+    NoMemory,
+}
+
+/// Why a device's call didn't do its work. Its content is unchanged.
+#[derive(Clone, Copy, Debug, PartialEq, Eq, Error)]
+pub enum Down {
+    /// The device failed, and its count of faults rose.
+    #[error("the device failed")]
+    Failed,
+    /// Want of memory.
+    #[error("out of memory")]
+    Memory,
+}
+
+/// Why a row wasn't read.
+#[derive(Debug, Drop, PartialEq, Eq)]
+pub enum RowFault {
+    /// The row is off its grammar, or names a row that isn't there; no bytes where it is absent itself.
+    Bad(RowKey, Bytes),
+    Failed,
+    /// Want of memory.
+    Memory,
+}
+
+/// Why a transaction didn't commit.
+#[derive(Debug, Drop, PartialEq, Eq)]
+pub enum TxFault {
+    Refused(Fault),
+    /// The list of the window isn't the one that was looked at; this one is there.
+    Moved(List),
+    Rows(RowFault),
+}

@@ -1,0 +1,30 @@
+//! The words that all crates of `juicevol` share: plain types, the journal, and in `specs/` the definitions
+//! that every contract cites.
+#![tactic(auto)]
+
+mod act;
+mod basics;
+mod bytes;
+mod fault;
+mod journal;
+mod op;
+mod row;
+mod sequence;
+mod setting;
+mod slice;
+
+pub use act::{Act, ActKind, NO_CLIENT, Told};
+pub use basics::{ClientId, How, InodeList, LAST_MOMENT, Limits, Moment, Who};
+pub use bytes::{Bytes, Name, Path, Text, copied};
+pub use fault::{Busy, Device, Down, Fault, Gone, RowFault, TxFault};
+pub use journal::Journal;
+pub use op::{Line, Op, Reply, Step};
+pub use row::{
+    Counters, Dead, Dropped, Edge, Finding, Findings, Node, Row, RowKey, RowList, Rows, Session,
+    SliceRow,
+};
+pub use sequence::Sequence;
+pub use setting::{Attr, FileKind, Setting, Space};
+pub use slice::{
+    BlockId, BlockKeys, EntryList, List, NameList, Piece, Pieces, Rec, Seen, SeenList, Spot, WINDOW,
+};

@@ -1,0 +1,161 @@
+//! The rows of a volume's metadata, a type for each table. Their fields have the widths of the stored numbers.
+use crate::bytes::{Bytes, Name};
+use crate::sequence::Sequence;
+use crate::setting::Setting;
+use crate::slice::List;
+
+/// The key of a row: its table and two parts, of which some tables use one.
+#[derive(Debug, Drop, PartialEq, Eq)]
+pub struct RowKey {
+    pub tab: u8,
+    pub a: u64,
+    pub b: Bytes,
+}
+
+/// Rows with their bytes.
+pub type Rows = Sequence<(RowKey, Bytes)>;
+
+/// The next numbers and the running totals.
+#[derive(Clone, Copy, Debug, PartialEq, Eq)]
+pub struct Counters {
+    pub inode: u64,
+    pub slice: u64,
+    pub session: u64,
+    /// Used space in bytes.
+    pub used_space: u64,
+    pub used_inodes: u64,
+}
+
+/// An inode.
+#[derive(Debug, Drop, PartialEq, Eq)]
+pub struct Node {
+    /// 1 for a file, 2 for a directory, 3 for a symlink.
+    pub kind: u8,
+    /// Permission bits, at most 0o7777.
+    pub mode: u16,
+    pub uid: u32,
+    pub gid: u32,
+    pub nlink: u32,
+    /// Seconds.
+    pub mtime: u64,
+    /// Seconds.
+    pub ctime: u64,
+    /// Bytes; 4,096 for a directory.
+    pub length: u64,
+    /// A directory's parent, else 0.
+    pub parent: u64,
+    /// A symlink's target, else empty.
+    pub target: Bytes,
+}
+
+/// An entry of a directory.
+#[derive(Clone, Copy, Debug, PartialEq, Eq)]
+pub struct Edge {
+    /// As the node's.
+    pub kind: u8,
+    pub inode: u64,
+}
+
+/// A slice with the number of records that name it.
+#[derive(Clone, Copy, Debug, PartialEq, Eq)]
+pub struct SliceRow {
+    /// Bytes.
+    pub size: u32,
+    pub count: u64,
+}
+
+/// A mounted client.
+#[derive(Clone, Copy, Debug, PartialEq, Eq)]
+pub struct Session {
+    /// 0 to 7.
+    pub client: u8,
+    /// Seconds.
+    pub expiry: u64,
+}
+
+/// A file that is gone and whose lists are still there.
+#[derive(Clone, Copy, Debug, PartialEq, Eq)]
+pub struct Dropped {
+    /// Bytes.
+    pub length: u64,
+}
+
+/// A slice that nothing names and whose blocks are still there.
+#[derive(Clone, Copy, Debug, PartialEq, Eq)]
+pub struct Dead {
+    /// Bytes.
+    pub size: u32,
+    /// When its blocks may be removed, in seconds.
+    pub due: u64,
+}
+
+/// A row by its table.
+#[derive(Debug, Drop, PartialEq, Eq)]
+pub enum Row {
+    OfSetting(Setting),
+    OfCounters(Counters),
+    OfNode(Node),
+    OfEdge(Edge),
+    OfList(List),
+    OfSlice(SliceRow),
+    OfSession(Session),
+    /// A session keeps an unlinked file, which its key names.
+    OfSustained,
+    OfDropped(Dropped),
+    OfDead(Dead),
+}
+
+/// Rows as their types.
+pub type RowList = Sequence<(RowKey, Row)>;
+
+/// Something that a whole volume doesn't have.
+#[derive(Debug, Drop, PartialEq, Eq)]
+pub enum Finding {
+    /// An entry's node is absent or has another kind.
+    EdgeOff {
+        dir: u64,
+        name: Name,
+    },
+    /// A node that nothing names or sustains.
+    Orphan {
+        inode: u64,
+    },
+    LinkCountOff {
+        inode: u64,
+        stored: u32,
+        counted: u64,
+    },
+    /// A list that belongs to no file, or has a record without its slice.
+    ListOff {
+        inode: u64,
+        window: u32,
+    },
+    RefCountOff {
+        id: u64,
+        stored: u64,
+        counted: u64,
+    },
+    /// A position past the length that doesn't read zero.
+    PastEnd {
+        inode: u64,
+    },
+    UsedSpaceOff {
+        stored: u64,
+        counted: u128,
+    },
+    UsedInodesOff {
+        stored: u64,
+        counted: u64,
+    },
+    /// A block that is in neither the object store nor staged.
+    BlockMissing {
+        name: Name,
+    },
+    /// An object of another length than its name says.
+    BlockSizeOff {
+        name: Name,
+        length: u64,
+    },
+}
+
+pub type Findings = Sequence<Finding>;

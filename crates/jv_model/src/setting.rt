@@ -1,0 +1,61 @@
+//! A volume's setting, and what `stat` and `statfs` tell.
+use crate::basics::Moment;
+use crate::bytes::Text;
+
+/// What a volume was formatted with.
+#[derive(Debug, Drop, PartialEq, Eq)]
+pub struct Setting {
+    /// The version of the rows.
+    pub version: u32,
+    /// The length of a block in bytes, a power of two from 65,536 to 16,777,216.
+    pub block: u32,
+    /// Days that a removed file stays in the trash; 0 turns the trash off.
+    pub trash_days: u32,
+    /// The greatest used space in GiB; 0 stands for 2^62 bytes.
+    pub capacity: u64,
+    /// The greatest number of used inodes; 0 stands for 2^62.
+    pub inodes: u64,
+    /// 1 where object names have the hash prefix, else 0.
+    pub hash: u8,
+    /// The volume's name, 3 to 63 bytes.
+    pub name: Text,
+    /// Where the objects lie, 1 to 1,024 bytes.
+    pub bucket: Text,
+}
+
+/// What an inode is.
+#[derive(Clone, Copy, Debug, PartialEq, Eq)]
+pub enum FileKind {
+    File,
+    Directory,
+    Symlink,
+}
+
+/// The attributes of an inode (`stat` of POSIX), without `atime` and device numbers.
+#[derive(Clone, Copy, Debug, PartialEq, Eq)]
+pub struct Attr {
+    pub inode: u64,
+    pub kind: FileKind,
+    /// Permission bits, at most 0o7777.
+    pub mode: u16,
+    pub nlink: u32,
+    pub uid: u32,
+    pub gid: u32,
+    /// The length in bytes; 4,096 for a directory.
+    pub size: u64,
+    pub mtime: Moment,
+    pub ctime: Moment,
+}
+
+/// What `statfs` tells of a volume.
+#[derive(Clone, Copy, Debug, PartialEq, Eq)]
+pub struct Space {
+    /// Used space in bytes.
+    pub used: u64,
+    /// The capacity in GiB, as it was set.
+    pub capacity: u64,
+    /// Used inodes.
+    pub inodes: u64,
+    /// The limit of inodes, as it was set.
+    pub limit: u64,
+}
