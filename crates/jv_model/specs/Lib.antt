@@ -1,3 +1,5 @@
 -- The definitions that contracts cite.
 pub mod JournalValue
 pub mod Pending
+pub mod Grammar
+pub mod Printed

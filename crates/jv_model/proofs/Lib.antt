@@ -1,0 +1,3 @@
+-- Closed rows of the definitions.
+pub mod GrammarRows
+pub mod PrintedRows

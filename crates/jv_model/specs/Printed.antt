@@ -1,0 +1,143 @@
+-- The one printed text of each answer.
+use Rattle.std.specs.Prelude.{ℕ, ◌+◌, ◌/◌, ◌%◌, ◌==◌, nat_le, if◌then◌else◌, List, [], ◌∷◌, ◌++◌, map, replicate, slice_index, codes, decimal}
+use Rattle.std.specs.List.{flat_map, join_with_byte}
+use Rattle.jv_model.specs.declared.fault.Device.{Device}
+use Rattle.jv_model.specs.declared.fault.Device.TheVariants.{Keeper, Depot, Shelf, Carrier}
+use Rattle.jv_model.specs.declared.fault.Gone.TheVariants.{Session, Node}
+use Rattle.jv_model.specs.declared.fault.Busy.TheVariants.{Misses, Lists}
+use Rattle.jv_model.specs.declared.fault.Fault.{Fault}
+use Rattle.jv_model.specs.declared.fault.Fault.TheVariants as fault
+use Rattle.jv_model.specs.declared.op.Reply.{Reply}
+use Rattle.jv_model.specs.declared.op.Reply.TheVariants as reply
+
+-- the lower-case hexadecimal digit of a number below 16
+abbrev pub hex_digit : ℕ → ℕ
+hex_digit n = slice_index (codes "0123456789abcdef") n
+
+-- the two digits of a byte, the high one first
+abbrev pub hex_pair : ℕ → List ℕ
+hex_pair byte = hex_digit (byte / 16) ∷ hex_digit (byte % 16) ∷ []
+
+-- a maximal run of equal bytes
+pub record Run : Type 0 where
+  pub byte : ℕ
+  pub count : ℕ
+
+-- the runs after one more byte in front
+abbrev pub with_byte : ℕ → List Run → List Run
+with_byte byte [] = record { byte = byte; count = 1 } ∷ []
+with_byte byte (run ∷ runs) = (if byte == run.byte
+    then record { byte = byte; count = run.count + 1 } ∷ runs
+    else record { byte = byte; count = 1 } ∷ run ∷ runs)
+
+-- bytes as their maximal runs
+abbrev pub runs_of : List ℕ → List Run
+runs_of [] = []
+runs_of (byte ∷ bytes) = with_byte byte (runs_of bytes)
+
+-- a part of printed bytes: plain digits, or a byte and how often it stands
+pub data Part : Type 0 where
+  Plain : List ℕ → Part
+  Repeated : Run → Part
+
+-- the parts after one more short run in front, which goes into a plain part that is first
+abbrev pub with_short : List ℕ → List Part → List Part
+with_short bytes [] = Plain bytes ∷ []
+with_short bytes (Plain more ∷ parts) = Plain (bytes ++ more) ∷ parts
+with_short bytes (Repeated run ∷ parts) = Plain bytes ∷ Repeated run ∷ parts
+
+-- a run of four or more is a part of its own, and shorter ones that stand side by side are one part
+abbrev pub parts_of : List Run → List Part
+parts_of [] = []
+parts_of (run ∷ runs) = (if nat_le 4 run.count
+    then Repeated run ∷ parts_of runs
+    else with_short (replicate run.count run.byte) (parts_of runs))
+
+-- digits, or `HHxN`
+abbrev pub part_text : Part → List ℕ
+part_text (Plain bytes) = flat_map hex_pair bytes
+part_text (Repeated run) = hex_pair run.byte ++ 120 ∷ decimal run.count
+
+-- bytes as DATA: `-` for none, else the parts joined by `+`
+unfoldable pub data_text : List ℕ → List ℕ
+data_text [] = codes "-"
+data_text (byte ∷ bytes) = join_with_byte 43 (map part_text (parts_of (runs_of (byte ∷ bytes))))
+
+abbrev pub device_name : Device → List ℕ
+device_name Keeper = codes "keeper"
+device_name Depot = codes "depot"
+device_name Shelf = codes "shelf"
+device_name Carrier = codes "carrier"
+
+-- the error's name in POSIX
+unfoldable pub fault_name : Fault → List ℕ
+fault_name fault.NotFound = codes "ENOENT"
+fault_name fault.AlreadyExists = codes "EEXIST"
+fault_name fault.NotADirectory = codes "ENOTDIR"
+fault_name fault.IsADirectory = codes "EISDIR"
+fault_name fault.DirectoryNotEmpty = codes "ENOTEMPTY"
+fault_name fault.Invalid = codes "EINVAL"
+fault_name fault.NameTooLong = codes "ENAMETOOLONG"
+fault_name fault.BadHandle = codes "EBADF"
+fault_name fault.NoSpace = codes "ENOSPC"
+fault_name fault.FileTooLarge = codes "EFBIG"
+fault_name fault.SymlinkLoop = codes "ELOOP"
+fault_name fault.NotPermitted = codes "EPERM"
+fault_name fault.TooManyHandles = codes "EMFILE"
+fault_name (fault.TryAgain _) = codes "EAGAIN"
+fault_name (fault.Stale _) = codes "ESTALE"
+fault_name (fault.TimedOut _ _) = codes "ETIMEDOUT"
+fault_name (fault.Contended _) = codes "EBUSY"
+fault_name (fault.DeviceFailed _) = codes "EIO"
+fault_name fault.NotConnected = codes "ENOTCONN"
+fault_name fault.InProgress = codes "EALREADY"
+fault_name fault.NoMemory = codes "ENOMEM"
+
+-- a space and a number
+abbrev pub number_word : ℕ → List ℕ
+number_word n = 32 ∷ decimal n
+
+-- what follows the name: the Commit, what is gone, the two moments, why it is busy, the device
+unfoldable pub fault_words : Fault → List ℕ
+fault_words (fault.TryAgain commit) = number_word commit
+fault_words (fault.Stale (Session sid)) = codes " session" ++ number_word sid
+fault_words (fault.Stale (Node inode)) = codes " inode" ++ number_word inode
+fault_words (fault.TimedOut started now) = number_word started ++ number_word now
+fault_words (fault.Contended (Misses times)) = codes " misses" ++ number_word times
+fault_words (fault.Contended (Lists looked found)) = codes " list" ++ number_word looked ++ number_word found
+fault_words (fault.DeviceFailed device) = 32 ∷ device_name device
+fault_words _ = []
+
+abbrev pub fault_text : Fault → List ℕ
+fault_text f = fault_name f ++ fault_words f
+
+-- a success and the numbers that it has
+abbrev pub ok_text : List ℕ → List ℕ
+ok_text numbers = codes "ok" ++ flat_map number_word numbers
+
+-- stands in for the texts of answers that no line gives yet
+abbrev pub text_to_come : List ℕ
+text_to_come = codes "ok"
+
+-- the text of an answer
+unfoldable pub reply_text : Reply → List ℕ
+reply_text (reply.Refused refusal) = codes "err " ++ fault_text refusal
+reply_text reply.Done = ok_text []
+reply_text (reply.SessionMade sid) = ok_text (sid ∷ [])
+reply_text (reply.Found inode) = ok_text (inode ∷ [])
+reply_text (reply.FileOpened handle inode) = ok_text (handle ∷ inode ∷ [])
+reply_text (reply.Data bytes) = codes "ok " ++ data_text bytes
+reply_text (reply.Count bytes) = ok_text (bytes ∷ [])
+reply_text (reply.Usage space) = ok_text (space.used ∷ space.capacity ∷ space.inodes ∷ space.limit ∷ [])
+reply_text (reply.Compaction before after) = ok_text (before ∷ after ∷ [])
+reply_text (reply.Cleanup sessions trash files slices) = ok_text (sessions ∷ trash ∷ files ∷ slices ∷ [])
+reply_text (reply.Leaked count bytes) = ok_text (count ∷ bytes ∷ [])
+reply_text (reply.CacheStats hits misses cached pending) = ok_text (hits ∷ misses ∷ cached ∷ pending ∷ [])
+reply_text (reply.Described _) = text_to_come
+reply_text (reply.Entries _) = text_to_come
+reply_text (reply.Target _) = text_to_come
+reply_text (reply.Uploaded _) = text_to_come
+
+-- the line that is printed
+abbrev pub printed_line : Reply → List ℕ
+printed_line answer = reply_text answer ++ 10 ∷ []
