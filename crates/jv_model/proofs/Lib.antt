@@ -1,3 +1,5 @@
--- Closed rows of the definitions.
+-- Laws about the definitions, and closed rows of them.
 pub mod GrammarRows
 pub mod PrintedRows
+pub mod MapLaws
+pub mod WorkedRows

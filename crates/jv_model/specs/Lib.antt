@@ -1,5 +1,14 @@
 -- The definitions that contracts cite.
 pub mod JournalValue
+pub mod Attempt
+pub mod FiniteMap
 pub mod Pending
 pub mod Grammar
 pub mod Printed
+pub mod Tree
+pub mod Walk
+pub mod TreeAct
+pub mod Client
+pub mod Past
+pub mod Legal
+pub mod Built

@@ -1,0 +1,62 @@
+-- What a finite map answers after a change.
+use Rattle.std.proofs.Common.{◌≡◌, ℕ, ◌+◌, Bool, true, false, cond, T, ◌&&◌, List, [], ◌∷◌, Option, None, Some, refl, sym, ap, subst, ◌∙◌, arith}
+use Rattle.std.specs.declared.cmp.Ordering.{Ordering}
+use Rattle.std.specs.declared.cmp.Ordering.TheVariants.{Less, Equal, Greater}
+use Rattle.std.specs.Ordering.{eq_by_cmp, is_eq, is_lt}
+use Rattle.std.specs.FinMap.Entries.{put, find, below_all, is_sorted, find-put, same_entries, by_order}
+use Rattle.jv_model.specs.FiniteMap.{KeyOrder, Map, get, insert, sum_over, total_over}
+
+-- what an entry adds to a sum
+abbrev pub share : {K X : Type 0} → (K → X → ℕ) → K → Option X → ℕ
+share f k None = 0
+share f k (Some x) = f k x
+
+first_of_both : (a b : Bool) → T (a && b) → T a
+first_of_both true b p = tt
+first_of_both false b p = p
+
+second_of_both : (a b : Bool) → T (a && b) → T b
+second_of_both true b p = p
+second_of_both false b p = absurd p
+
+less_is : (o : Ordering) → T (is_lt o) → o ≡ Less
+less_is Less p = refl
+less_is Equal p = absurd p
+less_is Greater p = absurd p
+
+module _ {K X : Type 0} {order : KeyOrder K} where
+  pub get-insert : (m : Map order X) (k : K) (v : X) (q : K) → get (insert m k v) q ≡ cond (eq_by_cmp order.cmp q k) (Some v) (get m q)
+  unfolding get insert
+  get-insert m k v q = find-put order.cmp order.total q k v m.list
+
+  pub same_map : (m n : Map order X) → ((q : K) → get m q ≡ get n q) → m.list ≡ n.list
+  unfolding get
+  same_map m n h = same_entries order.cmp order.total order.same m.list n.list m.sorted n.sorted h
+
+module _ {K X : Type 0} (order : KeyOrder K) (f : K → X → ℕ) where
+  find-below : (k x : K) (es : List (K × X)) → order.cmp k x ≡ Less → T (below_all order.cmp x es) → find order.cmp k es ≡ None
+  find-below k x [] p h = refl
+  find-below k x (e ∷ es) p h =
+      let later : order.cmp k e.0 ≡ Less = order.total.trans k x e.0 p (less_is _ (first_of_both _ _ h)) in
+      ap (λ o. cond (is_eq o) (Some e.1) (find order.cmp k es)) later ∙ find-below k x es p (second_of_both _ _ h)
+
+  total-put_at : (k : K) (v : X) (e : K × X) (es : List (K × X)) (o : Ordering) → order.cmp k e.0 ≡ o → T (below_all order.cmp e.0 es)
+      → total_over f (put order.cmp k v es) + share f k (find order.cmp k es) ≡ total_over f es + f k v
+      → total_over f (by_order o ((k, v) ∷ e ∷ es) ((e.0, v) ∷ es) (e ∷ put order.cmp k v es)) + share f k (cond (is_eq o) (Some e.1) (find order.cmp k es)) ≡ (f e.0 e.1 + total_over f es) + f k v
+  total-put_at k v e es Less p below rest =
+      let absent : share f k (find order.cmp k es) ≡ 0 = ap (share f k) (find-below k e.0 es p below) in
+      omega (arith, absent)
+  total-put_at k v e es Equal p below rest =
+      let one : f k v ≡ f e.0 v = ap (λ q. f q v) (order.same k e.0 p) in
+      let other : f k e.1 ≡ f e.0 e.1 = ap (λ q. f q e.1) (order.same k e.0 p) in
+      omega (arith, one, other)
+  total-put_at k v e es Greater p below rest = omega (arith, rest)
+
+  total-put : (k : K) (v : X) (es : List (K × X)) → T (is_sorted order.cmp es) → total_over f (put order.cmp k v es) + share f k (find order.cmp k es) ≡ total_over f es + f k v
+  total-put k v [] h = omega arith
+  total-put k v (e ∷ es) h =
+      total-put_at k v e es (order.cmp k e.0) refl (first_of_both _ _ h) (total-put k v es (second_of_both _ _ h))
+
+  pub sum-insert : (m : Map order X) (k : K) (v : X) → sum_over f (insert m k v) + share f k (get m k) ≡ sum_over f m + f k v
+  unfolding sum_over insert get
+  sum-insert m k v = total-put k v m.list m.sorted

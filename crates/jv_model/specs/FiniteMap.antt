@@ -1,0 +1,50 @@
+-- Finite maps that compute in closed proofs: a list of entries whose keys strictly rise.
+use Rattle.std.specs.Prelude.{◌≡◌, ℕ, ◌+◌, Bool, true, false, not, IsTrue, List, [], ◌∷◌, Option, None, Some, is_some, if◌then◌else◌, refl}
+use Rattle.std.proofs.Common.{sym, ap, subst, ◌∙◌, cond, T}
+use Rattle.std.specs.declared.cmp.Ordering.{Ordering}
+use Rattle.std.specs.declared.cmp.Ordering.TheVariants.{Less, Equal, Greater}
+use Rattle.std.specs.Ordering.{nat_cmp, eq_by_cmp, on}
+use Rattle.std.specs.Cmp.{IsTotalOrder, nat_cmp_total, on_total}
+use Rattle.std.specs.Cmp.Lexicographic.{slice_cmp, nat_list_cmp_total}
+use Rattle.std.specs.FinMap.{nat_cmp-IsAntisymmetric, slice_cmp-IsAntisymmetric}
+use Rattle.std.specs.FinMap.Entries.{put, find, where_key, is_sorted, is_sorted-put, is_sorted-where_key, find-put, find-where_key, same_entries}
+use mathlib.Core.HLevel.{Σ_prop_path}
+use lib.Dec.{T_prop}
+
+-- an order of keys, in which only equal keys tie
+pub record KeyOrder (K : Type 0) : Type 0 where
+  pub cmp : K → K → Ordering
+  pub total : IsTotalOrder cmp
+  pub same : (x y : K) → cmp x y ≡ Equal → x ≡ y
+
+abbrev pub number_key : KeyOrder ℕ
+number_key = record { cmp = nat_cmp; total = nat_cmp_total; same = nat_cmp-IsAntisymmetric }
+
+abbrev pub text_key : KeyOrder (List ℕ)
+text_key = record { cmp = slice_cmp nat_cmp; total = nat_list_cmp_total; same = slice_cmp-IsAntisymmetric nat_cmp-IsAntisymmetric }
+
+pub record Map {K : Type 0} (order : KeyOrder K) (X : Type 0) : Type 0 where
+  pub list : List (K × X)
+  pub sorted : T (is_sorted order.cmp list)
+
+-- a function of key and value added up over entries
+abbrev pub total_over : {K X : Type 0} → (K → X → ℕ) → List (K × X) → ℕ
+total_over f [] = 0
+total_over f (e ∷ es) = f e.0 e.1 + total_over f es
+
+module _ {K X : Type 0} {order : KeyOrder K} where
+  -- the map without entries
+  abbrev pub empty_map : Map order X
+  empty_map = record { list = []; sorted = tt }
+
+  -- the value at a key
+  unfoldable pub get : Map order X → K → Option X
+  get m q = find order.cmp q m.list
+
+  -- with this value at the key
+  unfoldable pub insert : Map order X → K → X → Map order X
+  insert m k v = record { list = put order.cmp k v m.list; sorted = is_sorted-put order.cmp order.total k v m.list m.sorted }
+
+  -- the values added up by a function of key and value
+  unfoldable pub sum_over : (K → X → ℕ) → Map order X → ℕ
+  sum_over f m = total_over f m.list

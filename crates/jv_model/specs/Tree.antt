@@ -1,0 +1,148 @@
+-- The tree of a file system (POSIX.1-2017, 3.2 "Directory", 3.157 "File Hierarchy", 4.6 "File Times Update"):
+-- nodes by inode, and one map of all entries, keyed by directory and name.
+use Rattle.std.specs.Prelude.{◌≡◌, ℕ, ◌+◌, ◌*◌, ◌/◌, ◌^◌, min, max, Bool, true, false, ◌&&◌, ◌||◌, not, ◌==◌, nat_lt, nat_le, if◌then◌else◌, List, [], ◌∷◌, Option, None, Some, refl, codes}
+use Rattle.std.proofs.Common.{ap}
+use Rattle.std.specs.Ordering.{nat_cmp, on}
+use Rattle.std.specs.Cmp.{on_total}
+use Rattle.std.specs.Cmp.Lexicographic.{slice_cmp, nat_list_cmp_total}
+use Rattle.jv_model.specs.declared.setting.Setting.{Setting}
+use Rattle.jv_model.specs.FiniteMap.{KeyOrder, Map, number_key, text_key, empty_map, get, insert, sum_over}
+
+-- the bytes of a file: how many, and the byte at each position, which is 0 from the length on
+pub record Content : Type 0 where
+  pub length : ℕ
+  pub byte : ℕ → ℕ
+
+pub data Kind : Type 0 where
+  File : Content → Kind
+  Directory : (parent : ℕ) → Kind
+  Symlink : (target : List ℕ) → Kind
+
+pub record Node : Type 0 where
+  pub kind : Kind
+  pub mode : ℕ
+  pub uid : ℕ
+  pub gid : ℕ
+  pub mtime : ℕ
+  pub ctime : ℕ
+
+-- where an entry stands: entries are in the order of their directories, and then of their names' bytes
+pub record EntryKey : Type 0 where
+  pub dir : ℕ
+  pub name : List ℕ
+
+pub record SessionEntry : Type 0 where
+  pub client : ℕ
+  pub expiry : ℕ
+
+abbrev pub entry_bytes : EntryKey → List ℕ
+entry_bytes key = key.dir ∷ key.name
+
+abbrev first_number : List ℕ → ℕ
+first_number [] = 0
+first_number (n ∷ ns) = n
+
+abbrev other_numbers : List ℕ → List ℕ
+other_numbers [] = []
+other_numbers (n ∷ ns) = ns
+
+abbrev key_of_bytes : List ℕ → EntryKey
+key_of_bytes ns = record { dir = first_number ns; name = other_numbers ns }
+
+abbrev pub entry_key : KeyOrder EntryKey
+entry_key = record {
+  cmp = on entry_bytes (slice_cmp nat_cmp);
+  total = on_total entry_bytes nat_list_cmp_total;
+  same = λ x y e. ap key_of_bytes (text_key.same (entry_bytes x) (entry_bytes y) e)
+}
+
+pub record Tree : Type 0 where
+  pub setting : Setting
+  pub nodes : Map number_key Node
+  pub entries : Map entry_key ℕ
+  pub sessions : Map number_key SessionEntry
+  pub next_inode : ℕ
+  pub next_session : ℕ
+
+abbrev pub root : ℕ
+root = 1
+
+-- the trash, which has no entry: a walk finds it as `.trash` in the root
+abbrev pub trash_root : ℕ
+trash_root = 9223372032828243968
+
+-- a stored number that stands here refuses to grow
+abbrev pub full_count : ℕ
+full_count = 4611686018427387904
+
+abbrev pub new_node : Kind → ℕ → ℕ → Node
+new_node kind mode now = record { kind = kind; mode = mode; uid = 0; gid = 0; mtime = now; ctime = now }
+
+-- the tree of a volume that was just formatted
+abbrev pub fresh_tree : Setting → ℕ → Tree
+fresh_tree setting now = record {
+  setting = setting;
+  nodes = insert (insert empty_map root (new_node (Directory root) 511 now)) trash_root (new_node (Directory root) 365 now);
+  entries = empty_map;
+  sessions = empty_map;
+  next_inode = 2;
+  next_session = 1
+}
+
+-- Used space and used inodes count neither the root nor the trash's own directories, whose inodes begin at the trash root.
+abbrev pub is_counted : ℕ → Bool
+is_counted inode = not (inode == root) && nat_lt inode trash_root
+
+-- a length in whole pages of 4,096 bytes, at least one
+abbrev pub paged : ℕ → ℕ
+paged length = max 4096 ((length + 4095) / 4096 * 4096)
+
+abbrev pub kind_space : Kind → ℕ
+kind_space (File content) = paged content.length
+kind_space (Directory parent) = 4096
+kind_space (Symlink target) = 4096
+
+abbrev pub node_space : ℕ → Node → ℕ
+node_space inode node = (if is_counted inode then kind_space node.kind else 0)
+
+abbrev pub node_count : ℕ → Node → ℕ
+node_count inode node = (if is_counted inode then 1 else 0)
+
+abbrev pub used_space : Tree → ℕ
+used_space t = sum_over node_space t.nodes
+
+abbrev pub used_inodes : Tree → ℕ
+used_inodes t = sum_over node_count t.nodes
+
+-- the limits in bytes and inodes; a limit of 0 in the setting stands for 2^62
+abbrev pub space_limit : Setting → ℕ
+space_limit s = (if s.capacity == 0 then full_count else s.capacity * 1073741824)
+
+abbrev pub inode_limit : Setting → ℕ
+inode_limit s = (if s.inodes == 0 then full_count else s.inodes)
+
+-- whether a sum may come to be `after`: it is within its limit, or didn't grow
+abbrev pub sum_fits : ℕ → ℕ → ℕ → Bool
+sum_fits limit before after = nat_le after limit || nat_le after before
+
+abbrev pub fits : Tree → Tree → Bool
+fits old new = sum_fits (space_limit old.setting) (used_space old) (used_space new) && sum_fits (inode_limit old.setting) (used_inodes old) (used_inodes new)
+
+abbrev pub node_at : Tree → ℕ → Option Node
+node_at t inode = get t.nodes inode
+
+abbrev pub content_of : Option Node → Option Content
+content_of None = None
+content_of (Some node) = elim node.kind [ File content ↦ Some content | Directory parent ↦ None | Symlink target ↦ None ]
+
+-- the bytes of a file, where the inode is one
+abbrev pub content_at : Tree → ℕ → Option Content
+content_at t inode = content_of (node_at t inode)
+
+abbrev pub parent_of : Option Node → Option ℕ
+parent_of None = None
+parent_of (Some node) = elim node.kind [ File content ↦ None | Directory parent ↦ Some parent | Symlink target ↦ None ]
+
+-- the parent of a directory, where the inode is one
+abbrev pub parent_at : Tree → ℕ → Option ℕ
+parent_at t inode = parent_of (node_at t inode)
