@@ -3,3 +3,4 @@ pub mod GrammarRows
 pub mod PrintedRows
 pub mod MapLaws
 pub mod WorkedRows
+pub mod PastLaws

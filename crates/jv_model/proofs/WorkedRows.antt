@@ -22,22 +22,22 @@ plain_setting = record { version = 1; block = 65536; trash_days = 0; capacity = 
 abbrev first_row : List Line
 first_row =
     Do 0 (Mount false)
-  ∷ Do 0 (Create (codes "/f") 420)
-  ∷ Do 0 (Write 1 0 (104 ∷ 105 ∷ []))
-  ∷ Do 0 (Close 1)
-  ∷ Do 0 (Open (codes "/f"))
-  ∷ Do 0 (Read 1 0 10)
-  ∷ []
+    ∷ Do 0 (Create (codes "/f") 420)
+    ∷ Do 0 (Write 1 0 (104 ∷ 105 ∷ []))
+    ∷ Do 0 (Close 1)
+    ∷ Do 0 (Open (codes "/f"))
+    ∷ Do 0 (Read 1 0 10)
+    ∷ []
 
 abbrev first_text : List (List ℕ)
 first_text =
     codes "ok 1"
-  ∷ codes "ok 1 2"
-  ∷ codes "ok 2"
-  ∷ codes "ok"
-  ∷ codes "ok 1 2"
-  ∷ codes "ok 6869"
-  ∷ []
+    ∷ codes "ok 1 2"
+    ∷ codes "ok 2"
+    ∷ codes "ok"
+    ∷ codes "ok 1 2"
+    ∷ codes "ok 6869"
+    ∷ []
 
 abbrev entry : ℕ → ActKind → Act
 entry line kind = record { line = line; at = 1000; client = 0; kind = kind }
@@ -45,40 +45,65 @@ entry line kind = record { line = line; at = 1000; client = 0; kind = kind }
 abbrev first_journal : List Act
 first_journal =
     entry 1 (Mounted 1)
-  ∷ entry 1 (Answered (Fine 1 0 0 0))
-  ∷ entry 2 (Opened 1 2)
-  ∷ entry 2 (Answered (Fine 1 2 0 0))
-  ∷ entry 3 (Answered (Fine 2 0 0 0))
-  ∷ entry 4 Quiet
-  ∷ entry 4 Quiet
-  ∷ entry 4 (Commit 2 0 2 0)
-  ∷ entry 4 (Answered (Fine 0 0 0 0))
-  ∷ entry 5 (Opened 1 2)
-  ∷ entry 5 (Answered (Fine 1 2 0 0))
-  ∷ entry 6 (Look 2 0)
-  ∷ entry 6 (Answered (Looks 12 0 2))
-  ∷ []
+    ∷ entry 1 (Answered (Fine 1 0 0 0))
+    ∷ entry 2 (Opened 1 2)
+    ∷ entry 2 (Answered (Fine 1 2 0 0))
+    ∷ entry 3 (Answered (Fine 2 0 0 0))
+    ∷ entry 4 Quiet
+    ∷ entry 4 Quiet
+    ∷ entry 4 (Commit 2 0 2 0)
+    ∷ entry 4 (Answered (Fine 0 0 0 0))
+    ∷ entry 5 (Opened 1 2)
+    ∷ entry 5 (Answered (Fine 1 2 0 0))
+    ∷ entry 6 (Look 2 0)
+    ∷ entry 6 (Answered (Looks 12 0 2))
+    ∷ []
 
 abbrev run : Setup
 run = record { start = fresh_tree plain_setting 1000; script = first_row; limits = record { buffer = 33554432; entries = 16; writeback = false }; uploads = 0; clock = Some (λ _. 1000); status = 0 }
 
 first_row_is_allowed : AllAllowed (at_start run) first_journal
 unfolding begun_to begin_next advance after get insert sum_over
-first_row_is_allowed =
-    (record { line = refl; complete = refl; moment = refl; stands = (refl, record { stage = refl; same = refl }) } ,
-    (record { line = refl; complete = refl; moment = refl; stands = (refl, Settled _ refl refl) } ,
-    (record { line = refl; complete = refl; moment = refl; stands = (refl, record { stage = refl; same = refl }) } ,
-    (record { line = refl; complete = refl; moment = refl; stands = (refl, Settled _ refl refl) } ,
-    (record { line = refl; complete = refl; moment = refl; stands = (refl, Wrote 1 0 (104 ∷ 105 ∷ []) refl (record { between = refl; none_left = refl }) refl) } ,
-    (record { line = refl; complete = refl; moment = refl; stands = (refl, refl) } ,
-    (record { line = refl; complete = refl; moment = refl; stands = (refl, refl) } ,
-    (record { line = refl; complete = refl; moment = refl; stands = (refl, record { steps = lit≤ tt; segment = refl; behind = refl; room = refl }) } ,
-    (record { line = refl; complete = refl; moment = refl; stands = (refl, Closed 1 refl (record { between = refl; none_left = refl }) refl) } ,
-    (record { line = refl; complete = refl; moment = refl; stands = (refl, record { stage = refl; same = refl }) } ,
-    (record { line = refl; complete = refl; moment = refl; stands = (refl, Settled _ refl refl) } ,
-    (record { line = refl; complete = refl; moment = refl; stands = (refl, record { flushed = record { between = refl; none_left = refl }; handle = 1; offset = 0; len = 10; reads = refl; file = refl; begins = lit< tt; ends = lit< tt }) } ,
-    (record { line = refl; complete = refl; moment = refl; stands = (refl, ReadsFresh 1 0 10 12 0 (record { inode = 2; opened = 10 }) (104 ∷ 105 ∷ []) refl (record { between = refl; none_left = refl }) refl refl refl) } ,
-    tt)))))))))))))
+first_row_is_allowed = (
+  record { line = refl; complete = refl; moment = refl; stands = (refl, record { stage = refl; same = refl }) },
+  (
+    record { line = refl; complete = refl; moment = refl; stands = (refl, Settled _ refl refl) },
+    (
+      record { line = refl; complete = refl; moment = refl; stands = (refl, record { stage = refl; same = refl }) },
+      (
+        record { line = refl; complete = refl; moment = refl; stands = (refl, Settled _ refl refl) },
+        (
+          record { line = refl; complete = refl; moment = refl; stands = (refl, Wrote 1 0 (104 ∷ 105 ∷ []) refl (record { between = refl; none_left = refl }) refl) },
+          (
+            record { line = refl; complete = refl; moment = refl; stands = (refl, refl) },
+            (
+              record { line = refl; complete = refl; moment = refl; stands = (refl, refl) },
+              (
+                record { line = refl; complete = refl; moment = refl; stands = (refl, record { steps = lit≤ tt; segment = refl; behind = refl; room = refl }) },
+                (
+                  record { line = refl; complete = refl; moment = refl; stands = (refl, Closed 1 refl (record { between = refl; none_left = refl }) refl) },
+                  (
+                    record { line = refl; complete = refl; moment = refl; stands = (refl, record { stage = refl; same = refl }) },
+                    (
+                      record { line = refl; complete = refl; moment = refl; stands = (refl, Settled _ refl refl) },
+                      (
+                        record { line = refl; complete = refl; moment = refl; stands = (refl, record { flushed = record { between = refl; none_left = refl }; handle = 1; offset = 0; len = 10; reads = refl; file = refl; begins = lit< tt; ends = lit< tt }) },
+                        (
+                          record { line = refl; complete = refl; moment = refl; stands = (refl, ReadsFresh 1 0 10 12 0 (record { inode = 2; opened = 10 }) (104 ∷ 105 ∷ []) refl (record { between = refl; none_left = refl }) refl refl refl) },
+                          tt,
+                        ),
+                      ),
+                    ),
+                  ),
+                ),
+              ),
+            ),
+          ),
+        ),
+      ),
+    ),
+  ),
+)
 
 first_row_ends : IsTrue (ends_well run (at_end run first_journal))
 unfolding begun_to begin_next advance after get insert sum_over

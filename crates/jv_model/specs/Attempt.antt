@@ -8,7 +8,6 @@ abbrev pub ◌>>=◌ : {A B : Type 0} → Result A Fault → (A → Result B Fau
 Ok x >>= next = next x
 Err fault >>= next = Err fault
 
-
 -- refuses where a test fails
 abbrev pub require : Bool → Fault → Result (Unit {0}) Fault
 require true fault = Ok tt

@@ -21,10 +21,10 @@ pub data Flush : Type 0 where
 
 -- how far an operation is
 pub data Stage : Type 0 where
-  Transacting : Stage                     -- its metadata transaction is to come
-  Flushing : (quiets : ℕ) → Stage         -- so many steps of the next segment are made
-  Reading : Stage                         -- a view was taken
-  Replying : Reply → Stage                -- its answer is settled, in this same step
+  Transacting : Stage  -- its metadata transaction is to come
+  Flushing : (quiets : ℕ) → Stage  -- so many steps of the next segment are made
+  Reading : Stage  -- a view was taken
+  Replying : Reply → Stage  -- its answer is settled, in this same step
 
 pub record Doing : Type 0 where
   pub op : Op
@@ -115,11 +115,11 @@ first_refusal (test ∷ tests) = (if test.0 then Some test.1 else first_refusal 
 abbrev pub submission : ModelClient → Op → Option Fault
 submission client op = first_refusal (
     (is_some client.doing || (is_mount op && is_some client.session), InProgress)
-  ∷ (not (is_some client.session) && not (needs_no_mount op), NotConnected)
-  ∷ (names_handle op && not (is_some (file_of client.handles (handle_in op))), BadHandle)
-  ∷ (gives_handle op && nat_le 1024 (open_count client.handles), TooManyHandles)
-  ∷ (nat_lt (2 ^ 40) (write_end op), FileTooLarge)
-  ∷ [])
+    ∷ (not (is_some client.session) && not (needs_no_mount op), NotConnected)
+    ∷ (names_handle op && not (is_some (file_of client.handles (handle_in op))), BadHandle)
+    ∷ (gives_handle op && nat_le 1024 (open_count client.handles), TooManyHandles)
+    ∷ (nat_lt (2 ^ 40) (write_end op), FileTooLarge)
+    ∷ [])
 
 -- what an operation flushes: a file's reader and closer that file, a writer all that is pending where its buffer is full
 abbrev pub flush_of : Limits → ModelClient → Op → Flush

@@ -25,16 +25,16 @@ pub record Setup : Type 0 where
   pub start : Tree
   pub script : List Line
   pub limits : Limits
-  pub uploads : ℕ                         -- how many uploading threads may run
-  pub clock : Option (ℕ → ℕ)              -- the clock's answers by number from 0, where it tells them
+  pub uploads : ℕ  -- how many uploading threads may run
+  pub clock : Option (ℕ → ℕ)  -- the clock's answers by number from 0, where it tells them
   pub status : ℕ
 
 -- what the present line may still have
 pub data Due : Type 0 where
   NoMore : Due
-  Refusal : (client : ℕ) → Fault → Due    -- the refusal of a submission
-  Whole : (client : ℕ) → Due              -- the entries of the client's operation, up to its answer
-  Unbuilt : Due                           -- no journal has such a line today
+  Refusal : (client : ℕ) → Fault → Due  -- the refusal of a submission
+  Whole : (client : ℕ) → Due  -- the entries of the client's operation, up to its answer
+  Unbuilt : Due  -- no journal has such a line today
 
 -- a view that a client took of a window of a file: the file's bytes as they were
 pub record View : Type 0 where
@@ -43,20 +43,20 @@ pub record View : Type 0 where
   pub inode : ℕ
   pub window : ℕ
   pub content : Content
-  pub is_changed : Bool                   -- a change of the file by the client itself came later
+  pub is_changed : Bool  -- a change of the file by the client itself came later
 
 pub record Past : Type 0 where
   pub run : Setup
-  pub rest : List Line                    -- the lines not begun
-  pub line : ℕ                            -- how many lines are begun; the last of them is the present one
+  pub rest : List Line  -- the lines not begun
+  pub line : ℕ  -- how many lines are begun; the last of them is the present one
   pub due : Due
-  pub complete : Bool                     -- every line before the present one has all its entries
-  pub said : List ℕ                       -- what the present line prints, if it ends here
-  pub printed : List ℕ                    -- what the lines before it printed
-  pub count : ℕ                           -- how many entries there are
-  pub at : ℕ                              -- the last moment
-  pub asked : ℕ                           -- how often the clock was asked
-  pub has_asked : Bool                    -- whether the present line asked it
+  pub complete : Bool  -- every line before the present one has all its entries
+  pub said : List ℕ  -- what the present line prints, if it ends here
+  pub printed : List ℕ  -- what the lines before it printed
+  pub count : ℕ  -- how many entries there are
+  pub at : ℕ  -- the last moment
+  pub asked : ℕ  -- how often the clock was asked
+  pub has_asked : Bool  -- whether the present line asked it
   pub tree : Tree
   pub clients : ℕ → ModelClient
   pub views : List View
@@ -76,7 +76,7 @@ at_start run = record {
   has_asked = false;
   tree = run.start;
   clients = λ _. unmounted;
-  views = []
+  views = [];
 }
 
 -- lines
@@ -105,7 +105,7 @@ turned p rest = record p {
   complete = p.complete && is_no_more p.due;
   said = [];
   printed = p.printed ++ p.said;
-  has_asked = false
+  has_asked = false;
 }
 
 abbrev pub begin_from : List Line → Past → Past
@@ -154,7 +154,7 @@ mounts_writeback p _ = false
 abbrev pub after_transaction : Past → ℕ → ℕ → Op → Past
 after_transaction p client now op = record p {
   tree = (transacted p client now op).tree;
-  clients = with_client p.clients client (replied (mounts_writeback p op) (p.count + 1) (transacted p client now op).reply (p.clients client))
+  clients = with_client p.clients client (replied (mounts_writeback p op) (p.count + 1) (transacted p client now op).reply (p.clients client));
 }
 
 abbrev pub one_quiet : Stage → Stage
@@ -172,7 +172,7 @@ abbrev pub after_commit : Past → ℕ → ℕ → ℕ → ℕ → ℕ → Past
 after_commit p client now inode from len = record p {
   tree = committed p.tree now inode from (bytes_in_range inode from len (p.clients client).pending);
   clients = with_client p.clients client (with_stage (Flushing 0) (record (p.clients client) { pending = without_range inode from len (p.clients client).pending }));
-  views = map (spoiled client inode) p.views
+  views = map (spoiled client inode) p.views;
 }
 
 abbrev pub or_empty : Option Content → Content
@@ -182,7 +182,7 @@ or_empty (Some content) = content
 abbrev pub after_look : Past → ℕ → ℕ → ℕ → Past
 after_look p client inode window = record p {
   clients = with_client p.clients client (with_stage Reading (p.clients client));
-  views = record { entry = p.count + 1; client = client; inode = inode; window = window; content = or_empty (content_at p.tree inode); is_changed = false } ∷ p.views
+  views = record { entry = p.count + 1; client = client; inode = inode; window = window; content = or_empty (content_at p.tree inode); is_changed = false } ∷ p.views;
 }
 
 -- reads

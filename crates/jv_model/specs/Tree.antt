@@ -53,7 +53,7 @@ abbrev pub entry_key : KeyOrder EntryKey
 entry_key = record {
   cmp = on entry_bytes (slice_cmp nat_cmp);
   total = on_total entry_bytes nat_list_cmp_total;
-  same = λ x y e. ap key_of_bytes (text_key.same (entry_bytes x) (entry_bytes y) e)
+  same = λ x y e. ap key_of_bytes (text_key.same (entry_bytes x) (entry_bytes y) e);
 }
 
 pub record Tree : Type 0 where
@@ -86,7 +86,7 @@ fresh_tree setting now = record {
   entries = empty_map;
   sessions = empty_map;
   next_inode = 2;
-  next_session = 1
+  next_session = 1;
 }
 
 -- Used space and used inodes count neither the root nor the trash's own directories, whose inodes begin at the trash root.

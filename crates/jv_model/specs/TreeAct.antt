@@ -19,7 +19,7 @@ pub record Caller : Type 0 where
   pub client : ℕ
   pub sid : ℕ
   pub now : ℕ
-  pub free_handle : ℕ          -- the least number that isn't in use as a handle of the client
+  pub free_handle : ℕ  -- the least number that isn't in use as a handle of the client
 
 -- a tree with what the transaction is answered
 pub record Outcome : Type 0 where
@@ -56,7 +56,7 @@ abbrev pub with_node : Tree → ℕ → EntryKey → Node → Tree
 with_node t now place node = record t {
   nodes = insert (touch t now place.dir).nodes t.next_inode node;
   entries = insert t.entries place t.next_inode;
-  next_inode = t.next_inode + 1
+  next_inode = t.next_inode + 1;
 }
 
 abbrev pub entered : Tree → ℕ → EntryKey → Node → Result Tree Fault
@@ -89,9 +89,9 @@ mount t who = do
   Ok (record {
     tree = record t {
       sessions = insert t.sessions t.next_session (record { client = who.client; expiry = who.now + 60 });
-      next_session = t.next_session + 1
+      next_session = t.next_session + 1;
     };
-    reply = SessionMade t.next_session
+    reply = SessionMade t.next_session;
   })
 
 -- the operations that make one metadata transaction; the others leave the tree
@@ -105,7 +105,7 @@ tree_act t who _ = record { tree = t; reply = Done }
 abbrev pub overwritten : Content → ℕ → List ℕ → Content
 overwritten content from bytes = record {
   length = max content.length (from + length bytes);
-  byte = λ position. if nat_le from position && nat_lt position (from + length bytes) then slice_index bytes (position - from) else content.byte position
+  byte = λ position. if nat_le from position && nat_lt position (from + length bytes) then slice_index bytes (position - from) else content.byte position;
 }
 
 -- the tree with a file's bytes replaced, which sets its times
