@@ -4,3 +4,7 @@ pub mod PrintedRows
 pub mod MapLaws
 pub mod WorkedRows
 pub mod PastLaws
+pub mod LookLaws
+pub mod GrowthLaws
+pub mod CloseLaws
+pub mod WriteLaws

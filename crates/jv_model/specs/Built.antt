@@ -1,6 +1,6 @@
 -- The lines that a session runs today: one client's files in the root, with the answers of success, ENOENT, EEXIST,
 -- EBADF and ENOMEM.
-use Rattle.std.specs.Prelude.{ℕ, ◌+◌, max, Bool, true, false, ◌&&◌, ◌||◌, not, ◌==◌, nat_le, if◌then◌else◌, List, [], ◌∷◌, length, Option, None, Some}
+use Rattle.std.specs.Prelude.{ℕ, ◌+◌, max, Bool, true, false, ◌&&◌, not, ◌==◌, nat_le, List, length, Option, None, Some}
 use Rattle.jv_model.specs.declared.fault.Fault.{Fault}
 use Rattle.jv_model.specs.declared.fault.Fault.TheVariants.{NotFound, AlreadyExists, BadHandle, NoMemory}
 use Rattle.jv_model.specs.declared.op.Op.{Op}
@@ -13,8 +13,8 @@ use Rattle.jv_model.specs.Tree.{Tree, Content, content_at, fits}
 use Rattle.jv_model.specs.TreeAct.{with_content}
 use Rattle.jv_model.specs.Grammar.{is_root_path}
 use Rattle.jv_model.specs.Pending.{PendingByte, end_of, window_size}
-use Rattle.jv_model.specs.Client.{ModelClient, submission, file_of, inode_in}
-use Rattle.jv_model.specs.Past.{Past, transacted}
+use Rattle.jv_model.specs.Client.{submission, file_of, inode_in}
+use Rattle.jv_model.specs.Past.{Past, mounts_writeback, transacted}
 
 -- the bytes that may be pending
 abbrev pub pending_limit : ℕ
@@ -54,16 +54,16 @@ is_built_answer p client op (Some fault) = is_built_fault fault
 is_built_answer p client op None = is_built_run p client op
 
 -- the form of an operation
-abbrev pub is_built_form : Op → Bool
-is_built_form (Mount writeback) = not writeback
-is_built_form (Create path mode) = is_root_path path
-is_built_form (Open path) = is_root_path path
-is_built_form (Close handle) = true
-is_built_form (Read handle offset len) = nat_le (offset + len) window_size
-is_built_form (Write handle offset bytes) = nat_le (offset + length bytes) window_size
-is_built_form _ = false
+abbrev pub is_built_form : Past → Op → Bool
+is_built_form p (Mount writeback) = not (mounts_writeback p (Mount writeback))
+is_built_form p (Create path mode) = is_root_path path
+is_built_form p (Open path) = is_root_path path
+is_built_form p (Close handle) = true
+is_built_form p (Read handle offset len) = nat_le (offset + len) window_size
+is_built_form p (Write handle offset bytes) = nat_le (offset + length bytes) window_size
+is_built_form p _ = false
 
 abbrev pub is_built : Past → Line → Bool
 is_built p Empty = true
-is_built p (Do client op) = (client == 0) && is_built_form op && is_built_answer p client op (submission (p.clients client) op)
+is_built p (Do client op) = (client == 0) && is_built_form p op && is_built_answer p client op (submission (p.clients client) op)
 is_built p _ = false

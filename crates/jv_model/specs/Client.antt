@@ -26,6 +26,11 @@ pub data Stage : Type 0 where
   Reading : Stage  -- a view was taken
   Replying : Reply → Stage  -- its answer is settled, in this same step
 
+-- the answer is settled, and comes in the same step
+abbrev pub is_replying : Stage → Bool
+is_replying (Replying reply) = true
+is_replying _ = false
+
 pub record Doing : Type 0 where
   pub op : Op
   pub flush : Flush
@@ -42,29 +47,30 @@ pub record ModelClient : Type 0 where
 abbrev pub unmounted : ModelClient
 unmounted = record { session = None; writeback = false; handles = []; pending = []; doing = None }
 
-abbrev pub file_in : Option (Option OpenFile) → Option OpenFile
+abbrev pub file_in : {X : Type 0} → Option (Option X) → Option X
 file_in None = None
 file_in (Some file) = file
 
-abbrev pub file_of : List (Option OpenFile) → ℕ → Option OpenFile
-file_of handles handle = (if handle == 0 then None else file_in (slice_get handles (handle - 1)))
+-- what a handle names, in a table of handles
+abbrev pub file_of : {X : Type 0} → List (Option X) → ℕ → Option X
+file_of handles handle = if handle == 0 then None else file_in (slice_get handles (handle - 1))
 
 -- the least handle that isn't in use
-abbrev pub free_from : ℕ → List (Option OpenFile) → ℕ
+abbrev pub free_from : {X : Type 0} → ℕ → List (Option X) → ℕ
 free_from handle [] = handle
 free_from handle (None ∷ files) = handle
 free_from handle (Some file ∷ files) = free_from (handle + 1) files
 
-abbrev pub free_handle : List (Option OpenFile) → ℕ
+abbrev pub free_handle : {X : Type 0} → List (Option X) → ℕ
 free_handle = free_from 1
 
-abbrev pub open_count : List (Option OpenFile) → ℕ
+abbrev pub open_count : {X : Type 0} → List (Option X) → ℕ
 open_count [] = 0
 open_count (None ∷ files) = open_count files
 open_count (Some file ∷ files) = 1 + open_count files
 
-abbrev pub with_file : ℕ → Option OpenFile → List (Option OpenFile) → List (Option OpenFile)
-with_file handle file handles = (if nat_le handle (length handles) then slice_set handles (handle - 1) file else handles ++ file ∷ [])
+abbrev pub with_file : {X : Type 0} → ℕ → Option X → List (Option X) → List (Option X)
+with_file handle file handles = if nat_le handle (length handles) then slice_set handles (handle - 1) file else handles ++ file ∷ []
 
 -- the inode of an open file
 abbrev pub inode_in : Option OpenFile → ℕ

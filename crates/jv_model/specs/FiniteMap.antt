@@ -1,15 +1,13 @@
 -- Finite maps that compute in closed proofs: a list of entries whose keys strictly rise.
-use Rattle.std.specs.Prelude.{◌≡◌, ℕ, ◌+◌, Bool, true, false, not, IsTrue, List, [], ◌∷◌, Option, None, Some, is_some, if◌then◌else◌, refl}
-use Rattle.std.proofs.Common.{sym, ap, subst, ◌∙◌, cond, T}
+use Rattle.std.specs.Prelude.{◌≡◌, ℕ, ◌+◌, List, [], ◌∷◌, Option}
+use Rattle.std.proofs.Common.{T}
 use Rattle.std.specs.declared.cmp.Ordering.{Ordering}
-use Rattle.std.specs.declared.cmp.Ordering.TheVariants.{Less, Equal, Greater}
-use Rattle.std.specs.Ordering.{nat_cmp, eq_by_cmp, on}
-use Rattle.std.specs.Cmp.{IsTotalOrder, nat_cmp_total, on_total}
+use Rattle.std.specs.declared.cmp.Ordering.TheVariants.{Equal}
+use Rattle.std.specs.Ordering.{nat_cmp}
+use Rattle.std.specs.Cmp.{IsTotalOrder, nat_cmp_total}
 use Rattle.std.specs.Cmp.Lexicographic.{slice_cmp, nat_list_cmp_total}
 use Rattle.std.specs.FinMap.{nat_cmp-IsAntisymmetric, slice_cmp-IsAntisymmetric}
-use Rattle.std.specs.FinMap.Entries.{put, find, where_key, is_sorted, is_sorted-put, is_sorted-where_key, find-put, find-where_key, same_entries}
-use mathlib.Core.HLevel.{Σ_prop_path}
-use lib.Dec.{T_prop}
+use Rattle.std.specs.FinMap.Entries.{put, find, is_sorted, is_sorted-put}
 
 -- an order of keys, in which only equal keys tie
 pub record KeyOrder (K : Type 0) : Type 0 where

@@ -1,5 +1,5 @@
 -- When a journal is legal for one POSIX tree: every entry may stand where it stands, and every line has its entries.
-use Rattle.std.specs.Prelude.{◌≡◌, ℕ, ◌+◌, ◌*◌, ◌≤◌, ◌<◌, min, max, Bool, true, false, ◌&&◌, ◌||◌, nat_le, nat_lt, ◌==◌, IsTrue, MatchBool, MatchOption, IsSome, List, [], ◌∷◌, length, Option, None, Some}
+use Rattle.std.specs.Prelude.{◌≡◌, ℕ, ◌+◌, ◌*◌, ◌≤◌, ◌<◌, min, max, Bool, true, false, ◌&&◌, ◌||◌, not, nat_le, nat_lt, ◌==◌, IsTrue, MatchBool, MatchOption, IsSome, List, [], ◌∷◌, length, Option, None, Some}
 use Rattle.jv_model.specs.declared.act.Act.{Act}
 use Rattle.jv_model.specs.declared.act.ActKind.{ActKind}
 use Rattle.jv_model.specs.declared.act.ActKind.TheVariants.{Mounted, Meta, Opened, Look, Commit, Quiet, Answered}
@@ -11,10 +11,10 @@ use Rattle.jv_model.specs.declared.op.Op.TheVariants.{Close, Read, Write}
 use Rattle.jv_model.specs.declared.op.Reply.{Reply}
 use Rattle.jv_model.specs.declared.op.Reply.TheVariants.{SessionMade, FileOpened}
 use Rattle.jv_model.specs.Tree.{fits}
-use Rattle.jv_model.specs.TreeAct.{Outcome, committed}
-use Rattle.jv_model.specs.Pending.{Segment, first_segment, bytes_in_range, window_size}
-use Rattle.jv_model.specs.Client.{ModelClient, OpenFile, Doing, Stage, Transacting, Flushing, Reading, Replying, left_to_flush, file_of, handle_in, inode_in}
-use Rattle.jv_model.specs.Past.{Setup, Past, Due, NoMore, Refusal, Whole, Unbuilt, at_start, begun_to, advance, past, reached, at_end, transacted, reading, told_of, is_no_more}
+use Rattle.jv_model.specs.TreeAct.{committed}
+use Rattle.jv_model.specs.Pending.{first_segment, bytes_in_range, window_size}
+use Rattle.jv_model.specs.Client.{ModelClient, OpenFile, Doing, Stage, Transacting, Flushing, Reading, Replying, is_replying, left_to_flush, file_of, inode_in}
+use Rattle.jv_model.specs.Past.{Setup, Past, Due, NoMore, Refusal, Whole, Unbuilt, at_start, begun_to, advance, at_end, transacted, reading, told_of, is_no_more}
 
 -- the last moment there is, in seconds
 abbrev pub last_moment : ℕ
@@ -80,10 +80,10 @@ pub record TakesView (c : ModelClient) (doing : Doing) (inode window : ℕ) : Ty
   pub begins : window * window_size < offset + len
   pub ends : offset < (window + 1) * window_size
 
--- An answer may stand where want of memory is told, where a transaction settled it, or where the operation has done
+-- An answer may stand where want of memory is told before one is settled, where a transaction settled it, or where the operation has done
 -- all its steps. A read gives the bytes of the fresh views that it cites.
 pub data MayAnswer (p : Past) (client : ℕ) (c : ModelClient) (doing : Doing) (told : Told) : Type 0 where
-  OutOfMemory : told ≡ ToldRefused NoMemory → MayAnswer p client c doing told
+  OutOfMemory : is_replying doing.stage ≡ false → told ≡ ToldRefused NoMemory → MayAnswer p client c doing told
   Settled : (reply : Reply) → doing.stage ≡ Replying reply → told ≡ told_of reply → MayAnswer p client c doing told
   Closed : (handle : ℕ) → doing.op ≡ Close handle → IsFlushed c doing → told ≡ Fine 0 0 0 0 → MayAnswer p client c doing told
   Wrote : (handle offset : ℕ) (bytes : List ℕ) → doing.op ≡ Write handle offset bytes → IsFlushed c doing
@@ -134,9 +134,18 @@ AllAllowed p (act ∷ acts) = Allowed (begun_to act.line p) act × AllAllowed (a
 abbrev pub may_be_cut : ℕ → Bool
 may_be_cut status = nat_le 4 status && nat_le status 6
 
+-- a run stops before a step: a settled answer comes in the same step
+abbrev pub is_before_step : Option Doing → Bool
+is_before_step None = true
+is_before_step (Some doing) = not (is_replying doing.stage)
+
+abbrev pub may_stop : Past → Due → Bool
+may_stop p (Whole client) = is_before_step (p.clients client).doing
+may_stop p _ = true
+
 -- every line has all its entries, but for one that was cut off
 abbrev pub ends_well : Setup → Past → Bool
-ends_well run p = p.complete && (is_no_more p.due || may_be_cut run.status)
+ends_well run p = p.complete && (is_no_more p.due || may_be_cut run.status && may_stop p p.due)
 
 -- a journal that one POSIX tree allows, from its start on, for the lines of the script
 pub record Legal (run : Setup) (journal : List Act) : Type 0 where

@@ -12,3 +12,5 @@ pub mod Client
 pub mod Past
 pub mod Legal
 pub mod Built
+pub mod Looks
+pub mod Laws

@@ -1,10 +1,10 @@
 -- What a journal so far comes to: the lines begun, the tree and the clients reached, and the views taken. A journal is
 -- read from its first entry on, one entry at a time.
-use Rattle.std.specs.Prelude.{◌≡◌, ℕ, zero, suc, ◌+◌, ◌-◌, ◌*◌, ◌/◌, ◌≤◌, ◌<◌, ◌^◌, min, max, Bool, true, false, ◌&&◌, ◌||◌, not, ◌==◌, nat_lt, nat_le, if◌then◌else◌, List, [], ◌∷◌, ◌++◌, map, length, unwrap_or, Option, None, Some}
+use Rattle.std.specs.Prelude.{ℕ, zero, suc, ◌+◌, ◌-◌, ◌*◌, ◌/◌, ◌^◌, min, Bool, true, false, ◌&&◌, ◌||◌, not, ◌==◌, nat_lt, nat_le, if◌then◌else◌, List, [], ◌∷◌, ◌++◌, map, length, unwrap_or, Option, None, Some}
 use Rattle.jv_model.specs.declared.basics.Limits.{Limits}
 use Rattle.jv_model.specs.declared.act.Act.{Act}
 use Rattle.jv_model.specs.declared.act.ActKind.{ActKind}
-use Rattle.jv_model.specs.declared.act.ActKind.TheVariants.{Mounted, Meta, Opened, Look, Commit, Quiet, Answered}
+use Rattle.jv_model.specs.declared.act.ActKind.TheVariants.{Look, Commit, Quiet, Answered}
 use Rattle.jv_model.specs.declared.act.Told.{Told}
 use Rattle.jv_model.specs.declared.act.Told.TheVariants.{Fine, Looks, Refused as ToldRefused}
 use Rattle.jv_model.specs.declared.fault.Fault.{Fault}
@@ -17,7 +17,7 @@ use Rattle.jv_model.specs.declared.op.Reply.TheVariants.{Refused, Done, SessionM
 use Rattle.jv_model.specs.Tree.{Tree, Content, content_at}
 use Rattle.jv_model.specs.TreeAct.{Caller, Outcome, tree_act, committed, empty_content}
 use Rattle.jv_model.specs.Pending.{written, without_range, bytes_in_range, window_size}
-use Rattle.jv_model.specs.Client.{ModelClient, OpenFile, Doing, Stage, Transacting, Flushing, Reading, Replying, unmounted, submission, started, free_handle, with_file, file_of, handle_in}
+use Rattle.jv_model.specs.Client.{ModelClient, OpenFile, Doing, Stage, Flushing, Reading, Replying, unmounted, submission, started, free_handle, with_file, file_of}
 use Rattle.jv_model.specs.Printed.{printed_line}
 
 -- what a run begins with, and what it ends with

@@ -3,7 +3,9 @@ use Rattle.std.specs.Prelude.{ℕ, ◌+◌, ◌/◌, ◌%◌, ◌==◌, nat_le, 
 use Rattle.std.specs.List.{flat_map, join_with_byte}
 use Rattle.jv_model.specs.declared.fault.Device.{Device}
 use Rattle.jv_model.specs.declared.fault.Device.TheVariants.{Keeper, Depot, Shelf, Carrier}
+use Rattle.jv_model.specs.declared.fault.Gone.{Gone}
 use Rattle.jv_model.specs.declared.fault.Gone.TheVariants.{Session, Node}
+use Rattle.jv_model.specs.declared.fault.Busy.{Busy}
 use Rattle.jv_model.specs.declared.fault.Busy.TheVariants.{Misses, Lists}
 use Rattle.jv_model.specs.declared.fault.Fault.{Fault}
 use Rattle.jv_model.specs.declared.fault.Fault.TheVariants as fault
@@ -97,14 +99,20 @@ fault_name fault.NoMemory = codes "ENOMEM"
 abbrev pub number_word : ℕ → List ℕ
 number_word n = 32 ∷ decimal n
 
+abbrev pub gone_words : Gone → List ℕ
+gone_words (Session sid) = codes " session" ++ number_word sid
+gone_words (Node inode) = codes " inode" ++ number_word inode
+
+abbrev pub busy_words : Busy → List ℕ
+busy_words (Misses times) = codes " misses" ++ number_word times
+busy_words (Lists looked found) = codes " list" ++ number_word looked ++ number_word found
+
 -- what follows the name: the Commit, what is gone, the two moments, why it is busy, the device
 unfoldable pub fault_words : Fault → List ℕ
 fault_words (fault.TryAgain commit) = number_word commit
-fault_words (fault.Stale (Session sid)) = codes " session" ++ number_word sid
-fault_words (fault.Stale (Node inode)) = codes " inode" ++ number_word inode
+fault_words (fault.Stale gone) = gone_words gone
 fault_words (fault.TimedOut started now) = number_word started ++ number_word now
-fault_words (fault.Contended (Misses times)) = codes " misses" ++ number_word times
-fault_words (fault.Contended (Lists looked found)) = codes " list" ++ number_word looked ++ number_word found
+fault_words (fault.Contended busy) = busy_words busy
 fault_words (fault.DeviceFailed device) = 32 ∷ device_name device
 fault_words _ = []
 

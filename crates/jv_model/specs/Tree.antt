@@ -1,6 +1,6 @@
--- The tree of a file system (POSIX.1-2017, 3.2 "Directory", 3.157 "File Hierarchy", 4.6 "File Times Update"):
+-- The tree of a file system (POSIX.1-2017, 4.6 "File Hierarchy" and 4.9 "File Times Update", and "Directory" of chapter 3):
 -- nodes by inode, and one map of all entries, keyed by directory and name.
-use Rattle.std.specs.Prelude.{◌≡◌, ℕ, ◌+◌, ◌*◌, ◌/◌, ◌^◌, min, max, Bool, true, false, ◌&&◌, ◌||◌, not, ◌==◌, nat_lt, nat_le, if◌then◌else◌, List, [], ◌∷◌, Option, None, Some, refl, codes}
+use Rattle.std.specs.Prelude.{ℕ, ◌+◌, ◌*◌, ◌/◌, max, Bool, ◌&&◌, ◌||◌, not, ◌==◌, nat_lt, nat_le, if◌then◌else◌, List, [], ◌∷◌, is_some, Option, None, Some}
 use Rattle.std.proofs.Common.{ap}
 use Rattle.std.specs.Ordering.{nat_cmp, on}
 use Rattle.std.specs.Cmp.{on_total}
@@ -146,3 +146,17 @@ parent_of (Some node) = elim node.kind [ File content ↦ None | Directory paren
 -- the parent of a directory, where the inode is one
 abbrev pub parent_at : Tree → ℕ → Option ℕ
 parent_at t inode = parent_of (node_at t inode)
+
+abbrev pub is_directory : Tree → ℕ → Bool
+is_directory t inode = is_some (parent_at t inode)
+
+abbrev entry_names : ℕ → EntryKey → ℕ → ℕ
+entry_names inode key named = (if named == inode then 1 else 0)
+
+abbrev directory_within : Tree → ℕ → EntryKey → ℕ → ℕ
+directory_within t dir key inode = (if key.dir == dir && is_directory t inode then 1 else 0)
+
+-- The link count (POSIX.1-2017, chapter 3 "Link Count"): of a directory 2 and one for each directory in it, of any other
+-- inode the number of the entries that name it.
+abbrev pub link_count : Tree → ℕ → ℕ
+link_count t inode = (if is_directory t inode then 2 + sum_over (directory_within t inode) t.entries else sum_over (entry_names inode) t.entries)

@@ -1,6 +1,6 @@
 -- What an operation does to the tree, and what it is answered: one definition an operation, its refusals in their
 -- order (POSIX.1-2017, "open" with O_CREAT and O_EXCL; a session is JuiceFS's).
-use Rattle.std.specs.Prelude.{ℕ, ◌+◌, ◌-◌, max, Bool, true, false, ◌&&◌, ◌||◌, not, ◌==◌, nat_lt, nat_le, if◌then◌else◌, List, [], ◌∷◌, length, slice_index, is_some, Option, None, Some, Result, Ok, Err}
+use Rattle.std.specs.Prelude.{ℕ, ◌+◌, ◌-◌, max, ◌&&◌, ◌||◌, not, nat_lt, nat_le, if◌then◌else◌, List, length, slice_index, is_some, Option, None, Some, Result, Ok, Err}
 use Rattle.std.specs.Option.{option_map}
 use Rattle.jv_model.specs.declared.fault.Fault.{Fault}
 use Rattle.jv_model.specs.declared.fault.Fault.TheVariants.{AlreadyExists, IsADirectory, NoSpace, NotPermitted, Stale}
@@ -9,9 +9,9 @@ use Rattle.jv_model.specs.declared.op.Op.{Op}
 use Rattle.jv_model.specs.declared.op.Op.TheVariants.{Mount, Create, Open}
 use Rattle.jv_model.specs.declared.op.Reply.{Reply}
 use Rattle.jv_model.specs.declared.op.Reply.TheVariants.{Refused, Done, SessionMade, FileOpened}
-use Rattle.jv_model.specs.Attempt.{◌>>=◌, require, some_or}
+use Rattle.jv_model.specs.Attempt.{◌>>=◌, require}
 use Rattle.jv_model.specs.FiniteMap.{get, insert}
-use Rattle.jv_model.specs.Tree.{Tree, Node, Content, File, Directory, EntryKey, SessionEntry, new_node, node_at, parent_at, content_at, fits, full_count, trash_root}
+use Rattle.jv_model.specs.Tree.{Tree, Node, Content, File, EntryKey, new_node, node_at, parent_at, content_at, fits, full_count, trash_root}
 use Rattle.jv_model.specs.Walk.{entry_of, inode_of, is_trash}
 
 -- for whom, and when, a transaction is made

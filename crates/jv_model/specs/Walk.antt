@@ -1,6 +1,6 @@
 -- How a path is resolved (POSIX.1-2017, 4.13 "Pathname Resolution"). Several slashes count as one, and a slash at the
 -- end is ignored. Symlinks come with the operation that makes them.
-use Rattle.std.specs.Prelude.{ℕ, ◌+◌, Bool, true, false, ◌&&◌, ◌||◌, not, ◌==◌, nat_lt, nat_le, nat_eq, if◌then◌else◌, List, [], ◌∷◌, filter, length, is_some, Option, None, Some, Result, Ok, Err, codes}
+use Rattle.std.specs.Prelude.{ℕ, Bool, true, false, ◌&&◌, ◌||◌, not, ◌==◌, nat_le, nat_eq, if◌then◌else◌, List, [], ◌∷◌, filter, length, is_some, Option, None, Some, Result, Ok, codes}
 use Rattle.std.specs.Cmp.Lexicographic.{pointwise}
 use Rattle.jv_model.specs.declared.fault.Fault.{Fault}
 use Rattle.jv_model.specs.declared.fault.Fault.TheVariants.{NotFound, NotADirectory, Invalid, NameTooLong}

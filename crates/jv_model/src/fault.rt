@@ -1,5 +1,4 @@
 //! Refusals, and the errors of devices, readings and transactions.
-use crate::basics::Moment;
 use crate::bytes::Bytes;
 use crate::row::RowKey;
 use crate::slice::List;
@@ -64,7 +63,8 @@ pub enum Fault {
     /// ESTALE: the session or the inode is gone.
     Stale(Gone),
     /// ETIMEDOUT: an upload's commit came 3,600 seconds after its start, or later.
-    TimedOut { started: Moment, now: Moment },
+    /// Both moments are in seconds.
+    TimedOut { started: u64, now: u64 },
     /// EBUSY.
     Contended(Busy),
     /// EIO: the device failed.

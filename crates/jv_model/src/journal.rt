@@ -96,3 +96,40 @@ impl Journal {
         self.acts.clear();
     }
 }
+
+#[cfg(test)]
+mod tests {
+    use super::*;
+    use crate::act::{ActKind, Told};
+    use crate::basics::Moment;
+    use crate::fault::Fault;
+    use std::test::Fail;
+
+    #[test]
+    fn keeps_entries_in_order(rt: HostRuntime) -> Result<(), Fail> {
+        let kinds = [
+            ActKind::Mounted { sid: 1 },
+            ActKind::Quiet,
+            ActKind::Answered {
+                told: Told::Refused(Fault::NotFound),
+            },
+        ];
+        let mut journal = Journal::new(rt.alloc());
+        for (index, kind) in kinds.iter().enumerate() {
+            let act = Act {
+                line: 7,
+                at: Moment(1000),
+                client: index as u8,
+                kind: *kind,
+            };
+            assert_eq!(rt; journal.get(index), None, "before {index}");
+            journal.reserve(1)?;
+            journal.push_reserved(act);
+            assert_eq!(rt; journal.len(), index + 1, "at {index}");
+            assert_eq!(rt; journal.get(index), Some(&act), "at {index}");
+        }
+        journal.clear();
+        assert!(rt; journal.is_empty());
+        Ok(())
+    }
+}

@@ -7,6 +7,7 @@ mod basics;
 mod bytes;
 mod fault;
 mod journal;
+mod laws;
 mod op;
 mod row;
 mod sequence;
@@ -18,12 +19,16 @@ pub use basics::{ClientId, How, InodeList, LAST_MOMENT, Limits, Moment, Who};
 pub use bytes::{Bytes, Name, Path, Text, copied};
 pub use fault::{Busy, Device, Down, Fault, Gone, RowFault, TxFault};
 pub use journal::Journal;
+pub use laws::{
+    closed_files_are_committed, closes_commit_writes, earlier_text_stays,
+    fresh_views_are_fresh_looks, journals_grow, parts_read_are_of_fresh_looks, views_show_the_file,
+};
 pub use op::{Line, Op, Reply, Step};
 pub use row::{
     Counters, Dead, Dropped, Edge, Finding, Findings, Node, Row, RowKey, RowList, Rows, Session,
     SliceRow,
 };
-pub use sequence::Sequence;
+pub use sequence::{Sequence, push_in_room};
 pub use setting::{Attr, FileKind, Setting, Space};
 pub use slice::{
     BlockId, BlockKeys, EntryList, List, NameList, Piece, Pieces, Rec, Seen, SeenList, Spot, WINDOW,

@@ -119,7 +119,7 @@ impl<T: Ord> Ord for Sequence<T> {
 }
 
 /// Adds a value at the end of a `Vec` that has room for it.
-pub(crate) fn push_in_room<T: Drop>(items: &mut Vec<T>, value: T)
+pub fn push_in_room<T: Drop>(items: &mut Vec<T>, value: T)
     requires { 1 ≤ vec_capacity items.old - vec_len items.old }
     ensures added { items.new.items ≡ items.old.items ++ value ∷ [] }
     ensures room { vec_capacity items.old - vec_len items.old ≤ vec_capacity items.new - vec_len items.new + 1 }
