@@ -1,0 +1,25 @@
+//! The devices that a run reads, writes and asks: their traits, forms in memory, and adapters over std.
+#![tactic(auto)]
+
+mod calls;
+mod clock;
+mod law;
+mod mem_clock;
+mod mem_sink;
+mod mem_source;
+mod sink;
+mod source;
+mod standard;
+
+pub use calls::{Fails, NumberList};
+pub use clock::Clock;
+pub use law::still_count_is_ok;
+pub use mem_clock::{MemClock, NeverClock};
+pub use mem_sink::{MemSink, NeverSink};
+pub use mem_source::{MemSource, NeverSource};
+pub use sink::{Sink, write_whole};
+pub use source::Source;
+pub use standard::{Reading, Ticking, Writing};
+
+#[cfg(test)]
+mod tests;
