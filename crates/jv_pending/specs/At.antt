@@ -1,0 +1,8 @@
+-- Segments as the code names them.
+use Rattle.std.specs.Prelude.{◌+◌, ◌*◌}
+use Rattle.jv_model.specs.Pending.{Segment, window_size}
+use Rattle.jv_pending.specs.declared.segment.SegmentAt.{SegmentAt}
+
+-- the segment with this window and this position in it
+abbrev pub segment_at : SegmentAt → Segment
+segment_at at = record { inode = at.inode; from = at.window * window_size + at.pos; len = at.len }

@@ -1,0 +1,169 @@
+//! The pending bytes of a client.
+ghost use Rattle.std.specs.Prelude.{◌≡◌, ℕ, ◌+◌, ◌<◌, ◌≤◌, ◌↔◌, [], length, Some, OnOk, OnErr, IfSome, IsErrOf, IsOkUnless, IsTrue};
+ghost use Rattle.std.specs.Option.{option_map};
+ghost use Rattle.jv_model.specs.Pending.{window_size, written, next_segment, bytes_in_range, without_range, pending_of_others, end_of, is_rising};
+ghost use Rattle.jv_pending.specs.At.{segment_at};
+
+use crate::edit::{clear_runs, take_run, write_runs};
+use crate::run::{Run, find_end, find_first};
+use crate::segment::{PendingFault, SegmentAt};
+use jv_model::Bytes;
+use std::alloc::Global;
+use std::marker::Model;
+
+/// The bytes that a client wrote and hasn't committed, by inode and position, and how many there may be.
+#[derive(Debug, Drop)]
+pub struct Pending {
+    runs: Vec<Run>,
+    held: u64,
+    limit: u64,
+    alloc: Global,
+}
+
+impl Model for Pending {
+    ghost use Rattle.jv_pending.specs.Held.{PendingValue, IsSound};
+    ghost use Rattle.jv_pending.specs.Runs.{pending_bytes};
+
+    ghost Value = { PendingValue };
+
+    ghost view = { λ p. record { bytes = pending_bytes p.runs.items; limit = p.limit } };
+
+    ghost invariant = { λ p. IsSound p.runs.items p.held p.limit };
+}
+
+impl Pending {
+    /// No bytes, of which there may be at most `limit`. Takes no memory.
+    pub fn new(alloc: Global, limit: u64) -> Pending
+        ensures none { result.bytes ≡ [] }
+        ensures limit { result.limit ≡ limit }
+    {
+        Pending {
+            runs: Vec::new(alloc),
+            held: 0,
+            limit,
+            alloc,
+        }
+    }
+
+    /// The greatest number of bytes.
+    pub fn limit(&self) -> u64
+        ensures { result ≡ self.now.limit }
+    {
+        self.limit
+    }
+
+    /// The number of bytes.
+    pub fn bytes(&self) -> u64
+        ensures count { result ≡ length self.now.bytes }
+        ensures limit { result ≤ self.now.limit }
+        ensures rising { IsTrue (is_rising self.now.bytes) }
+    {
+        self.held
+    }
+
+    /// Sets the positions of the bytes from `from` on. They end at 2^40 at the latest. Where the bytes held and the bytes
+    /// asked for pass the limit together it answers `Full`. After an error nothing has changed.
+    pub fn write(&mut self, inode: u64, from: u64, bytes: &Bytes) -> Result<(), PendingFault>
+        requires { from + length bytes.now ≤ 1099511627776 }
+        ensures ok { OnOk result (self.new
+            ≡ record self.old { bytes = written inode from bytes.now self.old.bytes }) }
+        ensures full { IsErrOf result (PendingFault.Full (length self.old.bytes) (length bytes.now))
+            ↔ (self.old.limit < length self.old.bytes + length bytes.now) }
+        ensures only_memory_else { length self.old.bytes + length bytes.now ≤ self.old.limit
+            → IsOkUnless result PendingFault.Memory }
+        ensures err { OnErr result (self.new ≡ self.old) }
+    {
+        let held = self.held;
+        let asked = bytes.len() as u64;
+        if asked > self.limit - held {
+            return Err(PendingFault::Full { held, asked });
+        }
+        if asked == 0 {
+            return Ok(());
+        }
+        match write_runs(
+            self.alloc,
+            &mut self.runs,
+            held,
+            inode,
+            from,
+            bytes.as_slice(),
+        ) {
+            Ok(count) => {
+                self.held = count;
+                Ok(())
+            }
+            Err(_) => Err(PendingFault::Memory),
+        }
+    }
+
+    /// The least segment by inode and position, of that inode alone where one is given.
+    pub fn first(&self, inode: Option<u64>) -> Option<SegmentAt>
+        ensures least { option_map segment_at result ≡ next_segment inode self.now.bytes }
+        ensures own { IfSome result (λ at. next_segment (Some at.inode) self.now.bytes ≡ Some (segment_at at)) }
+        ensures some { IfSome result (λ at. 0 < at.len) }
+        ensures inside { IfSome result (λ at. at.pos + at.len ≤ window_size) }
+        ensures file { IfSome result (λ at. at.window < 16384) }
+    {
+        let index = find_first(&self.runs, inode)?;
+        Some(self.runs[index].segment())
+    }
+
+    /// The bytes of a segment that `first` gives for its inode.
+    pub fn segment(&self, at: SegmentAt) -> &[u8]
+        requires { next_segment (Some at.inode) self.now.bytes ≡ Some (segment_at at) }
+        ensures bytes { result.now ≡ bytes_in_range at.inode (segment_at at).from at.len self.now.bytes }
+        ensures len { length result.now ≡ at.len }
+        ensures rising { IsTrue (is_rising self.now.bytes) }
+    {
+        let index = find_first(&self.runs, Some(at.inode)).unwrap();
+        self.runs[index].bytes.as_slice()
+    }
+
+    /// Takes the bytes of a segment out that `first` gives for its inode.
+    pub fn take(&mut self, at: SegmentAt) -> Bytes
+        requires { next_segment (Some at.inode) self.old.bytes ≡ Some (segment_at at) }
+        ensures bytes { result ≡ bytes_in_range at.inode (segment_at at).from at.len self.old.bytes }
+        ensures rest { self.new ≡ record self.old {
+          bytes = without_range at.inode (segment_at at).from at.len self.old.bytes;
+        } }
+    {
+        let index = find_first(&self.runs, Some(at.inode)).unwrap();
+        let bytes = take_run(&mut self.runs, index);
+        self.held -= bytes.len() as u64;
+        bytes
+    }
+
+    /// Takes a segment out that `first` gives for its inode.
+    pub fn remove(&mut self, at: SegmentAt)
+        requires { next_segment (Some at.inode) self.old.bytes ≡ Some (segment_at at) }
+        ensures { self.new ≡ record self.old {
+          bytes = without_range at.inode (segment_at at).from at.len self.old.bytes;
+        } }
+    {
+        drop(self.take(at));
+    }
+
+    /// Takes all bytes of an inode out.
+    pub fn clear(&mut self, inode: u64)
+        ensures { self.new ≡ record self.old { bytes = pending_of_others inode self.old.bytes } }
+    {
+        self.held -= clear_runs(&mut self.runs, inode);
+    }
+
+    /// Takes all bytes out.
+    pub fn clear_all(&mut self)
+        ensures { self.new ≡ record self.old { bytes = [] } }
+    {
+        self.runs.clear();
+        self.held = 0;
+    }
+
+    /// The position after the last byte of an inode, 0 where it has none.
+    pub fn end_of(&self, inode: u64) -> u64
+        ensures last { result ≡ end_of inode self.now.bytes }
+        ensures file { result ≤ 1099511627776 }
+    {
+        find_end(&self.runs, inode)
+    }
+}

@@ -1,0 +1,25 @@
+//! Segments and refusals.
+use thiserror::Error;
+
+/// Pending positions in a row, inside one window.
+#[derive(Clone, Copy, Debug, PartialEq, Eq)]
+pub struct SegmentAt {
+    pub inode: u64,
+    /// The window: the position divided by 67,108,864.
+    pub window: u32,
+    /// The first position, in the window.
+    pub pos: u32,
+    /// The number of positions, at most 67,108,864.
+    pub len: u32,
+}
+
+/// Why a write wasn't taken. The pending bytes are unchanged.
+#[derive(Clone, Copy, Debug, PartialEq, Eq, Error)]
+pub enum PendingFault {
+    /// The bytes held and the bytes asked for pass the limit together.
+    #[error("{held} bytes are pending, and {asked} more pass the limit")]
+    Full { held: u64, asked: u64 },
+    /// Want of memory.
+    #[error("out of memory")]
+    Memory,
+}
