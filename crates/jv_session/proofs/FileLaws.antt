@@ -1,0 +1,52 @@
+-- A volume's list of files, and the bytes of one.
+use Rattle.std.proofs.Common.{◌≡◌, ℕ, zero, suc, ◌+◌, ◌-◌, ◌<◌, max, cond, List, [], ◌∷◌, ◌++◌, length, slice_get, slice_set, slice_index, Option, None, Some, refl, sym, ap, ◌∙◌, arith}
+use Rattle.std.specs.Prelude.{IfSome, IsSomeAnd}
+use Rattle.jv_model.specs.Tree.{Content}
+use Rattle.jv_model.specs.TreeAct.{overwritten}
+use Rattle.jv_session.specs.declared.volume.StoredSegment.{StoredSegment}
+use Rattle.jv_session.specs.declared.volume.StoredFile.{StoredFile}
+use Rattle.jv_session.specs.Stored.{covers, shown_over, with_segment}
+use Rattle.jv_session.specs.Agrees.{Keeps}
+
+module _ {X : Type 0} where
+  -- what holds of each element at its place holds after one more, and after a change
+  pub each-push : (P : ℕ → X → Type 0) (xs : List X) (x : X) → ((k : ℕ) → IfSome (slice_get xs k) (P k)) → P (length xs) x → (k : ℕ) → IfSome (slice_get (xs ++ x ∷ []) k) (P k)
+  each-push P [] x h p zero = p
+  each-push P [] x h p (suc k) = tt
+  each-push P (y ∷ ys) x h p zero = h zero
+  each-push P (y ∷ ys) x h p (suc k) = each-push (λ n. P (suc n)) ys x (λ n. h (suc n)) p k
+
+  pub each-set : (P : ℕ → X → Type 0) (xs : List X) (i : ℕ) (x : X) → ((k : ℕ) → (k ≡ i → ⊥) → IfSome (slice_get xs k) (P k)) → P i x → (k : ℕ) → IfSome (slice_get (slice_set xs i x) k) (P k)
+  each-set P [] i x h p k = tt
+  each-set P (y ∷ ys) zero x h p zero = p
+  each-set P (y ∷ ys) zero x h p (suc k) = h (suc k) (λ e. absurd (omega (arith, e)))
+  each-set P (y ∷ ys) (suc i) x h p zero = h zero (λ e. absurd (omega (arith, e)))
+  each-set P (y ∷ ys) (suc i) x h p (suc k) = each-set (λ n. P (suc n)) ys i x (λ n apart. h (suc n) (λ e. apart (omega (arith, e)))) p k
+
+  pub in_place : (P Q : X → Type 0) (xs : List X) (k : ℕ) → ((x : X) → k < length xs → P x → Q x) → IfSome (slice_get xs k) P → IfSome (slice_get xs k) Q
+  in_place P Q [] k change h = tt
+  in_place P Q (y ∷ ys) zero change h = change y (omega arith) h
+  in_place P Q (y ∷ ys) (suc k) change h = in_place P Q ys k (λ x less. change x (omega (arith, less))) h
+
+  pub slice_get_inside : (xs : List X) (k : ℕ) → k < length xs → (x : X) × (slice_get xs k ≡ Some x)
+  slice_get_inside [] k h = absurd (omega (arith, h))
+  slice_get_inside (x ∷ xs) zero h = (x, refl)
+  slice_get_inside (x ∷ xs) (suc k) h = slice_get_inside xs k (omega (arith, h))
+
+  pub some_and : (o : Option X) (P : X → Type 0) → IsSomeAnd o P → (x : X) × (o ≡ Some x) × P x
+  some_and None P h = absurd h
+  some_and (Some x) P h = (x, refl, h)
+
+shown_over-push : (below : ℕ) (segments : List StoredSegment) (s : StoredSegment) (position : ℕ)
+    → shown_over below (segments ++ s ∷ []) position ≡ cond (covers s position) (slice_index s.bytes (position - s.from)) (shown_over below segments position)
+shown_over-push below [] s position = refl
+shown_over-push below (first ∷ segments) s position = shown_over-push (cond (covers first position) (slice_index first.bytes (position - first.from)) below) segments s position
+
+-- a file's bytes agree after a commit too
+pub keeps-overwritten : (file : StoredFile) (content : Content) (from : ℕ) (bytes : List ℕ) → Keeps file content → Keeps (with_segment from bytes file) (overwritten content from bytes)
+keeps-overwritten file content from bytes h = record {
+  length = ap (λ n. max n (from + length bytes)) h.length;
+  bytes = λ position.
+      let s : StoredSegment = record { from = from; bytes = bytes } in
+      ap (λ below. cond (covers s position) (slice_index bytes (position - from)) below) (h.bytes position) ∙ sym (shown_over-push 0 file.segments s position);
+}

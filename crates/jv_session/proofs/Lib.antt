@@ -1,0 +1,26 @@
+-- Laws about the definitions.
+pub mod Steps
+pub mod MomentLaws
+pub mod AttemptLaws
+pub mod PathLaws
+pub mod SumLaws
+pub mod NodeLaws
+pub mod FileLaws
+pub mod TreeLaws
+pub mod SpaceLaws
+pub mod PaintLaws
+pub mod PendingLaws
+pub mod HandleLaws
+pub mod Transactions
+pub mod LineLaws
+pub mod SubmissionLaws
+pub mod Flushes
+pub mod FileLines
+pub mod FileEnds
+pub mod FlushLaws
+pub mod BuiltLaws
+pub mod AnswerLaws
+pub mod Digits
+pub mod HexText
+pub mod Runs
+pub mod Words

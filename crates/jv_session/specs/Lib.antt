@@ -1,0 +1,12 @@
+-- The definitions that contracts cite.
+pub mod Stored
+pub mod Agrees
+pub mod Shown
+pub mod Lines
+pub mod BuiltHere
+pub mod Held
+pub mod Progress
+pub mod Flushing
+pub mod FlushLoop
+pub mod Printing
+pub mod Reading

@@ -1,0 +1,216 @@
+//! Which lines a session runs today.
+ghost use Rattle.std.specs.Prelude.{◌≡◌, ◌+◌, ◌&&◌, nat_le, IsSome, length, None};
+ghost use Rattle.jv_model.specs.Built.{is_built_fault, pending_limit};
+ghost use Rattle.jv_model.specs.Pending.{window_size};
+ghost use Rattle.jv_model.specs.Client.{is_mount, needs_no_mount, names_handle, handle_in, gives_handle, write_end, file_of};
+ghost use Rattle.jv_model.specs.Tree.{space_limit, inode_limit};
+ghost use Rattle.jv_session.specs.Stored.{IsFile};
+ghost use Rattle.jv_session.specs.BuiltHere.{refusal_here, has_form, may_run, may_flush, may_answer, built_op, has_room, inode_or_zero};
+
+use crate::handles::{named, open_count};
+use crate::reader::is_root_path;
+use crate::schedule::{PENDING_LIMIT, Schedule};
+use crate::volume::Volume;
+use jv_model::{Fault, Limits, Op, Setting, WINDOW};
+
+/// The most handles that a client may have open.
+const HANDLE_LIMIT: usize = 1024;
+
+/// A position that no file passes.
+const POSITION_LIMIT: u128 = 1 << 40;
+
+/// The greatest stored count, for which a limit of 0 stands too.
+const FULL_COUNT: u64 = 1 << 62;
+
+const GIB: u128 = 1 << 30;
+
+impl Schedule {
+    /// Whether an operation has a form and an answer that a session has today.
+    pub(crate) fn is_built_op(&self, op: &Op) -> bool
+        ensures { result ≡ built_op self.now op.now }
+    {
+        has_form(&self.limits, op) && self.has_answer(op)
+    }
+
+    fn has_answer(&self, op: &Op) -> bool
+        ensures { result ≡ may_answer self.now op.now (refusal_here self.now op.now) }
+    {
+        match self.submission(op) {
+            Some(fault) => is_built_fault(fault),
+            None => self.may_run(op),
+        }
+    }
+
+    /// The refusal of an operation at its submission, before any step.
+    pub(crate) fn submission(&self, op: &Op) -> Option<Fault>
+        ensures { result ≡ refusal_here self.now op.now }
+    {
+        let is_mounted = self.session.is_some();
+        if is_mount(op) && is_mounted {
+            return Some(Fault::InProgress);
+        }
+        if !is_mounted && !needs_no_mount(op) {
+            return Some(Fault::NotConnected);
+        }
+        if names_handle(op) && named(&self.handles, handle_in(op)).is_none() {
+            return Some(Fault::BadHandle);
+        }
+        if gives_handle(op) && open_count(&self.handles) >= HANDLE_LIMIT {
+            return Some(Fault::TooManyHandles);
+        }
+        if write_end(op) > POSITION_LIMIT {
+            return Some(Fault::FileTooLarge);
+        }
+        None
+    }
+
+    /// Whether an operation that isn't refused at its submission has such an answer.
+    fn may_run(&self, op: &Op) -> bool
+        requires { refusal_here self.now op.now ≡ None }
+        ensures { result ≡ may_run self.now op.now }
+    {
+        match op {
+            Op::Close { handle } => self.may_flush_open(*handle),
+            Op::Read { handle, .. } => self.may_flush_open(*handle),
+            Op::Write { bytes, .. } => self.may_hold(bytes.len()),
+            Op::Create { path, .. } => {
+                self.volume.find(path).is_some() || has_room(&self.setting, &self.volume)
+            }
+            _ => true,
+        }
+    }
+
+    /// Whether the bytes pending of an open file may be committed within the volume's limits.
+    fn may_flush_open(&self, handle: u64) -> bool
+        requires { IsSome (file_of self.now.handles handle) }
+        ensures { result ≡ may_flush self.now (inode_or_zero (file_of self.now.handles handle)) }
+    {
+        let inode = named(&self.handles, handle).unwrap();
+        self.may_flush(inode)
+    }
+
+    fn may_flush(&self, inode: u64) -> bool
+        requires { IsFile (length self.now.volume.files) inode }
+        ensures { result ≡ may_flush self.now inode }
+    {
+        let before = self.volume.used_space();
+        let after = self.volume.space_with(inode, self.pending.end_of(inode));
+        after <= space_limit(&self.setting) || after <= before
+    }
+
+    /// Whether so many more bytes may be pending.
+    fn may_hold(&self, more: usize) -> bool
+        ensures { result ≡ (nat_le (length self.now.pending + more) pending_limit && nat_le (length self.now.pending + more) self.now.limits.buffer) }
+    {
+        let held = u128::from(self.pending.bytes()) + more as u128;
+        held <= u128::from(PENDING_LIMIT) && held <= u128::from(self.limits.buffer)
+    }
+}
+
+fn has_form(limits: &Limits, op: &Op) -> bool
+    ensures { result ≡ has_form limits.now op.now }
+{
+    match op {
+        Op::Mount { writeback } => !*writeback && !limits.writeback,
+        Op::Create { path, .. } => is_root_path(path.as_slice()),
+        Op::Open { path } => is_root_path(path.as_slice()),
+        Op::Close { .. } => true,
+        Op::Read { offset, len, .. } => ends_in_window(*offset, u64::from(*len)),
+        Op::Write { offset, bytes, .. } => ends_in_window(*offset, bytes.len() as u64),
+        _ => false,
+    }
+}
+
+/// Whether a range ends in the first window.
+fn ends_in_window(offset: u64, len: u64) -> bool
+    ensures { result ≡ nat_le (offset + len) window_size }
+{
+    len <= WINDOW && offset <= WINDOW - len
+}
+
+fn is_built_fault(fault: Fault) -> bool
+    ensures { result ≡ is_built_fault fault }
+{
+    matches!(
+        fault,
+        Fault::NotFound | Fault::AlreadyExists | Fault::BadHandle | Fault::NoMemory
+    )
+}
+
+/// The volume's limit of used space in bytes.
+fn space_limit(setting: &Setting) -> u128
+    ensures { result ≡ space_limit setting.now }
+{
+    if setting.capacity == 0 {
+        u128::from(FULL_COUNT)
+    } else {
+        u128::from(setting.capacity) * GIB
+    }
+}
+
+/// The volume's limit of used inodes.
+fn inode_limit(setting: &Setting) -> u64
+    ensures { result ≡ inode_limit setting.now }
+{
+    if setting.inodes == 0 {
+        FULL_COUNT
+    } else {
+        setting.inodes
+    }
+}
+
+/// Whether one more file is within the volume's limits.
+fn has_room(setting: &Setting, volume: &Volume) -> bool
+    ensures { result ≡ has_room setting.now volume.now }
+{
+    let count = volume.count();
+    let limit = space_limit(setting);
+    count + 2 < FULL_COUNT
+        && limit >= 4096
+        && volume.used_space() <= limit - 4096
+        && count < inode_limit(setting)
+}
+
+fn is_mount(op: &Op) -> bool
+    ensures { result ≡ is_mount op.now }
+{
+    matches!(op, Op::Mount { .. })
+}
+
+fn needs_no_mount(op: &Op) -> bool
+    ensures { result ≡ needs_no_mount op.now }
+{
+    matches!(op, Op::Mount { .. } | Op::Upload)
+}
+
+fn names_handle(op: &Op) -> bool
+    ensures { result ≡ names_handle op.now }
+{
+    matches!(op, Op::Close { .. } | Op::Read { .. } | Op::Write { .. })
+}
+
+fn handle_in(op: &Op) -> u64
+    ensures { result ≡ handle_in op.now }
+{
+    match op {
+        Op::Close { handle } => *handle,
+        Op::Read { handle, .. } => *handle,
+        Op::Write { handle, .. } => *handle,
+        _ => 0,
+    }
+}
+
+fn gives_handle(op: &Op) -> bool
+    ensures { result ≡ gives_handle op.now }
+{
+    matches!(op, Op::Create { .. } | Op::Open { .. })
+}
+
+fn write_end(op: &Op) -> u128
+    ensures { result ≡ write_end op.now }
+{
+    match op {
+        Op::Write { offset, bytes, .. } => u128::from(*offset) + bytes.len() as u128,
+        _ => 0,
+    }
+}

@@ -1,0 +1,15 @@
+//! How the call for one line ended.
+use jv_model::Bytes;
+
+/// What a line of a script came to.
+#[derive(Debug, Drop, PartialEq, Eq)]
+pub enum LineEnd {
+    /// The line was run; this is what it prints, with its line feed.
+    Said(Bytes),
+    /// The line does nothing and prints nothing.
+    Quiet,
+    /// The clock failed before the line's first step; nothing has changed.
+    ClockFailed,
+    /// There was no memory for the line's first step; nothing has changed.
+    Memory,
+}

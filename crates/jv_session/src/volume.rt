@@ -1,0 +1,217 @@
+//! The tree of a session as plain data: files in the root, each with its committed segments.
+ghost use Rattle.std.specs.Prelude.{◌≡◌, ℕ, ◌+◌, ◌-◌, ◌<◌, ◌≤◌, ◌^◌, [], ◌∷◌, ◌++◌, List, length, max, cond, slice_get, slice_set, slice_index, Some, None, IfOk, OnOk, OnErr, IsSome, IfSome, IsSomeAnd, if◌then◌else◌};
+ghost use Rattle.std.specs.Ordering.{nat_cmp, is_eq};
+ghost use Rattle.std.specs.Cmp.Lexicographic.{slice_cmp};
+ghost use Rattle.jv_model.specs.Tree.{paged};
+ghost use Rattle.jv_session.specs.Stored.{inode_named, with_segment, space_of, covers, Creates, Commits, IsFile};
+ghost use Rattle.jv_session.specs.Shown.{shown_between};
+
+use jv_model::{Bytes, Path, Sequence, copied, push_in_room};
+use std::alloc::{AllocError, Global};
+use std::collections::BTreeMap;
+use std::marker::Model;
+
+/// The greatest length of a file in bytes.
+pub(crate) const LENGTH_LIMIT: u64 = 1 << 40;
+
+/// The inode of the first file.
+const FIRST_INODE: u64 = 2;
+
+/// Bytes that one commit put into a file.
+#[derive(Debug, Drop)]
+pub(crate) struct StoredSegment {
+    /// The position of the first byte.
+    pub(crate) from: u64,
+    pub(crate) bytes: Bytes,
+}
+
+/// A file: its length and its commits, the latest last.
+#[derive(Debug, Drop)]
+pub(crate) struct StoredFile {
+    pub(crate) length: u64,
+    pub(crate) segments: Sequence<StoredSegment>,
+}
+
+/// Files in the root by their paths, and the space that they use. Inodes count up from 2.
+#[derive(Drop)]
+pub(crate) struct Volume {
+    alloc: Global,
+    names: BTreeMap<Path, u64>,
+    files: Vec<StoredFile>,
+    used_space: u128,
+}
+
+impl Model for Volume {
+    ghost use Rattle.jv_session.specs.Stored.{VolumeValue, IsVolume};
+
+    ghost Value = { VolumeValue };
+
+    ghost view = { λ v. record { names = v.names.entries; files = v.files.items; used_space = v.used_space } };
+
+    ghost invariant = { λ v. IsVolume v.names.entries v.files.items v.used_space };
+}
+
+/// The space of a file of that length: whole pages of 4,096 bytes, at least one.
+fn paged(length: u64) -> u64
+    requires { length ≤ 2 ^ 40 }
+    ensures { result ≡ paged length }
+{
+    4096.max(length.div_ceil(4096) * 4096)
+}
+
+impl Volume {
+    /// A volume without files. Takes no memory.
+    pub(crate) fn new(alloc: Global) -> Volume
+        ensures { result ≡ record { names = []; files = []; used_space = 0 } }
+    {
+        Volume {
+            alloc,
+            names: BTreeMap::new(alloc),
+            files: Vec::new(alloc),
+            used_space: 0,
+        }
+    }
+
+    /// The inode of a path.
+    pub(crate) fn find(&self, path: &Path) -> Option<u64>
+        ensures inode { result ≡ inode_named self.now.names path.now }
+        ensures file { IfSome result (IsFile (length self.now.files)) }
+    {
+        self.names.get(path).copied()
+    }
+
+    /// The number of files.
+    pub(crate) fn count(&self) -> u64
+        ensures count { result ≡ length self.now.files }
+        ensures small { result < 2 ^ 63 }
+    {
+        self.files.len() as u64
+    }
+
+    /// Makes a file without bytes, and gives its inode. Where memory is wanting, nothing has changed.
+    pub(crate) fn create(&mut self, path: &Path) -> Result<u64, AllocError>
+        ensures ok { IfOk result (λ inode. (inode ≡ 2 + length self.old.files) × Creates self.old path.now self.new) }
+        ensures err { OnErr result (self.new ≡ self.old) }
+    {
+        let key = copied(self.alloc, path.as_slice())?;
+        let file = StoredFile {
+            length: 0,
+            segments: Sequence::new(self.alloc),
+        };
+        let inode = FIRST_INODE + self.files.len() as u64;
+        self.files.reserve(1)?;
+        self.names.insert(key, inode)?;
+        push_in_room(&mut self.files, file);
+        self.used_space += 4096;
+        Ok(inode)
+    }
+
+    /// The space that all files use.
+    pub(crate) fn used_space(&self) -> u128
+        ensures { result ≡ self.now.used_space }
+    {
+        self.used_space
+    }
+
+    /// The space that all files use once one of them reaches at least to a position.
+    pub(crate) fn space_with(&self, inode: u64, end: u64) -> u128
+        requires file { IsFile (length self.now.files) inode }
+        requires end { end ≤ 2 ^ 40 }
+        ensures { IfSome (slice_get self.now.files (inode - 2)) (λ file.
+            result + paged file.length ≡ self.now.used_space + paged (max file.length end)) }
+    {
+        let length = self.files[(inode - FIRST_INODE) as usize].length;
+        self.used_space - u128::from(paged(length)) + u128::from(paged(length.max(end)))
+    }
+
+    /// Puts bytes into a file. Where memory is wanting, nothing has changed.
+    pub(crate) fn commit(&mut self, inode: u64, from: u64, bytes: &[u8]) -> Result<(), AllocError>
+        requires file { IsFile (length self.old.files) inode }
+        requires end { from + length bytes.now ≤ 2 ^ 40 }
+        ensures ok { OnOk result (IfSome (slice_get self.old.files (inode - 2)) (λ file. Commits self.old (inode - 2) from bytes.now file self.new)) }
+        ensures counted { OnOk result (self.old.used_space ≡ space_of self.old.files) }
+        ensures err { OnErr result (self.new ≡ self.old) }
+    {
+        let used_space = self.space_with(inode, from + bytes.len() as u64);
+        let bytes = copied(self.alloc, bytes)?;
+        add_segment(&mut self.files, (inode - FIRST_INODE) as usize, from, bytes)?;
+        self.used_space = used_space;
+        Ok(())
+    }
+
+    /// The bytes of a file from one position up to another, as far as the file goes.
+    pub(crate) fn read(&self, inode: u64, from: u64, to: u64) -> Result<Bytes, AllocError>
+        requires file { IsFile (length self.now.files) inode }
+        requires end { to ≤ 2 ^ 40 }
+        ensures { IfOk result (λ bytes. IfSome (slice_get self.now.files (inode - 2)) (λ file. bytes ≡ shown_between file from to)) }
+    {
+        shown(
+            self.alloc,
+            &self.files[(inode - FIRST_INODE) as usize],
+            from,
+            to,
+        )
+    }
+}
+
+impl StoredFile {
+    ghost use Rattle.jv_session.specs.Stored.{with_segment};
+
+    /// Puts bytes into the file. Where memory is wanting, nothing has changed.
+    fn add(&mut self, from: u64, bytes: Bytes) -> Result<(), AllocError>
+        requires { from + length bytes < 2 ^ 64 }
+        ensures ok { OnOk result (self.new ≡ with_segment from bytes self.old) }
+        ensures err { OnErr result (self.new ≡ self.old) }
+    {
+        let length = self.length.max(from + bytes.len() as u64);
+        self.segments.push(StoredSegment { from, bytes })?;
+        self.length = length;
+        Ok(())
+    }
+}
+
+fn add_segment(
+    files: &mut [StoredFile],
+    index: usize,
+    from: u64,
+    bytes: Bytes,
+) -> Result<(), AllocError>
+    requires index { index < length files.old }
+    requires end { from + length bytes < 2 ^ 64 }
+    ensures ok { OnOk result (IfSome (slice_get files.old index) (λ file. files.new ≡ slice_set files.old index (with_segment from bytes file))) }
+    ensures err { OnErr result (files.new ≡ files.old) }
+{
+    let file = &mut files[index];
+    file.add(from, bytes)
+}
+
+/// The bytes of a file from one position up to another, as far as the file goes: each segment painted over the ones
+/// before it.
+fn shown(alloc: Global, file: &StoredFile, from: u64, to: u64) -> Result<Bytes, AllocError>
+    requires { to ≤ 2 ^ 40 }
+    ensures { IfOk result (λ bytes. bytes ≡ shown_between file.now from to) }
+{
+    let end = to.min(file.length);
+    let start = from.min(end);
+    let mut bytes = vec![in alloc; 0; (end - start) as usize]?;
+    for segment in file.segments.as_slice() {
+        paint(&mut bytes, start, segment);
+    }
+    Ok(Sequence::from_vec(bytes))
+}
+
+/// Writes what a segment has over bytes that begin at a position.
+fn paint(bytes: &mut [u8], from: u64, segment: &StoredSegment)
+    requires end { from + length bytes.old ≤ 2 ^ 40 }
+    ensures { (k : ℕ) → k < length bytes.old → slice_index bytes.new k ≡ (if covers segment.now (from + k) then slice_index segment.now.bytes (from + k - segment.now.from) else slice_index bytes.old k) }
+{
+    let low = from.max(segment.from);
+    let segment_end = segment.from.saturating_add(segment.bytes.len() as u64);
+    let high = (from + bytes.len() as u64).min(segment_end);
+    if low < high {
+        let source = segment.bytes.as_slice();
+        bytes[(low - from) as usize..(high - from) as usize].copy_from_slice(
+            &source[(low - segment.from) as usize..(high - segment.from) as usize],
+        );
+    }
+}
