@@ -1,0 +1,49 @@
+-- Where a run starts.
+use Rattle.std.proofs.Common.{ℕ, List, Option, refl, arith}
+use Rattle.jv_model.specs.declared.op.Line.{Line}
+use Rattle.jv_model.specs.FiniteMap.{get, insert, sum_over}
+use Rattle.jv_model.specs.Tree.{fresh_tree}
+use Rattle.jv_model.specs.Past.{at_start}
+use Rattle.jv_session.specs.Agrees.{HasFiles, IsClient, Stands}
+use Rattle.jv_session.specs.Lines.{fresh_schedule}
+use Rattle.jv_model.specs.Client.{unmounted}
+use Rattle.jv_cmd.specs.Run.{session_setting, session_limits, session_run}
+
+HasFiles-fresh : HasFiles (fresh_tree session_setting 0) (fresh_schedule session_setting session_limits).volume
+unfolding get insert sum_over
+HasFiles-fresh = record {
+  root = refl;
+  names = λ name. refl;
+  named = λ path. tt;
+  next = refl;
+  few = omega arith;
+  files = λ k. tt;
+  space = refl;
+  counted = refl;
+  inodes = refl;
+}
+
+IsClient-fresh : IsClient unmounted 0 (fresh_schedule session_setting session_limits)
+IsClient-fresh = record {
+  session = refl;
+  direct = refl;
+  handles = refl;
+  opened = λ i. tt;
+  pending = refl;
+}
+
+pub Stands-start : (told : Option (ℕ → ℕ)) (lines : List Line) (status : ℕ) → Stands (at_start (session_run told lines status)) (fresh_schedule session_setting session_limits)
+Stands-start told lines status = record {
+  complete = refl;
+  due = refl;
+  at = refl;
+  last = omega arith;
+  agrees = record {
+    limits = refl;
+    setting = refl;
+    files = HasFiles-fresh;
+    mounted = record { mounted = tt; first = λ _. refl };
+    client = IsClient-fresh;
+    busy = refl;
+  };
+}

@@ -1,0 +1,9 @@
+-- Laws about the definitions.
+pub mod TextLaws
+pub mod Buffers
+pub mod CuttingLaws
+pub mod ToldFronts
+pub mod StepLaws
+pub mod FreshLaws
+pub mod ActLaws
+pub mod GoingLaws

@@ -1,0 +1,154 @@
+-- How a run gets from line to line.
+use Rattle.std.proofs.Common.{◌≡◌, ℕ, ◌+◌, ◌-◌, ◌≤◌, ◌&&◌, ◌||◌, List, [], ◌∷◌, ◌++◌, length, Option, None, inl, inr, refl, sym, ap, subst, ◌∙◌, arith}
+use Rattle.std.proofs.lemmas.Bool.{cases_lt, and_from, or_left}
+use Rattle.std.proofs.lemmas.List.{append-nil}
+use Rattle.jv_model.specs.declared.act.Act.{Act}
+use Rattle.jv_model.specs.declared.op.Line.{Line}
+use Rattle.jv_model.specs.declared.op.Line.TheVariants.{Empty}
+use Rattle.jv_model.specs.Legal.{Legal, AllAllowed, may_be_cut, may_stop}
+use Rattle.jv_model.specs.Past.{Past, Setup, is_no_more, at_start, begun, turned, begin_from, begin_next, begun_by, begun_to, past, reached, at_end, text_of}
+use Rattle.jv_model.proofs.PastLaws.{begun_to-twice, begun_to-next, past-append, AllAllowed-append, past-begun_to, AllAllowed-begun_to}
+use Rattle.jv_outside.specs.Told.{Passes}
+use Rattle.jv_outside.proofs.ToldLemmas.{Passes-zero}
+use Rattle.jv_session.specs.Agrees.{ScheduleValue, Agrees, Stands}
+use Rattle.jv_session.specs.Lines.{LeavesAll, RunsLine}
+use Rattle.jv_cmd.specs.Steps.{IsAt, Reaches, Goes, Advances}
+
+-- a past that comes to a line wasn't past it
+pub low : (n : ℕ) (p : Past) → (begun_to n p).line ≡ n → p.line ≤ n
+unfolding begun_to
+low n p e = elim (cases_lt n p.line) [
+  | inl above ↦
+      let none : n - p.line ≡ 0 = omega (arith, above) in
+      let same : (begun_by (n - p.line) p).line ≡ p.line = ap (λ k. (begun_by k p).line) none in
+      omega (arith, same, e)
+  | inr below ↦ below
+]
+
+-- the entries of a line after those of the lines before it
+joined : (n : ℕ) (p : Past) (journal acts : List Act) → (begun_to n (past p journal)).line ≡ n → AllAllowed p journal → AllAllowed (begun_to n (past p journal)) acts
+    → AllAllowed p (journal ++ acts) × (begun_to (n + 1) (past (begun_to n (past p journal)) acts) ≡ begun_to (n + 1) (past p (journal ++ acts)))
+joined n p journal [] e before allowed = (
+  subst (λ acts. AllAllowed p acts) (sym (append-nil journal)) before,
+  begun_to-twice (n + 1) n (past p journal) (low n (past p journal) e) (omega arith) ∙ ap (λ acts. begun_to (n + 1) (past p acts)) (sym (append-nil journal)),
+)
+joined n p journal (act ∷ acts) e before allowed =
+    let here = low n (past p journal) e in
+    let later = low act.line (begun_to n (past p journal)) allowed.0.line in
+    let own : n ≤ act.line = omega (arith, later, e) in (
+      AllAllowed-append p journal (act ∷ acts) before (AllAllowed-begun_to n (past p journal) act acts here own allowed),
+      ap (begun_to (n + 1)) (past-begun_to n (past p journal) act acts here own ∙ sym (past-append p journal (act ∷ acts))),
+    )
+
+-- one line more
+pub Reaches-more : (run : Setup) (line : Line) (more : List Line) (n asked asks : ℕ) (text printed : List ℕ) (journal journal' : List Act) (s s' : ScheduleValue)
+    → Reaches run (line ∷ more) n asked text journal s → Goes (begun_to n (reached run journal)) more (n + 1) asks journal journal' printed s'
+    → Reaches run more (n + 1) (asked + asks) (text ++ printed) journal' s'
+Reaches-more run line more n asked asks text printed journal journal' s s' r g =
+    let both = joined n (at_start run) journal g.acts r.at.line r.allowed g.allowed in
+    let there : begun_to (n + 1) (past (begun_to n (reached run journal)) g.acts) ≡ begun_to (n + 1) (reached run journal') =
+    both.1 ∙ ap (λ acts. begun_to (n + 1) (reached run acts)) (sym g.grows) in
+    record {
+      allowed = subst (λ acts. AllAllowed (at_start run) acts) (sym g.grows) both.0;
+      at = subst (λ q. IsAt q run more (n + 1) (asked + asks) (length journal') (text ++ printed) s') there (record {
+        line = g.at.line;
+        stands = g.at.stands;
+        same_run = g.at.same_run ∙ r.at.same_run;
+        rest = g.at.rest;
+        count = g.at.count;
+        asked = g.at.asked ∙ ap (λ k. k + asks) r.at.asked;
+        text = g.at.text ∙ ap (λ before. before ++ printed) r.at.text;
+      });
+    }
+
+-- a line that was run
+pub Advances-said : (told told' : Option (ℕ → ℕ)) (line : Line) (number : ℕ) (before after : List Act) (s s' : ScheduleValue) (text : List ℕ)
+    → RunsLine told told' line number before after s s' text → Passes told told' 1 → Advances line number told told' before after s s' text
+Advances-said told told' line number before after s s' text runs passes = record {
+  asks = 1;
+  passes = passes;
+  goes = λ p more stands next rest count clock.
+      let ran = runs p more stands next rest count clock in
+      record {
+        acts = ran.acts;
+        grows = ran.grows;
+        allowed = ran.allowed;
+        at = record {
+          line = ran.line;
+          stands = ran.stands;
+          same_run = ran.same_run;
+          rest = ran.rest;
+          count = ran.count;
+          asked = ran.asked;
+          text = ap (λ printed. printed ++ (begun_to number (past p ran.acts)).said) ran.printed ∙ ap (λ said. p.printed ++ p.said ++ said) ran.said;
+        };
+      };
+}
+
+-- an empty line does nothing
+Agrees-turned : (p : Past) (more : List Line) (s : ScheduleValue) → Agrees p None s → Agrees (begun (turned p more) Empty) None s
+Agrees-turned p more s a = record {
+  limits = a.limits;
+  setting = a.setting;
+  files = a.files;
+  mounted = a.mounted;
+  client = a.client;
+  busy = a.busy;
+}
+
+Stands-turned : (p : Past) (more : List Line) (s : ScheduleValue) → Stands p s → Stands (begun (turned p more) Empty) s
+Stands-turned p more s st = record {
+  complete = and_from p.complete (is_no_more p.due) st.complete (ap is_no_more st.due);
+  due = refl;
+  at = st.at;
+  last = st.last;
+  agrees = Agrees-turned p more s st.agrees;
+}
+
+next_is : (p : Past) (more : List Line) → p.rest ≡ Empty ∷ more → begin_next p ≡ begun (turned p more) Empty
+unfolding begin_next
+next_is p more e = ap (λ rest. begin_from rest p) e
+
+pub Advances-quiet : (told told' : Option (ℕ → ℕ)) (line : Line) (number : ℕ) (before after : List Act) (s s' : ScheduleValue)
+    → line ≡ Empty → LeavesAll before after s s' → told' ≡ told → Advances line number told told' before after s s' []
+Advances-quiet told told' line number before after s s' empty leaves same = record {
+  asks = 0;
+  passes = subst (λ later. Passes told later 0) (sym same) (Passes-zero told);
+  goes = λ p more stands next rest count clock.
+      let is : begun (turned p more) Empty ≡ begun_to number p =
+      sym (begun_to-next number p next ∙ next_is p more (rest ∙ ap (λ (l : Line). l ∷ more) empty)) in
+      record {
+        acts = [];
+        grows = leaves.journal ∙ sym (append-nil before);
+        allowed = tt;
+        at = subst (λ q. IsAt q p.run more number (p.asked + 0) (length after) (p.printed ++ p.said ++ []) s') is (record {
+          line = next;
+          stands = subst (λ v. Stands (begun (turned p more) Empty) v) (sym leaves.schedule) (Stands-turned p more s stands);
+          same_run = refl;
+          rest = refl;
+          count = count ∙ ap length (sym leaves.journal);
+          asked = omega arith;
+          text = refl;
+        });
+      };
+}
+
+-- the end of a run all of whose lines were run
+at_the_end : (run : Setup) (n asked : ℕ) (text : List ℕ) (journal : List Act) (s : ScheduleValue) → length run.script ≡ n → Reaches run [] n asked text journal s
+    → IsAt (at_end run journal) run [] n asked (length journal) text s
+at_the_end run n asked text journal s size r = subst (λ k. IsAt (begun_to k (reached run journal)) run [] n asked (length journal) text s) (sym size) r.at
+
+pub Legal-reached : (run : Setup) (n asked : ℕ) (text : List ℕ) (journal : List Act) (s : ScheduleValue) → length run.script ≡ n → Reaches run [] n asked text journal s → Legal run journal
+Legal-reached run n asked text journal s size r =
+    let end = at_the_end run n asked text journal s size r in
+    record {
+      allowed = r.allowed;
+      ends = and_from (at_end run journal).complete (is_no_more (at_end run journal).due || may_be_cut run.status && may_stop (at_end run journal) (at_end run journal).due) end.stands.complete
+          (or_left (is_no_more (at_end run journal).due) (may_be_cut run.status && may_stop (at_end run journal) (at_end run journal).due) (ap is_no_more end.stands.due));
+    }
+
+pub text_of-reached : (run : Setup) (n asked : ℕ) (text : List ℕ) (journal : List Act) (s : ScheduleValue) → length run.script ≡ n → Reaches run [] n asked text journal s → text_of run journal ≡ text
+text_of-reached run n asked text journal s size r = (at_the_end run n asked text journal s size r).text
+
+pub Stands-reached : (run : Setup) (n asked : ℕ) (text : List ℕ) (journal : List Act) (s : ScheduleValue) → length run.script ≡ n → Reaches run [] n asked text journal s → Stands (at_end run journal) s
+Stands-reached run n asked text journal s size r = (at_the_end run n asked text journal s size r).stands

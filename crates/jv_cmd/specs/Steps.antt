@@ -1,0 +1,145 @@
+-- How a run gets from line to line.
+use Rattle.std.specs.Prelude.{◌≡◌, ℕ, ◌+◌, ◌≤◌, Bool, true, false, IsTrue, List, [], ◌∷◌, ◌++◌, map, length, slice_get, All, Option, None, Some, IfSome, IsSomeAnd, Result, Ok, Err}
+use Rattle.jv_model.specs.declared.act.Act.{Act}
+use Rattle.jv_model.specs.declared.op.Line.{Line}
+use Rattle.jv_model.specs.Grammar.{line_of}
+use Rattle.jv_model.specs.Legal.{AllAllowed}
+use Rattle.jv_model.specs.Past.{Past, Setup, at_start, begun_to, past, reached}
+use Rattle.jv_outside.specs.Told.{Gains, GainsFront, Passes}
+use Rattle.jv_session.specs.Agrees.{ScheduleValue, Stands, ClockFor}
+use Rattle.jv_session.specs.BuiltHere.{built_here}
+use Rattle.jv_cmd.specs.declared.ended.Ended.{Ended}
+use Rattle.jv_cmd.specs.declared.ended.Ended.TheVariants.{OffLine, OutFailed, ClockFailed, OutOfMemory}
+use Rattle.jv_cmd.specs.Texts.{texts_of, longest_text, most_lines}
+use Rattle.jv_cmd.specs.Run.{Seen, IsTold, IsBuilt, IsNotBuilt, RunsLines, session_run, up_to}
+
+-- a past after so many lines of a run, with these lines to come: the schedule stands there, and this was printed
+pub record IsAt (p : Past) (run : Setup) (more : List Line) (done asks entries : ℕ) (printed : List ℕ) (s : ScheduleValue) : Type 0 where
+  pub line : p.line ≡ done
+  pub stands : Stands p s
+  pub same_run : p.run ≡ run
+  pub rest : p.rest ≡ more
+  pub count : p.count ≡ entries
+  pub asked : p.asked ≡ asks
+  pub text : p.printed ++ p.said ≡ printed
+
+-- the journal of a run so far is allowed and comes to such a past
+pub record Reaches (run : Setup) (more : List Line) (done asked : ℕ) (text : List ℕ) (journal : List Act) (s : ScheduleValue) : Type 0 where
+  pub allowed : AllAllowed (at_start run) journal
+  pub at : IsAt (begun_to done (reached run journal)) run more done asked (length journal) text s
+
+-- the lines of the entries are between two numbers
+abbrev pub AreBetween : ℕ → ℕ → List Act → Type 0
+AreBetween low high [] = Unit {0}
+AreBetween low high (act ∷ acts) = (low ≤ act.line) × (act.line ≤ high) × AreBetween low high acts
+
+-- so many lines were run, whatever lines are to come, and their text is this
+pub record Done (bytes left : Option (List ℕ)) (before now : Seen) (done : ℕ) (text : List ℕ) (s : ScheduleValue) : Type 0 where
+  pub texts : List (List ℕ)
+  pub lines : List Line
+  pub asked : ℕ
+  pub count : length lines ≡ done
+  pub each : map line_of texts ≡ map Some lines
+  pub few : done ≤ most_lines
+  pub short : All (λ line. length line ≤ longest_text) texts
+  pub first : IfSome bytes (λ all. IsSomeAnd left (λ rest. texts_of all ≡ texts ++ texts_of rest))
+  pub own : AreBetween 0 done now.journal
+  pub passes : Passes before.answers now.answers asked
+  pub built : (told : Option (ℕ → ℕ)) (more : List Line) (status : ℕ) → IsTold told before now → (k : ℕ) → IfSome (slice_get lines k) (IsBuilt (begun_to k (reached (session_run told (lines ++ more) status) (up_to k now.journal))))
+  pub reaches : (told : Option (ℕ → ℕ)) (more : List Line) (status : ℕ) → IsTold told before now → Reaches (session_run told (lines ++ more) status) more done asked text now.journal s
+
+-- no count of faults fell
+pub record IsLater (before now : Seen) : Type 0 where
+  pub source : before.source_faults ≤ now.source_faults
+  pub out : before.out_faults ≤ now.out_faults
+  pub clock : before.clock_faults ≤ now.clock_faults
+
+-- so many lines were run and printed
+pub record Going (bytes left : Option (List ℕ)) (before now : Seen) (done : ℕ) (s : ScheduleValue) : Type 0 where
+  pub text : List ℕ
+  pub lines_done : Done bytes left before now done text s
+  pub gains : Gains before.taken now.taken text
+  pub later : IsLater before now
+
+-- one line more was run, or the run ended
+abbrev pub Turns : Option (List ℕ) → Option (List ℕ) → Seen → Seen → ℕ → ScheduleValue → Result (Unit {0}) Ended → Type 0
+Turns bytes left before now done s (Ok unit) = Going bytes left before now (done + 1) s
+Turns bytes left before now done s (Err ended) = RunsLines bytes before now ended
+
+-- a line's entries after a journal: they are allowed, and the line is done and prints the text
+pub record Goes (p : Past) (more : List Line) (number asks : ℕ) (before after : List Act) (text : List ℕ) (s : ScheduleValue) : Type 0 where
+  pub acts : List Act
+  pub grows : after ≡ before ++ acts
+  pub allowed : AllAllowed p acts
+  pub at : IsAt (begun_to number (past p acts)) p.run more number (p.asked + asks) (length after) (p.printed ++ p.said ++ text) s
+
+-- a line was run and prints this, from wherever the schedule stood
+pub record Advances (line : Line) (number : ℕ) (answers answers' : Option (ℕ → ℕ)) (before after : List Act) (s s' : ScheduleValue) (printed : List ℕ) : Type 0 where
+  pub asks : ℕ
+  pub passes : Passes answers answers' asks
+  pub goes : (p : Past) (more : List Line) → Stands p s → p.line + 1 ≡ number → p.rest ≡ line ∷ more → p.count ≡ length before → ClockFor p.run.clock p.asked answers answers' → Goes p more number asks before after printed s'
+
+-- the line may be run where the schedule stands
+pub record IsBuiltHere (s : ScheduleValue) (line : Line) : Type 0 where
+  pub here : IsTrue (built_here s line)
+  pub at : (p : Past) → Stands p s → IsBuilt p line
+
+-- it may not
+pub record IsUnbuilt (s : ScheduleValue) (line : Line) : Type 0 where
+  pub at : (p : Past) → Stands p s → IsNotBuilt p line
+
+abbrev pub TellsBuilt : ScheduleValue → Line → Bool → Type 0
+TellsBuilt s line true = IsBuiltHere s line
+TellsBuilt s line false = IsUnbuilt s line
+
+-- a text that is no line, or a line that isn't built
+pub data IsOffText (text : List ℕ) (s : ScheduleValue) : Type 0 where
+  NoLine : line_of text ≡ None → IsOffText text s
+  Unbuilt : (line : Line) → line_of text ≡ Some line → IsUnbuilt s line → IsOffText text s
+
+-- the text is a line that may be run
+pub record ReadsBuilt (text : List ℕ) (s : ScheduleValue) (line : Line) : Type 0 where
+  pub read : line_of text ≡ Some line
+  pub built : IsBuiltHere s line
+
+-- a text was read
+abbrev pub TextReads : ℕ → List ℕ → ScheduleValue → Result Line Ended → Type 0
+TextReads number text s (Ok line) = ReadsBuilt text s line
+TextReads number text s (Err (OffLine at)) = (at ≡ number) × IsOffText text s
+TextReads number text s (Err OutOfMemory) = Unit {0}
+TextReads number text s (Err _) = ⊥
+
+-- nothing has changed but counts of faults
+pub record Leaves (taken taken' : Option (List ℕ)) (answers answers' : Option (ℕ → ℕ)) (before after : List Act) : Type 0 where
+  pub out : taken' ≡ taken
+  pub clock : answers' ≡ answers
+  pub journal : after ≡ before
+
+-- a line was run and printed
+pub record PrintsLine (line : Line) (number : ℕ) (taken taken' : Option (List ℕ)) (answers answers' : Option (ℕ → ℕ)) (before after : List Act) (s s' : ScheduleValue) : Type 0 where
+  pub printed : List ℕ
+  pub runs : Advances line number answers answers' before after s s' printed
+  pub gains : Gains taken taken' printed
+
+-- a line was run, and a front of what it prints was printed
+pub record PrintsFront (line : Line) (number : ℕ) (taken taken' : Option (List ℕ)) (answers answers' : Option (ℕ → ℕ)) (before after : List Act) (s s' : ScheduleValue) : Type 0 where
+  pub printed : List ℕ
+  pub runs : Advances line number answers answers' before after s s' printed
+  pub gains : GainsFront taken taken' printed
+
+-- by how the call for a line ended
+abbrev pub LineEnds : Line → ℕ → Option (List ℕ) → Option (List ℕ) → Option (ℕ → ℕ) → Option (ℕ → ℕ) → List Act → List Act → ScheduleValue → ScheduleValue → Result (Unit {0}) Ended → Type 0
+LineEnds line number taken taken' answers answers' before after s s' (Ok unit) = PrintsLine line number taken taken' answers answers' before after s s'
+LineEnds line number taken taken' answers answers' before after s s' (Err OutFailed) = PrintsFront line number taken taken' answers answers' before after s s'
+LineEnds line number taken taken' answers answers' before after s s' (Err ClockFailed) = Leaves taken taken' answers answers' before after
+LineEnds line number taken taken' answers answers' before after s s' (Err OutOfMemory) = Leaves taken taken' answers answers' before after
+LineEnds line number taken taken' answers answers' before after s s' (Err _) = ⊥
+
+-- by how the call for a text ended
+abbrev pub TextEnds : ℕ → List ℕ → Option (List ℕ) → Option (List ℕ) → Option (ℕ → ℕ) → Option (ℕ → ℕ) → List Act → List Act → ScheduleValue → ScheduleValue → Result (Unit {0}) Ended → Type 0
+TextEnds number text taken taken' answers answers' before after s s' (Ok unit) = (line : Line) × ReadsBuilt text s line × PrintsLine line number taken taken' answers answers' before after s s'
+TextEnds number text taken taken' answers answers' before after s s' (Err OutFailed) = (line : Line) × ReadsBuilt text s line × PrintsFront line number taken taken' answers answers' before after s s'
+TextEnds number text taken taken' answers answers' before after s s' (Err (OffLine at)) = (at ≡ number) × IsOffText text s × Leaves taken taken' answers answers' before after
+TextEnds number text taken taken' answers answers' before after s s' (Err ClockFailed) = Leaves taken taken' answers answers' before after
+TextEnds number text taken taken' answers answers' before after s s' (Err OutOfMemory) = Leaves taken taken' answers answers' before after
+TextEnds number text taken taken' answers answers' before after s s' (Err _) = ⊥

@@ -1,0 +1,199 @@
+//! Lines of a source.
+ghost use Rattle.std.specs.Prelude.{◌≡◌, ℕ, ◌+◌, ◌-◌, ◌<◌, ◌≤◌, ◌==◌, nat_le, if◌then◌else◌, [], length, take, drop, slice_range, vec_len, false, IfOk, OnOk};
+ghost use Rattle.std.specs.List.{position};
+ghost use Rattle.std.specs.Io.KnownBytes.{prepend_known, ReadConsumes};
+ghost use Rattle.jv_outside.specs.Causes.{HasCause};
+ghost use Rattle.jv_cmd.specs.declared.reader.Next.TheVariants.{Text, TooLong, End};
+ghost use Rattle.jv_cmd.specs.Texts.{is_feed, has_feed, longest_text};
+
+use jv_model::Down;
+use jv_outside::Source;
+use std::alloc::{AllocError, Global};
+use std::marker::Model;
+
+/// The most bytes of a line, without its line feed.
+pub(crate) const LONGEST_TEXT: usize = 1_048_576;
+
+/// Bytes that are held: the longest line, and a piece of 64 KiB after it.
+const ROOM: usize = LONGEST_TEXT + 65_536;
+
+/// What comes next in a source.
+#[derive(Clone, Copy, Debug, PartialEq, Eq)]
+pub(crate) enum Next {
+    /// A line of so many bytes, which are held.
+    Text(usize),
+    /// A line that is longer than a line may be.
+    TooLong,
+    /// No line.
+    End,
+}
+
+/// Bytes of a source that no line has taken yet.
+#[derive(Drop)]
+pub(crate) struct LineReader {
+    buffer: Vec<u8>,
+    start: usize,
+    end: usize,
+}
+
+impl Model for LineReader {
+    ghost use Rattle.std.specs.Prelude.{◌≡◌, ℕ, ◌-◌, ◌≤◌, List, take, drop, vec_len};
+    ghost use Rattle.jv_cmd.specs.declared.reader.TheConstants.{ROOM};
+
+    ghost Value = { List ℕ };
+
+    ghost view = { λ r. take (r.end - r.start) (drop r.start r.buffer.items) };
+
+    ghost invariant = { λ r. (r.start ≤ r.end) × (r.end ≤ ROOM) × (vec_len r.buffer ≡ ROOM) };
+}
+
+/// The place of the first line feed.
+fn feed_in(bytes: &[u8]) -> Option<usize>
+    ensures { result ≡ position is_feed bytes.now }
+{
+    bytes.iter().position(|byte| *byte == b'\n')
+}
+
+impl LineReader {
+    ghost use Rattle.jv_cmd.specs.Cutting.{Finds, Fills};
+
+    /// A reader that holds nothing.
+    pub(crate) fn new(alloc: Global) -> Result<LineReader, AllocError>
+        ensures { IfOk result (λ reader. reader ≡ []) }
+    {
+        Ok(LineReader {
+            buffer: vec![in alloc; 0u8; ROOM]?,
+            start: 0,
+            end: 0,
+        })
+    }
+
+    /// The number of bytes that are held.
+    fn len(&self) -> usize
+        ensures length { result ≡ length self.now }
+        ensures small { result ≤ ROOM }
+    {
+        self.end - self.start
+    }
+
+    /// The first bytes that are held.
+    pub(crate) fn front(&self, count: usize) -> &[u8]
+        requires { count ≤ length self.now }
+        ensures { result.now ≡ take count self.now }
+    {
+        &self.buffer.as_slice()[self.start..self.start + count]
+    }
+
+    fn rest(&self, from: usize) -> &[u8]
+        requires { from ≤ length self.now }
+        ensures rest { result.now ≡ drop from self.now }
+        ensures small { length self.now ≤ ROOM }
+    {
+        &self.buffer.as_slice()[self.start + from..self.end]
+    }
+
+    /// Lets go of a line of so many bytes and of the line feed after it.
+    pub(crate) fn pass(&mut self, count: usize)
+        requires { count ≤ length self.old }
+        ensures { self.new ≡ drop (count + 1) self.old }
+    {
+        self.start = self.end.min(self.start + count + 1);
+    }
+
+    /// Takes more bytes from the source, behind those that are held, and gives their number, which is 0 only at
+    /// the end of the source.
+    fn fill<S: Source>(&mut self, source: &mut S) -> Result<usize, Down>
+        requires { length self.old ≤ longest_text }
+        ensures filled { IfOk result (Fills (S.left source.old) (S.left source.new) self.old self.new) }
+        ensures small { OnOk result (length self.new ≤ ROOM) }
+        ensures cause { HasCause (S.faults source.old) (S.faults source.new) result }
+    {
+        let (start, end) = moved_to_front(&mut self.buffer, self.start, self.end);
+        self.start = start;
+        self.end = end;
+        let count = read_behind(source, &mut self.buffer, end)?;
+        self.end += count;
+        Ok(count)
+    }
+
+    /// The place of the first line feed among the bytes that are held, of which so many were looked at before.
+    fn feed_after(&self, seen: usize) -> Option<usize>
+        requires within { seen ≤ length self.now }
+        requires none_seen { has_feed (take seen self.now) ≡ false }
+        ensures { result ≡ position is_feed self.now }
+    {
+        Some(seen + feed_in(self.rest(seen))?)
+    }
+
+    /// Looks for the next line, and reads from the source as far as it has to.
+    pub(crate) fn next<S: Source>(&mut self, source: &mut S) -> Result<Next, Down>
+        ensures finds { Finds (prepend_known self.old (S.left source.old)) (S.left source.new) self.new result }
+        ensures cause { HasCause (S.faults source.old) (S.faults source.new) result }
+    {
+        let mut seen = 0;
+        'pieces: loop {
+            if let Some(count) = self.feed_after(seen) {
+                return Ok(by_length(count));
+            }
+            seen = self.len();
+            if seen > LONGEST_TEXT {
+                return Ok(Next::TooLong);
+            }
+            if self.fill(source)? == 0 {
+                return Ok(last_line(seen));
+            }
+        }
+    }
+}
+
+/// Moves the bytes between two places to the front where there is no room behind them, and gives their places.
+fn moved_to_front(buffer: &mut Vec<u8>, start: usize, end: usize) -> (usize, usize)
+    requires order { start ≤ end }
+    requires within { end ≤ vec_len buffer.old }
+    requires size { vec_len buffer.old ≡ ROOM }
+    ensures same { slice_range buffer.new.items result.0 result.1 ≡ slice_range buffer.old.items start end }
+    ensures order { result.0 ≤ result.1 }
+    ensures within { result.1 ≤ ROOM }
+    ensures room { end - start ≤ longest_text → result.1 < ROOM }
+    ensures size { vec_len buffer.new ≡ ROOM }
+{
+    if end < ROOM {
+        return (start, end);
+    }
+    buffer.copy_within(start..end, 0);
+    (0, end - start)
+}
+
+/// Reads bytes into a buffer from a place on.
+fn read_behind<S: Source>(source: &mut S, buffer: &mut Vec<u8>, end: usize) -> Result<usize, Down>
+    requires room { end < vec_len buffer.old }
+    ensures size { vec_len buffer.new ≡ vec_len buffer.old }
+    ensures front { take end buffer.new.items ≡ take end buffer.old.items }
+    ensures bound { IfOk result (λ count. count ≤ vec_len buffer.old - end) }
+    ensures bytes { ReadConsumes (S.left source.old) (S.left source.new) result (drop end buffer.new.items) }
+    ensures cause { HasCause (S.faults source.old) (S.faults source.new) result }
+{
+    source.read(&mut buffer.as_mut_slice()[end..])
+}
+
+/// A line that a line feed ends.
+fn by_length(count: usize) -> Next
+    ensures { result ≡ (if nat_le count longest_text then Text count else TooLong) }
+{
+    if count <= LONGEST_TEXT {
+        Next::Text(count)
+    } else {
+        Next::TooLong
+    }
+}
+
+/// What the last bytes of a source are.
+fn last_line(count: usize) -> Next
+    ensures { result ≡ (if count == 0 then End else Text count) }
+{
+    if count == 0 {
+        Next::End
+    } else {
+        Next::Text(count)
+    }
+}
