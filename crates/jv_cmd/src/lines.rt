@@ -39,8 +39,7 @@ fn session_setting(alloc: Global) -> Result<Setting, AllocError>
     })
 }
 
-/// Whether a line may be run.
-
+/// Whether a line is one of those that run today.
 fn is_built(schedule: &Schedule, line: &Line) -> bool
     ensures { TellsBuilt schedule.now line.now result }
 {
@@ -70,7 +69,6 @@ fn discard(line: Line) {
 }
 
 /// Runs a line, and prints its answer where it has one.
-
 fn run_line<O: Sink, C: Clock>(
     line: &Line,
     number: u32,
