@@ -1,11 +1,11 @@
 -- Worked scripts as closed terms: their journals are legal, and their texts are the ones shown.
-use Rattle.std.proofs.Common.{◌≡◌, ℕ, false, IsTrue, List, [], ◌∷◌, ◌++◌, length, take, Option, None, Some, refl, sym, ap, ◌∙◌, codes, lit≤, lit<, arith}
+use Rattle.std.proofs.Common.{◌≡◌, ℕ, Bool, true, false, IsTrue, List, [], ◌∷◌, ◌++◌, length, take, map, Option, None, Some, refl, sym, ap, ◌∙◌, codes, lit≤, lit<, arith}
 use Rattle.jv_model.specs.declared.act.Act.{Act}
 use Rattle.jv_model.specs.declared.act.ActKind.{ActKind}
 use Rattle.jv_model.specs.declared.act.ActKind.TheVariants.{Mounted, Meta, Opened, Look, Commit, Quiet, Answered}
 use Rattle.jv_model.specs.declared.act.Told.{Told}
 use Rattle.jv_model.specs.declared.act.Told.TheVariants.{Fine, Looks, Refused as ToldRefused}
-use Rattle.jv_model.specs.declared.fault.Fault.TheVariants.{NotFound, BadHandle}
+use Rattle.jv_model.specs.declared.fault.Fault.TheVariants.{NotFound, BadHandle, NoMemory}
 use Rattle.jv_model.specs.declared.op.Op.{Op}
 use Rattle.jv_model.specs.declared.op.Line.{Line}
 use Rattle.jv_model.specs.declared.op.Line.TheVariants.{Do}
@@ -17,7 +17,7 @@ use Rattle.jv_model.specs.Client.{ModelClient, OpenFile, Doing, Flushing, is_rep
 use Rattle.jv_model.specs.Past.{Setup, Past, View, reading, or_no_bytes, at_start, begun_to, begin_next, advance, after, reached, at_end, text_of}
 use Rattle.jv_model.proofs.PrintedRows.{printed_on_literals}
 use Rattle.std.specs.List.{flat_map}
-use Rattle.jv_model.specs.Legal.{Legal, ends_well, AllAllowed, Allowed, MayAnswer, OutOfMemory, Settled, Wrote, Closed, ReadsFresh, Refuses}
+use Rattle.jv_model.specs.Legal.{Legal, ends_well, AllAllowed, Allowed, MayAnswer, OutOfMemory, Settled, Wrote, Closed, ReadsFresh, Refuses, is_before_step, may_stop}
 
 abbrev plain_setting : Setting
 plain_setting = record { version = 1; block = 65536; trash_days = 0; capacity = 0; inodes = 0; hash = 0; name = codes "test"; bucket = codes "b" }
@@ -287,6 +287,28 @@ closes_flushed p client c doing handle op stage (ReadsFresh h offset len first s
 close_comes_early : Allowed (begun_to 4 (reached run (take 5 first_journal))) (entry 4 (Answered (Fine 0 0 0 0))) → ⊥
 unfolding begun_to begin_next advance after get insert sum_over
 close_comes_early h = let e = closes_flushed _ 0 _ _ 1 refl refl h.stands.1 in cc
+
+-- A run that a fault ends stops before a step. The first row's close has its answer in the step of its commit, so no
+-- run ends between the two; one may end before the close's first step, and between two of its steps.
+stopped_after : ℕ → Bool
+stopped_after entries = may_stop (begun_to 4 (reached run (take entries first_journal))) (begun_to 4 (reached run (take entries first_journal))).due
+
+stops_before_a_step : map stopped_after (5 ∷ 6 ∷ 7 ∷ 8 ∷ []) ≡ true ∷ true ∷ true ∷ false ∷ []
+unfolding begun_to begin_next advance after get insert sum_over stopped_after
+stops_before_a_step = refl
+
+-- want of memory is told before a step
+is_early : (p : Past) (client : ℕ) (c : ModelClient) (doing : Doing) (handle : ℕ) → doing.op ≡ Close handle → doing.stage ≡ Flushing 0 → MayAnswer p client c doing (ToldRefused NoMemory) → IsTrue (is_before_step p c doing)
+is_early p client c doing handle op stage (OutOfMemory before e) = before
+is_early p client c doing handle op stage (Settled reply s e) = let no = sym stage ∙ s in absurd (cc)
+is_early p client c doing handle op stage (Closed h o flushed e) = absurd (cc)
+is_early p client c doing handle op stage (Wrote h offset bytes o flushed e) = absurd (cc)
+is_early p client c doing handle op stage (ReadsFresh h offset len first second file bytes o flushed f r e) = absurd (cc)
+
+-- and not once the first row's close is committed
+memory_comes_late : Allowed (begun_to 4 (reached run (take 8 first_journal))) (entry 4 (Answered (ToldRefused NoMemory))) → ⊥
+unfolding begun_to begin_next advance after get insert sum_over
+memory_comes_late h = let e = is_early _ 0 _ _ 1 refl refl h.stands.1 in cc
 
 -- what a read gives by an operation's own numbers
 abbrev reading_by : List View → ℕ → Option OpenFile → Op → ℕ → ℕ → Option (List ℕ)

@@ -1,5 +1,5 @@
 -- A client as the model has it: its session, its open files, what it wrote and didn't commit, and what it is doing.
-use Rattle.std.specs.Prelude.{ℕ, ◌+◌, ◌-◌, ◌^◌, Bool, true, false, ◌&&◌, ◌||◌, not, ◌==◌, nat_lt, nat_le, if◌then◌else◌, List, [], ◌∷◌, ◌++◌, length, slice_get, slice_set, is_some, Option, None, Some}
+use Rattle.std.specs.Prelude.{ℕ, ◌+◌, ◌-◌, ◌^◌, min, Bool, true, false, ◌&&◌, ◌||◌, not, ◌==◌, nat_lt, nat_le, if◌then◌else◌, List, [], ◌∷◌, ◌++◌, length, slice_get, slice_set, is_some, Option, None, Some}
 use Rattle.jv_model.specs.declared.basics.Limits.{Limits}
 use Rattle.jv_model.specs.declared.fault.Fault.{Fault}
 use Rattle.jv_model.specs.declared.fault.Fault.TheVariants.{InProgress, NotConnected, BadHandle, TooManyHandles, FileTooLarge}
@@ -145,6 +145,13 @@ abbrev pub left_to_flush : Flush → List PendingByte → List PendingByte
 left_to_flush NoFlush pending = []
 left_to_flush (OfFile inode) pending = pending_of inode pending
 left_to_flush OfAll pending = pending
+
+-- whether an operation has nothing to ask for once it has flushed: its answer comes in the step of its last commit
+abbrev pub answers_once_flushed : Op → Bool
+answers_once_flushed (Close handle) = true
+answers_once_flushed (Write handle offset bytes) = true
+answers_once_flushed (Read handle offset len) = nat_le (min (offset + len) (2 ^ 40)) offset
+answers_once_flushed _ = false
 
 -- an operation submitted
 abbrev pub started : Limits → Op → ModelClient → ModelClient

@@ -1,5 +1,5 @@
 -- When a journal is legal for one POSIX tree: every entry may stand where it stands, and every line has its entries.
-use Rattle.std.specs.Prelude.{◌≡◌, ℕ, ◌+◌, ◌*◌, ◌≤◌, ◌<◌, min, max, Bool, true, false, ◌&&◌, ◌||◌, not, nat_le, nat_lt, ◌==◌, IsTrue, MatchBool, MatchOption, IsSome, List, [], ◌∷◌, length, Option, None, Some}
+use Rattle.std.specs.Prelude.{◌≡◌, ℕ, ◌+◌, ◌*◌, ◌≤◌, ◌<◌, min, max, Bool, true, false, ◌&&◌, ◌||◌, not, nat_le, nat_lt, ◌==◌, IsTrue, MatchBool, MatchOption, IsSome, is_some, List, [], ◌∷◌, length, Option, None, Some}
 use Rattle.jv_model.specs.declared.act.Act.{Act}
 use Rattle.jv_model.specs.declared.act.ActKind.{ActKind}
 use Rattle.jv_model.specs.declared.act.ActKind.TheVariants.{Mounted, Meta, Opened, Look, Commit, Quiet, Answered}
@@ -13,7 +13,7 @@ use Rattle.jv_model.specs.declared.op.Reply.TheVariants.{SessionMade, FileOpened
 use Rattle.jv_model.specs.Tree.{fits}
 use Rattle.jv_model.specs.TreeAct.{committed}
 use Rattle.jv_model.specs.Pending.{first_segment, bytes_in_range, window_size}
-use Rattle.jv_model.specs.Client.{ModelClient, OpenFile, Doing, Stage, Transacting, Flushing, Reading, Replying, is_replying, left_to_flush, file_of, inode_in}
+use Rattle.jv_model.specs.Client.{ModelClient, OpenFile, Doing, Stage, Transacting, Flushing, Reading, Replying, is_replying, left_to_flush, answers_once_flushed, file_of, inode_in}
 use Rattle.jv_model.specs.Past.{Setup, Past, Due, NoMore, Refusal, Whole, Unbuilt, at_start, begun_to, advance, at_end, transacted, reading, told_of, is_no_more}
 
 -- the last moment there is, in seconds
@@ -69,6 +69,14 @@ pub record IsFlushed (c : ModelClient) (doing : Doing) : Type 0 where
   pub between : IsTrue (is_between_segments doing.stage)
   pub none_left : left_to_flush doing.flush c.pending ≡ []
 
+-- the last step committed the last of what the operation had to flush, and it has nothing else to ask for
+abbrev pub has_flushed_all : Past → ModelClient → Doing → Bool
+has_flushed_all p c doing = p.has_asked && answers_once_flushed doing.op && is_between_segments doing.stage && not (is_some (first_segment (left_to_flush doing.flush c.pending)))
+
+-- whether an operation has a step to come: an answer that is due belongs to the step that was made
+abbrev pub is_before_step : Past → ModelClient → Doing → Bool
+is_before_step p c doing = not (is_replying doing.stage) && not (has_flushed_all p c doing)
+
 -- a reading takes views of the windows that its range touches, of the file that it reads
 pub record TakesView (c : ModelClient) (doing : Doing) (inode window : ℕ) : Type 0 where
   pub flushed : IsFlushed c doing
@@ -80,10 +88,10 @@ pub record TakesView (c : ModelClient) (doing : Doing) (inode window : ℕ) : Ty
   pub begins : window * window_size < offset + len
   pub ends : offset < (window + 1) * window_size
 
--- An answer may stand where want of memory is told before one is settled, where a transaction settled it, or where the operation has done
+-- An answer may stand where want of memory is told before a step, where a transaction settled it, or where the operation has done
 -- all its steps. A read gives the bytes of the fresh views that it cites.
 pub data MayAnswer (p : Past) (client : ℕ) (c : ModelClient) (doing : Doing) (told : Told) : Type 0 where
-  OutOfMemory : is_replying doing.stage ≡ false → told ≡ ToldRefused NoMemory → MayAnswer p client c doing told
+  OutOfMemory : IsTrue (is_before_step p c doing) → told ≡ ToldRefused NoMemory → MayAnswer p client c doing told
   Settled : (reply : Reply) → doing.stage ≡ Replying reply → told ≡ told_of reply → MayAnswer p client c doing told
   Closed : (handle : ℕ) → doing.op ≡ Close handle → IsFlushed c doing → told ≡ Fine 0 0 0 0 → MayAnswer p client c doing told
   Wrote : (handle offset : ℕ) (bytes : List ℕ) → doing.op ≡ Write handle offset bytes → IsFlushed c doing
@@ -134,13 +142,13 @@ AllAllowed p (act ∷ acts) = Allowed (begun_to act.line p) act × AllAllowed (a
 abbrev pub may_be_cut : ℕ → Bool
 may_be_cut status = nat_le 4 status && nat_le status 6
 
--- a run stops before a step: a settled answer comes in the same step
-abbrev pub is_before_step : Option Doing → Bool
-is_before_step None = true
-is_before_step (Some doing) = not (is_replying doing.stage)
+-- a run stops before a step
+abbrev pub stops_before_step : Past → ModelClient → Option Doing → Bool
+stops_before_step p c None = true
+stops_before_step p c (Some doing) = is_before_step p c doing
 
 abbrev pub may_stop : Past → Due → Bool
-may_stop p (Whole client) = is_before_step (p.clients client).doing
+may_stop p (Whole client) = stops_before_step p (p.clients client) (p.clients client).doing
 may_stop p _ = true
 
 -- every line has all its entries, but for one that was cut off

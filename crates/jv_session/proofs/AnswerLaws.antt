@@ -31,7 +31,7 @@ use Rattle.jv_session.specs.Shown.{shown_between}
 use Rattle.jv_session.specs.Progress.{Reaches, flushing}
 use Rattle.jv_session.specs.Flushing.{Flushed, ShowsFile}
 use Rattle.jv_session.proofs.FileLines.{write_ran, Flushes, ACloses, AReads, flush_starts}
-use Rattle.jv_session.proofs.FileEnds.{flushed_no_memory_ran, close_ran, read_nothing_ran, read_ran}
+use Rattle.jv_session.proofs.FileEnds.{has_more, before_step, flushed_no_memory_ran, close_ran, read_nothing_ran, read_ran}
 use Rattle.jv_session.proofs.SubmissionLaws.{coming_refusal, memory_ran}
 use Rattle.jv_session.proofs.BuiltLaws.{mounted, unmounted-here}
 
@@ -217,13 +217,14 @@ flushed_reaches p more line at op handle inode before after s s' h flushes there
     f.leads op p more (started_line p more op) [] (flush_starts p more line at op handle inode s before h flushes there)
 
 pub flush_memory_runs : (line at : ℕ) (op : Op) (handle inode : ℕ) (before after after' : List Act) (s s' : ScheduleValue) → refusal_here s op ≡ None → Flushes op handle → file_of s.handles handle ≡ Some inode
-    → Flushed inode line at before after s s' → after' ≡ after
+    → Flushed inode line at before after s s' → has_more op inode s' ≡ true → after' ≡ after
     → (p : Past) (more : List Line) → Coming p more line at op s before
     → Ran p more line before (after' ++ entry_at line at (Answered (ToldRefused NoMemory)) ∷ []) (printed_line (Refused NoMemory)) (record s' { at = at })
-flush_memory_runs line at op handle inode before after after' s s' none flushes there f same p more h =
+flush_memory_runs line at op handle inode before after after' s s' none flushes there f to_come same p more h =
+    let reaches = flushed_reaches p more line at op handle inode before after s s' h flushes there f in
     let refusal = entry_at line at (Answered (ToldRefused NoMemory)) in
     subst (λ acts. Ran p more line before acts (printed_line (Refused NoMemory)) (record s' { at = at })) (sym (ap (λ acts. acts ++ refusal ∷ []) (same ∙ f.grows) ∙ append_assoc before f.acts (refusal ∷ [])))
-    (flushed_no_memory_ran p more line at op (flushing op inode) s s' before f.acts h (no_refusal p more line at op s before h none) refl (flushed_reaches p more line at op handle inode before after s s' h flushes there f))
+    (flushed_no_memory_ran p more line at op (flushing op inode) s s' before f.acts h (no_refusal p more line at op s before h none) reaches (before_step reaches.there op inode s' reaches.agrees.client.pending to_come))
 
 pub close_runs : (line at handle inode : ℕ) (before after after' : List Act) (s s' : ScheduleValue) → refusal_here s (Close handle) ≡ None → file_of s.handles handle ≡ Some inode
     → Flushed inode line at before after s s' → pending_of inode s'.pending ≡ [] → after' ≡ after ++ entry_at line at (Answered (Fine 0 0 0 0)) ∷ []
@@ -235,18 +236,19 @@ close_runs line at handle inode before after after' s s' none there f empty grow
     (close_ran p more line at handle inode s s' before f.acts h (no_refusal p more line at (Close handle) s before h none)
     (flushed_reaches p more line at (Close handle) handle inode before after s s' h (ACloses handle) there f) empty)
 
-pub read_nothing_runs : (line at handle offset len inode : ℕ) (before after after' : List Act) (text : List ℕ) (s s' : ScheduleValue) → refusal_here s (Read handle offset len) ≡ None → file_of s.handles handle ≡ Some inode
-    → Flushed inode line at before after s s' → pending_of inode s'.pending ≡ [] → len ≡ 0 → text ≡ printed_line (Data []) → after' ≡ after ++ entry_at line at (Answered (Looks 0 0 0)) ∷ []
-    → (p : Past) (more : List Line) → Coming p more line at (Read handle offset len) s before
-    → Ran p more line before after' text (record s' { at = at })
-read_nothing_runs line at handle offset len inode before after after' text s s' none there f empty nothing says grows p more h =
+pub read_nothing_runs : (line at handle offset inode : ℕ) (before after after' : List Act) (s s' : ScheduleValue) → refusal_here s (Read handle offset 0) ≡ None → file_of s.handles handle ≡ Some inode
+    → Flushed inode line at before after s s' → pending_of inode s'.pending ≡ [] → after' ≡ after ++ entry_at line at (Answered (Looks 0 0 0)) ∷ []
+    → (p : Past) (more : List Line) → Coming p more line at (Read handle offset 0) s before
+    → Ran p more line before after' (printed_line (Data [])) (record s' { at = at })
+read_nothing_runs line at handle offset inode before after after' s s' none there f empty grows p more h =
+    let op = Read handle offset 0 in
     let answer = entry_at line at (Answered (Looks 0 0 0)) in
-    let none' : refusal_here s (Read handle offset 0) ≡ None = subst (λ n. refusal_here s (Read handle offset n) ≡ None) nothing none in
-    let h' : Coming p more line at (Read handle offset 0) s before = subst (λ n. Coming p more line at (Read handle offset n) s before) nothing h in
-    subst (λ t. Ran p more line before after' t (record s' { at = at })) (sym says)
-    (subst (λ acts. Ran p more line before acts (printed_line (Data [])) (record s' { at = at })) (sym (grows ∙ ap (λ acts. acts ++ answer ∷ []) f.grows ∙ append_assoc before f.acts (answer ∷ [])))
-    (read_nothing_ran p more line at handle offset inode s s' before f.acts h' (no_refusal p more line at (Read handle offset 0) s before h' none')
-    (flushed_reaches p more line at (Read handle offset 0) handle inode before after s s' h' (AReads handle offset 0) there f) empty (ap (λ hs. file_of hs handle) f.handles ∙ there)))
+    subst (λ acts. Ran p more line before acts (printed_line (Data [])) (record s' { at = at })) (sym (grows ∙ ap (λ acts. acts ++ answer ∷ []) f.grows ∙ append_assoc before f.acts (answer ∷ [])))
+    (read_nothing_ran p more line at handle offset inode s s' before f.acts h (no_refusal p more line at op s before h none)
+    (flushed_reaches p more line at op handle inode before after s s' h (AReads handle offset 0) there f) empty (ap (λ hs. file_of hs handle) f.handles ∙ there))
+
+pub read_within : (s : ScheduleValue) (handle offset len : ℕ) → built_op s (Read handle offset len) ≡ true → offset + len ≤ window_size
+read_within s handle offset len built = leb-true _ _ (form_of s (Read handle offset len) built)
 
 pub read_runs : (line at handle offset len inode : ℕ) (stored : StoredFile) (before after after' : List Act) (text : List ℕ) (s s' : ScheduleValue) → built_op s (Read handle offset len) ≡ true → refusal_here s (Read handle offset len) ≡ None
     → file_of s.handles handle ≡ Some inode → Flushed inode line at before after s s' → pending_of inode s'.pending ≡ [] → 0 < len → slice_get s'.volume.files (inode - 2) ≡ Some stored

@@ -1,8 +1,8 @@
 -- How a line that flushed its file ends: a close, a read, or want of memory.
-use Rattle.std.proofs.Common.{◌≡◌, ℕ, zero, suc, ◌+◌, ◌-◌, ◌*◌, ◌/◌, ◌≤◌, ◌<◌, ◌^◌, min, Bool, true, false, cond, ◌&&◌, ◌==◌, List, [], ◌∷◌, ◌++◌, length, slice_get, Option, None, Some, refl, sym, ap, subst, ◌∙◌, arith, length-append}
+use Rattle.std.proofs.Common.{◌≡◌, ℕ, zero, suc, ◌+◌, ◌-◌, ◌*◌, ◌/◌, ◌≤◌, ◌<◌, ◌^◌, min, Bool, true, false, cond, ◌&&◌, not, ◌==◌, List, [], ◌∷◌, ◌++◌, length, slice_get, Option, None, Some, refl, sym, ap, subst, ◌∙◌, arith, length-append}
 use Rattle.std.proofs.lemmas.Bool.{le-leb}
 use Rattle.std.proofs.lemmas.Bool.Decides.{nat_tests}
-use Rattle.std.specs.Prelude.{if◌then◌else◌, IfSome, IsSomeAnd, nat_le, nat_lt}
+use Rattle.std.specs.Prelude.{if◌then◌else◌, is_some, IfSome, IsSomeAnd, nat_le, nat_lt}
 use Rattle.jv_model.specs.declared.act.Act.{Act}
 use Rattle.jv_model.specs.declared.act.ActKind.TheVariants.{Look, Answered}
 use Rattle.jv_model.specs.declared.act.Told.{Told}
@@ -12,12 +12,12 @@ use Rattle.jv_model.specs.declared.op.Line.{Line}
 use Rattle.jv_model.specs.declared.op.Op.{Op}
 use Rattle.jv_model.specs.declared.op.Op.TheVariants.{Close, Read}
 use Rattle.jv_model.specs.declared.op.Reply.TheVariants.{Refused, Done, Data}
-use Rattle.jv_model.specs.Pending.{pending_of, window_size}
+use Rattle.jv_model.specs.Pending.{first_segment, pending_of, window_size}
 use Rattle.jv_model.specs.Tree.{Content, content_at}
-use Rattle.jv_model.specs.Client.{ModelClient, OpenFile, Doing, Reading, file_of, inode_in, with_file, submission, is_replying}
+use Rattle.jv_model.specs.Client.{ModelClient, OpenFile, Doing, Reading, file_of, inode_in, with_file, submission, answers_once_flushed}
 use Rattle.jv_model.specs.Past.{Past, View, with_client, counted, or_empty, or_no_bytes, only_if, second_read, bytes_from, bytes_between, reading, part_read, seen_in, is_fresh, view_at}
 use Rattle.jv_model.specs.Printed.{printed_line}
-use Rattle.jv_model.specs.Legal.{IsFlushed, TakesView, Closed, ReadsFresh}
+use Rattle.jv_model.specs.Legal.{IsFlushed, TakesView, Closed, ReadsFresh, is_before_step}
 use Rattle.jv_session.specs.declared.volume.StoredFile.{StoredFile}
 use Rattle.jv_session.specs.Stored.{stored_byte}
 use Rattle.jv_session.specs.Shown.{shown_between}
@@ -56,15 +56,42 @@ answer_ran p more line at op told doing text s s' before acts h none f step says
 
 -- want of memory after what was flushed
 pub flushed_no_memory_ran : (p : Past) (more : List Line) (line at : ℕ) (op : Op) (doing : Doing) (s s' : ScheduleValue) (before acts : List Act) → Coming p more line at op s before
-    → submission (p.clients 0) op ≡ None → is_replying doing.stage ≡ false → Reaches p more (started_line p more op) acts line at doing s'
+    → submission (p.clients 0) op ≡ None → (f : Reaches p more (started_line p more op) acts line at doing s') → is_before_step f.there (f.there.clients 0) doing ≡ true
     → Ran p more line before (before ++ (acts ++ entry_at line at (Answered (ToldRefused NoMemory)) ∷ [])) (printed_line (Refused NoMemory)) (record s' { at = at })
-flushed_no_memory_ran p more line at op doing s s' before acts h none unsettled f =
+flushed_no_memory_ran p more line at op doing s s' before acts h none f early =
     answer_ran p more line at op (ToldRefused NoMemory) doing (printed_line (Refused NoMemory)) s s' before acts h none f
-    (out_of_memory p more f.there line at doing f.inside f.agrees.busy unsettled) refl (record s' { at = at })
+    (out_of_memory p more f.there line at doing f.inside f.agrees.busy early) refl (record s' { at = at })
     (agrees-refused f.there (entry_at line at (Answered (ToldRefused NoMemory))) NoMemory doing s' (Some doing) f.agrees) refl
 
 is_flushed : (c : ModelClient) (count : ℕ) (op : Op) (inode : ℕ) (s : ScheduleValue) → IsClient c count s → pending_of inode s.pending ≡ [] → IsFlushed c (flushing op inode)
 is_flushed c count op inode s h e = record { between = refl; none_left = ap (pending_of inode) h.pending ∙ e }
+
+-- whether a flush that has come so far is followed by a step: a segment is left, or the operation asks for something
+abbrev pub has_more : Op → ℕ → ScheduleValue → Bool
+has_more op inode s = not (answers_once_flushed op && not (is_some (first_segment (pending_of inode s.pending))))
+
+left_or_asks : (answers left : Bool) → left ≡ true → not (answers && not left) ≡ true
+left_or_asks true left e = ap not (ap not e)
+left_or_asks false left e = refl
+
+pub segment_left : (op : Op) (inode : ℕ) (s : ScheduleValue) → is_some (first_segment (pending_of inode s.pending)) ≡ true → has_more op inode s ≡ true
+segment_left op inode s e = left_or_asks (answers_once_flushed op) (is_some (first_segment (pending_of inode s.pending))) e
+
+pub bytes_to_ask : (handle offset len inode : ℕ) (s : ScheduleValue) → 0 < len → offset + len ≤ window_size → has_more (Read handle offset len) inode s ≡ true
+bytes_to_ask handle offset len inode s some within =
+    let asks : nat_le (min (offset + len) (2 ^ 40)) offset ≡ false = grind (arith, nat_tests) in
+    ap (λ answers. not (answers && not (is_some (first_segment (pending_of inode s.pending))))) asks
+
+step_to_come : (asked answers left : Bool) → not (answers && not left) ≡ true → not (asked && answers && true && not left) ≡ true
+step_to_come false answers left h = refl
+step_to_come true true left h = h
+step_to_come true false left h = refl
+
+-- so a want of memory comes before a step
+pub before_step : (q : Past) (op : Op) (inode : ℕ) (s : ScheduleValue) → (q.clients 0).pending ≡ s.pending → has_more op inode s ≡ true → is_before_step q (q.clients 0) (flushing op inode) ≡ true
+before_step q op inode s same h =
+    ap (λ bytes. not (q.has_asked && answers_once_flushed op && true && not (is_some (first_segment (pending_of inode bytes))))) same
+    ∙ step_to_come q.has_asked (answers_once_flushed op) (is_some (first_segment (pending_of inode s.pending))) h
 
 -- a close
 pub close_ran : (p : Past) (more : List Line) (line at handle inode : ℕ) (s s' : ScheduleValue) (before acts : List Act) → Coming p more line at (Close handle) s before

@@ -1,5 +1,5 @@
 -- Whole lines: what a schedule's call appends is allowed, and leaves the schedule where the past is.
-use Rattle.std.proofs.Common.{◌≡◌, ℕ, ◌+◌, ◌≤◌, true, false, ◌&&◌, List, [], ◌∷◌, ◌++◌, length, slice_get, Option, None, Some, Ok, refl, sym, ap, subst, ◌∙◌, arith}
+use Rattle.std.proofs.Common.{◌≡◌, ℕ, ◌+◌, ◌≤◌, true, false, ◌&&◌, not, List, [], ◌∷◌, ◌++◌, length, slice_get, Option, None, Some, Ok, refl, sym, ap, subst, ◌∙◌, arith}
 use Rattle.std.specs.Prelude.{IfSome, is_some, nat_lt}
 use Rattle.jv_model.specs.declared.act.Act.{Act}
 use Rattle.jv_model.specs.declared.act.ActKind.TheVariants.{Mounted, Meta, Opened, Answered}
@@ -99,7 +99,7 @@ no_memory_ran p more line at op s before h none =
       last = h.last;
       before_count = h.count;
       end = answered q (refused_act line at NoMemory) (ToldRefused NoMemory) doing;
-      steps = out_of_memory p more q line at doing inside refl (not_replying op);
+      steps = out_of_memory p more q line at doing inside refl (ap (λ replying. not replying && true) (not_replying op));
       done = done-answered p more q line at (ToldRefused NoMemory) doing (printed_line (Refused NoMemory)) inside refl;
       agrees = agrees-refused q (refused_act line at NoMemory) NoMemory doing s (Some doing) a;
       moment = refl;

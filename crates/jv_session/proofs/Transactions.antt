@@ -1,5 +1,5 @@
 -- Lines whose operation is one metadata transaction, and lines that are refused at their submission.
-use Rattle.std.proofs.Common.{false, ◌≡◌, ℕ, ◌+◌, ◌&&◌, List, [], ◌∷◌, Option, None, Some, refl, sym, ap, ◌∙◌}
+use Rattle.std.proofs.Common.{◌≡◌, ℕ, true, ◌+◌, ◌&&◌, List, [], ◌∷◌, Option, None, Some, refl, sym, ap, ◌∙◌}
 use Rattle.jv_model.specs.declared.act.Act.{Act}
 use Rattle.jv_model.specs.declared.act.ActKind.{ActKind}
 use Rattle.jv_model.specs.declared.act.ActKind.TheVariants.{Answered}
@@ -11,9 +11,9 @@ use Rattle.jv_model.specs.declared.op.Line.{Line}
 use Rattle.jv_model.specs.declared.op.Reply.{Reply}
 use Rattle.jv_model.specs.declared.op.Reply.TheVariants.{SessionMade, FileOpened}
 use Rattle.jv_model.specs.TreeAct.{Outcome}
-use Rattle.jv_model.specs.Client.{ModelClient, Doing, Transacting, Replying, is_replying, first_stage, flush_of}
+use Rattle.jv_model.specs.Client.{ModelClient, Doing, Transacting, Replying, first_stage, flush_of}
 use Rattle.jv_model.specs.Past.{Past, turned, with_client, transacted, replied, mounts_writeback, after_step, after_transaction, counted, told_of, is_no_more}
-use Rattle.jv_model.specs.Legal.{Transacts, MayStep, OutOfMemory, Settled, IsMoment, entry_of_reply}
+use Rattle.jv_model.specs.Legal.{Transacts, MayStep, OutOfMemory, Settled, IsMoment, entry_of_reply, is_before_step}
 use Rattle.jv_session.specs.Progress.{InLine, StepsTo}
 use Rattle.jv_session.specs.Agrees.{ScheduleValue, Agrees, Stands, entry_at}
 use Rattle.jv_session.proofs.Steps.{one_step, steps_to, started_line, answered, still_client}
@@ -81,9 +81,9 @@ pub settle : (p : Past) (more : List Line) (q : Past) (line at : ℕ) (doing : D
 settle p more q line at doing reply h busy stage = one_step p more q line at (Answered (told_of reply)) doing h busy (Settled reply stage refl)
 
 -- want of memory, told as an answer
-pub out_of_memory : (p : Past) (more : List Line) (q : Past) (line at : ℕ) (doing : Doing) → InLine p more q line at → (q.clients 0).doing ≡ Some doing → is_replying doing.stage ≡ false
+pub out_of_memory : (p : Past) (more : List Line) (q : Past) (line at : ℕ) (doing : Doing) → InLine p more q line at → (q.clients 0).doing ≡ Some doing → is_before_step q (q.clients 0) doing ≡ true
     → StepsTo q (entry_at line at (Answered (ToldRefused NoMemory)) ∷ []) (answered q (entry_at line at (Answered (ToldRefused NoMemory))) (ToldRefused NoMemory) doing)
-out_of_memory p more q line at doing h busy unsettled = one_step p more q line at (Answered (ToldRefused NoMemory)) doing h busy (OutOfMemory unsettled refl)
+out_of_memory p more q line at doing h busy before = one_step p more q line at (Answered (ToldRefused NoMemory)) doing h busy (OutOfMemory before refl)
 
 -- a refusal leaves the client
 pub agrees-refused : (q : Past) (act : Act) (fault : Fault) (doing : Doing) (s : ScheduleValue) (before : Option Doing) → Agrees q before s

@@ -1,5 +1,5 @@
 //! Operations on open files: close, write and read, and the flush before a close and a read.
-ghost use Rattle.std.specs.Prelude.{◌≡◌, ℕ, ◌+◌, ◌≤◌, ◌<◌, ◌-◌, ◌++◌, ◌∷◌, [], length, slice_get, IsTrue, IfOk, IfSome, OnOk, OnErr, Some, None};
+ghost use Rattle.std.specs.Prelude.{◌≡◌, ℕ, ◌+◌, ◌≤◌, ◌<◌, ◌-◌, ◌++◌, ◌∷◌, [], length, slice_get, is_some, IsTrue, IfOk, IfSome, OnOk, OnErr, Some, None};
 ghost use Rattle.jv_model.specs.declared.act.ActKind.TheVariants.{Answered};
 ghost use Rattle.jv_model.specs.declared.act.Told.TheVariants.{Fine, Looks, Refused as ToldRefused};
 ghost use Rattle.jv_model.specs.declared.fault.Fault.TheVariants.{NoMemory};
@@ -63,13 +63,15 @@ impl Schedule {
         Ok(())
     }
 
-    /// Commits what is pending of a file, one segment at a time. Where memory is wanting, the segments before stand.
+    /// Commits what is pending of a file, one segment at a time. Where memory is wanting, the segments before stand, and
+    /// one is left.
     fn flush(&mut self, inode: u64, turn: &Turn, journal: &mut Journal) -> Result<(), AllocError>
         requires file { IsFile (length self.old.volume.files) inode }
         requires fits { IsTrue (may_flush self.old inode) }
         requires room { 1 ≤ journal.old.spare }
-        ensures flushed { Flushed inode turn.now.line turn.now.at journal.old.acts journal.new.acts self.old self.new }
         ensures empty { OnOk result (pending_of inode self.new.pending ≡ []) }
+        ensures left { OnErr result (IsTrue (is_some (next_segment (Some inode) self.new.pending))) }
+        ensures flushed { Flushed inode turn.now.line turn.now.at journal.old.acts journal.new.acts self.old self.new }
         ensures room { 1 ≤ journal.new.spare }
     {
         while let Some(at) = self.pending.first(Some(inode)) {
@@ -155,24 +157,37 @@ impl Schedule {
         ensures err { OnErr result (RunsTo (Read handle offset len) turn.now.line turn.now.at journal.old.acts (journal.new.acts ++ entry_at turn.now.line turn.now.at (Answered (ToldRefused NoMemory)) ∷ []) self.old self.new (printed_line (Refused NoMemory))) }
         ensures room { OnErr result (1 ≤ journal.new.spare) }
     {
+        if len == 0 {
+            return self.read_nothing(handle, offset, turn, journal);
+        }
         let Some(inode) = handles::named(&self.handles, handle) else {
             unreachable!();
         };
         self.flush(inode, turn, journal)?;
-        if len == 0 {
-            return self.read_nothing(turn, journal);
-        }
         self.read_flushed(inode, offset, len, turn, journal)
     }
 
-    /// Answers a read of no byte.
-    fn read_nothing(&self, turn: &Turn, journal: &mut Journal) -> Result<Bytes, AllocError>
+    /// Answers a read of no byte. It looks at nothing, so its answer comes in the step of the last commit, and has its
+    /// memory before.
+    fn read_nothing(
+        &mut self,
+        handle: u64,
+        offset: u64,
+        turn: &Turn,
+        journal: &mut Journal,
+    ) -> Result<Bytes, AllocError>
+        requires built { IsTrue (built_op self.old (Read handle offset 0)) }
+        requires fresh { refusal_here self.old (Read handle offset 0) ≡ None }
         requires room { 1 ≤ journal.old.spare }
-        ensures ok { IfOk result (λ text. (text ≡ printed_line (Data [])) × (journal.new.acts ≡ journal.old.acts ++ entry_at turn.now.line turn.now.at (Answered (Looks 0 0 0)) ∷ [])) }
-        ensures err { OnErr result (journal.new.acts ≡ journal.old.acts) }
+        ensures ok { IfOk result (λ text. RunsTo (Read handle offset 0) turn.now.line turn.now.at journal.old.acts journal.new.acts self.old self.new text) }
+        ensures err { OnErr result (RunsTo (Read handle offset 0) turn.now.line turn.now.at journal.old.acts (journal.new.acts ++ entry_at turn.now.line turn.now.at (Answered (ToldRefused NoMemory)) ∷ []) self.old self.new (printed_line (Refused NoMemory))) }
         ensures room { OnErr result (1 ≤ journal.new.spare) }
     {
+        let Some(inode) = handles::named(&self.handles, handle) else {
+            unreachable!();
+        };
         let text = print_reply(self.alloc, &Reply::Data(Sequence::new(self.alloc)))?;
+        self.flush(inode, turn, journal)?;
         note(journal, turn, looks(0, 0));
         Ok(text)
     }

@@ -10,6 +10,7 @@ use Rattle.jv_session.specs.Agrees.{ScheduleValue, entry_at}
 use Rattle.jv_session.proofs.SubmissionLaws.{memory_ran}
 use Rattle.jv_session.proofs.HandleLaws.{all-with_file}
 use Rattle.jv_session.proofs.FileLines.{ACloses}
+use Rattle.jv_session.proofs.FileEnds.{segment_left}
 use Rattle.jv_session.proofs.AnswerLaws.{on_err, runs_as, handle_within, flush_memory_runs, close_runs}
 use Rattle.jv_session.specs.contracts.schedule.Schedule.{the_view}
 use Rattle.jv_session.proofs.schedule.Schedule.close.Goals as goal
@@ -25,7 +26,7 @@ returns-in_err-flush-clause-err c =
     let s = c.args.self.now in
     let held : c.deref.result.now ≡ s.handles = c.deref.ensures.value ∙ ap (λ (x : ScheduleValue). x.handles) c.self.view_is in
     let there : file_of s.handles c.args.handle ≡ Some c.in-Some.inode = ap (λ hs. file_of hs c.args.handle) (sym held) ∙ sym c.in-Some.ensures in
-    on_err _ _ (flush_memory_runs t.line t.at (Close c.args.handle) c.args.handle c.in-Some.inode c.args.journal.now.acts c.flush.new.journal.acts c.flush.new.journal.acts s c.flush.new.self c.requires.fresh (ACloses c.args.handle) there c.flush.ensures.flushed refl)
+    on_err _ _ (flush_memory_runs t.line t.at (Close c.args.handle) c.args.handle c.in-Some.inode c.args.journal.now.acts c.flush.new.journal.acts c.flush.new.journal.acts s c.flush.new.self c.requires.fresh (ACloses c.args.handle) there c.flush.ensures.flushed (segment_left (Close c.args.handle) c.in-Some.inode c.flush.new.self c.in_err-flush.ensures.left) refl)
 
 pub clear-requires-clause-high : goal.clear-requires-clause-high
 clear-requires-clause-high c =

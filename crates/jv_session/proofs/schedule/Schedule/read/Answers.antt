@@ -1,16 +1,24 @@
 -- A read flushes, and then shows what the file has.
-use Rattle.std.proofs.Common.{◌≡◌, ◌+◌, ◌-◌, ◌<◌, ◌≤◌, length, slice_get, Some, refl, sym, ap, subst, ◌∙◌, arith}
-use Rattle.std.specs.Prelude.{IfSome}
+use Rattle.std.proofs.Common.{◌≡◌, ◌+◌, ◌-◌, ◌<◌, ◌≤◌, IsTrue, [], ◌∷◌, ◌++◌, length, slice_get, None, Some, refl, sym, ap, subst, ◌∙◌, arith}
+use Rattle.std.specs.Prelude.{IfSome, IfOk, OnErr}
+use Rattle.jv_model.specs.declared.act.ActKind.TheVariants.{Answered}
+use Rattle.jv_model.specs.declared.act.Told.TheVariants.{Refused as ToldRefused}
+use Rattle.jv_model.specs.declared.fault.Fault.TheVariants.{NoMemory}
+use Rattle.jv_model.specs.declared.op.Reply.TheVariants.{Refused}
+use Rattle.jv_model.specs.Printed.{printed_line}
 use Rattle.jv_model.specs.declared.op.Op.TheVariants.{Read}
 use Rattle.jv_model.specs.Client.{file_of}
 use Rattle.jv_session.specs.declared.volume.StoredFile.{StoredFile}
 use Rattle.jv_session.specs.Stored.{IsFile}
 use Rattle.jv_session.specs.Shown.{shown_between}
 use Rattle.jv_session.specs.Flushing.{ShowsFile}
-use Rattle.jv_session.specs.Agrees.{ScheduleValue}
+use Rattle.jv_session.specs.Agrees.{ScheduleValue, entry_at}
+use Rattle.jv_session.specs.BuiltHere.{refusal_here, built_op}
+use Rattle.jv_session.specs.Lines.{RunsTo}
 use Rattle.jv_session.proofs.FileLines.{AReads}
+use Rattle.jv_session.proofs.FileEnds.{segment_left, bytes_to_ask}
 use Rattle.jv_session.proofs.FlushLaws.{some_at}
-use Rattle.jv_session.proofs.AnswerLaws.{map_ok, map_err, on_err, file_of_handle, flush_memory_runs, read_nothing_runs, read_runs}
+use Rattle.jv_session.proofs.AnswerLaws.{map_ok, map_err, on_err, file_of_handle, flush_memory_runs, read_within, read_runs}
 use Rattle.jv_session.proofs.schedule.Schedule.read.Goals as goal
 
 pub returns-in_err-flush-clause-err : goal.returns-in_err-flush-clause-err
@@ -20,25 +28,24 @@ returns-in_err-flush-clause-err c =
     let held : c.deref.result.now ≡ s.handles = c.deref.ensures.value ∙ ap (λ (x : ScheduleValue). x.handles) c.self.view_is in
     let there : file_of s.handles c.args.handle ≡ Some c.in-Some.inode = ap (λ hs. file_of hs c.args.handle) (sym held) ∙ sym c.in-Some.ensures in
     on_err _ _ (flush_memory_runs t.line t.at (Read c.args.handle c.args.offset c.args.len) c.args.handle c.in-Some.inode c.args.journal.now.acts c.flush.new.journal.acts c.flush.new.journal.acts s c.flush.new.self c.requires.fresh
-    (AReads c.args.handle c.args.offset c.args.len) there c.flush.ensures.flushed refl)
+    (AReads c.args.handle c.args.offset c.args.len) there c.flush.ensures.flushed (segment_left (Read c.args.handle c.args.offset c.args.len) c.in-Some.inode c.flush.new.self c.in_err-flush.ensures.left) refl)
+
+pub read_nothing-requires-clause-built : goal.read_nothing-requires-clause-built
+read_nothing-requires-clause-built c = subst (λ n. IsTrue (built_op c.args.self.now (Read c.args.handle c.args.offset n))) c.if-len-eq0.true c.requires.built
+
+pub read_nothing-requires-clause-fresh : goal.read_nothing-requires-clause-fresh
+read_nothing-requires-clause-fresh c = subst (λ n. refusal_here c.args.self.now (Read c.args.handle c.args.offset n) ≡ None) c.if-len-eq0.true c.requires.fresh
 
 pub returns-then-len-eq0-clause-ok : goal.returns-then-len-eq0-clause-ok
 returns-then-len-eq0-clause-ok c =
     let t = c.args.turn.now in
-    let s = c.args.self.now in
-    let held : c.deref.result.now ≡ s.handles = c.deref.ensures.value ∙ ap (λ (x : ScheduleValue). x.handles) c.self.view_is in
-    let there : file_of s.handles c.args.handle ≡ Some c.in-Some.inode = ap (λ hs. file_of hs c.args.handle) (sym held) ∙ sym c.in-Some.ensures in
-    map_ok c.read_nothing.result _ _ (λ text h. read_nothing_runs t.line t.at c.args.handle c.args.offset c.args.len c.in-Some.inode c.args.journal.now.acts c.flush.new.journal.acts c.read_nothing.new.journal.acts text s c.flush.new.self c.requires.fresh there
-    c.flush.ensures.flushed c.in_ok-flush.ensures.empty c.if-len-eq0.true h.0 h.1) c.read_nothing.ensures.ok
+    subst (λ n. IfOk c.read_nothing.result (λ text. RunsTo (Read c.args.handle c.args.offset n) t.line t.at c.args.journal.now.acts c.read_nothing.new.journal.acts c.args.self.now c.read_nothing.new.self text)) (sym c.if-len-eq0.true) c.read_nothing.ensures.ok
 
 pub returns-then-len-eq0-clause-err : goal.returns-then-len-eq0-clause-err
 returns-then-len-eq0-clause-err c =
     let t = c.args.turn.now in
-    let s = c.args.self.now in
-    let held : c.deref.result.now ≡ s.handles = c.deref.ensures.value ∙ ap (λ (x : ScheduleValue). x.handles) c.self.view_is in
-    let there : file_of s.handles c.args.handle ≡ Some c.in-Some.inode = ap (λ hs. file_of hs c.args.handle) (sym held) ∙ sym c.in-Some.ensures in
-    map_err c.read_nothing.result _ _ (λ same. flush_memory_runs t.line t.at (Read c.args.handle c.args.offset c.args.len) c.args.handle c.in-Some.inode c.args.journal.now.acts c.flush.new.journal.acts c.read_nothing.new.journal.acts s c.flush.new.self c.requires.fresh
-    (AReads c.args.handle c.args.offset c.args.len) there c.flush.ensures.flushed same) c.read_nothing.ensures.err
+    subst (λ n. OnErr c.read_nothing.result (RunsTo (Read c.args.handle c.args.offset n) t.line t.at c.args.journal.now.acts (c.read_nothing.new.journal.acts ++ entry_at t.line t.at (Answered (ToldRefused NoMemory)) ∷ []) c.args.self.now c.read_nothing.new.self (printed_line (Refused NoMemory))))
+    (sym c.if-len-eq0.true) c.read_nothing.ensures.err
 
 pub returns-clause-ok : goal.returns-clause-ok
 returns-clause-ok c =
@@ -68,4 +75,4 @@ returns-clause-err c =
     let held : c.deref.result.now ≡ s.handles = c.deref.ensures.value ∙ ap (λ (x : ScheduleValue). x.handles) c.self.view_is in
     let there : file_of s.handles c.args.handle ≡ Some c.in-Some.inode = ap (λ hs. file_of hs c.args.handle) (sym held) ∙ sym c.in-Some.ensures in
     map_err c.read_flushed.result _ _ (λ same. flush_memory_runs t.line t.at (Read c.args.handle c.args.offset c.args.len) c.args.handle c.in-Some.inode c.args.journal.now.acts c.flush.new.journal.acts c.read_flushed.new.journal.acts s c.flush.new.self c.requires.fresh
-    (AReads c.args.handle c.args.offset c.args.len) there c.flush.ensures.flushed same) c.read_flushed.ensures.err
+    (AReads c.args.handle c.args.offset c.args.len) there c.flush.ensures.flushed (bytes_to_ask c.args.handle c.args.offset c.args.len c.in-Some.inode c.flush.new.self (omega (arith, c.if-len-eq0.false)) (read_within c.args.self.now c.args.handle c.args.offset c.args.len c.requires.built)) same) c.read_flushed.ensures.err
