@@ -1,13 +1,17 @@
 -- Finite maps that compute in closed proofs: a list of entries whose keys strictly rise.
-use Rattle.std.specs.Prelude.{◌≡◌, ℕ, ◌+◌, List, [], ◌∷◌, Option}
+use Rattle.std.specs.Prelude.{◌≡◌, ℕ, ◌+◌, not, List, [], ◌∷◌, Option, None, Some}
 use Rattle.std.proofs.Common.{T}
+use Rattle.std.specs.Coded.{Coded, coded×, coded_list}
+use base.Stored.{coded_via}
+use mathlib.Core.HLevel.{Σ_prop_path}
+use lib.Dec.{T_prop}
 use Rattle.std.specs.declared.cmp.Ordering.{Ordering}
 use Rattle.std.specs.declared.cmp.Ordering.TheVariants.{Equal}
-use Rattle.std.specs.Ordering.{nat_cmp}
+use Rattle.std.specs.Ordering.{nat_cmp, eq_by_cmp}
 use Rattle.std.specs.Cmp.{IsTotalOrder, nat_cmp_total}
 use Rattle.std.specs.Cmp.Lexicographic.{slice_cmp, nat_list_cmp_total}
 use Rattle.std.specs.FinMap.{nat_cmp-IsAntisymmetric, slice_cmp-IsAntisymmetric}
-use Rattle.std.specs.FinMap.Entries.{put, find, is_sorted, is_sorted-put}
+use Rattle.std.specs.FinMap.Entries.{put, find, where_key, is_sorted, is_sorted-put, is_sorted-where_key}
 
 -- an order of keys, in which only equal keys tie
 pub record KeyOrder (K : Type 0) : Type 0 where
@@ -42,6 +46,33 @@ module _ {K X : Type 0} {order : KeyOrder K} where
   -- with this value at the key
   unfoldable pub insert : Map order X → K → X → Map order X
   insert m k v = record { list = put order.cmp k v m.list; sorted = is_sorted-put order.cmp order.total k v m.list m.sorted }
+
+  -- without an entry at the key
+  unfoldable pub remove : Map order X → K → Map order X
+  remove m k = record {
+    list = where_key order.cmp (λ q. not (eq_by_cmp order.cmp k q)) m.list;
+    sorted = is_sorted-where_key order.cmp (λ q. not (eq_by_cmp order.cmp k q)) m.list m.sorted;
+  }
+
+  -- with this value at the key, or without an entry there
+  abbrev pub alter : Map order X → K → Option X → Map order X
+  alter m k None = remove m k
+  alter m k (Some v) = insert m k v
+
+  -- the entries as a map, where the first of one key stands
+  abbrev pub map_of : List (K × X) → Map order X
+  map_of [] = empty_map
+  map_of (e ∷ es) = insert (map_of es) e.0 e.1
+
+  -- maps with the same entries are the same
+  pub maps_of_entries : (m n : Map order X) → m.list ≡ n.list → m ≡ n
+  maps_of_entries m n e =
+      let pairs : ◌≡◌ {A = (es : List (K × X)) × T (is_sorted order.cmp es)} (m.list, m.sorted) (n.list, n.sorted) = Σ_prop_path (λ es. T_prop _) e in
+      λ i. record { list = (pairs i).0; sorted = (pairs i).1 }
+
+  -- a map is stored as its entries
+  abbrev pub map_code : Coded K → Coded X → Coded (Map order X)
+  map_code key value = coded_via (coded_list (coded× key value)) (λ m. m.list) maps_of_entries
 
   -- the values added up by a function of key and value
   unfoldable pub sum_over : (K → X → ℕ) → Map order X → ℕ

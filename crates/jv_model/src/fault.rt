@@ -2,6 +2,7 @@
 use crate::bytes::Bytes;
 use crate::row::RowKey;
 use crate::slice::List;
+use std::alloc::AllocError;
 use thiserror::Error;
 
 /// A device that an operation uses.
@@ -86,6 +87,17 @@ pub enum Down {
     /// Want of memory.
     #[error("out of memory")]
     Memory,
+}
+
+impl From<AllocError> for Down {
+    ghost use Rattle.std.specs.Prelude.{◌≡◌};
+    ghost use Rattle.jv_model.specs.declared.fault.Down.TheVariants.{Memory};
+
+    ghost from_gives = { λ _ down. down ≡ Memory };
+
+    fn from(_: AllocError) -> Down {
+        Down::Memory
+    }
 }
 
 /// Why a row wasn't read.
