@@ -14,3 +14,6 @@ pub mod Legal
 pub mod Built
 pub mod Looks
 pub mod Laws
+pub mod RowFields
+pub mod RowGrammar
+pub mod RowKeys
