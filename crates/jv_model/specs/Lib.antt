@@ -16,4 +16,4 @@ pub mod Looks
 pub mod Laws
 pub mod RowFields
 pub mod RowGrammar
-pub mod RowKeys
+pub mod RowPlaces

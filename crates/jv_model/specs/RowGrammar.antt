@@ -22,6 +22,9 @@ use Rattle.jv_model.specs.RowFields.{◌>>=◌, byte, half, word, long, byte_at,
 abbrev pub block_sizes : List ℕ
 block_sizes = 65536 ∷ 131072 ∷ 262144 ∷ 524288 ∷ 1048576 ∷ 2097152 ∷ 4194304 ∷ 8388608 ∷ 16777216 ∷ []
 
+abbrev pub is_block : ℕ → Bool
+is_block size = list_any (λ n. n == size) block_sizes
+
 -- a lower-case letter, a digit or `-`
 abbrev pub is_name_byte : ℕ → Bool
 is_name_byte c = (nat_le 97 c && nat_le c 122) || (nat_le 48 c && nat_le c 57) || c == 45
@@ -35,7 +38,7 @@ is_bucket bucket = nat_le 1 (length bucket) && nat_le (length bucket) 1024 && is
 
 -- of any version from 1 on
 abbrev pub is_setting : Setting → Bool
-is_setting s = nat_le 1 s.version && list_any (λ size. size == s.block) block_sizes && nat_le s.trash_days 36500 && nat_le s.capacity 4294967295 && nat_le s.inodes 4611686018427387904 && nat_le s.hash 1 && is_volume_name s.name && is_bucket s.bucket
+is_setting s = nat_le 1 s.version && is_block s.block && nat_le s.trash_days 36500 && nat_le s.capacity 4294967295 && nat_le s.inodes 4611686018427387904 && nat_le s.hash 1 && is_volume_name s.name && is_bucket s.bucket
 
 unfoldable pub setting_bytes : Setting → List ℕ
 setting_bytes s = word s.version ++ word s.block ++ word s.trash_days ++ long s.capacity ++ long s.inodes ++ byte s.hash ++ byte (length s.name) ++ s.name ++ half (length s.bucket) ++ s.bucket
