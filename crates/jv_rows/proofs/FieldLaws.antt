@@ -17,6 +17,10 @@ AreBytes-take n bytes h i =
       | inr le ↦ rw (get_or_past (take n bytes) i 0 (omega (arith, length-take n bytes))) (omega arith)
     ]
 
+-- what stands behind other bytes
+pub AreBytes-back : (front back : List ℕ) → AreBytes (front ++ back) → AreBytes back
+AreBytes-back front back h = subst AreBytes (drop_at front back (length front) refl) (AreBytes-drop (length front) (front ++ back) h)
+
 -- the value of a step that gave one
 pub bind_some : {A B : Type 0} (o : Option A) (f : A → Option B) (y : B) → (o >>= f) ≡ Some y → (x : A) × (o ≡ Some x) × (f x ≡ Some y)
 bind_some (Some x) f y e = (x, refl, e)

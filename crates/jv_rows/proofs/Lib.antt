@@ -1,5 +1,6 @@
 pub mod FieldLaws
 pub mod ReaderLaws
 pub mod ExactRows
+pub mod ExactLists
 pub mod Records
 pub mod Bounds

@@ -68,11 +68,11 @@ let_through true x y e = (refl, cc)
 let_through false x y e = absurd cc
 
 -- a value that was let through, with nothing left over
-whole_is : {R : Type 0} (is_allowed : R → Bool) (x y : R) (rest : List ℕ) → whole is_allowed x rest ≡ Some y → (rest ≡ []) × (IsTrue (is_allowed x) × (x ≡ y))
+pub whole_is : {R : Type 0} (is_allowed : R → Bool) (x y : R) (rest : List ℕ) → whole is_allowed x rest ≡ Some y → (rest ≡ []) × (IsTrue (is_allowed x) × (x ≡ y))
 whole_is is_allowed x y [] e = (refl, let_through (is_allowed x) x y e)
 whole_is is_allowed x y (b ∷ rest) e = absurd cc
 
-lets_through : {R : Type 0} (b : Bool) (x : R) → IsTrue b → cond b (Some x) None ≡ Some x
+pub lets_through : {R : Type 0} (b : Bool) (x : R) → IsTrue b → cond b (Some x) None ≡ Some x
 lets_through true x h = refl
 lets_through false x h = absurd cc
 
@@ -97,6 +97,27 @@ finish_with {R} is_allowed make part Known made parted only = record {
   known = λ bytes y h e. subst Known (whole_is is_allowed (make bytes) y [] e).1.1 (made bytes);
   same = λ bytes y h e. sym (parted bytes) ∙ ap part (whole_is is_allowed (make bytes) y [] e).1.1;
 }
+
+abbrev some : {A : Type 0} → A → Option A
+some x = Some x
+
+abbrev some_front : {A : Type 0} → A → List ℕ → Option (A × List ℕ)
+some_front x rest = Some (x, rest)
+
+pub some_is : {A : Type 0} (x y : A) → some x ≡ some y → x ≡ y
+some_is x y e = cc
+
+-- the end of a field that is made of fields: the value comes with the bytes after it
+pub finish_front : {A : Type 0} (x : A) (Known : A × List ℕ → Type 0) → ((rest : List ℕ) → Known (x, rest)) → ((y : A × List ℕ) → Known y → y.0 ≡ x)
+    → IsReader (λ rest. Some (x, rest)) (λ y. y.1) (λ y. Unit {0}) Known
+finish_front {A} x Known made only =
+    let is : (rest : List ℕ) (y : A × List ℕ) → some_front x rest ≡ Some y → (x, rest) ≡ y = λ rest y e. some_is (x, rest) y e in
+    record {
+      again = λ y f k. ap (λ (z : A). some_front z y.1) (sym (only y k));
+      fits = λ bytes y h e. tt;
+      known = λ bytes y h e. subst Known (is bytes y e) (made bytes);
+      same = λ bytes y h e. ap (λ (z : A × List ℕ). z.1) (is bytes y e);
+    }
 
 -- a reader of a whole row is exact
 pub exact : {R : Type 0} {read : List ℕ → Option R} {spelled : R → List ℕ} {Fits Known : R → Type 0} (is_allowed : R → Bool) (HasWidths : R → Type 0) (bytes_of : R → List ℕ) → IsReader read spelled Fits Known

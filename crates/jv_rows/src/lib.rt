@@ -3,6 +3,7 @@
 
 mod allowed;
 mod fields;
+mod laws;
 mod misread;
 mod parsing;
 mod spelling;
@@ -11,6 +12,7 @@ pub use allowed::{
     allows_counters, allows_edge, allows_list, allows_node, allows_record, allows_session,
     allows_setting, allows_slice,
 };
+pub use laws::rows_are_exact;
 pub use misread::Misread;
 pub use parsing::{
     parse_counters, parse_dead, parse_dropped, parse_edge, parse_list, parse_node, parse_session,
