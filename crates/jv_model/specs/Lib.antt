@@ -2,6 +2,7 @@
 pub mod JournalValue
 pub mod Attempt
 pub mod FiniteMap
+pub mod RowKeys
 pub mod Pending
 pub mod Grammar
 pub mod Printed
