@@ -18,3 +18,4 @@ pub mod Laws
 pub mod RowFields
 pub mod RowGrammar
 pub mod RowPlaces
+pub mod RowFaults

@@ -60,7 +60,7 @@ records_take (suc n) bytes x h e =
     let b = bind_some (records_at n a.0.1) (λ others. Some (a.0.0 ∷ others.0, others.1)) x a.2 in
     let rest = records_take n a.0.1 b.0 (record_field.rest bytes a.0 h a.1) b.1 in
     let parted : bytes ≡ flat_map record_bytes (a.0.0 ∷ b.0.0) ++ b.0.1 =
-        record_field.parts bytes a.0 h a.1 ∙ ap (λ (t : List ℕ). record_bytes a.0.0 ++ t) rest.parts ∙ sym (append_assoc (record_bytes a.0.0) (flat_map record_bytes b.0.0) b.0.1) ∙ ap (λ (t : List ℕ). t ++ b.0.1) (sym (flat_map-cons record_bytes a.0.0 b.0.0)) in
+    record_field.parts bytes a.0 h a.1 ∙ ap (λ (t : List ℕ). record_bytes a.0.0 ++ t) rest.parts ∙ sym (append_assoc (record_bytes a.0.0) (flat_map record_bytes b.0.0) b.0.1) ∙ ap (λ (t : List ℕ). t ++ b.0.1) (sym (flat_map-cons record_bytes a.0.0 b.0.0)) in
     subst (TakesRecords (suc n) bytes) (some_is (a.0.0 ∷ b.0.0, b.0.1) x b.2) (record { parts = parted; widths = (record_field.fits bytes a.0 h a.1, rest.widths) })
 
 records_again : (rs : List Rec) (rest : List ℕ) → ListWidths rs → records_at (length rs) (flat_map record_bytes rs ++ rest) ≡ Some (rs, rest)
@@ -85,7 +85,7 @@ unfolding list_of list_bytes
 list_again rs w a =
     let count : length (flat_map record_bytes rs) / 24 ≡ length rs = ap (λ (n : ℕ). n / 24) (list_length rs) ∙ mul-div_cancel (length rs) (lit< tt) in
     let read : records_at (length (flat_map record_bytes rs) / 24) (flat_map record_bytes rs) ≡ Some (rs, []) =
-        ap (λ (n : ℕ). records_at n (flat_map record_bytes rs)) count ∙ ap (records_at (length rs)) (sym (append-nil (flat_map record_bytes rs))) ∙ records_again rs [] w in
+    ap (λ (n : ℕ). records_at n (flat_map record_bytes rs)) count ∙ ap (records_at (length rs)) (sym (append-nil (flat_map record_bytes rs))) ∙ records_again rs [] w in
     ap (λ (o : Option (List Rec × List ℕ)). o >>= λ records. whole is_list records.0 records.1) read ∙ lets_through (is_list rs) rs a
 
 pub list_exact : IsExact ListWidths is_list list_bytes list_of

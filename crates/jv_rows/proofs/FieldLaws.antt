@@ -153,4 +153,3 @@ front_field n = record {
   rest = λ bytes x h e. subst (λ (p : List ℕ × List ℕ). AreBytes p.1) (front_is n bytes x e).1 (AreBytes-drop n bytes h);
   again = λ text rest fits. front_again n text rest fits.len;
 }
-

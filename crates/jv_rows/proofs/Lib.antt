@@ -4,3 +4,4 @@ pub mod ExactRows
 pub mod ExactLists
 pub mod Records
 pub mod Bounds
+pub mod Sound

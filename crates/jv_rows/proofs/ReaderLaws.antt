@@ -50,9 +50,10 @@ text_then {R} {at} {spelled} {Fits} field part next others Others Known tail =
           ap (λ (o : Option (ℕ × List ℕ)). o >>= λ n. front_at n.0 n.1 >>= next) (field.again (length (part y)) (part y ++ others y) f.0.0)
           ∙ ap (λ (o : Option (List ℕ × List ℕ)). o >>= next) ((front_field (length (part y))).again (part y) (others y) (record { len = refl; bytes = f.0.1 }))
           ∙ (tail (part y)).again y f.1 (k, refl);
-      fits = λ bytes y h e. (let n = first bytes y e in let t = second bytes y e in
-          (subst (λ (x : List ℕ). Fits (length x) × AreBytes x) (sym (part_is bytes y h e).1) (subst Fits (sym (text_is bytes y h e).len) (field.fits bytes n.0 h n.1), (text_is bytes y h e).bytes),
-          (tail t.0.0).fits t.0.1 y (rest_is bytes y h e) t.2));
+      fits = λ bytes y h e. (let n = first bytes y e in let t = second bytes y e in (
+        subst (λ (x : List ℕ). Fits (length x) × AreBytes x) (sym (part_is bytes y h e).1) (subst Fits (sym (text_is bytes y h e).len) (field.fits bytes n.0 h n.1), (text_is bytes y h e).bytes),
+        (tail t.0.0).fits t.0.1 y (rest_is bytes y h e) t.2,
+      ));
       known = λ bytes y h e. (part_is bytes y h e).0;
       same = λ bytes y h e. (let n = first bytes y e in let t = second bytes y e in
           field.parts bytes n.0 h n.1
