@@ -239,3 +239,28 @@ row_of tab bytes =
   if tab == 8 then option_map OfDropped (dropped_of bytes) else
   if tab == 9 then option_map OfDead (dead_of bytes) else
   None
+
+-- its bytes
+abbrev pub row_bytes : Row → List ℕ
+row_bytes (OfSetting s) = setting_bytes s
+row_bytes (OfCounters c) = counters_bytes c
+row_bytes (OfNode n) = node_bytes n
+row_bytes (OfEdge e) = edge_bytes e
+row_bytes (OfList rs) = list_bytes rs
+row_bytes (OfSlice s) = slice_bytes s
+row_bytes (OfSession s) = session_bytes s
+row_bytes OfSustained = []
+row_bytes (OfDropped d) = dropped_bytes d
+row_bytes (OfDead d) = dead_bytes d
+
+abbrev pub is_row : Row → Bool
+is_row (OfSetting s) = is_setting s
+is_row (OfCounters c) = is_counters c
+is_row (OfNode n) = is_node n
+is_row (OfEdge e) = is_edge e
+is_row (OfList rs) = is_list rs
+is_row (OfSlice s) = is_slice s
+is_row (OfSession s) = is_session s
+is_row OfSustained = true
+is_row (OfDropped d) = true
+is_row (OfDead d) = true

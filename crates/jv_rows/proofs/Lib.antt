@@ -5,3 +5,5 @@ pub mod ExactLists
 pub mod Records
 pub mod Bounds
 pub mod Sound
+pub mod AnyRow
+pub mod ScanLaws

@@ -2,3 +2,5 @@
 pub mod Reads
 pub mod RoundTrips
 pub mod Readings
+pub mod Scans
+pub mod Drops

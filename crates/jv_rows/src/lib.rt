@@ -2,6 +2,7 @@
 #![tactic(auto)]
 
 mod allowed;
+mod dropping;
 mod fields;
 mod grammar;
 mod keys;
@@ -9,6 +10,7 @@ mod laws;
 mod misread;
 mod parsing;
 mod reading;
+mod scanning;
 mod spelling;
 mod writing;
 
@@ -16,6 +18,7 @@ pub use allowed::{
     allows_counters, allows_edge, allows_list, allows_node, allows_record, allows_session,
     allows_setting, allows_slice,
 };
+pub use dropping::drop_records;
 pub use keys::{
     key_of_counters, key_of_dead, key_of_dropped, key_of_edge, key_of_list, key_of_node,
     key_of_session, key_of_setting, key_of_slice, key_of_sustained,
@@ -30,6 +33,7 @@ pub use reading::{
     read_counters, read_dead, read_dropped, read_edge, read_list, read_node, read_session,
     read_setting, read_slice, read_sustained,
 };
+pub use scanning::{parse_row, scan_rows};
 pub use spelling::{
     spell_counters, spell_dead, spell_dropped, spell_edge, spell_list, spell_node, spell_session,
     spell_setting, spell_slice,
