@@ -3,18 +3,15 @@ use Rattle.std.proofs.Common.{◌≡◌, ℕ, ◌≤◌, Bool, true, false, List
 use Rattle.std.specs.Prelude.{IsTrue, MatchResult, is_ok, ◌&&◌, nat_le}
 use Rattle.std.specs.Str.{IsUtf8, is_utf8}
 use Rattle.std.proofs.lemmas.Str.{is_utf8-from_IsUtf8, IsUtf8-from_is_utf8}
+use Rattle.std.proofs.lemmas.Bool.{false_from_ne_true}
 use Rattle.std.proofs.lemmas.Bool.Decides.{nat_tests}
 use Rattle.jv_model.specs.declared.setting.Setting.{Setting}
 use Rattle.jv_model.specs.RowGrammar.{is_volume_name, is_bucket, is_setting}
 
-pub not_true : (b : Bool) → (b ≡ true → ⊥) → b ≡ false
-not_true true h = absurd (h (let same : true ≡ true = cc in same))
-not_true false h = let same : false ≡ false = cc in same
-
 -- whether bytes are text, by the answer of a function that tries them
 pub text_test : {X E : Type 0} (bytes : List ℕ) (A : X → Type 0) (B : E → Type 0) (r : Result X E) → MatchResult r (λ s. A s × IsUtf8 bytes) (λ e. ¬ (IsUtf8 bytes) × B e) → is_ok r ≡ is_utf8 bytes
 text_test bytes A B (Ok s) h = sym (is_utf8-from_IsUtf8 bytes h.1)
-text_test bytes A B (Err e) h = sym (not_true (is_utf8 bytes) (λ t. h.0 (IsUtf8-from_is_utf8 bytes t)))
+text_test bytes A B (Err e) h = sym (false_from_ne_true (is_utf8 bytes) (λ t. h.0 (IsUtf8-from_is_utf8 bytes t)))
 
 -- both parts of a test that holds
 pub both_hold : (a b : Bool) → IsTrue (a && b) → IsTrue a × IsTrue b

@@ -7,3 +7,5 @@ pub mod Bounds
 pub mod Sound
 pub mod AnyRow
 pub mod ScanLaws
+pub mod DropLaws
+pub mod DropSteps

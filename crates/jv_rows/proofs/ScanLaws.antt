@@ -24,8 +24,8 @@ pub row_goes_on : (rows : List (RowKey × List ℕ)) (i : ℕ) (front : List (Ro
 row_goes_on rows i front r row lt here key found so_far =
     so_far
     ∙ ap (behind front) (at_drop_more rows_read rows i r lt ∙ ap (λ (x : RowKey × List ℕ). row_then x.0 x.1 (row_of x.0.tab x.1) (rows_read (drop (i + 1) rows))) (sym here)
-      ∙ ap (λ (o : Option Row). row_then r.0 r.1 o (rows_read (drop (i + 1) rows))) found
-      ∙ ap (λ (k : RowKey). row_then k r.1 (Some row.1) (rows_read (drop (i + 1) rows))) (sym key))
+    ∙ ap (λ (o : Option Row). row_then r.0 r.1 o (rows_read (drop (i + 1) rows))) found
+    ∙ ap (λ (k : RowKey). row_then k r.1 (Some row.1) (rows_read (drop (i + 1) rows))) (sym key))
     ∙ regroup front row.0 r.1 row.1 (rows_read (drop (i + 1) rows))
 
 pub row_ends : (rows : List (RowKey × List ℕ)) (i : ℕ) (front : List (RowKey × Row)) (r : RowKey × List ℕ) → i < length rows → r ≡ get_or rows i r → row_of r.0.tab r.1 ≡ None
@@ -33,7 +33,7 @@ pub row_ends : (rows : List (RowKey × List ℕ)) (i : ℕ) (front : List (RowKe
 row_ends rows i front r lt here off so_far =
     so_far
     ∙ ap (behind front) (at_drop_more rows_read rows i r lt ∙ ap (λ (x : RowKey × List ℕ). row_then x.0 x.1 (row_of x.0.tab x.1) (rows_read (drop (i + 1) rows))) (sym here)
-      ∙ ap (λ (o : Option Row). row_then r.0 r.1 o (rows_read (drop (i + 1) rows))) off)
+    ∙ ap (λ (o : Option Row). row_then r.0 r.1 o (rows_read (drop (i + 1) rows))) off)
 
 pub rows_done : (rows : List (RowKey × List ℕ)) (i : ℕ) (front : List (RowKey × Row)) → i ≡ length rows → rows_read rows ≡ behind front (rows_read (drop i rows)) → rows_read rows ≡ Ok front
 rows_done rows i front all so_far = so_far ∙ ap (behind front) (at_drop_all rows_read rows i (omega (arith, all))) ∙ ap (λ (l : List (RowKey × Row)). Ok l) (append-nil front)

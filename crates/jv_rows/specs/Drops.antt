@@ -29,7 +29,7 @@ stored_count records id = if id == 0 || count_of_records records id == 0 then No
 abbrev pub slices_after : List Rec → List Rec → List ℕ
 slices_after earlier [] = []
 slices_after earlier (r ∷ rs) =
-  if r.id == 0 || is_named earlier r.id then slices_after (earlier ++ r ∷ []) rs else r.id ∷ slices_after (earlier ++ r ∷ []) rs
+    if r.id == 0 || is_named earlier r.id then slices_after (earlier ++ r ∷ []) rs else r.id ∷ slices_after (earlier ++ r ∷ []) rs
 
 abbrev pub slices_named : List Rec → List ℕ
 slices_named records = slices_after [] records
@@ -37,9 +37,9 @@ slices_named records = slices_after [] records
 -- a slice loses so many records: its count is lowered, or where none is left, the slice is dead
 abbrev pub lowered : ℕ → ℕ → ℕ → SliceRow → List Change
 lowered id gone due slice =
-  if nat_le slice.count gone
-  then Del (slice_key id) ∷ Put (dead_key id) (dead_bytes (record { size = slice.size; due = due })) ∷ []
-  else Put (slice_key id) (slice_bytes (record { size = slice.size; count = slice.count - gone })) ∷ []
+    if nat_le slice.count gone
+    then Del (slice_key id) ∷ Put (dead_key id) (dead_bytes (record { size = slice.size; due = due })) ∷ []
+    else Put (slice_key id) (slice_bytes (record { size = slice.size; count = slice.count - gone })) ∷ []
 
 -- the slice that is stored, or the bytes that are no slice, none where there is no row
 abbrev pub slice_in : Option (List ℕ) → Result SliceRow (List ℕ)
@@ -71,7 +71,7 @@ slice_dropping id gone due rows = dropping_of id gone due (slice_in (get rows (s
 abbrev pub slices_dropping : List Rec → ℕ → RowMap → List ℕ → Dropping
 slices_dropping records due rows [] = stopped [] None
 slices_dropping records due rows (id ∷ ids) =
-  let first = slice_dropping id (count_of_records records id) due rows in followed_by first.changes first.stop (slices_dropping records due rows ids)
+    let first = slice_dropping id (count_of_records records id) due rows in followed_by first.changes first.stop (slices_dropping records due rows ids)
 
 -- of all slices that records name
 abbrev pub records_dropping : List Rec → ℕ → RowMap → Dropping
