@@ -1,13 +1,11 @@
 -- What a finite map answers after a change.
 use Rattle.std.proofs.Common.{◌≡◌, ℕ, ◌+◌, Bool, true, false, cond, not, T, ◌&&◌, List, [], ◌∷◌, Option, None, Some, refl, sym, ap, ◌∙◌, arith}
-use mathlib.Core.HLevel.{Σ_prop_path}
-use lib.Dec.{T_prop}
 use Rattle.std.specs.declared.cmp.Ordering.{Ordering}
 use Rattle.std.specs.declared.cmp.Ordering.TheVariants.{Less, Equal, Greater}
 use Rattle.std.specs.Ordering.{eq_by_cmp, is_eq, is_lt}
 use Rattle.std.specs.Cmp.{alike_right, eq_by_cmp_equiv}
 use Rattle.std.specs.FinMap.Entries.{put, find, below_all, is_sorted, find-put, find-where_key, same_entries, by_order}
-use Rattle.jv_model.specs.FiniteMap.{KeyOrder, Map, empty_map, get, insert, remove, alter, map_of, sum_over, total_over}
+use Rattle.jv_model.specs.FiniteMap.{KeyOrder, Map, empty_map, get, insert, remove, alter, map_of, maps_of_entries, sum_over, total_over}
 
 -- what an entry adds to a sum
 abbrev pub share : {K X : Type 0} → (K → X → ℕ) → K → Option X → ℕ
@@ -50,12 +48,6 @@ module _ {K X : Type 0} {order : KeyOrder K} where
   pub same_map : (m n : Map order X) → ((q : K) → get m q ≡ get n q) → m.list ≡ n.list
   unfolding get
   same_map m n h = same_entries order.cmp order.total order.same m.list n.list m.sorted n.sorted h
-
-  -- maps with the same entries are the same
-  pub maps_of_entries : (m n : Map order X) → m.list ≡ n.list → m ≡ n
-  maps_of_entries m n e =
-      let pairs : ◌≡◌ {A = (es : List (K × X)) × T (is_sorted order.cmp es)} (m.list, m.sorted) (n.list, n.sorted) = Σ_prop_path (λ es. T_prop _) e in
-      λ i. record { list = (pairs i).0; sorted = (pairs i).1 }
 
   -- maps that answer alike are the same
   pub same_maps : (m n : Map order X) → ((q : K) → get m q ≡ get n q) → m ≡ n

@@ -1,6 +1,10 @@
 -- Finite maps that compute in closed proofs: a list of entries whose keys strictly rise.
 use Rattle.std.specs.Prelude.{◌≡◌, ℕ, ◌+◌, not, List, [], ◌∷◌, Option, None, Some}
 use Rattle.std.proofs.Common.{T}
+use Rattle.std.specs.Coded.{Coded, coded×, coded_list}
+use base.Stored.{coded_via}
+use mathlib.Core.HLevel.{Σ_prop_path}
+use lib.Dec.{T_prop}
 use Rattle.std.specs.declared.cmp.Ordering.{Ordering}
 use Rattle.std.specs.declared.cmp.Ordering.TheVariants.{Equal}
 use Rattle.std.specs.Ordering.{nat_cmp, eq_by_cmp}
@@ -59,6 +63,16 @@ module _ {K X : Type 0} {order : KeyOrder K} where
   abbrev pub map_of : List (K × X) → Map order X
   map_of [] = empty_map
   map_of (e ∷ es) = insert (map_of es) e.0 e.1
+
+  -- maps with the same entries are the same
+  pub maps_of_entries : (m n : Map order X) → m.list ≡ n.list → m ≡ n
+  maps_of_entries m n e =
+      let pairs : ◌≡◌ {A = (es : List (K × X)) × T (is_sorted order.cmp es)} (m.list, m.sorted) (n.list, n.sorted) = Σ_prop_path (λ es. T_prop _) e in
+      λ i. record { list = (pairs i).0; sorted = (pairs i).1 }
+
+  -- a map is stored as its entries
+  abbrev pub map_code : Coded K → Coded X → Coded (Map order X)
+  map_code key value = coded_via (coded_list (coded× key value)) (λ m. m.list) maps_of_entries
 
   -- the values added up by a function of key and value
   unfoldable pub sum_over : (K → X → ℕ) → Map order X → ℕ

@@ -6,9 +6,10 @@ use Rattle.std.specs.declared.cmp.Ordering.TheVariants.{Less, Equal, Greater}
 use Rattle.std.specs.Ordering.{nat_cmp, ordering_then, is_eq}
 use Rattle.std.specs.Cmp.{IsTotalOrder, nat_cmp_total, on_total, then_total}
 use Rattle.std.specs.Cmp.Lexicographic.{slice_cmp, nat_list_cmp_total}
+use Rattle.std.specs.Coded.{Coded, code_by, coded×, coded_list, coded_ℕ}
 use Rattle.std.specs.FinMap.{nat_cmp-IsAntisymmetric, slice_cmp-IsAntisymmetric}
 use Rattle.jv_model.specs.declared.row.RowKey.{RowKey}
-use Rattle.jv_model.specs.FiniteMap.{KeyOrder, Map}
+use Rattle.jv_model.specs.FiniteMap.{KeyOrder, Map, map_of, map_code}
 
 -- keys go by table, then by number, then by bytes as words in a dictionary
 abbrev pub row_cmp : RowKey → RowKey → Ordering
@@ -40,3 +41,15 @@ row_key = record { cmp = row_cmp; total = row_cmp_total; same = row_cmp_same }
 -- rows: the bytes at each key
 abbrev pub RowMap : Type 0
 RowMap = Map row_key (List ℕ)
+
+-- rows in any order as a map, where the first of one key stands
+abbrev pub row_map : List (RowKey × List ℕ) → RowMap
+row_map rows = map_of rows
+
+-- a key is stored as its parts
+abbrev pub row_key_code : Coded RowKey
+row_key_code =
+    code_by ((ℕ × ℕ) × List ℕ) (coded× (coded× coded_ℕ coded_ℕ) (coded_list coded_ℕ)) (λ k. ((k.tab, k.a), k.b)) (λ p. record { tab = p.0.0; a = p.0.1; b = p.1 }) (λ _. refl)
+
+abbrev pub row_map_code : Coded RowMap
+row_map_code = map_code row_key_code (coded_list coded_ℕ)

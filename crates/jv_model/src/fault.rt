@@ -89,6 +89,17 @@ pub enum Down {
     Memory,
 }
 
+impl From<AllocError> for Down {
+    ghost use Rattle.std.specs.Prelude.{◌≡◌};
+    ghost use Rattle.jv_model.specs.declared.fault.Down.TheVariants.{Memory};
+
+    ghost from_gives = { λ _ down. down ≡ Memory };
+
+    fn from(_: AllocError) -> Down {
+        Down::Memory
+    }
+}
+
 /// Why a row wasn't read.
 #[derive(Debug, Drop, PartialEq, Eq)]
 pub enum RowFault {

@@ -1,1 +1,3 @@
 pub mod ToldLemmas
+pub mod StoreLemmas
+pub mod ScanLemmas

@@ -4,3 +4,4 @@ pub mod Calls
 pub mod Told
 pub mod InMemory
 pub mod Rows
+pub mod Store

@@ -7,15 +7,15 @@ use Rattle.jv_model.specs.RowKeys.{row_cmp, RowMap}
 use Rattle.jv_outside.specs.declared.batch.Change.{Change}
 use Rattle.jv_outside.specs.declared.batch.Change.TheVariants.{Put, Del}
 
--- the rows after one change
-abbrev pub change : Change → RowMap → RowMap
-change (Put key bytes) rows = insert rows key bytes
-change (Del key) rows = remove rows key
+-- the rows after a change
+abbrev pub after_change : Change → RowMap → RowMap
+after_change (Put key bytes) rows = insert rows key bytes
+after_change (Del key) rows = remove rows key
 
 -- the rows after changes, one after another
 abbrev pub applied : List Change → RowMap → RowMap
 applied [] rows = rows
-applied (first ∷ rest) rows = applied rest (change first rows)
+applied (first ∷ rest) rows = applied rest (after_change first rows)
 
 -- whether a key is of a table, and after another key where there is one
 abbrev pub is_after : ℕ → Option RowKey → RowKey → Bool

@@ -1,0 +1,16 @@
+-- What the tree finds is what the rows have.
+use Rattle.std.proofs.Common.{ap, sym, ◌∙◌, Some}
+use Rattle.jv_model.specs.FiniteMap.{get}
+use Rattle.jv_model.specs.RowKeys.{row_key}
+use Rattle.jv_outside.proofs.StoreLemmas.{stored-settled, get-lookup}
+use Rattle.jv_outside.proofs.store.RowStore.get.Goals as goal
+
+pub returns-in_ok-copied-in-Some-clause-value : goal.returns-in_ok-copied-in-Some-clause-value
+returns-in_ok-copied-in-Some-clause-value c =
+    ap Some c.in_ok-copied-in-Some.ensures ∙ ap Some c.as_slice.ensures ∙ c.in-Some.ensures.value ∙ sym (get-lookup row_key _ _)
+    ∙ ap (λ m. get m c.args.key.now) (sym (stored-settled _ c.in_ok-settle.ensures.settled) ∙ c.in_ok-settle.ensures.same)
+
+pub returns-in-None-clause-value : goal.returns-in-None-clause-value
+returns-in-None-clause-value c =
+    c.in-None.ensures.value ∙ sym (get-lookup row_key _ _)
+    ∙ ap (λ m. get m c.args.key.now) (sym (stored-settled _ c.in_ok-settle.ensures.settled) ∙ c.in_ok-settle.ensures.same)

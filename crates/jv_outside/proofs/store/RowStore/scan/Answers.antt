@@ -1,0 +1,22 @@
+-- The rows of the table from the start on are those after the key.
+use Rattle.std.proofs.Common.{◌==◌, filter, take, take_while, sym, ap, ◌∙◌}
+use Rattle.std.specs.declared.ops.Bound.TheVariants.{Unbounded}
+use Rattle.std.specs.BTreeMap.Range.{entries_between}
+use Rattle.std.specs.Option.{option_copied}
+use Rattle.jv_model.specs.RowKeys.{row_cmp, row_key}
+use Rattle.jv_outside.specs.Rows.{is_after, rows_after}
+use Rattle.jv_outside.specs.Store.{scan_start}
+use Rattle.jv_outside.proofs.ScanLemmas.{rows-from, list-map_of, if_ok_along}
+use Rattle.jv_outside.proofs.StoreLemmas.{stored-settled}
+use Rattle.jv_outside.proofs.store.RowStore.scan.Goals as goal
+
+pub returns-clause-found : goal.returns-clause-found
+returns-clause-found c =
+    let last = option_copied c.args.after in
+    let entries = c.settle.new.self.sorted.entries in
+    let start = c.start.ensures ∙ ap (λ b. scan_start (record { tab = c.args.tab; a = 0; b = b }) last) c.new.ensures in
+    let range = c.range-rows.ensures.between tt ∙ ap (λ s. entries_between row_cmp s Unbounded entries) start in
+    let rows = ap (take_while (λ row. row.0.tab == c.args.tab)) range ∙ rows-from c.args.tab last entries c.range-rows.ensures.ordered in
+    let listed = ap (filter (λ row. is_after c.args.tab last row.0)) (sym (list-map_of row_key entries c.range-rows.ensures.ordered)) in
+    let told = ap (λ m. rows_after m c.args.tab last c.args.n) (sym (stored-settled _ c.in_ok-settle.ensures.settled) ∙ c.in_ok-settle.ensures.same) in
+    if_ok_along c.copied_rows.result _ _ (ap (take c.args.n) (rows ∙ listed) ∙ told) c.copied_rows.ensures

@@ -1,0 +1,9 @@
+use Rattle.std.proofs.Common.{◌≡◌, length}
+use Rattle.jv_outside.specs.Store.{stored}
+use Rattle.jv_outside.proofs.store.RowStore.sort_listed.Given as goal
+
+abbrev pub invariant-loop-key : goal.invariant-loop-key
+invariant-loop-key l = stored l.self ≡ stored l.initial.self
+
+abbrev pub decreases-loop-key : goal.decreases-loop-key
+decreases-loop-key l = length l.self.listed.items

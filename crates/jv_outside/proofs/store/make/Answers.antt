@@ -1,0 +1,8 @@
+-- A row that is taken out of the tree is gone from the map.
+use Rattle.std.proofs.Common.{None}
+use Rattle.jv_model.specs.RowKeys.{row_key}
+use Rattle.jv_outside.proofs.StoreLemmas.{map_of-updated}
+use Rattle.jv_outside.proofs.store.make.Goals as goal
+
+pub returns-in-Del-clause-ok : goal.returns-in-Del-clause-ok
+returns-in-Del-clause-ok c = rw c.in-Del.is (map_of-updated row_key _ _ _ None c.remove.ensures.updates.0)

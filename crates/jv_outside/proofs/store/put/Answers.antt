@@ -1,0 +1,6 @@
+use Rattle.jv_model.specs.RowKeys.{row_key}
+use Rattle.jv_outside.proofs.StoreLemmas.{map_of-updated}
+use Rattle.jv_outside.proofs.store.put.Goals as goal
+
+pub returns-in-Ok-clause-ok : goal.returns-in-Ok-clause-ok
+returns-in-Ok-clause-ok c = map_of-updated row_key _ _ _ _ c.in-Ok.ensures.updates.0
