@@ -15,3 +15,7 @@ pub mod Legal
 pub mod Built
 pub mod Looks
 pub mod Laws
+pub mod RowFields
+pub mod RowGrammar
+pub mod RowPlaces
+pub mod RowFaults

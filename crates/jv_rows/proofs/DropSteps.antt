@@ -1,0 +1,191 @@
+-- Lowering counts slice after slice, as a loop does.
+use Rattle.std.proofs.Common.{◌≡◌, ℕ, ◌+◌, ◌<◌, ◌≤◌, cond, List, [], ◌∷◌, ◌++◌, length, get_or, take, drop, Option, Some, None, Result, Ok, Err, refl, sym, ap, subst, ◌∙◌, append_assoc, arith}
+use Rattle.std.specs.Prelude.{IfSome, IfErr, OnOk}
+use Rattle.std.specs.Ordering.{nat_cmp}
+use Rattle.std.specs.BTreeMap.{is_at}
+use Rattle.std.proofs.lemmas.List.{append-nil, drop_all}
+use Rattle.jv_model.specs.declared.row.RowKey.{RowKey}
+use Rattle.jv_model.specs.declared.slice.Rec.{Rec}
+use Rattle.jv_model.specs.declared.fault.RowFault.{RowFault}
+use Rattle.jv_model.specs.declared.fault.RowFault.TheVariants.{Bad, Failed, Memory}
+use Rattle.jv_model.specs.RowKeys.{RowMap}
+use Rattle.jv_outside.specs.declared.batch.Change.{Change}
+use Rattle.jv_outside.specs.Causes.{Rose}
+use Rattle.jv_rows.specs.Drops.{stored_count, slices_after, count_of_records, Dropping, stopped, followed_by, slice_dropping, slices_dropping, records_dropping, IsFront, RefusesDrops, AddsDrops}
+use Rattle.jv_rows.proofs.DropLaws.{none, left_count, left_more, IsLeft, is_left, is_not_left}
+
+-- what is left to drop before a record
+abbrev pub dropping_from : List Rec → ℕ → ℕ → RowMap → Dropping
+dropping_from gone due i rows = slices_dropping gone due rows (slices_after (take i gone) (drop i gone))
+
+-- a first part and then the rest
+abbrev after_first : Dropping → Dropping → Dropping
+after_first first rest = followed_by first.changes first.stop rest
+
+-- what a loop over the records has come to
+pub record IsDroppedSoFar (gone : List Rec) (due i : ℕ) (counts : ℕ → Option ℕ) (rows after : Option RowMap) (before now : ℕ) (batch changed : List Change) : Type 0 where
+  pub left : (id : ℕ) → counts id ≡ left_count gone i id
+  pub same : after ≡ rows
+  pub later : before ≤ now
+  pub added : List Change
+  pub adds : changed ≡ batch ++ added
+  pub so_far : IfSome rows (λ told. records_dropping gone due told ≡ followed_by added None (dropping_from gone due i told))
+
+nothing_before : (gone : List Rec) (due : ℕ) (rows : Option RowMap) → IfSome rows (λ told. records_dropping gone due told ≡ followed_by [] None (dropping_from gone due 0 told))
+nothing_before gone due None = tt
+nothing_before gone due (Some told) = refl
+
+pub none_dropped : (gone : List Rec) (due : ℕ) (counts : ℕ → Option ℕ) (rows : Option RowMap) (before : ℕ) (batch : List Change) → ((id : ℕ) → counts id ≡ stored_count gone id)
+    → IsDroppedSoFar gone due 0 counts rows rows before before batch batch
+none_dropped gone due counts rows before batch h = record {
+  left = h;
+  same = refl;
+  later = omega arith;
+  added = [];
+  adds = sym (append-nil batch);
+  so_far = nothing_before gone due rows;
+}
+
+-- what is left begins with the slice of a record that is left
+first_dropping : (gone : List Rec) (due i n : ℕ) (told : RowMap) → IsLeft gone i n
+    → dropping_from gone due i told ≡ after_first (slice_dropping (get_or gone i none).id n due told) (dropping_from gone due (i + 1) told)
+first_dropping gone due i n told left =
+    ap (slices_dropping gone due told) left.slices
+    ∙ ap (λ (m : ℕ). after_first (slice_dropping (get_or gone i none).id m due told) (dropping_from gone due (i + 1) told)) (sym left.count)
+
+-- with a first part that has been added
+pub first_done : (rows : Option RowMap) (gone : List Rec) (due i n : ℕ) (added more : List Change) → IsLeft gone i n
+    → IfSome rows (λ told. records_dropping gone due told ≡ followed_by added None (dropping_from gone due i told))
+    → IfSome rows (λ told. slice_dropping (get_or gone i none).id n due told ≡ stopped more None)
+    → IfSome rows (λ told. records_dropping gone due told ≡ followed_by (added ++ more) None (dropping_from gone due (i + 1) told))
+first_done None gone due i n added more left so_far first = tt
+first_done (Some told) gone due i n added more left so_far first =
+    so_far
+    ∙ ap (followed_by added None) (first_dropping gone due i n told left ∙ ap (λ (d : Dropping). after_first d (dropping_from gone due (i + 1) told)) first)
+    ∙ ap (λ (changes : List Change). stopped changes (dropping_from gone due (i + 1) told).stop) (sym (append_assoc added more (dropping_from gone due (i + 1) told).changes))
+
+-- with a first part at which it stops
+first_stopped : (rows : Option RowMap) (gone : List Rec) (due i n : ℕ) (added more : List Change) (stop : RowKey × List ℕ) → IsLeft gone i n
+    → IfSome rows (λ told. records_dropping gone due told ≡ followed_by added None (dropping_from gone due i told))
+    → IfSome rows (λ told. slice_dropping (get_or gone i none).id n due told ≡ stopped more (Some stop))
+    → IfSome rows (λ told. records_dropping gone due told ≡ stopped (added ++ more) (Some stop))
+first_stopped None gone due i n added more stop left so_far first = tt
+first_stopped (Some told) gone due i n added more stop left so_far first =
+    so_far ∙ ap (followed_by added None) (first_dropping gone due i n told left ∙ ap (λ (d : Dropping). after_first d (dropping_from gone due (i + 1) told)) first)
+
+front_after : (d rest : Dropping) (front : List Change) → IsFront front d.changes → IsFront front (after_first d rest).changes
+front_after d rest front h = elim d.stop as (λ (stop : Option (RowKey × List ℕ)). IsFront front (followed_by d.changes stop rest).changes) [
+  | None ↦ record { more = h.more ++ rest.changes; parts = ap (λ (l : List Change). l ++ rest.changes) h.parts ∙ append_assoc front h.more rest.changes }
+  | Some stop ↦ h
+]
+
+-- with the front of a first part
+first_front : (rows : Option RowMap) (gone : List Rec) (due i n : ℕ) (added more : List Change) → IsLeft gone i n
+    → IfSome rows (λ told. records_dropping gone due told ≡ followed_by added None (dropping_from gone due i told))
+    → IfSome rows (λ told. IsFront more (slice_dropping (get_or gone i none).id n due told).changes)
+    → IfSome rows (λ told. IsFront (added ++ more) (records_dropping gone due told).changes)
+first_front None gone due i n added more left so_far first = tt
+first_front (Some told) gone due i n added more left so_far first =
+    let rest = dropping_from gone due (i + 1) told in
+    let front : IsFront more (dropping_from gone due i told).changes = subst (λ (d : Dropping). IsFront more d.changes) (sym (first_dropping gone due i n told left)) (front_after (slice_dropping (get_or gone i none).id n due told) rest more first) in
+    record {
+      more = front.more;
+      parts = ap (λ (d : Dropping). d.changes) so_far ∙ ap (λ (l : List Change). added ++ l) front.parts ∙ sym (append_assoc added more front.more);
+    }
+
+earlier_rose : (a b c : ℕ) → a ≤ b → Rose b c → Rose a c
+earlier_rose a b c h r = grind arith
+
+refused_with : (e : RowFault) (rows : Option RowMap) (gone : List Rec) (due i n start before now : ℕ) (added more : List Change) → start ≤ before → IsLeft gone i n
+    → IfSome rows (λ told. records_dropping gone due told ≡ followed_by added None (dropping_from gone due i told))
+    → RefusesDrops (slice_dropping (get_or gone i none).id n due) rows before now more e
+    → RefusesDrops (records_dropping gone due) rows start now (added ++ more) e
+refused_with (Bad at bytes) rows gone due i n start before now added more le left so_far r = first_stopped rows gone due i n added more (at, bytes) left so_far r
+refused_with Failed rows gone due i n start before now added more le left so_far r = (earlier_rose start before now le r.0, first_front rows gone due i n added more left so_far r.1)
+refused_with Memory rows gone due i n start before now added more le left so_far r = first_front rows gone due i n added more left so_far r
+
+-- ---- the steps of the loop
+
+counts_left : (gone : List Rec) (i id : ℕ) (counts fewer : ℕ → Option ℕ) → i < length gone → id ≡ (get_or gone i none).id → ((q : ℕ) → counts q ≡ left_count gone i q)
+    → ((q : ℕ) → fewer q ≡ cond (is_at (nat_cmp id) q) None (counts q)) → (q : ℕ) → fewer q ≡ left_count gone (i + 1) q
+counts_left gone i id counts fewer lt here left taken q =
+    taken q ∙ ap (λ (o : Option ℕ). cond (is_at (nat_cmp id) q) None o) (left q)
+    ∙ ap (λ (k : ℕ). cond (is_at (nat_cmp k) q) None (left_count gone i q)) here
+    ∙ left_more gone i lt q
+
+found_left : (gone : List Rec) (i id : ℕ) (counts : ℕ → Option ℕ) (o : Option ℕ) → id ≡ (get_or gone i none).id → ((q : ℕ) → counts q ≡ left_count gone i q) → counts id ≡ o → left_count gone i (get_or gone i none).id ≡ o
+found_left gone i id counts o here left e = sym (ap (left_count gone i) here) ∙ sym (left id) ∙ e
+
+pub passed_by : (gone : List Rec) (due i id : ℕ) (counts fewer : ℕ → Option ℕ) (rows after : Option RowMap) (before now : ℕ) (batch changed : List Change)
+    → IsDroppedSoFar gone due i counts rows after before now batch changed → i < length gone → id ≡ (get_or gone i none).id → counts id ≡ None
+    → ((q : ℕ) → fewer q ≡ cond (is_at (nat_cmp id) q) None (counts q))
+    → IsDroppedSoFar gone due (i + 1) fewer rows after before now batch changed
+passed_by gone due i id counts fewer rows after before now batch changed h lt here e taken = record {
+  left = counts_left gone i id counts fewer lt here h.left taken;
+  same = h.same;
+  later = h.later;
+  added = h.added;
+  adds = h.adds;
+  so_far = subst (λ (ids : List ℕ). IfSome rows (λ told. records_dropping gone due told ≡ followed_by h.added None (slices_dropping gone due told ids))) (is_not_left gone i lt (found_left gone i id counts None here h.left e)) h.so_far;
+}
+
+-- the changes of a slice are those of the record's slice
+at_record : (T : Dropping → Type 0) (gone : List Rec) (due i id n : ℕ) (rows : Option RowMap) → id ≡ (get_or gone i none).id
+    → IfSome rows (λ told. T (slice_dropping id n due told)) → IfSome rows (λ told. T (slice_dropping (get_or gone i none).id n due told))
+at_record T gone due i id n rows here h = subst (λ (k : ℕ). IfSome rows (λ told. T (slice_dropping k n due told))) here h
+
+pub one_dropped : (gone : List Rec) (due i id n : ℕ) (counts fewer : ℕ → Option ℕ) (rows middle after : Option RowMap) (start before now : ℕ) (batch middle_batch changed : List Change) (r : Result (Unit {0}) RowFault)
+    → IsDroppedSoFar gone due i counts rows middle start before batch middle_batch → i < length gone → id ≡ (get_or gone i none).id → counts id ≡ Some n
+    → ((q : ℕ) → fewer q ≡ cond (is_at (nat_cmp id) q) None (counts q))
+    → AddsDrops (slice_dropping id n due) middle after before now middle_batch changed r → r ≡ Ok tt
+    → IsDroppedSoFar gone due (i + 1) fewer rows after start now batch changed
+one_dropped gone due i id n counts fewer rows middle after start before now batch middle_batch changed r h lt here e taken d was =
+    let left = is_left gone i n lt (found_left gone i id counts (Some n) here h.left e) in
+    let done : IfSome middle (λ told. slice_dropping id n due told ≡ stopped d.added None) = subst (λ (r : Result (Unit {0}) RowFault). OnOk r (IfSome middle (λ told. slice_dropping id n due told ≡ stopped d.added None))) was d.done in
+    record {
+      left = counts_left gone i id counts fewer lt here h.left taken;
+      same = d.same ∙ h.same;
+      later = omega (arith, h.later, d.later);
+      added = h.added ++ d.added;
+      adds = d.adds ∙ ap (λ (l : List Change). l ++ d.added) h.adds ∙ append_assoc batch h.added d.added;
+      so_far = first_done rows gone due i n h.added d.added left h.so_far
+          (at_record (λ x. x ≡ stopped d.added None) gone due i id n rows here (subst (λ (o : Option RowMap). IfSome o (λ told. slice_dropping id n due told ≡ stopped d.added None)) h.same done));
+    }
+
+pub one_refused : (gone : List Rec) (due i id n : ℕ) (counts : ℕ → Option ℕ) (rows middle after : Option RowMap) (start before now : ℕ) (batch middle_batch changed : List Change) (r : Result (Unit {0}) RowFault) (fault : RowFault)
+    → IsDroppedSoFar gone due i counts rows middle start before batch middle_batch → i < length gone → id ≡ (get_or gone i none).id → counts id ≡ Some n
+    → AddsDrops (slice_dropping id n due) middle after before now middle_batch changed r → r ≡ Err fault
+    → AddsDrops (records_dropping gone due) rows after start now batch changed (Err fault)
+one_refused gone due i id n counts rows middle after start before now batch middle_batch changed r fault h lt here e d was =
+    let left = is_left gone i n lt (found_left gone i id counts (Some n) here h.left e) in
+    let refused : RefusesDrops (slice_dropping id n due) middle before now d.added fault = subst (λ (r : Result (Unit {0}) RowFault). IfErr r (RefusesDrops (slice_dropping id n due) middle before now d.added)) was d.refused in
+    record {
+      same = d.same ∙ h.same;
+      later = omega (arith, h.later, d.later);
+      added = h.added ++ d.added;
+      adds = d.adds ∙ ap (λ (l : List Change). l ++ d.added) h.adds ∙ append_assoc batch h.added d.added;
+      done = tt;
+      refused = refused_with fault rows gone due i n start before now h.added d.added h.later left h.so_far
+          (subst (λ (k : ℕ). RefusesDrops (slice_dropping k n due) rows before now d.added fault) here (subst (λ (o : Option RowMap). RefusesDrops (slice_dropping id n due) o before now d.added fault) h.same refused));
+    }
+
+all_done : (rows : Option RowMap) (gone : List Rec) (due i : ℕ) (added : List Change) → length gone ≤ i
+    → IfSome rows (λ told. records_dropping gone due told ≡ followed_by added None (dropping_from gone due i told))
+    → IfSome rows (λ told. records_dropping gone due told ≡ stopped added None)
+all_done None gone due i added le so_far = tt
+all_done (Some told) gone due i added le so_far =
+    so_far
+    ∙ ap (λ (rest : List Rec). followed_by added None (slices_dropping gone due told (slices_after (take i gone) rest))) (drop_all i gone le)
+    ∙ ap (λ (changes : List Change). stopped changes None) (append-nil added)
+
+pub all_dropped : (gone : List Rec) (due i : ℕ) (counts : ℕ → Option ℕ) (rows after : Option RowMap) (before now : ℕ) (batch changed : List Change)
+    → IsDroppedSoFar gone due i counts rows after before now batch changed → length gone ≤ i
+    → AddsDrops (records_dropping gone due) rows after before now batch changed (Ok tt)
+all_dropped gone due i counts rows after before now batch changed h le = record {
+  same = h.same;
+  later = h.later;
+  added = h.added;
+  adds = h.adds;
+  done = all_done rows gone due i h.added le h.so_far;
+  refused = tt;
+}

@@ -1,0 +1,11 @@
+pub mod FieldLaws
+pub mod ReaderLaws
+pub mod ExactRows
+pub mod ExactLists
+pub mod Records
+pub mod Bounds
+pub mod Sound
+pub mod AnyRow
+pub mod ScanLaws
+pub mod DropLaws
+pub mod DropSteps

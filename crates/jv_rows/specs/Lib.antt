@@ -1,0 +1,6 @@
+-- The definitions that contracts cite.
+pub mod Reads
+pub mod RoundTrips
+pub mod Readings
+pub mod Scans
+pub mod Drops

@@ -1,0 +1,88 @@
+//! Several rows of a keeper, each read by its table's grammar.
+ghost use Rattle.std.specs.Prelude.{◌≡◌, Some, Ok, IfOk, IfErr, IsTrue};
+ghost use Rattle.std.specs.Option.{option_copied};
+ghost use Rattle.jv_model.specs.RowGrammar.{row_of, row_bytes, is_row};
+ghost use Rattle.jv_rows.specs.Reads.{Gives, IsSpelled};
+ghost use Rattle.jv_rows.specs.Scans.{rows_read, AreAllowed, RefusesRow, RefusesRows, ScansRows};
+
+use crate::misread::Misread;
+use crate::parsing::{
+    parse_counters, parse_dead, parse_dropped, parse_edge, parse_list, parse_node, parse_session,
+    parse_setting, parse_slice, parse_sustained,
+};
+use jv_model::{Bytes, Row, RowFault, RowKey, RowList, Rows, Sequence};
+use jv_outside::Keeper;
+use std::alloc::Global;
+
+/// The row that the bytes spell in the table of that number. There are no rows in tables from 10 on.
+#[tactic(auto, unfolding(jv_model::specs::RowGrammar::row_of))]
+fn row_in(alloc: Global, tab: u8, bytes: &[u8]) -> Result<Row, Misread>
+    ensures { Gives result (row_of tab bytes.now) }
+{
+    match tab {
+        0 => Ok(Row::OfSetting(parse_setting(alloc, bytes)?)),
+        1 => Ok(Row::OfCounters(parse_counters(bytes)?)),
+        2 => Ok(Row::OfNode(parse_node(alloc, bytes)?)),
+        3 => Ok(Row::OfEdge(parse_edge(bytes)?)),
+        4 => Ok(Row::OfList(parse_list(alloc, bytes)?)),
+        5 => Ok(Row::OfSlice(parse_slice(bytes)?)),
+        6 => Ok(Row::OfSession(parse_session(bytes)?)),
+        7 => {
+            parse_sustained(bytes)?;
+            Ok(Row::OfSustained)
+        }
+        8 => Ok(Row::OfDropped(parse_dropped(bytes)?)),
+        9 => Ok(Row::OfDead(parse_dead(bytes)?)),
+        _ => Err(Misread::Off),
+    }
+}
+
+/// The row that the bytes spell in the table of that number.
+pub fn parse_row(alloc: Global, tab: u8, bytes: &[u8]) -> Result<Row, Misread>
+    ensures gives { Gives result (row_of tab bytes.now) }
+    ensures sound { IfOk result (IsSpelled (row_of tab) row_bytes is_row bytes.now) }
+{
+    row_in(alloc, tab, bytes)
+}
+
+/// A row with its key.
+fn typed_row(alloc: Global, key: RowKey, bytes: Bytes) -> Result<(RowKey, Row), RowFault>
+    ensures key { IfOk result (λ row. row.0 ≡ key) }
+    ensures found { IfOk result (λ row. row_of key.tab bytes ≡ Some row.1) }
+    ensures allowed { IfOk result (λ row. IsTrue (is_row row.1)) }
+    ensures refused { IfErr result (RefusesRow key bytes) }
+{
+    match parse_row(alloc, key.tab, bytes.as_slice()) {
+        Ok(row) => Ok((key, row)),
+        Err(Misread::Off) => Err(RowFault::Bad(key, bytes)),
+        Err(Misread::Memory) => Err(RowFault::Memory),
+    }
+}
+
+/// Rows with their keys, up to the first that is off the grammar.
+fn typed_rows(alloc: Global, rows: Rows) -> Result<RowList, RowFault>
+    ensures found { IfOk result (λ list. rows_read rows ≡ Ok list) }
+    ensures allowed { IfOk result AreAllowed }
+    ensures refused { IfErr result (RefusesRows rows) }
+{
+    let mut list = Sequence::new(alloc);
+    for (key, bytes) in rows.into_vec() {
+        list.push(typed_row(alloc, key, bytes)?)?;
+    }
+    Ok(list)
+}
+
+/// The first `n` rows of a table after a key, or from the table's first on. The first of them that is off its
+/// grammar is Bad.
+pub fn scan_rows<K: Keeper>(
+    alloc: Global,
+    k: &mut K,
+    tab: u8,
+    after: Option<&RowKey>,
+    n: u32,
+) -> Result<RowList, RowFault>
+    ensures { ScansRows tab (option_copied after.entry) n (K.rows k.old) (K.rows k.new) (K.faults k.old) (K.faults k.new) result }
+{
+    let rows = k.scan(tab, after, n)?;
+    typed_rows(alloc, rows)
+}
