@@ -19,3 +19,5 @@ pub mod RowFields
 pub mod RowGrammar
 pub mod RowPlaces
 pub mod RowFaults
+pub mod BlockNames
+pub mod Slices

@@ -1,0 +1,3 @@
+-- Lemmas.
+pub mod PairLaws
+pub mod CachedLaws

@@ -1,0 +1,45 @@
+-- What contracts see of a cache of blocks.
+use Rattle.std.specs.Prelude.{ℕ, ◌+◌, ◌==◌, min, is_some, if◌then◌else◌, List, [], Option, None, Some}
+use Rattle.std.specs.Map.{lookup}
+use Rattle.lru.specs.LruCache.{LruCache, lru_cache, promoted, put_entries}
+use Rattle.jv_cache.specs.declared.key.BlockKey.{BlockKey}
+use Rattle.jv_cache.specs.Keys.{same_key}
+
+-- the blocks, the most recently used first, how many there may be, and how many finds were hits and misses
+pub record Cached : Type 0 where
+  pub blocks : List (BlockKey × List ℕ)
+  pub entries : ℕ
+  pub hits : ℕ
+  pub misses : ℕ
+
+abbrev pub cached : Option (LruCache BlockKey (List ℕ)) → ℕ → ℕ → Cached
+cached None hits misses = record { blocks = []; entries = 0; hits = hits; misses = misses }
+cached (Some c) hits misses = record { blocks = c.entries; entries = c.cap; hits = hits; misses = misses }
+
+-- a cache without room is none
+abbrev pub HasRoom : Option (LruCache BlockKey (List ℕ)) → ℕ
+HasRoom None = 1
+HasRoom (Some c) = c.cap
+
+-- the bytes of a block, where it is kept
+abbrev pub found_in : Cached → BlockKey → Option (List ℕ)
+found_in cache key = lookup (same_key key) cache.blocks
+
+-- one more, up to the greatest number of 64 bits
+abbrev pub one_more : ℕ → ℕ
+one_more n = min (n + 1) 18446744073709551615
+
+-- a block that is there goes first
+abbrev pub promoted_in : Cached → BlockKey → Cached
+promoted_in cache key = record cache { blocks = promoted (same_key key) cache.blocks }
+
+-- a find that is a hit puts the block first and counts; another one counts
+abbrev pub noted_in : Cached → BlockKey → Cached
+noted_in cache key = (if is_some (found_in cache key)
+    then record (promoted_in cache key) { hits = one_more cache.hits }
+    else record cache { misses = one_more cache.misses })
+
+-- a block goes first, and the least recently used one goes where there is no room for it; without room nothing is kept
+abbrev pub kept_in : Cached → BlockKey → List ℕ → Cached
+kept_in cache key bytes = (if cache.entries == 0 then cache
+    else record cache { blocks = put_entries same_key (lru_cache cache.blocks cache.entries) key bytes })

@@ -1,0 +1,10 @@
+//! Blocks that a client keeps at hand, the most recently used first.
+#![tactic(auto)]
+
+mod cache;
+mod key;
+#[cfg(test)]
+mod tests;
+
+pub use cache::BlockCache;
+pub use key::BlockKey;

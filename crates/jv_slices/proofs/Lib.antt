@@ -1,0 +1,7 @@
+-- Lemmas.
+pub mod RunLaws
+pub mod ParseLaws
+pub mod NameLaws
+pub mod PlanLaws
+pub mod BlockLaws
+pub mod ListingLaws

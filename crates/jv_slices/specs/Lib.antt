@@ -1,0 +1,4 @@
+-- The definitions that contracts cite.
+pub mod Reading
+pub mod Runs
+pub mod Listing

@@ -1,0 +1,20 @@
+-- Which blocks are listed.
+use Rattle.std.specs.Prelude.{◌≡◌, List}
+use Rattle.std.specs.List.{list_any}
+use Rattle.std.specs.declared.cmp.Ordering.{Ordering}
+use Rattle.std.specs.Ordering.{nat_cmp, ordering_then}
+use Rattle.std.specs.BTreeMap.{is_at}
+use Rattle.jv_model.specs.declared.slice.BlockId.{BlockId}
+use Rattle.jv_model.specs.Slices.{is_same_block}
+use Rattle.jv_slices.specs.declared.blocks.Listed.{Listed}
+
+abbrev pub listed_of : BlockId → Listed
+listed_of b = record { id = b.id; index = b.index; size = b.size }
+
+-- the order of the set: by id, index and size
+abbrev pub listed_cmp : Listed → Listed → Ordering
+listed_cmp a b = ordering_then (nat_cmp a.id b.id) (ordering_then (nat_cmp a.index b.index) (nat_cmp a.size b.size))
+
+-- the set has exactly the blocks of the list
+abbrev pub Lists : List BlockId → List Listed → Type 0
+Lists blocks listed = (b : BlockId) → list_any (is_at (listed_cmp (listed_of b))) listed ≡ list_any (is_same_block b) blocks

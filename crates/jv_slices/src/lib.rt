@@ -1,0 +1,15 @@
+//! Slices of a volume: how their blocks are named and cut, and what a window's records show of them.
+#![tactic(auto)]
+
+mod blocks;
+mod layout;
+mod parsing;
+mod pieces;
+mod spelling;
+#[cfg(test)]
+mod tests;
+
+pub use blocks::{block_len, blocks_of, needs};
+pub use parsing::parse_block_name;
+pub use pieces::{byte_at, plan};
+pub use spelling::block_name;
