@@ -15,3 +15,4 @@ pub mod Legal
 pub mod Built
 pub mod Looks
 pub mod Laws
+pub mod BlockNames
