@@ -5,6 +5,7 @@ pub mod FiniteMap
 pub mod Pending
 pub mod Grammar
 pub mod Printed
+pub mod ReplyText
 pub mod ScriptGrammar
 pub mod Tree
 pub mod Walk
