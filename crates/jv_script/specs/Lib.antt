@@ -1,0 +1,2 @@
+-- What only this crate's contracts cite.
+pub mod Printing
