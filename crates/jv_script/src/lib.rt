@@ -1,10 +1,17 @@
 //! The lines of a script as text, and the text of answers.
 #![tactic(auto)]
 
+mod bad_line;
+mod data;
 mod data_text;
+mod escapes;
 mod faults;
+mod fields;
+mod hex_digits;
 mod names;
 mod numbers;
 mod printer;
+mod words;
 
+pub use bad_line::BadLine;
 pub use printer::print_reply;
