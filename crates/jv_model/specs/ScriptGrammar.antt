@@ -150,31 +150,25 @@ operation_of_one name word = (if bytes_eq name (codes "mount") then provided (by
     else if bytes_eq name (codes "flush") then option_map Flush (number_of word)
     else operation_of_path name word)
 
--- operations that name two entries
 unfoldable pub symlink_of : List ℕ → List ℕ → Option Op
 symlink_of first second = do
   target ← target_of first
   path ← spelled_path_of second
   Some (Symlink target path)
 
-unfoldable pub link_of : List ℕ → List ℕ → Option Op
-link_of first second = do
+-- two paths
+unfoldable pub two_paths_of : List ℕ → List ℕ → Option (List ℕ × List ℕ)
+two_paths_of first second = do
   path ← spelled_path_of first
   to ← spelled_path_of second
-  Some (Link path to)
+  Some (path, to)
 
-unfoldable pub rename_of : How → List ℕ → List ℕ → Option Op
-rename_of form first second = do
-  path ← spelled_path_of first
-  to ← spelled_path_of second
-  Some (Rename path to form)
-
--- operations of a path and a mode
-unfoldable pub operation_of_mode : (List ℕ → ℕ → Op) → List ℕ → List ℕ → Option Op
-operation_of_mode made first second = do
+-- a path and a mode
+unfoldable pub path_and_mode_of : List ℕ → List ℕ → Option (List ℕ × ℕ)
+path_and_mode_of first second = do
   path ← spelled_path_of first
   mode ← mode_of second
-  Some (made path mode)
+  Some (path, mode)
 
 unfoldable pub truncate_of : List ℕ → List ℕ → Option Op
 truncate_of first second = do
@@ -197,15 +191,15 @@ compact_of first second = do
 
 -- operations of two words
 unfoldable pub operation_of_two : List ℕ → List ℕ → List ℕ → Option Op
-operation_of_two name first second = (if bytes_eq name (codes "mkdir") then operation_of_mode Mkdir first second
-    else if bytes_eq name (codes "create") then operation_of_mode Create first second
-    else if bytes_eq name (codes "chmod") then operation_of_mode Chmod first second
+operation_of_two name first second = (if bytes_eq name (codes "mkdir") then option_map (λ both. Mkdir both.0 both.1) (path_and_mode_of first second)
+    else if bytes_eq name (codes "create") then option_map (λ both. Create both.0 both.1) (path_and_mode_of first second)
+    else if bytes_eq name (codes "chmod") then option_map (λ both. Chmod both.0 both.1) (path_and_mode_of first second)
     else if bytes_eq name (codes "truncate") then truncate_of first second
     else if bytes_eq name (codes "utimes") then utimes_of first second
     else if bytes_eq name (codes "compact") then compact_of first second
     else if bytes_eq name (codes "symlink") then symlink_of first second
-    else if bytes_eq name (codes "link") then link_of first second
-    else if bytes_eq name (codes "rename") then rename_of how.Plain first second
+    else if bytes_eq name (codes "link") then option_map (λ both. Link both.0 both.1) (two_paths_of first second)
+    else if bytes_eq name (codes "rename") then option_map (λ both. Rename both.0 both.1 how.Plain) (two_paths_of first second)
     else None)
 
 unfoldable pub script_read_of : List ℕ → List ℕ → List ℕ → Option Op
@@ -235,12 +229,18 @@ how_of word = (if bytes_eq word (codes "noreplace") then Some how.NoReplace
     else if bytes_eq word (codes "exchange") then Some how.Exchange
     else None)
 
+unfoldable pub rename_of : List ℕ → List ℕ → List ℕ → Option Op
+rename_of first second third = do
+  form ← how_of third
+  both ← two_paths_of first second
+  Some (Rename both.0 both.1 form)
+
 -- operations of three words
 unfoldable pub operation_of_three : List ℕ → List ℕ → List ℕ → List ℕ → Option Op
 operation_of_three name first second third = (if bytes_eq name (codes "read") then script_read_of first second third
     else if bytes_eq name (codes "write") then script_write_of first second third
     else if bytes_eq name (codes "chown") then chown_of first second third
-    else if bytes_eq name (codes "rename") then how_of third >>= (λ form. rename_of form first second)
+    else if bytes_eq name (codes "rename") then rename_of first second third
     else None)
 
 -- a handle and an offset to copy from, a handle and an offset to copy to, and a length

@@ -92,6 +92,7 @@ parts_within texts n e = by_parts (all_parts_of texts) (sym e)
     within : (v : Bool) (sum : ℕ) → cond v (Some sum) None ≡ Some n → v ≡ true
     within true sum e = refl
     within false sum e = cc
+
     by_parts : (o : Option (List Part)) → (o >>= (λ parts. at_most 8388608 (0 + sum_by part_length parts))) ≡ Some n
         → IsSome o × IsSome (o >>= (λ parts. Some (flat_map part_bytes parts))) × ((o >>= (λ parts. at_most 8388608 (sum_by part_length parts) >>= (λ _. Some (flat_map part_bytes parts)))) ≡ (o >>= (λ parts. Some (flat_map part_bytes parts))))
     by_parts None e = cc
@@ -107,6 +108,7 @@ parts_not_within texts e = by_parts (all_parts_of texts) (sym e)
     beyond : (v : Bool) (sum : ℕ) → cond v (Some sum) None ≡ None → v ≡ false
     beyond true sum e = cc
     beyond false sum e = refl
+
     by_parts : (o : Option (List Part)) → (o >>= (λ parts. at_most 8388608 (0 + sum_by part_length parts))) ≡ None
         → (o >>= (λ parts. at_most 8388608 (sum_by part_length parts) >>= (λ _. Some (flat_map part_bytes parts)))) ≡ None
     by_parts None e = refl

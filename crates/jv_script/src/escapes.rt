@@ -105,7 +105,10 @@ fn is_escape(part: &[u8]) -> bool
 {
     match part {
         [high, low, plain @ ..] => {
-            is_hex_digit(*high) && is_hex_digit(*low) && byte_of(*high, *low) > 0 && all_plain(plain)
+            is_hex_digit(*high)
+                && is_hex_digit(*low)
+                && byte_of(*high, *low) > 0
+                && all_plain(plain)
         }
         _ => false,
     }

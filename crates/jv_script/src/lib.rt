@@ -10,8 +10,11 @@ mod fields;
 mod hex_digits;
 mod names;
 mod numbers;
+mod operations;
 mod printer;
+mod reader;
 mod words;
 
 pub use bad_line::BadLine;
 pub use printer::print_reply;
+pub use reader::read_line;

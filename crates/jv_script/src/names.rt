@@ -159,11 +159,7 @@ pub(crate) fn push_uploaded(
 }
 
 #[tactic(auto, unfolding(jv_model::specs::BlockNames::block_name_of))]
-fn push_block_name(
-    text: &mut Vec<u8>,
-    setting: &Setting,
-    block: BlockId,
-) -> Result<(), AllocError>
+fn push_block_name(text: &mut Vec<u8>, setting: &Setting, block: BlockId) -> Result<(), AllocError>
     ensures { OnOk result (text.new.items ≡ text.old.items ++ block_name_of setting.now block.id block.index block.size) }
 {
     text.extend_from_slice(setting.name.as_slice())?;

@@ -60,7 +60,10 @@ fn push_counts(text: &mut Vec<u8>, setting: &Setting, reply: &Reply) -> Result<(
         Reply::FileOpened { handle, inode } => push_success(text, &[*handle, *inode]),
         Reply::Count { bytes } => push_success(text, &[*bytes]),
         Reply::Usage(space) => {
-            push_success(text, &[space.used, space.capacity, space.inodes, space.limit])
+            push_success(
+                text,
+                &[space.used, space.capacity, space.inodes, space.limit],
+            )
         }
         Reply::Compaction { before, after } => {
             push_success(text, &[u64::from(*before), u64::from(*after)])
