@@ -13,6 +13,8 @@ mod numbers;
 mod operations;
 mod printer;
 mod reader;
+#[cfg(test)]
+mod tests;
 mod words;
 
 pub use bad_line::BadLine;
