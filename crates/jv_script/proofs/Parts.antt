@@ -1,12 +1,12 @@
 -- Parts of the bytes of a write, one after another.
-use Rattle.std.proofs.Common.{◌≡◌, ◌≢◌, ◌⊎◌, ℕ, ◌+◌, ◌-◌, ◌*◌, ◌/◌, ◌%◌, ◌<◌, ◌≤◌, Bool, true, false, ◌&&◌, ◌==◌, List, [], ◌∷◌, ◌++◌, length, replicate, Option, Some, None, IsSome, is_some, option_map, sum_by, refl, sym, ap, subst, ◌∙◌, inl, inr, arith, cond, codes, bytes_eq}
+use Rattle.std.proofs.Common.{◌≡◌, ℕ, ◌+◌, ◌/◌, ◌<◌, ◌≤◌, Bool, true, false, List, [], ◌∷◌, ◌++◌, length, Option, Some, None, IsSome, option_map, sum_by, refl, sym, ap, ◌∙◌, arith, cond, codes, bytes_eq}
 use Rattle.std.specs.List.{flat_map}
-use Rattle.std.proofs.lemmas.List.{append-nil, append_assoc}
+use Rattle.std.proofs.lemmas.List.{append_assoc}
 use Rattle.std.proofs.lemmas.Bool.{le-leb, lt-leb}
 use Rattle.std.proofs.lemmas.List.Sums.{sum_by-cons}
-use Rattle.jv_model.specs.Grammar.{◌>>=◌, at_most, number_of, is_hex_digit, bytes_of_digits}
-use Rattle.jv_model.specs.Printed.{Part, Plain, Repeated}
-use Rattle.jv_model.specs.ScriptGrammar.{parted, provided, byte_of, is_pairs, repeated_of, part_of, part_length, part_bytes, all_parts_of, bytes_of_parts, spelled_data_of}
+use Rattle.jv_model.specs.Grammar.{◌>>=◌, at_most, bytes_of_digits}
+use Rattle.jv_model.specs.Printed.{Part, Plain}
+use Rattle.jv_model.specs.ScriptGrammar.{parted, is_pairs, repeated_of, part_of, part_length, part_bytes, all_parts_of, bytes_of_parts, spelled_data_of}
 use Rattle.jv_script.specs.Reading.{length_with, joined_bytes}
 
 -- bytes that are there, and those of parts

@@ -1,5 +1,4 @@
-use Rattle.std.proofs.Common.{arith, rules, sym, ◌∙◌, ap}
-use Rattle.std.proofs.lemmas.Grind.{common_steps}
+use Rattle.std.proofs.Common.{rules, sym, ◌∙◌}
 use Rattle.jv_script.proofs.Parts.{part_of_pairs, part_of_other}
 use Rattle.jv_script.proofs.data.push_part.Goals as goal
 

@@ -1,8 +1,6 @@
-use Rattle.std.proofs.Common.{arith, ap, refl, sym, ◌∙◌, Option, List, ℕ, Bool}
-use Rattle.std.specs.List.{flat_map}
+use Rattle.std.proofs.Common.{refl, sym, ◌∙◌}
 use Rattle.std.specs.Option.{option_copied}
-use Rattle.jv_model.specs.ScriptGrammar.{provided, escape_bytes}
-use Rattle.jv_script.specs.Reading.{parts_after, first_of}
+use Rattle.jv_script.specs.Reading.{parts_after}
 use Rattle.jv_script.proofs.Spelling.{unescaped_parts}
 use Rattle.jv_script.proofs.escapes.first_byte.Goals as goal
 

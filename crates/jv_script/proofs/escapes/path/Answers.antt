@@ -1,4 +1,4 @@
-use Rattle.std.proofs.Common.{arith, rules, sym, ◌∙◌}
+use Rattle.std.proofs.Common.{arith, sym, ◌∙◌}
 use Rattle.std.proofs.lemmas.Grind.{common_steps}
 use Rattle.jv_script.proofs.Spelling.{path_is_spelled, no_value}
 use Rattle.jv_script.proofs.escapes.path.Goals as goal
