@@ -1,6 +1,8 @@
 -- Laws about the definitions, and closed rows of them.
 pub mod GrammarRows
 pub mod PrintedRows
+pub mod ScriptRows
+pub mod ReplyRows
 pub mod MapLaws
 pub mod WorkedRows
 pub mod PastLaws

@@ -6,6 +6,8 @@ pub mod RowKeys
 pub mod Pending
 pub mod Grammar
 pub mod Printed
+pub mod ReplyText
+pub mod ScriptGrammar
 pub mod Tree
 pub mod Walk
 pub mod TreeAct

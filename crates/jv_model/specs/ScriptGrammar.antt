@@ -1,0 +1,294 @@
+-- The whole grammar of a script: which line a text is, if it is one. A text is the bytes of a line without its line feed.
+use Rattle.std.specs.Prelude.{ℕ, ◌+◌, ◌*◌, ◌%◌, Bool, true, false, ◌&&◌, not, ◌==◌, nat_lt, nat_le, if◌then◌else◌, List, [], ◌∷◌, ◌++◌, length, replicate, Option, None, Some, option_map, codes, bytes_eq, sum_by}
+use Rattle.std.specs.List.{slice_split, list_all, flat_map}
+use Rattle.jv_model.specs.declared.basics.How.{How}
+use Rattle.jv_model.specs.declared.basics.How.TheVariants as how
+use Rattle.jv_model.specs.declared.op.Op.{Op}
+use Rattle.jv_model.specs.declared.op.Op.TheVariants.{Mount, Umount, Beat, Lookup, Stat, Lstat, Fstat, Mkdir, Create, Open, Close, Flush, Read, Write, Truncate, Copy, Readdir, Chmod, Chown, Utimes, Statfs, Symlink, Readlink, Unlink, Rmdir, Link, Rename, Compact, Clean, Gc, Upload, Stats}
+use Rattle.jv_model.specs.declared.op.Line.{Line}
+use Rattle.jv_model.specs.declared.op.Line.TheVariants.{Empty, Do, Begin, Step, Run, Crash, Drain, Tick}
+use Rattle.jv_model.specs.Grammar.{◌>>=◌, words, at_most, number_of, length_of, mode_of, is_hex_digit, hex_value, bytes_of_digits, client_of, is_silent}
+use Rattle.jv_model.specs.Printed.{Part, Plain, Repeated}
+
+-- the parts of a text between the places of one byte, which are words at a space
+abbrev pub parted : ℕ → List ℕ → List (List ℕ)
+parted separator text = slice_split (λ c. c == separator) text
+
+-- the value, where a test passes
+abbrev pub provided : {T : Type 0} → Bool → T → Option T
+provided true value = Some value
+provided false value = None
+
+-- a number up to a limit of less than 64 bits
+unfoldable pub number_up_to : ℕ → List ℕ → Option ℕ
+number_up_to limit text = do
+  n ← number_of text
+  at_most limit n
+
+-- the seconds of a tick: 1 to 4,294,967,296
+unfoldable pub seconds_of : List ℕ → Option ℕ
+seconds_of text = do
+  n ← number_up_to 4294967296 text
+  provided (nat_lt 0 n) n
+
+-- a byte that is written as itself: 0x21 to 0x7E, but for `%`
+abbrev pub is_plain : ℕ → Bool
+is_plain c = nat_le 33 c && nat_le c 126 && not (c == 37)
+
+-- the byte of two hexadecimal digits
+abbrev pub byte_of : ℕ → ℕ → ℕ
+byte_of high low = hex_value high * 16 + hex_value low
+
+-- what may stand between a `%` and the next: the two digits of a byte other than 0, and bytes that are written as themselves
+abbrev pub is_escape : List ℕ → Bool
+is_escape (high ∷ low ∷ plain) = is_hex_digit high && is_hex_digit low && nat_lt 0 (byte_of high low) && list_all is_plain plain
+is_escape _ = false
+
+-- what it spells
+abbrev pub escape_bytes : List ℕ → List ℕ
+escape_bytes (high ∷ low ∷ plain) = byte_of high low ∷ plain
+escape_bytes _ = []
+
+-- the bytes that a text spells, given its parts between the `%`
+abbrev pub bytes_between : List (List ℕ) → Option (List ℕ)
+bytes_between [] = None
+bytes_between (plain ∷ escapes) = provided (list_all is_plain plain && list_all is_escape escapes) (plain ++ flat_map escape_bytes escapes)
+
+-- the bytes that a text with escapes spells
+unfoldable pub unescaped : List ℕ → Option (List ℕ)
+unescaped text = bytes_between (parted 37 text)
+
+abbrev pub begins_with_slash : List ℕ → Bool
+begins_with_slash [] = false
+begins_with_slash (first ∷ _) = first == 47
+
+-- a path is its bytes, of which the first is a slash: `%2Fa` is the path `/a`
+unfoldable pub spelled_path_of : List ℕ → Option (List ℕ)
+spelled_path_of text = do
+  path ← unescaped text
+  provided (begins_with_slash path) path
+
+-- the target of a symlink: at least one byte
+unfoldable pub target_of : List ℕ → Option (List ℕ)
+target_of text = do
+  target ← unescaped text
+  provided (nat_lt 0 (length target)) target
+
+-- one byte or more as pairs of hexadecimal digits
+abbrev pub is_pairs : List ℕ → Bool
+is_pairs text = nat_lt 0 (length text) && (length text % 2 == 0) && list_all is_hex_digit text
+
+-- `HHxN`: the byte of two digits, N times, N at least 1
+unfoldable pub repeated_of : List ℕ → Option Part
+repeated_of (high ∷ low ∷ x ∷ digits) = do
+  count ← number_of digits
+  provided (is_hex_digit high && is_hex_digit low && (x == 120) && nat_lt 0 count) (Repeated (record { byte = byte_of high low; count = count }))
+repeated_of _ = None
+
+-- a part of the bytes of a write
+unfoldable pub part_of : List ℕ → Option Part
+part_of text = (if is_pairs text then Some (Plain (bytes_of_digits text)) else repeated_of text)
+
+-- how many bytes a part has, and which
+abbrev pub part_length : Part → ℕ
+part_length (Plain bytes) = length bytes
+part_length (Repeated run) = run.count
+
+abbrev pub part_bytes : Part → List ℕ
+part_bytes (Plain bytes) = bytes
+part_bytes (Repeated run) = replicate run.count run.byte
+
+-- the parts of texts, if each of them is one
+abbrev pub all_parts_of : List (List ℕ) → Option (List Part)
+all_parts_of [] = Some []
+all_parts_of (text ∷ texts) = do
+  part ← part_of text
+  parts ← all_parts_of texts
+  Some (part ∷ parts)
+
+-- the bytes of parts, at most 8,388,608
+unfoldable pub bytes_of_parts : List (List ℕ) → Option (List ℕ)
+bytes_of_parts texts = do
+  parts ← all_parts_of texts
+  _ ← at_most 8388608 (sum_by part_length parts)
+  Some (flat_map part_bytes parts)
+
+-- the bytes of a write: `-` for none, or parts joined by `+`
+unfoldable pub spelled_data_of : List ℕ → Option (List ℕ)
+spelled_data_of text = (if bytes_eq text (codes "-") then Some [] else bytes_of_parts (parted 43 text))
+
+-- operations that take nothing
+unfoldable pub operation_of_none : List ℕ → Option Op
+operation_of_none name = (if bytes_eq name (codes "mount") then Some (Mount false)
+    else if bytes_eq name (codes "umount") then Some Umount
+    else if bytes_eq name (codes "beat") then Some Beat
+    else if bytes_eq name (codes "statfs") then Some Statfs
+    else if bytes_eq name (codes "clean") then Some Clean
+    else if bytes_eq name (codes "gc") then Some (Gc false)
+    else if bytes_eq name (codes "upload") then Some Upload
+    else if bytes_eq name (codes "stats") then Some Stats
+    else None)
+
+-- operations on a path alone
+unfoldable pub operation_of_path : List ℕ → List ℕ → Option Op
+operation_of_path name word = (if bytes_eq name (codes "lookup") then option_map Lookup (spelled_path_of word)
+    else if bytes_eq name (codes "stat") then option_map Stat (spelled_path_of word)
+    else if bytes_eq name (codes "lstat") then option_map Lstat (spelled_path_of word)
+    else if bytes_eq name (codes "open") then option_map Open (spelled_path_of word)
+    else if bytes_eq name (codes "readdir") then option_map Readdir (spelled_path_of word)
+    else if bytes_eq name (codes "readlink") then option_map Readlink (spelled_path_of word)
+    else if bytes_eq name (codes "unlink") then option_map Unlink (spelled_path_of word)
+    else if bytes_eq name (codes "rmdir") then option_map Rmdir (spelled_path_of word)
+    else None)
+
+-- operations of one word
+unfoldable pub operation_of_one : List ℕ → List ℕ → Option Op
+operation_of_one name word = (if bytes_eq name (codes "mount") then provided (bytes_eq word (codes "writeback")) (Mount true)
+    else if bytes_eq name (codes "gc") then provided (bytes_eq word (codes "delete")) (Gc true)
+    else if bytes_eq name (codes "fstat") then option_map Fstat (number_of word)
+    else if bytes_eq name (codes "close") then option_map Close (number_of word)
+    else if bytes_eq name (codes "flush") then option_map Flush (number_of word)
+    else operation_of_path name word)
+
+unfoldable pub symlink_of : List ℕ → List ℕ → Option Op
+symlink_of first second = do
+  target ← target_of first
+  path ← spelled_path_of second
+  Some (Symlink target path)
+
+-- two paths
+unfoldable pub two_paths_of : List ℕ → List ℕ → Option (List ℕ × List ℕ)
+two_paths_of first second = do
+  path ← spelled_path_of first
+  to ← spelled_path_of second
+  Some (path, to)
+
+-- a path and a mode
+unfoldable pub path_and_mode_of : List ℕ → List ℕ → Option (List ℕ × ℕ)
+path_and_mode_of first second = do
+  path ← spelled_path_of first
+  mode ← mode_of second
+  Some (path, mode)
+
+unfoldable pub truncate_of : List ℕ → List ℕ → Option Op
+truncate_of first second = do
+  handle ← number_of first
+  len ← number_of second
+  Some (Truncate handle len)
+
+-- the time is at most the last moment
+unfoldable pub utimes_of : List ℕ → List ℕ → Option Op
+utimes_of first second = do
+  path ← spelled_path_of first
+  mtime ← number_up_to 137438953471 second
+  Some (Utimes path mtime)
+
+unfoldable pub compact_of : List ℕ → List ℕ → Option Op
+compact_of first second = do
+  path ← spelled_path_of first
+  window ← number_up_to 4294967295 second
+  Some (Compact path window)
+
+-- operations of two words
+unfoldable pub operation_of_two : List ℕ → List ℕ → List ℕ → Option Op
+operation_of_two name first second = (if bytes_eq name (codes "mkdir") then option_map (λ both. Mkdir both.0 both.1) (path_and_mode_of first second)
+    else if bytes_eq name (codes "create") then option_map (λ both. Create both.0 both.1) (path_and_mode_of first second)
+    else if bytes_eq name (codes "chmod") then option_map (λ both. Chmod both.0 both.1) (path_and_mode_of first second)
+    else if bytes_eq name (codes "truncate") then truncate_of first second
+    else if bytes_eq name (codes "utimes") then utimes_of first second
+    else if bytes_eq name (codes "compact") then compact_of first second
+    else if bytes_eq name (codes "symlink") then symlink_of first second
+    else if bytes_eq name (codes "link") then option_map (λ both. Link both.0 both.1) (two_paths_of first second)
+    else if bytes_eq name (codes "rename") then option_map (λ both. Rename both.0 both.1 how.Plain) (two_paths_of first second)
+    else None)
+
+unfoldable pub script_read_of : List ℕ → List ℕ → List ℕ → Option Op
+script_read_of first second third = do
+  handle ← number_of first
+  offset ← number_of second
+  len ← length_of third
+  Some (Read handle offset len)
+
+unfoldable pub script_write_of : List ℕ → List ℕ → List ℕ → Option Op
+script_write_of first second third = do
+  handle ← number_of first
+  offset ← number_of second
+  bytes ← spelled_data_of third
+  Some (Write handle offset bytes)
+
+unfoldable pub chown_of : List ℕ → List ℕ → List ℕ → Option Op
+chown_of first second third = do
+  path ← spelled_path_of first
+  uid ← number_up_to 4294967295 second
+  gid ← number_up_to 4294967295 third
+  Some (Chown path uid gid)
+
+-- how a rename treats a target that is there
+unfoldable pub how_of : List ℕ → Option How
+how_of word = (if bytes_eq word (codes "noreplace") then Some how.NoReplace
+    else if bytes_eq word (codes "exchange") then Some how.Exchange
+    else None)
+
+unfoldable pub rename_of : List ℕ → List ℕ → List ℕ → Option Op
+rename_of first second third = do
+  form ← how_of third
+  both ← two_paths_of first second
+  Some (Rename both.0 both.1 form)
+
+-- operations of three words
+unfoldable pub operation_of_three : List ℕ → List ℕ → List ℕ → List ℕ → Option Op
+operation_of_three name first second third = (if bytes_eq name (codes "read") then script_read_of first second third
+    else if bytes_eq name (codes "write") then script_write_of first second third
+    else if bytes_eq name (codes "chown") then chown_of first second third
+    else if bytes_eq name (codes "rename") then rename_of first second third
+    else None)
+
+-- a handle and an offset to copy from, a handle and an offset to copy to, and a length
+unfoldable pub copy_of : List ℕ → List ℕ → List ℕ → List ℕ → List ℕ → Option Op
+copy_of first second third fourth fifth = do
+  source ← number_of first
+  offset ← number_of second
+  target ← number_of third
+  to ← number_of fourth
+  len ← number_of fifth
+  Some (Copy source offset target to len)
+
+-- the operation of a name and the words that it takes
+unfoldable pub script_operation_of : List ℕ → List (List ℕ) → Option Op
+script_operation_of name [] = operation_of_none name
+script_operation_of name (a ∷ []) = operation_of_one name a
+script_operation_of name (a ∷ b ∷ []) = operation_of_two name a b
+script_operation_of name (a ∷ b ∷ c ∷ []) = operation_of_three name a b c
+script_operation_of name (_ ∷ _ ∷ _ ∷ _ ∷ []) = None
+script_operation_of name (a ∷ b ∷ c ∷ d ∷ e ∷ []) = (if bytes_eq name (codes "copy") then copy_of a b c d e else None)
+script_operation_of name (_ ∷ _ ∷ _ ∷ _ ∷ _ ∷ _ ∷ _) = None
+
+-- an operation that is submitted alone
+unfoldable pub begin_of : ℕ → List (List ℕ) → Option Line
+begin_of client [] = None
+begin_of client (name ∷ arguments) = option_map (Begin client) (script_operation_of name arguments)
+
+-- the line, where no word is left
+abbrev pub where_last : List (List ℕ) → Option Line → Option Line
+where_last [] line = line
+where_last (_ ∷ _) line = None
+
+-- what follows a client's letter
+unfoldable pub client_line_of : ℕ → List ℕ → List (List ℕ) → Option Line
+client_line_of client name arguments = (if bytes_eq name (codes "begin") then begin_of client arguments
+    else if bytes_eq name (codes "step") then where_last arguments (Some (Step client))
+    else if bytes_eq name (codes "run") then where_last arguments (Some (Run client))
+    else if bytes_eq name (codes "crash") then where_last arguments (Some (Crash client))
+    else option_map (Do client) (script_operation_of name arguments))
+
+-- the line of its words
+unfoldable pub script_command_of : List (List ℕ) → Option Line
+script_command_of [] = None
+script_command_of (_ ∷ []) = None
+script_command_of (first ∷ second ∷ rest) = (if bytes_eq first (codes "drain") then where_last rest (option_map Drain (client_of second))
+    else if bytes_eq first (codes "tick") then where_last rest (option_map Tick (seconds_of second))
+    else client_of first >>= (λ client. client_line_of client second rest))
+
+-- the line that a text is
+unfoldable pub script_line_of : List ℕ → Option Line
+script_line_of text = (if is_silent text then Some Empty else script_command_of (words text))

@@ -1,0 +1,15 @@
+use Rattle.std.proofs.Common.{arith, sym, ◌∙◌}
+use Rattle.std.proofs.lemmas.Grind.{common_steps}
+use Rattle.jv_script.proofs.Spelling.{path_is_spelled, no_value}
+use Rattle.jv_script.proofs.escapes.path.Goals as goal
+
+pub returns-then-not-is_path : goal.returns-then-not-is_path
+returns-then-not-is_path c = no_value _ (sym c.is_path.ensures ∙ c.if-not-is_path.true)
+
+pub unescaped-requires : goal.unescaped-requires
+unescaped-requires c = (path_is_spelled c.args.text.now (sym c.is_path.ensures ∙ c.if-not-is_path.false)).0
+
+pub returns : goal.returns
+returns c =
+    let spelled = path_is_spelled c.args.text.now (sym c.is_path.ensures ∙ c.if-not-is_path.false) in
+    rw spelled.1 (grind (arith, common_steps, spelled.0))

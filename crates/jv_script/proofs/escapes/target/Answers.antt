@@ -1,0 +1,15 @@
+use Rattle.std.proofs.Common.{arith, sym, ◌∙◌}
+use Rattle.std.proofs.lemmas.Grind.{common_steps}
+use Rattle.jv_script.proofs.Spelling.{target_is_spelled, no_value}
+use Rattle.jv_script.proofs.escapes.target.Goals as goal
+
+pub returns-then-not-is_target : goal.returns-then-not-is_target
+returns-then-not-is_target c = no_value _ (sym c.is_target.ensures ∙ c.if-not-is_target.true)
+
+pub unescaped-requires : goal.unescaped-requires
+unescaped-requires c = (target_is_spelled c.args.text.now (sym c.is_target.ensures ∙ c.if-not-is_target.false)).0
+
+pub returns : goal.returns
+returns c =
+    let spelled = target_is_spelled c.args.text.now (sym c.is_target.ensures ∙ c.if-not-is_target.false) in
+    rw spelled.1 (grind (arith, common_steps, spelled.0))

@@ -1,0 +1,3 @@
+-- What only this crate's contracts cite.
+pub mod Printing
+pub mod Reading

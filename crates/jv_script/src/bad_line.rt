@@ -1,0 +1,13 @@
+//! Why a text isn't read as a line.
+use thiserror::Error;
+
+/// Why a text isn't read as a line.
+#[derive(Clone, Copy, Debug, PartialEq, Eq, Error)]
+pub enum BadLine {
+    /// The text is off the grammar.
+    #[error("not a script line")]
+    Off,
+    /// Want of memory for a path, a target or the bytes of a write.
+    #[error("out of memory")]
+    Memory,
+}

@@ -1,0 +1,56 @@
+//! Pairs of hexadecimal digits, read.
+ghost use Rattle.std.specs.Prelude.{◌≡◌, ◌*◌, ◌<◌, true, length};
+ghost use Rattle.std.specs.List.{list_all};
+ghost use Rattle.jv_model.specs.Grammar.{is_hex_digit, hex_value, bytes_of_digits};
+ghost use Rattle.jv_model.specs.ScriptGrammar.{byte_of, is_pairs};
+
+/// Whether a text is one byte or more as pairs of digits.
+pub(crate) fn is_pairs(text: &[u8]) -> bool
+    ensures { result ≡ is_pairs text.now }
+{
+    text.len() > 0 && text.len() % 2 == 0 && all_hex_digits(text)
+}
+
+// Looks at every digit, with no way out of the loop: the compiler then tests many at a time.
+fn all_hex_digits(digits: &[u8]) -> bool
+    ensures { result ≡ list_all is_hex_digit digits.now }
+{
+    let mut all = true;
+    for digit in digits {
+        all &= is_hex_digit(*digit);
+    }
+    all
+}
+
+pub(crate) fn is_hex_digit(c: u8) -> bool
+    ensures { result ≡ is_hex_digit c }
+{
+    matches!(c, b'0'..=b'9' | b'A'..=b'F' | b'a'..=b'f')
+}
+
+// `hex::decode` tells digits apart by branches, which takes five times as long on random bytes.
+/// Writes the bytes of pairs of digits.
+pub(crate) fn decode_into(digits: &[u8], bytes: &mut [u8])
+    requires length { length digits.now ≡ 2 * length bytes.old }
+    requires digits { list_all is_hex_digit digits.now ≡ true }
+    ensures { bytes.new ≡ bytes_of_digits digits.now }
+{
+    for i in 0..bytes.len() {
+        bytes[i] = hex_value(digits[2 * i]) * 16 + hex_value(digits[2 * i + 1]);
+    }
+}
+
+/// The byte of two digits.
+pub(crate) fn byte_of(high: u8, low: u8) -> u8
+    ensures { is_hex_digit high ≡ true → is_hex_digit low ≡ true → result ≡ byte_of high low }
+{
+    hex_value(high) * 16 + hex_value(low)
+}
+
+// The value of a digit. The code of `0` ends in four zero bits, that of `A` and `a` in a one.
+fn hex_value(c: u8) -> u8
+    ensures value { is_hex_digit c ≡ true → result ≡ hex_value c }
+    ensures small { result < 16 }
+{
+    (c % 16 + c / 64 * 9) % 16
+}

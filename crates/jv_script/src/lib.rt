@@ -1,0 +1,22 @@
+//! The lines of a script as text, and the text of answers.
+#![tactic(auto)]
+
+mod bad_line;
+mod data;
+mod data_text;
+mod escapes;
+mod faults;
+mod fields;
+mod hex_digits;
+mod names;
+mod numbers;
+mod operations;
+mod printer;
+mod reader;
+#[cfg(test)]
+mod tests;
+mod words;
+
+pub use bad_line::BadLine;
+pub use printer::print_reply;
+pub use reader::read_line;

@@ -1,0 +1,188 @@
+//! Names, paths and targets, attributes and the names of blocks, printed.
+ghost use Rattle.std.specs.Prelude.{◌≡◌, ◌∷◌, ◌+◌, ◌/◌, ◌%◌, ◌<◌, ◌++◌, OnOk};
+ghost use Rattle.std.specs.List.{flat_map};
+ghost use Rattle.jv_model.specs.BlockNames.{upper_digit, upper_pair, slice_folder, block_name_of};
+ghost use Rattle.jv_model.specs.ReplyText.{is_kept_in_name, is_kept_in_path, escaped_byte, name_text, path_text, kind_letter, mode_digits, attr_words, entry_text, entries_text, uploaded_text};
+
+use crate::numbers::{push_decimal, push_number, push_numbers};
+use jv_model::{Attr, BlockId, FileKind, Name, Setting};
+use std::alloc::AllocError;
+
+#[tactic(auto, unfolding(jv_model::specs::ReplyText::path_text))]
+pub(crate) fn push_path(text: &mut Vec<u8>, path: &[u8]) -> Result<(), AllocError>
+    ensures { OnOk result (text.new.items ≡ text.old.items ++ path_text path.now) }
+{
+    for byte in path {
+        push_escaped(text, is_kept_in_path(*byte), *byte)?;
+    }
+    Ok(())
+}
+
+#[tactic(auto, unfolding(jv_model::specs::ReplyText::name_text))]
+fn push_name(text: &mut Vec<u8>, name: &[u8]) -> Result<(), AllocError>
+    ensures { OnOk result (text.new.items ≡ text.old.items ++ name_text name.now) }
+{
+    for byte in name {
+        push_escaped(text, is_kept_in_name(*byte), *byte)?;
+    }
+    Ok(())
+}
+
+fn push_escaped(text: &mut Vec<u8>, is_kept: bool, byte: u8) -> Result<(), AllocError>
+    ensures { OnOk result (text.new.items ≡ text.old.items ++ escaped_byte is_kept byte) }
+{
+    if is_kept {
+        return text.push(byte).map_err(AllocError::from);
+    }
+    text.push(b'%')?;
+    push_upper_pair(text, byte)
+}
+
+fn is_kept_in_path(byte: u8) -> bool
+    ensures { result ≡ is_kept_in_path byte }
+{
+    is_kept_in_name(byte) || byte == b'/'
+}
+
+fn is_kept_in_name(byte: u8) -> bool
+    ensures { result ≡ is_kept_in_name byte }
+{
+    byte.is_ascii_alphanumeric() || byte == b'.' || byte == b'_' || byte == b'-' || byte == b'~'
+}
+
+fn push_upper_pair(text: &mut Vec<u8>, byte: u8) -> Result<(), AllocError>
+    ensures { OnOk result (text.new.items ≡ text.old.items ++ upper_pair byte) }
+{
+    text.push(upper_digit(byte / 16))?;
+    text.push(upper_digit(byte % 16))?;
+    Ok(())
+}
+
+fn upper_digit(value: u8) -> u8
+    requires { value < 16 }
+    ensures { result ≡ upper_digit value }
+{
+    b"0123456789ABCDEF"[value as usize]
+}
+
+pub(crate) fn push_entries(text: &mut Vec<u8>, entries: &[(Name, u64)]) -> Result<(), AllocError>
+    ensures { OnOk result (text.new.items ≡ text.old.items ++ entries_text entries.now) }
+{
+    let Some((first, others)) = entries.split_first() else {
+        return text.push(b'-').map_err(AllocError::from);
+    };
+    push_entry(text, first)?;
+    push_more_entries(text, others)
+}
+
+// Each entry with a space before it.
+fn push_more_entries(text: &mut Vec<u8>, entries: &[(Name, u64)]) -> Result<(), AllocError>
+    ensures { OnOk result (text.new.items ≡ text.old.items ++ flat_map (λ entry. 32 ∷ entry_text entry) entries.now) }
+{
+    for entry in entries {
+        text.push(b' ')?;
+        push_entry(text, entry)?;
+    }
+    Ok(())
+}
+
+fn push_entry(text: &mut Vec<u8>, entry: &(Name, u64)) -> Result<(), AllocError>
+    ensures { OnOk result (text.new.items ≡ text.old.items ++ entry_text entry.now) }
+{
+    push_name(text, entry.0.as_slice())?;
+    text.push(b':')?;
+    push_decimal(text, entry.1)
+}
+
+#[tactic(auto, unfolding(jv_model::specs::ReplyText::attr_words))]
+pub(crate) fn push_attr(text: &mut Vec<u8>, attr: &Attr) -> Result<(), AllocError>
+    ensures { OnOk result (text.new.items ≡ text.old.items ++ attr_words attr.now) }
+{
+    push_number(text, attr.inode)?;
+    push_kind_and_mode(text, attr.kind, attr.mode)?;
+    push_numbers(
+        text,
+        &[
+            u64::from(attr.nlink),
+            u64::from(attr.uid),
+            u64::from(attr.gid),
+            attr.size,
+            attr.mtime.seconds(),
+            attr.ctime.seconds(),
+        ],
+    )
+}
+
+fn push_kind_and_mode(text: &mut Vec<u8>, kind: FileKind, mode: u16) -> Result<(), AllocError>
+    ensures { OnOk result (text.new.items ≡ text.old.items ++ (32 ∷ kind_letter kind ∷ 32 ∷ mode_digits mode)) }
+{
+    text.extend_from_slice(&[
+        b' ',
+        kind_letter(kind),
+        b' ',
+        octal_digit(mode / 512),
+        octal_digit(mode / 64),
+        octal_digit(mode / 8),
+        octal_digit(mode),
+    ])
+}
+
+fn kind_letter(kind: FileKind) -> u8
+    ensures { result ≡ kind_letter kind }
+{
+    match kind {
+        FileKind::File => b'f',
+        FileKind::Directory => b'd',
+        FileKind::Symlink => b'l',
+    }
+}
+
+// The last digit of a number.
+fn octal_digit(number: u16) -> u8
+    ensures { result ≡ 48 + number % 8 }
+{
+    b'0' + (number % 8) as u8
+}
+
+#[tactic(auto, unfolding(jv_model::specs::ReplyText::uploaded_text))]
+pub(crate) fn push_uploaded(
+    text: &mut Vec<u8>,
+    setting: &Setting,
+    block: &Option<BlockId>,
+) -> Result<(), AllocError>
+    ensures { OnOk result (text.new.items ≡ text.old.items ++ uploaded_text setting.now block.now) }
+{
+    match block {
+        None => text.push(b'-').map_err(AllocError::from),
+        Some(block) => push_block_name(text, setting, *block),
+    }
+}
+
+#[tactic(auto, unfolding(jv_model::specs::BlockNames::block_name_of))]
+fn push_block_name(text: &mut Vec<u8>, setting: &Setting, block: BlockId) -> Result<(), AllocError>
+    ensures { OnOk result (text.new.items ≡ text.old.items ++ block_name_of setting.now block.id block.index block.size) }
+{
+    text.extend_from_slice(setting.name.as_slice())?;
+    text.extend_from_slice(b"/chunks/")?;
+    push_slice_folder(text, setting.hash, block.id)?;
+    text.push(b'/')?;
+    push_decimal(text, block.id)?;
+    text.push(b'_')?;
+    push_decimal(text, u64::from(block.index))?;
+    text.push(b'_')?;
+    push_decimal(text, u64::from(block.size))
+}
+
+fn push_slice_folder(text: &mut Vec<u8>, hash: u8, id: u64) -> Result<(), AllocError>
+    ensures { OnOk result (text.new.items ≡ text.old.items ++ slice_folder hash id) }
+{
+    let millions = id / 1000 / 1000;
+    if hash == 1 {
+        push_upper_pair(text, (id % 256) as u8)?;
+        text.push(b'/')?;
+        return push_decimal(text, millions);
+    }
+    push_decimal(text, millions)?;
+    text.push(b'/')?;
+    push_decimal(text, id / 1000)
+}

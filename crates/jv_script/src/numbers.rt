@@ -1,0 +1,31 @@
+//! Numbers, printed.
+ghost use Rattle.std.specs.Prelude.{◌≡◌, ◌++◌, decimal, OnOk};
+ghost use Rattle.std.specs.List.{flat_map};
+ghost use Rattle.jv_model.specs.Printed.{number_word};
+
+use itoa::Buffer;
+use std::alloc::AllocError;
+
+/// Each number with a space before it.
+pub(crate) fn push_numbers(text: &mut Vec<u8>, numbers: &[u64]) -> Result<(), AllocError>
+    ensures { OnOk result (text.new.items ≡ text.old.items ++ flat_map number_word numbers.now) }
+{
+    for number in numbers {
+        push_number(text, *number)?;
+    }
+    Ok(())
+}
+
+pub(crate) fn push_number(text: &mut Vec<u8>, number: u64) -> Result<(), AllocError>
+    ensures { OnOk result (text.new.items ≡ text.old.items ++ number_word number) }
+{
+    text.push(b' ')?;
+    push_decimal(text, number)
+}
+
+pub(crate) fn push_decimal(text: &mut Vec<u8>, number: u64) -> Result<(), AllocError>
+    ensures { OnOk result (text.new.items ≡ text.old.items ++ decimal number) }
+{
+    let mut buffer = Buffer::new();
+    text.extend_from_slice(buffer.format(number).as_bytes())
+}

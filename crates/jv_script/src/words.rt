@@ -1,0 +1,26 @@
+//! Parts of a text between the places of one byte.
+ghost use Rattle.std.specs.Prelude.{◌≡◌, [], ◌∷◌, MatchOption};
+ghost use Rattle.std.specs.Option.{option_copied};
+ghost use Rattle.jv_model.specs.ScriptGrammar.{parted};
+ghost use Rattle.jv_script.specs.Reading.{parts_after};
+
+/// The part before the first separator, and the text after that separator where there is one.
+pub(crate) fn cut(text: &[u8], separator: u8) -> (&[u8], Option<&[u8]>)
+    ensures { parted separator text.now ≡ result.0.now ∷ parts_after separator (option_copied result.1) }
+{
+    match text.iter().position(|c| *c == separator) {
+        Some(end) => (&text[..end], Some(&text[end + 1..])),
+        None => (text, None),
+    }
+}
+
+/// The next word and the words after it, if a word is left.
+pub(crate) fn next_word(rest: Option<&[u8]>) -> Option<(&[u8], Option<&[u8]>)>
+    ensures { MatchOption result (parts_after 32 (option_copied rest.entry) ≡ [])
+        (λ r. parts_after 32 (option_copied rest.entry) ≡ r.0.now ∷ parts_after 32 (option_copied r.1)) }
+{
+    match rest {
+        None => None,
+        Some(text) => Some(cut(text, b' ')),
+    }
+}
