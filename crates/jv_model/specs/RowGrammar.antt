@@ -38,7 +38,7 @@ is_bucket bucket = nat_le 1 (length bucket) && nat_le (length bucket) 1024 && is
 
 -- of any version from 1 on
 abbrev pub is_setting : Setting → Bool
-is_setting s = nat_le 1 s.version && is_block s.block && nat_le s.trash_days 36500 && nat_le s.capacity 4294967295 && nat_le s.inodes 4611686018427387904 && nat_le s.hash 1 && is_volume_name s.name && is_bucket s.bucket
+is_setting s = nat_le 1 s.version && is_block s.block && nat_le s.trash_days 36500 && nat_le s.capacity 4294967296 && nat_le s.inodes 4611686018427387904 && nat_le s.hash 1 && is_volume_name s.name && is_bucket s.bucket
 
 unfoldable pub setting_bytes : Setting → List ℕ
 setting_bytes s = word s.version ++ word s.block ++ word s.trash_days ++ long s.capacity ++ long s.inodes ++ byte s.hash ++ byte (length s.name) ++ s.name ++ half (length s.bucket) ++ s.bucket

@@ -63,7 +63,7 @@ pub fn allows_setting(s: &Setting) -> bool
     1 <= s.version
         && is_block_size(s.block)
         && s.trash_days <= 36_500
-        && s.capacity <= 4_294_967_295
+        && s.capacity <= 4_294_967_296
         && s.inodes <= 4_611_686_018_427_387_904
         && s.hash <= 1
         && allows_name(s.name.as_slice())
