@@ -10,7 +10,8 @@ use crate::reader::{LineReader, Next};
 use crate::world::World;
 use jv_model::{Journal, Limits, Line, Setting, copied};
 use jv_outside::{Clock, Sink, Source, write_whole};
-use jv_session::{BadLine, LineEnd, Schedule, read_line};
+use jv_script::{BadLine, read_line};
+use jv_session::{LineEnd, Schedule};
 use std::alloc::{AllocError, Global};
 
 /// The most lines of a script.

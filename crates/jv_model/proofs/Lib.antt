@@ -1,7 +1,6 @@
 -- Laws about the definitions, and closed rows of them.
-pub mod GrammarRows
 pub mod PrintedRows
-pub mod ScriptRows
+pub mod GrammarRows
 pub mod ReplyRows
 pub mod MapLaws
 pub mod WorkedRows

@@ -11,7 +11,7 @@ use Rattle.jv_model.specs.declared.op.Reply.{Reply}
 use Rattle.jv_model.specs.declared.op.Reply.TheVariants.{Refused}
 use Rattle.jv_model.specs.Tree.{Tree, Content, content_at, fits}
 use Rattle.jv_model.specs.TreeAct.{with_content}
-use Rattle.jv_model.specs.Grammar.{is_root_path}
+use Rattle.jv_model.specs.Spelling.{is_root_path}
 use Rattle.jv_model.specs.Pending.{PendingByte, end_of, window_size}
 use Rattle.jv_model.specs.Client.{submission, file_of, inode_in}
 use Rattle.jv_model.specs.Past.{Past, mounts_writeback, transacted}

@@ -1,176 +1,293 @@
--- The script's grammar: which line a text is, if it is one. A text is the bytes of a line without its line feed.
-use Rattle.std.specs.Prelude.{ℕ, ◌+◌, ◌-◌, ◌*◌, ◌%◌, Bool, true, false, ◌&&◌, ◌||◌, not, ◌==◌, nat_lt, nat_le, if◌then◌else◌, List, [], ◌∷◌, length, Option, None, Some, option_and_then, codes, bytes_eq, fold}
-use Rattle.std.specs.List.{slice_split, list_all}
+-- The whole grammar of a script: which line a text is, if it is one. A text is the bytes of a line without its line feed.
+use Rattle.std.specs.Prelude.{ℕ, ◌+◌, ◌*◌, ◌%◌, Bool, true, false, ◌&&◌, not, ◌==◌, nat_lt, nat_le, if◌then◌else◌, List, [], ◌∷◌, ◌++◌, length, replicate, Option, None, Some, option_map, codes, bytes_eq, sum_by}
+use Rattle.std.specs.List.{slice_split, list_all, flat_map}
+use Rattle.jv_model.specs.declared.basics.How.{How}
+use Rattle.jv_model.specs.declared.basics.How.TheVariants as how
 use Rattle.jv_model.specs.declared.op.Op.{Op}
-use Rattle.jv_model.specs.declared.op.Op.TheVariants.{Mount, Create, Open, Close, Read, Write}
+use Rattle.jv_model.specs.declared.op.Op.TheVariants.{Mount, Umount, Beat, Lookup, Stat, Lstat, Fstat, Mkdir, Create, Open, Close, Flush, Read, Write, Truncate, Copy, Readdir, Chmod, Chown, Utimes, Statfs, Symlink, Readlink, Unlink, Rmdir, Link, Rename, Compact, Clean, Gc, Upload, Stats}
 use Rattle.jv_model.specs.declared.op.Line.{Line}
-use Rattle.jv_model.specs.declared.op.Line.TheVariants.{Empty, Do}
+use Rattle.jv_model.specs.declared.op.Line.TheVariants.{Empty, Do, Begin, Step, Run, Crash, Drain, Tick}
+use Rattle.jv_model.specs.Spelling.{◌>>=◌, words, at_most, number_of, length_of, mode_of, is_hex_digit, hex_value, bytes_of_digits, client_of, is_silent}
+use Rattle.jv_model.specs.Printed.{Part, Plain, Repeated}
 
--- the second step, if the first gave a value
-infixl 10 ◌>>=◌
-abbrev pub ◌>>=◌ : {A B : Type 0} → Option A → (A → Option B) → Option B
-o >>= f = option_and_then f o
+-- the parts of a text between the places of one byte, which are words at a space
+abbrev pub parted : ℕ → List ℕ → List (List ℕ)
+parted separator text = slice_split (λ c. c == separator) text
 
--- the words of a text, parted at each space: two spaces in a row part an empty word off
-abbrev pub words : List ℕ → List (List ℕ)
-words text = slice_split (λ c. c == 32) text
+-- the value, where a test passes
+abbrev pub provided : {T : Type 0} → Bool → T → Option T
+provided true value = Some value
+provided false value = None
 
--- the words, where they are exactly one, two or three
-abbrev pub one_of : List (List ℕ) → Option (List ℕ)
-one_of (a ∷ []) = Some a
-one_of _ = None
-
-abbrev pub two_of : List (List ℕ) → Option (List ℕ × List ℕ)
-two_of (a ∷ b ∷ []) = Some (a, b)
-two_of _ = None
-
-abbrev pub three_of : List (List ℕ) → Option (List ℕ × List ℕ × List ℕ)
-three_of (a ∷ b ∷ c ∷ []) = Some (a, b, c)
-three_of _ = None
-
--- the value, where it is at most the limit
-abbrev pub at_most : ℕ → ℕ → Option ℕ
-at_most limit n = (if nat_le n limit then Some n else None)
-
--- the number that digits stand for in a base of at most ten
-abbrev pub value_of : ℕ → List ℕ → ℕ
-value_of base digits = fold (λ n digit. n * base + (digit - 48)) 0 digits
-
-abbrev pub is_decimal_digit : ℕ → Bool
-is_decimal_digit c = nat_le 48 c && nat_le c 57
-
--- decimal digits, of which the first is no zero unless it stands alone
-abbrev pub is_numeral : List ℕ → Bool
-is_numeral [] = false
-is_numeral (digit ∷ []) = is_decimal_digit digit
-is_numeral (digit ∷ more ∷ digits) = not (digit == 48) && list_all is_decimal_digit (digit ∷ more ∷ digits)
-
--- a number, at most the greatest of 64 bits
-unfoldable pub number_of : List ℕ → Option ℕ
-number_of text = (if is_numeral text then at_most 18446744073709551615 (value_of 10 text) else None)
-
--- the length of a read
-unfoldable pub length_of : List ℕ → Option ℕ
-length_of text = do
+-- a number up to a limit of less than 64 bits
+unfoldable pub number_up_to : ℕ → List ℕ → Option ℕ
+number_up_to limit text = do
   n ← number_of text
-  at_most 8388608 n
+  at_most limit n
 
-abbrev pub is_octal_digit : ℕ → Bool
-is_octal_digit c = nat_le 48 c && nat_le c 55
+-- the seconds of a tick: 1 to 4,294,967,296
+unfoldable pub seconds_of : List ℕ → Option ℕ
+seconds_of text = do
+  n ← number_up_to 4294967296 text
+  provided (nat_lt 0 n) n
 
--- a mode: four octal digits
-unfoldable pub mode_of : List ℕ → Option ℕ
-mode_of text = (if length text == 4 && list_all is_octal_digit text then Some (value_of 8 text) else None)
+-- a byte that is written as itself: 0x21 to 0x7E, but for `%`
+abbrev pub is_plain : ℕ → Bool
+is_plain c = nat_le 33 c && nat_le c 126 && not (c == 37)
 
-abbrev pub is_letter_or_digit : ℕ → Bool
-is_letter_or_digit c = is_decimal_digit c || (nat_le 65 c && nat_le c 90) || (nat_le 97 c && nat_le c 122)
+-- the byte of two hexadecimal digits
+abbrev pub byte_of : ℕ → ℕ → ℕ
+byte_of high low = hex_value high * 16 + hex_value low
 
--- the name of a file: 1 to 255 letters and digits
-abbrev pub is_name : List ℕ → Bool
-is_name name = nat_lt 0 (length name) && nat_le (length name) 255 && list_all is_letter_or_digit name
+-- what may stand between a `%` and the next: the two digits of a byte other than 0, and bytes that are written as themselves
+abbrev pub is_escape : List ℕ → Bool
+is_escape (high ∷ low ∷ plain) = is_hex_digit high && is_hex_digit low && nat_lt 0 (byte_of high low) && list_all is_plain plain
+is_escape _ = false
 
--- whether a text is the path of a file in the root: a slash and a name
-unfoldable pub is_root_path : List ℕ → Bool
-is_root_path [] = false
-is_root_path (slash ∷ name) = (slash == 47) && is_name name
+-- what it spells
+abbrev pub escape_bytes : List ℕ → List ℕ
+escape_bytes (high ∷ low ∷ plain) = byte_of high low ∷ plain
+escape_bytes _ = []
 
--- a path, which keeps its slash
+-- the bytes that a text spells, given its parts between the `%`
+abbrev pub bytes_between : List (List ℕ) → Option (List ℕ)
+bytes_between [] = None
+bytes_between (plain ∷ escapes) = provided (list_all is_plain plain && list_all is_escape escapes) (plain ++ flat_map escape_bytes escapes)
+
+-- the bytes that a text with escapes spells
+unfoldable pub unescaped : List ℕ → Option (List ℕ)
+unescaped text = bytes_between (parted 37 text)
+
+abbrev pub begins_with_slash : List ℕ → Bool
+begins_with_slash [] = false
+begins_with_slash (first ∷ _) = first == 47
+
+-- a path is its bytes, of which the first is a slash: `%2Fa` is the path `/a`
 unfoldable pub path_of : List ℕ → Option (List ℕ)
-path_of text = (if is_root_path text then Some text else None)
+path_of text = do
+  path ← unescaped text
+  provided (begins_with_slash path) path
 
--- hexadecimal digits of either case
-abbrev pub is_hex_digit : ℕ → Bool
-is_hex_digit c = is_decimal_digit c || (nat_le 65 c && nat_le c 70) || (nat_le 97 c && nat_le c 102)
+-- the target of a symlink: at least one byte
+unfoldable pub target_of : List ℕ → Option (List ℕ)
+target_of text = do
+  target ← unescaped text
+  provided (nat_lt 0 (length target)) target
 
--- what a hexadecimal digit stands for
-abbrev pub hex_value : ℕ → ℕ
-hex_value c = (if nat_le c 57 then c - 48 else if nat_le c 70 then c - 55 else c - 87)
+-- one byte or more as pairs of hexadecimal digits
+abbrev pub is_pairs : List ℕ → Bool
+is_pairs text = nat_lt 0 (length text) && (length text % 2 == 0) && list_all is_hex_digit text
 
--- the bytes of pairs of hexadecimal digits, the high one first
-abbrev pub bytes_of_digits : List ℕ → List ℕ
-bytes_of_digits [] = []
-bytes_of_digits (_ ∷ []) = []
-bytes_of_digits (high ∷ low ∷ digits) = (hex_value high * 16 + hex_value low) ∷ bytes_of_digits digits
+-- `HHxN`: the byte of two digits, N times, N at least 1
+unfoldable pub repeated_of : List ℕ → Option Part
+repeated_of (high ∷ low ∷ x ∷ digits) = do
+  count ← number_of digits
+  provided (is_hex_digit high && is_hex_digit low && (x == 120) && nat_lt 0 count) (Repeated (record { byte = byte_of high low; count = count }))
+repeated_of _ = None
 
--- whether a text is pairs of hexadecimal digits, for 1 to 8,388,608 bytes
-abbrev pub is_hex_text : List ℕ → Bool
-is_hex_text text = nat_lt 0 (length text) && nat_le (length text) 16777216 && (length text % 2 == 0) && list_all is_hex_digit text
+-- a part of the bytes of a write
+unfoldable pub part_of : List ℕ → Option Part
+part_of text = (if is_pairs text then Some (Plain (bytes_of_digits text)) else repeated_of text)
 
--- the bytes of a write: `-` for none, or their digits
+-- how many bytes a part has, and which
+abbrev pub part_length : Part → ℕ
+part_length (Plain bytes) = length bytes
+part_length (Repeated run) = run.count
+
+abbrev pub part_bytes : Part → List ℕ
+part_bytes (Plain bytes) = bytes
+part_bytes (Repeated run) = replicate run.count run.byte
+
+-- the parts of texts, if each of them is one
+abbrev pub all_parts_of : List (List ℕ) → Option (List Part)
+all_parts_of [] = Some []
+all_parts_of (text ∷ texts) = do
+  part ← part_of text
+  parts ← all_parts_of texts
+  Some (part ∷ parts)
+
+-- the bytes of parts, at most 8,388,608
+unfoldable pub bytes_of_parts : List (List ℕ) → Option (List ℕ)
+bytes_of_parts texts = do
+  parts ← all_parts_of texts
+  _ ← at_most 8388608 (sum_by part_length parts)
+  Some (flat_map part_bytes parts)
+
+-- the bytes of a write: `-` for none, or parts joined by `+`
 unfoldable pub data_of : List ℕ → Option (List ℕ)
-data_of text = (if bytes_eq text (codes "-") then Some []
-    else if is_hex_text text then Some (bytes_of_digits text)
+data_of text = (if bytes_eq text (codes "-") then Some [] else bytes_of_parts (parted 43 text))
+
+-- operations that take nothing
+unfoldable pub operation_of_none : List ℕ → Option Op
+operation_of_none name = (if bytes_eq name (codes "mount") then Some (Mount false)
+    else if bytes_eq name (codes "umount") then Some Umount
+    else if bytes_eq name (codes "beat") then Some Beat
+    else if bytes_eq name (codes "statfs") then Some Statfs
+    else if bytes_eq name (codes "clean") then Some Clean
+    else if bytes_eq name (codes "gc") then Some (Gc false)
+    else if bytes_eq name (codes "upload") then Some Upload
+    else if bytes_eq name (codes "stats") then Some Stats
     else None)
 
--- a client's letter, A to H
-unfoldable pub client_of : List ℕ → Option ℕ
-client_of (letter ∷ []) = (if nat_le 65 letter && nat_le letter 72 then Some (letter - 65) else None)
-client_of _ = None
+-- operations on a path alone
+unfoldable pub operation_of_path : List ℕ → List ℕ → Option Op
+operation_of_path name word = (if bytes_eq name (codes "lookup") then option_map Lookup (path_of word)
+    else if bytes_eq name (codes "stat") then option_map Stat (path_of word)
+    else if bytes_eq name (codes "lstat") then option_map Lstat (path_of word)
+    else if bytes_eq name (codes "open") then option_map Open (path_of word)
+    else if bytes_eq name (codes "readdir") then option_map Readdir (path_of word)
+    else if bytes_eq name (codes "readlink") then option_map Readlink (path_of word)
+    else if bytes_eq name (codes "unlink") then option_map Unlink (path_of word)
+    else if bytes_eq name (codes "rmdir") then option_map Rmdir (path_of word)
+    else None)
 
--- what each operation takes: nothing, a path and a mode, a path, a handle, a handle with an offset and bytes,
--- and a handle with an offset and a length
-unfoldable pub mount_in : List (List ℕ) → Option Op
-mount_in [] = Some (Mount false)
-mount_in _ = None
+-- operations of one word
+unfoldable pub operation_of_one : List ℕ → List ℕ → Option Op
+operation_of_one name word = (if bytes_eq name (codes "mount") then provided (bytes_eq word (codes "writeback")) (Mount true)
+    else if bytes_eq name (codes "gc") then provided (bytes_eq word (codes "delete")) (Gc true)
+    else if bytes_eq name (codes "fstat") then option_map Fstat (number_of word)
+    else if bytes_eq name (codes "close") then option_map Close (number_of word)
+    else if bytes_eq name (codes "flush") then option_map Flush (number_of word)
+    else operation_of_path name word)
 
-unfoldable pub create_in : List (List ℕ) → Option Op
-create_in arguments = do
-  both ← two_of arguments
-  path ← path_of both.0
-  mode ← mode_of both.1
-  Some (Create path mode)
+unfoldable pub symlink_of : List ℕ → List ℕ → Option Op
+symlink_of first second = do
+  target ← target_of first
+  path ← path_of second
+  Some (Symlink target path)
 
-unfoldable pub open_in : List (List ℕ) → Option Op
-open_in arguments = do
-  only ← one_of arguments
-  path ← path_of only
-  Some (Open path)
+-- two paths
+unfoldable pub two_paths_of : List ℕ → List ℕ → Option (List ℕ × List ℕ)
+two_paths_of first second = do
+  path ← path_of first
+  to ← path_of second
+  Some (path, to)
 
-unfoldable pub close_in : List (List ℕ) → Option Op
-close_in arguments = do
-  only ← one_of arguments
-  handle ← number_of only
-  Some (Close handle)
+-- a path and a mode
+unfoldable pub path_and_mode_of : List ℕ → List ℕ → Option (List ℕ × ℕ)
+path_and_mode_of first second = do
+  path ← path_of first
+  mode ← mode_of second
+  Some (path, mode)
 
-unfoldable pub write_in : List (List ℕ) → Option Op
-write_in arguments = do
-  all ← three_of arguments
-  handle ← number_of all.0
-  offset ← number_of all.1
-  bytes ← data_of all.2
-  Some (Write handle offset bytes)
+unfoldable pub truncate_of : List ℕ → List ℕ → Option Op
+truncate_of first second = do
+  handle ← number_of first
+  len ← number_of second
+  Some (Truncate handle len)
 
-unfoldable pub read_in : List (List ℕ) → Option Op
-read_in arguments = do
-  all ← three_of arguments
-  handle ← number_of all.0
-  offset ← number_of all.1
-  len ← length_of all.2
+-- the time is at most the last moment
+unfoldable pub utimes_of : List ℕ → List ℕ → Option Op
+utimes_of first second = do
+  path ← path_of first
+  mtime ← number_up_to 137438953471 second
+  Some (Utimes path mtime)
+
+unfoldable pub compact_of : List ℕ → List ℕ → Option Op
+compact_of first second = do
+  path ← path_of first
+  window ← number_up_to 4294967295 second
+  Some (Compact path window)
+
+-- operations of two words
+unfoldable pub operation_of_two : List ℕ → List ℕ → List ℕ → Option Op
+operation_of_two name first second = (if bytes_eq name (codes "mkdir") then option_map (λ both. Mkdir both.0 both.1) (path_and_mode_of first second)
+    else if bytes_eq name (codes "create") then option_map (λ both. Create both.0 both.1) (path_and_mode_of first second)
+    else if bytes_eq name (codes "chmod") then option_map (λ both. Chmod both.0 both.1) (path_and_mode_of first second)
+    else if bytes_eq name (codes "truncate") then truncate_of first second
+    else if bytes_eq name (codes "utimes") then utimes_of first second
+    else if bytes_eq name (codes "compact") then compact_of first second
+    else if bytes_eq name (codes "symlink") then symlink_of first second
+    else if bytes_eq name (codes "link") then option_map (λ both. Link both.0 both.1) (two_paths_of first second)
+    else if bytes_eq name (codes "rename") then option_map (λ both. Rename both.0 both.1 how.Plain) (two_paths_of first second)
+    else None)
+
+unfoldable pub read_of : List ℕ → List ℕ → List ℕ → Option Op
+read_of first second third = do
+  handle ← number_of first
+  offset ← number_of second
+  len ← length_of third
   Some (Read handle offset len)
 
--- the operation of a name and what it takes
-unfoldable pub operation_of : List ℕ → List (List ℕ) → Option Op
-operation_of name arguments = (if bytes_eq name (codes "mount") then mount_in arguments
-    else if bytes_eq name (codes "create") then create_in arguments
-    else if bytes_eq name (codes "open") then open_in arguments
-    else if bytes_eq name (codes "close") then close_in arguments
-    else if bytes_eq name (codes "write") then write_in arguments
-    else if bytes_eq name (codes "read") then read_in arguments
+unfoldable pub write_of : List ℕ → List ℕ → List ℕ → Option Op
+write_of first second third = do
+  handle ← number_of first
+  offset ← number_of second
+  bytes ← data_of third
+  Some (Write handle offset bytes)
+
+unfoldable pub chown_of : List ℕ → List ℕ → List ℕ → Option Op
+chown_of first second third = do
+  path ← path_of first
+  uid ← number_up_to 4294967295 second
+  gid ← number_up_to 4294967295 third
+  Some (Chown path uid gid)
+
+-- how a rename treats a target that is there
+unfoldable pub how_of : List ℕ → Option How
+how_of word = (if bytes_eq word (codes "noreplace") then Some how.NoReplace
+    else if bytes_eq word (codes "exchange") then Some how.Exchange
     else None)
 
--- a client's letter and its operation
+unfoldable pub rename_of : List ℕ → List ℕ → List ℕ → Option Op
+rename_of first second third = do
+  form ← how_of third
+  both ← two_paths_of first second
+  Some (Rename both.0 both.1 form)
+
+-- operations of three words
+unfoldable pub operation_of_three : List ℕ → List ℕ → List ℕ → List ℕ → Option Op
+operation_of_three name first second third = (if bytes_eq name (codes "read") then read_of first second third
+    else if bytes_eq name (codes "write") then write_of first second third
+    else if bytes_eq name (codes "chown") then chown_of first second third
+    else if bytes_eq name (codes "rename") then rename_of first second third
+    else None)
+
+-- a handle and an offset to copy from, a handle and an offset to copy to, and a length
+unfoldable pub copy_of : List ℕ → List ℕ → List ℕ → List ℕ → List ℕ → Option Op
+copy_of first second third fourth fifth = do
+  source ← number_of first
+  offset ← number_of second
+  target ← number_of third
+  to ← number_of fourth
+  len ← number_of fifth
+  Some (Copy source offset target to len)
+
+-- the operation of a name and the words that it takes
+unfoldable pub operation_of : List ℕ → List (List ℕ) → Option Op
+operation_of name [] = operation_of_none name
+operation_of name (a ∷ []) = operation_of_one name a
+operation_of name (a ∷ b ∷ []) = operation_of_two name a b
+operation_of name (a ∷ b ∷ c ∷ []) = operation_of_three name a b c
+operation_of name (_ ∷ _ ∷ _ ∷ _ ∷ []) = None
+operation_of name (a ∷ b ∷ c ∷ d ∷ e ∷ []) = (if bytes_eq name (codes "copy") then copy_of a b c d e else None)
+operation_of name (_ ∷ _ ∷ _ ∷ _ ∷ _ ∷ _ ∷ _) = None
+
+-- an operation that is submitted alone
+unfoldable pub begin_of : ℕ → List (List ℕ) → Option Line
+begin_of client [] = None
+begin_of client (name ∷ arguments) = option_map (Begin client) (operation_of name arguments)
+
+-- the line, where no word is left
+abbrev pub where_last : List (List ℕ) → Option Line → Option Line
+where_last [] line = line
+where_last (_ ∷ _) line = None
+
+-- what follows a client's letter
+unfoldable pub client_line_of : ℕ → List ℕ → List (List ℕ) → Option Line
+client_line_of client name arguments = (if bytes_eq name (codes "begin") then begin_of client arguments
+    else if bytes_eq name (codes "step") then where_last arguments (Some (Step client))
+    else if bytes_eq name (codes "run") then where_last arguments (Some (Run client))
+    else if bytes_eq name (codes "crash") then where_last arguments (Some (Crash client))
+    else option_map (Do client) (operation_of name arguments))
+
+-- the line of its words
 unfoldable pub command_of : List (List ℕ) → Option Line
 command_of [] = None
 command_of (_ ∷ []) = None
-command_of (letter ∷ name ∷ arguments) = do
-  client ← client_of letter
-  op ← operation_of name arguments
-  Some (Do client op)
-
--- an empty text or a comment
-abbrev pub is_silent : List ℕ → Bool
-is_silent [] = true
-is_silent (first ∷ _) = first == 35
+command_of (first ∷ second ∷ rest) = (if bytes_eq first (codes "drain") then where_last rest (option_map Drain (client_of second))
+    else if bytes_eq first (codes "tick") then where_last rest (option_map Tick (seconds_of second))
+    else client_of first >>= (λ client. client_line_of client second rest))
 
 -- the line that a text is
 unfoldable pub line_of : List ℕ → Option Line

@@ -4,10 +4,10 @@ pub mod Attempt
 pub mod FiniteMap
 pub mod RowKeys
 pub mod Pending
-pub mod Grammar
+pub mod Spelling
 pub mod Printed
 pub mod ReplyText
-pub mod ScriptGrammar
+pub mod Grammar
 pub mod Tree
 pub mod Walk
 pub mod TreeAct

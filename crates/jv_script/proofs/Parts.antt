@@ -4,9 +4,9 @@ use Rattle.std.specs.List.{flat_map}
 use Rattle.std.proofs.lemmas.List.{append_assoc}
 use Rattle.std.proofs.lemmas.Bool.{le-leb, lt-leb}
 use Rattle.std.proofs.lemmas.List.Sums.{sum_by-cons}
-use Rattle.jv_model.specs.Grammar.{◌>>=◌, at_most, bytes_of_digits}
+use Rattle.jv_model.specs.Spelling.{◌>>=◌, at_most, bytes_of_digits}
 use Rattle.jv_model.specs.Printed.{Part, Plain}
-use Rattle.jv_model.specs.ScriptGrammar.{parted, is_pairs, repeated_of, part_of, part_length, part_bytes, all_parts_of, bytes_of_parts, spelled_data_of}
+use Rattle.jv_model.specs.Grammar.{parted, is_pairs, repeated_of, part_of, part_length, part_bytes, all_parts_of, bytes_of_parts, data_of}
 use Rattle.jv_script.specs.Reading.{length_with, joined_bytes}
 
 -- bytes that are there, and those of parts
@@ -134,10 +134,10 @@ pub part_of_other : (text : List ℕ) → is_pairs text ≡ false → part_of te
 unfolding part_of
 part_of_other text other = rw other refl
 
-pub no_bytes : (text : List ℕ) → bytes_eq text (codes "-") ≡ true → spelled_data_of text ≡ Some []
-unfolding spelled_data_of
+pub no_bytes : (text : List ℕ) → bytes_eq text (codes "-") ≡ true → data_of text ≡ Some []
+unfolding data_of
 no_bytes text dash = rw dash refl
 
-pub some_bytes : (text : List ℕ) → bytes_eq text (codes "-") ≡ false → spelled_data_of text ≡ bytes_of_parts (parted 43 text)
-unfolding spelled_data_of
+pub some_bytes : (text : List ℕ) → bytes_eq text (codes "-") ≡ false → data_of text ≡ bytes_of_parts (parted 43 text)
+unfolding data_of
 some_bytes text other = rw other refl

@@ -2,8 +2,8 @@
 use Rattle.std.proofs.Common.{◌≡◌, ◌≢◌, ◌⊎◌, inl, inr, ◌==◌, ℕ, arith, length, nat_lt, eqb, Bool, true, false, ◌&&◌, List, [], ◌∷◌, ◌++◌, Option, Some, None, IsSome, is_some, refl, sym, ap, subst, ◌∙◌}
 use Rattle.std.specs.List.{list_all, flat_map}
 use Rattle.std.proofs.lemmas.Bool.{eq-eqb, ne_eqb, lt-ltb, cases_eq}
-use Rattle.jv_model.specs.Grammar.{◌>>=◌}
-use Rattle.jv_model.specs.ScriptGrammar.{parted, provided, is_plain, is_escape, escape_bytes, bytes_between, begins_with_slash, unescaped, spelled_path_of, target_of}
+use Rattle.jv_model.specs.Spelling.{◌>>=◌}
+use Rattle.jv_model.specs.Grammar.{parted, provided, is_plain, is_escape, escape_bytes, bytes_between, begins_with_slash, unescaped, path_of, target_of}
 use Rattle.jv_script.specs.Reading.{first_of}
 
 pub unescaped_parts : (text plain : List ℕ) (escapes : List (List ℕ)) → parted 37 text ≡ plain ∷ escapes → unescaped text ≡ provided (list_all is_plain plain && list_all is_escape escapes) (plain ++ flat_map escape_bytes escapes)
@@ -23,45 +23,45 @@ sound_parts text plain escapes e some =
     (both.0, all ∙ both.1)
 
 -- paths by their first byte
-path_of : Option (List ℕ) → Option (List ℕ)
-path_of spelled = spelled >>= (λ path. provided (begins_with_slash path) path)
+slashed : Option (List ℕ) → Option (List ℕ)
+slashed spelled = spelled >>= (λ path. provided (begins_with_slash path) path)
 
-spelled_path_of-path_of : (text : List ℕ) → spelled_path_of text ≡ path_of (unescaped text)
-unfolding spelled_path_of path_of
-spelled_path_of-path_of text = refl
+path_of-slashed : (text : List ℕ) → path_of text ≡ slashed (unescaped text)
+unfolding path_of slashed
+path_of-slashed text = refl
 
-slash : (spelled : Option (List ℕ)) → first_of spelled ≡ Some 47 → is_some (path_of spelled) ≡ true
-unfolding path_of
+slash : (spelled : Option (List ℕ)) → first_of spelled ≡ Some 47 → is_some (slashed spelled) ≡ true
+unfolding slashed
 slash None e = cc
 slash (Some []) e = cc
 slash (Some (byte ∷ bytes)) e = let here : byte ≡ 47 = cc in rw here refl
 
-no_slash : (spelled : Option (List ℕ)) (c : ℕ) → first_of spelled ≡ Some c → c ≢ 47 → is_some (path_of spelled) ≡ false
-unfolding path_of
+no_slash : (spelled : Option (List ℕ)) (c : ℕ) → first_of spelled ≡ Some c → c ≢ 47 → is_some (slashed spelled) ≡ false
+unfolding slashed
 no_slash None c e other = refl
 no_slash (Some []) c e other = refl
 no_slash (Some (byte ∷ bytes)) c e other =
     let here : byte ≡ c = cc in
     rw (here, ne_eqb c 47 other) refl
 
-nothing_first : (spelled : Option (List ℕ)) → first_of spelled ≡ None → is_some (path_of spelled) ≡ false
-unfolding path_of
+nothing_first : (spelled : Option (List ℕ)) → first_of spelled ≡ None → is_some (slashed spelled) ≡ false
+unfolding slashed
 nothing_first None e = refl
 nothing_first (Some []) e = refl
 nothing_first (Some (byte ∷ bytes)) e = cc
 
-pub path_of_some : (text : List ℕ) (c : ℕ) → Some c ≡ first_of (unescaped text) → (c == 47) ≡ is_some (spelled_path_of text)
+pub path_of_some : (text : List ℕ) (c : ℕ) → Some c ≡ first_of (unescaped text) → (c == 47) ≡ is_some (path_of text)
 path_of_some text c e = either (cases_eq c 47)
   where
-    either : (c ≡ 47) ⊎ (c ≢ 47) → (c == 47) ≡ is_some (spelled_path_of text)
-    either (inl same) = eq-eqb c 47 same ∙ sym (rw (spelled_path_of-path_of text) (slash (unescaped text) (sym e ∙ ap Some same)))
-    either (inr other) = ne_eqb c 47 other ∙ sym (rw (spelled_path_of-path_of text) (no_slash (unescaped text) c (sym e) other))
+    either : (c ≡ 47) ⊎ (c ≢ 47) → (c == 47) ≡ is_some (path_of text)
+    either (inl same) = eq-eqb c 47 same ∙ sym (rw (path_of-slashed text) (slash (unescaped text) (sym e ∙ ap Some same)))
+    either (inr other) = ne_eqb c 47 other ∙ sym (rw (path_of-slashed text) (no_slash (unescaped text) c (sym e) other))
 
-pub path_of_none : (text : List ℕ) → None ≡ first_of (unescaped text) → false ≡ is_some (spelled_path_of text)
-path_of_none text e = sym (rw (spelled_path_of-path_of text) (nothing_first (unescaped text) (sym e)))
+pub path_of_none : (text : List ℕ) → None ≡ first_of (unescaped text) → false ≡ is_some (path_of text)
+path_of_none text e = sym (rw (path_of-slashed text) (nothing_first (unescaped text) (sym e)))
 
-whole_path : (spelled : Option (List ℕ)) → is_some (path_of spelled) ≡ true → IsSome spelled × (path_of spelled ≡ spelled)
-unfolding path_of
+whole_path : (spelled : Option (List ℕ)) → is_some (slashed spelled) ≡ true → IsSome spelled × (slashed spelled ≡ spelled)
+unfolding slashed
 whole_path None e = cc
 whole_path (Some []) e = cc
 whole_path (Some (byte ∷ bytes)) e = (refl, either (eqb byte 47) e)
@@ -71,10 +71,10 @@ whole_path (Some (byte ∷ bytes)) e = (refl, either (eqb byte 47) e)
     either false h = cc
 
 -- a path is the bytes that it spells
-pub path_is_spelled : (text : List ℕ) → is_some (spelled_path_of text) ≡ true → IsSome (unescaped text) × (spelled_path_of text ≡ unescaped text)
+pub path_is_spelled : (text : List ℕ) → is_some (path_of text) ≡ true → IsSome (unescaped text) × (path_of text ≡ unescaped text)
 path_is_spelled text e =
-    let whole = whole_path (unescaped text) (ap is_some (sym (spelled_path_of-path_of text)) ∙ e) in
-    (whole.0, spelled_path_of-path_of text ∙ whole.1)
+    let whole = whole_path (unescaped text) (ap is_some (sym (path_of-slashed text)) ∙ e) in
+    (whole.0, path_of-slashed text ∙ whole.1)
 
 pub no_value : {T : Type 0} (o : Option T) → is_some o ≡ false → o ≡ None
 no_value None e = refl

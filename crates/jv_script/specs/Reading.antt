@@ -1,8 +1,8 @@
 -- What the parts of the reader answer, against the grammar.
 use Rattle.std.specs.Prelude.{◌≡◌, ℕ, ◌+◌, List, [], ◌∷◌, Option, None, Some, IsSome, Result, Ok, Err, sum_by}
 use Rattle.std.specs.List.{flat_map}
-use Rattle.jv_model.specs.Grammar.{◌>>=◌, at_most}
-use Rattle.jv_model.specs.ScriptGrammar.{parted, part_length, part_bytes, all_parts_of}
+use Rattle.jv_model.specs.Spelling.{◌>>=◌, at_most}
+use Rattle.jv_model.specs.Grammar.{parted, part_length, part_bytes, all_parts_of}
 use Rattle.jv_script.specs.declared.bad_line.BadLine.{BadLine}
 use Rattle.jv_script.specs.declared.bad_line.BadLine.TheVariants.{Off, Memory}
 

@@ -1,8 +1,8 @@
 //! The bytes of a write, read.
 ghost use Rattle.std.specs.Prelude.{◌≡◌, ◌++◌, ◌&&◌, ◌==◌, nat_lt, true, Some, IsSome, IfOk, OnOk, option_map, replicate};
-ghost use Rattle.jv_model.specs.Grammar.{bytes_of_digits, is_hex_digit};
+ghost use Rattle.jv_model.specs.Spelling.{bytes_of_digits, is_hex_digit};
 ghost use Rattle.jv_model.specs.Printed.{Repeated};
-ghost use Rattle.jv_model.specs.ScriptGrammar.{parted, is_pairs, repeated_of, part_of, part_length, part_bytes, all_parts_of, spelled_data_of};
+ghost use Rattle.jv_model.specs.Grammar.{parted, is_pairs, repeated_of, part_of, part_length, part_bytes, all_parts_of, data_of};
 ghost use Rattle.jv_script.specs.Reading.{Reads, length_with, joined_bytes};
 
 use crate::bad_line::BadLine;
@@ -17,7 +17,7 @@ const MAX_BYTES: u64 = 8_388_608;
 
 /// The bytes of a write, in any of their spellings.
 pub(crate) fn data(alloc: Global, text: &[u8]) -> Result<Bytes, BadLine>
-    ensures { Reads result (spelled_data_of text.now) }
+    ensures { Reads result (data_of text.now) }
 {
     if text == b"-".as_slice() {
         return Ok(Sequence::new(alloc));
@@ -57,7 +57,7 @@ fn part_length(part: &[u8]) -> Option<u64>
 }
 
 // A byte and how often it stands.
-#[tactic(auto, unfolding(jv_model::specs::ScriptGrammar::repeated_of))]
+#[tactic(auto, unfolding(jv_model::specs::Grammar::repeated_of))]
 fn repeated(part: &[u8]) -> Option<(u8, u64)>
     ensures { option_map (λ r. Repeated (record { byte = r.0; count = r.1 })) result ≡ repeated_of part.now }
 {

@@ -2,7 +2,7 @@
 ghost use Rattle.std.specs.Prelude.{◌≡◌, ◌&&◌, ◌++◌, true, IsSome, IfOk, OnOk, is_some};
 ghost use Rattle.std.specs.Option.{option_copied};
 ghost use Rattle.std.specs.List.{list_all, flat_map};
-ghost use Rattle.jv_model.specs.ScriptGrammar.{is_plain, is_escape, escape_bytes, parted, unescaped, spelled_path_of, target_of};
+ghost use Rattle.jv_model.specs.Grammar.{is_plain, is_escape, escape_bytes, parted, unescaped, path_of, target_of};
 ghost use Rattle.jv_script.specs.Reading.{parts_after, Reads, first_in, first_of};
 
 use crate::bad_line::BadLine;
@@ -13,7 +13,7 @@ use std::alloc::{AllocError, Global};
 
 /// A path as its bytes.
 pub(crate) fn path(alloc: Global, text: &[u8]) -> Result<Path, BadLine>
-    ensures { Reads result (spelled_path_of text.now) }
+    ensures { Reads result (path_of text.now) }
 {
     if !is_path(text) {
         return Err(BadLine::Off);
@@ -33,7 +33,7 @@ pub(crate) fn target(alloc: Global, text: &[u8]) -> Result<Bytes, BadLine>
 
 /// Whether a text is a path.
 pub(crate) fn is_path(text: &[u8]) -> bool
-    ensures { result ≡ is_some (spelled_path_of text.now) }
+    ensures { result ≡ is_some (path_of text.now) }
 {
     match first_byte(text) {
         Some(byte) => byte == b'/',

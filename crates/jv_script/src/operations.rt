@@ -1,8 +1,8 @@
 //! Operations, read from their words.
 ghost use Rattle.std.specs.Prelude.{◌≡◌, bytes_eq};
 ghost use Rattle.std.specs.Option.{option_copied};
-ghost use Rattle.jv_model.specs.Grammar.{number_of};
-ghost use Rattle.jv_model.specs.ScriptGrammar.{provided, script_operation_of, operation_of_none, operation_of_one, operation_of_path, operation_of_two, operation_of_three, symlink_of, two_paths_of, path_and_mode_of, truncate_of, utimes_of, compact_of, script_read_of, script_write_of, chown_of, how_of, rename_of, copy_of};
+ghost use Rattle.jv_model.specs.Spelling.{number_of};
+ghost use Rattle.jv_model.specs.Grammar.{provided, operation_of, operation_of_none, operation_of_one, operation_of_path, operation_of_two, operation_of_three, symlink_of, two_paths_of, path_and_mode_of, truncate_of, utimes_of, compact_of, read_of, write_of, chown_of, how_of, rename_of, copy_of};
 ghost use Rattle.jv_script.specs.Reading.{Reads, parts_after};
 
 use crate::bad_line::BadLine;
@@ -14,9 +14,9 @@ use jv_model::{How, LAST_MOMENT, Op, Path};
 use std::alloc::Global;
 
 /// The operation of a name and of the words that follow it.
-#[tactic(auto, unfolding(jv_model::specs::ScriptGrammar::script_operation_of))]
+#[tactic(auto, unfolding(jv_model::specs::Grammar::operation_of))]
 pub(crate) fn operation(alloc: Global, name: &[u8], words: Option<&[u8]>) -> Result<Op, BadLine>
-    ensures { Reads result (script_operation_of name.now (parts_after 32 (option_copied words.entry))) }
+    ensures { Reads result (operation_of name.now (parts_after 32 (option_copied words.entry))) }
 {
     let Some((first, rest)) = next_word(words) else {
         return operation_of_none(name).ok_or(BadLine::Off);
@@ -39,7 +39,7 @@ pub(crate) fn operation(alloc: Global, name: &[u8], words: Option<&[u8]>) -> Res
     copy(first, second, third, fourth, fifth).ok_or(BadLine::Off)
 }
 
-#[tactic(auto, unfolding(jv_model::specs::ScriptGrammar::operation_of_none))]
+#[tactic(auto, unfolding(jv_model::specs::Grammar::operation_of_none))]
 fn operation_of_none(name: &[u8]) -> Option<Op>
     ensures { result ≡ operation_of_none name.now }
 {
@@ -70,7 +70,7 @@ fn operation_of_none(name: &[u8]) -> Option<Op>
     None
 }
 
-#[tactic(auto, unfolding(jv_model::specs::ScriptGrammar::operation_of_one))]
+#[tactic(auto, unfolding(jv_model::specs::Grammar::operation_of_one))]
 fn operation_of_one(alloc: Global, name: &[u8], word: &[u8]) -> Result<Op, BadLine>
     ensures { Reads result (operation_of_one name.now word.now) }
 {
@@ -110,7 +110,7 @@ fn handle(word: &[u8]) -> Result<u64, BadLine>
     number(word).ok_or(BadLine::Off)
 }
 
-#[tactic(auto, unfolding(jv_model::specs::ScriptGrammar::operation_of_path))]
+#[tactic(auto, unfolding(jv_model::specs::Grammar::operation_of_path))]
 fn operation_of_path(alloc: Global, name: &[u8], word: &[u8]) -> Result<Op, BadLine>
     ensures { Reads result (operation_of_path name.now word.now) }
 {
@@ -149,7 +149,7 @@ fn operation_of_path(alloc: Global, name: &[u8], word: &[u8]) -> Result<Op, BadL
     Err(BadLine::Off)
 }
 
-#[tactic(auto, unfolding(jv_model::specs::ScriptGrammar::operation_of_two))]
+#[tactic(auto, unfolding(jv_model::specs::Grammar::operation_of_two))]
 fn operation_of_two(alloc: Global, name: &[u8], first: &[u8], second: &[u8]) -> Result<Op, BadLine>
     ensures { Reads result (operation_of_two name.now first.now second.now) }
 {
@@ -189,7 +189,7 @@ fn operation_of_two(alloc: Global, name: &[u8], first: &[u8], second: &[u8]) -> 
     Err(BadLine::Off)
 }
 
-#[tactic(auto, unfolding(jv_model::specs::ScriptGrammar::path_and_mode_of))]
+#[tactic(auto, unfolding(jv_model::specs::Grammar::path_and_mode_of))]
 fn path_and_mode(alloc: Global, first: &[u8], second: &[u8]) -> Result<(Path, u16), BadLine>
     ensures { Reads result (path_and_mode_of first.now second.now) }
 {
@@ -199,7 +199,7 @@ fn path_and_mode(alloc: Global, first: &[u8], second: &[u8]) -> Result<(Path, u1
 }
 
 // Both are looked at before there is memory for the first.
-#[tactic(auto, unfolding(jv_model::specs::ScriptGrammar::two_paths_of))]
+#[tactic(auto, unfolding(jv_model::specs::Grammar::two_paths_of))]
 fn two_paths(alloc: Global, first: &[u8], second: &[u8]) -> Result<(Path, Path), BadLine>
     ensures { Reads result (two_paths_of first.now second.now) }
 {
@@ -211,7 +211,7 @@ fn two_paths(alloc: Global, first: &[u8], second: &[u8]) -> Result<(Path, Path),
     Ok((path, to))
 }
 
-#[tactic(auto, unfolding(jv_model::specs::ScriptGrammar::symlink_of))]
+#[tactic(auto, unfolding(jv_model::specs::Grammar::symlink_of))]
 fn symlink(alloc: Global, first: &[u8], second: &[u8]) -> Result<Op, BadLine>
     ensures { Reads result (symlink_of first.now second.now) }
 {
@@ -223,7 +223,7 @@ fn symlink(alloc: Global, first: &[u8], second: &[u8]) -> Result<Op, BadLine>
     Ok(Op::Symlink { target, path })
 }
 
-#[tactic(auto, unfolding(jv_model::specs::ScriptGrammar::truncate_of))]
+#[tactic(auto, unfolding(jv_model::specs::Grammar::truncate_of))]
 fn truncate(first: &[u8], second: &[u8]) -> Option<Op>
     ensures { result ≡ truncate_of first.now second.now }
 {
@@ -232,7 +232,7 @@ fn truncate(first: &[u8], second: &[u8]) -> Option<Op>
     Some(Op::Truncate { handle, len })
 }
 
-#[tactic(auto, unfolding(jv_model::specs::ScriptGrammar::utimes_of))]
+#[tactic(auto, unfolding(jv_model::specs::Grammar::utimes_of))]
 fn utimes(alloc: Global, first: &[u8], second: &[u8]) -> Result<Op, BadLine>
     ensures { Reads result (utimes_of first.now second.now) }
 {
@@ -241,7 +241,7 @@ fn utimes(alloc: Global, first: &[u8], second: &[u8]) -> Result<Op, BadLine>
     Ok(Op::Utimes { path, mtime })
 }
 
-#[tactic(auto, unfolding(jv_model::specs::ScriptGrammar::compact_of))]
+#[tactic(auto, unfolding(jv_model::specs::Grammar::compact_of))]
 fn compact(alloc: Global, first: &[u8], second: &[u8]) -> Result<Op, BadLine>
     ensures { Reads result (compact_of first.now second.now) }
 {
@@ -250,7 +250,7 @@ fn compact(alloc: Global, first: &[u8], second: &[u8]) -> Result<Op, BadLine>
     Ok(Op::Compact { path, window })
 }
 
-#[tactic(auto, unfolding(jv_model::specs::ScriptGrammar::operation_of_three))]
+#[tactic(auto, unfolding(jv_model::specs::Grammar::operation_of_three))]
 fn operation_of_three(
     alloc: Global,
     name: &[u8],
@@ -275,9 +275,9 @@ fn operation_of_three(
     Err(BadLine::Off)
 }
 
-#[tactic(auto, unfolding(jv_model::specs::ScriptGrammar::script_read_of))]
+#[tactic(auto, unfolding(jv_model::specs::Grammar::read_of))]
 fn read(first: &[u8], second: &[u8], third: &[u8]) -> Option<Op>
-    ensures { result ≡ script_read_of first.now second.now third.now }
+    ensures { result ≡ read_of first.now second.now third.now }
 {
     let handle = number(first)?;
     let offset = number(second)?;
@@ -289,9 +289,9 @@ fn read(first: &[u8], second: &[u8], third: &[u8]) -> Option<Op>
     })
 }
 
-#[tactic(auto, unfolding(jv_model::specs::ScriptGrammar::script_write_of))]
+#[tactic(auto, unfolding(jv_model::specs::Grammar::write_of))]
 fn write(alloc: Global, first: &[u8], second: &[u8], third: &[u8]) -> Result<Op, BadLine>
-    ensures { Reads result (script_write_of first.now second.now third.now) }
+    ensures { Reads result (write_of first.now second.now third.now) }
 {
     let handle = number(first).ok_or(BadLine::Off)?;
     let offset = number(second).ok_or(BadLine::Off)?;
@@ -303,7 +303,7 @@ fn write(alloc: Global, first: &[u8], second: &[u8], third: &[u8]) -> Result<Op,
     })
 }
 
-#[tactic(auto, unfolding(jv_model::specs::ScriptGrammar::chown_of))]
+#[tactic(auto, unfolding(jv_model::specs::Grammar::chown_of))]
 fn chown(alloc: Global, first: &[u8], second: &[u8], third: &[u8]) -> Result<Op, BadLine>
     ensures { Reads result (chown_of first.now second.now third.now) }
 {
@@ -313,7 +313,7 @@ fn chown(alloc: Global, first: &[u8], second: &[u8], third: &[u8]) -> Result<Op,
     Ok(Op::Chown { path, uid, gid })
 }
 
-#[tactic(auto, unfolding(jv_model::specs::ScriptGrammar::rename_of))]
+#[tactic(auto, unfolding(jv_model::specs::Grammar::rename_of))]
 fn rename(alloc: Global, first: &[u8], second: &[u8], third: &[u8]) -> Result<Op, BadLine>
     ensures { Reads result (rename_of first.now second.now third.now) }
 {
@@ -322,7 +322,7 @@ fn rename(alloc: Global, first: &[u8], second: &[u8], third: &[u8]) -> Result<Op
     Ok(Op::Rename { path, to, how })
 }
 
-#[tactic(auto, unfolding(jv_model::specs::ScriptGrammar::how_of))]
+#[tactic(auto, unfolding(jv_model::specs::Grammar::how_of))]
 fn how(word: &[u8]) -> Option<How>
     ensures { result ≡ how_of word.now }
 {
@@ -335,7 +335,7 @@ fn how(word: &[u8]) -> Option<How>
     None
 }
 
-#[tactic(auto, unfolding(jv_model::specs::ScriptGrammar::copy_of))]
+#[tactic(auto, unfolding(jv_model::specs::Grammar::copy_of))]
 fn copy(first: &[u8], second: &[u8], third: &[u8], fourth: &[u8], fifth: &[u8]) -> Option<Op>
     ensures { result ≡ copy_of first.now second.now third.now fourth.now fifth.now }
 {

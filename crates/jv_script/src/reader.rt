@@ -1,8 +1,8 @@
 //! Lines of a script, read by the grammar.
 ghost use Rattle.std.specs.Prelude.{◌≡◌, ◌↔◌, None, Err, IfOk, Some, option_map};
 ghost use Rattle.std.specs.Option.{option_copied};
-ghost use Rattle.jv_model.specs.Grammar.{is_silent, words, client_of};
-ghost use Rattle.jv_model.specs.ScriptGrammar.{script_line_of, script_command_of, client_line_of, begin_of, where_last, seconds_of};
+ghost use Rattle.jv_model.specs.Spelling.{is_silent, words, client_of};
+ghost use Rattle.jv_model.specs.Grammar.{line_of, command_of, client_line_of, begin_of, where_last, seconds_of};
 ghost use Rattle.jv_model.specs.declared.op.Line.TheVariants.{Drain, Tick};
 ghost use Rattle.jv_script.specs.Reading.{Reads, parts_after};
 
@@ -14,11 +14,11 @@ use jv_model::{ClientId, Line};
 use std::alloc::Global;
 
 /// Reads a line, given without its line feed.
-#[tactic(auto, unfolding(jv_model::specs::ScriptGrammar::script_line_of))]
+#[tactic(auto, unfolding(jv_model::specs::Grammar::line_of))]
 pub fn read_line(alloc: Global, text: &[u8]) -> Result<Line, BadLine>
-    ensures read { IfOk result (λ line. script_line_of text.now ≡ Some line) }
+    ensures read { IfOk result (λ line. line_of text.now ≡ Some line) }
     // A text that is no line is told as such, also where memory is wanting.
-    ensures off { (result ≡ Err BadLine.Off) ↔ (script_line_of text.now ≡ None) }
+    ensures off { (result ≡ Err BadLine.Off) ↔ (line_of text.now ≡ None) }
 {
     if is_silent(text) {
         return Ok(Line::Empty);
@@ -35,9 +35,9 @@ fn is_silent(text: &[u8]) -> bool
     }
 }
 
-#[tactic(auto, unfolding(jv_model::specs::ScriptGrammar::script_command_of))]
+#[tactic(auto, unfolding(jv_model::specs::Grammar::command_of))]
 fn command(alloc: Global, text: &[u8]) -> Result<Line, BadLine>
-    ensures { Reads result (script_command_of (words text.now)) }
+    ensures { Reads result (command_of (words text.now)) }
 {
     let (first, rest) = cut(text, b' ');
     let Some((second, rest)) = next_word(rest) else {
@@ -77,7 +77,7 @@ fn where_last(rest: Option<&[u8]>, line: Line) -> Option<Line>
 }
 
 // What follows a client's letter.
-#[tactic(auto, unfolding(jv_model::specs::ScriptGrammar::client_line_of))]
+#[tactic(auto, unfolding(jv_model::specs::Grammar::client_line_of))]
 fn client_line(
     alloc: Global,
     client: ClientId,
@@ -103,7 +103,7 @@ fn client_line(
 }
 
 // An operation that is submitted alone.
-#[tactic(auto, unfolding(jv_model::specs::ScriptGrammar::begin_of))]
+#[tactic(auto, unfolding(jv_model::specs::Grammar::begin_of))]
 fn begin(alloc: Global, client: ClientId, rest: Option<&[u8]>) -> Result<Line, BadLine>
     ensures { Reads result (begin_of client (parts_after 32 (option_copied rest.entry))) }
 {

@@ -1,7 +1,7 @@
 //! Parts of a text between the places of one byte.
 ghost use Rattle.std.specs.Prelude.{◌≡◌, [], ◌∷◌, MatchOption};
 ghost use Rattle.std.specs.Option.{option_copied};
-ghost use Rattle.jv_model.specs.ScriptGrammar.{parted};
+ghost use Rattle.jv_model.specs.Grammar.{parted};
 ghost use Rattle.jv_script.specs.Reading.{parts_after};
 
 /// The part before the first separator, and the text after that separator where there is one.

@@ -20,7 +20,5 @@ pub mod FileEnds
 pub mod FlushLaws
 pub mod BuiltLaws
 pub mod AnswerLaws
-pub mod Digits
 pub mod HexText
 pub mod Runs
-pub mod Words

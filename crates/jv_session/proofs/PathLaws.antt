@@ -7,7 +7,7 @@ use Rattle.jv_model.specs.declared.fault.Fault.{Fault}
 use Rattle.jv_model.specs.declared.fault.Fault.TheVariants.{NotFound, NotADirectory, Invalid, NameTooLong}
 use Rattle.jv_model.specs.Attempt.{◌>>=◌, require, some_or}
 use Rattle.jv_model.specs.FiniteMap.{get}
-use Rattle.jv_model.specs.Grammar.{is_letter_or_digit, is_name, is_root_path}
+use Rattle.jv_model.specs.Spelling.{is_letter_or_digit, is_name, is_root_path}
 use Rattle.jv_model.specs.Tree.{Tree, EntryKey, parent_at}
 use Rattle.jv_session.proofs.AttemptLaws.{require-true, some_or-some, ends}
 use Rattle.jv_model.specs.Walk.{before_part, is_empty, parts_between, names_of, is_text, is_dot, is_dot_dot, is_trash, named_from, stepped, walked, inode_of, all_but_last, last_name, entry_of}

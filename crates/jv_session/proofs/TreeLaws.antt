@@ -10,7 +10,7 @@ use Rattle.jv_model.specs.declared.op.Reply.TheVariants.{FileOpened}
 use Rattle.jv_model.specs.declared.setting.Setting.{Setting}
 use Rattle.jv_model.specs.Attempt.{◌>>=◌, require, some_or}
 use Rattle.jv_model.specs.FiniteMap.{Map, number_key, get, insert}
-use Rattle.jv_model.specs.Grammar.{is_name, is_root_path}
+use Rattle.jv_model.specs.Spelling.{is_name, is_root_path}
 use Rattle.jv_model.specs.Pending.{PendingByte, end_of}
 use Rattle.jv_model.specs.Tree.{Tree, Node, File, Content, entry_key, new_node, paged, kind_space, node_space, node_count, fits, sum_fits, space_limit, inode_limit, full_count, trash_root, node_at, content_of, content_at, parent_of, parent_at, used_space, used_inodes}
 use Rattle.jv_model.specs.TreeAct.{Caller, Outcome, create, open_file, new_place, with_node, set_node, with_content, overwritten, committed, empty_content}

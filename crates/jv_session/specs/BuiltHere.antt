@@ -8,7 +8,7 @@ use Rattle.jv_model.specs.declared.op.Line.TheVariants.{Empty, Do}
 use Rattle.jv_model.specs.declared.op.Op.{Op}
 use Rattle.jv_model.specs.declared.op.Op.TheVariants.{Mount, Create, Open, Close, Read, Write}
 use Rattle.jv_model.specs.declared.setting.Setting.{Setting}
-use Rattle.jv_model.specs.Grammar.{is_root_path}
+use Rattle.jv_model.specs.Spelling.{is_root_path}
 use Rattle.jv_model.specs.Tree.{paged, sum_fits, space_limit, inode_limit, full_count}
 use Rattle.jv_model.specs.Pending.{end_of, window_size}
 use Rattle.jv_model.specs.Client.{first_refusal, is_mount, needs_no_mount, names_handle, handle_in, gives_handle, write_end, file_of, open_count}

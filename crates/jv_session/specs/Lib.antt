@@ -9,4 +9,3 @@ pub mod Progress
 pub mod Flushing
 pub mod FlushLoop
 pub mod Printing
-pub mod Reading

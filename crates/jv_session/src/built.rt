@@ -8,7 +8,7 @@ ghost use Rattle.jv_session.specs.Stored.{IsFile};
 ghost use Rattle.jv_session.specs.BuiltHere.{refusal_here, has_form, may_run, may_flush, may_answer, built_op, has_room, inode_or_zero};
 
 use crate::handles::{named, open_count};
-use crate::reader::is_root_path;
+use crate::root_paths::is_root_path;
 use crate::schedule::{PENDING_LIMIT, Schedule};
 use crate::volume::Volume;
 use jv_model::{Fault, Limits, Op, Setting, WINDOW};

@@ -7,7 +7,7 @@ mod handles;
 mod line_end;
 mod operations;
 mod printer;
-mod reader;
+mod root_paths;
 mod schedule;
 #[cfg(test)]
 mod tests;
@@ -15,5 +15,4 @@ mod volume;
 
 pub use line_end::LineEnd;
 pub use printer::print_reply;
-pub use reader::{BadLine, read_line};
 pub use schedule::Schedule;

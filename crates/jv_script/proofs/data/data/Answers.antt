@@ -1,6 +1,6 @@
 use Rattle.std.proofs.Common.{arith, rules, ◌∙◌, ◌≡◌, bytes_eq, codes, true, false}
 use Rattle.std.proofs.lemmas.Grind.{common_steps}
-use Rattle.jv_model.specs.ScriptGrammar.{parted}
+use Rattle.jv_model.specs.Grammar.{parted}
 use Rattle.jv_script.proofs.Parts.{no_bytes, some_bytes, parts_within, parts_not_within}
 use Rattle.jv_script.proofs.data.data.Goals as goal
 

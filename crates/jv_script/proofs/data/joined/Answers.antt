@@ -1,5 +1,5 @@
 use Rattle.std.proofs.Common.{ap, sym, ◌∙◌}
-use Rattle.jv_model.specs.ScriptGrammar.{parted}
+use Rattle.jv_model.specs.Grammar.{parted}
 use Rattle.jv_script.proofs.Parts.{joined_after, joined_bytes-after}
 use Rattle.jv_script.proofs.data.joined.Goals as goal
 

@@ -1,6 +1,6 @@
 use Rattle.std.proofs.Common.{◌≡◌, length}
 use Rattle.std.specs.Option.{option_copied}
-use Rattle.jv_model.specs.ScriptGrammar.{parted, all_parts_of}
+use Rattle.jv_model.specs.Grammar.{parted, all_parts_of}
 use Rattle.std.specs.Prelude.{IsSome}
 use Rattle.jv_script.specs.Reading.{parts_after, joined_bytes}
 use Rattle.jv_script.proofs.Parts.{joined_after}

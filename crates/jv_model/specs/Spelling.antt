@@ -1,0 +1,82 @@
+-- How the fields of a script's line are spelled: words, numbers, modes, digits and letters.
+use Rattle.std.specs.Prelude.{ℕ, ◌+◌, ◌-◌, ◌*◌, Bool, true, false, ◌&&◌, ◌||◌, not, ◌==◌, nat_lt, nat_le, if◌then◌else◌, List, [], ◌∷◌, length, Option, None, Some, option_and_then, fold}
+use Rattle.std.specs.List.{slice_split, list_all}
+
+-- the second step, if the first gave a value
+infixl 10 ◌>>=◌
+abbrev pub ◌>>=◌ : {A B : Type 0} → Option A → (A → Option B) → Option B
+o >>= f = option_and_then f o
+
+-- the words of a text, parted at each space: two spaces in a row part an empty word off
+abbrev pub words : List ℕ → List (List ℕ)
+words text = slice_split (λ c. c == 32) text
+
+-- the value, where it is at most the limit
+abbrev pub at_most : ℕ → ℕ → Option ℕ
+at_most limit n = (if nat_le n limit then Some n else None)
+
+-- the number that digits stand for in a base of at most ten
+abbrev pub value_of : ℕ → List ℕ → ℕ
+value_of base digits = fold (λ n digit. n * base + (digit - 48)) 0 digits
+
+abbrev pub is_decimal_digit : ℕ → Bool
+is_decimal_digit c = nat_le 48 c && nat_le c 57
+
+-- decimal digits, of which the first is no zero unless it stands alone
+abbrev pub is_numeral : List ℕ → Bool
+is_numeral [] = false
+is_numeral (digit ∷ []) = is_decimal_digit digit
+is_numeral (digit ∷ more ∷ digits) = not (digit == 48) && list_all is_decimal_digit (digit ∷ more ∷ digits)
+
+-- a number, at most the greatest of 64 bits
+unfoldable pub number_of : List ℕ → Option ℕ
+number_of text = (if is_numeral text then at_most 18446744073709551615 (value_of 10 text) else None)
+
+-- the length of a read
+unfoldable pub length_of : List ℕ → Option ℕ
+length_of text = do
+  n ← number_of text
+  at_most 8388608 n
+
+abbrev pub is_octal_digit : ℕ → Bool
+is_octal_digit c = nat_le 48 c && nat_le c 55
+
+-- a mode: four octal digits
+unfoldable pub mode_of : List ℕ → Option ℕ
+mode_of text = (if length text == 4 && list_all is_octal_digit text then Some (value_of 8 text) else None)
+
+abbrev pub is_letter_or_digit : ℕ → Bool
+is_letter_or_digit c = is_decimal_digit c || (nat_le 65 c && nat_le c 90) || (nat_le 97 c && nat_le c 122)
+
+-- the name of a file: 1 to 255 letters and digits
+abbrev pub is_name : List ℕ → Bool
+is_name name = nat_lt 0 (length name) && nat_le (length name) 255 && list_all is_letter_or_digit name
+
+-- whether a text is the path of a file in the root: a slash and a name
+unfoldable pub is_root_path : List ℕ → Bool
+is_root_path [] = false
+is_root_path (slash ∷ name) = (slash == 47) && is_name name
+
+-- hexadecimal digits of either case
+abbrev pub is_hex_digit : ℕ → Bool
+is_hex_digit c = is_decimal_digit c || (nat_le 65 c && nat_le c 70) || (nat_le 97 c && nat_le c 102)
+
+-- what a hexadecimal digit stands for
+abbrev pub hex_value : ℕ → ℕ
+hex_value c = (if nat_le c 57 then c - 48 else if nat_le c 70 then c - 55 else c - 87)
+
+-- the bytes of pairs of hexadecimal digits, the high one first
+abbrev pub bytes_of_digits : List ℕ → List ℕ
+bytes_of_digits [] = []
+bytes_of_digits (_ ∷ []) = []
+bytes_of_digits (high ∷ low ∷ digits) = (hex_value high * 16 + hex_value low) ∷ bytes_of_digits digits
+
+-- a client's letter, A to H
+unfoldable pub client_of : List ℕ → Option ℕ
+client_of (letter ∷ []) = (if nat_le 65 letter && nat_le letter 72 then Some (letter - 65) else None)
+client_of _ = None
+
+-- an empty text or a comment
+abbrev pub is_silent : List ℕ → Bool
+is_silent [] = true
+is_silent (first ∷ _) = first == 35

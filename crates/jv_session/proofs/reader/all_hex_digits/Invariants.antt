@@ -1,7 +1,0 @@
-use Rattle.std.proofs.Common.{◌≡◌, take}
-use Rattle.std.specs.List.{list_all}
-use Rattle.jv_model.specs.Grammar.{is_hex_digit}
-use Rattle.jv_session.proofs.reader.all_hex_digits.Given as goal
-
-abbrev pub invariant-loop-digit : goal.invariant-loop-digit
-invariant-loop-digit l = l.all ≡ list_all is_hex_digit (take l.digit-index l.digits)

@@ -1,6 +1,0 @@
-use Rattle.std.proofs.Common.{◌≡◌, ◌<◌, ◌^◌, take}
-use Rattle.jv_model.specs.Grammar.{value_of}
-use Rattle.jv_session.proofs.reader.number.Given as goal
-
-abbrev pub invariant-loop-digit : goal.invariant-loop-digit
-invariant-loop-digit l = record { value : l.number ≡ value_of 10 (take l.digit-index l.digits); small : l.number < 2 ^ 64 }
