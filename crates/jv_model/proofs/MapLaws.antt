@@ -1,10 +1,13 @@
 -- What a finite map answers after a change.
-use Rattle.std.proofs.Common.{◌≡◌, ℕ, ◌+◌, Bool, true, false, cond, T, ◌&&◌, List, [], ◌∷◌, Option, None, Some, refl, ap, ◌∙◌, arith}
+use Rattle.std.proofs.Common.{◌≡◌, ℕ, ◌+◌, Bool, true, false, cond, not, T, ◌&&◌, List, [], ◌∷◌, Option, None, Some, refl, sym, ap, ◌∙◌, arith}
+use mathlib.Core.HLevel.{Σ_prop_path}
+use lib.Dec.{T_prop}
 use Rattle.std.specs.declared.cmp.Ordering.{Ordering}
 use Rattle.std.specs.declared.cmp.Ordering.TheVariants.{Less, Equal, Greater}
 use Rattle.std.specs.Ordering.{eq_by_cmp, is_eq, is_lt}
-use Rattle.std.specs.FinMap.Entries.{put, find, below_all, is_sorted, find-put, same_entries, by_order}
-use Rattle.jv_model.specs.FiniteMap.{KeyOrder, Map, get, insert, sum_over, total_over}
+use Rattle.std.specs.Cmp.{alike_right, eq_by_cmp_equiv}
+use Rattle.std.specs.FinMap.Entries.{put, find, below_all, is_sorted, find-put, find-where_key, same_entries, by_order}
+use Rattle.jv_model.specs.FiniteMap.{KeyOrder, Map, empty_map, get, insert, remove, alter, map_of, sum_over, total_over}
 
 -- what an entry adds to a sum
 abbrev pub share : {K X : Type 0} → (K → X → ℕ) → K → Option X → ℕ
@@ -24,14 +27,48 @@ less_is Less p = refl
 less_is Equal p = absurd p
 less_is Greater p = absurd p
 
+-- a choice by the turned test
+turned : {A : Type 0} (b : Bool) (x y : A) → cond (not b) x y ≡ cond b y x
+turned true x y = refl
+turned false x y = refl
+
 module _ {K X : Type 0} {order : KeyOrder K} where
   pub get-insert : (m : Map order X) (k : K) (v : X) (q : K) → get (insert m k v) q ≡ cond (eq_by_cmp order.cmp q k) (Some v) (get m q)
   unfolding get insert
   get-insert m k v q = find-put order.cmp order.total q k v m.list
 
+  pub get-remove : (m : Map order X) (k q : K) → get (remove m k) q ≡ cond (eq_by_cmp order.cmp q k) None (get m q)
+  unfolding get remove
+  get-remove m k q =
+      find-where_key order.cmp (λ x. not (eq_by_cmp order.cmp k x)) q (λ x t. ap (λ r. not (is_eq r)) (sym (alike_right order.total q x k t))) m.list
+      ∙ turned (eq_by_cmp order.cmp k q) _ _ ∙ ap (λ b. cond b None (get m q)) ((eq_by_cmp_equiv order.total).symm k q)
+
+  pub get-alter : (m : Map order X) (k : K) (v : Option X) (q : K) → get (alter m k v) q ≡ cond (eq_by_cmp order.cmp q k) v (get m q)
+  get-alter m k None q = get-remove m k q
+  get-alter m k (Some v) q = get-insert m k v q
+
   pub same_map : (m n : Map order X) → ((q : K) → get m q ≡ get n q) → m.list ≡ n.list
   unfolding get
   same_map m n h = same_entries order.cmp order.total order.same m.list n.list m.sorted n.sorted h
+
+  -- maps with the same entries are the same
+  pub maps_of_entries : (m n : Map order X) → m.list ≡ n.list → m ≡ n
+  maps_of_entries m n e =
+      let pairs : ◌≡◌ {A = (es : List (K × X)) × T (is_sorted order.cmp es)} (m.list, m.sorted) (n.list, n.sorted) = Σ_prop_path (λ es. T_prop _) e in
+      λ i. record { list = (pairs i).0; sorted = (pairs i).1 }
+
+  -- maps that answer alike are the same
+  pub same_maps : (m n : Map order X) → ((q : K) → get m q ≡ get n q) → m ≡ n
+  same_maps m n h = maps_of_entries m n (same_map m n h)
+
+module _ {K X : Type 0} (order : KeyOrder K) where
+  pub get-empty_map : (q : K) → get (empty_map {X = X} {order = order}) q ≡ None
+  unfolding get
+  get-empty_map q = refl
+
+  pub get-map_of : (es : List (K × X)) (q : K) → get (map_of {order = order} es) q ≡ find order.cmp q es
+  get-map_of [] q = get-empty_map q
+  get-map_of (e ∷ es) q = get-insert (map_of es) e.0 e.1 q ∙ ap (cond (eq_by_cmp order.cmp q e.0) (Some e.1)) (get-map_of es q)
 
 module _ {K X : Type 0} (order : KeyOrder K) (f : K → X → ℕ) where
   find-below : (k x : K) (es : List (K × X)) → order.cmp k x ≡ Less → T (below_all order.cmp x es) → find order.cmp k es ≡ None

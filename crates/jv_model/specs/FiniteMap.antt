@@ -1,13 +1,13 @@
 -- Finite maps that compute in closed proofs: a list of entries whose keys strictly rise.
-use Rattle.std.specs.Prelude.{◌≡◌, ℕ, ◌+◌, List, [], ◌∷◌, Option}
+use Rattle.std.specs.Prelude.{◌≡◌, ℕ, ◌+◌, not, List, [], ◌∷◌, Option, None, Some}
 use Rattle.std.proofs.Common.{T}
 use Rattle.std.specs.declared.cmp.Ordering.{Ordering}
 use Rattle.std.specs.declared.cmp.Ordering.TheVariants.{Equal}
-use Rattle.std.specs.Ordering.{nat_cmp}
+use Rattle.std.specs.Ordering.{nat_cmp, eq_by_cmp}
 use Rattle.std.specs.Cmp.{IsTotalOrder, nat_cmp_total}
 use Rattle.std.specs.Cmp.Lexicographic.{slice_cmp, nat_list_cmp_total}
 use Rattle.std.specs.FinMap.{nat_cmp-IsAntisymmetric, slice_cmp-IsAntisymmetric}
-use Rattle.std.specs.FinMap.Entries.{put, find, is_sorted, is_sorted-put}
+use Rattle.std.specs.FinMap.Entries.{put, find, where_key, is_sorted, is_sorted-put, is_sorted-where_key}
 
 -- an order of keys, in which only equal keys tie
 pub record KeyOrder (K : Type 0) : Type 0 where
@@ -42,6 +42,23 @@ module _ {K X : Type 0} {order : KeyOrder K} where
   -- with this value at the key
   unfoldable pub insert : Map order X → K → X → Map order X
   insert m k v = record { list = put order.cmp k v m.list; sorted = is_sorted-put order.cmp order.total k v m.list m.sorted }
+
+  -- without an entry at the key
+  unfoldable pub remove : Map order X → K → Map order X
+  remove m k = record {
+    list = where_key order.cmp (λ q. not (eq_by_cmp order.cmp k q)) m.list;
+    sorted = is_sorted-where_key order.cmp (λ q. not (eq_by_cmp order.cmp k q)) m.list m.sorted;
+  }
+
+  -- with this value at the key, or without an entry there
+  abbrev pub alter : Map order X → K → Option X → Map order X
+  alter m k None = remove m k
+  alter m k (Some v) = insert m k v
+
+  -- the entries as a map, where the first of one key stands
+  abbrev pub map_of : List (K × X) → Map order X
+  map_of [] = empty_map
+  map_of (e ∷ es) = insert (map_of es) e.0 e.1
 
   -- the values added up by a function of key and value
   unfoldable pub sum_over : (K → X → ℕ) → Map order X → ℕ

@@ -2,6 +2,7 @@
 pub mod JournalValue
 pub mod Attempt
 pub mod FiniteMap
+pub mod RowKeys
 pub mod Pending
 pub mod Grammar
 pub mod Printed
@@ -14,3 +15,7 @@ pub mod Legal
 pub mod Built
 pub mod Looks
 pub mod Laws
+pub mod RowFields
+pub mod RowGrammar
+pub mod RowPlaces
+pub mod RowFaults

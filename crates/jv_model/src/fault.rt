@@ -2,6 +2,7 @@
 use crate::bytes::Bytes;
 use crate::row::RowKey;
 use crate::slice::List;
+use std::alloc::AllocError;
 use thiserror::Error;
 
 /// A device that an operation uses.
@@ -96,6 +97,31 @@ pub enum RowFault {
     Failed,
     /// Want of memory.
     Memory,
+}
+
+impl From<AllocError> for RowFault {
+    ghost use Rattle.std.specs.Prelude.{◌≡◌};
+    ghost use Rattle.jv_model.specs.declared.fault.RowFault.TheVariants.{Memory};
+
+    ghost from_gives = { λ _ fault. fault ≡ Memory };
+
+    fn from(_: AllocError) -> RowFault {
+        RowFault::Memory
+    }
+}
+
+impl From<Down> for RowFault {
+    ghost use Rattle.std.specs.Prelude.{◌≡◌};
+    ghost use Rattle.jv_model.specs.RowFaults.{row_fault};
+
+    ghost from_gives = { λ down fault. fault ≡ row_fault down };
+
+    fn from(down: Down) -> RowFault {
+        match down {
+            Down::Failed => RowFault::Failed,
+            Down::Memory => RowFault::Memory,
+        }
+    }
 }
 
 /// Why a transaction didn't commit.

@@ -1,15 +1,31 @@
 //! The rows of a volume's metadata, a type for each table. Their fields have the widths of the stored numbers.
-use crate::bytes::{Bytes, Name};
+ghost use Rattle.std.specs.Prelude.{◌≡◌, IfOk};
+
+use crate::bytes::{Bytes, Name, copied};
 use crate::sequence::Sequence;
 use crate::setting::Setting;
 use crate::slice::List;
+use std::alloc::{AllocError, Global};
 
-/// The key of a row: its table and two parts, of which some tables use one.
-#[derive(Debug, Drop, PartialEq, Eq)]
+/// The key of a row: its table and two parts, of which some tables use one. Keys go by table, number and bytes.
+#[derive(Debug, Drop, PartialEq, Eq, PartialOrd, Ord)]
 pub struct RowKey {
     pub tab: u8,
     pub a: u64,
     pub b: Bytes,
+}
+
+impl RowKey {
+    /// A copy of the key.
+    pub fn copied(&self, alloc: Global) -> Result<RowKey, AllocError>
+        ensures { IfOk result (λ copy. copy ≡ self.now) }
+    {
+        Ok(RowKey {
+            tab: self.tab,
+            a: self.a,
+            b: copied(alloc, self.b.as_slice())?,
+        })
+    }
 }
 
 /// Rows with their bytes.
@@ -159,3 +175,32 @@ pub enum Finding {
 }
 
 pub type Findings = Sequence<Finding>;
+
+#[cfg(test)]
+mod tests {
+    use super::*;
+    use std::test::Fail;
+
+    fn key(alloc: Global, tab: u8, a: u64, b: &[u8]) -> Result<RowKey, AllocError> {
+        let b = copied(alloc, b)?;
+        Ok(RowKey { tab, a, b })
+    }
+
+    #[test]
+    fn keys_go_by_table_number_and_bytes(rt: HostRuntime) -> Result<(), Fail> {
+        let alloc = rt.alloc();
+        for (first, second) in [
+            ((1u8, 9u64, b"z".as_slice()), (2u8, 1u64, b"a".as_slice())),
+            ((3, 1, b"b"), (3, 2, b"a")),
+            ((3, 1, b"a"), (3, 1, b"a\0")),
+            ((3, 1, b""), (3, 1, b"a")),
+            ((3, 1, b"ab"), (3, 1, b"b")),
+        ] {
+            let lower = key(alloc, first.0, first.1, first.2)?;
+            let upper = key(alloc, second.0, second.1, second.2)?;
+            assert!(rt; lower < upper);
+            assert_eq!(rt; lower.copied(alloc)?, lower);
+        }
+        Ok(())
+    }
+}

@@ -3,3 +3,4 @@ pub mod Causes
 pub mod Calls
 pub mod Told
 pub mod InMemory
+pub mod Rows

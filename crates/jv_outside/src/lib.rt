@@ -1,8 +1,10 @@
 //! The devices that a run reads, writes and asks: their traits, forms in memory, and adapters over std.
 #![tactic(auto)]
 
+mod batch;
 mod calls;
 mod clock;
+mod keeper;
 mod law;
 mod mem_clock;
 mod mem_sink;
@@ -11,8 +13,10 @@ mod sink;
 mod source;
 mod standard;
 
+pub use batch::{Batch, Change};
 pub use calls::{Fails, NumberList};
 pub use clock::Clock;
+pub use keeper::Keeper;
 pub use law::still_count_is_ok;
 pub use mem_clock::{MemClock, NeverClock};
 pub use mem_sink::{MemSink, NeverSink};

@@ -1,0 +1,7 @@
+use Rattle.std.proofs.Common.{arith}
+use Rattle.jv_rows.proofs.ExactRows.{edge_exact}
+use Rattle.jv_rows.proofs.Sound.{sound}
+use Rattle.jv_rows.proofs.grammar.EdgeGrammar.parse.Goals as goal
+
+pub returns-clause-sound : goal.returns-clause-sound
+returns-clause-sound c = sound edge_exact c.args.bytes.now c.parse_edge.result (λ i. omega (arith, c.type_inv.bytes i)) c.parse_edge.ensures

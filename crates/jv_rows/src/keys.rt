@@ -1,0 +1,116 @@
+//! Where rows stand.
+ghost use Rattle.std.specs.Prelude.{◌≡◌, IfOk};
+ghost use Rattle.jv_model.specs.RowPlaces.{setting_key, counters_key, node_key, edge_key, list_key, slice_key, session_key, sustained_key, dropped_key, dead_key};
+
+use jv_model::{Name, RowKey, Sequence, copied};
+use std::alloc::{AllocError, Global};
+
+/// Where the setting stands.
+pub fn key_of_setting(alloc: Global) -> RowKey
+    ensures { result ≡ setting_key }
+{
+    RowKey {
+        tab: 0,
+        a: 0,
+        b: Sequence::new(alloc),
+    }
+}
+
+/// Where the running numbers stand.
+pub fn key_of_counters(alloc: Global) -> RowKey
+    ensures { result ≡ counters_key }
+{
+    RowKey {
+        tab: 1,
+        a: 0,
+        b: Sequence::new(alloc),
+    }
+}
+
+/// Where a node stands.
+pub fn key_of_node(alloc: Global, inode: u64) -> RowKey
+    ensures { result ≡ node_key inode }
+{
+    RowKey {
+        tab: 2,
+        a: inode,
+        b: Sequence::new(alloc),
+    }
+}
+
+/// Where an entry of a directory stands.
+pub fn key_of_edge(alloc: Global, dir: u64, name: &Name) -> Result<RowKey, AllocError>
+    ensures { IfOk result (λ key. key ≡ edge_key dir name.now) }
+{
+    Ok(RowKey {
+        tab: 3,
+        a: dir,
+        b: copied(alloc, name.as_slice())?,
+    })
+}
+
+/// Where the records of a window stand.
+pub fn key_of_list(alloc: Global, inode: u64, window: u32) -> Result<RowKey, AllocError>
+    ensures { IfOk result (λ key. key ≡ list_key inode window) }
+{
+    Ok(RowKey {
+        tab: 4,
+        a: inode,
+        b: copied(alloc, &window.to_be_bytes())?,
+    })
+}
+
+/// Where a slice stands.
+pub fn key_of_slice(alloc: Global, id: u64) -> RowKey
+    ensures { result ≡ slice_key id }
+{
+    RowKey {
+        tab: 5,
+        a: id,
+        b: Sequence::new(alloc),
+    }
+}
+
+/// Where a session stands.
+pub fn key_of_session(alloc: Global, sid: u64) -> RowKey
+    ensures { result ≡ session_key sid }
+{
+    RowKey {
+        tab: 6,
+        a: sid,
+        b: Sequence::new(alloc),
+    }
+}
+
+/// Where a file stands that a session keeps.
+pub fn key_of_sustained(alloc: Global, sid: u64, inode: u64) -> Result<RowKey, AllocError>
+    ensures { IfOk result (λ key. key ≡ sustained_key sid inode) }
+{
+    Ok(RowKey {
+        tab: 7,
+        a: sid,
+        b: copied(alloc, &inode.to_be_bytes())?,
+    })
+}
+
+/// Where a dropped file stands.
+pub fn key_of_dropped(alloc: Global, inode: u64) -> RowKey
+    ensures { result ≡ dropped_key inode }
+{
+    RowKey {
+        tab: 8,
+        a: inode,
+        b: Sequence::new(alloc),
+    }
+}
+
+/// Where a dead slice stands.
+pub fn key_of_dead(alloc: Global, id: u64) -> RowKey
+    ensures { result ≡ dead_key id }
+{
+    RowKey {
+        tab: 9,
+        a: id,
+        b: Sequence::new(alloc),
+    }
+}

@@ -1,0 +1,216 @@
+//! What the bytes of a row spell.
+ghost use Rattle.std.specs.Prelude.{◌≡◌, length};
+ghost use Rattle.jv_model.specs.RowGrammar.{setting_of, counters_of, node_of, edge_of, record_at, records_at, list_of, slice_of, session_of, sustained_of, dropped_of, dead_of};
+ghost use Rattle.jv_model.specs.RowFields.{whole};
+ghost use Rattle.jv_rows.specs.Reads.{Takes, Gives};
+
+use crate::allowed::{
+    allows_counters, allows_edge, allows_list, allows_node, allows_session, allows_setting,
+    allows_slice,
+};
+use crate::fields::{take_byte, take_front, take_half, take_long, take_word};
+use crate::misread::Misread;
+use jv_model::{
+    Counters, Dead, Dropped, Edge, List, Node, Rec, Sequence, Session, Setting, SliceRow, copied,
+};
+use std::alloc::Global;
+
+/// The value, where it is allowed and no bytes are left over.
+fn settled<T: Drop>(value: T, allowed: bool, rest: &[u8]) -> Result<T, Misread>
+    ensures { Gives result (whole (λ _. allowed) value rest.now) }
+{
+    if !rest.is_empty() || !allowed {
+        return Err(Misread::Off);
+    }
+    Ok(value)
+}
+
+/// The setting that the bytes spell, of whatever version.
+#[tactic(auto, unfolding(jv_model::specs::RowGrammar::setting_of))]
+pub fn parse_setting(alloc: Global, bytes: &[u8]) -> Result<Setting, Misread>
+    ensures { Gives result (setting_of bytes.now) }
+{
+    let (version, rest) = take_word(bytes)?;
+    let (block, rest) = take_word(rest)?;
+    let (trash_days, rest) = take_word(rest)?;
+    let (capacity, rest) = take_long(rest)?;
+    let (inodes, rest) = take_long(rest)?;
+    let (hash, rest) = take_byte(rest)?;
+    let (name_length, rest) = take_byte(rest)?;
+    let (name, rest) = take_front(name_length as usize, rest)?;
+    let (bucket_length, rest) = take_half(rest)?;
+    let (bucket, rest) = take_front(bucket_length as usize, rest)?;
+    let setting = Setting {
+        version,
+        block,
+        trash_days,
+        capacity,
+        inodes,
+        hash,
+        name: copied(alloc, name)?,
+        bucket: copied(alloc, bucket)?,
+    };
+    let allowed = allows_setting(&setting);
+    settled(setting, allowed, rest)
+}
+
+/// The running numbers that the bytes spell.
+#[tactic(auto, unfolding(jv_model::specs::RowGrammar::counters_of))]
+pub fn parse_counters(bytes: &[u8]) -> Result<Counters, Misread>
+    ensures { Gives result (counters_of bytes.now) }
+{
+    let (inode, rest) = take_long(bytes)?;
+    let (slice, rest) = take_long(rest)?;
+    let (session, rest) = take_long(rest)?;
+    let (used_space, rest) = take_long(rest)?;
+    let (used_inodes, rest) = take_long(rest)?;
+    let counters = Counters {
+        inode,
+        slice,
+        session,
+        used_space,
+        used_inodes,
+    };
+    let allowed = allows_counters(&counters);
+    settled(counters, allowed, rest)
+}
+
+/// The node that the bytes spell.
+#[tactic(auto, unfolding(jv_model::specs::RowGrammar::node_of))]
+pub fn parse_node(alloc: Global, bytes: &[u8]) -> Result<Node, Misread>
+    ensures { Gives result (node_of bytes.now) }
+{
+    let (kind, rest) = take_byte(bytes)?;
+    let (mode, rest) = take_half(rest)?;
+    let (uid, rest) = take_word(rest)?;
+    let (gid, rest) = take_word(rest)?;
+    let (nlink, rest) = take_word(rest)?;
+    let (mtime, rest) = take_long(rest)?;
+    let (ctime, rest) = take_long(rest)?;
+    let (length, rest) = take_long(rest)?;
+    let (parent, rest) = take_long(rest)?;
+    let node = Node {
+        kind,
+        mode,
+        uid,
+        gid,
+        nlink,
+        mtime,
+        ctime,
+        length,
+        parent,
+        target: copied(alloc, rest)?,
+    };
+    let allowed = allows_node(&node);
+    settled(node, allowed, &[])
+}
+
+/// The entry that the bytes spell.
+#[tactic(auto, unfolding(jv_model::specs::RowGrammar::edge_of))]
+pub fn parse_edge(bytes: &[u8]) -> Result<Edge, Misread>
+    ensures { Gives result (edge_of bytes.now) }
+{
+    let (kind, rest) = take_byte(bytes)?;
+    let (inode, rest) = take_long(rest)?;
+    let edge = Edge { kind, inode };
+    let allowed = allows_edge(&edge);
+    settled(edge, allowed, rest)
+}
+
+/// A record at the front of bytes, and the bytes after it.
+#[tactic(auto, unfolding(jv_model::specs::RowGrammar::record_at))]
+fn take_record(bytes: &[u8]) -> Result<(Rec, &[u8]), Misread>
+    ensures { Takes (λ x. (x.0, x.1.now)) result (record_at bytes.now) }
+{
+    let (pos, rest) = take_word(bytes)?;
+    let (id, rest) = take_long(rest)?;
+    let (size, rest) = take_word(rest)?;
+    let (off, rest) = take_word(rest)?;
+    let (len, rest) = take_word(rest)?;
+    Ok((
+        Rec {
+            pos,
+            id,
+            size,
+            off,
+            len,
+        },
+        rest,
+    ))
+}
+
+/// So many records at the front of bytes, and the bytes after them.
+fn take_records(alloc: Global, count: usize, bytes: &[u8]) -> Result<(Vec<Rec>, &[u8]), Misread>
+    ensures { Takes (λ x. (x.0.items, x.1.now)) result (records_at count bytes.now) }
+{
+    let mut records = Vec::new(alloc);
+    let mut rest = bytes;
+    for _ in 0..count {
+        let (record, after) = take_record(rest)?;
+        records.push(record)?;
+        rest = after;
+    }
+    Ok((records, rest))
+}
+
+/// The list of a window that the bytes spell.
+#[tactic(auto, unfolding(jv_model::specs::RowGrammar::list_of))]
+pub fn parse_list(alloc: Global, bytes: &[u8]) -> Result<List, Misread>
+    ensures { Gives result (list_of bytes.now) }
+{
+    let (records, rest) = take_records(alloc, bytes.len() / 24, bytes)?;
+    let list = Sequence::from_vec(records);
+    let allowed = allows_list(&list);
+    settled(list, allowed, rest)
+}
+
+/// The slice that the bytes spell.
+#[tactic(auto, unfolding(jv_model::specs::RowGrammar::slice_of))]
+pub fn parse_slice(bytes: &[u8]) -> Result<SliceRow, Misread>
+    ensures { Gives result (slice_of bytes.now) }
+{
+    let (size, rest) = take_word(bytes)?;
+    let (count, rest) = take_long(rest)?;
+    let slice = SliceRow { size, count };
+    let allowed = allows_slice(&slice);
+    settled(slice, allowed, rest)
+}
+
+/// The session that the bytes spell.
+#[tactic(auto, unfolding(jv_model::specs::RowGrammar::session_of))]
+pub fn parse_session(bytes: &[u8]) -> Result<Session, Misread>
+    ensures { Gives result (session_of bytes.now) }
+{
+    let (client, rest) = take_byte(bytes)?;
+    let (expiry, rest) = take_long(rest)?;
+    let session = Session { client, expiry };
+    let allowed = allows_session(&session);
+    settled(session, allowed, rest)
+}
+
+/// Nothing, of which the row of a sustained file consists.
+#[tactic(auto, unfolding(jv_model::specs::RowGrammar::sustained_of))]
+pub fn parse_sustained(bytes: &[u8]) -> Result<(), Misread>
+    ensures { Gives result (sustained_of bytes.now) }
+{
+    settled((), true, bytes)
+}
+
+/// The dropped file that the bytes spell.
+#[tactic(auto, unfolding(jv_model::specs::RowGrammar::dropped_of))]
+pub fn parse_dropped(bytes: &[u8]) -> Result<Dropped, Misread>
+    ensures { Gives result (dropped_of bytes.now) }
+{
+    let (length, rest) = take_long(bytes)?;
+    settled(Dropped { length }, true, rest)
+}
+
+/// The dead slice that the bytes spell.
+#[tactic(auto, unfolding(jv_model::specs::RowGrammar::dead_of))]
+pub fn parse_dead(bytes: &[u8]) -> Result<Dead, Misread>
+    ensures { Gives result (dead_of bytes.now) }
+{
+    let (size, rest) = take_word(bytes)?;
+    let (due, rest) = take_long(rest)?;
+    settled(Dead { size, due }, true, rest)
+}
