@@ -7,11 +7,11 @@ use Rattle.jv_model.specs.Past.{at_start}
 use Rattle.jv_session.specs.Agrees.{HasFiles, IsClient, Stands}
 use Rattle.jv_session.specs.Lines.{fresh_schedule}
 use Rattle.jv_model.specs.Client.{unmounted}
-use Rattle.jv_cmd.specs.Run.{session_setting, session_limits, session_run}
+use Rattle.jv_cmd.specs.Run.{FreshVolume, session_limits, session_run}
 
-HasFiles-fresh : HasFiles (fresh_tree session_setting 0) (fresh_schedule session_setting session_limits).volume
+HasFiles-fresh : (v : FreshVolume) → HasFiles (fresh_tree v.setting v.made) (fresh_schedule v.setting session_limits).volume
 unfolding get insert sum_over
-HasFiles-fresh = record {
+HasFiles-fresh v = record {
   root = refl;
   names = λ name. refl;
   named = λ path. tt;
@@ -23,8 +23,8 @@ HasFiles-fresh = record {
   inodes = refl;
 }
 
-IsClient-fresh : IsClient unmounted 0 (fresh_schedule session_setting session_limits)
-IsClient-fresh = record {
+IsClient-fresh : (v : FreshVolume) → IsClient unmounted 0 (fresh_schedule v.setting session_limits)
+IsClient-fresh v = record {
   session = refl;
   direct = refl;
   handles = refl;
@@ -32,8 +32,8 @@ IsClient-fresh = record {
   pending = refl;
 }
 
-pub Stands-start : (told : Option (ℕ → ℕ)) (lines : List Line) (status : ℕ) → Stands (at_start (session_run told lines status)) (fresh_schedule session_setting session_limits)
-Stands-start told lines status = record {
+pub Stands-start : (v : FreshVolume) (told : Option (ℕ → ℕ)) (lines : List Line) (status : ℕ) → Stands (at_start (session_run v told lines status)) (fresh_schedule v.setting session_limits)
+Stands-start v told lines status = record {
   complete = refl;
   due = refl;
   at = refl;
@@ -41,9 +41,9 @@ Stands-start told lines status = record {
   agrees = record {
     limits = refl;
     setting = refl;
-    files = HasFiles-fresh;
+    files = HasFiles-fresh v;
     mounted = record { mounted = tt; first = λ _. refl };
-    client = IsClient-fresh;
+    client = IsClient-fresh v;
     busy = refl;
   };
 }

@@ -7,3 +7,4 @@ pub mod StepLaws
 pub mod FreshLaws
 pub mod ActLaws
 pub mod GoingLaws
+mod CommandLaws

@@ -1,24 +1,31 @@
--- What each end of a session is to the caller.
+-- What each end of a command is to the caller.
 use Rattle.std.specs.Prelude.{ℕ, List, [], ◌++◌, codes, decimal}
 use Rattle.jv_cmd.specs.declared.ended.Ended.{Ended}
-use Rattle.jv_cmd.specs.declared.ended.Ended.TheVariants.{Whole, OffLine, SourceFailed, OutFailed, ClockFailed, OutOfMemory}
+use Rattle.jv_cmd.specs.declared.ended.Ended.TheVariants.{Whole, OffLine, NoVolume, VolumeExists, NewerVersion, SettingOff, SourceFailed, OutFailed, ClockFailed, KeeperFailed, OutOfMemory}
 
 abbrev pub status_of : Ended → ℕ
 status_of Whole = 0
 status_of (OffLine number) = 3
+status_of NoVolume = 4
+status_of VolumeExists = 4
+status_of (NewerVersion version) = 4
+status_of SettingOff = 4
 status_of SourceFailed = 5
 status_of OutFailed = 5
 status_of ClockFailed = 5
+status_of KeeperFailed = 5
 status_of OutOfMemory = 6
 
 -- the text on standard error, where no word is off
 abbrev pub message_of : Ended → List ℕ
 message_of Whole = []
 message_of (OffLine number) = codes "juicevol: line " ++ decimal number ++ codes ": not a script line\n"
+message_of NoVolume = codes "juicevol: no volume\n"
+message_of VolumeExists = codes "juicevol: volume exists\n"
+message_of (NewerVersion version) = codes "juicevol: version " ++ decimal version ++ codes "\n"
+message_of SettingOff = codes "juicevol: row 0 0 -: not a row\n"
 message_of SourceFailed = codes "juicevol: source failed\n"
 message_of OutFailed = codes "juicevol: out failed\n"
 message_of ClockFailed = codes "juicevol: clock failed\n"
+message_of KeeperFailed = codes "juicevol: keeper failed\n"
 message_of OutOfMemory = codes "juicevol: out of memory\n"
-
-abbrev pub words_message : List ℕ
-words_message = codes "juicevol: words refused\n"

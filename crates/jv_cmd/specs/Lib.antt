@@ -4,4 +4,7 @@ pub mod Cutting
 pub mod Words
 pub mod Ends
 pub mod Run
+pub mod Fresh
+pub mod Opening
+pub mod Commands
 pub mod Steps

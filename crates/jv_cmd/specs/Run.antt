@@ -13,21 +13,22 @@ use Rattle.jv_outside.specs.Causes.{Rose}
 use Rattle.jv_outside.specs.Told.{Gains, GainsFront}
 use Rattle.jv_cmd.specs.declared.ended.Ended.{Ended}
 use Rattle.jv_cmd.specs.declared.ended.Ended.TheVariants.{Whole, OffLine, SourceFailed, OutFailed, ClockFailed, OutOfMemory}
-use Rattle.jv_cmd.specs.Ends.{status_of, message_of}
+use Rattle.jv_cmd.specs.Ends.{status_of}
 use Rattle.jv_cmd.specs.Texts.{texts_of, longest_text, most_lines}
 
--- the volume of a session: as it is formatted with the name `juicefs` and default options, over memory
-abbrev pub session_setting : Setting
-session_setting = record { version = 1; block = 4194304; trash_days = 1; capacity = 0; inodes = 0; hash = 0; name = codes "juicefs"; bucket = codes ":memory:" }
+-- a volume that was just formatted: its setting, and the moment of its root
+pub record FreshVolume : Type 0 where
+  pub setting : Setting
+  pub made : ℕ
 
 -- 32 MiB may be pending, and the cache has the blocks of 64 MiB
 abbrev pub session_limits : Limits
 session_limits = record { buffer = 33554432; entries = 16; writeback = false }
 
 -- the run of lines over such a volume, with the clock's answers where they are told
-abbrev pub session_run : Option (ℕ → ℕ) → List Line → ℕ → Setup
-session_run told lines status = record {
-  start = fresh_tree session_setting 0;
+abbrev pub session_run : FreshVolume → Option (ℕ → ℕ) → List Line → ℕ → Setup
+session_run v told lines status = record {
+  start = fresh_tree v.setting v.made;
   script = lines;
   limits = session_limits;
   uploads = 0;
@@ -96,20 +97,21 @@ pub data IsOff (p : Past) (number : ℕ) (text : List ℕ) : Type 0 where
   NotBuilt : (line : Line) → line_of text ≡ Some line → IsNotBuilt p line → IsOff p number text
 
 -- the line after those that were run is off
-pub record StopsAt (bytes : Option (List ℕ)) (before after : Seen) (texts : List (List ℕ)) (lines : List Line) (number : ℕ) : Type 0 where
+pub record StopsAt (v : FreshVolume) (bytes : Option (List ℕ)) (before after : Seen) (texts : List (List ℕ)) (lines : List Line) (number : ℕ) : Type 0 where
   pub after_lines : number ≡ length lines + 1
   pub text : List ℕ
   pub next : BeginWith bytes (texts ++ text ∷ [])
-  pub off : (told : Option (ℕ → ℕ)) → IsTold told before after → IsOff (at_end (session_run told lines 3) after.journal) number text
+  pub off : (told : Option (ℕ → ℕ)) → IsTold told before after → IsOff (at_end (session_run v told lines 3) after.journal) number text
 
 -- the cause of each end, where these lines were run
-abbrev pub EndsBy : Ended → Option (List ℕ) → Seen → Seen → List (List ℕ) → List Line → Type 0
-EndsBy Whole bytes before after texts lines = IfSome bytes (λ all. texts_of all ≡ texts)
-EndsBy (OffLine number) bytes before after texts lines = StopsAt bytes before after texts lines number
-EndsBy SourceFailed bytes before after texts lines = Rose before.source_faults after.source_faults
-EndsBy OutFailed bytes before after texts lines = Rose before.out_faults after.out_faults
-EndsBy ClockFailed bytes before after texts lines = Rose before.clock_faults after.clock_faults
-EndsBy OutOfMemory bytes before after texts lines = Unit {0}
+abbrev pub EndsBy : FreshVolume → Ended → Option (List ℕ) → Seen → Seen → List (List ℕ) → List Line → Type 0
+EndsBy v Whole bytes before after texts lines = IfSome bytes (λ all. texts_of all ≡ texts)
+EndsBy v (OffLine number) bytes before after texts lines = StopsAt v bytes before after texts lines number
+EndsBy v SourceFailed bytes before after texts lines = Rose before.source_faults after.source_faults
+EndsBy v OutFailed bytes before after texts lines = Rose before.out_faults after.out_faults
+EndsBy v ClockFailed bytes before after texts lines = Rose before.clock_faults after.clock_faults
+EndsBy v OutOfMemory bytes before after texts lines = Unit {0}
+EndsBy v _ bytes before after texts lines = ⊥
 
 -- out has gained the text, or a front of it where out failed
 abbrev pub Prints : Ended → Seen → Seen → List ℕ → Type 0
@@ -118,19 +120,11 @@ Prints _ before after text = Gains before.taken after.taken text
 
 -- The lines that were run, those before the end or, where out failed, those up to the one that it failed at: each of them
 -- was built, their journal is legal for one POSIX tree, and their text was printed.
-pub record RunsLines (bytes : Option (List ℕ)) (before after : Seen) (ended : Ended) : Type 0 where
+pub record RunsLines (v : FreshVolume) (bytes : Option (List ℕ)) (before after : Seen) (ended : Ended) : Type 0 where
   pub texts : List (List ℕ)
   pub lines : List Line
   pub read : AreLines bytes texts lines
-  pub cause : EndsBy ended bytes before after texts lines
-  pub built : (told : Option (ℕ → ℕ)) → IsTold told before after → AreBuilt (session_run told lines (status_of ended)) after.journal
-  pub legal : (told : Option (ℕ → ℕ)) → IsTold told before after → Legal (session_run told lines (status_of ended)) after.journal
-  pub printed : (told : Option (ℕ → ℕ)) → IsTold told before after → Prints ended before after (text_of (session_run told lines (status_of ended)) after.journal)
-
--- a session over the source's bytes, where those are told: its lines, its status, and its text on standard error, or a
--- front of it where that failed
-pub record RunsSession (bytes : Option (List ℕ)) (before after : Seen) (shown_before shown_after : Option (List ℕ)) (status : ℕ) : Type 0 where
-  pub ended : Ended
-  pub runs : RunsLines bytes before after ended
-  pub result : status ≡ status_of ended
-  pub shown : GainsFront shown_before shown_after (message_of ended)
+  pub cause : EndsBy v ended bytes before after texts lines
+  pub built : (told : Option (ℕ → ℕ)) → IsTold told before after → AreBuilt (session_run v told lines (status_of ended)) after.journal
+  pub legal : (told : Option (ℕ → ℕ)) → IsTold told before after → Legal (session_run v told lines (status_of ended)) after.journal
+  pub printed : (told : Option (ℕ → ℕ)) → IsTold told before after → Prints ended before after (text_of (session_run v told lines (status_of ended)) after.journal)

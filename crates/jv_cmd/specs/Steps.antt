@@ -11,7 +11,7 @@ use Rattle.jv_session.specs.BuiltHere.{built_here}
 use Rattle.jv_cmd.specs.declared.ended.Ended.{Ended}
 use Rattle.jv_cmd.specs.declared.ended.Ended.TheVariants.{OffLine, OutFailed, ClockFailed, OutOfMemory}
 use Rattle.jv_cmd.specs.Texts.{texts_of, longest_text, most_lines}
-use Rattle.jv_cmd.specs.Run.{Seen, IsTold, IsBuilt, IsNotBuilt, RunsLines, session_run, up_to}
+use Rattle.jv_cmd.specs.Run.{Seen, IsTold, IsBuilt, IsNotBuilt, FreshVolume, RunsLines, session_run, up_to}
 
 -- a past after so many lines of a run, with these lines to come: the schedule stands there, and this was printed
 pub record IsAt (p : Past) (run : Setup) (more : List Line) (done asks entries : ℕ) (printed : List ℕ) (s : ScheduleValue) : Type 0 where
@@ -34,7 +34,7 @@ AreBetween low high [] = Unit {0}
 AreBetween low high (act ∷ acts) = (low ≤ act.line) × (act.line ≤ high) × AreBetween low high acts
 
 -- so many lines were run, whatever lines are to come, and their text is this
-pub record Done (bytes left : Option (List ℕ)) (before now : Seen) (done : ℕ) (text : List ℕ) (s : ScheduleValue) : Type 0 where
+pub record Done (v : FreshVolume) (bytes left : Option (List ℕ)) (before now : Seen) (done : ℕ) (text : List ℕ) (s : ScheduleValue) : Type 0 where
   pub texts : List (List ℕ)
   pub lines : List Line
   pub asked : ℕ
@@ -45,8 +45,8 @@ pub record Done (bytes left : Option (List ℕ)) (before now : Seen) (done : ℕ
   pub first : IfSome bytes (λ all. IsSomeAnd left (λ rest. texts_of all ≡ texts ++ texts_of rest))
   pub own : AreBetween 0 done now.journal
   pub passes : Passes before.answers now.answers asked
-  pub built : (told : Option (ℕ → ℕ)) (more : List Line) (status : ℕ) → IsTold told before now → (k : ℕ) → IfSome (slice_get lines k) (IsBuilt (begun_to k (reached (session_run told (lines ++ more) status) (up_to k now.journal))))
-  pub reaches : (told : Option (ℕ → ℕ)) (more : List Line) (status : ℕ) → IsTold told before now → Reaches (session_run told (lines ++ more) status) more done asked text now.journal s
+  pub built : (told : Option (ℕ → ℕ)) (more : List Line) (status : ℕ) → IsTold told before now → (k : ℕ) → IfSome (slice_get lines k) (IsBuilt (begun_to k (reached (session_run v told (lines ++ more) status) (up_to k now.journal))))
+  pub reaches : (told : Option (ℕ → ℕ)) (more : List Line) (status : ℕ) → IsTold told before now → Reaches (session_run v told (lines ++ more) status) more done asked text now.journal s
 
 -- no count of faults fell
 pub record IsLater (before now : Seen) : Type 0 where
@@ -55,16 +55,16 @@ pub record IsLater (before now : Seen) : Type 0 where
   pub clock : before.clock_faults ≤ now.clock_faults
 
 -- so many lines were run and printed
-pub record Going (bytes left : Option (List ℕ)) (before now : Seen) (done : ℕ) (s : ScheduleValue) : Type 0 where
+pub record Going (v : FreshVolume) (bytes left : Option (List ℕ)) (before now : Seen) (done : ℕ) (s : ScheduleValue) : Type 0 where
   pub text : List ℕ
-  pub lines_done : Done bytes left before now done text s
+  pub lines_done : Done v bytes left before now done text s
   pub gains : Gains before.taken now.taken text
   pub later : IsLater before now
 
 -- one line more was run, or the run ended
-abbrev pub Turns : Option (List ℕ) → Option (List ℕ) → Seen → Seen → ℕ → ScheduleValue → Result (Unit {0}) Ended → Type 0
-Turns bytes left before now done s (Ok unit) = Going bytes left before now (done + 1) s
-Turns bytes left before now done s (Err ended) = RunsLines bytes before now ended
+abbrev pub Turns : FreshVolume → Option (List ℕ) → Option (List ℕ) → Seen → Seen → ℕ → ScheduleValue → Result (Unit {0}) Ended → Type 0
+Turns v bytes left before now done s (Ok unit) = Going v bytes left before now (done + 1) s
+Turns v bytes left before now done s (Err ended) = RunsLines v bytes before now ended
 
 -- a line's entries after a journal: they are allowed, and the line is done and prints the text
 pub record Goes (p : Past) (more : List Line) (number asks : ℕ) (before after : List Act) (text : List ℕ) (s : ScheduleValue) : Type 0 where

@@ -1,11 +1,19 @@
--- The words of a command line.
-use Rattle.std.specs.Prelude.{ℕ, Bool, false, ◌&&◌, nat_lt, List, [], ◌∷◌, length, take, codes, bytes_eq}
+-- Stands in.
+use Rattle.std.specs.Prelude.{◌≡◌, ℕ, List, Option, None, Some, Result, Ok, Err, IsTrue}
+use Rattle.jv_model.specs.RowGrammar.{is_setting}
+use Rattle.jv_cmd.specs.declared.words.Command.{Command}
+use Rattle.jv_cmd.specs.declared.words.Command.TheVariants.{Format, Session}
+use Rattle.jv_cmd.specs.declared.words.WordsFault.{WordsFault}
+use Rattle.jv_cmd.specs.declared.words.WordsFault.TheVariants.{Refused, Memory}
 
--- a scheme and at least one byte of a path
-abbrev pub is_volume_url : List ℕ → Bool
-is_volume_url url = nat_lt 10 (length url) && bytes_eq (take 10 url) (codes "sqlite3://")
+abbrev pub asked : List (List ℕ) → Option Command
+asked words = None
 
--- the command `session` and the URL of a volume
-abbrev pub is_session : List (List ℕ) → Bool
-is_session (name ∷ url ∷ []) = bytes_eq name (codes "session") && is_volume_url url
-is_session _ = false
+abbrev pub Answers : Option Command → Result Command WordsFault → Type 0
+Answers asked (Ok command) = asked ≡ Some command
+Answers asked (Err (Refused text)) = asked ≡ None
+Answers asked (Err Memory) = Unit {0}
+
+abbrev pub IsAllowedCommand : Command → Type 0
+IsAllowedCommand (Format place setting) = IsTrue (is_setting setting)
+IsAllowedCommand (Session place options) = Unit {0}

@@ -3,12 +3,15 @@
 
 mod command;
 mod ended;
+mod format;
 mod lines;
 mod reader;
+mod volume;
 mod words;
 mod world;
 
 pub use command::run;
+pub use format::{default_setting, fresh_rows};
 pub use world::{Finish, World};
 
 #[cfg(test)]

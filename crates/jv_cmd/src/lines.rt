@@ -1,18 +1,18 @@
 //! The lines of a script, one after the other.
-ghost use Rattle.std.specs.Prelude.{◌≡◌, ℕ, ◌+◌, ◌≤◌, ◌<◌, [], List, Option, IfOk, OnOk, Err};
+ghost use Rattle.std.specs.Prelude.{◌≡◌, ℕ, ◌+◌, ◌≤◌, ◌<◌, [], List, Option, OnOk, Err};
 ghost use Rattle.std.specs.Io.KnownBytes.{prepend_known};
 ghost use Rattle.jv_outside.specs.Causes.{Rose};
-ghost use Rattle.jv_cmd.specs.Run.{Seen, seen, RunsLines, session_setting, session_limits};
+ghost use Rattle.jv_cmd.specs.Run.{FreshVolume, Seen, seen, RunsLines, session_limits};
 ghost use Rattle.jv_cmd.specs.Steps.{IsBuiltHere, TellsBuilt, TextReads, LineEnds, TextEnds, Going, Turns};
 
 use crate::ended::Ended;
 use crate::reader::{LineReader, Next};
 use crate::world::World;
-use jv_model::{Journal, Limits, Line, Setting, copied};
+use jv_model::{Journal, Limits, Line, Setting};
 use jv_outside::{Clock, Sink, Source, write_whole};
 use jv_script::{BadLine, read_line};
 use jv_session::{LineEnd, Schedule};
-use std::alloc::{AllocError, Global};
+use std::alloc::Global;
 
 /// The most lines of a script.
 const MOST_LINES: u32 = 1_048_576;
@@ -23,22 +23,6 @@ const LIMITS: Limits = Limits {
     entries: 16,
     writeback: false,
 };
-
-/// The setting of a volume named `juicefs` over memory, with default options.
-fn session_setting(alloc: Global) -> Result<Setting, AllocError>
-    ensures { IfOk result (λ setting. setting ≡ session_setting) }
-{
-    Ok(Setting {
-        version: 1,
-        block: 4_194_304,
-        trash_days: 1,
-        capacity: 0,
-        inodes: 0,
-        hash: 0,
-        name: copied(alloc, b"juicefs")?,
-        bucket: copied(alloc, b":memory:")?,
-    })
-}
 
 /// Whether a line is one of those that run today.
 fn is_built(schedule: &Schedule, line: &Line) -> bool
@@ -123,18 +107,19 @@ fn run_text<O: Sink, C: Clock>(
 }
 
 /// Runs the next line, after so many.
-fn turn<S: Source, O: Sink, E, C: Clock>(
+fn turn<S: Source, O: Sink, E, K, C: Clock>(
     alloc: Global,
     done: u32,
     reader: &mut LineReader,
     schedule: &mut Schedule,
-    world: &mut World<S, O, E, C>,
+    world: &mut World<S, O, E, K, C>,
 ) -> Result<(), Ended>
     requires { done ≤ MOST_LINES }
-    ensures turns { (bytes : Option (List ℕ)) (before : Seen)
-        → Going bytes (prepend_known reader.old (S.left world.old.source)) before (seen (S.faults world.old.source) (O.taken world.old.out) (O.faults world.old.out) (C.answers world.old.clock) (C.faults world.old.clock) world.old.journal.acts) done schedule.old
-        → Turns bytes (prepend_known reader.new (S.left world.new.source)) before (seen (S.faults world.new.source) (O.taken world.new.out) (O.faults world.new.out) (C.answers world.new.clock) (C.faults world.new.clock) world.new.journal.acts) done schedule.new result }
+    ensures turns { (v : FreshVolume) (bytes : Option (List ℕ)) (before : Seen)
+        → Going v bytes (prepend_known reader.old (S.left world.old.source)) before (seen (S.faults world.old.source) (O.taken world.old.out) (O.faults world.old.out) (C.answers world.old.clock) (C.faults world.old.clock) world.old.journal.acts) done schedule.old
+        → Turns v bytes (prepend_known reader.new (S.left world.new.source)) before (seen (S.faults world.new.source) (O.taken world.new.out) (O.faults world.new.out) (C.answers world.new.clock) (C.faults world.new.clock) world.new.journal.acts) done schedule.new result }
     ensures more { OnOk result (done < MOST_LINES) }
+    ensures keeper { world.new.keeper ≡ world.old.keeper }
     ensures err { world.new.err ≡ world.old.err }
 {
     match reader.next(&mut world.source) {
@@ -161,15 +146,16 @@ fn turn<S: Source, O: Sink, E, C: Clock>(
 }
 
 /// Runs lines until the run ends.
-fn run_lines<S: Source, O: Sink, E, C: Clock>(
+fn run_lines<S: Source, O: Sink, E, K, C: Clock>(
     alloc: Global,
     reader: &mut LineReader,
     schedule: &mut Schedule,
-    world: &mut World<S, O, E, C>,
+    world: &mut World<S, O, E, K, C>,
 ) -> Ended
-    ensures runs { (bytes : Option (List ℕ)) (before : Seen)
-        → Going bytes (prepend_known reader.old (S.left world.old.source)) before (seen (S.faults world.old.source) (O.taken world.old.out) (O.faults world.old.out) (C.answers world.old.clock) (C.faults world.old.clock) world.old.journal.acts) 0 schedule.old
-        → RunsLines bytes before (seen (S.faults world.new.source) (O.taken world.new.out) (O.faults world.new.out) (C.answers world.new.clock) (C.faults world.new.clock) world.new.journal.acts) result }
+    ensures runs { (v : FreshVolume) (bytes : Option (List ℕ)) (before : Seen)
+        → Going v bytes (prepend_known reader.old (S.left world.old.source)) before (seen (S.faults world.old.source) (O.taken world.old.out) (O.faults world.old.out) (C.answers world.old.clock) (C.faults world.old.clock) world.old.journal.acts) 0 schedule.old
+        → RunsLines v bytes before (seen (S.faults world.new.source) (O.taken world.new.out) (O.faults world.new.out) (C.answers world.new.clock) (C.faults world.new.clock) world.new.journal.acts) result }
+    ensures keeper { world.new.keeper ≡ world.old.keeper }
     ensures err { world.new.err ≡ world.old.err }
 {
     let mut done = 0;
@@ -181,19 +167,18 @@ fn run_lines<S: Source, O: Sink, E, C: Clock>(
     }
 }
 
-/// Runs the script of the source over a fresh volume.
-pub(crate) fn run_session<S: Source, O: Sink, E, C: Clock>(
+/// Runs the script of the source over a volume that was just formatted with this setting.
+pub(crate) fn run_script<S: Source, O: Sink, E, K, C: Clock>(
     alloc: Global,
-    world: &mut World<S, O, E, C>,
+    setting: Setting,
+    world: &mut World<S, O, E, K, C>,
 ) -> Ended
     requires { world.old.journal.acts ≡ [] }
-    ensures runs { RunsLines (S.left world.old.source) (seen (S.faults world.old.source) (O.taken world.old.out) (O.faults world.old.out) (C.answers world.old.clock) (C.faults world.old.clock) world.old.journal.acts) (seen (S.faults world.new.source) (O.taken world.new.out) (O.faults world.new.out) (C.answers world.new.clock) (C.faults world.new.clock) world.new.journal.acts) result }
+    ensures runs { (made : ℕ) → RunsLines (record { setting = setting; made = made }) (S.left world.old.source) (seen (S.faults world.old.source) (O.taken world.old.out) (O.faults world.old.out) (C.answers world.old.clock) (C.faults world.old.clock) world.old.journal.acts) (seen (S.faults world.new.source) (O.taken world.new.out) (O.faults world.new.out) (C.answers world.new.clock) (C.faults world.new.clock) world.new.journal.acts) result }
+    ensures keeper { world.new.keeper ≡ world.old.keeper }
     ensures err { world.new.err ≡ world.old.err }
 {
     let Ok(mut reader) = LineReader::new(alloc) else {
-        return Ended::OutOfMemory;
-    };
-    let Ok(setting) = session_setting(alloc) else {
         return Ended::OutOfMemory;
     };
     let mut schedule = Schedule::new(alloc, setting, LIMITS);

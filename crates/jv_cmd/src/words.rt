@@ -1,18 +1,40 @@
-//! The words of the command line.
-ghost use Rattle.std.specs.Prelude.{◌≡◌, map, string_bytes};
-ghost use Rattle.jv_cmd.specs.Words.{is_session, is_volume_url};
+//! Stands in.
+ghost use Rattle.std.specs.Prelude.{◌≡◌, map, string_bytes, IfOk};
+ghost use Rattle.jv_cmd.specs.Words.{Answers, asked, IsAllowedCommand};
 
-/// Whether the words are `session` and the URL of a volume.
-pub(crate) fn is_session(words: &[String]) -> bool
-    ensures { result ≡ is_session (map string_bytes words.now) }
-{
-    words.len() == 2
-        && words[0].as_bytes() == b"session".as_slice()
-        && is_volume_url(words[1].as_bytes())
+use jv_model::{Setting, Text};
+use std::alloc::Global;
+
+#[derive(Debug, Drop, PartialEq)]
+pub struct SessionOptions {
+    pub cache: u64,
+    pub buffer: u64,
+    pub uploads: u32,
+    pub writeback: bool,
+    pub cache_dir: Text,
 }
 
-fn is_volume_url(url: &[u8]) -> bool
-    ensures { result ≡ is_volume_url url.now }
+#[derive(Debug, Drop, PartialEq)]
+pub enum Command {
+    Format {
+        place: Text,
+        setting: Setting,
+    },
+    Session {
+        place: Text,
+        options: SessionOptions,
+    },
+}
+
+#[derive(Debug, Drop, PartialEq)]
+pub enum WordsFault {
+    Refused(String),
+    Memory,
+}
+
+pub fn read_words(alloc: Global, words: &[String]) -> Result<Command, WordsFault>
+    ensures answers { Answers (asked (map string_bytes words.now)) result }
+    ensures allowed { IfOk result IsAllowedCommand }
 {
-    url.len() > 10 && &url[..10] == b"sqlite3://".as_slice()
+    Err(WordsFault::Refused(String::new(alloc)))
 }

@@ -1,0 +1,75 @@
+-- What a keeper's row of the setting is to a command.
+use Rattle.std.specs.Prelude.{◌≡◌, ℕ, ◌<◌, ◌≤◌, List, Option, None, Some, Result, IfOk, IfErr, IfSome, IsSome, IsSomeAnd, IsTrue}
+use Rattle.jv_model.specs.declared.setting.Setting.{Setting}
+use Rattle.jv_model.specs.FiniteMap.{get}
+use Rattle.jv_model.specs.RowGrammar.{is_setting, setting_of}
+use Rattle.jv_model.specs.RowKeys.{RowMap}
+use Rattle.jv_model.specs.RowPlaces.{setting_key}
+use Rattle.jv_outside.specs.Causes.{Rose}
+use Rattle.jv_cmd.specs.declared.ended.Ended.{Ended}
+use Rattle.jv_cmd.specs.declared.ended.Ended.TheVariants.{NoVolume, NewerVersion, SettingOff, KeeperFailed, OutOfMemory}
+
+-- where the rows are told, that of the setting is so
+abbrev pub SettingRow : Option RowMap → (Option (List ℕ) → Type 0) → Type 0
+SettingRow rows Is = IfSome rows (λ told. Is (get told setting_key))
+
+abbrev pub IsAbsent : Option (List ℕ) → Type 0
+IsAbsent stored = stored ≡ None
+
+-- it is there, and off the grammar
+abbrev pub IsOff : Option (List ℕ) → Type 0
+IsOff stored = IsSomeAnd stored (λ bytes. setting_of bytes ≡ None)
+
+-- it spells this setting
+abbrev pub Spells : Setting → Option (List ℕ) → Type 0
+Spells setting stored = IsSomeAnd stored (λ bytes. setting_of bytes ≡ Some setting)
+
+-- it spells a setting
+abbrev pub IsSetting : Option (List ℕ) → Type 0
+IsSetting stored = IsSomeAnd stored (λ bytes. IsSome (setting_of bytes))
+
+-- it spells a setting of this version
+abbrev pub HasVersion : ℕ → Option (List ℕ) → Type 0
+HasVersion version stored = IsSomeAnd stored (λ bytes. IsSomeAnd (setting_of bytes) (λ setting. setting.version ≡ version))
+
+-- the one version of rows that is known
+abbrev pub known_version : ℕ
+known_version = 1
+
+-- why the setting wasn't read
+abbrev pub CannotRead : Option RowMap → ℕ → ℕ → Ended → Type 0
+CannotRead rows before now SettingOff = SettingRow rows IsOff
+CannotRead rows before now KeeperFailed = Rose before now
+CannotRead rows before now OutOfMemory = Unit {0}
+CannotRead rows before now _ = ⊥
+
+-- what is stored is this setting, or none
+abbrev pub IsStored : Option RowMap → Option Setting → Type 0
+IsStored rows None = SettingRow rows IsAbsent
+IsStored rows (Some setting) = SettingRow rows (Spells setting)
+
+-- the keeper was opened, and the setting read; the rows are the same
+pub record ReadsSetting (rows after : Option RowMap) (before now : ℕ) (result : Result (Option Setting) Ended) : Type 0 where
+  pub same : after ≡ rows
+  pub later : before ≤ now
+  pub found : IfOk result (IsStored rows)
+  pub allowed : IfOk result (λ found. IfSome found (λ setting. IsTrue (is_setting setting)))
+  pub refused : IfErr result (CannotRead rows before now)
+
+-- why there is no volume to run a session on
+abbrev pub CannotOpen : Option RowMap → ℕ → ℕ → Ended → Type 0
+CannotOpen rows before now NoVolume = SettingRow rows IsAbsent
+CannotOpen rows before now (NewerVersion version) = (known_version < version) × SettingRow rows (HasVersion version)
+CannotOpen rows before now ended = CannotRead rows before now ended
+
+-- a setting of the version that is known
+pub record IsKnown (rows : Option RowMap) (setting : Setting) : Type 0 where
+  pub stored : SettingRow rows (Spells setting)
+  pub version : setting.version ≡ known_version
+
+-- the volume's setting was read, or there is no volume to run a session on; the rows are the same
+pub record OpensVolume (rows after : Option RowMap) (before now : ℕ) (result : Result Setting Ended) : Type 0 where
+  pub same : after ≡ rows
+  pub later : before ≤ now
+  pub ok : IfOk result (IsKnown rows)
+  pub refused : IfErr result (CannotOpen rows before now)
