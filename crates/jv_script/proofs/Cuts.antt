@@ -1,33 +1,32 @@
 -- A text, cut at the first place of a byte.
-use Rattle.std.proofs.Common.{◌≡◌, ℕ, ◌+◌, ◌-◌, Bool, true, false, cond, ltb, ◌==◌, List, [], ◌∷◌, length, take, drop, Option, Some, None, refl, sym, ap, subst, ◌∙◌, arith}
-use Rattle.std.specs.List.{position_or_len}
-use Rattle.std.proofs.lemmas.Bool.{ltb-true, ltb-false}
-use Rattle.std.proofs.lemmas.Option.{cond_some, none-some}
-use Rattle.std.proofs.lemmas.List.{take_rest}
-use Rattle.std.proofs.lemmas.List.Sums.{fails_before_first}
-use Rattle.std.proofs.lemmas.List.Splits.{slice_split_first, slice_split_none}
+use Rattle.std.proofs.Common.{◌≡◌, ℕ, ◌+◌, ◌-◌, ◌<◌, ◌≤◌, Bool, true, false, ◌==◌, List, [], ◌∷◌, ◌++◌, length, get_or, take, drop, refl, sym, ap, ◌∙◌, arith, add-one, get_or-take, drop-cons}
+use Rattle.std.proofs.lemmas.List.{take_rest, take-append-drop, length-take, get_or_default}
+use Rattle.std.proofs.lemmas.List.Splits.{slice_split_at, slice_split_none}
 use Rattle.jv_model.specs.Grammar.{parted}
 
--- a test fails where nothing was chosen by it
-none_from_cond : {A : Type 0} (b : Bool) (x : A) → cond b (Some x) None ≡ None → b ≡ false
-none_from_cond true x e = absurd (none-some x (sym e))
-none_from_cond false x e = refl
+-- a test that doesn't pass fails
+fails : (v : Bool) → (v ≡ true → ⊥) → v ≡ false
+fails true h = absurd (h refl)
+fails false h = refl
 
-abbrev pub is_at : ℕ → ℕ → Bool
-is_at separator c = c == separator
+-- the text round a place
+around : (text : List ℕ) (end : ℕ) → end < length text → text ≡ take end text ++ get_or text end 0 ∷ drop (end + 1) text
+around text end h = sym (take-append-drop end text) ∙ ap (λ rest. take end text ++ rest) (drop-cons text end 0 h ∙ ap (λ n. get_or text end 0 ∷ drop n text) (sym (add-one end)))
 
--- what the search for the first separator answers
-abbrev pub found_at : ℕ → List ℕ → Option ℕ
-found_at separator text = cond (ltb (position_or_len (is_at separator) text) (length text)) (Some (position_or_len (is_at separator) text)) None
+pub parted_found : (separator : ℕ) (text : List ℕ) (end : ℕ) → end < length text → ((k : ℕ) → 0 ≤ k → k < end → (get_or text k 0 == separator) ≡ true → ⊥) → (get_or text end 0 == separator) ≡ true
+    → parted separator text ≡ take end text ∷ parted separator (take (length text - (end + 1)) (drop (end + 1) text))
+parted_found separator text end within before here =
+    ap (parted separator) (around text end within)
+    ∙ slice_split_at (λ c. c == separator) (take end text) (get_or text end 0) (drop (end + 1) text) others here
+    ∙ ap (λ rest. take end text ∷ parted separator rest) (sym (take_rest text (end + 1)))
+  where
+    others : (k d : ℕ) → k < length (take end text) → (get_or (take end text) k d == separator) ≡ false
+    others k d below =
+        let early : k < end = omega (arith, length-take end text) in
+        let inside : k < length text = omega (arith, length-take end text) in
+        let same : get_or (take end text) k d ≡ get_or text k 0 = get_or-take end text k d early ∙ get_or_default text k d 0 inside in
+        ap (λ c. c == separator) same ∙ fails _ (before k (omega arith) early)
 
-pub parted_found : (separator : ℕ) (text : List ℕ) (end : ℕ) → Some end ≡ found_at separator text → parted separator text ≡ take end text ∷ parted separator (take (length text - (end + 1)) (drop (end + 1) text))
-parted_found separator text end e =
-    let parts = cond_some (ltb (position_or_len (is_at separator) text) (length text)) (position_or_len (is_at separator) text) end (sym e) in
-    let cut = slice_split_first (is_at separator) text 0 (ltb-true _ _ parts.0) in
-    let at_place = cut ∙ ap (λ rest. take (position_or_len (is_at separator) text) text ∷ parted separator rest) (sym (take_rest text (position_or_len (is_at separator) text + 1))) in
-    subst (λ n. parted separator text ≡ take n text ∷ parted separator (take (length text - (n + 1)) (drop (n + 1) text))) parts.1 at_place
-
-pub parted_none : (separator : ℕ) (text : List ℕ) → None ≡ found_at separator text → parted separator text ≡ text ∷ []
-parted_none separator text e =
-    let past = ltb-false (position_or_len (is_at separator) text) (length text) (none_from_cond _ _ (sym e)) in
-    slice_split_none (is_at separator) text (λ k d below. fails_before_first (is_at separator) text k d (omega arith))
+pub parted_none : (separator : ℕ) (text : List ℕ) → ((k : ℕ) → 0 ≤ k → k < length text → (get_or text k 0 == separator) ≡ true → ⊥) → parted separator text ≡ text ∷ []
+parted_none separator text nowhere =
+    slice_split_none (λ c. c == separator) text (λ k d below. ap (λ c. c == separator) (get_or_default text k d 0 below) ∙ fails _ (nowhere k (omega arith) below))

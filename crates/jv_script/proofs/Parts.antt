@@ -1,13 +1,14 @@
 -- Parts of the bytes of a write, one after another.
-use Rattle.std.proofs.Common.{◌≡◌, ℕ, ◌+◌, ◌/◌, ◌<◌, ◌≤◌, Bool, true, false, List, [], ◌∷◌, ◌++◌, length, Option, Some, None, IsSome, option_map, sum_by, refl, sym, ap, ◌∙◌, arith, cond, codes, bytes_eq}
-use Rattle.std.specs.List.{flat_map}
+use Rattle.std.proofs.Common.{subst, ◌≡◌, ◌==◌, ◌&&◌, ◌%◌, ℕ, ◌+◌, ◌/◌, ◌<◌, ◌≤◌, Bool, true, false, List, [], ◌∷◌, ◌++◌, length, Option, Some, None, IsSome, option_map, sum_by, refl, sym, ap, ◌∙◌, arith, cond, codes, bytes_eq, eqb-true, nat_lt}
+use Rattle.std.specs.List.{flat_map, list_all}
 use Rattle.std.proofs.lemmas.List.{append_assoc}
-use Rattle.std.proofs.lemmas.Bool.{le-leb, lt-leb}
+use Rattle.std.proofs.lemmas.Bool.{le-leb, lt-leb, and_parts, false≢true}
+use Rattle.std.proofs.Math.Bool.{and-false}
 use Rattle.std.proofs.lemmas.List.Sums.{sum_by-cons}
-use Rattle.jv_model.specs.Spelling.{◌>>=◌, at_most, bytes_of_digits}
-use Rattle.jv_model.specs.Printed.{Part, Plain}
-use Rattle.jv_model.specs.Grammar.{parted, is_pairs, repeated_of, part_of, part_length, part_bytes, all_parts_of, bytes_of_parts, data_of}
-use Rattle.jv_script.specs.Reading.{length_with, joined_bytes}
+use Rattle.jv_model.specs.Spelling.{is_hex_digit, number_of, ◌>>=◌, at_most, bytes_of_digits}
+use Rattle.jv_model.specs.Printed.{Part, Plain, Repeated}
+use Rattle.jv_model.specs.Grammar.{provided, byte_of, parted, is_pairs, repeated_of, part_of, part_length, part_bytes, all_parts_of, bytes_of_parts, data_of}
+use Rattle.jv_script.specs.Reading.{length_with, joined_bytes, has_x}
 
 -- bytes that are there, and those of parts
 abbrev pub joined_after : List ℕ → List (List ℕ) → Option (List ℕ)
@@ -141,3 +142,37 @@ no_bytes text dash = rw dash refl
 pub some_bytes : (text : List ℕ) → bytes_eq text (codes "-") ≡ false → data_of text ≡ bytes_of_parts (parted 43 text)
 unfolding data_of
 some_bytes text other = rw other refl
+
+-- the two kinds of parts, told apart by an `x`
+refuted : (v : Bool) → (v ≡ true → ⊥) → v ≡ false
+refuted true h = absurd (h refl)
+refuted false h = refl
+
+pub no_pairs_with_x : (part : List ℕ) → has_x part ≡ true → is_pairs part ≡ false
+no_pairs_with_x [] h = refl
+no_pairs_with_x (a ∷ []) h = absurd (false≢true h)
+no_pairs_with_x (a ∷ b ∷ []) h = absurd (false≢true h)
+no_pairs_with_x (a ∷ b ∷ x ∷ digits) h = refuted (is_pairs (a ∷ b ∷ x ∷ digits)) (λ pairs.
+    let all = (and_parts (nat_lt 0 (length (a ∷ b ∷ x ∷ digits)) && (length (a ∷ b ∷ x ∷ digits) % 2 == 0)) (list_all is_hex_digit (a ∷ b ∷ x ∷ digits)) pairs).1 in
+    let later = (and_parts (is_hex_digit a) (list_all is_hex_digit (b ∷ x ∷ digits)) all).1 in
+    let latest = (and_parts (is_hex_digit b) (list_all is_hex_digit (x ∷ digits)) later).1 in
+    let hex = (and_parts (is_hex_digit x) (list_all is_hex_digit digits) latest).0 in
+    false≢true (ap is_hex_digit (sym (eqb-true x 120 h)) ∙ hex))
+
+no_x_no_run : (part : List ℕ) → has_x part ≡ false → repeated_of part ≡ None
+unfolding repeated_of
+no_x_no_run [] h = refl
+no_x_no_run (a ∷ []) h = refl
+no_x_no_run (a ∷ b ∷ []) h = refl
+no_x_no_run (a ∷ b ∷ x ∷ digits) h = by_count (number_of digits)
+  where
+    by_count : (o : Option ℕ) → (o >>= (λ count. provided (is_hex_digit a && is_hex_digit b && (x == 120) && nat_lt 0 count) (Repeated (record { byte = byte_of a b; count = count })))) ≡ None
+    by_count None = refl
+    by_count (Some count) = rw (h, and-false (is_hex_digit a && is_hex_digit b)) refl
+
+pub pairs_without_x : (part : List ℕ) → IsSome (part_of part) → has_x part ≡ false → is_pairs part ≡ true
+pairs_without_x part some h = either (is_pairs part) refl
+  where
+    either : (v : Bool) → is_pairs part ≡ v → v ≡ true
+    either true e = refl
+    either false e = let none = part_of_other part e ∙ no_x_no_run part h in let impossible = subst IsSome none some in cc

@@ -1,5 +1,5 @@
 -- What the parts of the reader answer, against the grammar.
-use Rattle.std.specs.Prelude.{◌≡◌, ℕ, ◌+◌, List, [], ◌∷◌, Option, None, Some, IsSome, Result, Ok, Err, sum_by}
+use Rattle.std.specs.Prelude.{◌≡◌, ◌==◌, Bool, false, ℕ, ◌+◌, List, [], ◌∷◌, Option, None, Some, IsSome, Result, Ok, Err, sum_by}
 use Rattle.std.specs.List.{flat_map}
 use Rattle.jv_model.specs.Spelling.{◌>>=◌, at_most}
 use Rattle.jv_model.specs.Grammar.{parted, part_length, part_bytes, all_parts_of}
@@ -37,3 +37,8 @@ unfoldable pub joined_bytes : List (List ℕ) → Option (List ℕ)
 joined_bytes texts = do
   parts ← all_parts_of texts
   Some (flat_map part_bytes parts)
+
+-- a part's third byte is an `x`
+abbrev pub has_x : List ℕ → Bool
+has_x (_ ∷ _ ∷ x ∷ _) = x == 120
+has_x _ = false

@@ -3,7 +3,7 @@ ghost use Rattle.std.specs.Prelude.{◌≡◌, ◌++◌, ◌&&◌, ◌==◌, nat
 ghost use Rattle.jv_model.specs.Spelling.{bytes_of_digits, is_hex_digit};
 ghost use Rattle.jv_model.specs.Printed.{Repeated};
 ghost use Rattle.jv_model.specs.Grammar.{parted, is_pairs, repeated_of, part_of, part_length, part_bytes, all_parts_of, data_of};
-ghost use Rattle.jv_script.specs.Reading.{Reads, length_with, joined_bytes};
+ghost use Rattle.jv_script.specs.Reading.{Reads, length_with, joined_bytes, has_x};
 
 use crate::bad_line::BadLine;
 use crate::fields::number;
@@ -95,12 +95,22 @@ fn push_part(bytes: &mut Vec<u8>, part: &[u8]) -> Result<(), AllocError>
     requires { IsSome (part_of part.now) }
     ensures { OnOk result (option_map (λ p. bytes.old.items ++ part_bytes p) (part_of part.now) ≡ Some bytes.new.items) }
 {
-    if is_pairs(part) {
+    if !has_x(part) {
         return push_pairs(bytes, part);
     }
     match repeated(part) {
         Some((byte, count)) => push_copies(bytes, byte, count),
         None => Ok(()),
+    }
+}
+
+// Tells parts of the two kinds apart without a look at their digits.
+fn has_x(part: &[u8]) -> bool
+    ensures { result ≡ has_x part.now }
+{
+    match part {
+        [_, _, x, ..] => *x == b'x',
+        _ => false,
     }
 }
 

@@ -4,11 +4,13 @@ ghost use Rattle.std.specs.Option.{option_copied};
 ghost use Rattle.jv_model.specs.Grammar.{parted};
 ghost use Rattle.jv_script.specs.Reading.{parts_after};
 
+use memchr::memchr;
+
 /// The part before the first separator, and the text after that separator where there is one.
 pub(crate) fn cut(text: &[u8], separator: u8) -> (&[u8], Option<&[u8]>)
     ensures { parted separator text.now ≡ result.0.now ∷ parts_after separator (option_copied result.1) }
 {
-    match text.iter().position(|c| *c == separator) {
+    match memchr(separator, text) {
         Some(end) => (&text[..end], Some(&text[end + 1..])),
         None => (text, None),
     }
