@@ -1,0 +1,77 @@
+//! Rows through a keeper in memory.
+use jv_model::{Down, RowKey, Sequence, copied};
+use jv_outside::{Batch, Fails, Keeper, MemKeeper};
+use std::alloc::Global;
+
+/// The table of all rows.
+const TABLE: u8 = 2;
+
+/// The bytes of each row.
+const BYTES: [u8; 48] = [7; 48];
+
+/// What a number is multiplied by, so that keys don't come in their order.
+const SPREAD: u64 = 0x9E37_79B9_7F4A_7C15;
+
+/// The rows of a commit.
+const BATCH: usize = 4;
+
+/// The rows that a scan asks for.
+const PAGE: u32 = 256;
+
+/// The key of a row by its number. Keys of different numbers are different.
+fn key(alloc: Global, number: u32) -> RowKey {
+    RowKey {
+        tab: TABLE,
+        a: u64::from(number).wrapping_mul(SPREAD),
+        b: Sequence::new(alloc),
+    }
+}
+
+/// A keeper with so many rows, which commits wrote.
+fn written_keeper(alloc: Global, count: u32) -> Result<MemKeeper, Down> {
+    let fails = Fails::At(Sequence::new(alloc));
+    let mut keeper = MemKeeper::new(alloc, Sequence::new(alloc), fails);
+    let mut batch = Batch::new(alloc);
+    for number in 0..count {
+        batch.put(key(alloc, number), copied(alloc, &BYTES)?)?;
+        if batch.len() >= BATCH {
+            keeper.commit(&batch)?;
+            batch = Batch::new(alloc);
+        }
+    }
+    keeper.commit(&batch)?;
+    Ok(keeper)
+}
+
+/// Writes so many rows, a few a commit.
+pub fn written(alloc: Global, count: u32) -> Result<u32, Down> {
+    let _keeper = written_keeper(alloc, count)?;
+    Ok(count)
+}
+
+/// Writes so many rows and reads each. Gives the number of those that are there.
+pub fn read(alloc: Global, count: u32) -> Result<u32, Down> {
+    let mut keeper = written_keeper(alloc, count)?;
+    let mut found = 0u32;
+    for number in 0..count {
+        if keeper.get(&key(alloc, number))?.is_some() {
+            found = found.saturating_add(1);
+        }
+    }
+    Ok(found)
+}
+
+/// Writes so many rows and scans them page by page. Gives the number of those that are there.
+pub fn scanned(alloc: Global, count: u32) -> Result<u32, Down> {
+    let mut keeper = written_keeper(alloc, count)?;
+    let mut found = 0u32;
+    let mut last = None;
+    for _ in 0..=count / PAGE {
+        let page = keeper.scan(TABLE, last.as_ref(), PAGE)?;
+        for (row, _) in page.as_slice() {
+            found = found.saturating_add(1);
+            last = Some(row.copied(alloc)?);
+        }
+    }
+    Ok(found)
+}
