@@ -3,6 +3,7 @@ pub mod GrammarRows
 pub mod PrintedRows
 pub mod ScriptRows
 pub mod ReplyRows
+pub mod FirstLines
 pub mod MapLaws
 pub mod WorkedRows
 pub mod PastLaws
