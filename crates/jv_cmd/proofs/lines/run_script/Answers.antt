@@ -1,4 +1,3 @@
-use Rattle.std.proofs.Common.{ap, ◌∙◌}
 use Rattle.jv_cmd.proofs.GoingLaws.{Going-first, RunsLines-none}
 use Rattle.jv_cmd.proofs.lines.run_script.Goals as goal
 
