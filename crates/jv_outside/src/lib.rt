@@ -19,7 +19,7 @@ pub use batch::{Batch, Change};
 pub use calls::{Fails, NumberList};
 pub use clock::Clock;
 pub use keeper::Keeper;
-pub use law::still_count_is_ok;
+pub use law::{still_count_is_no_failure, still_count_is_ok};
 pub use mem_clock::{MemClock, NeverClock};
 pub use mem_keeper::{MemKeeper, NeverKeeper};
 pub use mem_sink::{MemSink, NeverSink};

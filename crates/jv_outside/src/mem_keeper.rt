@@ -61,7 +61,7 @@ impl Keeper for MemKeeper {
         ensures cause { MayFail self.old.calls.faults self.new.calls.faults result }
         ensures fails { (result ≡ Err Failed) ↔ IsTrue (fails_next self.old.calls) }
         ensures calls { self.new.calls ≡ after_call (fails_next self.old.calls) self.old.calls }
-        ensures enough { IfErr result (λ e. e ≡ Failed) }
+        ensures failed { IfErr result (λ e. e ≡ Failed) }
     {
         self.calls.begin()
     }
