@@ -7,5 +7,6 @@ pub mod Bounds
 pub mod Sound
 pub mod AnyRow
 pub mod ScanLaws
+pub mod WorkedRows
 pub mod DropLaws
 pub mod DropSteps
