@@ -8,3 +8,8 @@ pub mod FreshLaws
 pub mod ActLaws
 pub mod GoingLaws
 mod CommandLaws
+pub mod Apps
+pub mod AskedLaws
+pub mod Digits
+pub mod ProgramLaws
+pub mod WorkedRows

@@ -6,8 +6,8 @@ use Rattle.jv_outside.specs.Causes.{Rose}
 use Rattle.jv_outside.specs.Told.{Gains, GainsFront}
 use Rattle.jv_cmd.specs.declared.ended.Ended.{Ended}
 use Rattle.jv_cmd.specs.declared.ended.Ended.TheVariants.{Whole, OutFailed, OutOfMemory}
-use Rattle.jv_cmd.specs.declared.words.Command.{Command}
-use Rattle.jv_cmd.specs.declared.words.Command.TheVariants.{Format, Session}
+use Rattle.jv_cmd.specs.declared.words.request.Command.{Command}
+use Rattle.jv_cmd.specs.declared.words.request.Command.TheVariants.{Format, Session}
 use Rattle.jv_cmd.specs.Ends.{status_of, message_of}
 use Rattle.jv_cmd.specs.Fresh.{formatted_text, PutsRows, CannotFormat}
 use Rattle.jv_cmd.specs.Opening.{CannotOpen, IsKnown}

@@ -1,6 +1,8 @@
 -- The definitions that contracts cite.
 pub mod Texts
 pub mod Cutting
+pub mod Values
+pub mod Program
 pub mod Words
 pub mod Ends
 pub mod Run

@@ -1,19 +1,126 @@
--- Stands in.
-use Rattle.std.specs.Prelude.{◌≡◌, ℕ, List, Option, None, Some, Result, Ok, Err, IsTrue}
+-- What the words of a command line ask for.
+use Rattle.std.specs.Prelude.{◌≡◌, ◌≢◌, ◌&&◌, Bool, false, if◌then◌else◌, List, [], ◌∷◌, Option, None, Some, option_and_then, option_map, codes, bytes_eq, string_bytes, Result, Ok, Err, IsTrue}
+use Rattle.std.specs.Option.{option_map_or}
+use Rattle.clap.specs.Words.{Row, Text, fault_of, first_of, subcommand_of, subcommand_rows_of}
+use Rattle.clap.specs.declared.parser.matches.ArgMatches.{ArgMatches}
+use Rattle.clap.specs.Kinds.{Kinds}
+use Rattle.jv_model.specs.declared.setting.Setting.{Setting}
 use Rattle.jv_model.specs.RowGrammar.{is_setting}
-use Rattle.jv_cmd.specs.declared.words.Command.{Command}
-use Rattle.jv_cmd.specs.declared.words.Command.TheVariants.{Format, Session}
-use Rattle.jv_cmd.specs.declared.words.WordsFault.{WordsFault}
-use Rattle.jv_cmd.specs.declared.words.WordsFault.TheVariants.{Refused, Memory}
+use Rattle.jv_cmd.specs.declared.words.request.Command.{Command}
+use Rattle.jv_cmd.specs.declared.words.request.Command.TheVariants.{Format, Session}
+use Rattle.jv_cmd.specs.declared.words.request.SessionOptions.{SessionOptions}
+use Rattle.jv_cmd.specs.declared.words.request.WordsFault.{WordsFault}
+use Rattle.jv_cmd.specs.declared.words.request.WordsFault.TheVariants.{Refused, Memory}
+use Rattle.jv_cmd.specs.declared.words.read.BadValue.{BadValue}
+use Rattle.jv_cmd.specs.declared.words.read.BadValue.TheVariants as bad
+use Rattle.jv_cmd.specs.Values.{block_size_of, number_within, place_of}
+use Rattle.jv_cmd.specs.Program.{program_app}
 
-abbrev pub asked : List (List ℕ) → Option Command
-asked words = None
+-- the second step, if the first gave a value
+infixl 10 ◌>>=◌
+abbrev pub ◌>>=◌ : {A B : Type 0} → Option A → (A → Option B) → Option B
+o >>= f = option_and_then f o
 
+-- the value of this name, read from its text
+abbrev pub value_in : {A : Type 0} → (Text → Option A) → Text → List Row → Option A
+value_in read id rows = option_and_then read (first_of id rows)
+
+-- the value of this name is this text
+abbrev pub has_text : Text → Text → List Row → Bool
+has_text id word rows = option_map_or (λ text. bytes_eq text word) (first_of id rows) false
+
+-- the flag of this name was given
+abbrev pub is_given : Text → List Row → Bool
+is_given id rows = has_text id (codes "true") rows
+
+-- objects lie in files, and blocks aren't compressed
+abbrev pub is_built_store : List Row → Bool
+is_built_store rows = has_text (codes "storage") (codes "file") rows && has_text (codes "compress") (codes "none") rows
+
+-- the setting, where rows may have it
+abbrev pub where_allowed : Setting → Option Setting
+where_allowed setting = (if is_setting setting then Some setting else None)
+
+unfoldable pub setting_fields_in : List Row → Option Setting
+setting_fields_in rows = do
+  block ← value_in block_size_of (codes "block-size") rows
+  capacity ← value_in (number_within 0 4294967296) (codes "capacity") rows
+  inodes ← value_in (number_within 0 4611686018427387904) (codes "inodes") rows
+  days ← value_in (number_within 0 36500) (codes "trash-days") rows
+  name ← first_of (codes "name") rows
+  bucket ← first_of (codes "bucket") rows
+  Some (record { version = 1; block = block; trash_days = days; capacity = capacity; inodes = inodes; hash = if is_given (codes "hash-prefix") rows then 1 else 0; name = name; bucket = bucket })
+
+unfoldable pub stored_setting_in : List Row → Option Setting
+stored_setting_in rows = setting_fields_in rows >>= where_allowed
+
+-- the setting that `format` is to write
+abbrev pub setting_in : List Row → Option Setting
+setting_in rows = (if is_built_store rows then stored_setting_in rows else None)
+
+unfoldable pub options_in : List Row → Option SessionOptions
+options_in rows = do
+  cache ← value_in (number_within 0 256) (codes "cache-size") rows
+  buffer ← value_in (number_within 8 256) (codes "buffer-size") rows
+  uploads ← value_in (number_within 0 64) (codes "max-uploads") rows
+  folder ← first_of (codes "cache-dir") rows
+  Some (record { cache = cache; buffer = buffer; uploads = uploads; writeback = is_given (codes "writeback") rows; cache_dir = folder })
+
+unfoldable pub format_in : List Row → Option Command
+format_in rows = do
+  place ← value_in place_of (codes "url") rows
+  option_map (Format place) (setting_in rows)
+
+unfoldable pub session_in : List Row → Option Command
+session_in rows = do
+  place ← value_in place_of (codes "url") rows
+  option_map (Session place) (options_in rows)
+
+-- the command of this name, with the values in the rows
+abbrev pub command_in : Text → List Row → Option Command
+command_in name rows =
+    if bytes_eq name (codes "format") then format_in rows
+    else (if bytes_eq name (codes "session") then session_in rows else None)
+
+abbrev pub command_at : Option (Text × List Row) → Option Command
+command_at stop = option_and_then (λ p. command_in p.0 p.1) stop
+
+-- the command that `clap` stopped at, where it finds no fault
+abbrev pub read_by : Kinds → Option (Text × List Row) → Option Command
+read_by [] stop = command_at stop
+read_by (k ∷ ks) stop = None
+
+-- The command that the words ask for. They are refused where there is none: by `clap`, or for a value off its range.
+unfoldable pub asked : List Text → Option Command
+asked words = read_by (fault_of program_app words) (subcommand_of program_app words)
+
+abbrev pub refused_text : Text
+refused_text = codes "juicevol: words refused\n"
+
+-- the command that is asked for, or a refusal where there is none
 abbrev pub Answers : Option Command → Result Command WordsFault → Type 0
-Answers asked (Ok command) = asked ≡ Some command
-Answers asked (Err (Refused text)) = asked ≡ None
-Answers asked (Err Memory) = Unit {0}
+Answers command (Ok answer) = command ≡ Some answer
+Answers command (Err (Refused text)) = command ≡ None
+Answers command (Err Memory) = Unit {0}
 
+-- the value, or `Off` where there is none
+abbrev pub Reads : {T : Type 0} → Result T BadValue → Option T → Type 0
+Reads (Ok value) meant = meant ≡ Some value
+Reads (Err bad.Off) meant = meant ≡ None
+Reads (Err bad.Memory) meant = Unit {0}
+
+-- the words of a parse: where `clap` finds no fault, the command is the one that it stopped at
+abbrev pub Parses : List Text → Result ArgMatches WordsFault → Type 0
+Parses words (Ok matches) = (fault_of program_app words ≡ []) × (subcommand_rows_of matches ≡ subcommand_of program_app words)
+Parses words (Err (Refused text)) = fault_of program_app words ≢ []
+Parses words (Err Memory) = Unit {0}
+
+-- a refusal that says nothing of the words
+abbrev pub SaysRefused : WordsFault → Type 0
+SaysRefused (Refused text) = string_bytes text ≡ refused_text
+SaysRefused Memory = Unit {0}
+
+-- a setting that is to be written is one that rows may have
 abbrev pub IsAllowedCommand : Command → Type 0
 IsAllowedCommand (Format place setting) = IsTrue (is_setting setting)
 IsAllowedCommand (Session place options) = Unit {0}

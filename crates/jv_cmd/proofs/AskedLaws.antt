@@ -1,0 +1,82 @@
+-- What words ask for, by what `clap` makes of them.
+use Rattle.std.proofs.Common.{◌≡◌, ◌≢◌, Bool, true, false, IsTrue, [], ◌∷◌, List, Option, None, Some, Ok, Err, refl, ap, sym, subst, ◌∙◌, codes, bytes_eq}
+use Rattle.std.specs.Prelude.{if◌then◌else◌, IfSome, option_and_then, option_map}
+use Rattle.jv_model.specs.declared.setting.Setting.{Setting}
+use Rattle.jv_model.specs.RowGrammar.{is_setting}
+use Rattle.clap.specs.Words.{Row, Text, Kinds, fault_of, subcommand_of, subcommand_rows_of}
+use Rattle.clap.specs.declared.parser.matches.ArgMatches.{ArgMatches}
+use Rattle.jv_cmd.specs.declared.words.request.Command.{Command}
+use Rattle.jv_cmd.specs.declared.words.request.Command.TheVariants.{Format, Session}
+use Rattle.jv_cmd.specs.declared.words.request.SessionOptions.{SessionOptions}
+use Rattle.jv_cmd.specs.declared.words.request.WordsFault.{WordsFault}
+use Rattle.jv_cmd.specs.declared.words.request.WordsFault.TheVariants.{Refused, Memory}
+use Rattle.jv_cmd.specs.Program.{program_app}
+use Rattle.jv_cmd.specs.Values.{place_of}
+use Rattle.jv_cmd.specs.Words.{Answers, Parses, asked, command_at, command_in, read_by, format_in, session_in, options_in, setting_in, setting_fields_in, stored_setting_in, where_allowed, value_in, is_built_store, IsAllowedCommand}
+
+read_by_a_fault : (kinds : Kinds) (stop : Option (Text × List Row)) → kinds ≢ [] → read_by kinds stop ≡ None
+read_by_a_fault [] stop h = absurd (h refl)
+read_by_a_fault (k ∷ ks) stop h = refl
+
+-- words that `clap` refuses ask for nothing
+pub refused_words : (words : List Text) (fault : WordsFault) → Parses words (Err fault) → Answers (asked words) (Err fault)
+unfolding asked
+refused_words words (Refused text) h = read_by_a_fault (fault_of program_app words) (subcommand_of program_app words) h
+refused_words words Memory h = tt
+
+-- the others ask for what is read of the subcommand
+pub asked_of : (words : List Text) (matches : ArgMatches) → Parses words (Ok matches) → asked words ≡ command_at (subcommand_rows_of matches)
+unfolding asked
+asked_of words matches h = ap (λ kinds. read_by kinds (subcommand_of program_app words)) h.0 ∙ ap command_at (sym h.1)
+
+-- and are refused where that is nothing
+pub off_words : (words : List Text) (fault : WordsFault) → asked words ≡ None → Answers (asked words) (Err fault)
+off_words words (Refused text) e = e
+off_words words Memory e = tt
+
+-- what is asked for is allowed
+
+all_then : {A B : Type 0} (o : Option A) (f : A → Option B) (P : B → Type 0) → ((a : A) → IfSome (f a) P) → IfSome (option_and_then f o) P
+all_then None f P h = tt
+all_then (Some a) f P h = h a
+
+all_mapped : {A B : Type 0} (o : Option A) (f : A → B) (P : B → Type 0) → IfSome o (λ a. P (f a)) → IfSome (option_map f o) P
+all_mapped None f P h = tt
+all_mapped (Some a) f P h = h
+
+if_allowed : (allowed : Bool) (setting : Setting) → is_setting setting ≡ allowed → IfSome (if allowed then Some setting else None) (λ s. IsTrue (is_setting s))
+if_allowed true setting e = e
+if_allowed false setting e = tt
+
+stored_allowed : (rows : List Row) → IfSome (stored_setting_in rows) (λ s. IsTrue (is_setting s))
+unfolding stored_setting_in
+stored_allowed rows = all_then (setting_fields_in rows) where_allowed (λ s. IsTrue (is_setting s)) (λ setting. if_allowed (is_setting setting) setting refl)
+
+setting_allowed : (built : Bool) (rows : List Row) → IfSome (if built then stored_setting_in rows else None) (λ s. IsTrue (is_setting s))
+setting_allowed true rows = stored_allowed rows
+setting_allowed false rows = tt
+
+format_allowed : (rows : List Row) → IfSome (format_in rows) IsAllowedCommand
+unfolding format_in
+format_allowed rows = all_then (value_in place_of (codes "url") rows) (λ place. option_map (Format place) (setting_in rows)) IsAllowedCommand (λ place. all_mapped (setting_in rows) (Format place) IsAllowedCommand (setting_allowed (is_built_store rows) rows))
+
+session_allowed : (rows : List Row) → IfSome (session_in rows) IsAllowedCommand
+unfolding session_in
+session_allowed rows = all_then (value_in place_of (codes "url") rows) (λ place. option_map (Session place) (options_in rows)) IsAllowedCommand (λ place. all_mapped (options_in rows) (Session place) IsAllowedCommand (always (options_in rows)))
+  where
+    always : (o : Option SessionOptions) → IfSome o (λ _. Unit {0})
+    always None = tt
+    always (Some options) = tt
+
+by_name : (is_format is_session : Bool) (rows : List Row) → IfSome (if is_format then format_in rows else (if is_session then session_in rows else None)) IsAllowedCommand
+by_name true is_session rows = format_allowed rows
+by_name false true rows = session_allowed rows
+by_name false false rows = tt
+
+read_allowed : (kinds : Kinds) (stop : Option (Text × List Row)) → IfSome (read_by kinds stop) IsAllowedCommand
+read_allowed [] stop = all_then stop (λ p. command_in p.0 p.1) IsAllowedCommand (λ p. by_name (bytes_eq p.0 (codes "format")) (bytes_eq p.0 (codes "session")) p.1)
+read_allowed (k ∷ ks) stop = tt
+
+pub asked_allowed : (words : List Text) (command : Command) → asked words ≡ Some command → IsAllowedCommand command
+unfolding asked
+asked_allowed words command e = subst (λ o. IfSome o IsAllowedCommand) e (read_allowed (fault_of program_app words) (subcommand_of program_app words))

@@ -1,0 +1,50 @@
+-- Numbers of a few digits, and lengths of blocks.
+use Rattle.std.proofs.Common.{◌≡◌, ℕ, ◌^◌, ◌+◌, ◌-◌, ◌*◌, ◌<◌, ◌≤◌, true, false, not, ◌==◌, nat_le, List, [], ◌∷◌, length, get_or, take, arith, refl, zero, suc, None, inl, inr}
+use Rattle.std.specs.List.{list_all}
+use Rattle.std.proofs.lemmas.Bool.{and_parts, cases_lt, leb-true}
+use Rattle.std.proofs.lemmas.Bool.Decides.{nat_tests}
+use Rattle.std.proofs.lemmas.Grind.{pow_more}
+use Rattle.std.proofs.lemmas.List.Sums.{fold_more}
+use Rattle.std.proofs.Math.Nat.{pow-le-pow_right}
+use Rattle.jv_model.specs.Spelling.{is_decimal_digit, is_numeral, value_of}
+use Rattle.jv_cmd.specs.Values.{as_block_size, is_block_size}
+
+-- one digit more
+pub value_of_more : (digits : List ℕ) (i : ℕ) → i < length digits → value_of 10 (take (i + 1) digits) ≡ value_of 10 (take i digits) * 10 + (get_or digits i 0 - 48)
+value_of_more digits i below = fold_more (λ n digit. n * 10 + (digit - 48)) 0 digits i 0 below
+
+-- ten times more
+pub power_more : (n digit i : ℕ) → n < 10 ^ i → digit < 10 → n * 10 + digit < 10 ^ (i + 1)
+power_more n digit i below small = omega (arith, pow_more 10 i)
+
+-- 19 digits are few
+pub power_few : (i : ℕ) → i ≤ 19 → 10 ^ i ≤ 10000000000000000000
+power_few i few = pow-le-pow_right {n = 10} (omega arith) few
+
+-- each byte of a numeral is a digit
+pub numeral_digits : (text : List ℕ) → is_numeral text ≡ true → list_all is_decimal_digit text ≡ true
+numeral_digits [] h = refl
+numeral_digits (digit ∷ []) h = rw h refl
+numeral_digits (digit ∷ more ∷ digits) h = (and_parts (not (digit == 48)) _ h).1
+
+digit_at_all : (text : List ℕ) (i : ℕ) → list_all is_decimal_digit text ≡ true → i < length text → get_or text i 0 ≤ 57
+digit_at_all [] i h below = absurd (omega arith)
+digit_at_all (digit ∷ digits) zero h below = leb-true digit 57 (and_parts (nat_le 48 digit) _ (and_parts (is_decimal_digit digit) _ h).0).1
+digit_at_all (digit ∷ digits) (suc i) h below = digit_at_all digits i (and_parts (is_decimal_digit digit) _ h).1 (omega arith)
+
+pub digit_at : (text : List ℕ) (i : ℕ) → is_numeral text ≡ true → i < length text → get_or text i 0 - 48 < 10
+digit_at text i h below = omega (arith, digit_at_all text i (numeral_digits text h) below)
+
+-- no block is longer than 16 MiB
+pub large_is_no_block : (bytes : ℕ) → 16777216 < bytes → is_block_size bytes ≡ false
+unfolding is_block_size
+large_is_no_block bytes large = grind (arith, nat_tests)
+
+pub no_block : (bytes : ℕ) → 2 ^ 64 ≤ bytes → as_block_size bytes ≡ None
+no_block bytes large = rw (large_is_no_block bytes (omega arith)) refl
+
+pub block_is_small : (bytes : ℕ) → is_block_size bytes ≡ true → bytes ≤ 16777216
+block_is_small bytes h = elim (cases_lt 16777216 bytes) [
+  | inl above ↦ let no = large_is_no_block bytes above in cc
+  | inr small ↦ small
+]

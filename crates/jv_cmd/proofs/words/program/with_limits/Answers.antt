@@ -1,0 +1,10 @@
+use Rattle.std.proofs.Common.{refl}
+use Rattle.jv_cmd.proofs.Apps.{adds, adds_last}
+use Rattle.jv_cmd.proofs.words.program.with_limits.Goals as goal
+
+pub returns : goal.returns
+returns c =
+    let e1 = adds _ _ _ _ c.in_ok-command.command c.in_ok-command.ensures refl c.option-block.ensures.reads in
+    let e2 = adds _ _ _ _ c.in_ok-command-2.command c.in_ok-command-2.ensures e1 c.option-capacity.ensures.reads in
+    let e3 = adds _ _ _ _ c.in_ok-command-3.command c.in_ok-command-3.ensures e2 c.option-inodes.ensures.reads in
+    adds_last _ _ _ _ c.with_arg-4.result c.with_arg-4.ensures e3 c.option-trash.ensures.reads

@@ -1,0 +1,55 @@
+-- The program's commands and their options, as `clap` reads them.
+use Rattle.std.specs.Prelude.{◌≡◌, true, false, [], ◌∷◌, Some, codes}
+use Rattle.clap.specs.Words.{App, Rule, Text, app_of, new_app, new_rule, rule_of, with_rule, with_subcommand}
+use Rattle.clap.specs.Simple.{on_top}
+use Rattle.clap.specs.declared.builder.action.ArgAction.TheVariants.{Set, SetTrue}
+use Rattle.clap.specs.declared.builder.arg.Arg.{Arg}
+use Rattle.clap.specs.declared.builder.command.Command.{Command}
+use Rattle.clap.specs.declared.builder.command.Command.TheViews.{out-Command}
+
+-- a value by its place, that has to be given
+abbrev pub positional : Text → Rule
+positional id = record (new_rule id) { action = Some Set; value_names = 1; required = true }
+
+-- `--id V`, that has to be given
+abbrev pub required_option : Text → Rule
+required_option id = record (new_rule id) { long = Some id; action = Some Set; value_names = 1; required = true }
+
+-- `--id V`, with a default
+abbrev pub option : Text → Text → Rule
+option id default = record (new_rule id) { long = Some id; action = Some Set; value_names = 1; defaults = default ∷ [] }
+
+-- `--id`
+abbrev pub flag : Text → Rule
+flag id = record (new_rule id) { long = Some id; action = Some SetTrue }
+
+-- the options of `format` on how objects are stored
+abbrev pub with_objects : App → App
+with_objects app = with_rule (with_rule (with_rule (with_rule app (required_option (codes "bucket"))) (option (codes "storage") (codes "file"))) (option (codes "compress") (codes "none"))) (flag (codes "hash-prefix"))
+
+-- those on what the volume holds
+abbrev pub with_limits : App → App
+with_limits app = with_rule (with_rule (with_rule (with_rule app (option (codes "block-size") (codes "4M"))) (option (codes "capacity") (codes "0"))) (option (codes "inodes") (codes "0"))) (option (codes "trash-days") (codes "1"))
+
+abbrev pub format_app : App
+format_app = with_limits (with_objects (with_rule (with_rule (new_app (codes "format")) (positional (codes "url"))) (positional (codes "name"))))
+
+abbrev pub session_app : App
+session_app = with_rule (with_rule (with_rule (with_rule (with_rule (with_rule (new_app (codes "session")) (positional (codes "url"))) (option (codes "cache-size") (codes "64"))) (option (codes "buffer-size") (codes "32"))) (option (codes "max-uploads") (codes "20"))) (flag (codes "writeback"))) (option (codes "cache-dir") (codes "juicevol-cache"))
+
+-- the words begin with the command, and without any the answer is the help
+abbrev pub bare_app : App
+bare_app = on_top (λ s. record s { no_binary_name = true; subcommand_required = true; arg_required_else_help = true }) (new_app (codes "juicevol"))
+
+unfoldable pub program_app : App
+program_app = with_subcommand (with_subcommand bare_app format_app.top) session_app.top
+
+-- what `clap` reads of the argument is this rule, and the argument is no subcommand's
+pub record IsRule (rule : Rule) (arg : Arg) : Type 0 where
+  pub reads : rule_of arg ≡ rule
+  pub local : arg.global ≡ false
+
+-- what `clap` reads of the command is this
+pub record IsApp (app : App) (command : Command) : Type 0 where
+  pub reads : app_of command ≡ app
+  pub local : (out-Command command).has_globals ≡ false

@@ -1,0 +1,59 @@
+//! What words may ask for.
+ghost use Rattle.std.specs.Prelude.{◌≡◌};
+ghost use Rattle.jv_cmd.specs.declared.words.request.WordsFault.TheVariants as fault;
+
+use jv_model::{Setting, Text};
+use std::alloc::AllocError;
+use thiserror::Error;
+
+/// What the words ask for.
+#[derive(Debug, Drop, PartialEq, Eq)]
+pub enum Command {
+    /// Format a volume.
+    Format {
+        /// Where its rows lie.
+        place: Text,
+        /// The setting that is to be written.
+        setting: Setting,
+    },
+    /// Run a script over a volume.
+    Session {
+        /// Where its rows lie.
+        place: Text,
+        options: SessionOptions,
+    },
+}
+
+/// The options of a session.
+#[derive(Debug, Drop, PartialEq, Eq)]
+pub struct SessionOptions {
+    /// Each client's cache in MiB, 0 to 256; 0 keeps no block.
+    pub cache: u64,
+    /// The most pending bytes in MiB, 8 to 256.
+    pub buffer: u64,
+    /// Uploads at once, 0 to 64; with 0 there are none but those that a script line asks for.
+    pub uploads: u32,
+    /// Written blocks are staged first, and uploaded later.
+    pub writeback: bool,
+    /// The folder of staged and cached blocks.
+    pub cache_dir: Text,
+}
+
+/// Why words give no command.
+#[derive(Debug, Drop, Error)]
+pub enum WordsFault {
+    /// The words are off, or ask for help. This is the text for standard error, with its line feed.
+    #[error("{0}")]
+    Refused(String),
+    /// Want of memory.
+    #[error("out of memory")]
+    Memory,
+}
+
+impl From<AllocError> for WordsFault {
+    ghost from_gives = { λ _ refusal. refusal ≡ fault.Memory };
+
+    fn from(_error: AllocError) -> WordsFault {
+        WordsFault::Memory
+    }
+}

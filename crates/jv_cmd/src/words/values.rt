@@ -1,0 +1,117 @@
+//! The values of a command line.
+ghost use Rattle.std.specs.Prelude.{◌≤◌, IfSome, ◌≡◌, ◌||◌, ◌==◌, if◌then◌else◌, take, ◌-◌, length, option_map};
+ghost use Rattle.std.specs.List.{list_all};
+ghost use Rattle.std.specs.Option.{option_copied};
+ghost use Rattle.jv_model.specs.Spelling.{is_numeral, is_decimal_digit};
+ghost use Rattle.jv_cmd.specs.Values.{number_of_digits, number_within, digits_of, unit_of, is_block_size, block_size_of, place_of};
+
+const KIB: u64 = 1_024;
+
+const MIB: u64 = 1_048_576;
+
+/// What comes before the path in the URL of a volume.
+const SCHEME: &[u8] = b"sqlite3://";
+
+/// The text of a number that is at most 10^19 - 1: decimal digits without a leading zero.
+#[tactic(auto, unfolding(crate::specs::Values::number_of_digits))]
+fn number(text: &[u8]) -> Option<u64>
+    ensures { result ≡ number_of_digits text.now }
+{
+    if !is_numeral(text) || text.len() > 19 {
+        return None;
+    }
+    let mut number: u64 = 0;
+    for digit in text {
+        number = number * 10 + u64::from(*digit - b'0');
+    }
+    Some(number)
+}
+
+fn is_numeral(text: &[u8]) -> bool
+    ensures { result ≡ is_numeral text.now }
+{
+    let Some((first, rest)) = text.split_first() else {
+        return false;
+    };
+    (*first != b'0' || rest.is_empty()) && all_decimal_digits(text)
+}
+
+fn all_decimal_digits(text: &[u8]) -> bool
+    ensures { result ≡ list_all is_decimal_digit text.now }
+{
+    text.iter().all(|c| c.is_ascii_digit())
+}
+
+/// A number from `least` to `most`.
+#[tactic(auto, unfolding(crate::specs::Values::number_within))]
+pub(crate) fn number_within(least: u64, most: u64, text: &[u8]) -> Option<u64>
+    ensures value { result ≡ number_within least most text.now }
+    ensures range { IfSome result (λ n. n ≤ most) }
+{
+    let number = number(text)?;
+    if number < least || number > most {
+        return None;
+    }
+    Some(number)
+}
+
+/// The length of a block in bytes, whose text counts KiB, or with a suffix K or M.
+#[tactic(auto, unfolding(crate::specs::Values::block_size_of))]
+pub(crate) fn block_size(text: &[u8]) -> Option<u32>
+    ensures { result ≡ block_size_of text.now }
+{
+    let bytes = number(digits(text))?.checked_mul(unit(text))?;
+    if !is_block_size(bytes) {
+        return None;
+    }
+    Some(bytes as u32)
+}
+
+#[tactic(auto, unfolding(crate::specs::Values::digits_of))]
+fn digits(text: &[u8]) -> &[u8]
+    ensures { result.now ≡ digits_of text.now }
+{
+    match text.last() {
+        Some(b'K' | b'M') => &text[..text.len() - 1],
+        _ => text,
+    }
+}
+
+#[tactic(auto, unfolding(crate::specs::Values::unit_of))]
+fn unit(text: &[u8]) -> u64
+    ensures { result ≡ unit_of text.now }
+{
+    match text.last() {
+        Some(b'M') => MIB,
+        _ => KIB,
+    }
+}
+
+#[tactic(auto, unfolding(crate::specs::Values::is_block_size))]
+fn is_block_size(bytes: u64) -> bool
+    ensures { result ≡ is_block_size bytes }
+{
+    matches!(
+        bytes,
+        65_536
+            | 131_072
+            | 262_144
+            | 524_288
+            | 1_048_576
+            | 2_097_152
+            | 4_194_304
+            | 8_388_608
+            | 16_777_216
+    )
+}
+
+/// The place of a volume's rows, from its URL.
+#[tactic(auto, unfolding(crate::specs::Values::place_of))]
+pub(crate) fn place(url: &[u8]) -> Option<&[u8]>
+    ensures { option_map (λ place. place.now) result ≡ place_of url.now }
+{
+    if url.len() <= 10 || &url[..10] != SCHEME {
+        return None;
+    }
+    Some(&url[10..])
+}
