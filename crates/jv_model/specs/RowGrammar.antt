@@ -228,17 +228,17 @@ dead_of bytes = do
 -- the row that the bytes spell in the table of that number
 unfoldable pub row_of : ℕ → List ℕ → Option Row
 row_of tab bytes =
-  if tab == 0 then option_map OfSetting (setting_of bytes) else
-  if tab == 1 then option_map OfCounters (counters_of bytes) else
-  if tab == 2 then option_map OfNode (node_of bytes) else
-  if tab == 3 then option_map OfEdge (edge_of bytes) else
-  if tab == 4 then option_map OfList (list_of bytes) else
-  if tab == 5 then option_map OfSlice (slice_of bytes) else
-  if tab == 6 then option_map OfSession (session_of bytes) else
-  if tab == 7 then option_map (λ _. OfSustained) (sustained_of bytes) else
-  if tab == 8 then option_map OfDropped (dropped_of bytes) else
-  if tab == 9 then option_map OfDead (dead_of bytes) else
-  None
+    if tab == 0 then option_map OfSetting (setting_of bytes) else
+    if tab == 1 then option_map OfCounters (counters_of bytes) else
+    if tab == 2 then option_map OfNode (node_of bytes) else
+    if tab == 3 then option_map OfEdge (edge_of bytes) else
+    if tab == 4 then option_map OfList (list_of bytes) else
+    if tab == 5 then option_map OfSlice (slice_of bytes) else
+    if tab == 6 then option_map OfSession (session_of bytes) else
+    if tab == 7 then option_map (λ _. OfSustained) (sustained_of bytes) else
+    if tab == 8 then option_map OfDropped (dropped_of bytes) else
+    if tab == 9 then option_map OfDead (dead_of bytes) else
+    None
 
 -- its bytes
 abbrev pub row_bytes : Row → List ℕ
