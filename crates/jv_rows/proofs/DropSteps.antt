@@ -1,5 +1,5 @@
 -- Lowering counts slice after slice, as a loop does.
-use Rattle.std.proofs.Common.{◌≡◌, ℕ, ◌+◌, ◌<◌, ◌≤◌, cond, List, [], ◌∷◌, ◌++◌, length, get_or, take, drop, Option, Some, None, Result, Ok, Err, refl, sym, ap, subst, ◌∙◌, append_assoc, arith}
+use Rattle.std.proofs.Common.{◌≡◌, ℕ, ◌+◌, ◌<◌, ◌≤◌, cond, List, [], ◌++◌, length, get_or, take, drop, Option, Some, None, Result, Ok, Err, refl, sym, ap, subst, ◌∙◌, append_assoc, arith}
 use Rattle.std.specs.Prelude.{IfSome, IfErr, OnOk}
 use Rattle.std.specs.Ordering.{nat_cmp}
 use Rattle.std.specs.BTreeMap.{is_at}
@@ -11,7 +11,7 @@ use Rattle.jv_model.specs.declared.fault.RowFault.TheVariants.{Bad, Failed, Memo
 use Rattle.jv_model.specs.RowKeys.{RowMap}
 use Rattle.jv_outside.specs.declared.batch.Change.{Change}
 use Rattle.jv_outside.specs.Causes.{Rose}
-use Rattle.jv_rows.specs.Drops.{stored_count, slices_after, count_of_records, Dropping, stopped, followed_by, slice_dropping, slices_dropping, records_dropping, IsFront, RefusesDrops, AddsDrops}
+use Rattle.jv_rows.specs.Drops.{stored_count, slices_after, Dropping, stopped, followed_by, slice_dropping, slices_dropping, records_dropping, IsFront, RefusesDrops, AddsDrops}
 use Rattle.jv_rows.proofs.DropLaws.{none, left_count, left_more, IsLeft, is_left, is_not_left}
 
 -- what is left to drop before a record

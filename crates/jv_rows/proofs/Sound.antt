@@ -1,5 +1,5 @@
 -- What is read by an exact grammar is spelled so.
-use Rattle.std.proofs.Common.{◌≡◌, ℕ, Bool, List, Option, Some, Result, Ok, Err, sym, ap, ◌∙◌}
+use Rattle.std.proofs.Common.{ℕ, Bool, List, Option, Result, Ok, Err, sym, ap, ◌∙◌}
 use Rattle.std.specs.Prelude.{IfOk}
 use Rattle.jv_rows.specs.declared.misread.Misread.{Misread}
 use Rattle.jv_rows.specs.Reads.{Gives, IsSpelled}

@@ -1,10 +1,8 @@
 -- Rows worked out by hand, as closed terms.
-use Rattle.std.proofs.Common.{◌≡◌, ℕ, List, [], ◌∷◌, ◌++◌, Option, Some, None, refl}
+use Rattle.std.proofs.Common.{◌≡◌, ℕ, List, [], ◌∷◌, Some, None, refl}
 use Rattle.std.specs.Prelude.{codes}
 use Rattle.jv_model.specs.declared.setting.Setting.{Setting}
 use Rattle.jv_model.specs.declared.slice.Rec.{Rec}
-use Rattle.jv_model.specs.declared.row.Node.{Node}
-use Rattle.jv_model.specs.declared.row.Session.{Session}
 use Rattle.std.specs.Str.{is_utf8, chars}
 use Rattle.jv_model.specs.RowGrammar.{setting_bytes, setting_of, node_of, record_bytes, list_bytes, record_at, records_at, list_of, session_of, row_of}
 use Rattle.jv_rows.specs.Drops.{slices_named}

@@ -81,7 +81,8 @@ pub fn scan_rows<K: Keeper>(
     after: Option<&RowKey>,
     n: u32,
 ) -> Result<RowList, RowFault>
-    ensures { ScansRows tab (option_copied after.entry) n (K.rows k.old) (K.rows k.new) (K.faults k.old) (K.faults k.new) result }
+    ensures { ScansRows tab (option_copied after.entry) n
+        (K.rows k.old) (K.rows k.new) (K.faults k.old) (K.faults k.new) result }
 {
     let rows = k.scan(tab, after, n)?;
     typed_rows(alloc, rows)

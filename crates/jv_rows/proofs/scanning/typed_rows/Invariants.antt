@@ -1,6 +1,5 @@
-use Rattle.std.proofs.Common.{◌≡◌, length, drop}
-use Rattle.jv_rows.specs.Scans.{rows_read, AreAllowed}
-use Rattle.jv_rows.proofs.ScanLaws.{behind, IsReadSoFar}
+use Rattle.std.proofs.Common.{length}
+use Rattle.jv_rows.proofs.ScanLaws.{IsReadSoFar}
 use Rattle.jv_rows.proofs.scanning.typed_rows.Given as goal
 
 abbrev pub invariant-loop-key : goal.invariant-loop-key
