@@ -10,3 +10,4 @@ pub mod GrowthLaws
 pub mod CloseLaws
 pub mod WriteLaws
 pub mod BlockNameRows
+pub mod SliceRows

@@ -5,3 +5,5 @@ pub mod NameLaws
 pub mod PlanLaws
 pub mod BlockLaws
 pub mod ListingLaws
+pub mod PlanFormLaws
+pub mod NeedLaws

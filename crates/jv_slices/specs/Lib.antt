@@ -2,3 +2,4 @@
 pub mod Reading
 pub mod Runs
 pub mod Listing
+pub mod Laws
