@@ -50,7 +50,7 @@ fn settings_are_read_again(rt: HostRuntime) -> Result<(), Fail> {
         version: u32::MAX,
         block: 16_777_216,
         trash_days: 36_500,
-        capacity: 4_294_967_295,
+        capacity: 4_294_967_296,
         inodes: 1 << 62,
         hash: 1,
         name: equal_bytes(alloc, b'z', 63)?,
