@@ -1,9 +1,10 @@
 //! The program: its words and the process's own streams and clock, handed to `jv_cmd`.
 #![tactic(auto)]
 
-use jv_cmd::{Finish, World, run};
-use jv_model::Journal;
-use jv_outside::{Reading, Sink, Ticking, Writing, write_whole};
+use jv_cmd::{Finish, World, default_setting, fresh_rows, run};
+use jv_model::{Down, Journal, Moment, Sequence};
+use jv_outside::{Fails, Keeper, MemKeeper, Reading, Sink, Ticking, Writing, write_whole};
+use std::alloc::Global;
 use std::process::ExitCode;
 use std::rt::Env;
 use std::{env, io};
@@ -21,11 +22,25 @@ fn words(rt: &(impl Env + AllocGlobal)) -> io::Result<Vec<String>> {
     Ok(all.collect(rt.alloc())?)
 }
 
+/// A keeper in memory with the rows of a volume named `juicefs` that was formatted at moment 0. It never fails.
+fn keeper(alloc: Global) -> Result<MemKeeper, Down> {
+    let batch = fresh_rows(alloc, &default_setting(alloc)?, Moment(0))?;
+    let never = Fails::At(Sequence::new(alloc));
+    let mut keeper = MemKeeper::new(alloc, Sequence::new(alloc), never);
+    keeper.commit(&batch)?;
+    Ok(keeper)
+}
+
+/// Says that memory is wanting, and gives the exit status.
+fn give_up(err: &mut impl Sink) -> u8 {
+    let _ = write_whole(err, b"juicevol: out of memory\n");
+    OUT_OF_MEMORY
+}
+
 /// Says why there are no words, and gives the exit status.
 fn refuse(error: &io::Error, err: &mut impl Sink) -> u8 {
     if error.kind() == io::ErrorKind::OutOfMemory {
-        let _ = write_whole(err, b"juicevol: out of memory\n");
-        return OUT_OF_MEMORY;
+        return give_up(err);
     }
     let _ = write_whole(err, b"juicevol: words refused\n");
     WORDS_REFUSED
@@ -38,10 +53,14 @@ fn main(rt: HostRuntime) -> ExitCode {
         Ok(words) => words,
         Err(error) => return ExitCode::from(refuse(&error, &mut err)),
     };
+    let Ok(keeper) = keeper(alloc) else {
+        return ExitCode::from(give_up(&mut err));
+    };
     let world = World {
         source: Reading::new(rt.stdin()),
         out: Writing::new(rt.stdout()),
         err,
+        keeper,
         clock: Ticking::new(rt),
         journal: Journal::new(alloc),
     };

@@ -70,13 +70,10 @@ pub fn fresh_rows(alloc: Global, setting: &Setting, at: Moment) -> Result<Batch,
     let mut batch = Batch::new(alloc);
     put_setting(alloc, &mut batch, setting)?;
     put_counters(alloc, &mut batch, &FRESH_COUNTERS)?;
-    put_node(alloc, &mut batch, ROOT, &fresh_directory(alloc, 0o777, at))?;
-    put_node(
-        alloc,
-        &mut batch,
-        TRASH_ROOT,
-        &fresh_directory(alloc, 0o555, at),
-    )?;
+    let root = fresh_directory(alloc, 0o777, at);
+    put_node(alloc, &mut batch, ROOT, &root)?;
+    let trash = fresh_directory(alloc, 0o555, at);
+    put_node(alloc, &mut batch, TRASH_ROOT, &trash)?;
     Ok(batch)
 }
 

@@ -1,9 +1,9 @@
 //! The top call over devices in memory: its answers, its limits, and failing calls.
 ghost use Rattle.std.specs.Prelude.{◌<◌};
 
-use crate::{Finish, World, run};
-use jv_model::{Bytes, Journal, Moment, Sequence, copied};
-use jv_outside::{Fails, MemClock, MemSink, MemSource};
+use crate::{Finish, World, default_setting, fresh_rows, run};
+use jv_model::{Bytes, Journal, Moment, RowKey, Rows, Sequence, copied};
+use jv_outside::{Change, Fails, Keeper, MemClock, MemKeeper, MemSink, MemSource};
 use std::alloc::{AllocError, Global};
 use std::test::Fail;
 
@@ -14,6 +14,7 @@ struct Failing {
     out: u64,
     err: u64,
     clock: u64,
+    keeper: u64,
 }
 
 const NEVER: Failing = Failing {
@@ -21,6 +22,7 @@ const NEVER: Failing = Failing {
     out: 0,
     err: 0,
     clock: 0,
+    keeper: 0,
 };
 
 /// What a run came to.
@@ -44,29 +46,84 @@ fn sink(alloc: Global, most: usize, failing: u64) -> Result<MemSink, AllocError>
     Ok(MemSink::new(Sequence::new(alloc), failing_at(alloc, failing)?).in_pieces_of(most))
 }
 
+/// The bytes of the setting's row of a fresh volume, changed by a test.
+#[derive(Clone, Copy)]
+enum SettingRow {
+    /// As it was formatted.
+    Whole,
+    /// Without its last byte.
+    Short,
+    /// Of version 2.
+    Newer,
+}
+
+/// A row of a fresh volume.
+fn row_of(
+    alloc: Global,
+    change: &Change,
+    setting: SettingRow,
+) -> Result<(RowKey, Bytes), AllocError> {
+    let Change::Put(key, bytes) = change else {
+        return Err(AllocError);
+    };
+    let mut bytes = bytes.as_slice().to_vec(alloc)?;
+    if key.tab == 0 {
+        match setting {
+            SettingRow::Whole => {}
+            SettingRow::Short => drop(bytes.pop()),
+            SettingRow::Newer => bytes[..4].copy_from_slice(&[0, 0, 0, 2]),
+        }
+    }
+    Ok((key.copied(alloc)?, Sequence::from_vec(bytes)))
+}
+
+/// The rows of a volume that was formatted at moment 0, but for that of its setting.
+fn volume_rows(alloc: Global, setting: SettingRow) -> Result<Rows, AllocError> {
+    let batch = fresh_rows(alloc, &default_setting(alloc)?, Moment(0))?;
+    let mut rows = Sequence::new(alloc);
+    for change in batch.as_slice() {
+        rows.push(row_of(alloc, change, setting)?)?;
+    }
+    Ok(rows)
+}
+
+/// The number of rows that a keeper has in the tables of a fresh volume, at most nine in each.
+fn row_count(keeper: &mut MemKeeper) -> usize {
+    let mut count: usize = 0;
+    for tab in 0..3 {
+        if let Ok(rows) = keeper.scan(tab, None, 9) {
+            count = count.saturating_add(rows.len());
+        }
+    }
+    count
+}
+
 fn run_over(
     alloc: Global,
     words: &[String],
     script: Bytes,
     most: usize,
     failing: Failing,
-) -> Result<Outcome, AllocError>
+    rows: Rows,
+) -> Result<(Outcome, MemKeeper), AllocError>
     requires { 0 < most }
 {
     let world = World {
         source: MemSource::new(script, failing_at(alloc, failing.source)?).in_pieces_of(most),
         out: sink(alloc, most, failing.out)?,
         err: sink(alloc, most, failing.err)?,
+        keeper: MemKeeper::new(alloc, rows, failing_at(alloc, failing.keeper)?),
         clock: MemClock::new(Moment(1000), failing_at(alloc, failing.clock)?),
         journal: Journal::new(alloc),
     };
     let Finish { status, world } = run(alloc, words, world);
-    Ok(Outcome {
+    let outcome = Outcome {
         status,
         out: copied(alloc, world.out.taken())?,
         err: copied(alloc, world.err.taken())?,
         entries: world.journal.len(),
-    })
+    };
+    Ok((outcome, world.keeper))
 }
 
 fn strings(alloc: Global, texts: &[&str]) -> Result<Vec<String>, AllocError> {
@@ -87,7 +144,9 @@ fn session(
     requires { 0 < most }
 {
     let words = strings(alloc, &["session", "sqlite3://:memory:"])?;
-    run_over(alloc, words.as_slice(), script, most, failing)
+    let rows = volume_rows(alloc, SettingRow::Whole)?;
+    let (outcome, _) = run_over(alloc, words.as_slice(), script, most, failing, rows)?;
+    Ok(outcome)
 }
 
 fn expected(
@@ -105,31 +164,209 @@ fn expected(
     })
 }
 
+const FORMAT: &[&str] = &["format", "sqlite3://v.db", "test", "--bucket", "b"];
+
+const SESSION: &[&str] = &["session", "sqlite3://v.db"];
+
 #[test]
-fn words_are_read(rt: HostRuntime) -> Result<(), Fail> {
+fn refused_words_change_nothing(rt: HostRuntime) -> Result<(), Fail> {
     let alloc = rt.alloc();
-    let refused = expected(alloc, 2, b"", b"juicevol: words refused\n", 0)?;
     for words in [
-        [].as_slice(),
-        &["session"],
-        &["session", "sqlite3://"],
-        &["session", "mysql://x"],
-        &["Session", "sqlite3://x"],
-        &["session", "sqlite3://x", "x"],
+        ["session", "mysql://x"].as_slice(),
+        &["fsck", "sqlite3://x"],
+        &["session", "sqlite3://x", "--generate", "1"],
+        &[
+            "format",
+            "sqlite3://v.db",
+            "test",
+            "--bucket",
+            "b",
+            "--compress",
+            "lz4",
+        ],
+        &[
+            "format",
+            "sqlite3://v.db",
+            "test",
+            "--bucket",
+            "b",
+            "--block-size",
+            "100",
+        ],
     ] {
         let words = strings(alloc, words)?;
-        let script = copied(alloc, b"#")?;
-        assert_eq!(rt;
-            run_over(alloc, words.as_slice(), script, 9, NEVER)?,
-            refused
-        );
+        let script = copied(alloc, b"A mount\n")?;
+        let rows = Sequence::new(alloc);
+        let (outcome, mut keeper) = run_over(alloc, words.as_slice(), script, 99, NEVER, rows)?;
+        let refused = expected(alloc, 2, b"", b"juicevol: words refused\n", 0)?;
+        assert_eq!(rt; outcome, refused);
+        assert_eq!(rt; row_count(&mut keeper), 0);
     }
-    let words = strings(alloc, &["session", "sqlite3://x"])?;
-    let script = copied(alloc, b"#")?;
-    assert_eq!(rt;
-        run_over(alloc, words.as_slice(), script, 9, NEVER)?.status,
-        0
-    );
+    Ok(())
+}
+
+/// A command over a keeper, with nothing on the source.
+struct Case {
+    words: &'static [&'static str],
+    /// Whether the keeper has a volume, and which setting it has.
+    volume: Option<SettingRow>,
+    failing: Failing,
+    status: u8,
+    out: &'static [u8],
+    err: &'static [u8],
+    /// The keeper's rows afterwards.
+    rows: usize,
+}
+
+const FORMATS: Case = Case {
+    words: FORMAT,
+    volume: None,
+    failing: NEVER,
+    status: 0,
+    out: b"formatted test\n",
+    err: b"",
+    rows: 4,
+};
+
+const KEEPER_FAILED: &[u8] = b"juicevol: keeper failed\n";
+
+const CASES: &[Case] = &[
+    FORMATS,
+    Case {
+        volume: Some(SettingRow::Whole),
+        status: 4,
+        out: b"",
+        err: b"juicevol: volume exists\n",
+        ..FORMATS
+    },
+    Case {
+        volume: Some(SettingRow::Newer),
+        status: 4,
+        out: b"",
+        err: b"juicevol: volume exists\n",
+        ..FORMATS
+    },
+    Case {
+        volume: Some(SettingRow::Short),
+        status: 4,
+        out: b"",
+        err: b"juicevol: row 0 0 -: not a row\n",
+        ..FORMATS
+    },
+    Case {
+        words: SESSION,
+        status: 4,
+        out: b"",
+        err: b"juicevol: no volume\n",
+        rows: 0,
+        ..FORMATS
+    },
+    Case {
+        words: SESSION,
+        volume: Some(SettingRow::Whole),
+        out: b"",
+        ..FORMATS
+    },
+    Case {
+        words: SESSION,
+        volume: Some(SettingRow::Newer),
+        status: 4,
+        out: b"",
+        err: b"juicevol: version 2\n",
+        ..FORMATS
+    },
+    Case {
+        words: SESSION,
+        volume: Some(SettingRow::Short),
+        status: 4,
+        out: b"",
+        err: b"juicevol: row 0 0 -: not a row\n",
+        ..FORMATS
+    },
+    Case {
+        words: SESSION,
+        volume: Some(SettingRow::Whole),
+        failing: Failing { keeper: 1, ..NEVER },
+        status: 5,
+        out: b"",
+        err: KEEPER_FAILED,
+        ..FORMATS
+    },
+    Case {
+        words: SESSION,
+        volume: Some(SettingRow::Whole),
+        failing: Failing { keeper: 2, ..NEVER },
+        status: 5,
+        out: b"",
+        err: KEEPER_FAILED,
+        ..FORMATS
+    },
+    Case {
+        failing: Failing { keeper: 1, ..NEVER },
+        status: 5,
+        out: b"",
+        err: KEEPER_FAILED,
+        rows: 0,
+        ..FORMATS
+    },
+    Case {
+        failing: Failing { keeper: 2, ..NEVER },
+        status: 5,
+        out: b"",
+        err: KEEPER_FAILED,
+        rows: 0,
+        ..FORMATS
+    },
+    Case {
+        failing: Failing { keeper: 3, ..NEVER },
+        status: 5,
+        out: b"",
+        err: KEEPER_FAILED,
+        rows: 0,
+        ..FORMATS
+    },
+    Case {
+        failing: Failing { clock: 1, ..NEVER },
+        status: 5,
+        out: b"",
+        err: b"juicevol: clock failed\n",
+        rows: 0,
+        ..FORMATS
+    },
+    Case {
+        failing: Failing { out: 1, ..NEVER },
+        status: 5,
+        out: b"",
+        err: b"juicevol: out failed\n",
+        ..FORMATS
+    },
+];
+
+fn run_case(alloc: Global, case: &Case) -> Result<(Outcome, MemKeeper), AllocError> {
+    let rows = match case.volume {
+        Some(setting) => volume_rows(alloc, setting)?,
+        None => Sequence::new(alloc),
+    };
+    let words = strings(alloc, case.words)?;
+    run_over(
+        alloc,
+        words.as_slice(),
+        Sequence::new(alloc),
+        99,
+        case.failing,
+        rows,
+    )
+}
+
+#[test]
+fn commands_keep_volumes(rt: HostRuntime) -> Result<(), Fail> {
+    let alloc = rt.alloc();
+    for (number, case) in CASES.iter().enumerate() {
+        let (outcome, mut keeper) = run_case(alloc, case)?;
+        let wanted = expected(alloc, case.status, case.out, case.err, 0)?;
+        assert_eq!(rt; outcome, wanted, "case {number}");
+        assert_eq!(rt; row_count(&mut keeper), case.rows, "case {number}");
+    }
     Ok(())
 }
 
