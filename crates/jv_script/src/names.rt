@@ -1,12 +1,13 @@
 //! Names, paths and targets, attributes and the names of blocks, printed.
 ghost use Rattle.std.specs.Prelude.{◌≡◌, ◌∷◌, ◌+◌, ◌/◌, ◌%◌, ◌<◌, ◌++◌, OnOk};
 ghost use Rattle.std.specs.List.{flat_map};
-ghost use Rattle.jv_model.specs.BlockNames.{upper_digit, upper_pair, slice_folder, block_name_of};
+ghost use Rattle.jv_model.specs.BlockNames.{upper_digit, upper_pair};
 ghost use Rattle.jv_model.specs.ReplyText.{is_kept_in_name, is_kept_in_path, escaped_byte, name_text, path_text, kind_letter, mode_digits, attr_words, entry_text, entries_text, uploaded_text};
 
 use crate::numbers::{push_decimal, push_number, push_numbers};
 use jv_model::{Attr, BlockId, FileKind, Name, Setting};
-use std::alloc::AllocError;
+use jv_slices::block_name;
+use std::alloc::{AllocError, Global};
 
 #[tactic(auto, unfolding(jv_model::specs::ReplyText::path_text))]
 pub(crate) fn push_path(text: &mut Vec<u8>, path: &[u8]) -> Result<(), AllocError>
@@ -146,6 +147,7 @@ fn octal_digit(number: u16) -> u8
 
 #[tactic(auto, unfolding(jv_model::specs::ReplyText::uploaded_text))]
 pub(crate) fn push_uploaded(
+    alloc: Global,
     text: &mut Vec<u8>,
     setting: &Setting,
     block: &Option<BlockId>,
@@ -154,35 +156,9 @@ pub(crate) fn push_uploaded(
 {
     match block {
         None => text.push(b'-').map_err(AllocError::from),
-        Some(block) => push_block_name(text, setting, *block),
+        Some(block) => {
+            let name = block_name(alloc, setting, block.id, block.index, block.size)?;
+            text.extend_from_slice(name.as_slice())
+        }
     }
-}
-
-#[tactic(auto, unfolding(jv_model::specs::BlockNames::block_name_of))]
-fn push_block_name(text: &mut Vec<u8>, setting: &Setting, block: BlockId) -> Result<(), AllocError>
-    ensures { OnOk result (text.new.items ≡ text.old.items ++ block_name_of setting.now block.id block.index block.size) }
-{
-    text.extend_from_slice(setting.name.as_slice())?;
-    text.extend_from_slice(b"/chunks/")?;
-    push_slice_folder(text, setting.hash, block.id)?;
-    text.push(b'/')?;
-    push_decimal(text, block.id)?;
-    text.push(b'_')?;
-    push_decimal(text, u64::from(block.index))?;
-    text.push(b'_')?;
-    push_decimal(text, u64::from(block.size))
-}
-
-fn push_slice_folder(text: &mut Vec<u8>, hash: u8, id: u64) -> Result<(), AllocError>
-    ensures { OnOk result (text.new.items ≡ text.old.items ++ slice_folder hash id) }
-{
-    let millions = id / 1000 / 1000;
-    if hash == 1 {
-        push_upper_pair(text, (id % 256) as u8)?;
-        text.push(b'/')?;
-        return push_decimal(text, millions);
-    }
-    push_decimal(text, millions)?;
-    text.push(b'/')?;
-    push_decimal(text, id / 1000)
 }

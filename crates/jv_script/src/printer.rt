@@ -16,13 +16,18 @@ pub fn print_reply(alloc: Global, setting: &Setting, reply: &Reply) -> Result<By
     ensures { IfOk result (λ line. line ≡ printed_line setting.now reply.now) }
 {
     let mut line = Vec::new(alloc);
-    push_reply(&mut line, setting, reply)?;
+    push_reply(alloc, &mut line, setting, reply)?;
     line.push(b'\n')?;
     Ok(Sequence::from_vec(line))
 }
 
 #[tactic(auto, unfolding(jv_model::specs::ReplyText::reply_text))]
-fn push_reply(text: &mut Vec<u8>, setting: &Setting, reply: &Reply) -> Result<(), AllocError>
+fn push_reply(
+    alloc: Global,
+    text: &mut Vec<u8>,
+    setting: &Setting,
+    reply: &Reply,
+) -> Result<(), AllocError>
     ensures { OnOk result (text.new.items ≡ text.old.items ++ reply_text setting.now reply.now) }
 {
     match reply {
@@ -42,7 +47,7 @@ fn push_reply(text: &mut Vec<u8>, setting: &Setting, reply: &Reply) -> Result<()
         }
         Reply::Uploaded(block) => {
             text.extend_from_slice(b"ok ")?;
-            push_uploaded(text, setting, block)
+            push_uploaded(alloc, text, setting, block)
         }
         _ => push_counts(text, setting, reply),
     }
