@@ -2,7 +2,12 @@
 //! the size, and what is printed is a count.
 #![tactic(auto)]
 
+mod finds;
+mod kinds;
+mod plans;
 mod rows;
+mod script;
+mod writes;
 
 use jv_model::Down;
 use std::alloc::Global;
@@ -23,34 +28,58 @@ fn words(rt: &(impl Env + AllocGlobal)) -> io::Result<Vec<String>> {
     Ok(all.collect(rt.alloc())?)
 }
 
-/// A measure by its name, at a size. None where there is no such measure.
-fn measured(alloc: Global, name: &str, size: u32) -> Option<Result<u32, Down>> {
-    match name {
-        "rows-written" => Some(rows::written(alloc, size)),
-        "rows-read" => Some(rows::read(alloc, size)),
-        "rows-scanned" => Some(rows::scanned(alloc, size)),
-        _ => None,
+/// A measure of rows of one kind, as `row-node-read`, at a size. None where there is no such measure.
+fn measured_kind(alloc: Global, name: &str, size: u32) -> Result<Option<u64>, Down> {
+    let Some(rest) = name.strip_prefix("row-") else {
+        return Ok(None);
+    };
+    match rest.split_once("-") {
+        Some((kind, "written")) => kinds::written(alloc, kind, size),
+        Some((kind, "read")) => kinds::read(alloc, kind, size),
+        _ => Ok(None),
     }
 }
 
-/// The measure that the words ask for.
-fn asked(alloc: Global, words: &[String]) -> Option<Result<u32, Down>> {
-    let [name, size] = words else {
-        return None;
+/// A measure by its name, at a size. None where there is no such measure.
+fn measured(alloc: Global, name: &str, size: u32) -> Result<Option<u64>, Down> {
+    let count = match name {
+        "rows-written" => rows::written(alloc, size)?,
+        "rows-read" => rows::read(alloc, size)?,
+        "rows-scanned" => rows::scanned(alloc, size)?,
+        "records" => plans::listed(alloc, size)?,
+        "plan" => plans::planned(alloc, size)?,
+        "pending" => writes::sequential(alloc, size)?,
+        "cache-finds" => finds::found(alloc, size)?,
+        "lines" => script::lines_read(alloc, size)?,
+        "data-spelled" => script::data_spelled(alloc, size)?,
+        "data-read" => script::data_read(alloc, size)?,
+        "data" => script::data_printed(alloc, size)?,
+        _ => return measured_kind(alloc, name, size),
     };
-    measured(alloc, name.as_str(), size.parse().ok()?)
+    Ok(Some(count))
+}
+
+/// The measure that the words ask for. None where they ask for none.
+fn asked(alloc: Global, words: &[String]) -> Result<Option<u64>, Down> {
+    let [name, size] = words else {
+        return Ok(None);
+    };
+    match size.parse() {
+        Ok(size) => measured(alloc, name.as_str(), size),
+        Err(_) => Ok(None),
+    }
 }
 
 fn main(rt: HostRuntime) -> ExitCode {
     let Ok(words) = words(&rt) else {
         return ExitCode::from(NOT_MEASURED);
     };
-    let Some(outcome) = asked(rt.alloc(), &words) else {
-        let _ = eprintln!(rt; "measure: the words are a measure's name and a size");
-        return ExitCode::from(WORDS_REFUSED);
-    };
-    match outcome {
-        Ok(count) if println!(rt; "{count}").is_ok() => ExitCode::SUCCESS,
+    match asked(rt.alloc(), &words) {
+        Ok(Some(count)) if println!(rt; "{count}").is_ok() => ExitCode::SUCCESS,
+        Ok(None) => {
+            let _ = eprintln!(rt; "measure: the words are a measure's name and a size");
+            ExitCode::from(WORDS_REFUSED)
+        }
         _ => ExitCode::from(NOT_MEASURED),
     }
 }
