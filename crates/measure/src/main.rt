@@ -1,5 +1,5 @@
-//! Does one measure of the crates below at a size, so that a script can time it. The words are the measure's name and
-//! the size, and what is printed is a count.
+//! Does one measure of the crates below at a size, so that a script can time it. The words are the measure's name, the
+//! size, and how often it is done where that isn't once. What is printed is a count.
 #![tactic(auto)]
 
 mod finds;
@@ -15,7 +15,7 @@ use std::process::ExitCode;
 use std::rt::Env;
 use std::{env, io};
 
-/// The exit status where the words name no measure and size.
+/// The exit status where the words ask for no measure.
 const WORDS_REFUSED: u8 = 2;
 
 /// The exit status where memory is wanting, or the count isn't taken.
@@ -59,14 +59,26 @@ fn measured(alloc: Global, name: &str, size: u32) -> Result<Option<u64>, Down> {
     Ok(Some(count))
 }
 
+/// A measure that is done so many times over, so that small sizes take a time that can be told. Gives what it counts
+/// the last time.
+fn repeated(alloc: Global, name: &str, size: u32, times: u32) -> Result<Option<u64>, Down> {
+    let mut count = None;
+    for _ in 0..times {
+        count = measured(alloc, name, size)?;
+    }
+    Ok(count)
+}
+
 /// The measure that the words ask for. None where they ask for none.
 fn asked(alloc: Global, words: &[String]) -> Result<Option<u64>, Down> {
-    let [name, size] = words else {
-        return Ok(None);
+    let (name, size, times) = match words {
+        [name, size] => (name, size.parse(), Ok(1)),
+        [name, size, times] => (name, size.parse(), times.parse()),
+        _ => return Ok(None),
     };
-    match size.parse() {
-        Ok(size) => measured(alloc, name.as_str(), size),
-        Err(_) => Ok(None),
+    match (size, times) {
+        (Ok(size), Ok(times)) => repeated(alloc, name.as_str(), size, times),
+        _ => Ok(None),
     }
 }
 
@@ -77,7 +89,9 @@ fn main(rt: HostRuntime) -> ExitCode {
     match asked(rt.alloc(), &words) {
         Ok(Some(count)) if println!(rt; "{count}").is_ok() => ExitCode::SUCCESS,
         Ok(None) => {
-            let _ = eprintln!(rt; "measure: the words are a measure's name and a size");
+            let _ = eprintln!(rt;
+                "measure: the words are a measure's name, a size, and maybe how often"
+            );
             ExitCode::from(WORDS_REFUSED)
         }
         _ => ExitCode::from(NOT_MEASURED),
