@@ -4,7 +4,12 @@ use jv_model::{
     Setting, SliceRow, copied,
 };
 use jv_outside::{Batch, Fails, Keeper, MemKeeper};
-use jv_rows::*;
+use jv_rows::{
+    allows_counters, allows_edge, allows_list, allows_node, allows_session, allows_setting,
+    allows_slice, put_counters, put_dead, put_dropped, put_edge, put_list, put_node, put_session,
+    put_setting, put_slice, put_sustained, read_counters, read_dead, read_dropped, read_edge,
+    read_list, read_node, read_session, read_setting, read_slice, read_sustained,
+};
 use std::alloc::{AllocError, Global};
 
 /// What a number is multiplied by, so that keys don't come in their order.
