@@ -1,8 +1,13 @@
-//! Does one measure of the crates below at a size, so that a script can time it. The words are the measure's name and
-//! the size, and what is printed is a count.
+//! Does one measure of the crates below at a size, so that a script can time it. The words are the measure's name, the
+//! size, and how often it is done where that isn't once. What is printed is a count.
 #![tactic(auto)]
 
+mod finds;
+mod kinds;
+mod plans;
 mod rows;
+mod script;
+mod writes;
 
 use jv_model::Down;
 use std::alloc::Global;
@@ -10,7 +15,7 @@ use std::process::ExitCode;
 use std::rt::Env;
 use std::{env, io};
 
-/// The exit status where the words name no measure and size.
+/// The exit status where the words ask for no measure.
 const WORDS_REFUSED: u8 = 2;
 
 /// The exit status where memory is wanting, or the count isn't taken.
@@ -23,34 +28,72 @@ fn words(rt: &(impl Env + AllocGlobal)) -> io::Result<Vec<String>> {
     Ok(all.collect(rt.alloc())?)
 }
 
-/// A measure by its name, at a size. None where there is no such measure.
-fn measured(alloc: Global, name: &str, size: u32) -> Option<Result<u32, Down>> {
-    match name {
-        "rows-written" => Some(rows::written(alloc, size)),
-        "rows-read" => Some(rows::read(alloc, size)),
-        "rows-scanned" => Some(rows::scanned(alloc, size)),
-        _ => None,
+/// A measure of rows of one kind, as `row-node-read`, at a size. None where there is no such measure.
+fn measured_kind(alloc: Global, name: &str, size: u32) -> Result<Option<u64>, Down> {
+    let Some(rest) = name.strip_prefix("row-") else {
+        return Ok(None);
+    };
+    match rest.split_once("-") {
+        Some((kind, "written")) => kinds::written(alloc, kind, size),
+        Some((kind, "read")) => kinds::read(alloc, kind, size),
+        _ => Ok(None),
     }
 }
 
-/// The measure that the words ask for.
-fn asked(alloc: Global, words: &[String]) -> Option<Result<u32, Down>> {
-    let [name, size] = words else {
-        return None;
+/// A measure by its name, at a size. None where there is no such measure.
+fn measured(alloc: Global, name: &str, size: u32) -> Result<Option<u64>, Down> {
+    let count = match name {
+        "rows-written" => rows::written(alloc, size)?,
+        "rows-read" => rows::read(alloc, size)?,
+        "rows-scanned" => rows::scanned(alloc, size)?,
+        "records" => plans::listed(alloc, size)?,
+        "plan" => plans::planned(alloc, size)?,
+        "pending" => writes::sequential(alloc, size)?,
+        "cache-finds" => finds::found(alloc, size)?,
+        "lines" => script::lines_read(alloc, size)?,
+        "data-spelled" => script::data_spelled(alloc, size)?,
+        "data-read" => script::data_read(alloc, size)?,
+        "data" => script::data_printed(alloc, size)?,
+        _ => return measured_kind(alloc, name, size),
     };
-    measured(alloc, name.as_str(), size.parse().ok()?)
+    Ok(Some(count))
+}
+
+/// A measure that is done so many times over, so that small sizes take a time that can be told. Gives what it counts
+/// the last time.
+fn repeated(alloc: Global, name: &str, size: u32, times: u32) -> Result<Option<u64>, Down> {
+    let mut count = None;
+    for _ in 0..times {
+        count = measured(alloc, name, size)?;
+    }
+    Ok(count)
+}
+
+/// The measure that the words ask for. None where they ask for none.
+fn asked(alloc: Global, words: &[String]) -> Result<Option<u64>, Down> {
+    let (name, size, times) = match words {
+        [name, size] => (name, size.parse(), Ok(1)),
+        [name, size, times] => (name, size.parse(), times.parse()),
+        _ => return Ok(None),
+    };
+    match (size, times) {
+        (Ok(size), Ok(times)) => repeated(alloc, name.as_str(), size, times),
+        _ => Ok(None),
+    }
 }
 
 fn main(rt: HostRuntime) -> ExitCode {
     let Ok(words) = words(&rt) else {
         return ExitCode::from(NOT_MEASURED);
     };
-    let Some(outcome) = asked(rt.alloc(), &words) else {
-        let _ = eprintln!(rt; "measure: the words are a measure's name and a size");
-        return ExitCode::from(WORDS_REFUSED);
-    };
-    match outcome {
-        Ok(count) if println!(rt; "{count}").is_ok() => ExitCode::SUCCESS,
+    match asked(rt.alloc(), &words) {
+        Ok(Some(count)) if println!(rt; "{count}").is_ok() => ExitCode::SUCCESS,
+        Ok(None) => {
+            let _ = eprintln!(rt;
+                "measure: the words are a measure's name, a size, and maybe how often"
+            );
+            ExitCode::from(WORDS_REFUSED)
+        }
         _ => ExitCode::from(NOT_MEASURED),
     }
 }

@@ -44,15 +44,15 @@ fn written_keeper(alloc: Global, count: u32) -> Result<MemKeeper, Down> {
 }
 
 /// Writes so many rows, a few a commit.
-pub fn written(alloc: Global, count: u32) -> Result<u32, Down> {
+pub fn written(alloc: Global, count: u32) -> Result<u64, Down> {
     let _keeper = written_keeper(alloc, count)?;
-    Ok(count)
+    Ok(u64::from(count))
 }
 
 /// Writes so many rows and reads each. Gives the number of those that are there.
-pub fn read(alloc: Global, count: u32) -> Result<u32, Down> {
+pub fn read(alloc: Global, count: u32) -> Result<u64, Down> {
     let mut keeper = written_keeper(alloc, count)?;
-    let mut found = 0u32;
+    let mut found = 0u64;
     for number in 0..count {
         if keeper.get(&key(alloc, number))?.is_some() {
             found = found.saturating_add(1);
@@ -62,9 +62,9 @@ pub fn read(alloc: Global, count: u32) -> Result<u32, Down> {
 }
 
 /// Writes so many rows and scans them page by page. Gives the number of those that are there.
-pub fn scanned(alloc: Global, count: u32) -> Result<u32, Down> {
+pub fn scanned(alloc: Global, count: u32) -> Result<u64, Down> {
     let mut keeper = written_keeper(alloc, count)?;
-    let mut found = 0u32;
+    let mut found = 0u64;
     let mut last = None;
     for _ in 0..=count / PAGE {
         let page = keeper.scan(TABLE, last.as_ref(), PAGE)?;

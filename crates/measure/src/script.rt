@@ -1,0 +1,99 @@
+//! Lines of a script, and the text of answers.
+use jv_model::{Bytes, Down, Line, Op, Reply, Sequence, Setting, copied};
+use jv_script::{BadLine, print_reply, read_line};
+use std::alloc::{AllocError, Global};
+
+/// Lines of several operations.
+const LINES: [&str; 12] = [
+    "A mount",
+    "A create /directory/file 0644",
+    "A open /directory/file",
+    "A write 1 4096 000102030405060708090a0b0c0d0e0f",
+    "A read 1 0 65536",
+    "A flush 1",
+    "A close 1",
+    "B rename /directory/file /directory/other noreplace",
+    "B symlink target%20of%20it /link",
+    "B begin readdir /directory",
+    "B run",
+    "tick 30",
+];
+
+/// What a number is multiplied by, so that bytes don't repeat.
+const SPREAD: u32 = 2_654_435_769;
+
+/// Hexadecimal digits.
+const DIGITS: [u8; 16] = *b"0123456789abcdef";
+
+/// Reads so many lines. Gives the number of those that are read.
+pub fn lines_read(alloc: Global, count: u32) -> Result<u64, Down> {
+    let mut read = 0u64;
+    for number in 0..count {
+        let text = LINES[(number % 12) as usize];
+        if read_line(alloc, text.as_bytes()).is_ok() {
+            read = read.saturating_add(1);
+        }
+    }
+    Ok(read)
+}
+
+/// A line that writes so many bytes, as digits.
+fn spelled(alloc: Global, count: u32) -> Result<Vec<u8>, AllocError> {
+    let mut text = Vec::new(alloc);
+    text.extend_from_slice(b"A write 1 0 ")?;
+    for number in 0..count {
+        let spread = number.wrapping_mul(SPREAD) / 65_536;
+        text.push(DIGITS[(spread / 16 % 16) as usize])?;
+        text.push(DIGITS[(spread % 16) as usize])?;
+    }
+    Ok(text)
+}
+
+/// The bytes that a line writes. None where it is no line of a write.
+fn data_of(alloc: Global, text: &[u8]) -> Result<Option<Bytes>, Down> {
+    match read_line(alloc, text) {
+        Ok(Line::Do(_, Op::Write { bytes, .. })) => Ok(Some(bytes)),
+        Err(BadLine::Memory) => Err(Down::Memory),
+        _ => Ok(None),
+    }
+}
+
+/// A line's bytes, so many of them. None where they are more than a line may have.
+fn data(alloc: Global, count: u32) -> Result<Option<Bytes>, Down> {
+    let text = spelled(alloc, count)?;
+    data_of(alloc, &text)
+}
+
+fn setting(alloc: Global) -> Result<Setting, AllocError> {
+    Ok(Setting {
+        version: 1,
+        block: 65_536,
+        trash_days: 1,
+        capacity: 0,
+        inodes: 0,
+        hash: 0,
+        name: copied(alloc, b"test")?,
+        bucket: copied(alloc, b"/tmp")?,
+    })
+}
+
+/// Spells a line that writes so many bytes. Gives the length of the line.
+pub fn data_spelled(alloc: Global, count: u32) -> Result<u64, Down> {
+    Ok(spelled(alloc, count)?.len() as u64)
+}
+
+/// Spells a line that writes so many bytes, and reads it. Gives the number of bytes.
+pub fn data_read(alloc: Global, count: u32) -> Result<u64, Down> {
+    match data(alloc, count)? {
+        Some(bytes) => Ok(bytes.len() as u64),
+        None => Ok(0),
+    }
+}
+
+/// Spells a line that writes so many bytes, reads it, and prints the answer that gives the bytes again. Gives the length
+/// of the printed text.
+pub fn data_printed(alloc: Global, count: u32) -> Result<u64, Down> {
+    let bytes = data(alloc, count)?.unwrap_or(Sequence::new(alloc));
+    let text = print_reply(alloc, &setting(alloc)?, &Reply::Data(bytes))?;
+    Ok(text.len() as u64)
+}
