@@ -71,7 +71,11 @@ fn row_of(
         match setting {
             SettingRow::Whole => {}
             SettingRow::Short => drop(bytes.pop()),
-            SettingRow::Newer => bytes[..4].copy_from_slice(&[0, 0, 0, 2]),
+            SettingRow::Newer => {
+                if let Some(version) = bytes.get_mut(3) {
+                    *version = 2;
+                }
+            }
         }
     }
     Ok((key.copied(alloc)?, Sequence::from_vec(bytes)))
