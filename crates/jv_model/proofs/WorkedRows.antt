@@ -15,7 +15,7 @@ use Rattle.jv_model.specs.FiniteMap.{get, insert, sum_over}
 use Rattle.jv_model.specs.Tree.{fresh_tree, link_count}
 use Rattle.jv_model.specs.Client.{ModelClient, OpenFile, Doing, Flushing, is_replying, left_to_flush, file_of, handle_in}
 use Rattle.jv_model.specs.Past.{Setup, Past, View, reading, or_no_bytes, at_start, begun_to, begin_next, advance, after, reached, at_end, text_of}
-use Rattle.jv_model.proofs.PrintedRows.{printed_on_literals}
+use Rattle.jv_model.proofs.ReplyRows.{replies_on_literals}
 use Rattle.std.specs.List.{flat_map}
 use Rattle.jv_model.specs.Legal.{Legal, ends_well, AllAllowed, Allowed, MayAnswer, OutOfMemory, Settled, Wrote, Closed, ReadsFresh, Refuses, is_before_step, may_stop}
 
@@ -113,7 +113,7 @@ unfolding begun_to begin_next advance after get insert sum_over
 first_row_ends = refl
 
 first_row_prints : text_of run first_journal ≡ flat_map (λ line. line ++ 10 ∷ []) first_text
-unfolding begun_to begin_next advance after get insert sum_over printed_on_literals
+unfolding begun_to begin_next advance after get insert sum_over replies_on_literals
 first_row_prints = refl
 
 abbrev run_of : List Line → Setup
@@ -140,7 +140,7 @@ empty_is_legal = record {
 empty_prints : text_of empty_run empty_journal ≡ flat_map (λ line. line ++ 10 ∷ []) (
     []
     )
-unfolding begun_to begin_next advance after get insert sum_over printed_on_literals
+unfolding begun_to begin_next advance after get insert sum_over replies_on_literals
 empty_prints = refl
 
 -- a file that isn't there
@@ -180,7 +180,7 @@ absent_prints : text_of absent_run absent_journal ≡ flat_map (λ line. line ++
     ∷ codes "err ENOENT"
     ∷ []
     )
-unfolding begun_to begin_next advance after get insert sum_over printed_on_literals
+unfolding begun_to begin_next advance after get insert sum_over replies_on_literals
 absent_prints = refl
 
 -- two writes that overlap, read back; a read past the end; a handle that isn't open
@@ -270,7 +270,7 @@ overlap_prints : text_of overlap_run overlap_journal ≡ flat_map (λ line. line
     ∷ codes "err EBADF"
     ∷ []
     )
-unfolding begun_to begin_next advance after get insert sum_over printed_on_literals
+unfolding begun_to begin_next advance after get insert sum_over replies_on_literals
 overlap_prints = refl
 
 -- answers that may not stand

@@ -18,7 +18,7 @@ use Rattle.jv_model.specs.Tree.{Tree, Content, content_at}
 use Rattle.jv_model.specs.TreeAct.{Caller, Outcome, tree_act, committed, empty_content}
 use Rattle.jv_model.specs.Pending.{written, without_range, bytes_in_range, window_size}
 use Rattle.jv_model.specs.Client.{ModelClient, OpenFile, Doing, Stage, Flushing, Reading, Replying, unmounted, submission, started, free_handle, with_file, file_of}
-use Rattle.jv_model.specs.Printed.{printed_line}
+use Rattle.jv_model.specs.ReplyText.{printed_line}
 
 -- what a run begins with, and what it ends with
 pub record Setup : Type 0 where
@@ -284,11 +284,11 @@ after_answer p client told None = p
 after_answer p client told (Some doing) =
     let c = p.clients client in
     let rest = (if is_fine told then finished doing.op c else c) in
-    ended (record p { clients = with_client p.clients client (record rest { doing = None }) }) (printed_line (reply_of p client c doing told))
+    ended (record p { clients = with_client p.clients client (record rest { doing = None }) }) (printed_line p.tree.setting (reply_of p client c doing told))
 
 -- the refusal of a submission leaves the client as it is
 abbrev pub after_refusal : Past → ActKind → Past
-after_refusal p (Answered (ToldRefused fault)) = ended p (printed_line (Refused fault))
+after_refusal p (Answered (ToldRefused fault)) = ended p (printed_line p.tree.setting (Refused fault))
 after_refusal p _ = p
 
 abbrev pub after_step : Past → ℕ → ℕ → ActKind → Option Doing → Past

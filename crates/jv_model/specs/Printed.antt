@@ -1,4 +1,4 @@
--- The one printed text of each answer.
+-- The parts of printed answers: bytes, faults and numbers.
 use Rattle.std.specs.Prelude.{ℕ, ◌+◌, ◌/◌, ◌%◌, ◌==◌, nat_le, if◌then◌else◌, List, [], ◌∷◌, ◌++◌, map, replicate, slice_index, codes, decimal}
 use Rattle.std.specs.List.{flat_map, join_with_byte}
 use Rattle.jv_model.specs.declared.fault.Device.{Device}
@@ -9,8 +9,6 @@ use Rattle.jv_model.specs.declared.fault.Busy.{Busy}
 use Rattle.jv_model.specs.declared.fault.Busy.TheVariants.{Misses, Lists}
 use Rattle.jv_model.specs.declared.fault.Fault.{Fault}
 use Rattle.jv_model.specs.declared.fault.Fault.TheVariants as fault
-use Rattle.jv_model.specs.declared.op.Reply.{Reply}
-use Rattle.jv_model.specs.declared.op.Reply.TheVariants as reply
 
 -- the lower-case hexadecimal digit of a number below 16
 abbrev pub hex_digit : ℕ → ℕ
@@ -122,30 +120,3 @@ fault_text f = fault_name f ++ fault_words f
 -- a success and the numbers that it has
 abbrev pub ok_text : List ℕ → List ℕ
 ok_text numbers = codes "ok" ++ flat_map number_word numbers
-
--- stands in for the texts of answers that no line gives yet
-abbrev pub text_to_come : List ℕ
-text_to_come = codes "ok"
-
--- the text of an answer
-unfoldable pub reply_text : Reply → List ℕ
-reply_text (reply.Refused refusal) = codes "err " ++ fault_text refusal
-reply_text reply.Done = ok_text []
-reply_text (reply.SessionMade sid) = ok_text (sid ∷ [])
-reply_text (reply.Found inode) = ok_text (inode ∷ [])
-reply_text (reply.FileOpened handle inode) = ok_text (handle ∷ inode ∷ [])
-reply_text (reply.Data bytes) = codes "ok " ++ data_text bytes
-reply_text (reply.Count bytes) = ok_text (bytes ∷ [])
-reply_text (reply.Usage space) = ok_text (space.used ∷ space.capacity ∷ space.inodes ∷ space.limit ∷ [])
-reply_text (reply.Compaction before after) = ok_text (before ∷ after ∷ [])
-reply_text (reply.Cleanup sessions trash files slices) = ok_text (sessions ∷ trash ∷ files ∷ slices ∷ [])
-reply_text (reply.Leaked count bytes) = ok_text (count ∷ bytes ∷ [])
-reply_text (reply.CacheStats hits misses cached pending) = ok_text (hits ∷ misses ∷ cached ∷ pending ∷ [])
-reply_text (reply.Described _) = text_to_come
-reply_text (reply.Entries _) = text_to_come
-reply_text (reply.Target _) = text_to_come
-reply_text (reply.Uploaded _) = text_to_come
-
--- the line that is printed
-abbrev pub printed_line : Reply → List ℕ
-printed_line answer = reply_text answer ++ 10 ∷ []

@@ -14,6 +14,7 @@ use Rattle.jv_model.specs.declared.row.Dropped.{Dropped}
 use Rattle.jv_model.specs.declared.row.Dead.{Dead}
 use Rattle.jv_model.specs.declared.row.Row.{Row}
 use Rattle.jv_model.specs.declared.row.Row.TheVariants.{OfSetting, OfCounters, OfNode, OfEdge, OfList, OfSlice, OfSession, OfSustained, OfDropped, OfDead}
+use Rattle.jv_model.specs.Slices.{is_record}
 use Rattle.jv_model.specs.RowFields.{◌>>=◌, byte, half, word, long, byte_at, front_at, half_at, word_at, long_at, is_nil, whole}
 
 -- ---- table 0: what the volume was formatted with
@@ -128,13 +129,6 @@ edge_of bytes = do
   whole is_edge (record { kind = kind.0; inode = inode.0 }) inode.1
 
 -- ---- table 4: the records of a window
-
--- a part of a slice, or of nothing that reads zero
-abbrev pub is_part : Rec → Bool
-is_part r = if r.id == 0 then r.size == 0 && r.off == 0 else nat_le (r.off + r.len) r.size
-
-abbrev pub is_record : Rec → Bool
-is_record r = nat_le 1 r.len && nat_le (r.pos + r.len) 67108864 && is_part r
 
 -- one or more
 abbrev pub is_list : List Rec → Bool

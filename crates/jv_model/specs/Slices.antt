@@ -1,5 +1,5 @@
 -- Which byte of which slice a position of a window shows, what a reader sees of a window, and which blocks that needs.
-use Rattle.std.specs.Prelude.{◌≡◌, ◌≢◌, ℕ, ◌+◌, ◌-◌, ◌*◌, ◌/◌, ◌<◌, ◌≤◌, Bool, ◌&&◌, ◌==◌, nat_lt, nat_le, if◌then◌else◌, List, [], ◌∷◌, ◌++◌, map, reverse, find, fold, min, Option, None, Some}
+use Rattle.std.specs.Prelude.{◌≡◌, ◌≢◌, ℕ, ◌+◌, ◌-◌, ◌*◌, ◌/◌, ◌<◌, ◌≤◌, Bool, ◌&&◌, ◌==◌, nat_lt, nat_le, if◌then◌else◌, List, [], ◌∷◌, ◌++◌, map, reverse, find, fold, min, Option, None, Some, IsTrue}
 use Rattle.std.specs.List.{flat_map, list_any, range_with_len}
 use Rattle.jv_model.specs.declared.slice.Rec.{Rec}
 use Rattle.jv_model.specs.declared.slice.Spot.{Spot}
@@ -7,12 +7,16 @@ use Rattle.jv_model.specs.declared.slice.Spot.TheVariants.{Zero, Slice}
 use Rattle.jv_model.specs.declared.slice.Piece.{Piece}
 use Rattle.jv_model.specs.declared.slice.BlockId.{BlockId}
 
--- what a record may be: a part of the window that shows a part of a slice, or a part that reads zero
-pub record IsRecord (r : Rec) : Type 0 where
-  pub some : 1 ≤ r.len
-  pub in_window : r.pos + r.len ≤ 67108864
-  pub in_slice : r.id ≢ 0 → r.off + r.len ≤ r.size
-  pub zero : r.id ≡ 0 → (r.size ≡ 0) × (r.off ≡ 0)
+-- a record shows a part of a slice, or nothing, which reads zero
+abbrev pub is_part : Rec → Bool
+is_part r = if r.id == 0 then r.size == 0 && r.off == 0 else nat_le (r.off + r.len) r.size
+
+-- what a record may be: it shows this in a part of the window
+abbrev pub is_record : Rec → Bool
+is_record r = nat_le 1 r.len && nat_le (r.pos + r.len) 67108864 && is_part r
+
+abbrev pub IsRecord : Rec → Type 0
+IsRecord r = IsTrue (is_record r)
 
 abbrev pub covers : ℕ → Rec → Bool
 covers position r = nat_le r.pos position && nat_lt position (r.pos + r.len)
@@ -91,6 +95,6 @@ is_same_block a b = (a.id == b.id) && (a.index == b.index) && (a.size == b.size)
 abbrev pub with_block : List BlockId → BlockId → List BlockId
 with_block blocks b = (if list_any (is_same_block b) blocks then blocks else blocks ++ b ∷ [])
 
--- the blocks that pieces need, in the order of first need, each once
+-- the blocks that pieces need, each once, as a reader comes to them from piece to piece
 unfoldable pub needed_blocks : ℕ → List Piece → List BlockId
 needed_blocks block pieces = fold with_block [] (flat_map (blocks_of_piece block) pieces)

@@ -61,27 +61,31 @@ fn settings_are_read_again(rt: HostRuntime) -> Result<(), Fail> {
     Ok(())
 }
 
-/// Whether a node of that kind is written and read again, whose other numbers are all the least or the greatest.
-fn node_again(alloc: Global, kind: u8, n: u32, length: u64, target: usize) -> Result<bool, Fail> {
-    let node = Node {
+/// A node of a kind, whose other numbers are all `n`.
+fn node(kind: u8, n: u32, length: u64, parent: u64, target: Bytes) -> Node {
+    Node {
         kind,
-        mode: if n == 0 { 0 } else { 0o7777 },
+        mode: (n % 4096) as u16,
         uid: n,
         gid: n,
         nlink: n,
         mtime: u64::from(n),
         ctime: u64::from(n),
         length,
-        parent: if kind == 2 { u64::from(n) } else { 0 },
-        target: equal_bytes(alloc, b't', target)?,
-    };
-    if !allows_node(&node) {
+        parent,
+        target,
+    }
+}
+
+/// Whether a node is written and read again.
+fn node_again(alloc: Global, node: &Node) -> Result<bool, Fail> {
+    if !allows_node(node) {
         return Ok(false);
     }
     let mut batch = Batch::new(alloc);
-    put_node(alloc, &mut batch, 2, &node)?;
+    put_node(alloc, &mut batch, 2, node)?;
     match read_node(alloc, &mut kept(alloc, &batch)?, 2)? {
-        Some(found) => Ok(found == node),
+        Some(found) => Ok(found == *node),
         None => Ok(false),
     }
 }
@@ -89,17 +93,23 @@ fn node_again(alloc: Global, kind: u8, n: u32, length: u64, target: usize) -> Re
 #[test]
 fn nodes_are_read_again(rt: HostRuntime) -> Result<(), Fail> {
     let alloc = rt.alloc();
-    assert!(rt; node_again(alloc, 1, 0, 0, 0)?);
-    assert!(rt; node_again(alloc, 1, u32::MAX, u64::MAX, 0)?);
-    assert!(rt; node_again(alloc, 2, u32::MAX, 4096, 0)?);
-    assert!(rt; node_again(alloc, 3, 0, 1, 1)?);
-    assert!(rt; node_again(alloc, 3, u32::MAX, 4096, 4096)?);
-    assert!(rt; !node_again(alloc, 4, 0, 0, 0)?);
+    for (kind, n, length, parent, target, expected) in [
+        (1, 0, 0, 0, 0, true),
+        (1, u32::MAX, u64::MAX, 0, 0, true),
+        (2, u32::MAX, 4096, u64::MAX, 0, true),
+        (3, 0, 1, 0, 1, true),
+        (3, u32::MAX, 4096, 0, 4096, true),
+        (4, 0, 0, 0, 0, false),
+    ] {
+        let target = equal_bytes(alloc, b't', target)?;
+        let node = node(kind, n, length, parent, target);
+        assert_eq!(rt; node_again(alloc, &node)?, expected, "{kind} {n}");
+    }
     Ok(())
 }
 
-/// Whether counters, a session, a slice and an entry with these numbers are written and read again.
-fn small_rows_again(alloc: Global, n: u64, size: u32, kind: u8, client: u8) -> Result<bool, Fail> {
+/// Whether counters are written and read again, each of which is this number.
+fn counters_again(alloc: Global, n: u64) -> Result<bool, Fail> {
     let counters = Counters {
         inode: n,
         slice: n,
@@ -107,55 +117,87 @@ fn small_rows_again(alloc: Global, n: u64, size: u32, kind: u8, client: u8) -> R
         used_space: n,
         used_inodes: n,
     };
-    let slice = SliceRow { size, count: n };
-    let session = Session { client, expiry: n };
-    let edge = Edge { kind, inode: n };
-    if !allows_counters(&counters)
-        || !allows_slice(&slice)
-        || !allows_session(&session)
-        || !allows_edge(&edge)
-    {
+    if !allows_counters(&counters) {
+        return Ok(false);
+    }
+    let mut batch = Batch::new(alloc);
+    put_counters(alloc, &mut batch, &counters)?;
+    Ok(read_counters(alloc, &mut kept(alloc, &batch)?)? == Some(counters))
+}
+
+/// Whether the count of a slice is written and read again.
+fn slice_again(alloc: Global, id: u64, size: u32, count: u64) -> Result<bool, Fail> {
+    let slice = SliceRow { size, count };
+    if !allows_slice(&slice) {
+        return Ok(false);
+    }
+    let mut batch = Batch::new(alloc);
+    put_slice(alloc, &mut batch, id, &slice)?;
+    Ok(read_slice(alloc, &mut kept(alloc, &batch)?, id)? == Some(slice))
+}
+
+/// Whether a session is written and read again.
+fn session_again(alloc: Global, sid: u64, client: u8, expiry: u64) -> Result<bool, Fail> {
+    let session = Session { client, expiry };
+    if !allows_session(&session) {
+        return Ok(false);
+    }
+    let mut batch = Batch::new(alloc);
+    put_session(alloc, &mut batch, sid, &session)?;
+    Ok(read_session(alloc, &mut kept(alloc, &batch)?, sid)? == Some(session))
+}
+
+/// Whether an entry with the longest name is written and read again.
+fn edge_again(alloc: Global, dir: u64, kind: u8, inode: u64) -> Result<bool, Fail> {
+    let edge = Edge { kind, inode };
+    if !allows_edge(&edge) {
         return Ok(false);
     }
     let name = equal_bytes(alloc, b'n', 255)?;
     let mut batch = Batch::new(alloc);
-    put_counters(alloc, &mut batch, &counters)?;
-    put_slice(alloc, &mut batch, n, &slice)?;
-    put_session(alloc, &mut batch, n, &session)?;
-    put_edge(alloc, &mut batch, n, &name, &edge)?;
+    put_edge(alloc, &mut batch, dir, &name, &edge)?;
+    Ok(read_edge(alloc, &mut kept(alloc, &batch)?, dir, &name)? == Some(edge))
+}
+
+/// Whether a file that a session sustains is written and read again, for this session alone.
+fn sustained_again(alloc: Global, inode: u64) -> Result<bool, Fail> {
+    let mut batch = Batch::new(alloc);
+    put_sustained(alloc, &mut batch, 1, inode)?;
     let mut keeper = kept(alloc, &batch)?;
     Ok(
-        read_counters(alloc, &mut keeper)? == Some(counters)
-            && read_slice(alloc, &mut keeper, n)? == Some(slice)
-            && read_session(alloc, &mut keeper, n)? == Some(session)
-            && read_edge(alloc, &mut keeper, n, &name)? == Some(edge),
+        read_sustained(alloc, &mut keeper, 1, inode)?.is_some()
+            && read_sustained(alloc, &mut keeper, 2, inode)?.is_none(),
     )
 }
 
-/// Whether rows of what is gone, with this number, are written and read again.
-fn gone_rows_again(alloc: Global, n: u64, size: u32) -> Result<bool, Fail> {
-    let dropped = Dropped { length: n };
-    let dead = Dead { size, due: n };
+/// Whether a dropped file is written and read again.
+fn dropped_again(alloc: Global, inode: u64, length: u64) -> Result<bool, Fail> {
+    let dropped = Dropped { length };
     let mut batch = Batch::new(alloc);
-    put_sustained(alloc, &mut batch, 1, n)?;
-    put_dropped(alloc, &mut batch, n, &dropped)?;
-    put_dead(alloc, &mut batch, n, &dead)?;
-    let mut keeper = kept(alloc, &batch)?;
-    Ok(
-        read_sustained(alloc, &mut keeper, 1, n)?.is_some()
-            && read_sustained(alloc, &mut keeper, 2, n)?.is_none()
-            && read_dropped(alloc, &mut keeper, n)? == Some(dropped)
-            && read_dead(alloc, &mut keeper, n)? == Some(dead),
-    )
+    put_dropped(alloc, &mut batch, inode, &dropped)?;
+    Ok(read_dropped(alloc, &mut kept(alloc, &batch)?, inode)? == Some(dropped))
+}
+
+/// Whether a dead slice is written and read again.
+fn dead_again(alloc: Global, id: u64, size: u32, due: u64) -> Result<bool, Fail> {
+    let dead = Dead { size, due };
+    let mut batch = Batch::new(alloc);
+    put_dead(alloc, &mut batch, id, &dead)?;
+    Ok(read_dead(alloc, &mut kept(alloc, &batch)?, id)? == Some(dead))
 }
 
 #[test]
 fn small_rows_are_read_again(rt: HostRuntime) -> Result<(), Fail> {
     let alloc = rt.alloc();
-    assert!(rt; small_rows_again(alloc, 1, 0, 1, 0)?);
-    assert!(rt; small_rows_again(alloc, u64::MAX, u32::MAX, 3, 7)?);
-    assert!(rt; gone_rows_again(alloc, 0, 0)?);
-    assert!(rt; gone_rows_again(alloc, u64::MAX, u32::MAX)?);
+    for (n, size, least, client, kind) in [(0, 0, 1, 0, 1), (u64::MAX, u32::MAX, u64::MAX, 7, 3)] {
+        assert!(rt; counters_again(alloc, least)?);
+        assert!(rt; slice_again(alloc, n, size, least)?);
+        assert!(rt; session_again(alloc, n, client, n)?);
+        assert!(rt; edge_again(alloc, n, kind, n)?);
+        assert!(rt; sustained_again(alloc, n)?);
+        assert!(rt; dropped_again(alloc, n, n)?);
+        assert!(rt; dead_again(alloc, n, size, n)?);
+    }
     Ok(())
 }
 

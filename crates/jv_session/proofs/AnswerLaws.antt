@@ -18,7 +18,7 @@ use Rattle.jv_model.specs.TreeAct.{Outcome, outcome}
 use Rattle.jv_model.specs.Pending.{written, pending_of, window_size}
 use Rattle.jv_model.specs.Client.{free_handle, file_of, file_in, with_file, submission}
 use Rattle.jv_model.specs.Past.{Past, caller, transacted}
-use Rattle.jv_model.specs.Printed.{printed_line}
+use Rattle.jv_model.specs.ReplyText.{printed_line}
 use Rattle.jv_session.specs.Agrees.{ScheduleValue, HasFiles, Stands, Ran, entry_at}
 use Rattle.jv_session.specs.Stored.{IsFile, VolumeValue, Creates, inode_named}
 use Rattle.jv_session.specs.Lines.{Coming}
@@ -63,7 +63,7 @@ run_of s op h none = ap (may_answer s op) (sym none) ∙ (and_parts (has_form s.
 
 pub mount_runs : (line at : ℕ) (s : ScheduleValue) (before : List Act) → refusal_here s (Mount false) ≡ None → s.limits.writeback ≡ false
     → (p : Past) (more : List Line) → Coming p more line at (Mount false) s before
-    → Ran p more line before (before ++ entry_at line at (Mounted 1) ∷ entry_at line at (Answered (Fine 1 0 0 0)) ∷ []) (printed_line (SessionMade 1)) (record s { at = at; session = Some 1 })
+    → Ran p more line before (before ++ entry_at line at (Mounted 1) ∷ entry_at line at (Answered (Fine 1 0 0 0)) ∷ []) (printed_line s.setting (SessionMade 1)) (record s { at = at; session = Some 1 })
 mount_runs line at s before none direct p more h =
     mount_ran p more line at s before h (no_refusal p more line at (Mount false) s before h none) (unmounted-here s false none)
     (ap (λ l. l.writeback) h.stands.agrees.limits ∙ direct)
@@ -81,7 +81,7 @@ in_session p more op at sid s h is =
 pub create_exists_runs : (line at mode inode : ℕ) (path : List ℕ) (s : ScheduleValue) (before : List Act) → built_op s (Create path mode) ≡ true → refusal_here s (Create path mode) ≡ None
     → inode_named s.volume.names path ≡ Some inode
     → (p : Past) (more : List Line) → Coming p more line at (Create path mode) s before
-    → Ran p more line before (before ++ entry_at line at Meta ∷ entry_at line at (Answered (ToldRefused AlreadyExists)) ∷ []) (printed_line (Refused AlreadyExists)) (record s { at = at })
+    → Ran p more line before (before ++ entry_at line at Meta ∷ entry_at line at (Answered (ToldRefused AlreadyExists)) ∷ []) (printed_line s.setting (Refused AlreadyExists)) (record s { at = at })
 create_exists_runs line at mode inode path s before built none there p more h =
     let op = Create path mode in
     let a = h.stands.agrees in
@@ -93,7 +93,7 @@ create_exists_runs line at mode inode path s before built none there p more h =
 pub create_runs : (line at mode inode handle : ℕ) (path : List ℕ) (s : ScheduleValue) (volume : VolumeValue) (before : List Act) → built_op s (Create path mode) ≡ true → refusal_here s (Create path mode) ≡ None
     → inode_named s.volume.names path ≡ None → Creates s.volume path volume → inode ≡ 2 + length s.volume.files → handle ≡ free_handle s.handles
     → (p : Past) (more : List Line) → Coming p more line at (Create path mode) s before
-    → Ran p more line before (before ++ entry_at line at (Opened handle inode) ∷ entry_at line at (Answered (Fine handle inode 0 0)) ∷ []) (printed_line (FileOpened handle inode))
+    → Ran p more line before (before ++ entry_at line at (Opened handle inode) ∷ entry_at line at (Answered (Fine handle inode 0 0)) ∷ []) (printed_line s.setting (FileOpened handle inode))
     (record (with_handle s inode) { at = at; volume = volume })
 create_runs line at mode inode handle path s volume before built none absent made number free p more h =
     let op = Create path mode in
@@ -113,7 +113,7 @@ create_runs line at mode inode handle path s volume before built none absent mad
     ap (λ fs. let r : VolumeValue = record { names = volume.names; files = fs; used_space = volume.used_space } in r) made.files
     ∙ ap (λ n. let r : VolumeValue = record { names = volume.names; files = v.files ++ record { length = 0; segments = [] } ∷ []; used_space = n } in r) made.space in
     let longer : length volume.files ≡ length v.files + 1 = ap length made.files ∙ length-append v.files (record { length = 0; segments = [] } ∷ []) in
-    subst (λ n. Ran p more line before (before ++ entry_at line at (Opened handle n) ∷ entry_at line at (Answered (Fine handle n 0 0)) ∷ []) (printed_line (FileOpened handle n)) (record (with_handle s n) { at = at; volume = volume })) (sym number)
+    subst (λ n. Ran p more line before (before ++ entry_at line at (Opened handle n) ∷ entry_at line at (Answered (Fine handle n 0 0)) ∷ []) (printed_line s.setting (FileOpened handle n)) (record (with_handle s n) { at = at; volume = volume })) (sym number)
     (opened_ran p more line at op s (created p.tree who path mode) (2 + length v.files) handle volume before h (no_refusal p more line at op s before h none) refl (λ c. refl) (λ reply. refl) is free
     (subst (HasFiles (created p.tree who path mode)) (sym same) files) a.setting
     (record { mounted = a.mounted.mounted; first = a.mounted.first })
@@ -124,7 +124,7 @@ create_runs line at mode inode handle path s volume before built none absent mad
 pub open_absent_runs : (line at : ℕ) (path : List ℕ) (s : ScheduleValue) (before : List Act) → built_op s (Open path) ≡ true → refusal_here s (Open path) ≡ None
     → inode_named s.volume.names path ≡ None
     → (p : Past) (more : List Line) → Coming p more line at (Open path) s before
-    → Ran p more line before (before ++ entry_at line at Meta ∷ entry_at line at (Answered (ToldRefused NotFound)) ∷ []) (printed_line (Refused NotFound)) (record s { at = at })
+    → Ran p more line before (before ++ entry_at line at Meta ∷ entry_at line at (Answered (ToldRefused NotFound)) ∷ []) (printed_line s.setting (Refused NotFound)) (record s { at = at })
 open_absent_runs line at path s before built none absent p more h =
     let op = Open path in
     let a = h.stands.agrees in
@@ -136,7 +136,7 @@ open_absent_runs line at path s before built none absent p more h =
 pub open_runs : (line at inode handle : ℕ) (path : List ℕ) (s : ScheduleValue) (before : List Act) → built_op s (Open path) ≡ true → refusal_here s (Open path) ≡ None
     → inode_named s.volume.names path ≡ Some inode → handle ≡ free_handle s.handles
     → (p : Past) (more : List Line) → Coming p more line at (Open path) s before
-    → Ran p more line before (before ++ entry_at line at (Opened handle inode) ∷ entry_at line at (Answered (Fine handle inode 0 0)) ∷ []) (printed_line (FileOpened handle inode))
+    → Ran p more line before (before ++ entry_at line at (Opened handle inode) ∷ entry_at line at (Answered (Fine handle inode 0 0)) ∷ []) (printed_line s.setting (FileOpened handle inode))
     (record (with_handle s inode) { at = at })
 open_runs line at inode handle path s before built none there free p more h =
     let op = Open path in
@@ -154,7 +154,7 @@ open_runs line at inode handle path s before built none there free p more h =
 pub write_runs : (line at handle offset inode : ℕ) (bytes : List ℕ) (s : ScheduleValue) (before : List Act) → built_op s (Write handle offset bytes) ≡ true → refusal_here s (Write handle offset bytes) ≡ None
     → file_of s.handles handle ≡ Some inode
     → (p : Past) (more : List Line) → Coming p more line at (Write handle offset bytes) s before
-    → Ran p more line before (before ++ entry_at line at (Answered (Fine (length bytes) 0 0 0)) ∷ []) (printed_line (Count (length bytes))) (record s { at = at; pending = written inode offset bytes s.pending })
+    → Ran p more line before (before ++ entry_at line at (Answered (Fine (length bytes) 0 0 0)) ∷ []) (printed_line s.setting (Count (length bytes))) (record s { at = at; pending = written inode offset bytes s.pending })
 write_runs line at handle offset inode bytes s before built none there p more h =
     let op = Write handle offset bytes in
     let room : nat_le (length s.pending + length bytes) s.limits.buffer ≡ true = (and_parts _ _ (run_of s op built none)).1 in
@@ -163,10 +163,10 @@ write_runs line at handle offset inode bytes s before built none there p more h 
 -- want of memory where nothing has changed
 pub memory_as : (op : Op) (line at : ℕ) (before after : List Act) (s end : ScheduleValue) → after ≡ before → end ≡ record s { at = at }
     → (p : Past) (more : List Line) → Coming p more line at op s before
-    → Ran p more line before (after ++ entry_at line at (Answered (ToldRefused NoMemory)) ∷ []) (printed_line (Refused NoMemory)) end
+    → Ran p more line before (after ++ entry_at line at (Answered (ToldRefused NoMemory)) ∷ []) (printed_line s.setting (Refused NoMemory)) end
 memory_as op line at before after s end same ends =
     runs_as op line at before (before ++ entry_at line at (Answered (ToldRefused NoMemory)) ∷ []) (after ++ entry_at line at (Answered (ToldRefused NoMemory)) ∷ []) s (record s { at = at }) end
-    (printed_line (Refused NoMemory)) (printed_line (Refused NoMemory)) (ap (λ acts. acts ++ entry_at line at (Answered (ToldRefused NoMemory)) ∷ []) same) refl ends (memory_ran op line at before s)
+    (printed_line s.setting (Refused NoMemory)) (printed_line s.setting (Refused NoMemory)) (ap (λ acts. acts ++ entry_at line at (Answered (ToldRefused NoMemory)) ∷ []) same) refl ends (memory_ran op line at before s)
 
 -- flushes, closes and reads
 
@@ -219,40 +219,43 @@ flushed_reaches p more line at op handle inode before after s s' h flushes there
 pub flush_memory_runs : (line at : ℕ) (op : Op) (handle inode : ℕ) (before after after' : List Act) (s s' : ScheduleValue) → refusal_here s op ≡ None → Flushes op handle → file_of s.handles handle ≡ Some inode
     → Flushed inode line at before after s s' → has_more op inode s' ≡ true → after' ≡ after
     → (p : Past) (more : List Line) → Coming p more line at op s before
-    → Ran p more line before (after' ++ entry_at line at (Answered (ToldRefused NoMemory)) ∷ []) (printed_line (Refused NoMemory)) (record s' { at = at })
+    → Ran p more line before (after' ++ entry_at line at (Answered (ToldRefused NoMemory)) ∷ []) (printed_line s.setting (Refused NoMemory)) (record s' { at = at })
 flush_memory_runs line at op handle inode before after after' s s' none flushes there f to_come same p more h =
     let reaches = flushed_reaches p more line at op handle inode before after s s' h flushes there f in
     let refusal = entry_at line at (Answered (ToldRefused NoMemory)) in
-    subst (λ acts. Ran p more line before acts (printed_line (Refused NoMemory)) (record s' { at = at })) (sym (ap (λ acts. acts ++ refusal ∷ []) (same ∙ f.grows) ∙ append_assoc before f.acts (refusal ∷ [])))
-    (flushed_no_memory_ran p more line at op (flushing op inode) s s' before f.acts h (no_refusal p more line at op s before h none) reaches (before_step reaches.there op inode s' reaches.agrees.client.pending to_come))
+    subst (λ x. Ran p more line before (after' ++ refusal ∷ []) (printed_line x (Refused NoMemory)) (record s' { at = at })) f.setting
+    (subst (λ acts. Ran p more line before acts (printed_line s'.setting (Refused NoMemory)) (record s' { at = at })) (sym (ap (λ acts. acts ++ refusal ∷ []) (same ∙ f.grows) ∙ append_assoc before f.acts (refusal ∷ [])))
+    (flushed_no_memory_ran p more line at op (flushing op inode) s s' before f.acts h (no_refusal p more line at op s before h none) reaches (before_step reaches.there op inode s' reaches.agrees.client.pending to_come)))
 
 pub close_runs : (line at handle inode : ℕ) (before after after' : List Act) (s s' : ScheduleValue) → refusal_here s (Close handle) ≡ None → file_of s.handles handle ≡ Some inode
     → Flushed inode line at before after s s' → pending_of inode s'.pending ≡ [] → after' ≡ after ++ entry_at line at (Answered (Fine 0 0 0 0)) ∷ []
     → (p : Past) (more : List Line) → Coming p more line at (Close handle) s before
-    → Ran p more line before after' (printed_line Done) (record s' { at = at; handles = with_file handle None s'.handles })
+    → Ran p more line before after' (printed_line s.setting Done) (record s' { at = at; handles = with_file handle None s'.handles })
 close_runs line at handle inode before after after' s s' none there f empty grows p more h =
     let answer = entry_at line at (Answered (Fine 0 0 0 0)) in
-    subst (λ acts. Ran p more line before acts (printed_line Done) (record s' { at = at; handles = with_file handle None s'.handles })) (sym (grows ∙ ap (λ acts. acts ++ answer ∷ []) f.grows ∙ append_assoc before f.acts (answer ∷ [])))
+    subst (λ x. Ran p more line before after' (printed_line x Done) (record s' { at = at; handles = with_file handle None s'.handles })) f.setting
+    (subst (λ acts. Ran p more line before acts (printed_line s'.setting Done) (record s' { at = at; handles = with_file handle None s'.handles })) (sym (grows ∙ ap (λ acts. acts ++ answer ∷ []) f.grows ∙ append_assoc before f.acts (answer ∷ [])))
     (close_ran p more line at handle inode s s' before f.acts h (no_refusal p more line at (Close handle) s before h none)
-    (flushed_reaches p more line at (Close handle) handle inode before after s s' h (ACloses handle) there f) empty)
+    (flushed_reaches p more line at (Close handle) handle inode before after s s' h (ACloses handle) there f) empty))
 
 pub read_nothing_runs : (line at handle offset inode : ℕ) (before after after' : List Act) (s s' : ScheduleValue) → refusal_here s (Read handle offset 0) ≡ None → file_of s.handles handle ≡ Some inode
     → Flushed inode line at before after s s' → pending_of inode s'.pending ≡ [] → after' ≡ after ++ entry_at line at (Answered (Looks 0 0 0)) ∷ []
     → (p : Past) (more : List Line) → Coming p more line at (Read handle offset 0) s before
-    → Ran p more line before after' (printed_line (Data [])) (record s' { at = at })
+    → Ran p more line before after' (printed_line s.setting (Data [])) (record s' { at = at })
 read_nothing_runs line at handle offset inode before after after' s s' none there f empty grows p more h =
     let op = Read handle offset 0 in
     let answer = entry_at line at (Answered (Looks 0 0 0)) in
-    subst (λ acts. Ran p more line before acts (printed_line (Data [])) (record s' { at = at })) (sym (grows ∙ ap (λ acts. acts ++ answer ∷ []) f.grows ∙ append_assoc before f.acts (answer ∷ [])))
+    subst (λ x. Ran p more line before after' (printed_line x (Data [])) (record s' { at = at })) f.setting
+    (subst (λ acts. Ran p more line before acts (printed_line s'.setting (Data [])) (record s' { at = at })) (sym (grows ∙ ap (λ acts. acts ++ answer ∷ []) f.grows ∙ append_assoc before f.acts (answer ∷ [])))
     (read_nothing_ran p more line at handle offset inode s s' before f.acts h (no_refusal p more line at op s before h none)
-    (flushed_reaches p more line at op handle inode before after s s' h (AReads handle offset 0) there f) empty (ap (λ hs. file_of hs handle) f.handles ∙ there))
+    (flushed_reaches p more line at op handle inode before after s s' h (AReads handle offset 0) there f) empty (ap (λ hs. file_of hs handle) f.handles ∙ there)))
 
 pub read_within : (s : ScheduleValue) (handle offset len : ℕ) → built_op s (Read handle offset len) ≡ true → offset + len ≤ window_size
 read_within s handle offset len built = leb-true _ _ (form_of s (Read handle offset len) built)
 
 pub read_runs : (line at handle offset len inode : ℕ) (stored : StoredFile) (before after after' : List Act) (text : List ℕ) (s s' : ScheduleValue) → built_op s (Read handle offset len) ≡ true → refusal_here s (Read handle offset len) ≡ None
     → file_of s.handles handle ≡ Some inode → Flushed inode line at before after s s' → pending_of inode s'.pending ≡ [] → 0 < len → slice_get s'.volume.files (inode - 2) ≡ Some stored
-    → ShowsFile inode (shown_between stored offset (offset + len)) line at after after' text
+    → ShowsFile s'.setting inode (shown_between stored offset (offset + len)) line at after after' text
     → (p : Past) (more : List Line) → Coming p more line at (Read handle offset len) s before
     → Ran p more line before after' text (record s' { at = at })
 read_runs line at handle offset len inode stored before after after' text s s' built none there f empty some kept shows p more h =
@@ -265,6 +268,6 @@ read_runs line at handle offset len inode stored before after after' text s s' b
     let same : after' ≡ before ++ ((f.acts ++ look ∷ []) ++ answer ∷ []) =
     shows.grows ∙ ap (λ acts. acts ++ look ∷ answer ∷ []) f.grows ∙ append_assoc before f.acts (look ∷ answer ∷ []) ∙ ap (λ acts. before ++ acts) (sym (append_assoc f.acts (look ∷ []) (answer ∷ []))) in
     subst (λ t. Ran p more line before after' t (record s' { at = at })) (sym shows.text_is)
-    (subst (λ acts. Ran p more line before acts (printed_line (Data bytes)) (record s' { at = at })) (sym same)
+    (subst (λ acts. Ran p more line before acts (printed_line s'.setting (Data bytes)) (record s' { at = at })) (sym same)
     (read_ran p more line at handle offset len inode (length after + 1) stored s s' before f.acts h (no_refusal p more line at op s before h none)
     (flushed_reaches p more line at op handle inode before after s s' h (AReads handle offset len) there f) empty (ap (λ hs. file_of hs handle) f.handles ∙ there) some within kept (omega (arith, long))))

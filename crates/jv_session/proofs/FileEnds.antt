@@ -11,12 +11,13 @@ use Rattle.jv_model.specs.declared.fault.Fault.TheVariants.{NoMemory}
 use Rattle.jv_model.specs.declared.op.Line.{Line}
 use Rattle.jv_model.specs.declared.op.Op.{Op}
 use Rattle.jv_model.specs.declared.op.Op.TheVariants.{Close, Read}
+use Rattle.jv_model.specs.declared.op.Reply.{Reply}
 use Rattle.jv_model.specs.declared.op.Reply.TheVariants.{Refused, Done, Data}
 use Rattle.jv_model.specs.Pending.{first_segment, pending_of, window_size}
 use Rattle.jv_model.specs.Tree.{Content, content_at}
 use Rattle.jv_model.specs.Client.{ModelClient, OpenFile, Doing, Reading, file_of, inode_in, with_file, submission, answers_once_flushed}
-use Rattle.jv_model.specs.Past.{Past, View, with_client, counted, or_empty, or_no_bytes, only_if, second_read, bytes_from, bytes_between, reading, part_read, seen_in, is_fresh, view_at}
-use Rattle.jv_model.specs.Printed.{printed_line}
+use Rattle.jv_model.specs.Past.{Past, View, reply_of, with_client, counted, or_empty, or_no_bytes, only_if, second_read, bytes_from, bytes_between, reading, part_read, seen_in, is_fresh, view_at}
+use Rattle.jv_model.specs.ReplyText.{printed_line}
 use Rattle.jv_model.specs.Legal.{IsFlushed, TakesView, Closed, ReadsFresh, is_before_step}
 use Rattle.jv_session.specs.declared.volume.StoredFile.{StoredFile}
 use Rattle.jv_session.specs.Stored.{stored_byte}
@@ -31,24 +32,24 @@ use Rattle.jv_session.specs.Lines.{Coming}
 use Rattle.jv_session.proofs.FileLines.{open_at}
 
 -- the answer to a line that flushed
-answer_ran : (p : Past) (more : List Line) (line at : ℕ) (op : Op) (told : Told) (doing : Doing) (text : List ℕ) (s s' : ScheduleValue) (before acts : List Act) → Coming p more line at op s before
+answer_ran : (p : Past) (more : List Line) (line at : ℕ) (op : Op) (told : Told) (doing : Doing) (reply : Reply) (s s' : ScheduleValue) (before acts : List Act) → Coming p more line at op s before
     → submission (p.clients 0) op ≡ None → (f : Reaches p more (started_line p more op) acts line at doing s')
     → StepsTo f.there (entry_at line at (Answered told) ∷ []) (answered f.there (entry_at line at (Answered told)) told doing)
-    → printed_line (Rattle.jv_model.specs.Past.reply_of f.there 0 (f.there.clients 0) doing told) ≡ text
+    → reply_of f.there 0 (f.there.clients 0) doing told ≡ reply
     → (s'' : ScheduleValue) → Agrees (answered f.there (entry_at line at (Answered told)) told doing) None s'' → s''.at ≡ at
-    → Ran p more line before (before ++ (acts ++ entry_at line at (Answered told) ∷ [])) text s''
-answer_ran p more line at op told doing text s s' before acts h none f step says s'' agrees moment =
+    → Ran p more line before (before ++ (acts ++ entry_at line at (Answered told) ∷ [])) (printed_line s'.setting reply) s''
+answer_ran p more line at op told doing reply s s' before acts h none f step says s'' agrees moment =
     let so_far = f.count in
     let act = entry_at line at (Answered told) in
     let long = length-append acts (act ∷ []) in
-    ran_to_answer p more (started_line p more op) line at text before acts act s'' f.of_line refl (record {
+    ran_to_answer p more (started_line p more op) line at (printed_line s'.setting reply) before acts act s'' f.of_line refl (record {
       next = h.next;
       begins = begin_next-started p more op h.rest none;
       last = h.last;
       before_count = h.count;
       end = answered f.there act told doing;
       steps = more_steps f.steps step;
-      done = done-answered p more f.there line at told doing text f.inside says;
+      done = done-answered p more f.there line at told doing s'.setting reply f.inside f.agrees.setting says;
       agrees = agrees;
       moment = moment;
       count = omega (arith, so_far, long);
@@ -57,9 +58,9 @@ answer_ran p more line at op told doing text s s' before acts h none f step says
 -- want of memory after what was flushed
 pub flushed_no_memory_ran : (p : Past) (more : List Line) (line at : ℕ) (op : Op) (doing : Doing) (s s' : ScheduleValue) (before acts : List Act) → Coming p more line at op s before
     → submission (p.clients 0) op ≡ None → (f : Reaches p more (started_line p more op) acts line at doing s') → is_before_step f.there (f.there.clients 0) doing ≡ true
-    → Ran p more line before (before ++ (acts ++ entry_at line at (Answered (ToldRefused NoMemory)) ∷ [])) (printed_line (Refused NoMemory)) (record s' { at = at })
+    → Ran p more line before (before ++ (acts ++ entry_at line at (Answered (ToldRefused NoMemory)) ∷ [])) (printed_line s'.setting (Refused NoMemory)) (record s' { at = at })
 flushed_no_memory_ran p more line at op doing s s' before acts h none f early =
-    answer_ran p more line at op (ToldRefused NoMemory) doing (printed_line (Refused NoMemory)) s s' before acts h none f
+    answer_ran p more line at op (ToldRefused NoMemory) doing (Refused NoMemory) s s' before acts h none f
     (out_of_memory p more f.there line at doing f.inside f.agrees.busy early) refl (record s' { at = at })
     (agrees-refused f.there (entry_at line at (Answered (ToldRefused NoMemory))) NoMemory doing s' (Some doing) f.agrees) refl
 
@@ -97,7 +98,7 @@ before_step q op inode s same h =
 pub close_ran : (p : Past) (more : List Line) (line at handle inode : ℕ) (s s' : ScheduleValue) (before acts : List Act) → Coming p more line at (Close handle) s before
     → submission (p.clients 0) (Close handle) ≡ None → Reaches p more (started_line p more (Close handle)) acts line at (flushing (Close handle) inode) s'
     → pending_of inode s'.pending ≡ []
-    → Ran p more line before (before ++ (acts ++ entry_at line at (Answered (Fine 0 0 0 0)) ∷ [])) (printed_line Done) (record s' { at = at; handles = with_file handle None s'.handles })
+    → Ran p more line before (before ++ (acts ++ entry_at line at (Answered (Fine 0 0 0 0)) ∷ [])) (printed_line s'.setting Done) (record s' { at = at; handles = with_file handle None s'.handles })
 close_ran p more line at handle inode s s' before acts h none f empty =
     let op = Close handle in
     let doing = flushing op inode in
@@ -106,7 +107,7 @@ close_ran p more line at handle inode s s' before acts h none f empty =
     let a = f.agrees in
     let c = still_client None a.client in
     let flushed = is_flushed (q.clients 0) q.count op inode s' a.client empty in
-    answer_ran p more line at op told doing (printed_line Done) s s' before acts h none f
+    answer_ran p more line at op told doing Done s s' before acts h none f
     (one_step p more q line at (Answered told) doing f.inside a.busy (Closed handle refl flushed refl)) refl (record s' { at = at; handles = with_file handle None s'.handles })
     (record {
       limits = a.limits;
@@ -217,7 +218,7 @@ read_in-open views c file handle offset len first bytes is gives =
 pub read_nothing_ran : (p : Past) (more : List Line) (line at handle offset inode : ℕ) (s s' : ScheduleValue) (before acts : List Act) → Coming p more line at (Read handle offset 0) s before
     → submission (p.clients 0) (Read handle offset 0) ≡ None → Reaches p more (started_line p more (Read handle offset 0)) acts line at (flushing (Read handle offset 0) inode) s'
     → pending_of inode s'.pending ≡ [] → file_of s'.handles handle ≡ Some inode
-    → Ran p more line before (before ++ (acts ++ entry_at line at (Answered (Looks 0 0 0)) ∷ [])) (printed_line (Data [])) (record s' { at = at })
+    → Ran p more line before (before ++ (acts ++ entry_at line at (Answered (Looks 0 0 0)) ∷ [])) (printed_line s'.setting (Data [])) (record s' { at = at })
 read_nothing_ran p more line at handle offset inode s s' before acts h none f empty there =
     let op = Read handle offset 0 in
     let doing = flushing op inode in
@@ -227,10 +228,10 @@ read_nothing_ran p more line at handle offset inode s s' before acts h none f em
     let c = still_client None a.client in
     let o = open_at (q.clients 0) q.count s' handle inode a.client there in
     let gives = reading-nothing q.views o.file offset 0 refl in
-    answer_ran p more line at op told doing (printed_line (Data [])) s s' before acts h none f
+    answer_ran p more line at op told doing (Data []) s s' before acts h none f
     (one_step p more q line at (Answered told) doing f.inside a.busy
     (ReadsFresh handle offset 0 0 0 o.file [] refl (is_flushed (q.clients 0) q.count op inode s' a.client empty) o.is gives refl))
-    (ap (λ bytes. printed_line (Data bytes)) (read_in-open q.views (q.clients 0) o.file handle offset 0 0 [] o.is gives))
+    (ap Data (read_in-open q.views (q.clients 0) o.file handle offset 0 0 [] o.is gives))
     (record s' { at = at })
     (record {
       limits = a.limits;
@@ -248,7 +249,7 @@ pub read_ran : (p : Past) (more : List Line) (line at handle offset len inode fi
     → pending_of inode s'.pending ≡ [] → file_of s'.handles handle ≡ Some inode
     → 0 < len → offset + len ≤ window_size → slice_get s'.volume.files (inode - 2) ≡ Some stored → first ≡ length before + length acts + 1
     → Ran p more line before (before ++ ((acts ++ entry_at line at (Look inode 0) ∷ []) ++ entry_at line at (Answered (Looks first 0 (length (shown_between stored offset (offset + len))))) ∷ []))
-    (printed_line (Data (shown_between stored offset (offset + len)))) (record s' { at = at })
+    (printed_line s'.setting (Data (shown_between stored offset (offset + len)))) (record s' { at = at })
 read_ran p more line at handle offset len inode first stored s s' before acts h none f empty there some within kept number =
     let op = Read handle offset len in
     let doing = flushing op inode in
@@ -300,10 +301,10 @@ read_ran p more line at handle offset len inode first stored s s' before acts h 
     ∙ part-new_view q inode offset (offset + len) o.file stored o.same o.opened keeps in
     let told : Told = Looks first 0 (length bytes) in
     let c' = still_client None f'.agrees.client in
-    answer_ran p more line at op told doing' (printed_line (Data bytes)) s s' before (acts ++ look_act ∷ []) h none f'
+    answer_ran p more line at op told doing' (Data bytes) s s' before (acts ++ look_act ∷ []) h none f'
     (one_step p more q' line at (Answered told) doing' f'.inside refl
     (ReadsFresh handle offset len first 0 o.file bytes refl (record { between = refl; none_left = flushed.none_left }) o.is gives refl))
-    (ap (λ bytes. printed_line (Data bytes)) (read_in-open q'.views (q'.clients 0) o.file handle offset len first bytes o.is gives))
+    (ap Data (read_in-open q'.views (q'.clients 0) o.file handle offset len first bytes o.is gives))
     (record s' { at = at })
     (record {
       limits = a.limits;

@@ -13,7 +13,7 @@ use Rattle.jv_model.specs.declared.op.Reply.TheVariants.{Count}
 use Rattle.jv_model.specs.Pending.{PendingByte, written}
 use Rattle.jv_model.specs.Client.{ModelClient, OpenFile, NoFlush, OfAll, left_to_flush, file_in, file_of, inode_in, submission}
 use Rattle.jv_model.specs.Past.{Past}
-use Rattle.jv_model.specs.Printed.{printed_line}
+use Rattle.jv_model.specs.ReplyText.{printed_line}
 use Rattle.jv_model.specs.Legal.{IsFlushed, Wrote}
 use Rattle.jv_session.specs.Progress.{Reaches, flushing}
 use Rattle.jv_session.specs.Agrees.{ScheduleValue, Agrees, IsClient, Ran, entry_at}
@@ -58,7 +58,7 @@ open_at c count s handle inode h e =
 pub write_ran : (p : Past) (more : List Line) (line at handle offset inode : ℕ) (bytes : List ℕ) (s : ScheduleValue) (before : List Act) → Coming p more line at (Write handle offset bytes) s before
     → submission (p.clients 0) (Write handle offset bytes) ≡ None → file_of s.handles handle ≡ Some inode
     → nat_lt s.limits.buffer (length s.pending + length bytes) ≡ false
-    → Ran p more line before (before ++ entry_at line at (Answered (Fine (length bytes) 0 0 0)) ∷ []) (printed_line (Count (length bytes))) (record s { at = at; pending = written inode offset bytes s.pending })
+    → Ran p more line before (before ++ entry_at line at (Answered (Fine (length bytes) 0 0 0)) ∷ []) (printed_line s.setting (Count (length bytes))) (record s { at = at; pending = written inode offset bytes s.pending })
 write_ran p more line at handle offset inode bytes s before h none there room =
     let op = Write handle offset bytes in
     let q = started_line p more op in
@@ -73,14 +73,14 @@ write_ran p more line at handle offset inode bytes s before h none there room =
     let told : Told = Fine (length bytes) 0 0 0 in
     let act = entry_at line at (Answered told) in
     let still = still_client None a.client in
-    ran p more q line at (printed_line (Count (length bytes))) before act [] (record s { at = at; pending = written inode offset bytes s.pending }) refl (record {
+    ran p more q line at (printed_line s.setting (Count (length bytes))) before act [] (record s { at = at; pending = written inode offset bytes s.pending }) refl (record {
       next = h.next;
       begins = begin_next-started p more op h.rest none;
       last = h.last;
       before_count = h.count;
       end = answered q act told doing;
       steps = one_step p more q line at (Answered told) doing inside refl (Wrote handle offset bytes refl flushed refl);
-      done = done-answered p more q line at told doing (printed_line (Count (length bytes))) inside refl;
+      done = done-answered p more q line at told doing s.setting (Count (length bytes)) inside a.setting refl;
       agrees = record {
         limits = a.limits;
         setting = a.setting;

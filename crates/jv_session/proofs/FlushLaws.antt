@@ -116,6 +116,7 @@ flushed_more inode line at segment before mid after s m e is_file fits some firs
             let step = segment_step p more r'.there line at inode k commit.used segment file op m two own r'.inside r'.agrees first found.1 commit.space both.0 in
             subst (λ acts. Reaches p more q acts line at (flushing op inode) e) (append_assoc so so_far.acts entries)
             (reaches_more p more q (so ++ so_far.acts) entries line at (flushing op inode) (flushing op inode) m e r' (subst (Reaches p more r'.there entries line at (flushing op inode)) (sym ending) step));
+        setting = setting ∙ so_far.setting;
         handles = ap (λ (x : ScheduleValue). x.handles) h.same ∙ so_far.handles;
         files = ap (λ (v : VolumeValue). length v.files) commit.same ∙ length-set m.volume.files k (with_segment segment.from bytes file) ∙ so_far.files;
       },
@@ -129,6 +130,7 @@ flushed_none inode line at before s = record {
   acts = [];
   grows = sym (append-nil before);
   leads = λ op p more q so r. subst (λ acts. Reaches p more q acts line at (flushing op inode) s) (sym (append-nil so)) r;
+  setting = refl;
   handles = refl;
   files = refl;
 }

@@ -20,5 +20,3 @@ pub mod FileEnds
 pub mod FlushLaws
 pub mod BuiltLaws
 pub mod AnswerLaws
-pub mod HexText
-pub mod Runs

@@ -18,7 +18,7 @@ use Rattle.jv_model.specs.Tree.{Tree, full_count}
 use Rattle.jv_model.specs.TreeAct.{Caller, Outcome, outcome}
 use Rattle.jv_model.specs.Client.{ModelClient, OpenFile, Doing, Transacting, Replying, is_replying, first_stage, free_handle, with_file, submission}
 use Rattle.jv_model.specs.Past.{Past, NoMore, with_client, caller, transacted, mounts_writeback, after, counted, ended, done_reply, finished, is_no_more}
-use Rattle.jv_model.specs.Printed.{printed_line}
+use Rattle.jv_model.specs.ReplyText.{printed_line}
 use Rattle.jv_model.specs.Legal.{Allowed, IsRefusal}
 use Rattle.jv_model.proofs.PastLaws.{begun_to-present, advance-present}
 use Rattle.jv_model.proofs.MapLaws.{get-insert}
@@ -38,7 +38,7 @@ refused_act line at fault = entry_at line at (Answered (ToldRefused fault))
 
 refuse_step : (p : Past) (more : List Line) (line at : ℕ) (op : Op) (s : ScheduleValue) (due fault : Fault) (before : List Act) → Coming p more line at op s before
     → IsRefusal due (Answered (ToldRefused fault))
-    → StepsTo (refused_line p more due) (refused_act line at fault ∷ []) (counted (refused_act line at fault) (ended (refused_line p more due) (printed_line (Refused fault))))
+    → StepsTo (refused_line p more due) (refused_act line at fault ∷ []) (counted (refused_act line at fault) (ended (refused_line p more due) (printed_line p.tree.setting (Refused fault))))
 unfolding after
 refuse_step p more line at op s due fault before h is =
     let q = refused_line p more due in
@@ -52,20 +52,20 @@ refuse_step p more line at op s due fault before h is =
 
 pub refused_ran : (p : Past) (more : List Line) (line at : ℕ) (op : Op) (s : ScheduleValue) (due fault : Fault) (before : List Act) → Coming p more line at op s before
     → submission (p.clients 0) op ≡ Some due → IsRefusal due (Answered (ToldRefused fault))
-    → Ran p more line before (before ++ refused_act line at fault ∷ []) (printed_line (Refused fault)) (record s { at = at })
+    → Ran p more line before (before ++ refused_act line at fault ∷ []) (printed_line s.setting (Refused fault)) (record s { at = at })
 refused_ran p more line at op s due fault before h some is =
     let q = refused_line p more due in
     let a = h.stands.agrees in
     let c = still_client None a.client in
     let complete : q.complete ≡ true = ap (λ b. b && is_no_more p.due) h.stands.complete ∙ ap is_no_more h.stands.due in
-    ran p more q line at (printed_line (Refused fault)) before (refused_act line at fault) [] (record s { at = at }) refl (record {
+    ran p more q line at (printed_line s.setting (Refused fault)) before (refused_act line at fault) [] (record s { at = at }) refl (record {
       next = h.next;
       begins = begin_next-refused p more op due h.rest some;
       last = h.last;
       before_count = h.count;
-      end = counted (refused_act line at fault) (ended q (printed_line (Refused fault)));
+      end = counted (refused_act line at fault) (ended q (printed_line p.tree.setting (Refused fault)));
       steps = refuse_step p more line at op s due fault before h is;
-      done = record { number = h.next; complete = complete; due = refl; moment = refl; run = refl; rest = refl; printed = refl; asked = refl; said = refl };
+      done = record { number = h.next; complete = complete; due = refl; moment = refl; run = refl; rest = refl; printed = refl; asked = refl; said = ap (λ x. printed_line x (Refused fault)) a.setting };
       agrees = record {
         limits = a.limits;
         setting = a.setting;
@@ -87,20 +87,20 @@ not_replying _ = refl
 -- want of memory before any step
 pub no_memory_ran : (p : Past) (more : List Line) (line at : ℕ) (op : Op) (s : ScheduleValue) (before : List Act) → Coming p more line at op s before
     → submission (p.clients 0) op ≡ None
-    → Ran p more line before (before ++ refused_act line at NoMemory ∷ []) (printed_line (Refused NoMemory)) (record s { at = at })
+    → Ran p more line before (before ++ refused_act line at NoMemory ∷ []) (printed_line s.setting (Refused NoMemory)) (record s { at = at })
 no_memory_ran p more line at op s before h none =
     let q = started_line p more op in
     let doing = begun_doing p op in
     let inside = in_line-started p more op line at s h.stands h.next h.moment in
     let a = agrees-started p more op s h.stands in
-    ran p more q line at (printed_line (Refused NoMemory)) before (refused_act line at NoMemory) [] (record s { at = at }) refl (record {
+    ran p more q line at (printed_line s.setting (Refused NoMemory)) before (refused_act line at NoMemory) [] (record s { at = at }) refl (record {
       next = h.next;
       begins = begin_next-started p more op h.rest none;
       last = h.last;
       before_count = h.count;
       end = answered q (refused_act line at NoMemory) (ToldRefused NoMemory) doing;
       steps = out_of_memory p more q line at doing inside refl (ap (λ replying. not replying && true) (not_replying op));
-      done = done-answered p more q line at (ToldRefused NoMemory) doing (printed_line (Refused NoMemory)) inside refl;
+      done = done-answered p more q line at (ToldRefused NoMemory) doing s.setting (Refused NoMemory) inside a.setting refl;
       agrees = agrees-refused q (refused_act line at NoMemory) NoMemory doing s (Some doing) a;
       moment = refl;
       count = omega arith;
@@ -110,7 +110,7 @@ no_memory_ran p more line at op s before h none =
 pub tree_refused_ran : (p : Past) (more : List Line) (line at : ℕ) (op : Op) (s : ScheduleValue) (fault : Fault) (before : List Act) → Coming p more line at op s before
     → submission (p.clients 0) op ≡ None → first_stage op ≡ Transacting
     → transacted (started_line p more op) 0 at op ≡ record { tree = p.tree; reply = Refused fault }
-    → Ran p more line before (before ++ entry_at line at Meta ∷ refused_act line at fault ∷ []) (printed_line (Refused fault)) (record s { at = at })
+    → Ran p more line before (before ++ entry_at line at Meta ∷ refused_act line at fault ∷ []) (printed_line s.setting (Refused fault)) (record s { at = at })
 tree_refused_ran p more line at op s fault before h none stage is =
     let q = started_line p more op in
     let out : Outcome = record { tree = p.tree; reply = Refused fault } in
@@ -122,14 +122,14 @@ tree_refused_ran p more line at op s fault before h none stage is =
     let inside' = in_line-transacted p more q line at Meta op out inside in
     let steps = more_steps (transact p more q line at doing out inside refl stage is) (settle p more q' line at settled (Refused fault) inside' refl refl) in
     let c = still_client (Some settled) a.client in
-    ran p more q line at (printed_line (Refused fault)) before (entry_at line at Meta) (refused_act line at fault ∷ []) (record s { at = at }) refl (record {
+    ran p more q line at (printed_line s.setting (Refused fault)) before (entry_at line at Meta) (refused_act line at fault ∷ []) (record s { at = at }) refl (record {
       next = h.next;
       begins = begin_next-started p more op h.rest none;
       last = h.last;
       before_count = h.count;
       end = answered q' (refused_act line at fault) (ToldRefused fault) settled;
       steps = steps;
-      done = done-answered p more q' line at (ToldRefused fault) settled (printed_line (Refused fault)) inside' refl;
+      done = done-answered p more q' line at (ToldRefused fault) settled s.setting (Refused fault) inside' a.setting refl;
       agrees = agrees-refused q' (refused_act line at fault) fault settled s (Some settled)
           (record {
             limits = a.limits;
@@ -156,7 +156,7 @@ session-inserted t who = ap is_some (get-insert t.sessions 1 (record { client = 
 
 pub mount_ran : (p : Past) (more : List Line) (line at : ℕ) (s : ScheduleValue) (before : List Act) → Coming p more line at (Mount false) s before
     → submission (p.clients 0) (Mount false) ≡ None → s.session ≡ None → mounts_writeback p (Mount false) ≡ false
-    → Ran p more line before (before ++ entry_at line at (Mounted 1) ∷ entry_at line at (Answered (Fine 1 0 0 0)) ∷ []) (printed_line (SessionMade 1)) (record s { at = at; session = Some 1 })
+    → Ran p more line before (before ++ entry_at line at (Mounted 1) ∷ entry_at line at (Answered (Fine 1 0 0 0)) ∷ []) (printed_line s.setting (SessionMade 1)) (record s { at = at; session = Some 1 })
 mount_ran p more line at s before h none unmounted direct =
     let op = Mount false in
     let q = started_line p more op in
@@ -172,14 +172,14 @@ mount_ran p more line at s before h none unmounted direct =
     let inside' = in_line-transacted p more q line at (Mounted 1) op out inside in
     let steps = more_steps (transact p more q line at doing out inside refl refl is) (settle p more q' line at settled (SessionMade 1) inside' refl refl) in
     let c = still_client None (still_client (Some settled) a.client) in
-    ran p more q line at (printed_line (SessionMade 1)) before (entry_at line at (Mounted 1)) (entry_at line at (Answered (Fine 1 0 0 0)) ∷ []) (record s { at = at; session = Some 1 }) refl (record {
+    ran p more q line at (printed_line s.setting (SessionMade 1)) before (entry_at line at (Mounted 1)) (entry_at line at (Answered (Fine 1 0 0 0)) ∷ []) (record s { at = at; session = Some 1 }) refl (record {
       next = h.next;
       begins = begin_next-started p more op h.rest none;
       last = h.last;
       before_count = h.count;
       end = answered q' (entry_at line at (Answered (Fine 1 0 0 0))) (Fine 1 0 0 0) settled;
       steps = steps;
-      done = done-answered p more q' line at (Fine 1 0 0 0) settled (printed_line (SessionMade 1)) inside' refl;
+      done = done-answered p more q' line at (Fine 1 0 0 0) settled s.setting (SessionMade 1) inside' a.setting refl;
       moment = refl;
       count = omega arith;
       agrees = record {
@@ -221,7 +221,7 @@ pub opened_ran : (p : Past) (more : List Line) (line at : ℕ) (op : Op) (s : Sc
     → transacted (started_line p more op) 0 at op ≡ record { tree = tree; reply = FileOpened (free_handle (p.clients 0).handles) inode }
     → handle ≡ free_handle s.handles
     → HasFiles tree volume → tree.setting ≡ s.setting → HasSession tree s.session → length s.volume.files ≤ length volume.files → IsFile (length volume.files) inode
-    → Ran p more line before (before ++ entry_at line at (Opened handle inode) ∷ entry_at line at (Answered (Fine handle inode 0 0)) ∷ []) (printed_line (FileOpened handle inode))
+    → Ran p more line before (before ++ entry_at line at (Opened handle inode) ∷ entry_at line at (Answered (Fine handle inode 0 0)) ∷ []) (printed_line s.setting (FileOpened handle inode))
     (record (with_handle s inode) { at = at; volume = volume })
 opened_ran p more line at op s tree inode handle volume before h none stage fin says is same files setting session grew file =
     let q = started_line p more op in
@@ -237,7 +237,7 @@ opened_ran p more line at op s tree inode handle volume before h none stage fin 
     let c' = q'.clients 0 in
     let told : Told = Fine number inode 0 0 in
     let act = entry_at line at (Answered told) in
-    let end = λ (c : ModelClient). counted act (record q' { due = NoMore; said = printed_line (done_reply op (Replying (FileOpened number inode))); clients = with_client q'.clients 0 (record c { doing = None }) }) in
+    let end = λ (c : ModelClient). counted act (record q' { due = NoMore; said = printed_line tree.setting (done_reply op (Replying (FileOpened number inode))); clients = with_client q'.clients 0 (record c { doing = None }) }) in
     let client = client_opened (q.clients 0) p.count inode s volume a.client grew file in
     let agrees : Agrees (end c') None (record (with_handle s inode) { at = at; volume = volume }) =
     record {
@@ -249,16 +249,15 @@ opened_ran p more line at op s tree inode handle volume before h none stage fin 
       client = record { session = client.session; direct = client.direct; handles = client.handles; opened = client.opened; pending = client.pending };
     } in
     let here : number ≡ handle = same_handle (p.clients 0) p.count s h.stands.agrees.client ∙ sym same in
-    let text : printed_line (done_reply op (Replying (FileOpened number inode))) ≡ printed_line (FileOpened number inode) = ap printed_line (says (FileOpened number inode)) in
-    subst (λ n. Ran p more line before (before ++ entry_at line at (Opened n inode) ∷ entry_at line at (Answered (Fine n inode 0 0)) ∷ []) (printed_line (FileOpened n inode)) (record (with_handle s inode) { at = at; volume = volume })) here
-    (ran p more q line at (printed_line (FileOpened number inode)) before (entry_at line at (Opened number inode)) (act ∷ []) (record (with_handle s inode) { at = at; volume = volume }) refl (record {
+    subst (λ n. Ran p more line before (before ++ entry_at line at (Opened n inode) ∷ entry_at line at (Answered (Fine n inode 0 0)) ∷ []) (printed_line s.setting (FileOpened n inode)) (record (with_handle s inode) { at = at; volume = volume })) here
+    (ran p more q line at (printed_line s.setting (FileOpened number inode)) before (entry_at line at (Opened number inode)) (act ∷ []) (record (with_handle s inode) { at = at; volume = volume }) refl (record {
       next = h.next;
       begins = begin_next-started p more op h.rest none;
       last = h.last;
       before_count = h.count;
       end = answered q' act told settled;
       steps = steps;
-      done = done-answered p more q' line at told settled (printed_line (FileOpened number inode)) inside' text;
+      done = done-answered p more q' line at told settled s.setting (FileOpened number inode) inside' setting (says (FileOpened number inode));
       agrees = subst (λ c. Agrees (end c) None (record (with_handle s inode) { at = at; volume = volume })) (sym (fin c')) agrees;
       moment = refl;
       count = omega arith;

@@ -8,10 +8,12 @@ use Rattle.jv_model.specs.declared.act.Told.{Told}
 use Rattle.jv_model.specs.declared.op.Op.{Op}
 use Rattle.jv_model.specs.declared.op.Line.{Line}
 use Rattle.jv_model.specs.declared.op.Line.TheVariants.{Do}
+use Rattle.jv_model.specs.declared.op.Reply.{Reply}
 use Rattle.jv_model.specs.declared.fault.Fault.{Fault}
+use Rattle.jv_model.specs.declared.setting.Setting.{Setting}
 use Rattle.jv_model.specs.Client.{ModelClient, OpenFile, Doing, Stage, submission, started}
 use Rattle.jv_model.specs.Past.{Past, Whole, Refusal, NoMore, begin_next, begin_from, submitted, turned, with_client, with_stage, one_quiet, after, after_due, after_step, finished, is_fine, reply_of, counted, past, begun_to}
-use Rattle.jv_model.specs.Printed.{printed_line}
+use Rattle.jv_model.specs.ReplyText.{printed_line}
 use Rattle.jv_model.specs.Legal.{Allowed, AllAllowed, MayStep, MayStand, OfDoing}
 use Rattle.jv_model.proofs.PastLaws.{begun_to-present, begun_to-next, advance-present, past-append, AllAllowed-append, past-begun_to, AllAllowed-begun_to}
 use Rattle.jv_session.specs.Progress.{InLine, StepsTo, AllOfLine}
@@ -176,11 +178,11 @@ abbrev pub left_by : Doing → Told → ModelClient → ModelClient
 left_by doing told c = record (if is_fine told then finished doing.op c else c) { doing = None }
 
 abbrev pub answered : Past → Act → Told → Doing → Past
-answered q act told doing = counted act (record q { due = NoMore; said = printed_line (reply_of q 0 (q.clients 0) doing told); clients = with_client q.clients 0 (left_by doing told (q.clients 0)) })
+answered q act told doing = counted act (record q { due = NoMore; said = printed_line q.tree.setting (reply_of q 0 (q.clients 0) doing told); clients = with_client q.clients 0 (left_by doing told (q.clients 0)) })
 
 pub stepped-answered : (q : Past) (line at : ℕ) (told : Told) (doing : Doing) → stepped q (entry_at line at (Answered told)) doing ≡ answered q (entry_at line at (Answered told)) told doing
 stepped-answered q line at told doing = refl
 
-pub done-answered : (p : Past) (more : List Line) (q : Past) (line at : ℕ) (told : Told) (doing : Doing) (text : List ℕ) → InLine p more q line at
-    → printed_line (reply_of q 0 (q.clients 0) doing told) ≡ text → LineDone p more (answered q (entry_at line at (Answered told)) told doing) line at text
-done-answered p more q line at told doing text h says = record { number = h.number; complete = h.complete; due = refl; moment = refl; run = h.run; rest = h.rest; printed = h.printed; asked = h.asked; said = says }
+pub done-answered : (p : Past) (more : List Line) (q : Past) (line at : ℕ) (told : Told) (doing : Doing) (setting : Setting) (reply : Reply) → InLine p more q line at
+    → q.tree.setting ≡ setting → reply_of q 0 (q.clients 0) doing told ≡ reply → LineDone p more (answered q (entry_at line at (Answered told)) told doing) line at (printed_line setting reply)
+done-answered p more q line at told doing setting reply h same says = record { number = h.number; complete = h.complete; due = refl; moment = refl; run = h.run; rest = h.rest; printed = h.printed; asked = h.asked; said = ap (λ x. printed_line x (reply_of q 0 (q.clients 0) doing told)) same ∙ ap (printed_line setting) says }

@@ -13,7 +13,7 @@ use Rattle.jv_model.specs.declared.op.Reply.TheVariants.{Refused}
 use Rattle.jv_model.specs.Client.{ModelClient, OpenFile, Doing, submission, first_refusal, is_mount, needs_no_mount, names_handle, handle_in, gives_handle, write_end, file_of, open_count}
 use Rattle.jv_model.specs.Past.{Past}
 use Rattle.jv_model.specs.Legal.{Refuses, WantsMemory}
-use Rattle.jv_model.specs.Printed.{printed_line}
+use Rattle.jv_model.specs.ReplyText.{printed_line}
 use Rattle.jv_session.specs.Agrees.{ScheduleValue, IsClient, Ran, entry_at}
 use Rattle.jv_session.specs.Lines.{Coming, RunsTo}
 use Rattle.jv_session.specs.BuiltHere.{refusal_here}
@@ -49,16 +49,16 @@ pub coming_refusal : (p : Past) (more : List Line) (line at : ℕ) (op : Op) (s 
 coming_refusal p more line at op s before h = submission-here (p.clients 0) p.count s op h.stands.agrees.client h.stands.agrees.busy
 
 memory_by : (p : Past) (more : List Line) (line at : ℕ) (op : Op) (s : ScheduleValue) (before : List Act) (refusal : Option Fault) → Coming p more line at op s before → submission (p.clients 0) op ≡ refusal
-    → Ran p more line before (before ++ entry_at line at (Answered (ToldRefused NoMemory)) ∷ []) (printed_line (Refused NoMemory)) (record s { at = at })
+    → Ran p more line before (before ++ entry_at line at (Answered (ToldRefused NoMemory)) ∷ []) (printed_line s.setting (Refused NoMemory)) (record s { at = at })
 memory_by p more line at op s before None h is = no_memory_ran p more line at op s before h is
 memory_by p more line at op s before (Some due) h is = refused_ran p more line at op s due NoMemory before h is (WantsMemory refl)
 
 -- want of memory before any step, whatever the operation
-pub memory_ran : (op : Op) (line at : ℕ) (before : List Act) (s : ScheduleValue) → RunsTo op line at before (before ++ entry_at line at (Answered (ToldRefused NoMemory)) ∷ []) s s (printed_line (Refused NoMemory))
+pub memory_ran : (op : Op) (line at : ℕ) (before : List Act) (s : ScheduleValue) → RunsTo op line at before (before ++ entry_at line at (Answered (ToldRefused NoMemory)) ∷ []) s s (printed_line s.setting (Refused NoMemory))
 memory_ran op line at before s p more h = memory_by p more line at op s before (submission (p.clients 0) op) h refl
 
 -- a refusal of the submission
 pub refusal_ran : (op : Op) (line at : ℕ) (before : List Act) (s : ScheduleValue) (fault : Fault) → refusal_here s op ≡ Some fault
-    → RunsTo op line at before (before ++ entry_at line at (Answered (ToldRefused fault)) ∷ []) s s (printed_line (Refused fault))
+    → RunsTo op line at before (before ++ entry_at line at (Answered (ToldRefused fault)) ∷ []) s s (printed_line s.setting (Refused fault))
 refusal_ran op line at before s fault is p more h =
     refused_ran p more line at op s fault fault before h (coming_refusal p more line at op s before h ∙ is) (Refuses refl)

@@ -6,9 +6,10 @@ use Rattle.jv_model.specs.declared.act.Told.TheVariants.{Looks}
 use Rattle.jv_model.specs.declared.op.Op.{Op}
 use Rattle.jv_model.specs.declared.op.Reply.TheVariants.{Data}
 use Rattle.jv_model.specs.declared.op.Line.{Line}
+use Rattle.jv_model.specs.declared.setting.Setting.{Setting}
 use Rattle.jv_model.specs.Past.{Past}
 use Rattle.jv_model.specs.Pending.{Segment, bytes_in_range, without_range, is_rising}
-use Rattle.jv_model.specs.Printed.{printed_line}
+use Rattle.jv_model.specs.ReplyText.{printed_line}
 use Rattle.jv_session.specs.Stored.{Commits, space_of}
 use Rattle.jv_session.specs.Progress.{Reaches, flushing}
 use Rattle.jv_session.specs.Agrees.{ScheduleValue, entry_at}
@@ -27,8 +28,8 @@ pub record FlushesSegment (inode : ℕ) (segment : Segment) (line at : ℕ) (bef
   pub same : s' ≡ record s { pending = without_range inode segment.from segment.len s.pending; volume = s'.volume }
 
 -- a read shows these bytes: a look and the answer that cites it are appended
-pub record ShowsFile (inode : ℕ) (bytes : List ℕ) (line at : ℕ) (before after : List Act) (text : List ℕ) : Type 0 where
-  pub text_is : text ≡ printed_line (Data bytes)
+pub record ShowsFile (setting : Setting) (inode : ℕ) (bytes : List ℕ) (line at : ℕ) (before after : List Act) (text : List ℕ) : Type 0 where
+  pub text_is : text ≡ printed_line setting (Data bytes)
   pub grows : after ≡ before ++ entry_at line at (Look inode 0) ∷ entry_at line at (Answered (Looks (length before + 1) 0 (length bytes))) ∷ []
 
 -- What is pending of a file was committed in part or whole: from any past where the operation flushes this file, the
@@ -37,5 +38,6 @@ pub record Flushed (inode line at : ℕ) (before after : List Act) (s s' : Sched
   pub acts : List Act
   pub grows : after ≡ before ++ acts
   pub leads : (op : Op) (p : Past) (more : List Line) (q : Past) (so_far : List Act) → Reaches p more q so_far line at (flushing op inode) s → Reaches p more q (so_far ++ acts) line at (flushing op inode) s'
+  pub setting : s'.setting ≡ s.setting
   pub handles : s'.handles ≡ s.handles
   pub files : length s'.volume.files ≡ length s.volume.files

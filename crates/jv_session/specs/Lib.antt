@@ -8,4 +8,3 @@ pub mod Held
 pub mod Progress
 pub mod Flushing
 pub mod FlushLoop
-pub mod Printing

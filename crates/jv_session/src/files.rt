@@ -6,7 +6,7 @@ ghost use Rattle.jv_model.specs.declared.fault.Fault.TheVariants.{NoMemory};
 ghost use Rattle.jv_model.specs.declared.op.Op.TheVariants.{Close, Write, Read};
 ghost use Rattle.jv_model.specs.declared.op.Reply.TheVariants.{Refused, Data};
 ghost use Rattle.jv_model.specs.Client.{file_of};
-ghost use Rattle.jv_model.specs.Printed.{printed_line};
+ghost use Rattle.jv_model.specs.ReplyText.{printed_line};
 ghost use Rattle.jv_session.specs.Agrees.{entry_at};
 ghost use Rattle.jv_session.specs.BuiltHere.{refusal_here, built_op, may_flush};
 ghost use Rattle.jv_model.specs.Pending.{next_segment, pending_of, window_size, written};
@@ -18,7 +18,6 @@ ghost use Rattle.jv_session.specs.Flushing.{Flushed, FlushesSegment, ShowsFile};
 
 use crate::handles;
 use crate::operations::fine;
-use crate::printer::print_reply;
 use crate::schedule::{Schedule, Turn, note};
 use jv_model::{ActKind, Bytes, Journal, Reply, Sequence, Told, WINDOW};
 use jv_pending::SegmentAt;
@@ -38,11 +37,11 @@ impl Schedule {
         requires fresh { refusal_here self.old (Write handle offset bytes.now) ≡ None }
         requires room { 1 ≤ journal.old.spare }
         ensures ok { IfOk result (λ text. RunsTo (Write handle offset bytes.now) turn.now.line turn.now.at journal.old.acts journal.new.acts self.old self.new text) }
-        ensures err { OnErr result (RunsTo (Write handle offset bytes.now) turn.now.line turn.now.at journal.old.acts (journal.new.acts ++ entry_at turn.now.line turn.now.at (Answered (ToldRefused NoMemory)) ∷ []) self.old self.new (printed_line (Refused NoMemory))) }
+        ensures err { OnErr result (RunsTo (Write handle offset bytes.now) turn.now.line turn.now.at journal.old.acts (journal.new.acts ++ entry_at turn.now.line turn.now.at (Answered (ToldRefused NoMemory)) ∷ []) self.old self.new (printed_line self.old.setting (Refused NoMemory))) }
         ensures room { OnErr result (1 ≤ journal.new.spare) }
     {
         let count = bytes.len() as u64;
-        let text = print_reply(self.alloc, &Reply::Count { bytes: count })?;
+        let text = self.print(&Reply::Count { bytes: count })?;
         let Some(inode) = handles::named(&self.handles, handle) else {
             unreachable!();
         };
@@ -128,13 +127,13 @@ impl Schedule {
         requires fresh { refusal_here self.old (Close handle) ≡ None }
         requires room { 1 ≤ journal.old.spare }
         ensures ok { IfOk result (λ text. RunsTo (Close handle) turn.now.line turn.now.at journal.old.acts journal.new.acts self.old self.new text) }
-        ensures err { OnErr result (RunsTo (Close handle) turn.now.line turn.now.at journal.old.acts (journal.new.acts ++ entry_at turn.now.line turn.now.at (Answered (ToldRefused NoMemory)) ∷ []) self.old self.new (printed_line (Refused NoMemory))) }
+        ensures err { OnErr result (RunsTo (Close handle) turn.now.line turn.now.at journal.old.acts (journal.new.acts ++ entry_at turn.now.line turn.now.at (Answered (ToldRefused NoMemory)) ∷ []) self.old self.new (printed_line self.old.setting (Refused NoMemory))) }
         ensures room { OnErr result (1 ≤ journal.new.spare) }
     {
         let Some(inode) = handles::named(&self.handles, handle) else {
             unreachable!();
         };
-        let text = print_reply(self.alloc, &Reply::Done)?;
+        let text = self.print(&Reply::Done)?;
         self.flush(inode, turn, journal)?;
         handles::clear(&mut self.handles, handle);
         note(journal, turn, fine(0, 0));
@@ -154,7 +153,7 @@ impl Schedule {
         requires fresh { refusal_here self.old (Read handle offset len) ≡ None }
         requires room { 1 ≤ journal.old.spare }
         ensures ok { IfOk result (λ text. RunsTo (Read handle offset len) turn.now.line turn.now.at journal.old.acts journal.new.acts self.old self.new text) }
-        ensures err { OnErr result (RunsTo (Read handle offset len) turn.now.line turn.now.at journal.old.acts (journal.new.acts ++ entry_at turn.now.line turn.now.at (Answered (ToldRefused NoMemory)) ∷ []) self.old self.new (printed_line (Refused NoMemory))) }
+        ensures err { OnErr result (RunsTo (Read handle offset len) turn.now.line turn.now.at journal.old.acts (journal.new.acts ++ entry_at turn.now.line turn.now.at (Answered (ToldRefused NoMemory)) ∷ []) self.old self.new (printed_line self.old.setting (Refused NoMemory))) }
         ensures room { OnErr result (1 ≤ journal.new.spare) }
     {
         if len == 0 {
@@ -180,13 +179,13 @@ impl Schedule {
         requires fresh { refusal_here self.old (Read handle offset 0) ≡ None }
         requires room { 1 ≤ journal.old.spare }
         ensures ok { IfOk result (λ text. RunsTo (Read handle offset 0) turn.now.line turn.now.at journal.old.acts journal.new.acts self.old self.new text) }
-        ensures err { OnErr result (RunsTo (Read handle offset 0) turn.now.line turn.now.at journal.old.acts (journal.new.acts ++ entry_at turn.now.line turn.now.at (Answered (ToldRefused NoMemory)) ∷ []) self.old self.new (printed_line (Refused NoMemory))) }
+        ensures err { OnErr result (RunsTo (Read handle offset 0) turn.now.line turn.now.at journal.old.acts (journal.new.acts ++ entry_at turn.now.line turn.now.at (Answered (ToldRefused NoMemory)) ∷ []) self.old self.new (printed_line self.old.setting (Refused NoMemory))) }
         ensures room { OnErr result (1 ≤ journal.new.spare) }
     {
         let Some(inode) = handles::named(&self.handles, handle) else {
             unreachable!();
         };
-        let text = print_reply(self.alloc, &Reply::Data(Sequence::new(self.alloc)))?;
+        let text = self.print(&Reply::Data(Sequence::new(self.alloc)))?;
         self.flush(inode, turn, journal)?;
         note(journal, turn, looks(0, 0));
         Ok(text)
@@ -204,14 +203,14 @@ impl Schedule {
         requires file { IsFile (length self.now.volume.files) inode }
         requires end { offset + len ≤ window_size }
         requires room { 1 ≤ journal.old.spare }
-        ensures ok { IfOk result (λ text. IfSome (slice_get self.now.volume.files (inode - 2)) (λ file. ShowsFile inode (shown_between file offset (offset + len)) turn.now.line turn.now.at journal.old.acts journal.new.acts text)) }
+        ensures ok { IfOk result (λ text. IfSome (slice_get self.now.volume.files (inode - 2)) (λ file. ShowsFile self.now.setting inode (shown_between file offset (offset + len)) turn.now.line turn.now.at journal.old.acts journal.new.acts text)) }
         ensures err { OnErr result (journal.new.acts ≡ journal.old.acts) }
         ensures room { OnErr result (1 ≤ journal.new.spare) }
     {
         journal.reserve(2)?;
         let bytes = self.volume.read(inode, offset, offset + u64::from(len))?;
         let count = bytes.len() as u64;
-        let text = print_reply(self.alloc, &Reply::Data(bytes))?;
+        let text = self.print(&Reply::Data(bytes))?;
         note(journal, turn, ActKind::Look { inode, window: 0 });
         let first = journal.len() as u64;
         note(journal, turn, looks(first, count));

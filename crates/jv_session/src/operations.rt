@@ -6,14 +6,13 @@ ghost use Rattle.jv_model.specs.declared.fault.Fault.TheVariants.{NoMemory};
 ghost use Rattle.jv_model.specs.declared.op.Op.TheVariants.{Mount, Create, Open};
 ghost use Rattle.jv_model.specs.declared.op.Reply.TheVariants.{Refused};
 ghost use Rattle.jv_model.specs.Spelling.{is_root_path};
-ghost use Rattle.jv_model.specs.Printed.{printed_line};
+ghost use Rattle.jv_model.specs.ReplyText.{printed_line};
 ghost use Rattle.jv_session.specs.Agrees.{entry_at};
 ghost use Rattle.jv_session.specs.BuiltHere.{refusal_here, built_op, has_room};
 ghost use Rattle.jv_session.specs.Lines.{RunsTo};
 ghost use Rattle.jv_session.specs.Stored.{inode_named};
 
 use crate::handles;
-use crate::printer::print_reply;
 use crate::schedule::{Schedule, Turn, note, refusal};
 use jv_model::{ActKind, Bytes, Fault, Journal, Op, Path, Reply, Told};
 use std::alloc::AllocError;
@@ -30,10 +29,10 @@ impl Schedule {
         requires refused { refusal_here self.now op.now ≡ Some fault }
         requires room { 1 ≤ journal.old.spare }
         ensures ok { IfOk result (λ text. RunsTo op.now turn.now.line turn.now.at journal.old.acts journal.new.acts self.now self.now text) }
-        ensures err { OnErr result (RunsTo op.now turn.now.line turn.now.at journal.old.acts (journal.new.acts ++ entry_at turn.now.line turn.now.at (Answered (ToldRefused NoMemory)) ∷ []) self.now self.now (printed_line (Refused NoMemory))) }
+        ensures err { OnErr result (RunsTo op.now turn.now.line turn.now.at journal.old.acts (journal.new.acts ++ entry_at turn.now.line turn.now.at (Answered (ToldRefused NoMemory)) ∷ []) self.now self.now (printed_line self.now.setting (Refused NoMemory))) }
         ensures room { OnErr result (1 ≤ journal.new.spare) }
     {
-        let text = print_reply(self.alloc, &Reply::Refused(fault))?;
+        let text = self.print(&Reply::Refused(fault))?;
         note(journal, turn, refusal(fault));
         Ok(text)
     }
@@ -46,11 +45,11 @@ impl Schedule {
         journal: &mut Journal,
     ) -> Result<Bytes, AllocError>
         requires room { 1 ≤ journal.old.spare }
-        ensures ok { IfOk result (λ text. (text ≡ printed_line (Refused fault)) × (journal.new.acts ≡ journal.old.acts ++ entry_at turn.now.line turn.now.at Meta ∷ entry_at turn.now.line turn.now.at (Answered (ToldRefused fault)) ∷ [])) }
+        ensures ok { IfOk result (λ text. (text ≡ printed_line self.now.setting (Refused fault)) × (journal.new.acts ≡ journal.old.acts ++ entry_at turn.now.line turn.now.at Meta ∷ entry_at turn.now.line turn.now.at (Answered (ToldRefused fault)) ∷ [])) }
         ensures err { OnErr result (journal.new.acts ≡ journal.old.acts) }
         ensures room { OnErr result (1 ≤ journal.new.spare) }
     {
-        let text = print_reply(self.alloc, &Reply::Refused(fault))?;
+        let text = self.print(&Reply::Refused(fault))?;
         journal.reserve(2)?;
         note(journal, turn, ActKind::Meta);
         note(journal, turn, refusal(fault));
@@ -63,10 +62,10 @@ impl Schedule {
         requires direct { self.old.limits.writeback ≡ false }
         requires room { 1 ≤ journal.old.spare }
         ensures ok { IfOk result (λ text. RunsTo (Mount false) turn.now.line turn.now.at journal.old.acts journal.new.acts self.old self.new text) }
-        ensures err { OnErr result (RunsTo (Mount false) turn.now.line turn.now.at journal.old.acts (journal.new.acts ++ entry_at turn.now.line turn.now.at (Answered (ToldRefused NoMemory)) ∷ []) self.old self.new (printed_line (Refused NoMemory))) }
+        ensures err { OnErr result (RunsTo (Mount false) turn.now.line turn.now.at journal.old.acts (journal.new.acts ++ entry_at turn.now.line turn.now.at (Answered (ToldRefused NoMemory)) ∷ []) self.old self.new (printed_line self.old.setting (Refused NoMemory))) }
         ensures room { OnErr result (1 ≤ journal.new.spare) }
     {
-        let text = print_reply(self.alloc, &Reply::SessionMade { sid: 1 })?;
+        let text = self.print(&Reply::SessionMade { sid: 1 })?;
         journal.reserve(2)?;
         note(journal, turn, ActKind::Mounted { sid: 1 });
         note(journal, turn, fine(1, 0));
@@ -86,7 +85,7 @@ impl Schedule {
         requires fresh { refusal_here self.old (Create path.now mode) ≡ None }
         requires room { 1 ≤ journal.old.spare }
         ensures ok { IfOk result (λ text. RunsTo (Create path.now mode) turn.now.line turn.now.at journal.old.acts journal.new.acts self.old self.new text) }
-        ensures err { OnErr result (RunsTo (Create path.now mode) turn.now.line turn.now.at journal.old.acts (journal.new.acts ++ entry_at turn.now.line turn.now.at (Answered (ToldRefused NoMemory)) ∷ []) self.old self.new (printed_line (Refused NoMemory))) }
+        ensures err { OnErr result (RunsTo (Create path.now mode) turn.now.line turn.now.at journal.old.acts (journal.new.acts ++ entry_at turn.now.line turn.now.at (Answered (ToldRefused NoMemory)) ∷ []) self.old self.new (printed_line self.old.setting (Refused NoMemory))) }
         ensures room { OnErr result (1 ≤ journal.new.spare) }
     {
         if self.volume.find(path).is_some() {
@@ -94,7 +93,7 @@ impl Schedule {
         }
         let handle = handles::free_handle(&self.handles);
         let inode = self.volume.count() + 2;
-        let text = print_reply(self.alloc, &Reply::FileOpened { handle, inode })?;
+        let text = self.print(&Reply::FileOpened { handle, inode })?;
         journal.reserve(2)?;
         self.handles.reserve(1)?;
         let inode = self.volume.create(path)?;
@@ -115,14 +114,14 @@ impl Schedule {
         requires fresh { refusal_here self.old (Open path.now) ≡ None }
         requires room { 1 ≤ journal.old.spare }
         ensures ok { IfOk result (λ text. RunsTo (Open path.now) turn.now.line turn.now.at journal.old.acts journal.new.acts self.old self.new text) }
-        ensures err { OnErr result (RunsTo (Open path.now) turn.now.line turn.now.at journal.old.acts (journal.new.acts ++ entry_at turn.now.line turn.now.at (Answered (ToldRefused NoMemory)) ∷ []) self.old self.new (printed_line (Refused NoMemory))) }
+        ensures err { OnErr result (RunsTo (Open path.now) turn.now.line turn.now.at journal.old.acts (journal.new.acts ++ entry_at turn.now.line turn.now.at (Answered (ToldRefused NoMemory)) ∷ []) self.old self.new (printed_line self.old.setting (Refused NoMemory))) }
         ensures room { OnErr result (1 ≤ journal.new.spare) }
     {
         let Some(inode) = self.volume.find(path) else {
             return self.refuse_by_tree(Fault::NotFound, turn, journal);
         };
         let handle = handles::free_handle(&self.handles);
-        let text = print_reply(self.alloc, &Reply::FileOpened { handle, inode })?;
+        let text = self.print(&Reply::FileOpened { handle, inode })?;
         journal.reserve(2)?;
         self.handles.reserve(1)?;
         handles::set(&mut self.handles, handle, Some(inode));

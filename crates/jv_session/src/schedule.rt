@@ -7,20 +7,20 @@ ghost use Rattle.jv_model.specs.declared.op.Line.TheVariants.{Empty, Do};
 ghost use Rattle.jv_model.specs.declared.op.Reply.TheVariants.{Refused};
 ghost use Rattle.jv_model.specs.Past.{Past};
 ghost use Rattle.jv_model.specs.Built.{is_built};
-ghost use Rattle.jv_model.specs.Printed.{printed_line};
+ghost use Rattle.jv_model.specs.ReplyText.{printed_line};
 ghost use Rattle.jv_outside.specs.Causes.{Rose};
 ghost use Rattle.jv_session.specs.Agrees.{Stands, entry_at};
 ghost use Rattle.jv_session.specs.Lines.{fresh_schedule, LineRuns, Asks, RunsTo};
 ghost use Rattle.jv_session.specs.BuiltHere.{built_here, built_op};
 
 use crate::line_end::LineEnd;
-use crate::printer::print_reply;
 use crate::volume::Volume;
 use jv_model::{
     Act, ActKind, Bytes, Fault, Journal, Limits, Line, Moment, Op, Reply, Setting, Told,
 };
 use jv_outside::Clock;
 use jv_pending::Pending;
+use jv_script::print_reply;
 use std::alloc::{AllocError, Global};
 use std::marker::Model;
 
@@ -132,6 +132,13 @@ impl Schedule {
         }
     }
 
+    /// The printed line of an answer.
+    pub(crate) fn print(&self, reply: &Reply) -> Result<Bytes, AllocError>
+        ensures { IfOk result (λ line. line ≡ printed_line self.now.setting reply.now) }
+    {
+        print_reply(self.alloc, &self.setting, reply)
+    }
+
     /// Asks the clock and runs an operation. The entry and the text of a want of memory have their room before.
     fn operation<C: Clock>(
         &mut self,
@@ -147,7 +154,7 @@ impl Schedule {
         ensures later { C.faults clock.old ≤ C.faults clock.new }
         ensures asked { Asks (C.answers clock.old) (C.answers clock.new) result }
     {
-        let Ok(no_memory) = print_reply(self.alloc, &Reply::Refused(Fault::NoMemory)) else {
+        let Ok(no_memory) = self.print(&Reply::Refused(Fault::NoMemory)) else {
             return LineEnd::Memory;
         };
         if journal.reserve(1).is_err() {
@@ -169,7 +176,7 @@ impl Schedule {
     fn answer_or(&mut self, op: &Op, turn: &Turn, journal: &mut Journal, no_memory: Bytes) -> Bytes
         requires built { IsTrue (built_op self.old op.now) }
         requires room { 1 ≤ journal.old.spare }
-        requires text { no_memory ≡ printed_line (Refused NoMemory) }
+        requires text { no_memory ≡ printed_line self.old.setting (Refused NoMemory) }
         ensures runs { RunsTo op.now turn.now.line turn.now.at journal.old.acts journal.new.acts self.old self.new result }
     {
         match self.answer(op, turn, journal) {
@@ -203,7 +210,7 @@ impl Schedule {
         requires built { IsTrue (built_op self.old op.now) }
         requires room { 1 ≤ journal.old.spare }
         ensures ok { IfOk result (λ text. RunsTo op.now turn.now.line turn.now.at journal.old.acts journal.new.acts self.old self.new text) }
-        ensures err { OnErr result (RunsTo op.now turn.now.line turn.now.at journal.old.acts (journal.new.acts ++ entry_at turn.now.line turn.now.at (Answered (ToldRefused NoMemory)) ∷ []) self.old self.new (printed_line (Refused NoMemory))) }
+        ensures err { OnErr result (RunsTo op.now turn.now.line turn.now.at journal.old.acts (journal.new.acts ++ entry_at turn.now.line turn.now.at (Answered (ToldRefused NoMemory)) ∷ []) self.old self.new (printed_line self.old.setting (Refused NoMemory))) }
         ensures room { OnErr result (1 ≤ journal.new.spare) }
     {
         if let Some(fault) = self.submission(op) {

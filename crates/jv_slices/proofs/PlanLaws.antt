@@ -1,13 +1,13 @@
 -- Laws of what a list of records shows, and of plans.
 use Rattle.std.proofs.Common.{◌≡◌, ◌≢◌, ℕ, ◌+◌, ◌-◌, ◌<◌, ◌≤◌, Bool, true, false, cond, List, [], ◌∷◌, ◌++◌, length, get_or, drop, Option, Some, None, refl, sym, ap, ◌∙◌, subst, arith, ⊎_elim}
-use Rattle.std.specs.Prelude.{find, reverse, All, IfSome, nat_le, nat_lt, ◌==◌}
-use Rattle.std.proofs.lemmas.Bool.{cases_Bool, false≢true, and_parts, leb-true, ltb-true, eqb-false}
+use Rattle.std.specs.Prelude.{find, reverse, All, IfSome, nat_le, nat_lt, ◌==◌, ◌&&◌}
+use Rattle.std.proofs.lemmas.Bool.{cases_Bool, false≢true, and_parts, leb-true, ltb-true}
 use Rattle.std.proofs.lemmas.List.{reverse-append, append_assoc, drop_more}
 use Rattle.std.proofs.lemmas.List.Elements.{All-head, All-tail, All-push}
 use Rattle.jv_model.specs.declared.slice.Rec.{Rec}
 use Rattle.jv_model.specs.declared.slice.Piece.{Piece}
 use Rattle.jv_model.specs.declared.slice.Spot.TheVariants.{Zero, Slice}
-use Rattle.jv_model.specs.Slices.{IsRecord, covers, visible, place_by, stored_place, place_after, IsPiece, IsPlan, IsAsStored, IsPart, LiesIn}
+use Rattle.jv_model.specs.Slices.{IsRecord, is_part, covers, visible, place_by, stored_place, place_after, IsPiece, IsPlan, IsAsStored, IsPart, LiesIn}
 use Rattle.jv_slices.specs.declared.layout.Run.{Run}
 use Rattle.jv_slices.specs.Runs.{Shows, Turns, Differ, piece_of}
 
@@ -83,6 +83,12 @@ as_stored_from_run list from to run runs (up, same, rest) n below =
         slice_moved true id size at at' n e = refl
         slice_moved false id size at at' n e = ap (Slice id size) e
 
+-- a record of a slice lies in it
+in_slice : (r : Rec) → IsRecord r → (r.id == 0) ≡ false → r.off + r.len ≤ r.size
+in_slice r is named =
+    let part = (and_parts (nat_le 1 r.len && nat_le (r.pos + r.len) 67108864) (is_part r) is).1 in
+    leb-true (r.off + r.len) r.size (ap (λ b. cond b (r.size == 0 && r.off == 0) (nat_le (r.off + r.len) r.size)) (sym named) ∙ part)
+
 -- and lie in the slice
 pub part_from_run : (list : List Rec) (from to : ℕ) (run : Run) (runs : List Run) → All IsRecord list → Shows (visible list) from to (run ∷ runs) → IsPart (piece_of from run)
 part_from_run list from to run runs all (up, same, rest) =
@@ -95,7 +101,7 @@ part_from_run list from to run runs all (up, same, rest) =
         let first = visible_covers list from r e in
         let last = visible_covers list (run.end - 1) r f in
         ⊎_elim (λ (z : (r.id == 0) ≡ true). lies (r.id == 0) r.id r.size (r.off + (from - r.pos)) (run.end - from) (λ n. absurd (false≢true (sym n ∙ z))))
-        (λ (nz : (r.id == 0) ≡ false). lies (r.id == 0) r.id r.size (r.off + (from - r.pos)) (run.end - from) (λ n. omega (arith, up, first.0, last.1, fits.in_slice (eqb-false r.id 0 nz)))) (cases_Bool (r.id == 0))
+        (λ (nz : (r.id == 0) ≡ false). lies (r.id == 0) r.id r.size (r.off + (from - r.pos)) (run.end - from) (λ n. omega (arith, up, first.0, last.1, in_slice r fits nz))) (cases_Bool (r.id == 0))
       where
         lies : (zero : Bool) (id size at len : ℕ) → (zero ≡ false → at + len ≤ size) → LiesIn len (cond zero Zero (Slice id size at))
         lies true id size at len h = tt

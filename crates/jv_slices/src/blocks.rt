@@ -27,7 +27,7 @@ pub fn block_len(size: u32, block: u32, index: u32) -> u32
     block.min(size - index * block)
 }
 
-/// The blocks that pieces need, in the order of first need, each once.
+/// The blocks that pieces need, each once, as a reader comes to them from piece to piece.
 #[tactic(auto, unfolding(jv_model::specs::Slices::needed_blocks))]
 pub fn needs(alloc: Global, pieces: &Pieces, block: u32) -> Result<BlockKeys, AllocError>
     requires some { 0 < block }

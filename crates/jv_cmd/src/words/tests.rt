@@ -13,535 +13,138 @@ enum Outcome {
     Told,
 }
 
-/// Words, parted by one space each, and what becomes of them.
-struct Row {
-    words: &'static str,
-    outcome: Outcome,
-}
-
-/// Each value at the ends of its range, and past them, and words that are off.
-const ROWS: &[Row] = &[
-    Row {
-        words: "session sqlite3://v --cache-size 0",
-        outcome: Outcome::Taken,
-    },
-    Row {
-        words: "session sqlite3://v --cache-size=256",
-        outcome: Outcome::Taken,
-    },
-    Row {
-        words: "session sqlite3://v --cache-size 257",
-        outcome: Outcome::Off,
-    },
-    Row {
-        words: "session sqlite3://v --cache-size -1",
-        outcome: Outcome::Told,
-    },
-    Row {
-        words: "session sqlite3://v --cache-size",
-        outcome: Outcome::Told,
-    },
-    Row {
-        words: "session sqlite3://v --cache-size 256 --cache-size 256",
-        outcome: Outcome::Told,
-    },
-    Row {
-        words: "session sqlite3://v --buffer-size 8",
-        outcome: Outcome::Taken,
-    },
-    Row {
-        words: "session sqlite3://v --buffer-size=256",
-        outcome: Outcome::Taken,
-    },
-    Row {
-        words: "session sqlite3://v --buffer-size 257",
-        outcome: Outcome::Off,
-    },
-    Row {
-        words: "session sqlite3://v --buffer-size=7",
-        outcome: Outcome::Off,
-    },
-    Row {
-        words: "session sqlite3://v --buffer-size",
-        outcome: Outcome::Told,
-    },
-    Row {
-        words: "session sqlite3://v --buffer-size 256 --buffer-size 256",
-        outcome: Outcome::Told,
-    },
-    Row {
-        words: "session sqlite3://v --max-uploads 0",
-        outcome: Outcome::Taken,
-    },
-    Row {
-        words: "session sqlite3://v --max-uploads=64",
-        outcome: Outcome::Taken,
-    },
-    Row {
-        words: "session sqlite3://v --max-uploads 65",
-        outcome: Outcome::Off,
-    },
-    Row {
-        words: "session sqlite3://v --max-uploads -1",
-        outcome: Outcome::Told,
-    },
-    Row {
-        words: "session sqlite3://v --max-uploads",
-        outcome: Outcome::Told,
-    },
-    Row {
-        words: "session sqlite3://v --max-uploads 64 --max-uploads 64",
-        outcome: Outcome::Told,
-    },
-    Row {
-        words: "format sqlite3://v vol --bucket b --capacity 0",
-        outcome: Outcome::Taken,
-    },
-    Row {
-        words: "format sqlite3://v vol --bucket b --capacity=4294967296",
-        outcome: Outcome::Taken,
-    },
-    Row {
-        words: "format sqlite3://v vol --bucket b --capacity 4294967297",
-        outcome: Outcome::Off,
-    },
-    Row {
-        words: "format sqlite3://v vol --bucket b --capacity -1",
-        outcome: Outcome::Told,
-    },
-    Row {
-        words: "format sqlite3://v vol --bucket b --capacity",
-        outcome: Outcome::Told,
-    },
-    Row {
-        words: "format sqlite3://v vol --bucket b --capacity 4294967296 --capacity 4294967296",
-        outcome: Outcome::Told,
-    },
-    Row {
-        words: "format sqlite3://v vol --bucket b --inodes 0",
-        outcome: Outcome::Taken,
-    },
-    Row {
-        words: "format sqlite3://v vol --bucket b --inodes=4611686018427387904",
-        outcome: Outcome::Taken,
-    },
-    Row {
-        words: "format sqlite3://v vol --bucket b --inodes 4611686018427387905",
-        outcome: Outcome::Off,
-    },
-    Row {
-        words: "format sqlite3://v vol --bucket b --inodes -1",
-        outcome: Outcome::Told,
-    },
-    Row {
-        words: "format sqlite3://v vol --bucket b --inodes",
-        outcome: Outcome::Told,
-    },
-    Row {
-        words: "format sqlite3://v vol --bucket b --inodes 4611686018427387904 --inodes 4611686018427387904",
-        outcome: Outcome::Told,
-    },
-    Row {
-        words: "format sqlite3://v vol --bucket b --trash-days 0",
-        outcome: Outcome::Taken,
-    },
-    Row {
-        words: "format sqlite3://v vol --bucket b --trash-days=36500",
-        outcome: Outcome::Taken,
-    },
-    Row {
-        words: "format sqlite3://v vol --bucket b --trash-days 36501",
-        outcome: Outcome::Off,
-    },
-    Row {
-        words: "format sqlite3://v vol --bucket b --trash-days -1",
-        outcome: Outcome::Told,
-    },
-    Row {
-        words: "format sqlite3://v vol --bucket b --trash-days",
-        outcome: Outcome::Told,
-    },
-    Row {
-        words: "format sqlite3://v vol --bucket b --trash-days 36500 --trash-days 36500",
-        outcome: Outcome::Told,
-    },
-    Row {
-        words: "session sqlite3://v --cache-size 064",
-        outcome: Outcome::Off,
-    },
-    Row {
-        words: "session sqlite3://v --cache-size 00",
-        outcome: Outcome::Off,
-    },
-    Row {
-        words: "session sqlite3://v --cache-size +5",
-        outcome: Outcome::Off,
-    },
-    Row {
-        words: "session sqlite3://v --cache-size=",
-        outcome: Outcome::Off,
-    },
-    Row {
-        words: "session sqlite3://v --cache-size=5x",
-        outcome: Outcome::Off,
-    },
-    Row {
-        words: "format sqlite3://v vol --bucket b --inodes 10000000000000000000",
-        outcome: Outcome::Off,
-    },
-    Row {
-        words: "format sqlite3://v vol --bucket b --inodes=04611686018427387904",
-        outcome: Outcome::Off,
-    },
-    Row {
-        words: "format sqlite3://v vol --bucket b --block-size 64K",
-        outcome: Outcome::Taken,
-    },
-    Row {
-        words: "format sqlite3://v vol --bucket b --block-size 16M",
-        outcome: Outcome::Taken,
-    },
-    Row {
-        words: "format sqlite3://v vol --bucket b --block-size 64",
-        outcome: Outcome::Taken,
-    },
-    Row {
-        words: "format sqlite3://v vol --bucket b --block-size 16384",
-        outcome: Outcome::Taken,
-    },
-    Row {
-        words: "format sqlite3://v vol --bucket b --block-size 4096",
-        outcome: Outcome::Taken,
-    },
-    Row {
-        words: "format sqlite3://v vol --bucket b --block-size 16384K",
-        outcome: Outcome::Taken,
-    },
-    Row {
-        words: "format sqlite3://v vol --bucket b --block-size 1M",
-        outcome: Outcome::Taken,
-    },
-    Row {
-        words: "format sqlite3://v vol --bucket b --block-size=100",
-        outcome: Outcome::Off,
-    },
-    Row {
-        words: "format sqlite3://v vol --bucket b --block-size=32K",
-        outcome: Outcome::Off,
-    },
-    Row {
-        words: "format sqlite3://v vol --bucket b --block-size=32M",
-        outcome: Outcome::Off,
-    },
-    Row {
-        words: "format sqlite3://v vol --bucket b --block-size=63",
-        outcome: Outcome::Off,
-    },
-    Row {
-        words: "format sqlite3://v vol --bucket b --block-size=32768",
-        outcome: Outcome::Off,
-    },
-    Row {
-        words: "format sqlite3://v vol --bucket b --block-size=0",
-        outcome: Outcome::Off,
-    },
-    Row {
-        words: "format sqlite3://v vol --bucket b --block-size=K",
-        outcome: Outcome::Off,
-    },
-    Row {
-        words: "format sqlite3://v vol --bucket b --block-size=M",
-        outcome: Outcome::Off,
-    },
-    Row {
-        words: "format sqlite3://v vol --bucket b --block-size=",
-        outcome: Outcome::Off,
-    },
-    Row {
-        words: "format sqlite3://v vol --bucket b --block-size=4m",
-        outcome: Outcome::Off,
-    },
-    Row {
-        words: "format sqlite3://v vol --bucket b --block-size=4096KK",
-        outcome: Outcome::Off,
-    },
-    Row {
-        words: "format sqlite3://v vol --bucket b --block-size=04096",
-        outcome: Outcome::Off,
-    },
-    Row {
-        words: "format sqlite3://v vol --bucket b --block-size=96",
-        outcome: Outcome::Off,
-    },
-    Row {
-        words: "format sqlite3://v vol --bucket b --block-size=18446744073709551615M",
-        outcome: Outcome::Off,
-    },
-    Row {
-        words: "format sqlite3://v vol --bucket b --block-size=9999999999999999999M",
-        outcome: Outcome::Off,
-    },
-    Row {
-        words: "format sqlite3://v vol --bucket b --block-size",
-        outcome: Outcome::Told,
-    },
-    Row {
-        words: "format sqlite3://v vol --bucket b --block-size 64 --block-size 64",
-        outcome: Outcome::Told,
-    },
-    Row {
-        words: "format sqlite3://v abc --bucket b",
-        outcome: Outcome::Taken,
-    },
-    Row {
-        words: "format sqlite3://v a-9 --bucket b",
-        outcome: Outcome::Taken,
-    },
-    Row {
-        words: "format sqlite3://v 0-z --bucket b",
-        outcome: Outcome::Taken,
-    },
-    Row {
-        words: "format sqlite3://v aaaaaaaaaaaaaaaaaaaaaaaaaaaaaaaaaaaaaaaaaaaaaaaaaaaaaaaaaaaaaaa --bucket b",
-        outcome: Outcome::Taken,
-    },
-    Row {
-        words: "format sqlite3://v ab --bucket b",
-        outcome: Outcome::Off,
-    },
-    Row {
-        words: "format sqlite3://v aaaaaaaaaaaaaaaaaaaaaaaaaaaaaaaaaaaaaaaaaaaaaaaaaaaaaaaaaaaaaaaa --bucket b",
-        outcome: Outcome::Off,
-    },
-    Row {
-        words: "format sqlite3://v abc- --bucket b",
-        outcome: Outcome::Off,
-    },
-    Row {
-        words: "format sqlite3://v Abc --bucket b",
-        outcome: Outcome::Off,
-    },
-    Row {
-        words: "format sqlite3://v a_c --bucket b",
-        outcome: Outcome::Off,
-    },
-    Row {
-        words: "format sqlite3://v -abc --bucket b",
-        outcome: Outcome::Told,
-    },
-    Row {
-        words: "format --bucket b -- sqlite3://v -abc",
-        outcome: Outcome::Off,
-    },
-    Row {
-        words: "format --bucket b -- sqlite3://v abc",
-        outcome: Outcome::Taken,
-    },
-    Row {
-        words: "format sqlite3://v vol --bucket b --storage file",
-        outcome: Outcome::Taken,
-    },
-    Row {
-        words: "format sqlite3://v vol --bucket b --storage s3",
-        outcome: Outcome::Off,
-    },
-    Row {
-        words: "format sqlite3://v vol --bucket b --compress=none",
-        outcome: Outcome::Taken,
-    },
-    Row {
-        words: "format sqlite3://v vol --bucket b --compress lz4",
-        outcome: Outcome::Off,
-    },
-    Row {
-        words: "format sqlite3://v vol --bucket b --compress zstd",
-        outcome: Outcome::Off,
-    },
-    Row {
-        words: "format sqlite3://v vol --bucket b --hash-prefix",
-        outcome: Outcome::Taken,
-    },
-    Row {
-        words: "format sqlite3://v vol --bucket b --hash-prefix=true",
-        outcome: Outcome::Told,
-    },
-    Row {
-        words: "format sqlite3://v vol --bucket b --hash-prefix --hash-prefix",
-        outcome: Outcome::Told,
-    },
-    Row {
-        words: "format sqlite3://v vol --bucket b --bucket c",
-        outcome: Outcome::Told,
-    },
-    Row {
-        words: "format sqlite3://v vol",
-        outcome: Outcome::Told,
-    },
-    Row {
-        words: "format sqlite3://v --bucket b",
-        outcome: Outcome::Told,
-    },
-    Row {
-        words: "format sqlite3://v vol --bucket b extra",
-        outcome: Outcome::Told,
-    },
-    Row {
-        words: "format sqlite3://v vol --bucket -b",
-        outcome: Outcome::Told,
-    },
-    Row {
-        words: "format sqlite3://v vol --bucket=-b",
-        outcome: Outcome::Taken,
-    },
-    Row {
-        words: "session sqlite3://v",
-        outcome: Outcome::Taken,
-    },
-    Row {
-        words: "session sqlite3://v --writeback",
-        outcome: Outcome::Taken,
-    },
-    Row {
-        words: "session sqlite3://v --writeback --writeback",
-        outcome: Outcome::Told,
-    },
-    Row {
-        words: "session sqlite3://v --cache-dir d",
-        outcome: Outcome::Taken,
-    },
-    Row {
-        words: "session sqlite3://v --cache-dir=d",
-        outcome: Outcome::Taken,
-    },
-    Row {
-        words: "session sqlite3://v --cache-dir",
-        outcome: Outcome::Told,
-    },
-    Row {
-        words: "session sqlite3://v --cache-dir d --cache-dir d",
-        outcome: Outcome::Told,
-    },
-    Row {
-        words: "session mysql://x",
-        outcome: Outcome::Off,
-    },
-    Row {
-        words: "session sqlite3://",
-        outcome: Outcome::Off,
-    },
-    Row {
-        words: "session sqlite3:/v",
-        outcome: Outcome::Off,
-    },
-    Row {
-        words: "session v",
-        outcome: Outcome::Off,
-    },
-    Row {
-        words: "format mysql://x vol --bucket b",
-        outcome: Outcome::Off,
-    },
-    Row {
-        words: "session",
-        outcome: Outcome::Told,
-    },
-    Row {
-        words: "session sqlite3://v w",
-        outcome: Outcome::Told,
-    },
-    Row {
-        words: "session sqlite3://v --cache 5",
-        outcome: Outcome::Told,
-    },
-    Row {
-        words: "session sqlite3://v --capacity 5",
-        outcome: Outcome::Told,
-    },
-    Row {
-        words: "session sqlite3://v -x",
-        outcome: Outcome::Told,
-    },
-    Row {
-        words: "mount sqlite3://v",
-        outcome: Outcome::Told,
-    },
-    Row {
-        words: "sessions sqlite3://v",
-        outcome: Outcome::Told,
-    },
-    Row {
-        words: "--version",
-        outcome: Outcome::Told,
-    },
-    Row {
-        words: "session --version",
-        outcome: Outcome::Told,
-    },
-    Row {
-        words: "sqlite3://v session",
-        outcome: Outcome::Told,
-    },
-    Row {
-        words: "-- session sqlite3://v",
-        outcome: Outcome::Told,
-    },
-    Row {
-        words: "session sqlite3://v --generate 5",
-        outcome: Outcome::Off,
-    },
-    Row {
-        words: "session sqlite3://v --generate=5",
-        outcome: Outcome::Off,
-    },
-    Row {
-        words: "fsck sqlite3://v",
-        outcome: Outcome::Off,
-    },
-    Row {
-        words: "gc sqlite3://v --delete",
-        outcome: Outcome::Off,
-    },
-    Row {
-        words: "dump sqlite3://v",
-        outcome: Outcome::Off,
-    },
-    Row {
-        words: "load sqlite3://v",
-        outcome: Outcome::Off,
-    },
-    Row {
-        words: "--help",
-        outcome: Outcome::Told,
-    },
-    Row {
-        words: "-h",
-        outcome: Outcome::Told,
-    },
-    Row {
-        words: "help",
-        outcome: Outcome::Told,
-    },
-    Row {
-        words: "help session",
-        outcome: Outcome::Told,
-    },
-    Row {
-        words: "session --help",
-        outcome: Outcome::Told,
-    },
-    Row {
-        words: "format -h",
-        outcome: Outcome::Told,
-    },
-    Row {
-        words: "help mount",
-        outcome: Outcome::Told,
-    },
-    Row {
-        words: "session sqlite3://v --cache-size 999 --help",
-        outcome: Outcome::Told,
-    },
-];
+/// Words, parted by one space each, behind what becomes of them: each value at the ends of its range, and past them, and
+/// words that are off.
+const ROWS: &str = "taken: session sqlite3://v --cache-size 0
+taken: session sqlite3://v --cache-size=256
+off: session sqlite3://v --cache-size 257
+told: session sqlite3://v --cache-size -1
+told: session sqlite3://v --cache-size
+told: session sqlite3://v --cache-size 256 --cache-size 256
+taken: session sqlite3://v --buffer-size 8
+taken: session sqlite3://v --buffer-size=256
+off: session sqlite3://v --buffer-size 257
+off: session sqlite3://v --buffer-size=7
+told: session sqlite3://v --buffer-size
+told: session sqlite3://v --buffer-size 256 --buffer-size 256
+taken: session sqlite3://v --max-uploads 0
+taken: session sqlite3://v --max-uploads=64
+off: session sqlite3://v --max-uploads 65
+told: session sqlite3://v --max-uploads -1
+told: session sqlite3://v --max-uploads
+told: session sqlite3://v --max-uploads 64 --max-uploads 64
+taken: format sqlite3://v vol --bucket b --capacity 0
+taken: format sqlite3://v vol --bucket b --capacity=4294967296
+off: format sqlite3://v vol --bucket b --capacity 4294967297
+told: format sqlite3://v vol --bucket b --capacity -1
+told: format sqlite3://v vol --bucket b --capacity
+told: format sqlite3://v vol --bucket b --capacity 4294967296 --capacity 4294967296
+taken: format sqlite3://v vol --bucket b --inodes 0
+taken: format sqlite3://v vol --bucket b --inodes=4611686018427387904
+off: format sqlite3://v vol --bucket b --inodes 4611686018427387905
+told: format sqlite3://v vol --bucket b --inodes -1
+told: format sqlite3://v vol --bucket b --inodes
+told: format sqlite3://v vol --bucket b --inodes 4611686018427387904 --inodes 4611686018427387904
+taken: format sqlite3://v vol --bucket b --trash-days 0
+taken: format sqlite3://v vol --bucket b --trash-days=36500
+off: format sqlite3://v vol --bucket b --trash-days 36501
+told: format sqlite3://v vol --bucket b --trash-days -1
+told: format sqlite3://v vol --bucket b --trash-days
+told: format sqlite3://v vol --bucket b --trash-days 36500 --trash-days 36500
+off: session sqlite3://v --cache-size 064
+off: session sqlite3://v --cache-size 00
+off: session sqlite3://v --cache-size +5
+off: session sqlite3://v --cache-size=
+off: session sqlite3://v --cache-size=5x
+off: format sqlite3://v vol --bucket b --inodes 10000000000000000000
+off: format sqlite3://v vol --bucket b --inodes=04611686018427387904
+taken: format sqlite3://v vol --bucket b --block-size 64K
+taken: format sqlite3://v vol --bucket b --block-size 16M
+taken: format sqlite3://v vol --bucket b --block-size 64
+taken: format sqlite3://v vol --bucket b --block-size 16384
+taken: format sqlite3://v vol --bucket b --block-size 4096
+taken: format sqlite3://v vol --bucket b --block-size 16384K
+taken: format sqlite3://v vol --bucket b --block-size 1M
+off: format sqlite3://v vol --bucket b --block-size=100
+off: format sqlite3://v vol --bucket b --block-size=32K
+off: format sqlite3://v vol --bucket b --block-size=32M
+off: format sqlite3://v vol --bucket b --block-size=63
+off: format sqlite3://v vol --bucket b --block-size=32768
+off: format sqlite3://v vol --bucket b --block-size=0
+off: format sqlite3://v vol --bucket b --block-size=K
+off: format sqlite3://v vol --bucket b --block-size=M
+off: format sqlite3://v vol --bucket b --block-size=
+off: format sqlite3://v vol --bucket b --block-size=4m
+off: format sqlite3://v vol --bucket b --block-size=4096KK
+off: format sqlite3://v vol --bucket b --block-size=04096
+off: format sqlite3://v vol --bucket b --block-size=96
+off: format sqlite3://v vol --bucket b --block-size=18446744073709551615M
+off: format sqlite3://v vol --bucket b --block-size=9999999999999999999M
+told: format sqlite3://v vol --bucket b --block-size
+told: format sqlite3://v vol --bucket b --block-size 64 --block-size 64
+taken: format sqlite3://v abc --bucket b
+taken: format sqlite3://v a-9 --bucket b
+taken: format sqlite3://v 0-z --bucket b
+taken: format sqlite3://v aaaaaaaaaaaaaaaaaaaaaaaaaaaaaaaaaaaaaaaaaaaaaaaaaaaaaaaaaaaaaaa --bucket b
+off: format sqlite3://v ab --bucket b
+off: format sqlite3://v aaaaaaaaaaaaaaaaaaaaaaaaaaaaaaaaaaaaaaaaaaaaaaaaaaaaaaaaaaaaaaaa --bucket b
+off: format sqlite3://v abc- --bucket b
+off: format sqlite3://v Abc --bucket b
+off: format sqlite3://v a_c --bucket b
+told: format sqlite3://v -abc --bucket b
+off: format --bucket b -- sqlite3://v -abc
+taken: format --bucket b -- sqlite3://v abc
+taken: format sqlite3://v vol --bucket b --storage file
+off: format sqlite3://v vol --bucket b --storage s3
+taken: format sqlite3://v vol --bucket b --compress=none
+off: format sqlite3://v vol --bucket b --compress lz4
+off: format sqlite3://v vol --bucket b --compress zstd
+taken: format sqlite3://v vol --bucket b --hash-prefix
+told: format sqlite3://v vol --bucket b --hash-prefix=true
+told: format sqlite3://v vol --bucket b --hash-prefix --hash-prefix
+told: format sqlite3://v vol --bucket b --bucket c
+told: format sqlite3://v vol
+told: format sqlite3://v --bucket b
+told: format sqlite3://v vol --bucket b extra
+told: format sqlite3://v vol --bucket -b
+taken: format sqlite3://v vol --bucket=-b
+taken: session sqlite3://v
+taken: session sqlite3://v --writeback
+told: session sqlite3://v --writeback --writeback
+taken: session sqlite3://v --cache-dir d
+taken: session sqlite3://v --cache-dir=d
+told: session sqlite3://v --cache-dir
+told: session sqlite3://v --cache-dir d --cache-dir d
+off: session mysql://x
+off: session sqlite3://
+off: session sqlite3:/v
+off: session v
+off: format mysql://x vol --bucket b
+told: session
+told: session sqlite3://v w
+told: session sqlite3://v --cache 5
+told: session sqlite3://v --capacity 5
+told: session sqlite3://v -x
+told: mount sqlite3://v
+told: sessions sqlite3://v
+told: --version
+told: session --version
+told: sqlite3://v session
+told: -- session sqlite3://v
+off: session sqlite3://v --generate 5
+off: session sqlite3://v --generate=5
+off: fsck sqlite3://v
+off: gc sqlite3://v --delete
+off: dump sqlite3://v
+off: load sqlite3://v
+told: --help
+told: -h
+told: help
+told: help session
+told: session --help
+told: format -h
+told: help mount
+told: session sqlite3://v --cache-size 999 --help";
 
 fn words_of(alloc: Global, text: &str) -> Result<Vec<String>, AllocError> {
     let mut words = Vec::new(alloc);
@@ -566,11 +169,21 @@ fn outcome_of(alloc: Global, text: &str) -> Result<Outcome, Fail> {
     }
 }
 
+/// The outcome that a row wants.
+fn wanted(mark: &str) -> Result<Outcome, Fail> {
+    match mark {
+        "taken" => Ok(Outcome::Taken),
+        "off" => Ok(Outcome::Off),
+        "told" => Ok(Outcome::Told),
+        _ => Err(Fail::from("no outcome")),
+    }
+}
+
 #[test]
 fn words_are_taken_or_refused(rt: HostRuntime) -> Result<(), Fail> {
-    for row in ROWS {
-        let words = row.words;
-        assert_eq!(rt; outcome_of(rt.alloc(), words)?, row.outcome, "{words}");
+    for row in ROWS.lines() {
+        let (mark, words) = row.split_once(": ").ok_or("no words")?;
+        assert_eq!(rt; outcome_of(rt.alloc(), words)?, wanted(mark)?, "{words}");
     }
     Ok(())
 }

@@ -4,7 +4,7 @@ use Rattle.std.specs.Prelude.{IfSome}
 use Rattle.jv_model.specs.declared.op.Op.TheVariants.{Close}
 use Rattle.jv_model.specs.declared.op.Reply.TheVariants.{Done}
 use Rattle.jv_model.specs.Client.{file_of, with_file}
-use Rattle.jv_model.specs.Printed.{printed_line}
+use Rattle.jv_model.specs.ReplyText.{printed_line}
 use Rattle.jv_session.specs.Stored.{IsFile}
 use Rattle.jv_session.specs.Agrees.{ScheduleValue, entry_at}
 use Rattle.jv_session.proofs.SubmissionLaws.{memory_ran}
@@ -62,6 +62,6 @@ returns-clause-ok c =
     let grows = c.note.ensures.added ∙ ap (λ k. after ++ entry_at t.line t.at k ∷ []) c.fine.ensures in
     let handles : c.clear.new.handles.items ≡ with_file handle None e.handles = c.clear.ensures ∙ ap (λ (x : ScheduleValue). with_file handle None x.handles) c.self-2.view_is in
     runs_as (Close handle) t.line t.at before c.note.new.journal.acts c.note.new.journal.acts s (record e { at = t.at; handles = with_file handle None e.handles })
-    (record (the_view c.self-2.inside) { at = t.at; handles = c.clear.new.handles.items }) (printed_line Done) c.in_ok-text.text refl c.in_ok-text.ensures
+    (record (the_view c.self-2.inside) { at = t.at; handles = c.clear.new.handles.items }) (printed_line s.setting Done) c.in_ok-text.text refl c.in_ok-text.ensures
     (ap (λ (x : ScheduleValue). record x { at = t.at; handles = c.clear.new.handles.items }) c.self-2.view_is ∙ ap (λ hs. record e { at = t.at; handles = hs }) handles)
     (close_runs t.line t.at handle c.in-Some.inode before after c.note.new.journal.acts s e c.requires.fresh there c.flush.ensures.flushed c.in_ok-flush.ensures.empty grows)

@@ -8,7 +8,7 @@ use Rattle.jv_model.specs.declared.fault.Fault.TheVariants.{AlreadyExists}
 use Rattle.jv_model.specs.declared.op.Op.TheVariants.{Create}
 use Rattle.jv_model.specs.declared.op.Reply.TheVariants.{Refused, FileOpened}
 use Rattle.jv_model.specs.Client.{free_handle, with_file}
-use Rattle.jv_model.specs.Printed.{printed_line}
+use Rattle.jv_model.specs.ReplyText.{printed_line}
 use Rattle.jv_session.specs.Agrees.{ScheduleValue, entry_at}
 use Rattle.jv_session.specs.Stored.{IsFile, VolumeValue, Creates, inode_named}
 use Rattle.jv_session.specs.contracts.schedule.Schedule.{the_view}
@@ -43,7 +43,7 @@ returns-then-is_some-clause-ok c =
     let there : inode_named s.volume.names path ≡ Some some.0 = sym (ap (λ (w : ScheduleValue). inode_named w.volume.names path) c.self.view_is) ∙ sym c.find.ensures.inode ∙ some.1 in
     IfOk-weaker c.refuse_by_tree.result _ _ (λ text told.
     runs_as (Create path c.args.mode) t.line t.at before (before ++ entry_at t.line t.at Meta ∷ entry_at t.line t.at (Answered (ToldRefused AlreadyExists)) ∷ []) c.refuse_by_tree.new.journal.acts
-    s (record s { at = t.at }) (record s { at = t.at }) (printed_line (Refused AlreadyExists)) text told.1 told.0 refl
+    s (record s { at = t.at }) (record s { at = t.at }) (printed_line s.setting (Refused AlreadyExists)) text told.1 told.0 refl
     (create_exists_runs t.line t.at c.args.mode some.0 path s before c.requires.built c.requires.fresh there)) c.refuse_by_tree.ensures.ok
 
 pub returns-then-is_some-clause-err : goal.returns-then-is_some-clause-err
@@ -131,9 +131,9 @@ returns-clause-ok c =
     ∙ ap (λ (w : ScheduleValue). record (with_handle w inode) { at = t.at; volume = volume }) here in
     let counted : c.count-inode.result + 2 ≡ inode = omega (arith, c.count-inode.ensures.count, c.in_ok-inode.ensures.ok.0) in
     runs_as (Create path c.args.mode) t.line t.at before (before ++ first ∷ second ∷ []) c.note-2.new.journal.acts s (record (with_handle s inode) { at = t.at; volume = volume }) end
-    (printed_line (FileOpened handle inode)) c.in_ok-text.text
+    (printed_line s.setting (FileOpened handle inode)) c.in_ok-text.text
     (two_notes before c.note.new.journal.acts c.note-2.new.journal.acts first second
     (c.note.ensures.added ∙ ap (λ acts. acts ++ first ∷ []) c.reserve.ensures.same)
     (c.note-2.ensures.added ∙ ap (λ k. c.note.new.journal.acts ++ entry_at t.line t.at k ∷ []) c.fine.ensures))
-    (c.in_ok-text.ensures ∙ ap (λ n. printed_line (FileOpened handle n)) counted) ends
+    (c.in_ok-text.ensures ∙ ap (λ n. printed_line s.setting (FileOpened handle n)) counted) ends
     (create_runs t.line t.at c.args.mode inode handle path s volume before c.requires.built c.requires.fresh absent made number free)

@@ -8,7 +8,7 @@ use Rattle.jv_model.specs.declared.fault.Fault.TheVariants.{NotFound}
 use Rattle.jv_model.specs.declared.op.Op.TheVariants.{Open}
 use Rattle.jv_model.specs.declared.op.Reply.TheVariants.{Refused, FileOpened}
 use Rattle.jv_model.specs.Client.{free_handle, with_file}
-use Rattle.jv_model.specs.Printed.{printed_line}
+use Rattle.jv_model.specs.ReplyText.{printed_line}
 use Rattle.jv_session.specs.Agrees.{ScheduleValue, entry_at}
 use Rattle.jv_session.specs.Stored.{IsFile, inode_named}
 use Rattle.jv_session.specs.contracts.schedule.Schedule.{the_view}
@@ -27,7 +27,7 @@ returns-in_default-clause-ok c =
     let absent : inode_named s.volume.names path ≡ None = sym (ap (λ (w : ScheduleValue). inode_named w.volume.names path) c.self.view_is) ∙ sym c.find.ensures.inode ∙ c.in_default.is in
     IfOk-weaker c.refuse_by_tree.result _ _ (λ text told.
     runs_as (Open path) t.line t.at before (before ++ entry_at t.line t.at Meta ∷ entry_at t.line t.at (Answered (ToldRefused NotFound)) ∷ []) c.refuse_by_tree.new.journal.acts
-    s (record s { at = t.at }) (record s { at = t.at }) (printed_line (Refused NotFound)) text told.1 told.0 refl
+    s (record s { at = t.at }) (record s { at = t.at }) (printed_line s.setting (Refused NotFound)) text told.1 told.0 refl
     (open_absent_runs t.line t.at path s before c.requires.built c.requires.fresh absent)) c.refuse_by_tree.ensures.ok
 
 pub returns-in_default-clause-err : goal.returns-in_default-clause-err
@@ -95,7 +95,7 @@ returns-clause-ok c =
     ap (λ (items : List (Option ℕ)). record (the_view inside) { at = t.at; handles = items }) set
     ∙ ap (λ (w : ScheduleValue). record (with_handle w inode) { at = t.at }) here in
     runs_as (Open path) t.line t.at before (before ++ first ∷ second ∷ []) c.note-2.new.journal.acts s (record (with_handle s inode) { at = t.at }) end
-    (printed_line (FileOpened handle inode)) c.in_ok-text.text
+    (printed_line s.setting (FileOpened handle inode)) c.in_ok-text.text
     (two_notes before c.note.new.journal.acts c.note-2.new.journal.acts first second
     (c.note.ensures.added ∙ ap (λ acts. acts ++ first ∷ []) c.reserve.ensures.same)
     (c.note-2.ensures.added ∙ ap (λ k. c.note.new.journal.acts ++ entry_at t.line t.at k ∷ []) c.fine.ensures))

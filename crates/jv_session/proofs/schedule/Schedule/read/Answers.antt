@@ -5,7 +5,7 @@ use Rattle.jv_model.specs.declared.act.ActKind.TheVariants.{Answered}
 use Rattle.jv_model.specs.declared.act.Told.TheVariants.{Refused as ToldRefused}
 use Rattle.jv_model.specs.declared.fault.Fault.TheVariants.{NoMemory}
 use Rattle.jv_model.specs.declared.op.Reply.TheVariants.{Refused}
-use Rattle.jv_model.specs.Printed.{printed_line}
+use Rattle.jv_model.specs.ReplyText.{printed_line}
 use Rattle.jv_model.specs.declared.op.Op.TheVariants.{Read}
 use Rattle.jv_model.specs.Client.{file_of}
 use Rattle.jv_session.specs.declared.volume.StoredFile.{StoredFile}
@@ -44,7 +44,7 @@ returns-then-len-eq0-clause-ok c =
 pub returns-then-len-eq0-clause-err : goal.returns-then-len-eq0-clause-err
 returns-then-len-eq0-clause-err c =
     let t = c.args.turn.now in
-    subst (λ n. OnErr c.read_nothing.result (RunsTo (Read c.args.handle c.args.offset n) t.line t.at c.args.journal.now.acts (c.read_nothing.new.journal.acts ++ entry_at t.line t.at (Answered (ToldRefused NoMemory)) ∷ []) c.args.self.now c.read_nothing.new.self (printed_line (Refused NoMemory))))
+    subst (λ n. OnErr c.read_nothing.result (RunsTo (Read c.args.handle c.args.offset n) t.line t.at c.args.journal.now.acts (c.read_nothing.new.journal.acts ++ entry_at t.line t.at (Answered (ToldRefused NoMemory)) ∷ []) c.args.self.now c.read_nothing.new.self (printed_line c.args.self.now.setting (Refused NoMemory))))
     (sym c.if-len-eq0.true) c.read_nothing.ensures.err
 
 pub returns-clause-ok : goal.returns-clause-ok
@@ -66,7 +66,7 @@ returns-clause-ok c =
     let stored : (file : StoredFile) × (slice_get e.volume.files (inode - 2) ≡ Some file) = some_at e.volume.files (inode - 2) (omega (arith, low, high)) in
     map_ok c.read_flushed.result _ _ (λ text h. read_runs t.line t.at c.args.handle c.args.offset c.args.len inode stored.0 c.args.journal.now.acts c.flush.new.journal.acts c.read_flushed.new.journal.acts text s e
     c.requires.built c.requires.fresh there c.flush.ensures.flushed c.in_ok-flush.ensures.empty some stored.1
-    (subst (λ o. IfSome o (λ file. ShowsFile inode (shown_between file c.args.offset (c.args.offset + c.args.len)) t.line t.at c.flush.new.journal.acts c.read_flushed.new.journal.acts text)) stored.1 h)) c.read_flushed.ensures.ok
+    (subst (λ o. IfSome o (λ file. ShowsFile e.setting inode (shown_between file c.args.offset (c.args.offset + c.args.len)) t.line t.at c.flush.new.journal.acts c.read_flushed.new.journal.acts text)) stored.1 h)) c.read_flushed.ensures.ok
 
 pub returns-clause-err : goal.returns-clause-err
 returns-clause-err c =

@@ -3,7 +3,7 @@ use Rattle.std.proofs.Common.{◌≡◌, [], ◌∷◌, ◌++◌, Some, refl, sy
 use Rattle.jv_model.specs.declared.op.Op.TheVariants.{Read}
 use Rattle.jv_model.specs.declared.op.Reply.TheVariants.{Data}
 use Rattle.jv_model.specs.Client.{file_of}
-use Rattle.jv_model.specs.Printed.{printed_line}
+use Rattle.jv_model.specs.ReplyText.{printed_line}
 use Rattle.jv_session.specs.Agrees.{ScheduleValue, entry_at}
 use Rattle.jv_session.proofs.SubmissionLaws.{memory_ran}
 use Rattle.jv_session.proofs.FileLines.{AReads}
@@ -36,5 +36,5 @@ returns-clause-ok c =
     let held : c.deref.result.now ≡ s.handles = c.deref.ensures.value ∙ ap (λ (x : ScheduleValue). x.handles) c.self.view_is in
     let there : file_of s.handles c.args.handle ≡ Some c.in-Some.inode = ap (λ hs. file_of hs c.args.handle) (sym held) ∙ sym c.in-Some.ensures in
     let grows = c.note.ensures.added ∙ ap (λ k. after ++ entry_at t.line t.at k ∷ []) c.looks.ensures in
-    runs_as (Read c.args.handle c.args.offset 0) t.line t.at before c.note.new.journal.acts c.note.new.journal.acts s (record e { at = t.at }) (record e { at = t.at }) (printed_line (Data [])) c.in_ok-text.text refl (c.in_ok-text.ensures ∙ ap (λ bytes. printed_line (Data bytes)) c.new.ensures) refl
+    runs_as (Read c.args.handle c.args.offset 0) t.line t.at before c.note.new.journal.acts c.note.new.journal.acts s (record e { at = t.at }) (record e { at = t.at }) (printed_line s.setting (Data [])) c.in_ok-text.text refl (c.in_ok-text.ensures ∙ ap (λ bytes. printed_line s.setting (Data bytes)) c.new.ensures) refl
     (read_nothing_runs t.line t.at c.args.handle c.args.offset c.in-Some.inode before after c.note.new.journal.acts s e c.requires.fresh there c.flush.ensures.flushed c.in_ok-flush.ensures.empty grows)

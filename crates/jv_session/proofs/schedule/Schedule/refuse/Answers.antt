@@ -3,7 +3,7 @@ use Rattle.std.proofs.Common.{[], ◌∷◌, ◌++◌, refl, ap, ◌∙◌}
 use Rattle.jv_model.specs.declared.act.ActKind.TheVariants.{Answered}
 use Rattle.jv_model.specs.declared.act.Told.TheVariants.{Refused as ToldRefused}
 use Rattle.jv_model.specs.declared.op.Reply.TheVariants.{Refused}
-use Rattle.jv_model.specs.Printed.{printed_line}
+use Rattle.jv_model.specs.ReplyText.{printed_line}
 use Rattle.jv_session.specs.Agrees.{entry_at}
 use Rattle.jv_session.proofs.SubmissionLaws.{memory_ran, refusal_ran}
 use Rattle.jv_session.proofs.AnswerLaws.{on_err, runs_as}
@@ -20,6 +20,6 @@ returns-clause-ok c =
     let s = c.args.self.now in
     let before = c.args.journal.now.acts in
     runs_as c.args.op.now t.line t.at before (before ++ entry_at t.line t.at (Answered (ToldRefused c.args.fault)) ∷ []) c.note.new.journal.acts s (record s { at = t.at }) (record s { at = t.at })
-    (printed_line (Refused c.args.fault)) c.in_ok-text.text
+    (printed_line s.setting (Refused c.args.fault)) c.in_ok-text.text
     (c.note.ensures.added ∙ ap (λ k. before ++ entry_at t.line t.at k ∷ []) c.refusal.ensures) c.in_ok-text.ensures refl
     (refusal_ran c.args.op.now t.line t.at before s c.args.fault c.requires.refused)

@@ -6,7 +6,7 @@ use Rattle.jv_model.specs.declared.op.Op.TheVariants.{Write}
 use Rattle.jv_model.specs.declared.op.Reply.TheVariants.{Count}
 use Rattle.jv_model.specs.Pending.{written}
 use Rattle.jv_model.specs.Client.{file_of}
-use Rattle.jv_model.specs.Printed.{printed_line}
+use Rattle.jv_model.specs.ReplyText.{printed_line}
 use Rattle.jv_session.specs.Agrees.{ScheduleValue, entry_at}
 use Rattle.jv_session.proofs.SubmissionLaws.{memory_ran}
 use Rattle.jv_session.proofs.AnswerLaws.{on_err, runs_as, memory_as, write_runs}
@@ -36,8 +36,8 @@ returns-clause-ok c =
     let count : c.len-count.result ≡ length bytes = c.len-count.ensures.length in
     let act = entry_at t.line t.at (Answered (Fine (length bytes) 0 0 0)) in
     runs_as (Write c.args.handle c.args.offset bytes) t.line t.at before (before ++ act ∷ []) c.note.new.journal.acts s (record s { at = t.at; pending = written inode c.args.offset bytes s.pending }) (record c.hold.new.self { at = t.at })
-    (printed_line (Count (length bytes))) c.in_ok-text.text
+    (printed_line s.setting (Count (length bytes))) c.in_ok-text.text
     (c.note.ensures.added ∙ ap (λ k. before ++ entry_at t.line t.at k ∷ []) (c.fine.ensures ∙ ap (λ n. Answered (Fine n 0 0 0)) count))
-    (c.in_ok-text.ensures ∙ ap (λ n. printed_line (Count n)) count)
+    (c.in_ok-text.ensures ∙ ap (λ n. printed_line s.setting (Count n)) count)
     (ap (λ (x : ScheduleValue). record x { at = t.at }) c.in_ok-hold.ensures.ok)
     (write_runs t.line t.at c.args.handle c.args.offset inode bytes s before c.requires.built c.requires.fresh there)
