@@ -34,8 +34,16 @@ with_limits app = with_rule (with_rule (with_rule (with_rule app (option (codes 
 abbrev pub format_app : App
 format_app = with_limits (with_objects (with_rule (with_rule (new_app (codes "format")) (positional (codes "url"))) (positional (codes "name"))))
 
+-- the options of `session` on what its clients hold, and how many uploads run
+abbrev pub with_sizes : App → App
+with_sizes app = with_rule (with_rule (with_rule app (option (codes "cache-size") (codes "64"))) (option (codes "buffer-size") (codes "32"))) (option (codes "max-uploads") (codes "20"))
+
+-- those on local files
+abbrev pub with_staging : App → App
+with_staging app = with_rule (with_rule app (flag (codes "writeback"))) (option (codes "cache-dir") (codes "juicevol-cache"))
+
 abbrev pub session_app : App
-session_app = with_rule (with_rule (with_rule (with_rule (with_rule (with_rule (new_app (codes "session")) (positional (codes "url"))) (option (codes "cache-size") (codes "64"))) (option (codes "buffer-size") (codes "32"))) (option (codes "max-uploads") (codes "20"))) (flag (codes "writeback"))) (option (codes "cache-dir") (codes "juicevol-cache"))
+session_app = with_staging (with_sizes (with_rule (new_app (codes "session")) (positional (codes "url"))))
 
 -- the words begin with the command, and without any the answer is the help
 abbrev pub bare_app : App

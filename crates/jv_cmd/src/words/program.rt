@@ -2,7 +2,7 @@
 ghost use Rattle.std.specs.Prelude.{◌≡◌, IfOk, codes, false};
 ghost use Rattle.clap.specs.Words.{app_of, rule_of, shape_of, with_rule, with_subcommand};
 ghost use Rattle.clap.specs.declared.builder.command.Command.TheViews.{out-Command};
-ghost use Rattle.jv_cmd.specs.Program.{IsApp, IsRule, bare_app, flag, format_app, option, positional, program_app, required_option, session_app, with_limits, with_objects};
+ghost use Rattle.jv_cmd.specs.Program.{IsApp, IsRule, bare_app, flag, format_app, option, positional, program_app, required_option, session_app, with_limits, with_objects, with_sizes, with_staging};
 
 use clap::{Arg, ArgAction, Command};
 use std::alloc::{AllocError, Global};
@@ -126,6 +126,16 @@ fn session<'a>(alloc: Global) -> Result<Command<'a>, AllocError>
     let command = Command::new(alloc, "session").about(
         "Run the script on standard input over a volume",
     );
+    let command = with_arg(command, url(alloc))?;
+    let command = with_sizes(alloc, command)?;
+    with_staging(alloc, command)
+}
+
+/// The options of `session` on what its clients hold, and how many uploads run.
+fn with_sizes<'a>(alloc: Global, command: Command<'a>) -> Result<Command<'a>, AllocError>
+    requires { (out-Command command).has_globals ≡ false }
+    ensures { IfOk result (IsApp (with_sizes (app_of command.entry))) }
+{
     let cache = option(
         alloc,
         "cache-size",
@@ -147,6 +157,16 @@ fn session<'a>(alloc: Global) -> Result<Command<'a>, AllocError>
         "20",
         "How many uploads run at once, 0 to 64; with 0 only script lines upload",
     );
+    let command = with_arg(command, cache)?;
+    let command = with_arg(command, buffer)?;
+    with_arg(command, uploads)
+}
+
+/// The options of `session` on local files.
+fn with_staging<'a>(alloc: Global, command: Command<'a>) -> Result<Command<'a>, AllocError>
+    requires { (out-Command command).has_globals ≡ false }
+    ensures { IfOk result (IsApp (with_staging (app_of command.entry))) }
+{
     let writeback = flag(
         alloc,
         "writeback",
@@ -159,10 +179,6 @@ fn session<'a>(alloc: Global) -> Result<Command<'a>, AllocError>
         "juicevol-cache",
         "The folder of staged and cached blocks",
     );
-    let command = with_arg(command, url(alloc))?;
-    let command = with_arg(command, cache)?;
-    let command = with_arg(command, buffer)?;
-    let command = with_arg(command, uploads)?;
     let command = with_arg(command, writeback)?;
     with_arg(command, folder)
 }

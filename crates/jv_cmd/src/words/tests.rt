@@ -1,6 +1,7 @@
 use super::{Command, SessionOptions, WordsFault, read_words};
 use jv_model::{Setting, copied};
 use std::alloc::{AllocError, Global};
+use std::process::Abort;
 use std::test::Fail;
 
 /// What became of words.
@@ -206,76 +207,84 @@ fn a_bucket_has_1_to_1024_bytes(rt: HostRuntime) -> Result<(), Fail> {
     Ok(())
 }
 
+/// The words are this command.
+fn expect(rt: &(impl Abort + AllocGlobal), text: &str, command: Command) -> Result<(), Fail> {
+    let words = words_of(rt.alloc(), text)?;
+    assert!(rt; read_words(rt.alloc(), &words)? == command);
+    Ok(())
+}
+
+/// A session at a place, with these numbers of its options, and staged blocks in a folder.
+fn session(
+    alloc: Global,
+    place: &[u8],
+    numbers: (u64, u64, u32),
+    writeback: bool,
+    cache_dir: &[u8],
+) -> Result<Command, AllocError> {
+    let (cache, buffer, uploads) = numbers;
+    let place = copied(alloc, place)?;
+    let cache_dir = copied(alloc, cache_dir)?;
+    Ok(Command::Session {
+        place,
+        options: SessionOptions {
+            cache,
+            buffer,
+            uploads,
+            writeback,
+            cache_dir,
+        },
+    })
+}
+
+/// A format of a volume at the place `v`, with these numbers of its options.
+fn format(
+    alloc: Global,
+    name: &[u8],
+    bucket: &[u8],
+    numbers: (u32, u32, u64, u64, u8),
+) -> Result<Command, AllocError> {
+    let (block, trash_days, capacity, inodes, hash) = numbers;
+    let place = copied(alloc, b"v")?;
+    let name = copied(alloc, name)?;
+    let bucket = copied(alloc, bucket)?;
+    Ok(Command::Format {
+        place,
+        setting: Setting {
+            version: 1,
+            block,
+            trash_days,
+            capacity,
+            inodes,
+            hash,
+            name,
+            bucket,
+        },
+    })
+}
+
 #[test]
 fn values_have_defaults(rt: HostRuntime) -> Result<(), Fail> {
     let alloc = rt.alloc();
-    let session = words_of(alloc, "session sqlite3://a/v.db")?;
-    let expected = Command::Session {
-        place: copied(alloc, b"a/v.db")?,
-        options: SessionOptions {
-            cache: 64,
-            buffer: 32,
-            uploads: 20,
-            writeback: false,
-            cache_dir: copied(alloc, b"juicevol-cache")?,
-        },
-    };
-    assert!(rt; read_words(alloc, &session)? == expected);
-    let format = words_of(alloc, "format sqlite3://v vol-1 --bucket /tmp/b")?;
-    let expected = Command::Format {
-        place: copied(alloc, b"v")?,
-        setting: Setting {
-            version: 1,
-            block: 4_194_304,
-            trash_days: 1,
-            capacity: 0,
-            inodes: 0,
-            hash: 0,
-            name: copied(alloc, b"vol-1")?,
-            bucket: copied(alloc, b"/tmp/b")?,
-        },
-    };
-    assert!(rt; read_words(alloc, &format)? == expected);
-    Ok(())
+    let command = session(alloc, b"a/v.db", (64, 32, 20), false, b"juicevol-cache")?;
+    expect(&rt, "session sqlite3://a/v.db", command)?;
+    let command = format(alloc, b"vol-1", b"/tmp/b", (4_194_304, 1, 0, 0, 0))?;
+    expect(&rt, "format sqlite3://v vol-1 --bucket /tmp/b", command)
 }
 
 #[test]
 fn each_value_has_its_place(rt: HostRuntime) -> Result<(), Fail> {
     let alloc = rt.alloc();
-    let session = words_of(
-        alloc,
-        "session --cache-dir d --writeback --max-uploads 3 --buffer-size=9 --cache-size 5 sqlite3://v",
-    )?;
-    let expected = Command::Session {
-        place: copied(alloc, b"v")?,
-        options: SessionOptions {
-            cache: 5,
-            buffer: 9,
-            uploads: 3,
-            writeback: true,
-            cache_dir: copied(alloc, b"d")?,
-        },
-    };
-    assert!(rt; read_words(alloc, &session)? == expected);
-    let format = words_of(
-        alloc,
-        "format --hash-prefix --trash-days 7 --inodes=6 --capacity 5 --block-size 64K sqlite3://v abc --bucket=-b",
-    )?;
-    let expected = Command::Format {
-        place: copied(alloc, b"v")?,
-        setting: Setting {
-            version: 1,
-            block: 65_536,
-            trash_days: 7,
-            capacity: 5,
-            inodes: 6,
-            hash: 1,
-            name: copied(alloc, b"abc")?,
-            bucket: copied(alloc, b"-b")?,
-        },
-    };
-    assert!(rt; read_words(alloc, &format)? == expected);
-    Ok(())
+    let words =
+        "session --cache-dir d --writeback --max-uploads 3 --buffer-size=9 --cache-size 5 sqlite3://v";
+    expect(&rt, words, session(alloc, b"v", (5, 9, 3), true, b"d")?)?;
+    let words =
+        "format --hash-prefix --trash-days 7 --inodes=6 --capacity 5 --block-size 64K sqlite3://v abc --bucket=-b";
+    expect(
+        &rt,
+        words,
+        format(alloc, b"abc", b"-b", (65_536, 7, 5, 6, 1))?,
+    )
 }
 
 fn refusal(alloc: Global, text: &str) -> Result<String, Fail> {
