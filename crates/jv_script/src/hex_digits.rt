@@ -22,10 +22,14 @@ fn all_hex_digits(digits: &[u8]) -> bool
     all
 }
 
+// Tests all three ranges: branches between them would often go another way than the processor guesses.
 pub(crate) fn is_hex_digit(c: u8) -> bool
     ensures { result ≡ is_hex_digit c }
 {
-    matches!(c, b'0'..=b'9' | b'A'..=b'F' | b'a'..=b'f')
+    let decimal = matches!(c, b'0'..=b'9');
+    let upper = matches!(c, b'A'..=b'F');
+    let lower = matches!(c, b'a'..=b'f');
+    decimal | upper | lower
 }
 
 // `hex::decode` tells digits apart by branches, which takes five times as long on random bytes.
