@@ -7,7 +7,7 @@ ghost use Rattle.jv_script.specs.Reading.{Reads, length_with, has_x, bytes_after
 
 use crate::bad_line::BadLine;
 use crate::fields::number;
-use crate::hex_digits::{byte_of, decode_into, is_hex_digit, is_pairs};
+use crate::hex_digits::{are_hex_digits, byte_of, decode_into, is_pairs};
 use crate::words::cut;
 use jv_model::{Bytes, Sequence};
 use std::alloc::{AllocError, Global};
@@ -87,7 +87,7 @@ fn repeated(part: &[u8]) -> Option<(u8, u64)>
 fn is_repeated(high: u8, low: u8, x: u8, count: u64) -> bool
     ensures { result ≡ (is_hex_digit high && is_hex_digit low && (x == 120) && nat_lt 0 count) }
 {
-    is_hex_digit(high) && is_hex_digit(low) && x == b'x' && count > 0
+    are_hex_digits(high, low) && x == b'x' && count > 0
 }
 
 // The bytes of the parts, if they are parts and have not too many. A function of its own in the program, too: in a large one
@@ -120,7 +120,7 @@ fn push_single_bytes<'a>(bytes: &mut Vec<u8>, text: &'a [u8]) -> Result<&'a [u8]
 {
     let mut rest = text;
     while let [high, low, b'+', after @ ..] = rest {
-        if !is_hex_digit(*high) || !is_hex_digit(*low) {
+        if !are_hex_digits(*high, *low) {
             break;
         }
         bytes.push(byte_of(*high, *low))?;
@@ -174,7 +174,7 @@ fn push_few_pairs(bytes: &mut Vec<u8>, digits: &[u8]) -> Result<bool, AllocError
     }
     let mut rest = digits;
     while let [high, low, after @ ..] = rest {
-        if !is_hex_digit(*high) || !is_hex_digit(*low) {
+        if !are_hex_digits(*high, *low) {
             return Ok(false);
         }
         bytes.push(byte_of(*high, *low))?;
