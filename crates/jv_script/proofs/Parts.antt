@@ -1,22 +1,15 @@
 -- Parts of the bytes of a write, one after another.
-use Rattle.std.proofs.Common.{subst, ◌≡◌, ◌==◌, ◌&&◌, ◌%◌, ℕ, ◌+◌, ◌/◌, ◌<◌, ◌≤◌, Bool, true, false, List, [], ◌∷◌, ◌++◌, length, Option, Some, None, IsSome, option_map, sum_by, refl, sym, ap, ◌∙◌, arith, cond, codes, bytes_eq, eqb-true, nat_lt}
+use Rattle.std.proofs.Common.{zero, suc, subst, ◌≡◌, ◌==◌, ◌&&◌, ◌%◌, ℕ, ◌+◌, ◌-◌, ◌/◌, ◌<◌, ◌≤◌, Bool, true, false, List, [], ◌∷◌, ◌++◌, length, get_or, take, drop, Option, Some, None, IsSome, IfSome, option_map, sum_by, refl, sym, ap, ◌∙◌, arith, cond, codes, bytes_eq, eqb-true, nat_lt, nat_le}
 use Rattle.std.specs.List.{flat_map, list_all}
-use Rattle.std.proofs.lemmas.List.{append_assoc}
-use Rattle.std.proofs.lemmas.Bool.{le-leb, lt-leb, and_parts, false≢true}
+use Rattle.std.proofs.lemmas.List.{append_assoc, append-nil, take_rest, length-append, length-replicate}
+use Rattle.std.proofs.lemmas.List.Splits.{slice_split_at}
+use Rattle.std.proofs.lemmas.Bool.{eq-eqb, le-leb, lt-leb, lt-ltb, and_parts, false≢true}
 use Rattle.std.proofs.Math.Bool.{and-false}
 use Rattle.std.proofs.lemmas.List.Sums.{sum_by-cons}
 use Rattle.jv_model.specs.Spelling.{is_hex_digit, number_of, ◌>>=◌, at_most, bytes_of_digits}
 use Rattle.jv_model.specs.Printed.{Part, Plain, Repeated}
 use Rattle.jv_model.specs.Grammar.{provided, byte_of, parted, is_pairs, repeated_of, part_of, part_length, part_bytes, all_parts_of, bytes_of_parts, data_of}
-use Rattle.jv_script.specs.Reading.{length_with, joined_bytes, has_x}
-
--- bytes that are there, and those of parts
-abbrev pub joined_after : List ℕ → List (List ℕ) → Option (List ℕ)
-joined_after front texts = all_parts_of texts >>= (λ parts. Some (front ++ flat_map part_bytes parts))
-
-pub joined_bytes-after : (texts : List (List ℕ)) → joined_bytes texts ≡ joined_after [] texts
-unfolding joined_bytes
-joined_bytes-after texts = refl
+use Rattle.jv_script.specs.Reading.{length_with, has_x, limited_bytes, bytes_after, pairs_of, Appends}
 
 -- lengths
 
@@ -64,60 +57,6 @@ over before (Some parts) large = rw (lt-leb (before + sum_by part_length parts) 
 pub length_with_over : (before n : ℕ) (text : List ℕ) (texts : List (List ℕ)) → option_map part_length (part_of text) ≡ Some n → 8388608 < before + n → length_with before (text ∷ texts) ≡ None
 length_with_over before n text texts e large = length_with_more before n text texts e ∙ length_with-limited (before + n) texts ∙ over (before + n) (all_parts_of texts) large
 
--- bytes
-
-pub sound_more : (text : List ℕ) (texts : List (List ℕ)) → IsSome (all_parts_of (text ∷ texts)) → IsSome (part_of text) × IsSome (all_parts_of texts)
-sound_more text texts some = by_part (part_of text) (all_parts_of texts) some
-  where
-    by_part : (o : Option Part) (all : Option (List Part)) → IsSome (o >>= (λ part. all >>= (λ parts. Some (part ∷ parts)))) → IsSome o × IsSome all
-    by_part None all some = cc
-    by_part (Some part) None some = cc
-    by_part (Some part) (Some parts) some = (refl, refl)
-
-pub joined_more : (front new text : List ℕ) (texts : List (List ℕ)) → option_map (λ p. front ++ part_bytes p) (part_of text) ≡ Some new → joined_after front (text ∷ texts) ≡ joined_after new texts
-joined_more front new text texts e = by_part (part_of text) (all_parts_of texts) e
-  where
-    by_part : (o : Option Part) (all : Option (List Part)) → option_map (λ p. front ++ part_bytes p) o ≡ Some new → ((o >>= (λ part. all >>= (λ parts. Some (part ∷ parts)))) >>= (λ parts. Some (front ++ flat_map part_bytes parts))) ≡ (all >>= (λ parts. Some (new ++ flat_map part_bytes parts)))
-    by_part None all e = cc
-    by_part (Some part) None e = refl
-    by_part (Some part) (Some parts) e =
-        let here : front ++ part_bytes part ≡ new = cc in
-        ap (λ (bytes : List ℕ). Some bytes) (sym (append_assoc front (part_bytes part) (flat_map part_bytes parts)) ∙ ap (λ (f : List ℕ). f ++ flat_map part_bytes parts) here)
-
--- the whole
-
-pub parts_within : (texts : List (List ℕ)) (n : ℕ) → Some n ≡ length_with 0 texts → IsSome (all_parts_of texts) × IsSome (joined_bytes texts) × (bytes_of_parts texts ≡ joined_bytes texts)
-unfolding length_with joined_bytes bytes_of_parts
-parts_within texts n e = by_parts (all_parts_of texts) (sym e)
-  where
-    within : (v : Bool) (sum : ℕ) → cond v (Some sum) None ≡ Some n → v ≡ true
-    within true sum e = refl
-    within false sum e = cc
-
-    by_parts : (o : Option (List Part)) → (o >>= (λ parts. at_most 8388608 (0 + sum_by part_length parts))) ≡ Some n
-        → IsSome o × IsSome (o >>= (λ parts. Some (flat_map part_bytes parts))) × ((o >>= (λ parts. at_most 8388608 (sum_by part_length parts) >>= (λ _. Some (flat_map part_bytes parts)))) ≡ (o >>= (λ parts. Some (flat_map part_bytes parts))))
-    by_parts None e = cc
-    by_parts (Some parts) e =
-        let sum : 0 + sum_by part_length parts ≡ sum_by part_length parts = omega arith in
-        let here = within _ _ (rw sum at e) in
-        (refl, refl, rw here refl)
-
-pub parts_not_within : (texts : List (List ℕ)) → None ≡ length_with 0 texts → bytes_of_parts texts ≡ None
-unfolding length_with bytes_of_parts
-parts_not_within texts e = by_parts (all_parts_of texts) (sym e)
-  where
-    beyond : (v : Bool) (sum : ℕ) → cond v (Some sum) None ≡ None → v ≡ false
-    beyond true sum e = cc
-    beyond false sum e = refl
-
-    by_parts : (o : Option (List Part)) → (o >>= (λ parts. at_most 8388608 (0 + sum_by part_length parts))) ≡ None
-        → (o >>= (λ parts. at_most 8388608 (sum_by part_length parts) >>= (λ _. Some (flat_map part_bytes parts)))) ≡ None
-    by_parts None e = refl
-    by_parts (Some parts) e =
-        let sum : 0 + sum_by part_length parts ≡ sum_by part_length parts = omega arith in
-        let here = beyond _ _ (rw sum at e) in
-        rw here refl
-
 -- single parts
 
 pub length-bytes_of_digits : (digits : List ℕ) → length (bytes_of_digits digits) ≡ length digits / 2
@@ -148,7 +87,7 @@ refuted : (v : Bool) → (v ≡ true → ⊥) → v ≡ false
 refuted true h = absurd (h refl)
 refuted false h = refl
 
-pub no_pairs_with_x : (part : List ℕ) → has_x part ≡ true → is_pairs part ≡ false
+no_pairs_with_x : (part : List ℕ) → has_x part ≡ true → is_pairs part ≡ false
 no_pairs_with_x [] h = refl
 no_pairs_with_x (a ∷ []) h = absurd (false≢true h)
 no_pairs_with_x (a ∷ b ∷ []) h = absurd (false≢true h)
@@ -170,9 +109,176 @@ no_x_no_run (a ∷ b ∷ x ∷ digits) h = by_count (number_of digits)
     by_count None = refl
     by_count (Some count) = rw (h, and-false (is_hex_digit a && is_hex_digit b)) refl
 
-pub pairs_without_x : (part : List ℕ) → IsSome (part_of part) → has_x part ≡ false → is_pairs part ≡ true
-pairs_without_x part some h = either (is_pairs part) refl
+pub part_of_with_x : (part : List ℕ) → has_x part ≡ true → part_of part ≡ repeated_of part
+part_of_with_x part h = part_of_other part (no_pairs_with_x part h)
+
+pub part_of_without_x : (part : List ℕ) → has_x part ≡ false → part_of part ≡ pairs_of part
+unfolding part_of
+part_of_without_x part h = either (is_pairs part)
   where
-    either : (v : Bool) → is_pairs part ≡ v → v ≡ true
-    either true e = refl
-    either false e = let none = part_of_other part e ∙ no_x_no_run part h in let impossible = subst IsSome none some in cc
+    either : (v : Bool) → cond v (Some (Plain (bytes_of_digits part))) (repeated_of part) ≡ provided v (Plain (bytes_of_digits part))
+    either true = refl
+    either false = no_x_no_run part h
+
+-- pairs, from their first digits on
+abbrev pub all_paired : List ℕ → Bool
+all_paired [] = true
+all_paired (_ ∷ []) = false
+all_paired (high ∷ low ∷ digits) = is_hex_digit high && is_hex_digit low && all_paired digits
+
+last_and : (a x y b : Bool) → a && (x && (y && b)) ≡ x && y && (a && b)
+last_and true true y b = refl
+last_and true false y b = refl
+last_and false x y b = sym (and-false (x && y))
+
+is_pairs-all_paired : (text : List ℕ) → is_pairs text ≡ nat_lt 0 (length text) && all_paired text
+is_pairs-all_paired text = by_length (nat_lt 0 (length text))
+  where
+    by_rest : (text : List ℕ) → (length text % 2 == 0) && list_all is_hex_digit text ≡ all_paired text
+    by_rest [] = refl
+    by_rest (x ∷ []) = refl
+    by_rest (x ∷ y ∷ digits) =
+        let parity : length (x ∷ y ∷ digits) % 2 ≡ length digits % 2 = omega arith in
+        ap (λ (n : ℕ). (n == 0) && list_all is_hex_digit (x ∷ y ∷ digits)) parity
+        ∙ last_and (length digits % 2 == 0) (is_hex_digit x) (is_hex_digit y) (list_all is_hex_digit digits)
+        ∙ ap (λ (v : Bool). is_hex_digit x && is_hex_digit y && v) (by_rest digits)
+
+    by_length : (some : Bool) → some && (length text % 2 == 0) && list_all is_hex_digit text ≡ some && all_paired text
+    by_length true = by_rest text
+    by_length false = refl
+
+no_pairs : (digits rest : List ℕ) → all_paired digits ≡ all_paired rest → all_paired rest ≡ false → pairs_of digits ≡ None
+no_pairs digits rest same off =
+    ap (λ (v : Bool). provided v (Plain (bytes_of_digits digits))) (is_pairs-all_paired digits ∙ ap (λ (v : Bool). nat_lt 0 (length digits) && v) (same ∙ off) ∙ and-false (nat_lt 0 (length digits)))
+
+-- a pair of which one is no digit
+not_paired : (text : List ℕ) → 2 ≤ length text → is_hex_digit (get_or text 0 0) && is_hex_digit (get_or text 1 0) ≡ false → all_paired text ≡ false
+not_paired [] long off = absurd (omega arith)
+not_paired (high ∷ []) long off = absurd (omega arith)
+not_paired (high ∷ low ∷ digits) long off = rw off refl
+
+pub pairs_off : (digits rest : List ℕ) → all_paired digits ≡ all_paired rest → 2 ≤ length rest → is_hex_digit (get_or rest 0 0) && is_hex_digit (get_or rest 1 0) ≡ false → pairs_of digits ≡ None
+pairs_off digits rest same long off = no_pairs digits rest same (not_paired rest long off)
+
+-- no pair is left
+pub pairs_end : (before after digits rest : List ℕ) → 0 < length digits → length rest < 2 → before ++ bytes_of_digits digits ≡ after ++ bytes_of_digits rest → all_paired digits ≡ all_paired rest
+    → Appends (length rest == 0) before (pairs_of digits) after
+pairs_end before after digits [] some short whole paired =
+    let pairs : is_pairs digits ≡ true = is_pairs-all_paired digits ∙ rw (paired, lt-ltb 0 (length digits) some) refl in
+    rw pairs (ap (λ (bytes : List ℕ). Some bytes) (whole ∙ append-nil after))
+pairs_end before after digits (x ∷ []) some short whole paired = subst (λ (o : Option Part). IfSome o (λ p. 8388608 < length before + part_length p)) (sym (no_pairs digits (x ∷ []) paired refl)) tt
+pairs_end before after digits (x ∷ y ∷ rest) some short whole paired = absurd (omega arith)
+
+-- bytes
+
+length-part_bytes : (part : Part) → length (part_bytes part) ≡ part_length part
+length-part_bytes (Plain bytes) = refl
+length-part_bytes (Repeated run) = length-replicate run.count run.byte
+
+length-flat_map_bytes : (parts : List Part) → length (flat_map part_bytes parts) ≡ sum_by part_length parts
+length-flat_map_bytes [] = refl
+length-flat_map_bytes (part ∷ parts) =
+    length-append (part_bytes part) (flat_map part_bytes parts)
+    ∙ ap (λ (n : ℕ). n + length (flat_map part_bytes parts)) (length-part_bytes part)
+    ∙ ap (λ (n : ℕ). part_length part + n) (length-flat_map_bytes parts)
+    ∙ sym (sum_by-cons part_length part parts)
+
+pub bytes_of_parts-after : (texts : List (List ℕ)) → bytes_of_parts texts ≡ bytes_after [] texts
+unfolding bytes_of_parts bytes_after
+bytes_of_parts-after texts = by_parts (all_parts_of texts)
+  where
+    by_limit : (v : Bool) (n : ℕ) (bytes : List ℕ) → (cond v (Some n) None >>= (λ _. Some bytes)) ≡ provided v bytes
+    by_limit true n bytes = refl
+    by_limit false n bytes = refl
+
+    by_parts : (o : Option (List Part)) → (o >>= (λ parts. at_most 8388608 (sum_by part_length parts) >>= (λ _. Some (flat_map part_bytes parts)))) ≡ (o >>= (λ parts. limited_bytes ([] ++ flat_map part_bytes parts)))
+    by_parts None = refl
+    by_parts (Some parts) = rw (length-flat_map_bytes parts) (by_limit (nat_le (sum_by part_length parts) 8388608) (sum_by part_length parts) (flat_map part_bytes parts))
+
+pub bytes_after-none : (bytes : List ℕ) → bytes_after bytes [] ≡ limited_bytes bytes
+unfolding bytes_after
+bytes_after-none bytes = rw (append-nil bytes) refl
+
+-- one part more
+pub bytes_after-more : (before after text : List ℕ) (texts : List (List ℕ)) → Appends true before (part_of text) after → bytes_after before (text ∷ texts) ≡ bytes_after after texts
+unfolding bytes_after
+bytes_after-more before after text texts e = by_part (part_of text) (all_parts_of texts) e
+  where
+    by_part : (o : Option Part) (all : Option (List Part)) → option_map (λ p. before ++ part_bytes p) o ≡ Some after
+        → ((o >>= (λ part. all >>= (λ parts. Some (part ∷ parts)))) >>= (λ parts. limited_bytes (before ++ flat_map part_bytes parts))) ≡ (all >>= (λ parts. limited_bytes (after ++ flat_map part_bytes parts)))
+    by_part None all e = cc
+    by_part (Some part) None e = refl
+    by_part (Some part) (Some parts) e =
+        let here : before ++ part_bytes part ≡ after = cc in
+        ap (λ (bytes : List ℕ). limited_bytes bytes) (sym (append_assoc before (part_bytes part) (flat_map part_bytes parts)) ∙ ap (λ (f : List ℕ). f ++ flat_map part_bytes parts) here)
+
+pub bytes_after-off : (before after text : List ℕ) (texts : List (List ℕ)) → Appends false before (part_of text) after → bytes_after before (text ∷ texts) ≡ None
+unfolding bytes_after
+bytes_after-off before after text texts large = by_part (part_of text) (all_parts_of texts) large
+  where
+    by_part : (o : Option Part) (all : Option (List Part)) → IfSome o (λ p. 8388608 < length before + part_length p)
+        → ((o >>= (λ part. all >>= (λ parts. Some (part ∷ parts)))) >>= (λ parts. limited_bytes (before ++ flat_map part_bytes parts))) ≡ None
+    by_part None all large = refl
+    by_part (Some part) None large = refl
+    by_part (Some part) (Some parts) large =
+        let size = length-append before (flat_map part_bytes (part ∷ parts)) in
+        let more = length-flat_map_bytes (part ∷ parts) in
+        let first = sum_by-cons part_length part parts in
+        rw (lt-leb (length (before ++ flat_map part_bytes (part ∷ parts))) 8388608 (omega arith)) refl
+
+-- a part of one byte before others
+pub parted_single : (text : List ℕ) → 3 ≤ length text → is_hex_digit (get_or text 0 0) ≡ true → is_hex_digit (get_or text 1 0) ≡ true → get_or text 2 0 ≡ 43
+    → parted 43 text ≡ (get_or text 0 0 ∷ get_or text 1 0 ∷ []) ∷ parted 43 (take (length text - 3) (drop 3 text))
+parted_single [] long is_high is_low plus = absurd (omega arith)
+parted_single (high ∷ []) long is_high is_low plus = absurd (omega arith)
+parted_single (high ∷ low ∷ []) long is_high is_low plus = absurd (omega arith)
+parted_single (high ∷ low ∷ c ∷ rest) long is_high is_low plus =
+    slice_split_at (λ c. c == 43) (high ∷ low ∷ []) c rest others (eq-eqb c 43 plus)
+    ∙ ap (λ (text : List ℕ). (high ∷ low ∷ []) ∷ parted 43 text) (sym (take_rest (high ∷ low ∷ c ∷ rest) 3))
+  where
+    no_plus : (c : ℕ) → is_hex_digit c ≡ true → (c == 43) ≡ false
+    no_plus c hex = refuted (c == 43) (λ plus. false≢true (ap is_hex_digit (sym (eqb-true c 43 plus)) ∙ hex))
+
+    others : (k d : ℕ) → k < length (high ∷ low ∷ []) → (get_or (high ∷ low ∷ []) k d == 43) ≡ false
+    others zero d below = no_plus high is_high
+    others (suc zero) d below = no_plus low is_low
+    others (suc (suc k)) d below = absurd (omega arith)
+
+pub single_appended : (before after : List ℕ) (high low : ℕ) → is_hex_digit high ≡ true → is_hex_digit low ≡ true → after ≡ before ++ byte_of high low ∷ [] → Appends true before (part_of (high ∷ low ∷ [])) after
+single_appended before after high low is_high is_low e =
+    let pair : is_pairs (high ∷ low ∷ []) ≡ true = rw (is_high, is_low) refl in
+    rw (part_of_pairs (high ∷ low ∷ []) pair) (ap (λ (bytes : List ℕ). Some bytes) (sym e))
+
+-- the whole
+
+pub within_memory : (texts : List (List ℕ)) (n : ℕ) → Some n ≡ length_with 0 texts → IsSome (bytes_of_parts texts)
+unfolding length_with bytes_of_parts
+within_memory texts n e = by_parts (all_parts_of texts) (sym e)
+  where
+    within : (v : Bool) (sum : ℕ) → cond v (Some sum) None ≡ Some n → v ≡ true
+    within true sum e = refl
+    within false sum e = cc
+
+    by_parts : (o : Option (List Part)) → (o >>= (λ parts. at_most 8388608 (0 + sum_by part_length parts))) ≡ Some n
+        → IsSome (o >>= (λ parts. at_most 8388608 (sum_by part_length parts) >>= (λ _. Some (flat_map part_bytes parts))))
+    by_parts None e = cc
+    by_parts (Some parts) e =
+        let sum : 0 + sum_by part_length parts ≡ sum_by part_length parts = omega arith in
+        let here = within _ _ (rw sum at e) in
+        rw here refl
+
+pub parts_not_within : (texts : List (List ℕ)) → None ≡ length_with 0 texts → bytes_of_parts texts ≡ None
+unfolding length_with bytes_of_parts
+parts_not_within texts e = by_parts (all_parts_of texts) (sym e)
+  where
+    beyond : (v : Bool) (sum : ℕ) → cond v (Some sum) None ≡ None → v ≡ false
+    beyond true sum e = cc
+    beyond false sum e = refl
+
+    by_parts : (o : Option (List Part)) → (o >>= (λ parts. at_most 8388608 (0 + sum_by part_length parts))) ≡ None
+        → (o >>= (λ parts. at_most 8388608 (sum_by part_length parts) >>= (λ _. Some (flat_map part_bytes parts)))) ≡ None
+    by_parts None e = refl
+    by_parts (Some parts) e =
+        let sum : 0 + sum_by part_length parts ≡ sum_by part_length parts = omega arith in
+        let here = beyond _ _ (rw sum at e) in
+        rw here refl

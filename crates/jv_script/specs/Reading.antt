@@ -1,8 +1,12 @@
 -- What the parts of the reader answer, against the grammar.
-use Rattle.std.specs.Prelude.{◌≡◌, ◌==◌, Bool, false, ℕ, ◌+◌, List, [], ◌∷◌, Option, None, Some, IsSome, Result, Ok, Err, sum_by}
+use Rattle.std.specs.Prelude.{◌≡◌, ◌==◌, ◌<◌, Bool, true, false, ℕ, ◌+◌, nat_le, List, [], ◌∷◌, ◌++◌, length, Option, None, Some, option_map, IsSome, IfSome, Result, Ok, Err, sum_by, if◌then◌else◌, codes, bytes_eq}
 use Rattle.std.specs.List.{flat_map}
-use Rattle.jv_model.specs.Spelling.{◌>>=◌, at_most}
-use Rattle.jv_model.specs.Grammar.{parted, part_length, part_bytes, all_parts_of}
+use Rattle.jv_model.specs.declared.basics.How.TheVariants as how
+use Rattle.jv_model.specs.declared.op.Op.{Op}
+use Rattle.jv_model.specs.declared.op.Op.TheVariants.{Link, Rename}
+use Rattle.jv_model.specs.Spelling.{◌>>=◌, at_most, bytes_of_digits}
+use Rattle.jv_model.specs.Printed.{Part, Plain}
+use Rattle.jv_model.specs.Grammar.{provided, parted, is_pairs, part_length, part_bytes, all_parts_of, symlink_of, two_paths_of}
 use Rattle.jv_script.specs.declared.bad_line.BadLine.{BadLine}
 use Rattle.jv_script.specs.declared.bad_line.BadLine.TheVariants.{Off, Memory}
 
@@ -32,13 +36,33 @@ length_with before texts = do
   parts ← all_parts_of texts
   at_most 8388608 (before + sum_by part_length parts)
 
--- the bytes of parts, however many
-unfoldable pub joined_bytes : List (List ℕ) → Option (List ℕ)
-joined_bytes texts = do
+-- bytes, if not too many
+abbrev pub limited_bytes : List ℕ → Option (List ℕ)
+limited_bytes bytes = provided (nat_le (length bytes) 8388608) bytes
+
+-- bytes and those of parts after them, if not too many
+unfoldable pub bytes_after : List ℕ → List (List ℕ) → Option (List ℕ)
+bytes_after before texts = do
   parts ← all_parts_of texts
-  Some (flat_map part_bytes parts)
+  limited_bytes (before ++ flat_map part_bytes parts)
+
+-- the part that pairs of digits are
+abbrev pub pairs_of : List ℕ → Option Part
+pairs_of text = provided (is_pairs text) (Plain (bytes_of_digits text))
+
+-- bytes with those of a part after them; or there is no part, or it makes them too many
+abbrev pub Appends : Bool → List ℕ → Option Part → List ℕ → Type 0
+Appends true before part after = option_map (λ p. before ++ part_bytes p) part ≡ Some after
+Appends false before part after = IfSome part (λ p. 8388608 < length before + part_length p)
 
 -- a part's third byte is an `x`
 abbrev pub has_x : List ℕ → Bool
 has_x (_ ∷ _ ∷ x ∷ _) = x == 120
 has_x _ = false
+
+-- operations on two paths, or on a target and a path
+unfoldable pub operation_of_two_names : List ℕ → List ℕ → List ℕ → Option Op
+operation_of_two_names name first second = (if bytes_eq name (codes "symlink") then symlink_of first second
+    else if bytes_eq name (codes "link") then option_map (λ both. Link both.0 both.1) (two_paths_of first second)
+    else if bytes_eq name (codes "rename") then option_map (λ both. Rename both.0 both.1 how.Plain) (two_paths_of first second)
+    else None)

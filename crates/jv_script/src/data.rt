@@ -1,19 +1,22 @@
 //! The bytes of a write, read.
-ghost use Rattle.std.specs.Prelude.{◌≡◌, ◌++◌, ◌&&◌, ◌==◌, nat_lt, true, Some, IsSome, IfOk, OnOk, option_map, replicate};
-ghost use Rattle.jv_model.specs.Spelling.{bytes_of_digits, is_hex_digit};
+ghost use Rattle.std.specs.Prelude.{◌≡◌, ◌≤◌, ◌&&◌, ◌==◌, nat_lt, length, IfOk, option_map};
+ghost use Rattle.jv_model.specs.Spelling.{is_hex_digit};
 ghost use Rattle.jv_model.specs.Printed.{Repeated};
-ghost use Rattle.jv_model.specs.Grammar.{parted, is_pairs, repeated_of, part_of, part_length, part_bytes, all_parts_of, data_of};
-ghost use Rattle.jv_script.specs.Reading.{Reads, length_with, joined_bytes, has_x};
+ghost use Rattle.jv_model.specs.Grammar.{parted, repeated_of, part_of, part_length, bytes_of_parts, data_of};
+ghost use Rattle.jv_script.specs.Reading.{Reads, length_with, has_x, bytes_after, pairs_of, Appends};
 
 use crate::bad_line::BadLine;
 use crate::fields::number;
-use crate::hex_digits::{byte_of, decode_into, is_hex_digit, is_pairs};
+use crate::hex_digits::{are_hex_digits, byte_of, decode_into, is_pairs};
 use crate::words::cut;
 use jv_model::{Bytes, Sequence};
 use std::alloc::{AllocError, Global};
 
 /// The greatest number of bytes of a write.
 const MAX_BYTES: u64 = 8_388_608;
+
+/// From so many digits on, work on many at a time is quicker.
+const MANY_DIGITS: usize = 32;
 
 /// The bytes of a write, in any of their spellings.
 pub(crate) fn data(alloc: Global, text: &[u8]) -> Result<Bytes, BadLine>
@@ -22,9 +25,19 @@ pub(crate) fn data(alloc: Global, text: &[u8]) -> Result<Bytes, BadLine>
     if text == b"-".as_slice() {
         return Ok(Sequence::new(alloc));
     }
+    match joined(alloc, text) {
+        Ok(bytes) => bytes.ok_or(BadLine::Off),
+        Err(_) => Err(without_memory(text)),
+    }
+}
+
+// What is told where memory is wanting: the parts may be off in what wasn't read yet.
+fn without_memory(text: &[u8]) -> BadLine
+    ensures { Reads (Err result) (bytes_of_parts (parted 43 text.now)) }
+{
     match joined_length(text) {
-        Some(length) => joined(alloc, text, length).map_err(|_| BadLine::Memory),
-        None => Err(BadLine::Off),
+        Some(_) => BadLine::Memory,
+        None => BadLine::Off,
     }
 }
 
@@ -74,34 +87,59 @@ fn repeated(part: &[u8]) -> Option<(u8, u64)>
 fn is_repeated(high: u8, low: u8, x: u8, count: u64) -> bool
     ensures { result ≡ (is_hex_digit high && is_hex_digit low && (x == 120) && nat_lt 0 count) }
 {
-    is_hex_digit(high) && is_hex_digit(low) && x == b'x' && count > 0
+    are_hex_digits(high, low) && x == b'x' && count > 0
 }
 
-fn joined(alloc: Global, text: &[u8], length: u64) -> Result<Bytes, AllocError>
-    requires { IsSome (all_parts_of (parted 43 text.now)) }
-    ensures { IfOk result (λ bytes. joined_bytes (parted 43 text.now) ≡ Some bytes) }
+// The bytes of the parts, if they are parts and have not too many. A function of its own in the program, too: in a large one
+// the loop's values find no room in registers.
+#[inline(never)]
+fn joined(alloc: Global, text: &[u8]) -> Result<Option<Bytes>, AllocError>
+    ensures { IfOk result (λ bytes. bytes ≡ bytes_of_parts (parted 43 text.now)) }
 {
-    let mut bytes = Vec::with_capacity(alloc, length as usize)?;
+    let mut bytes = Vec::with_capacity(alloc, text.len() / 2)?;
     let mut rest = Some(text);
     while let Some(parts) = rest {
+        let parts = push_single_bytes(&mut bytes, parts)?;
         let (part, after) = cut(parts, b'+');
-        push_part(&mut bytes, part)?;
+        if !push_part(&mut bytes, part)? {
+            return Ok(None);
+        }
         rest = after;
     }
-    Ok(Sequence::from_vec(bytes))
+    if bytes.len() as u64 > MAX_BYTES {
+        return Ok(None);
+    }
+    Ok(Some(Sequence::from_vec(bytes)))
 }
 
-fn push_part(bytes: &mut Vec<u8>, part: &[u8]) -> Result<(), AllocError>
-    requires { IsSome (part_of part.now) }
-    ensures { OnOk result (option_map (λ p. bytes.old.items ++ part_bytes p) (part_of part.now) ≡ Some bytes.new.items) }
+// The parts at the front that are one byte each and have a part after them, with less work for each than other parts take.
+// Gives the text after them.
+fn push_single_bytes<'a>(bytes: &mut Vec<u8>, text: &'a [u8]) -> Result<&'a [u8], AllocError>
+    ensures whole { IfOk result (λ rest. bytes_after bytes.old.items (parted 43 text.now) ≡ bytes_after bytes.new.items (parted 43 rest.now)) }
+    ensures no_more { IfOk result (λ rest. length (parted 43 rest.now) ≤ length (parted 43 text.now)) }
 {
-    if !has_x(part) {
-        return push_pairs(bytes, part);
+    let mut rest = text;
+    while let [high, low, b'+', after @ ..] = rest {
+        if !are_hex_digits(*high, *low) {
+            break;
+        }
+        bytes.push(byte_of(*high, *low))?;
+        rest = after;
     }
-    match repeated(part) {
-        Some((byte, count)) => push_copies(bytes, byte, count),
-        None => Ok(()),
+    Ok(rest)
+}
+
+// Whether the text is a part, and has not too many bytes with those before it. Its bytes are then there.
+fn push_part(bytes: &mut Vec<u8>, part: &[u8]) -> Result<bool, AllocError>
+    ensures { IfOk result (λ is_part. Appends is_part bytes.old.items (part_of part.now) bytes.new.items) }
+{
+    if has_x(part) {
+        return push_repeated(bytes, part);
     }
+    if part.len() < MANY_DIGITS {
+        return push_few_pairs(bytes, part);
+    }
+    push_pairs(bytes, part)
 }
 
 // Tells parts of the two kinds apart without a look at their digits.
@@ -114,21 +152,47 @@ fn has_x(part: &[u8]) -> bool
     }
 }
 
-fn push_pairs(bytes: &mut Vec<u8>, digits: &[u8]) -> Result<(), AllocError>
-    requires { is_pairs digits.now ≡ true }
-    ensures { OnOk result (bytes.new.items ≡ bytes.old.items ++ bytes_of_digits digits.now) }
+fn push_repeated(bytes: &mut Vec<u8>, part: &[u8]) -> Result<bool, AllocError>
+    ensures { IfOk result (λ is_part. Appends is_part bytes.old.items (repeated_of part.now) bytes.new.items) }
 {
+    let Some((byte, count)) = repeated(part) else {
+        return Ok(false);
+    };
+    if count > MAX_BYTES.saturating_sub(bytes.len() as u64) {
+        return Ok(false);
+    }
+    bytes.resize(bytes.len() + count as usize, byte)?;
+    Ok(true)
+}
+
+// One pair after the other.
+fn push_few_pairs(bytes: &mut Vec<u8>, digits: &[u8]) -> Result<bool, AllocError>
+    ensures { IfOk result (λ are_pairs. Appends are_pairs bytes.old.items (pairs_of digits.now) bytes.new.items) }
+{
+    if digits.is_empty() {
+        return Ok(false);
+    }
+    let mut rest = digits;
+    while let [high, low, after @ ..] = rest {
+        if !are_hex_digits(*high, *low) {
+            return Ok(false);
+        }
+        bytes.push(byte_of(*high, *low))?;
+        rest = after;
+    }
+    Ok(rest.is_empty())
+}
+
+// Many pairs at a time.
+fn push_pairs(bytes: &mut Vec<u8>, digits: &[u8]) -> Result<bool, AllocError>
+    ensures { IfOk result (λ are_pairs. Appends are_pairs bytes.old.items (pairs_of digits.now) bytes.new.items) }
+{
+    if !is_pairs(digits) {
+        return Ok(false);
+    }
     let start = bytes.len();
     let end = start.checked_add(digits.len() / 2).ok_or(AllocError)?;
     bytes.resize(end, 0)?;
     decode_into(digits, &mut bytes[start..]);
-    Ok(())
-}
-
-fn push_copies(bytes: &mut Vec<u8>, byte: u8, count: u64) -> Result<(), AllocError>
-    ensures { OnOk result (bytes.new.items ≡ bytes.old.items ++ replicate count byte) }
-{
-    let end = bytes.len().checked_add(count as usize).ok_or(AllocError)?;
-    bytes.resize(end, byte)?;
-    Ok(())
+    Ok(true)
 }

@@ -1,5 +1,5 @@
 //! Pairs of hexadecimal digits, read.
-ghost use Rattle.std.specs.Prelude.{◌≡◌, ◌*◌, ◌<◌, true, length};
+ghost use Rattle.std.specs.Prelude.{◌≡◌, ◌&&◌, ◌*◌, ◌<◌, true, length};
 ghost use Rattle.std.specs.List.{list_all};
 ghost use Rattle.jv_model.specs.Spelling.{is_hex_digit, hex_value, bytes_of_digits};
 ghost use Rattle.jv_model.specs.Grammar.{byte_of, is_pairs};
@@ -22,10 +22,21 @@ fn all_hex_digits(digits: &[u8]) -> bool
     all
 }
 
+// Tests all three ranges: branches between them would often go another way than the processor guesses.
 pub(crate) fn is_hex_digit(c: u8) -> bool
     ensures { result ≡ is_hex_digit c }
 {
-    matches!(c, b'0'..=b'9' | b'A'..=b'F' | b'a'..=b'f')
+    let decimal = matches!(c, b'0'..=b'9');
+    let upper = matches!(c, b'A'..=b'F');
+    let lower = matches!(c, b'a'..=b'f');
+    decimal | upper | lower
+}
+
+/// Whether both are digits. No branch is taken on the first alone.
+pub(crate) fn are_hex_digits(high: u8, low: u8) -> bool
+    ensures { result ≡ (is_hex_digit high && is_hex_digit low) }
+{
+    is_hex_digit(high) & is_hex_digit(low)
 }
 
 // `hex::decode` tells digits apart by branches, which takes five times as long on random bytes.

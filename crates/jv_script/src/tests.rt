@@ -265,6 +265,12 @@ fn reads_bytes_in_all_spellings(rt: HostRuntime) -> Result<(), Fail> {
         ("A write 1 0 6A4b", b"jK".as_slice()),
         ("A write 1 0 61x3", b"aaa".as_slice()),
         ("A write 1 0 61x1+62+6364+65x2", b"abcdee".as_slice()),
+        ("A write 1 0 61+62x3+6364+65", b"abbbcde".as_slice()),
+        ("A write 1 0 61+6A+00+fF+2b", b"aj\x00\xff+".as_slice()),
+        (
+            "A write 1 0 61+6263646566676869707172737475767778+79",
+            b"abcdefghipqrstuvwxy".as_slice(),
+        ),
     ] {
         assert!(rt;
             is_read(alloc, text, write(copied(alloc, bytes)?)),
@@ -408,7 +414,13 @@ fn refuses_other_paths_and_bytes(rt: HostRuntime) {
         b"A write 1 0 6g".as_slice(),
         b"A write 1 0 --".as_slice(),
         b"A write 1 0 -+61".as_slice(),
+        b"A write 1 0 6+61".as_slice(),
         b"A write 1 0 61+".as_slice(),
+        b"A write 1 0 61+62+".as_slice(),
+        b"A write 1 0 61+6g+62".as_slice(),
+        b"A write 1 0 61+626g+63".as_slice(),
+        b"A write 1 0 61+62636+64".as_slice(),
+        b"A write 1 0 61+636465666768697071727374757677787".as_slice(),
         b"A write 1 0 61++61".as_slice(),
         b"A write 1 0 61x".as_slice(),
         b"A write 1 0 61x0".as_slice(),

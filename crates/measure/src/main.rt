@@ -28,14 +28,20 @@ fn words(rt: &(impl Env + AllocGlobal)) -> io::Result<Vec<String>> {
     Ok(all.collect(rt.alloc())?)
 }
 
-/// A measure of rows of one kind, as `row-node-read`, at a size. None where there is no such measure.
+/// A measure of rows of one kind, as `row-node-read`, or of a line's data in parts of one kind, as `parts-single-read`, at
+/// a size. None where there is no such measure.
 fn measured_kind(alloc: Global, name: &str, size: u32) -> Result<Option<u64>, Down> {
-    let Some(rest) = name.strip_prefix("row-") else {
+    let Some((what, rest)) = name.split_once("-") else {
         return Ok(None);
     };
-    match rest.split_once("-") {
-        Some((kind, "written")) => kinds::written(alloc, kind, size),
-        Some((kind, "read")) => kinds::read(alloc, kind, size),
+    let Some((kind, done)) = rest.split_once("-") else {
+        return Ok(None);
+    };
+    match (what, done) {
+        ("row", "written") => kinds::written(alloc, kind, size),
+        ("row", "read") => kinds::read(alloc, kind, size),
+        ("parts", "spelled") => script::parts_spelled(alloc, kind, size),
+        ("parts", "read") => script::parts_read(alloc, kind, size),
         _ => Ok(None),
     }
 }

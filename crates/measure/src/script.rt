@@ -37,16 +37,68 @@ pub fn lines_read(alloc: Global, count: u32) -> Result<u64, Down> {
     Ok(read)
 }
 
+/// What the parts of a line's data are.
+#[derive(Clone, Copy)]
+enum Parts {
+    Single,
+    Double,
+    Counted,
+    Mixed,
+}
+
+/// The two digits of a number's low byte.
+fn push_byte(text: &mut Vec<u8>, number: u32) -> Result<(), AllocError> {
+    text.push(DIGITS[(number / 16 % 16) as usize])?;
+    text.push(DIGITS[(number % 16) as usize])?;
+    Ok(())
+}
+
 /// A line that writes so many bytes, as digits.
 fn spelled(alloc: Global, count: u32) -> Result<Vec<u8>, AllocError> {
     let mut text = Vec::new(alloc);
     text.extend_from_slice(b"A write 1 0 ")?;
     for number in 0..count {
-        let spread = number.wrapping_mul(SPREAD) / 65_536;
-        text.push(DIGITS[(spread / 16 % 16) as usize])?;
-        text.push(DIGITS[(spread % 16) as usize])?;
+        push_byte(&mut text, number.wrapping_mul(SPREAD) / 65_536)?;
     }
     Ok(text)
+}
+
+/// A part: one byte, two bytes, one byte one to nine times, or any of these by what the number is.
+fn push_part(text: &mut Vec<u8>, parts: Parts, number: u32) -> Result<(), AllocError> {
+    push_byte(text, number)?;
+    match (parts, number / 256 % 3) {
+        (Parts::Double, _) | (Parts::Mixed, 1) => push_byte(text, number / 16),
+        (Parts::Counted, _) | (Parts::Mixed, 2) => {
+            text.push(b'x')?;
+            text.push(DIGITS[(1 + number % 9) as usize])?;
+            Ok(())
+        }
+        _ => Ok(()),
+    }
+}
+
+/// A line that writes bytes in so many parts.
+fn spelled_in_parts(alloc: Global, parts: Parts, count: u32) -> Result<Vec<u8>, AllocError> {
+    let mut text = Vec::new(alloc);
+    text.extend_from_slice(b"A write 1 0 ")?;
+    for number in 0..count {
+        if number > 0 {
+            text.push(b'+')?;
+        }
+        push_part(&mut text, parts, number.wrapping_mul(SPREAD) / 65_536)?;
+    }
+    Ok(text)
+}
+
+/// What parts a word names.
+fn parts_named(kind: &str) -> Option<Parts> {
+    match kind {
+        "single" => Some(Parts::Single),
+        "double" => Some(Parts::Double),
+        "counted" => Some(Parts::Counted),
+        "mixed" => Some(Parts::Mixed),
+        _ => None,
+    }
 }
 
 /// The bytes that a line writes. None where it is no line of a write.
@@ -62,6 +114,29 @@ fn data_of(alloc: Global, text: &[u8]) -> Result<Option<Bytes>, Down> {
 fn data(alloc: Global, count: u32) -> Result<Option<Bytes>, Down> {
     let text = spelled(alloc, count)?;
     data_of(alloc, &text)
+}
+
+/// Spells a line that writes bytes in so many parts of a kind. Gives the length of the line, or None where there is no
+/// such kind.
+pub fn parts_spelled(alloc: Global, kind: &str, count: u32) -> Result<Option<u64>, Down> {
+    let Some(parts) = parts_named(kind) else {
+        return Ok(None);
+    };
+    let text = spelled_in_parts(alloc, parts, count)?;
+    Ok(Some(text.len() as u64))
+}
+
+/// Spells a line that writes bytes in so many parts of a kind, and reads it. Gives the number of bytes, or None where
+/// there is no such kind.
+pub fn parts_read(alloc: Global, kind: &str, count: u32) -> Result<Option<u64>, Down> {
+    let Some(parts) = parts_named(kind) else {
+        return Ok(None);
+    };
+    let text = spelled_in_parts(alloc, parts, count)?;
+    match data_of(alloc, &text)? {
+        Some(bytes) => Ok(Some(bytes.len() as u64)),
+        None => Ok(Some(0)),
+    }
 }
 
 fn setting(alloc: Global) -> Result<Setting, AllocError> {

@@ -1,22 +1,12 @@
-use Rattle.std.proofs.Common.{rules, sym, ◌∙◌}
-use Rattle.jv_script.proofs.Parts.{part_of_pairs, part_of_other, no_pairs_with_x, pairs_without_x}
+use Rattle.std.proofs.Common.{sym, ◌∙◌}
+use Rattle.jv_script.proofs.Parts.{part_of_with_x, part_of_without_x}
 use Rattle.jv_script.proofs.data.push_part.Goals as goal
 
-pub push_pairs-requires : goal.push_pairs-requires
-push_pairs-requires c = pairs_without_x c.args.part.now c.requires (sym c.has_x.ensures ∙ c.if-not-has_x.true)
+pub returns-then-has_x : goal.returns-then-has_x
+returns-then-has_x c = rw (part_of_with_x c.args.part.now (sym c.has_x.ensures ∙ c.if-has_x.true)) c.push_repeated.ensures
 
-pub returns-then-not-has_x : goal.returns-then-not-has_x
-returns-then-not-has_x c =
-    let part = part_of_pairs c.args.part.now (pairs_without_x c.args.part.now c.requires (sym c.has_x.ensures ∙ c.if-not-has_x.true)) in
-    rw part (search rules)
+pub returns-then-part-lt-MANY_DIGITS : goal.returns-then-part-lt-MANY_DIGITS
+returns-then-part-lt-MANY_DIGITS c = rw (part_of_without_x c.args.part.now (sym c.has_x.ensures ∙ c.if-has_x.false)) c.push_few_pairs.ensures
 
-pub returns-in-Some : goal.returns-in-Some
-returns-in-Some c =
-    let part = part_of_other c.args.part.now (no_pairs_with_x c.args.part.now (sym c.has_x.ensures ∙ c.if-not-has_x.false)) in
-    rw (part, sym c.in-Some.ensures) (search rules)
-
-pub returns-in-None : goal.returns-in-None
-returns-in-None c =
-    let part = part_of_other c.args.part.now (no_pairs_with_x c.args.part.now (sym c.has_x.ensures ∙ c.if-not-has_x.false)) in
-    let some = rw (part, sym c.in-None.ensures) at c.requires in
-    absurd (cc some)
+pub returns : goal.returns
+returns c = rw (part_of_without_x c.args.part.now (sym c.has_x.ensures ∙ c.if-has_x.false)) c.push_pairs.ensures
