@@ -13,6 +13,7 @@ const BYTES: [u8; 16] = *b"sixteen bytes ..";
 
 /// How far scattered writes lie apart, and how many places there are for them.
 const APART: u64 = 4096;
+
 const PLACES: u32 = 1 << 20;
 
 /// An odd number, so that its multiples go over all places, and jump about.
@@ -39,12 +40,7 @@ impl Order {
     }
 }
 
-fn written(
-    alloc: Global,
-    bytes: &Bytes,
-    order: Order,
-    count: u32,
-) -> Result<Pending, PendingFault>
+fn written(alloc: Global, bytes: &Bytes, order: Order, count: u32) -> Result<Pending, PendingFault>
     requires { length bytes.now ≡ 16 }
 {
     let mut pending = Pending::new(alloc, u64::MAX);
