@@ -3,10 +3,8 @@ use Rattle.std.proofs.Common.{◌≡◌, ℕ, ◌<◌, ◌≤◌, true, false, n
 use Rattle.std.proofs.lemmas.Bool.{cases_eq, cond-true, cond-false, eq-eqb, ne_eqb}
 use Rattle.std.proofs.lemmas.Bool.Decides.{nat_tests}
 use Rattle.std.proofs.lemmas.Option.{none-some}
+use Rattle.jv_pending.proofs.Outcomes.{some_same}
 use Rattle.jv_model.specs.Pending.{PendingByte, Segment, is_in_range, without_range, pending_of, pending_of_others, first_segment}
-
-some_same : (s t : Segment) → Some s ≡ Some t → s ≡ t
-some_same s t h = cc
 
 -- an inode's first segment is its own, and its first byte lies in it
 out_of_range : (i f n : ℕ) (b : PendingByte) → (b.inode ≡ i → ⊥) → is_in_range i f n b ≡ false

@@ -95,8 +95,8 @@ before_end low high n (r ∷ runs) o h =
     let e = end_after_least (end_place r) runs o.2 in
     (omega arith, before_end (end_place r) (end_place r) n runs o.2 h)
 
-pub cut_before : (n i from : ℕ) (bs : List ℕ) (runs : List Run) → IsCut i from bs runs → place i (from + length bs) ≤ n → Before n runs
-cut_before n i from bs runs c h = let e = c.ends in before_end (place i from - gap from) (place i from) n runs c.order (omega arith)
+pub cut_early : (n i from : ℕ) (bs : List ℕ) (runs : List Run) → IsCut i from bs runs → place i (from + length bs) ≤ n → Before n runs
+cut_early n i from bs runs c h = let e = c.ends in before_end (place i from - gap from) (place i from) n runs c.order (omega arith)
 
 pub cut_rises : (i from : ℕ) (bs : List ℕ) (runs : List Run) → IsCut i from bs runs → Rise 0 runs
 cut_rises i from bs runs c = Rise-order 0 runs (InOrder-weaker (place i from - gap from) 0 runs (omega arith) c.order)

@@ -11,7 +11,7 @@ use Rattle.std.proofs.lemmas.List.Elements.{filter-append}
 use Rattle.std.specs.Map.{lookup, remove_entry, set_value}
 use Rattle.jv_pending.specs.declared.run.RunStart.{RunStart}
 use Rattle.jv_pending.specs.Runs.{Run, start_cmp, bytes_at, place_of, start_place, Rise, Before, runs_before, runs_from, runs_within, with_runs, without_run}
-use Rattle.jv_pending.proofs.Outcomes.{same_value}
+use Rattle.jv_pending.proofs.Outcomes.{some_same}
 use Rattle.jv_pending.proofs.Parts.{before_yes, before_no, from_yes, from_no, before_none, from_all, Rise-from, whole, within_is, cut_before, cut_rest, cut_rise, with_before, with_from, with_here, with_rise, with_with}
 
 -- starts go as their places do
@@ -128,7 +128,7 @@ module _ (k : RunStart) (file : k.from < 1099511627776) where
       (λ same.
       let f : Some e.1 ≡ Some v = sym (ap (λ o. cond (is_eq o) (Some e.1) (lookup (is_at (start_cmp k)) es)) (starts_equal k e.0 file r.0 same)) ∙ h in
       from_yes (place_of k) e es (omega arith)
-      ∙ ap (λ (x : Run). x ∷ runs_from (place_of k) es) (pair_of e k v (sym (same_start k e.0 file r.0 same)) (same_value e.1 v f))
+      ∙ ap (λ (x : Run). x ∷ runs_from (place_of k) es) (pair_of e k v (sym (same_start k e.0 file r.0 same)) (some_same e.1 v f))
       ∙ ap (λ (t : List Run). (k, v) ∷ t) (from_all (place_of k) (start_place e + 1) es (omega arith) r.2 ∙ sym (from_no (place_of k + 1) e es (omega arith) ∙ from_all (place_of k + 1) (start_place e + 1) es (omega arith) r.2)))
       (λ o. ⊎_elim
       (λ more.

@@ -70,10 +70,6 @@ pub BeginBy-weaker : (i m n : ℕ) (mid : List Run) → m ≤ n → BeginBy i m 
 BeginBy-weaker i m n [] l a = tt
 BeginBy-weaker i m n (x ∷ ms) l a = (a.0, omega arith, BeginBy-weaker i m n ms l a.2)
 
-BeginBy-file : (i to : ℕ) (mid : List Run) → to ≤ 1099511627776 → BeginBy i to mid → BeginBy i 1099511627776 mid
-BeginBy-file i to [] l a = tt
-BeginBy-file i to (x ∷ ms) l a = (a.0, let f = a.1 in omega arith, BeginBy-file i to ms l a.2)
-
 pub written_joined : (i from to low : ℕ) (bs : List ℕ) (before mid after : List Run) → to ≡ from + length bs → to ≤ 1099511627776 → InOrder low (before ++ (mid ++ after)) → EndBy (place i from) before → BeginBy i to mid → Reaches from mid → Rises (place i to) (pending_bytes after) → written i from bs (pending_bytes (before ++ (mid ++ after))) ≡ pending_bytes before ++ (placed i (joined_from from mid) (joined from bs mid) ++ pending_bytes after)
 written_joined i from to low bs before mid after e l o b a h r =
     let rest = InOrder-right low before (mid ++ after) o in
@@ -81,7 +77,7 @@ written_joined i from to low bs before mid after e l o b a h r =
     ap (front (place i from)) (pending_bytes-append before (mid ++ after))
     ∙ front_runs (place i from) before (pending_bytes (mid ++ after)) b
     ∙ ap (λ (t : List PendingByte). pending_bytes before ++ front (place i from) t) (pending_bytes-append mid after)
-    ∙ ap (λ (t : List PendingByte). pending_bytes before ++ t) (front_joined i from (end_after low before) mid after rest (BeginBy-file i to mid l a) h (Rises-weaker (place i to) (place i from) (pending_bytes after) (omega arith) r)) in
+    ∙ ap (λ (t : List PendingByte). pending_bytes before ++ t) (front_joined i from (end_after low before) mid after rest (BeginBy-weaker i to 1099511627776 mid l a) h (Rises-weaker (place i to) (place i from) (pending_bytes after) (omega arith) r)) in
     let last : (back (place i to) (pending_bytes (before ++ (mid ++ after))) ≡ placed i to (tail_of to mid) ++ pending_bytes after) =
     ap (back (place i to)) (pending_bytes-append before (mid ++ after))
     ∙ back_runs (place i to) before (pending_bytes (mid ++ after)) (EndBy-weaker (place i from) (place i to) before (omega arith) b)
@@ -128,7 +124,7 @@ pub order_joined : (i from to low : ℕ) (bs : List ℕ) (before mid after fresh
 order_joined i from to low bs before mid after fresh e l o m b a h p cut =
     let rest = InOrder-right low before (mid ++ after) o in
     let below : end_after low before ≤ place i (joined_from from mid) - gap (joined_from from mid) =
-    joined_low i from (end_after low before) mid (InOrder-left (end_after low before) mid after rest) (BeginBy-file i to mid l a) (end_after_by low (place i from - gap from) before m b) in
+    joined_low i from (end_after low before) mid (InOrder-left (end_after low before) mid after rest) (BeginBy-weaker i to 1099511627776 mid l a) (end_after_by low (place i from - gap from) before m b) in
     let last : end_after (end_after low before) fresh ≤ place i (to + length (tail_of to mid)) =
     let c = cut.ends in let n = length_joined from to bs mid e h in
     let q : place i (joined_from from mid + length (joined from bs mid)) ≡ place i (to + length (tail_of to mid)) = ap (place i) n in

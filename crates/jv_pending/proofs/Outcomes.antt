@@ -20,5 +20,5 @@ pub some_copied : (o : Option (Bor (List ℕ))) (v : List ℕ) → option_copied
 some_copied None v h = absurd (none-some v h)
 some_copied (Some x) v h = refl
 
-pub same_value : (v w : List ℕ) → Some v ≡ Some w → v ≡ w
-same_value v w h = cc
+pub some_same : {A : Type 0} (a b : A) → Some a ≡ Some b → a ≡ b
+some_same a b h = cc

@@ -4,6 +4,7 @@ use Rattle.std.proofs.lemmas.Bool.{cases_lt, cond-true, cond-false, lt-ltb, le-l
 use Rattle.std.proofs.lemmas.List.{append_assoc, append-nil}
 use Rattle.std.proofs.lemmas.Option.{none-some}
 use Rattle.std.proofs.lemmas.List.Elements.{filter-append}
+use Rattle.jv_pending.proofs.Outcomes.{some_same}
 use Rattle.jv_pending.specs.Runs.{Run, Before, start_place, end_place, Rise, InOrder, runs_before, runs_from, runs_within, first_of, last_of, first_place, with_runs}
 
 pub before_yes : (n : ℕ) (r : Run) (rs : List Run) → start_place r < n → runs_before n (r ∷ rs) ≡ r ∷ runs_before n rs
@@ -28,9 +29,6 @@ Rise-order low (r ∷ rs) o =
     let some = o.0.some in
     let file = o.0.in_file in
     (omega arith, omega arith, Rise-weaker (end_place r) (start_place r + 1) rs (omega arith) (Rise-order (end_place r) rs o.2))
-
-some_same : (r x : Run) → Some r ≡ Some x → r ≡ x
-some_same r x h = cc
 
 -- all on one side of a place
 pub before_all : (n : ℕ) (rs : List Run) → Before n rs → runs_before n rs ≡ rs

@@ -8,6 +8,7 @@ use Rattle.std.proofs.lemmas.List.Elements.{filter-append}
 use Rattle.jv_model.specs.Pending.{PendingByte, Segment, stands_at, comes_before, all_after, is_rising, is_in_range, without_range, pending_of, run_length, first_segment, bytes_in_range, pending_end}
 use Rattle.jv_pending.specs.declared.run.RunStart.{RunStart}
 use Rattle.jv_pending.specs.Runs.{Run, place, place_of, placed, pending_bytes, bytes_at, end_of_run, start_place, end_place, segment_of_run, IsRun, InOrder, Rise, Before, runs_before, runs_from, without_run, first_of, last_of}
+use Rattle.jv_pending.proofs.Outcomes.{some_same}
 use Rattle.jv_pending.proofs.Places.{byte_place, stands_here, stands_apart, after_true}
 use Rattle.jv_pending.proofs.Bytes.{Rises, Rises-weaker, Rises-placed}
 use Rattle.jv_pending.proofs.Order.{Rises-runs, InOrder-weaker, pending_bytes-append, length-placed}
@@ -282,9 +283,6 @@ end_other i rs r o h n =
     let k = f.1 in
     let front = Before-last 0 s.0 r (subst (Rise 0) s.1 (Rise-before (place i 1099511627776) 0 rs low)) in
     no_end i rs o (subst (NoneOf i) (sym s.1) (none_before i (s.0 ++ r ∷ []) (Before-end (place i 0) s.0 r (Before-weaker (start_place r) (place i 0) s.0 (omega arith) front.0) (omega arith))))
-
-some_same : {A : Type 0} (a b : A) → Some a ≡ Some b → a ≡ b
-some_same a b e = cc
 
 -- the run that an inode's first segment names
 pub record Named (start : RunStart) (len : ℕ) (rs : List Run) : Type 0 where

@@ -6,13 +6,11 @@ use Rattle.std.proofs.lemmas.List.{append_assoc, append-nil, take_all, length-dr
 use Rattle.std.proofs.lemmas.List.Elements.{filter-append}
 use Rattle.jv_pending.specs.declared.run.RunStart.{RunStart}
 use Rattle.jv_pending.specs.Runs.{Run, place, place_of, start_place, end_place, end_of_run, gap, bytes_at, IsRun, InOrder, Rise, Before, EndBy, BeginBy, Reaches, IsFirst, IsTouched, runs_before, runs_from, runs_within, first_of, last_of, head_of, tail_of, joined_from}
+use Rattle.jv_pending.proofs.Outcomes.{some_same}
 use Rattle.jv_pending.proofs.Order.{EndBy-weaker, InOrder-left}
-use Rattle.jv_pending.proofs.Joins.{gap_le, gap_tells, order_after}
+use Rattle.jv_pending.proofs.Joins.{BeginBy-weaker, gap_le, gap_tells, order_after}
 use Rattle.jv_pending.proofs.Parts.{before_yes, before_no, before_none, before_all, from_yes, from_no, from_none, from_all, Rise-order, Rise-before, Rise-from, Before-before, Before-weaker, Before-last, file_last, last_early, before_before, within_is, whole}
 use Rattle.jv_pending.proofs.Entries.{present, absent}
-
-some_same : (r x : Run) → Some r ≡ Some x → r ≡ x
-some_same r x h = cc
 
 -- the last run
 pub last_split : (xs : List Run) (r : Run) → Some r ≡ last_of xs → (t : List Run) × (xs ≡ t ++ r ∷ [])
@@ -76,10 +74,6 @@ head_late i from low (x ∷ mid) first e l r b j =
     let n = b.0 in
     ap (λ m. take m x.1) (let z : from - x.0.from ≡ 0 = omega arith in z)
 
-file_by : (i to : ℕ) (mid : List Run) → to ≤ 1099511627776 → BeginBy i to mid → BeginBy i 1099511627776 mid
-file_by i to [] l b = tt
-file_by i to (x ∷ mid) l b = (b.0, let k = b.1 in omega arith, file_by i to mid l b.2)
-
 pub head_is : (i from to : ℕ) (rs : List Run) (first end : RunStart) → Rise 0 rs → to ≤ 1099511627776 → from < to → IsTouched i from to rs first end → head_of from (runs_within (place_of first) (place_of end) rs) ≡ take (from - first.from) (unwrap_or (bytes_at first rs) [])
 head_is i from to rs first end o file lt t =
     let ff = t.first_from in
@@ -94,7 +88,7 @@ head_is i from to rs first end o file lt t =
           let m : runs_within (place_of first) (place_of end) rs ≡ runs_within (place_of first + 1) (place_of end) rs =
           within_is (place_of first) (place_of end) rs ∙ ap (runs_before (place_of end)) (absent first here 0 rs o e) ∙ sym (within_is (place_of first + 1) (place_of end) rs) in
           head_late i from (place_of first + 1) (runs_within (place_of first) (place_of end) rs) first fi refl (subst (Rise (place_of first + 1)) (sym m) (within_rise (place_of first + 1) (place_of end) rs o))
-          (file_by i (to + gap to - 1) (runs_within (place_of first) (place_of end) rs) (omega arith) t.of_inode) t.begins
+          (BeginBy-weaker i (to + gap to - 1) 1099511627776 (runs_within (place_of first) (place_of end) rs) (omega arith) t.of_inode) t.begins
           ∙ sym (take_none (from - first.from))
       | Some v ↦ λ e.
           ap (head_of from) (within_is (place_of first) (place_of end) rs ∙ ap (runs_before (place_of end)) (present first here 0 rs v o e) ∙ before_yes (place_of end) (first, v) (runs_from (place_of first + 1) rs) up)
@@ -263,7 +257,7 @@ touched i from to rs first end o lt file f ei ef =
     let last : place_of end ≡ place i (to + gap to) = omega arith in
     let rises : Rise (place_of first) mid = within_rise (place_of first) (place_of end) rs low in
     let all : BeginBy i (to + gap to - 1) mid = begin_by i (place_of first) (to + gap to) mid (omega arith) top rises (subst (λ n. Before n mid) last (within_before (place_of first) (place_of end) rs)) in
-    let wide : BeginBy i 1099511627776 mid = file_by i (to + gap to - 1) mid (omega arith) all in
+    let wide : BeginBy i 1099511627776 mid = BeginBy-weaker i (to + gap to - 1) 1099511627776 mid (omega arith) all in
     let q = InOrder-from (place_of end) 0 rs o in
     record {
       first_inode = fi;

@@ -1,4 +1,6 @@
-//! The pending bytes of a client.
+//! The pending bytes of a client. They lie in memory as runs, in a map by where these begin. A call takes time logarithmic
+//! in their number: `write` that and a time linear in its bytes and those that it joins with them, `clear` and `clear_all`
+//! that for each run that they take out.
 ghost use Rattle.std.specs.Prelude.{◌≡◌, ℕ, ◌+◌, ◌<◌, ◌≤◌, ◌↔◌, [], length, Some, OnOk, OnErr, IfSome, IsErrOf, IsOkUnless, IsTrue};
 ghost use Rattle.std.specs.Option.{option_map};
 ghost use Rattle.jv_model.specs.Pending.{window_size, written, next_segment, bytes_in_range, without_range, pending_of_others, end_of, is_rising};

@@ -2,7 +2,7 @@ use Rattle.std.proofs.Common.{◌∙◌, length, ap, arith}
 use Rattle.jv_pending.specs.Runs.{place, with_runs}
 use Rattle.jv_pending.proofs.Parts.{Rise-order}
 use Rattle.jv_pending.proofs.Outcomes.{on_ok}
-use Rattle.jv_pending.proofs.Cuts.{cut_rises, cut_before}
+use Rattle.jv_pending.proofs.Cuts.{cut_rises, cut_early}
 use Rattle.jv_pending.proofs.Windows.{joined_is, joined_fits, end_in_file, cut_rewrites}
 use Rattle.jv_pending.proofs.edit.replace.Goals as goal
 
@@ -30,7 +30,7 @@ put_runs-requires-clause-before c =
     let i = c.requires.touched.end_inode in
     let m = c.max.ensures in
     let l = c.len.ensures in
-    cut_before (place c.args.end.inode c.max.result) c.args.first.inode c.args.first.from c.in_ok-all.all.items c.in_ok-fresh.fresh.items c.in_ok-fresh.ensures (omega arith)
+    cut_early (place c.args.end.inode c.max.result) c.args.first.inode c.args.first.from c.in_ok-all.all.items c.in_ok-fresh.fresh.items c.in_ok-fresh.ensures (omega arith)
 
 pub put_runs-requires-clause-end : goal.put_runs-requires-clause-end
 put_runs-requires-clause-end c =

@@ -4,7 +4,7 @@ use Rattle.jv_model.specs.Pending.{first_segment, pending_of, bytes_in_range, is
 use Rattle.jv_pending.specs.At.{segment_at}
 use Rattle.jv_pending.specs.Held.{PendingValue}
 use Rattle.jv_pending.specs.Runs.{pending_bytes}
-use Rattle.jv_pending.proofs.Outcomes.{some_copied, same_value}
+use Rattle.jv_pending.proofs.Outcomes.{some_copied, some_same}
 use Rattle.jv_pending.proofs.Segments.{named, named_bytes, rising}
 use Rattle.jv_pending.proofs.Order.{Rises-runs}
 use Rattle.jv_pending.proofs.pending.Pending.segment.Goals as goal
@@ -23,7 +23,7 @@ returns-clause-bytes c =
     let n = named start (segment_at at) rs c.self.invariant.order c.of.ensures.inode c.of.ensures.from
     (ap (λ (v : PendingValue). first_segment (pending_of at.inode v.bytes)) c.self.view_is ∙ c.requires) in
     c.as_slice.ensures
-    ∙ same_value c.unwrap.result.now n.bytes (sym (ap option_copied c.unwrap.ensures) ∙ c.get.ensures.value ∙ n.found)
+    ∙ some_same c.unwrap.result.now n.bytes (sym (ap option_copied c.unwrap.ensures) ∙ c.get.ensures.value ∙ n.found)
     ∙ sym (named_bytes start at.len rs c.self.invariant.order n)
     ∙ ap (λ i. bytes_in_range i start.from at.len (pending_bytes rs)) c.of.ensures.inode
     ∙ ap (λ p. bytes_in_range at.inode p at.len (pending_bytes rs)) c.of.ensures.from
@@ -34,7 +34,7 @@ returns-clause-len c =
     let at = c.args.at in
     let n = named c.of.result (segment_at at) c.self.inside.runs.entries c.self.invariant.order c.of.ensures.inode c.of.ensures.from
     (ap (λ (v : PendingValue). first_segment (pending_of at.inode v.bytes)) c.self.view_is ∙ c.requires) in
-    ap length (c.as_slice.ensures ∙ same_value c.unwrap.result.now n.bytes (sym (ap option_copied c.unwrap.ensures) ∙ c.get.ensures.value ∙ n.found)) ∙ n.len_is
+    ap length (c.as_slice.ensures ∙ some_same c.unwrap.result.now n.bytes (sym (ap option_copied c.unwrap.ensures) ∙ c.get.ensures.value ∙ n.found)) ∙ n.len_is
 
 pub returns-clause-rising : goal.returns-clause-rising
 returns-clause-rising c =

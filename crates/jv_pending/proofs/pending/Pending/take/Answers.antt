@@ -3,7 +3,7 @@ use Rattle.jv_model.specs.Pending.{PendingByte, first_segment, pending_of, bytes
 use Rattle.jv_pending.specs.At.{segment_at}
 use Rattle.jv_pending.specs.Held.{PendingValue}
 use Rattle.jv_pending.specs.Runs.{Run, InOrder, pending_bytes}
-use Rattle.jv_pending.proofs.Outcomes.{same_value}
+use Rattle.jv_pending.proofs.Outcomes.{some_same}
 use Rattle.jv_pending.proofs.Parts.{Rise-order}
 use Rattle.jv_pending.proofs.Entries.{removed}
 use Rattle.jv_pending.proofs.Segments.{named, named_bytes, taken_order, taken, taken_count}
@@ -20,7 +20,7 @@ overflow_sub-self c =
     let rs = c.self.inside.runs.entries in
     let n = named c.of.result (segment_at c.args.at) rs c.self.invariant.order c.of.ensures.inode c.of.ensures.from
     (ap (λ (v : PendingValue). first_segment (pending_of c.args.at.inode v.bytes)) c.self.view_is ∙ c.requires) in
-    let e = ap length (same_value c.unwrap-bytes.result n.bytes (sym c.unwrap-bytes.ensures ∙ c.remove.ensures.value ∙ n.found)) in
+    let e = ap length (some_same c.unwrap-bytes.result n.bytes (sym c.unwrap-bytes.ensures ∙ c.remove.ensures.value ∙ n.found)) in
     let h = c.self.invariant.count in
     let l = c.len.ensures.length in
     omega (arith, taken_count c.of.result c.args.at.len rs c.self.invariant.order n)
@@ -30,7 +30,7 @@ invariant_of-self c =
     let rs = c.self.inside.runs.entries in
     let n = named c.of.result (segment_at c.args.at) rs c.self.invariant.order c.of.ensures.inode c.of.ensures.from
     (ap (λ (v : PendingValue). first_segment (pending_of c.args.at.inode v.bytes)) c.self.view_is ∙ c.requires) in
-    let e = ap length (same_value c.unwrap-bytes.result n.bytes (sym c.unwrap-bytes.ensures ∙ c.remove.ensures.value ∙ n.found)) in
+    let e = ap length (some_same c.unwrap-bytes.result n.bytes (sym c.unwrap-bytes.ensures ∙ c.remove.ensures.value ∙ n.found)) in
     let h = c.self.invariant.count in
     let m = c.self.invariant.limited in
     let l = c.len.ensures.length in
@@ -49,7 +49,7 @@ returns-clause-bytes c =
     let rs = c.self.inside.runs.entries in
     let n = named start (segment_at at) rs c.self.invariant.order c.of.ensures.inode c.of.ensures.from
     (ap (λ (v : PendingValue). first_segment (pending_of at.inode v.bytes)) c.self.view_is ∙ c.requires) in
-    same_value c.unwrap-bytes.result n.bytes (sym c.unwrap-bytes.ensures ∙ c.remove.ensures.value ∙ n.found)
+    some_same c.unwrap-bytes.result n.bytes (sym c.unwrap-bytes.ensures ∙ c.remove.ensures.value ∙ n.found)
     ∙ sym (named_bytes start at.len rs c.self.invariant.order n)
     ∙ ap (λ i. bytes_in_range i start.from at.len (pending_bytes rs)) c.of.ensures.inode
     ∙ ap (λ p. bytes_in_range at.inode p at.len (pending_bytes rs)) c.of.ensures.from
