@@ -1,10 +1,9 @@
 -- A write over runs: what it leaves of the runs that it overlaps or touches, and that all stay in order.
-use Rattle.std.proofs.Common.{◌≡◌, ℕ, ◌+◌, ◌-◌, ◌<◌, ◌≤◌, ◌%◌, min, eqb, List, [], ◌∷◌, ◌++◌, length, take, drop, get_or, subst, ◌⊎◌, inl, inr, ⊎_elim, sym, ap, ◌∙◌, arith}
-use Rattle.std.proofs.lemmas.Bool.{cases_order, cases_lt, cases_eq, cond-true, cond-false, eq-eqb, ne_eqb}
+use Rattle.std.proofs.Common.{◌≡◌, ℕ, ◌+◌, ◌-◌, ◌<◌, ◌≤◌, ◌%◌, min, eqb, List, [], ◌∷◌, ◌++◌, length, take, drop, subst, ◌⊎◌, inl, inr, ⊎_elim, sym, ap, ◌∙◌, arith}
+use Rattle.std.proofs.lemmas.Bool.{cases_lt, cases_eq, cond-true, cond-false, eq-eqb, ne_eqb}
 use Rattle.std.proofs.lemmas.List.{append_assoc, append-nil, length-append, length-take-le, length-drop}
 use Rattle.jv_model.specs.Pending.{PendingByte, written}
-use Rattle.jv_pending.specs.declared.run.Run.{Run}
-use Rattle.jv_pending.specs.Runs.{place, placed, pending_bytes, end_of_run, end_place, start_place, gap, InOrder, end_after, IsCut, head_of, tail_of, joined_from, joined, EndBy, BeginBy, Reaches}
+use Rattle.jv_pending.specs.Runs.{Run, place, placed, pending_bytes, end_of_run, end_place, start_place, gap, InOrder, Rise, end_after, IsCut, head_of, tail_of, joined_from, joined, EndBy, BeginBy, Reaches}
 use Rattle.jv_pending.proofs.Bytes.{Rises, Rises-weaker, front, back, front_from, back_from, written_is}
 use Rattle.jv_pending.proofs.Order.{EndBy-weaker, InOrder-weaker, InOrder-left, InOrder-right, InOrder-append, end_after_by, end_after_mono, pending_bytes-append, placed-append, Rises-runs, front_runs, back_runs, back_run, front_part, back_part}
 
@@ -36,17 +35,17 @@ head_from i from f bs =
 pub front_joined : (i from low : ℕ) (mid after : List Run) → InOrder low (mid ++ after) → BeginBy i 1099511627776 mid → Reaches from mid → Rises (place i from) (pending_bytes after) → front (place i from) (pending_bytes mid ++ pending_bytes after) ≡ placed i (joined_from from mid) (head_of from mid)
 front_joined i from low [] after o a h r = front_from (place i from) (pending_bytes after) r
 front_joined i from low (x ∷ ms) after o a h r =
-    ap (front (place i from)) (append_assoc (placed x.inode x.from x.bytes) (pending_bytes ms) (pending_bytes after))
-    ∙ front_part (place i from) x.inode x.from from x.bytes (pending_bytes ms ++ pending_bytes after) (let e = a.0 in omega arith) o.0.in_file (omega (arith, (gap_le from).0)) (rw (← pending_bytes-append ms after) (Rises-runs (end_place x) (ms ++ after) o.2))
-    ∙ ap (λ k. placed k x.from (take (from - x.from) x.bytes)) a.0
-    ∙ head_from i from x.from x.bytes
+    ap (front (place i from)) (append_assoc (placed x.0.inode x.0.from x.1) (pending_bytes ms) (pending_bytes after))
+    ∙ front_part (place i from) x.0.inode x.0.from from x.1 (pending_bytes ms ++ pending_bytes after) (let e = a.0 in omega arith) o.0.in_file (omega (arith, (gap_le from).0)) (rw (← pending_bytes-append ms after) (Rises-runs (end_place x) (ms ++ after) o.2))
+    ∙ ap (λ k. placed k x.0.from (take (from - x.0.from) x.1)) a.0
+    ∙ head_from i from x.0.from x.1
 
 pub back_joined : (i to low : ℕ) (mid after : List Run) → InOrder low mid → BeginBy i to mid → Rises (place i to) (pending_bytes after) → back (place i to) (pending_bytes mid ++ pending_bytes after) ≡ placed i to (tail_of to mid) ++ pending_bytes after
 back_joined i to low [] after o a r = back_from (place i to) (pending_bytes after) r
 back_joined i to low (x ∷ []) after o a r =
-    ap (λ (t : List PendingByte). back (place i to) (t ++ pending_bytes after)) (append-nil (placed x.inode x.from x.bytes))
-    ∙ back_part (place i to) x.inode x.from to x.bytes (pending_bytes after) (let e = a.0 in omega arith) a.1 r
-    ∙ ap (λ k. placed k to (drop (to - x.from) x.bytes) ++ pending_bytes after) a.0
+    ap (λ (t : List PendingByte). back (place i to) (t ++ pending_bytes after)) (append-nil (placed x.0.inode x.0.from x.1))
+    ∙ back_part (place i to) x.0.inode x.0.from to x.1 (pending_bytes after) (let e = a.0 in omega arith) a.1 r
+    ∙ ap (λ k. placed k to (drop (to - x.0.from) x.1) ++ pending_bytes after) a.0
 back_joined i to low (x ∷ y ∷ ms) after o a r =
     back_run (place i to) x (y ∷ ms) (pending_bytes after) (let e = a.2.0 in let f = a.2.1 in let g = o.2.1 in omega arith)
     ∙ back_joined i to (end_place x) (y ∷ ms) after o.2 a.2 r
@@ -56,9 +55,9 @@ pub length_head : (from : ℕ) (mid : List Run) → Reaches from mid → joined_
 length_head from [] h = omega arith
 length_head from (x ∷ ms) h =
     ⊎_elim
-    (λ lt. let e : length (take (from - x.from) x.bytes) ≡ from - x.from = length-take-le (from - x.from) x.bytes (omega (arith, (gap_le from).0)) in omega arith)
-    (λ ge. let e : length (take (from - x.from) x.bytes) ≡ 0 = ap (λ k. length (take k x.bytes)) (let d : from - x.from ≡ 0 = omega arith in d) in omega arith)
-    (cases_lt x.from from)
+    (λ lt. let e : length (take (from - x.0.from) x.1) ≡ from - x.0.from = length-take-le (from - x.0.from) x.1 (omega (arith, (gap_le from).0)) in omega arith)
+    (λ ge. let e : length (take (from - x.0.from) x.1) ≡ 0 = ap (λ k. length (take k x.1)) (let d : from - x.0.from ≡ 0 = omega arith in d) in omega arith)
+    (cases_lt x.0.from from)
 
 pub placed_joined : (i from to : ℕ) (bs : List ℕ) (mid : List Run) → to ≡ from + length bs → Reaches from mid → placed i (joined_from from mid) (joined from bs mid) ≡ placed i (joined_from from mid) (head_of from mid) ++ (placed i from bs ++ placed i to (tail_of to mid))
 placed_joined i from to bs mid e h =
@@ -71,10 +70,6 @@ pub BeginBy-weaker : (i m n : ℕ) (mid : List Run) → m ≤ n → BeginBy i m 
 BeginBy-weaker i m n [] l a = tt
 BeginBy-weaker i m n (x ∷ ms) l a = (a.0, omega arith, BeginBy-weaker i m n ms l a.2)
 
-BeginBy-file : (i to : ℕ) (mid : List Run) → to ≤ 1099511627776 → BeginBy i to mid → BeginBy i 1099511627776 mid
-BeginBy-file i to [] l a = tt
-BeginBy-file i to (x ∷ ms) l a = (a.0, let f = a.1 in omega arith, BeginBy-file i to ms l a.2)
-
 pub written_joined : (i from to low : ℕ) (bs : List ℕ) (before mid after : List Run) → to ≡ from + length bs → to ≤ 1099511627776 → InOrder low (before ++ (mid ++ after)) → EndBy (place i from) before → BeginBy i to mid → Reaches from mid → Rises (place i to) (pending_bytes after) → written i from bs (pending_bytes (before ++ (mid ++ after))) ≡ pending_bytes before ++ (placed i (joined_from from mid) (joined from bs mid) ++ pending_bytes after)
 written_joined i from to low bs before mid after e l o b a h r =
     let rest = InOrder-right low before (mid ++ after) o in
@@ -82,7 +77,7 @@ written_joined i from to low bs before mid after e l o b a h r =
     ap (front (place i from)) (pending_bytes-append before (mid ++ after))
     ∙ front_runs (place i from) before (pending_bytes (mid ++ after)) b
     ∙ ap (λ (t : List PendingByte). pending_bytes before ++ front (place i from) t) (pending_bytes-append mid after)
-    ∙ ap (λ (t : List PendingByte). pending_bytes before ++ t) (front_joined i from (end_after low before) mid after rest (BeginBy-file i to mid l a) h (Rises-weaker (place i to) (place i from) (pending_bytes after) (omega arith) r)) in
+    ∙ ap (λ (t : List PendingByte). pending_bytes before ++ t) (front_joined i from (end_after low before) mid after rest (BeginBy-weaker i to 1099511627776 mid l a) h (Rises-weaker (place i to) (place i from) (pending_bytes after) (omega arith) r)) in
     let last : (back (place i to) (pending_bytes (before ++ (mid ++ after))) ≡ placed i to (tail_of to mid) ++ pending_bytes after) =
     ap (back (place i to)) (pending_bytes-append before (mid ++ after))
     ∙ back_runs (place i to) before (pending_bytes (mid ++ after)) (EndBy-weaker (place i from) (place i to) before (omega arith) b)
@@ -101,20 +96,20 @@ written_joined i from to low bs before mid after e l o b a h r =
 joined_low : (i from low : ℕ) (mid : List Run) → InOrder low mid → BeginBy i 1099511627776 mid → low ≤ place i from - gap from → low ≤ place i (joined_from from mid) - gap (joined_from from mid)
 joined_low i from low [] o a l = l
 joined_low i from low (x ∷ ms) o a l =
-    let g = gap_le x.from in let e = a.0 in
+    let g = gap_le x.0.from in let e = a.0 in
     ⊎_elim
-    (λ lt. subst (λ k. low ≤ place i k - gap k) (let d : x.from ≡ min x.from from = omega arith in d) (let f = o.1 in omega arith))
-    (λ ge. subst (λ k. low ≤ place i k - gap k) (let d : from ≡ min x.from from = omega arith in d) l)
-    (cases_lt x.from from)
+    (λ lt. subst (λ k. low ≤ place i k - gap k) (let d : x.0.from ≡ min x.0.from from = omega arith in d) (let f = o.1 in omega arith))
+    (λ ge. subst (λ k. low ≤ place i k - gap k) (let d : from ≡ min x.0.from from = omega arith in d) l)
+    (cases_lt x.0.from from)
 
-tail_order : (i to low : ℕ) (mid after : List Run) → BeginBy i to mid → InOrder (end_after low mid) after → InOrder (place i to) after → InOrder (place i (to + length (tail_of to mid))) after
+pub tail_order : (i to low : ℕ) (mid after : List Run) → BeginBy i to mid → InOrder (end_after low mid) after → InOrder (place i to) after → InOrder (place i (to + length (tail_of to mid))) after
 tail_order i to low [] after a o p = InOrder-weaker (place i to) (place i (to + 0)) after (omega arith) p
 tail_order i to low (x ∷ []) after a o p =
-    let n : length (drop (to - x.from) x.bytes) ≡ length x.bytes - (to - x.from) = length-drop (to - x.from) x.bytes in
+    let n : length (drop (to - x.0.from) x.1) ≡ length x.1 - (to - x.0.from) = length-drop (to - x.0.from) x.1 in
     let e = a.0 in let f = a.1 in
     ⊎_elim
-    (λ lt. InOrder-weaker (end_place x) (place i (to + length (drop (to - x.from) x.bytes))) after (omega arith) o)
-    (λ ge. InOrder-weaker (place i to) (place i (to + length (drop (to - x.from) x.bytes))) after (omega arith) p)
+    (λ lt. InOrder-weaker (end_place x) (place i (to + length (drop (to - x.0.from) x.1))) after (omega arith) o)
+    (λ ge. InOrder-weaker (place i to) (place i (to + length (drop (to - x.0.from) x.1))) after (omega arith) p)
     (cases_lt to (end_of_run x))
 tail_order i to low (x ∷ y ∷ ms) after a o p = tail_order i to (end_place x) (y ∷ ms) after a.2 o p
 
@@ -129,7 +124,7 @@ pub order_joined : (i from to low : ℕ) (bs : List ℕ) (before mid after fresh
 order_joined i from to low bs before mid after fresh e l o m b a h p cut =
     let rest = InOrder-right low before (mid ++ after) o in
     let below : end_after low before ≤ place i (joined_from from mid) - gap (joined_from from mid) =
-    joined_low i from (end_after low before) mid (InOrder-left (end_after low before) mid after rest) (BeginBy-file i to mid l a) (end_after_by low (place i from - gap from) before m b) in
+    joined_low i from (end_after low before) mid (InOrder-left (end_after low before) mid after rest) (BeginBy-weaker i to 1099511627776 mid l a) (end_after_by low (place i from - gap from) before m b) in
     let last : end_after (end_after low before) fresh ≤ place i (to + length (tail_of to mid)) =
     let c = cut.ends in let n = length_joined from to bs mid e h in
     let q : place i (joined_from from mid + length (joined from bs mid)) ≡ place i (to + length (tail_of to mid)) = ap (place i) n in
@@ -141,19 +136,22 @@ order_joined i from to low bs before mid after fresh e l o m b a h p cut =
     (tail_order i to (end_after low before) mid after a (InOrder-right (end_after low before) mid after rest) p)))
 
 -- what lies after the touched runs begins late enough
-pub order_after : (i to low position : ℕ) (after : List Run) → InOrder low after → to ≤ 1099511627776 → 1 ≤ position → ((d : Run) → 0 < length after → place i position ≤ end_place (get_or after 0 d)) → ((d : Run) → 0 < length after → (get_or after 0 d).inode ≡ i → to + gap to ≤ (get_or after 0 d).from) → InOrder (place i to) after
-order_after i to low position [] o l p h k = tt
-order_after i to low position (y ∷ ys) o l p h k =
-    let late : place i position ≤ end_place y = h y (omega arith) in
-    let end = o.0.in_file in
-    let g = gap_le y.from in
-    let starts : place i to + gap y.from ≤ start_place y =
+pub order_after : (i to low : ℕ) (after : List Run) → InOrder low after → to ≤ 1099511627776 → Rise (place i (to + gap to)) after → InOrder (place i to) after
+order_after i to low [] o l r = tt
+order_after i to low (y ∷ ys) o l r =
+    let g = gap_le to in
+    let late = r.1 in
+    let file = r.0 in
+    let starts : place i to + gap y.0.from ≤ start_place y =
     ⊎_elim
-    (λ same. let s : to + gap to ≤ y.from = k y (omega arith) (sym same) in
+    (λ z. let e = z.1 in omega arith)
+    (λ z. let e = z.1 in let p = z.0 in
     ⊎_elim
-    (λ eq. let q : gap to ≡ gap y.from = ap gap eq in omega arith)
-    (λ ne. omega arith)
-    (cases_eq to y.from))
-    (λ apart. ⊎_elim (λ less. omega arith) (λ more. absurd (omega arith)) apart)
-    (cases_order i y.inode) in
+    (λ same. ⊎_elim
+    (λ in_file. let q : gap to ≡ gap y.0.from = ap gap (let d : to ≡ y.0.from = omega arith in d) in omega arith)
+    (λ past. let d : y.0.from ≡ 0 = omega arith in absurd (omega arith))
+    (cases_lt to 1099511627776))
+    (λ n. omega arith)
+    (cases_eq (place i to) (start_place y)))
+    (gap_tells y.0.from) in
     (o.0, starts, o.2)

@@ -2,7 +2,11 @@ pub mod Places
 pub mod Bytes
 pub mod Order
 pub mod Joins
-pub mod Windows
-pub mod Lookups
+pub mod Parts
+pub mod Entries
+pub mod Touched
 pub mod Cuts
+pub mod Windows
+pub mod Outcomes
 pub mod Segments
+pub mod Cleared

@@ -3,8 +3,7 @@ use Rattle.std.proofs.Common.{◌≡◌, ℕ, suc, ◌+◌, ◌-◌, ◌≤◌, 
 use Rattle.std.proofs.lemmas.Bool.{cases_lt}
 use Rattle.std.proofs.lemmas.List.{append_assoc, take_all, drop_all}
 use Rattle.jv_model.specs.Pending.{PendingByte}
-use Rattle.jv_pending.specs.declared.run.Run.{Run}
-use Rattle.jv_pending.specs.Runs.{place, placed, pending_bytes, end_of_run, end_place, InOrder, end_after, EndBy}
+use Rattle.jv_pending.specs.Runs.{Run, place, placed, pending_bytes, end_of_run, end_place, InOrder, end_after, EndBy}
 use Rattle.jv_pending.proofs.Bytes.{Rises, Rises-weaker, Rises-placed, front, back, front_below, front_from, back_below, back_here, back_from}
 
 pub EndBy-weaker : (m n : ℕ) (rs : List Run) → m ≤ n → EndBy m rs → EndBy n rs
@@ -45,7 +44,7 @@ end_after_mono m n (r ∷ rs) h = omega arith
 
 pub pending_bytes-append : (xs ys : List Run) → pending_bytes (xs ++ ys) ≡ pending_bytes xs ++ pending_bytes ys
 pending_bytes-append [] ys = refl
-pending_bytes-append (x ∷ xs) ys = ap (λ (t : List PendingByte). placed x.inode x.from x.bytes ++ t) (pending_bytes-append xs ys) ∙ sym (append_assoc (placed x.inode x.from x.bytes) (pending_bytes xs) (pending_bytes ys))
+pending_bytes-append (x ∷ xs) ys = ap (λ (t : List PendingByte). placed x.0.inode x.0.from x.1 ++ t) (pending_bytes-append xs ys) ∙ sym (append_assoc (placed x.0.inode x.0.from x.1) (pending_bytes xs) (pending_bytes ys))
 
 pub placed-append : (i f : ℕ) (xs ys : List ℕ) → placed i f (xs ++ ys) ≡ placed i f xs ++ placed i (f + length xs) ys
 placed-append i f [] ys = ap (λ k. placed i k ys) (omega arith)
@@ -60,7 +59,7 @@ length-placed i f (x ∷ xs) = ap suc (length-placed i (f + 1) xs)
 pub Rises-runs : (low : ℕ) (rs : List Run) → InOrder low rs → Rises low (pending_bytes rs)
 Rises-runs low [] o = tt
 Rises-runs low (r ∷ rs) o =
-    Rises-placed r.inode r.from low (end_of_run r) r.bytes (pending_bytes rs) refl o.0.in_file (omega arith) (Rises-runs (end_place r) rs o.2)
+    Rises-placed r.0.inode r.0.from low (end_of_run r) r.1 (pending_bytes rs) refl o.0.in_file (omega arith) (Rises-runs (end_place r) rs o.2)
 
 front_placed : (n i f : ℕ) (bs : List ℕ) (t : List PendingByte) → place i (f + length bs) ≤ n → front n (placed i f bs ++ t) ≡ placed i f bs ++ front n t
 front_placed n i f [] t h = refl
@@ -77,13 +76,13 @@ back_placed n i f (b ∷ bs) t h =
 pub front_runs : (n : ℕ) (rs : List Run) (t : List PendingByte) → EndBy n rs → front n (pending_bytes rs ++ t) ≡ pending_bytes rs ++ front n t
 front_runs n [] t e = refl
 front_runs n (r ∷ rs) t e =
-    ap (front n) (append_assoc (placed r.inode r.from r.bytes) (pending_bytes rs) t)
-    ∙ front_placed n r.inode r.from r.bytes (pending_bytes rs ++ t) e.0
-    ∙ ap (λ (u : List PendingByte). placed r.inode r.from r.bytes ++ u) (front_runs n rs t e.1)
-    ∙ sym (append_assoc (placed r.inode r.from r.bytes) (pending_bytes rs) (front n t))
+    ap (front n) (append_assoc (placed r.0.inode r.0.from r.1) (pending_bytes rs) t)
+    ∙ front_placed n r.0.inode r.0.from r.1 (pending_bytes rs ++ t) e.0
+    ∙ ap (λ (u : List PendingByte). placed r.0.inode r.0.from r.1 ++ u) (front_runs n rs t e.1)
+    ∙ sym (append_assoc (placed r.0.inode r.0.from r.1) (pending_bytes rs) (front n t))
 
 pub back_run : (n : ℕ) (r : Run) (rs : List Run) (t : List PendingByte) → end_place r ≤ n → back n (pending_bytes (r ∷ rs) ++ t) ≡ back n (pending_bytes rs ++ t)
-back_run n r rs t h = ap (back n) (append_assoc (placed r.inode r.from r.bytes) (pending_bytes rs) t) ∙ back_placed n r.inode r.from r.bytes (pending_bytes rs ++ t) h
+back_run n r rs t h = ap (back n) (append_assoc (placed r.0.inode r.0.from r.1) (pending_bytes rs) t) ∙ back_placed n r.0.inode r.0.from r.1 (pending_bytes rs ++ t) h
 
 pub back_runs : (n : ℕ) (rs : List Run) (t : List PendingByte) → EndBy n rs → back n (pending_bytes rs ++ t) ≡ back n t
 back_runs n [] t e = refl

@@ -1,53 +1,52 @@
 -- Segments of pending bytes against runs, and what is left when bytes go.
-use Rattle.std.proofs.Common.{◌≡◌, ℕ, zero, suc, ◌+◌, ◌-◌, ◌%◌, ◌<◌, ◌≤◌, Bool, true, false, not, cond, eqb, List, [], ◌∷◌, ◌++◌, length, get_or, map, take, drop, Option, Some, refl, sym, ap, subst, ◌∙◌, ⊎_elim, arith}
-use Rattle.std.proofs.lemmas.Bool.{cases_lt, cases_eq, cases_order, cond-true, cond-false, eq-eqb, ne_eqb, and_from}
+use Rattle.std.proofs.Common.{◌≡◌, ℕ, ◌+◌, ◌%◌, ◌<◌, ◌≤◌, Bool, true, false, not, cond, eqb, List, [], ◌∷◌, ◌++◌, length, map, filter, Some, None, refl, sym, ap, subst, ◌∙◌, ⊎_elim, arith}
+use Rattle.std.proofs.lemmas.Bool.{cases_eq, cond-true, cond-false, eq-eqb, ne_eqb, and_from}
 use Rattle.std.proofs.lemmas.Bool.Decides.{nat_tests}
-use Rattle.std.proofs.lemmas.List.{append-nil, length-append, length-drop, get_or-drop, length-take-le, get_or-take}
+use Rattle.std.proofs.lemmas.Option.{none-some}
+use Rattle.std.proofs.lemmas.List.{append-nil, length-append}
 use Rattle.std.proofs.lemmas.List.Elements.{filter-append}
-use Rattle.std.specs.List.{filter, AllWithin, between, splice, slice_get}
-use Rattle.jv_model.specs.Pending.{PendingByte, Segment, stands_at, comes_before, all_after, is_rising, is_in_range, without_range, pending_of, pending_of_others, run_length, first_segment, bytes_in_range, pending_end}
-use Rattle.jv_pending.specs.declared.run.Run.{Run}
-use Rattle.jv_pending.specs.Runs.{place, placed, pending_bytes, end_of_run, start_place, end_place, segment_of_run, IsRun, InOrder, end_after}
-use Rattle.jv_pending.proofs.Places.{place_of, stands_here, stands_apart, after_true}
+use Rattle.jv_model.specs.Pending.{PendingByte, Segment, stands_at, comes_before, all_after, is_rising, is_in_range, without_range, pending_of, run_length, first_segment, bytes_in_range, pending_end}
+use Rattle.jv_pending.specs.declared.run.RunStart.{RunStart}
+use Rattle.jv_pending.specs.Runs.{Run, place, place_of, placed, pending_bytes, bytes_at, end_of_run, start_place, end_place, segment_of_run, IsRun, InOrder, Rise, Before, runs_before, runs_from, without_run, first_of, last_of}
+use Rattle.jv_pending.proofs.Outcomes.{some_same}
+use Rattle.jv_pending.proofs.Places.{byte_place, stands_here, stands_apart, after_true}
 use Rattle.jv_pending.proofs.Bytes.{Rises, Rises-weaker, Rises-placed}
-use Rattle.jv_pending.proofs.Order.{Rises-runs, InOrder-weaker, InOrder-left, InOrder-right, InOrder-append, end_after_least, pending_bytes-append, length-placed}
+use Rattle.jv_pending.proofs.Order.{Rises-runs, InOrder-weaker, pending_bytes-append, length-placed}
 use Rattle.jv_pending.proofs.Joins.{gap_tells}
-use Rattle.jv_pending.proofs.Lookups.{run_at, ends_rise}
-use Rattle.jv_pending.proofs.Windows.{parts, count_parts, between_cons}
-use Rattle.std.proofs.lemmas.List.Edits.{length-between, get_or-between}
-use Rattle.std.proofs.lemmas.Option.{slice_get-get_or}
-use Rattle.std.specs.Option.{IfSome}
+use Rattle.jv_pending.proofs.Parts.{Rise-order, Rise-before, Rise-from, Before-before, Before-weaker, Before-last, Before-end, from_all, whole, first_split, first_nothing, first_at}
+use Rattle.jv_pending.proofs.Entries.{there, present}
+use Rattle.jv_pending.proofs.Touched.{InOrder-from, last_split, last_nothing, last_file, last_is_run}
 
 -- bytes that rise are rising
-after_all : (b : PendingByte) (low : ℕ) (bs : List PendingByte) → place_of b < low → Rises low bs → all_after b.inode b.position bs ≡ true
+after_all : (b : PendingByte) (low : ℕ) (bs : List PendingByte) → byte_place b < low → Rises low bs → all_after b.inode b.position bs ≡ true
 after_all b low [] l r = refl
 after_all b low (x ∷ bs) l r =
     let k = r.1 in
-    and_from (comes_before b.inode b.position x) (all_after b.inode b.position bs) (after_true b.inode b.position x r.0 (omega arith)) (after_all b (place_of x + 1) bs (omega arith) r.2)
+    and_from (comes_before b.inode b.position x) (all_after b.inode b.position bs) (after_true b.inode b.position x r.0 (omega arith)) (after_all b (byte_place x + 1) bs (omega arith) r.2)
 
 pub rising : (low : ℕ) (bs : List PendingByte) → Rises low bs → is_rising bs ≡ true
 rising low [] r = refl
-rising low (b ∷ bs) r = and_from (all_after b.inode b.position bs) (is_rising bs) (after_all b (place_of b + 1) bs (omega arith) r.2) (rising (place_of b + 1) bs r.2)
+rising low (b ∷ bs) r = and_from (all_after b.inode b.position bs) (is_rising bs) (after_all b (byte_place b + 1) bs (omega arith) r.2) (rising (byte_place b + 1) bs r.2)
 
 -- tests that no byte of a list passes, or that all pass
-pub filter_none : (q : PendingByte → Bool) (low : ℕ) (bs : List PendingByte) → Rises low bs → ((b : PendingByte) → low ≤ place_of b → b.position < 1099511627776 → q b ≡ false) → filter q bs ≡ []
+pub filter_none : (q : PendingByte → Bool) (low : ℕ) (bs : List PendingByte) → Rises low bs → ((b : PendingByte) → low ≤ byte_place b → b.position < 1099511627776 → q b ≡ false) → filter q bs ≡ []
 filter_none q low [] r f = refl
 filter_none q low (b ∷ bs) r f =
     cond-false (q b) (b ∷ filter q bs) (filter q bs) (f b r.1 r.0)
-    ∙ filter_none q (place_of b + 1) bs r.2 (λ x l p. f x (let k = r.1 in omega arith) p)
+    ∙ filter_none q (byte_place b + 1) bs r.2 (λ x l p. f x (let k = r.1 in omega arith) p)
 
-pub filter_all : (q : PendingByte → Bool) (low : ℕ) (bs : List PendingByte) → Rises low bs → ((b : PendingByte) → low ≤ place_of b → b.position < 1099511627776 → q b ≡ true) → filter q bs ≡ bs
+pub filter_all : (q : PendingByte → Bool) (low : ℕ) (bs : List PendingByte) → Rises low bs → ((b : PendingByte) → low ≤ byte_place b → b.position < 1099511627776 → q b ≡ true) → filter q bs ≡ bs
 filter_all q low [] r f = refl
 filter_all q low (b ∷ bs) r f =
     cond-true (q b) (b ∷ filter q bs) (filter q bs) (f b r.1 r.0)
-    ∙ ap (λ (t : List PendingByte). b ∷ t) (filter_all q (place_of b + 1) bs r.2 (λ x l p. f x (let k = r.1 in omega arith) p))
+    ∙ ap (λ (t : List PendingByte). b ∷ t) (filter_all q (byte_place b + 1) bs r.2 (λ x l p. f x (let k = r.1 in omega arith) p))
 
 pub Rises-filter : (q : PendingByte → Bool) (low : ℕ) (bs : List PendingByte) → Rises low bs → Rises low (filter q bs)
 Rises-filter q low [] r = tt
 Rises-filter q low (b ∷ bs) r =
     elim (q b) as (λ t. Rises low (cond t (b ∷ filter q bs) (filter q bs))) [
-      | true ↦ (r.0, r.1, Rises-filter q (place_of b + 1) bs r.2)
-      | false ↦ let k = r.1 in Rises-weaker (place_of b + 1) low (filter q bs) (omega arith) (Rises-filter q (place_of b + 1) bs r.2)
+      | true ↦ (r.0, r.1, Rises-filter q (byte_place b + 1) bs r.2)
+      | false ↦ let k = r.1 in Rises-weaker (byte_place b + 1) low (filter q bs) (omega arith) (Rises-filter q (byte_place b + 1) bs r.2)
     ]
 
 pub none_placed : (q : PendingByte → Bool) (i f to : ℕ) (bs : List ℕ) → to ≡ f + length bs → ((p b : ℕ) → f ≤ p → p < to → q (record { inode = i; position = p; byte = b }) ≡ false) → filter q (placed i f bs) ≡ []
@@ -69,42 +68,51 @@ bytes_placed i f (b ∷ bs) = ap (λ (t : List ℕ). b ∷ t) (bytes_placed i (f
 in_range_inside : (i f len p b : ℕ) → f ≤ p → p < f + len → is_in_range i f len (record { inode = i; position = p; byte = b }) ≡ true
 in_range_inside i f len p b l m = grind (arith, nat_tests)
 
-in_range_after : (i f len : ℕ) (b : PendingByte) → place i (f + len) ≤ place_of b → is_in_range i f len b ≡ false
+in_range_after : (i f len : ℕ) (b : PendingByte) → place i (f + len) ≤ byte_place b → is_in_range i f len b ≡ false
 in_range_after i f len b h = let n : b.inode ≡ i → f + len ≤ b.position = λ e. omega arith in grind (arith, nat_tests)
 
-in_range_before : (i f len : ℕ) (b : PendingByte) → place_of b < place i f → is_in_range i f len b ≡ false
+in_range_before : (i f len : ℕ) (b : PendingByte) → byte_place b < place i f → is_in_range i f len b ≡ false
 in_range_before i f len b h = let n : b.inode ≡ i → b.position < f = λ e. omega arith in grind (arith, nat_tests)
 
+run_after : (low : ℕ) (xs : List Run) (r : Run) (ys : List Run) → InOrder low (xs ++ r ∷ ys) → low ≤ start_place r
+run_after low [] r ys o = let k = o.1 in omega arith
+run_after low (x ∷ xs) r ys o = let k = o.1 in omega (arith, run_after (end_place x) xs r ys o.2)
+
 -- what stands in a run's range, and what is left without it
-pub run_range : (low : ℕ) (rs : List Run) (k : ℕ) (d : Run) → InOrder low rs → k < length rs → filter (is_in_range (get_or rs k d).inode (get_or rs k d).from (length (get_or rs k d).bytes)) (pending_bytes rs) ≡ placed (get_or rs k d).inode (get_or rs k d).from (get_or rs k d).bytes
-run_range low [] k d o h = absurd (omega arith)
-run_range low (r ∷ rs) zero d o h =
-    filter-append (is_in_range r.inode r.from (length r.bytes)) (placed r.inode r.from r.bytes) (pending_bytes rs)
-    ∙ ap (λ (t : List PendingByte). t ++ filter (is_in_range r.inode r.from (length r.bytes)) (pending_bytes rs)) (all_placed (is_in_range r.inode r.from (length r.bytes)) r.inode r.from (end_of_run r) r.bytes refl (λ p b l m. in_range_inside r.inode r.from (length r.bytes) p b l m))
-    ∙ ap (λ (t : List PendingByte). placed r.inode r.from r.bytes ++ t) (filter_none (is_in_range r.inode r.from (length r.bytes)) (end_place r) (pending_bytes rs) (Rises-runs (end_place r) rs o.2) (λ b l p. in_range_after r.inode r.from (length r.bytes) b l))
-    ∙ append-nil (placed r.inode r.from r.bytes)
-run_range low (x ∷ rs) (suc k) d o h =
-    let at = run_at (end_place x) rs k d o.2 (omega arith) in
-    let after : end_place x ≤ start_place (get_or rs k d) = at.1 in
-    filter-append (is_in_range (get_or rs k d).inode (get_or rs k d).from (length (get_or rs k d).bytes)) (placed x.inode x.from x.bytes) (pending_bytes rs)
-    ∙ ap (λ (t : List PendingByte). t ++ filter (is_in_range (get_or rs k d).inode (get_or rs k d).from (length (get_or rs k d).bytes)) (pending_bytes rs)) (none_placed (is_in_range (get_or rs k d).inode (get_or rs k d).from (length (get_or rs k d).bytes)) x.inode x.from (end_of_run x) x.bytes refl (λ p b l m. in_range_before (get_or rs k d).inode (get_or rs k d).from (length (get_or rs k d).bytes) (record { inode = x.inode; position = p; byte = b }) (omega arith)))
-    ∙ run_range (end_place x) rs k d o.2 (omega arith)
+pub run_range : (low : ℕ) (xs : List Run) (r : Run) (ys : List Run) → InOrder low (xs ++ r ∷ ys) → filter (is_in_range r.0.inode r.0.from (length r.1)) (pending_bytes (xs ++ r ∷ ys)) ≡ placed r.0.inode r.0.from r.1
+run_range low [] r ys o =
+    filter-append (is_in_range r.0.inode r.0.from (length r.1)) (placed r.0.inode r.0.from r.1) (pending_bytes ys)
+    ∙ ap (λ (t : List PendingByte). t ++ filter (is_in_range r.0.inode r.0.from (length r.1)) (pending_bytes ys)) (all_placed (is_in_range r.0.inode r.0.from (length r.1)) r.0.inode r.0.from (end_of_run r) r.1 refl (λ p b l m. in_range_inside r.0.inode r.0.from (length r.1) p b l m))
+    ∙ ap (λ (t : List PendingByte). placed r.0.inode r.0.from r.1 ++ t) (filter_none (is_in_range r.0.inode r.0.from (length r.1)) (end_place r) (pending_bytes ys) (Rises-runs (end_place r) ys o.2) (λ b l p. in_range_after r.0.inode r.0.from (length r.1) b l))
+    ∙ append-nil (placed r.0.inode r.0.from r.1)
+run_range low (x ∷ xs) r ys o =
+    let after : end_place x ≤ start_place r = run_after (end_place x) xs r ys o.2 in
+    filter-append (is_in_range r.0.inode r.0.from (length r.1)) (placed x.0.inode x.0.from x.1) (pending_bytes (xs ++ r ∷ ys))
+    ∙ ap (λ (t : List PendingByte). t ++ filter (is_in_range r.0.inode r.0.from (length r.1)) (pending_bytes (xs ++ r ∷ ys))) (none_placed (is_in_range r.0.inode r.0.from (length r.1)) x.0.inode x.0.from (end_of_run x) x.1 refl (λ p b l m. in_range_before r.0.inode r.0.from (length r.1) (record { inode = x.0.inode; position = p; byte = b }) (omega arith)))
+    ∙ run_range (end_place x) xs r ys o.2
 
-pub run_bytes : (low : ℕ) (rs : List Run) (k : ℕ) (d : Run) → InOrder low rs → k < length rs → bytes_in_range (get_or rs k d).inode (get_or rs k d).from (length (get_or rs k d).bytes) (pending_bytes rs) ≡ (get_or rs k d).bytes
-run_bytes low rs k d o h = ap (map (λ (b : PendingByte). b.byte)) (run_range low rs k d o h) ∙ bytes_placed (get_or rs k d).inode (get_or rs k d).from (get_or rs k d).bytes
+pub run_bytes : (low : ℕ) (xs : List Run) (r : Run) (ys : List Run) → InOrder low (xs ++ r ∷ ys) → bytes_in_range r.0.inode r.0.from (length r.1) (pending_bytes (xs ++ r ∷ ys)) ≡ r.1
+run_bytes low xs r ys o = ap (map (λ (b : PendingByte). b.byte)) (run_range low xs r ys o) ∙ bytes_placed r.0.inode r.0.from r.1
 
-pub without_run : (low : ℕ) (rs : List Run) (k : ℕ) (d : Run) → InOrder low rs → k < length rs → without_range (get_or rs k d).inode (get_or rs k d).from (length (get_or rs k d).bytes) (pending_bytes rs) ≡ pending_bytes (take k rs ++ drop (suc k) rs)
-without_run low [] k d o h = absurd (omega arith)
-without_run low (r ∷ rs) zero d o h =
-    filter-append (λ b. not (is_in_range r.inode r.from (length r.bytes) b)) (placed r.inode r.from r.bytes) (pending_bytes rs)
-    ∙ ap (λ (t : List PendingByte). t ++ filter (λ b. not (is_in_range r.inode r.from (length r.bytes) b)) (pending_bytes rs)) (none_placed (λ b. not (is_in_range r.inode r.from (length r.bytes) b)) r.inode r.from (end_of_run r) r.bytes refl (λ p b l m. ap not (in_range_inside r.inode r.from (length r.bytes) p b l m)))
-    ∙ filter_all (λ b. not (is_in_range r.inode r.from (length r.bytes) b)) (end_place r) (pending_bytes rs) (Rises-runs (end_place r) rs o.2) (λ b l p. ap not (in_range_after r.inode r.from (length r.bytes) b l))
-without_run low (x ∷ rs) (suc k) d o h =
-    let at = run_at (end_place x) rs k d o.2 (omega arith) in
-    let after : end_place x ≤ start_place (get_or rs k d) = at.1 in
-    filter-append (λ b. not (is_in_range (get_or rs k d).inode (get_or rs k d).from (length (get_or rs k d).bytes) b)) (placed x.inode x.from x.bytes) (pending_bytes rs)
-    ∙ ap (λ (t : List PendingByte). t ++ filter (λ b. not (is_in_range (get_or rs k d).inode (get_or rs k d).from (length (get_or rs k d).bytes) b)) (pending_bytes rs)) (all_placed (λ b. not (is_in_range (get_or rs k d).inode (get_or rs k d).from (length (get_or rs k d).bytes) b)) x.inode x.from (end_of_run x) x.bytes refl (λ p b l m. ap not (in_range_before (get_or rs k d).inode (get_or rs k d).from (length (get_or rs k d).bytes) (record { inode = x.inode; position = p; byte = b }) (omega arith))))
-    ∙ ap (λ (t : List PendingByte). placed x.inode x.from x.bytes ++ t) (without_run (end_place x) rs k d o.2 (omega arith))
+pub run_without : (low : ℕ) (xs : List Run) (r : Run) (ys : List Run) → InOrder low (xs ++ r ∷ ys) → without_range r.0.inode r.0.from (length r.1) (pending_bytes (xs ++ r ∷ ys)) ≡ pending_bytes (xs ++ ys)
+run_without low [] r ys o =
+    filter-append (λ b. not (is_in_range r.0.inode r.0.from (length r.1) b)) (placed r.0.inode r.0.from r.1) (pending_bytes ys)
+    ∙ ap (λ (t : List PendingByte). t ++ filter (λ b. not (is_in_range r.0.inode r.0.from (length r.1) b)) (pending_bytes ys)) (none_placed (λ b. not (is_in_range r.0.inode r.0.from (length r.1) b)) r.0.inode r.0.from (end_of_run r) r.1 refl (λ p b l m. ap not (in_range_inside r.0.inode r.0.from (length r.1) p b l m)))
+    ∙ filter_all (λ b. not (is_in_range r.0.inode r.0.from (length r.1) b)) (end_place r) (pending_bytes ys) (Rises-runs (end_place r) ys o.2) (λ b l p. ap not (in_range_after r.0.inode r.0.from (length r.1) b l))
+run_without low (x ∷ xs) r ys o =
+    let after : end_place x ≤ start_place r = run_after (end_place x) xs r ys o.2 in
+    filter-append (λ b. not (is_in_range r.0.inode r.0.from (length r.1) b)) (placed x.0.inode x.0.from x.1) (pending_bytes (xs ++ r ∷ ys))
+    ∙ ap (λ (t : List PendingByte). t ++ filter (λ b. not (is_in_range r.0.inode r.0.from (length r.1) b)) (pending_bytes (xs ++ r ∷ ys))) (all_placed (λ b. not (is_in_range r.0.inode r.0.from (length r.1) b)) x.0.inode x.0.from (end_of_run x) x.1 refl (λ p b l m. ap not (in_range_before r.0.inode r.0.from (length r.1) (record { inode = x.0.inode; position = p; byte = b }) (omega arith))))
+    ∙ ap (λ (t : List PendingByte). placed x.0.inode x.0.from x.1 ++ t) (run_without (end_place x) xs r ys o.2)
+
+pub order_without : (low : ℕ) (xs : List Run) (r : Run) (ys : List Run) → InOrder low (xs ++ r ∷ ys) → InOrder low (xs ++ ys)
+order_without low [] r ys o = let k = o.1 in InOrder-weaker (end_place r) low ys (omega arith) o.2
+order_without low (x ∷ xs) r ys o = (o.0, o.1, order_without (end_place x) xs r ys o.2)
+
+pub count_without : (xs : List Run) (r : Run) (ys : List Run) → length (pending_bytes (xs ++ ys)) + length r.1 ≡ length (pending_bytes (xs ++ r ∷ ys))
+count_without [] r ys = omega (arith, length-append (placed r.0.inode r.0.from r.1) (pending_bytes ys), length-placed r.0.inode r.0.from r.1)
+count_without (x ∷ xs) r ys =
+    omega (arith, count_without xs r ys, length-append (placed x.0.inode x.0.from x.1) (pending_bytes (xs ++ ys)), length-append (placed x.0.inode x.0.from x.1) (pending_bytes (xs ++ r ∷ ys)))
 
 -- a run is a maximal run of positions
 run_length_none : (i f : ℕ) (t : List PendingByte) → Rises (place i f + 1) t → run_length i f t ≡ 0
@@ -126,12 +134,12 @@ run_length_placed i f (b ∷ c ∷ bs) t s w l r =
     ∙ ap (λ k. 1 + k) (run_length_placed i (f + 1) (c ∷ bs) t (omega arith) (omega arith) (omega arith) (λ m. Rises-weaker (place i (f + length (b ∷ c ∷ bs)) + 1) (place i (f + 1 + length (c ∷ bs)) + 1) t (omega arith) (r (subst (λ k. 0 < k % 67108864) (let d : f + 1 + length (c ∷ bs) ≡ f + length (b ∷ c ∷ bs) = omega arith in d) m))))
     ∙ omega arith
 
-first_of : (i f : ℕ) (bs : List ℕ) (t : List PendingByte) → 0 < length bs → f % 67108864 + length bs ≤ 67108864 → f + length bs ≤ 1099511627776 → (0 < (f + length bs) % 67108864 → Rises (place i (f + length bs) + 1) t) → first_segment (placed i f bs ++ t) ≡ Some (record { inode = i; from = f; len = length bs })
-first_of i f [] t s w l n = absurd (omega arith)
-first_of i f (b ∷ bs) t s w l n = ap (λ k. Some (record { inode = i; from = f; len = k })) (run_length_placed i f (b ∷ bs) t s w l n)
+first_run : (i f : ℕ) (bs : List ℕ) (t : List PendingByte) → 0 < length bs → f % 67108864 + length bs ≤ 67108864 → f + length bs ≤ 1099511627776 → (0 < (f + length bs) % 67108864 → Rises (place i (f + length bs) + 1) t) → first_segment (placed i f bs ++ t) ≡ Some (record { inode = i; from = f; len = length bs })
+first_run i f [] t s w l n = absurd (omega arith)
+first_run i f (b ∷ bs) t s w l n = ap (λ k. Some (record { inode = i; from = f; len = k })) (run_length_placed i f (b ∷ bs) t s w l n)
 
-pub first_placed : (r : Run) (t : List PendingByte) → IsRun r → (0 < end_of_run r % 67108864 → Rises (end_place r + 1) t) → first_segment (placed r.inode r.from r.bytes ++ t) ≡ Some (segment_of_run r)
-first_placed r t h n = first_of r.inode r.from r.bytes t h.some h.in_window h.in_file n
+pub first_placed : (r : Run) (t : List PendingByte) → IsRun r → (0 < end_of_run r % 67108864 → Rises (end_place r + 1) t) → first_segment (placed r.0.inode r.0.from r.1 ++ t) ≡ Some (segment_of_run r)
+first_placed r t h n = first_run r.0.inode r.0.from r.1 t h.some h.in_window h.in_file n
 
 -- the bytes after a run lie apart from it, but where its window ends
 pub apart : (r : Run) (rs : List Run) → InOrder (end_place r) rs → 0 < end_of_run r % 67108864 → Rises (end_place r + 1) (pending_bytes rs)
@@ -142,17 +150,21 @@ apart r (x ∷ rs) o h =
     ⊎_elim
     (λ z. let e = z.0 in let c = z.1 in omega arith)
     (λ z. let c = z.1 in omega arith)
-    (gap_tells x.from) in
-    Rises-placed x.inode x.from (end_place r + 1) (end_of_run x) x.bytes (pending_bytes rs) refl o.0.in_file starts (Rises-runs (end_place x) rs o.2)
+    (gap_tells x.0.from) in
+    Rises-placed x.0.inode x.0.from (end_place r + 1) (end_of_run x) x.1 (pending_bytes rs) refl o.0.in_file starts (Rises-runs (end_place x) rs o.2)
 
--- the runs are of other inodes, or of this one
+-- the runs are of other inodes
 abbrev pub NoneOf : ℕ → List Run → Type 0
 NoneOf i [] = Unit {0}
-NoneOf i (r ∷ rs) = (r.inode ≡ i → ⊥) × NoneOf i rs
+NoneOf i (r ∷ rs) = (r.0.inode ≡ i → ⊥) × NoneOf i rs
 
-abbrev pub AllOf : ℕ → List Run → Type 0
-AllOf i [] = Unit {0}
-AllOf i (r ∷ rs) = (r.inode ≡ i) × AllOf i rs
+none_before : (i : ℕ) (rs : List Run) → Before (place i 0) rs → NoneOf i rs
+none_before i [] b = tt
+none_before i (r ∷ rs) b = (λ e. let l = b.0 in omega arith, none_before i rs b.1)
+
+none_from : (i low : ℕ) (rs : List Run) → place (i + 1) 0 ≤ low → Rise low rs → NoneOf i rs
+none_from i low [] h r = tt
+none_from i low (x ∷ rs) h r = let k = r.1 in let f = r.0 in ((λ e. omega arith), none_from i (start_place x + 1) rs (omega arith) r.2)
 
 of_placed : (i j f : ℕ) (bs : List ℕ) → j ≡ i → pending_of i (placed j f bs) ≡ placed j f bs
 of_placed i j f bs e = all_placed (λ b. eqb b.inode i) j f (f + length bs) bs refl (λ p b l m. eq-eqb j i e)
@@ -160,48 +172,66 @@ of_placed i j f bs e = all_placed (λ b. eqb b.inode i) j f (f + length bs) bs r
 others_placed : (i j f : ℕ) (bs : List ℕ) → (j ≡ i → ⊥) → pending_of i (placed j f bs) ≡ []
 others_placed i j f bs n = none_placed (λ b. eqb b.inode i) j f (f + length bs) bs refl (λ p b l m. ne_eqb j i n)
 
-pub of_none : (i : ℕ) (rs : List Run) → NoneOf i rs → pending_of i (pending_bytes rs) ≡ []
+of_none : (i : ℕ) (rs : List Run) → NoneOf i rs → pending_of i (pending_bytes rs) ≡ []
 of_none i [] n = refl
 of_none i (r ∷ rs) n =
-    filter-append (λ b. eqb b.inode i) (placed r.inode r.from r.bytes) (pending_bytes rs)
-    ∙ ap (λ (t : List PendingByte). t ++ pending_of i (pending_bytes rs)) (others_placed i r.inode r.from r.bytes n.0)
+    filter-append (λ b. eqb b.inode i) (placed r.0.inode r.0.from r.1) (pending_bytes rs)
+    ∙ ap (λ (t : List PendingByte). t ++ pending_of i (pending_bytes rs)) (others_placed i r.0.inode r.0.from r.1 n.0)
     ∙ of_none i rs n.1
 
-pub others_none : (i : ℕ) (rs : List Run) → NoneOf i rs → pending_of_others i (pending_bytes rs) ≡ pending_bytes rs
-others_none i [] n = refl
-others_none i (r ∷ rs) n =
-    filter-append (λ b. not (eqb b.inode i)) (placed r.inode r.from r.bytes) (pending_bytes rs)
-    ∙ ap (λ (t : List PendingByte). t ++ pending_of_others i (pending_bytes rs)) (all_placed (λ b. not (eqb b.inode i)) r.inode r.from (end_of_run r) r.bytes refl (λ p b l m. ap not (ne_eqb r.inode i n.0)))
-    ∙ ap (λ (t : List PendingByte). placed r.inode r.from r.bytes ++ t) (others_none i rs n.1)
+of_append : (i : ℕ) (xs ys : List Run) → pending_of i (pending_bytes (xs ++ ys)) ≡ pending_of i (pending_bytes xs) ++ pending_of i (pending_bytes ys)
+of_append i xs ys = ap (pending_of i) (pending_bytes-append xs ys) ∙ filter-append (λ b. eqb b.inode i) (pending_bytes xs) (pending_bytes ys)
 
-pub others_all : (i : ℕ) (rs : List Run) → AllOf i rs → pending_of_others i (pending_bytes rs) ≡ []
-others_all i [] n = refl
-others_all i (r ∷ rs) n =
-    filter-append (λ b. not (eqb b.inode i)) (placed r.inode r.from r.bytes) (pending_bytes rs)
-    ∙ ap (λ (t : List PendingByte). t ++ pending_of_others i (pending_bytes rs)) (none_placed (λ b. not (eqb b.inode i)) r.inode r.from (end_of_run r) r.bytes refl (λ p b l m. ap not (eq-eqb r.inode i n.0)))
-    ∙ others_all i rs n.1
+-- an inode's bytes are those of the runs from its first place on
+of_from : (i : ℕ) (rs : List Run) → InOrder 0 rs → pending_of i (pending_bytes rs) ≡ pending_of i (pending_bytes (runs_from (place i 0) rs))
+of_from i rs o =
+    ap (λ (t : List Run). pending_of i (pending_bytes t)) (sym (whole (place i 0) 0 rs (Rise-order 0 rs o)))
+    ∙ of_append i (runs_before (place i 0) rs) (runs_from (place i 0) rs)
+    ∙ ap (λ (t : List PendingByte). t ++ pending_of i (pending_bytes (runs_from (place i 0) rs))) (of_none i (runs_before (place i 0) rs) (none_before i (runs_before (place i 0) rs) (Before-before (place i 0) rs)))
 
-pub NoneOf-at : (i : ℕ) (rs : List Run) → ((k : ℕ) (d : Run) → k < length rs → (get_or rs k d).inode ≡ i → ⊥) → NoneOf i rs
-NoneOf-at i [] h = tt
-NoneOf-at i (r ∷ rs) h = (λ e. h 0 r (omega arith) e, NoneOf-at i rs (λ k d l e. h (suc k) d (omega arith) e))
-
-pub AllOf-at : (i : ℕ) (rs : List Run) → ((k : ℕ) (d : Run) → k < length rs → (get_or rs k d).inode ≡ i) → AllOf i rs
-AllOf-at i [] h = tt
-AllOf-at i (r ∷ rs) h = (h 0 r (omega arith), AllOf-at i rs (λ k d l. h (suc k) d (omega arith)))
-
--- the first run of an inode is its first segment
-pub first_run : (i low : ℕ) (rs : List Run) (k : ℕ) (d : Run) → InOrder low rs → k < length rs → AllWithin (λ r. end_place r < place i 1) rs 0 k → (get_or rs k d).inode ≡ i → first_segment (pending_of i (pending_bytes rs)) ≡ Some (segment_of_run (get_or rs k d))
-first_run i low [] k d o h b e = absurd (omega arith)
-first_run i low (r ∷ rs) zero d o h b e =
-    ap first_segment (filter-append (λ b. eqb b.inode i) (placed r.inode r.from r.bytes) (pending_bytes rs))
-    ∙ ap (λ (t : List PendingByte). first_segment (t ++ pending_of i (pending_bytes rs))) (of_placed i r.inode r.from r.bytes e)
+first_here : (i low : ℕ) (r : Run) (rs : List Run) → InOrder low (r ∷ rs) → r.0.inode ≡ i → first_segment (pending_of i (pending_bytes (r ∷ rs))) ≡ Some (segment_of_run r)
+first_here i low r rs o e =
+    ap first_segment (filter-append (λ b. eqb b.inode i) (placed r.0.inode r.0.from r.1) (pending_bytes rs))
+    ∙ ap (λ (t : List PendingByte). first_segment (t ++ pending_of i (pending_bytes rs))) (of_placed i r.0.inode r.0.from r.1 e)
     ∙ first_placed r (pending_of i (pending_bytes rs)) o.0 (λ m. Rises-filter (λ b. eqb b.inode i) (end_place r + 1) (pending_bytes rs) (apart r rs o.2 m))
-first_run i low (r ∷ rs) (suc k) d o h b e =
-    let before : end_place r < place i 1 = b 0 d (omega arith) (omega arith) in
-    let some = o.0.some in
-    ap first_segment (filter-append (λ b. eqb b.inode i) (placed r.inode r.from r.bytes) (pending_bytes rs))
-    ∙ ap (λ (t : List PendingByte). first_segment (t ++ pending_of i (pending_bytes rs))) (others_placed i r.inode r.from r.bytes (λ s. omega arith))
-    ∙ first_run i (end_place r) rs k d o.2 (omega arith) (λ j x l m. b (suc j) x (omega arith) (omega arith)) e
+
+-- the first segment of an inode, by the first run from its first place on
+pub own_first : (i : ℕ) (rs : List Run) (r : Run) → InOrder 0 rs → Some r ≡ first_of (runs_from (place i 0) rs) → r.0.inode ≡ i → first_segment (pending_of i (pending_bytes rs)) ≡ Some (segment_of_run r)
+own_first i rs r o h e =
+    let s = first_split (runs_from (place i 0) rs) r h in
+    let q = InOrder-from (place i 0) 0 rs o in
+    ap first_segment (of_from i rs o) ∙ ap (λ (t : List Run). first_segment (pending_of i (pending_bytes t))) s.1 ∙ first_here i q.0 r s.0 (subst (InOrder q.0) s.1 q.1) e
+
+pub own_none : (i : ℕ) (rs : List Run) → InOrder 0 rs → None ≡ first_of (runs_from (place i 0) rs) → pending_of i (pending_bytes rs) ≡ []
+own_none i rs o h = of_from i rs o ∙ ap (λ (t : List Run). pending_of i (pending_bytes t)) (first_nothing (runs_from (place i 0) rs) h)
+
+pub own_other : (i : ℕ) (rs : List Run) (r : Run) → InOrder 0 rs → Some r ≡ first_of (runs_from (place i 0) rs) → (r.0.inode ≡ i → ⊥) → pending_of i (pending_bytes rs) ≡ []
+own_other i rs r o h n =
+    let low = Rise-order 0 rs o in
+    let s = first_split (runs_from (place i 0) rs) r h in
+    let at = first_at (place i 0) 0 rs r s.0 low s.1 in
+    let rise : Rise (start_place r) (r ∷ s.0) = subst (Rise (start_place r)) at.2 (Rise-from (start_place r) 0 rs low) in
+    let k = at.1 in
+    let f = at.0 in
+    of_from i rs o ∙ of_none i (runs_from (place i 0) rs) (subst (NoneOf i) (sym s.1) (none_from i (start_place r) (r ∷ s.0) (omega arith) rise))
+
+-- the first run of all is the first segment
+pub first_of_all : (rs : List Run) (r : Run) → InOrder 0 rs → Some r ≡ first_of (runs_from 0 rs) → first_segment (pending_bytes rs) ≡ Some (segment_of_run r)
+first_of_all rs r o h =
+    let s = first_split rs r (h ∙ ap first_of (from_all 0 0 rs (omega arith) (Rise-order 0 rs o))) in
+    let q = subst (InOrder 0) s.1 o in
+    ap (λ (t : List Run). first_segment (pending_bytes t)) s.1 ∙ first_placed r (pending_bytes s.0) q.0 (apart r s.0 q.2)
+
+pub first_is_own : (rs : List Run) (r : Run) → InOrder 0 rs → Some r ≡ first_of (runs_from 0 rs) → first_segment (pending_of r.0.inode (pending_bytes rs)) ≡ Some (segment_of_run r)
+first_is_own rs r o h =
+    let s = first_split rs r (h ∙ ap first_of (from_all 0 0 rs (omega arith) (Rise-order 0 rs o))) in
+    ap (λ (t : List Run). first_segment (pending_of r.0.inode (pending_bytes t))) s.1 ∙ first_here r.0.inode 0 r s.0 (subst (InOrder 0) s.1 o) refl
+
+pub none_of_all : (rs : List Run) → InOrder 0 rs → None ≡ first_of (runs_from 0 rs) → pending_bytes rs ≡ []
+none_of_all rs o h = ap pending_bytes (first_nothing rs (h ∙ ap first_of (from_all 0 0 rs (omega arith) (Rise-order 0 rs o))))
+
+pub first_is_run : (n : ℕ) (rs : List Run) (r : Run) → InOrder 0 rs → Some r ≡ first_of (runs_from n rs) → IsRun r
+first_is_run n rs r o h = let s = first_split (runs_from n rs) r h in let q = InOrder-from n 0 rs o in (subst (InOrder q.0) s.1 q.1).0
 
 -- an inode's last pending position
 end_append : (xs ys : List PendingByte) → 0 < pending_end ys → pending_end (xs ++ ys) ≡ pending_end ys
@@ -215,160 +245,103 @@ end_placed i f [] h = absurd (omega arith)
 end_placed i f (b ∷ []) h = refl
 end_placed i f (b ∷ c ∷ bs) h = end_placed i (f + 1) (c ∷ bs) (omega arith) ∙ omega arith
 
-pub last_run : (i low : ℕ) (rs : List Run) (k : ℕ) (d : Run) → InOrder low rs → k < length rs → NoneOf i (drop (suc k) rs) → (get_or rs k d).inode ≡ i → pending_end (pending_of i (pending_bytes rs)) ≡ end_of_run (get_or rs k d)
-last_run i low [] k d o h n e = absurd (omega arith)
-last_run i low (r ∷ rs) zero d o h n e =
-    ap pending_end (filter-append (λ b. eqb b.inode i) (placed r.inode r.from r.bytes) (pending_bytes rs))
-    ∙ ap (λ (t : List PendingByte). pending_end (t ++ pending_of i (pending_bytes rs))) (of_placed i r.inode r.from r.bytes e)
-    ∙ ap (λ (t : List PendingByte). pending_end (placed r.inode r.from r.bytes ++ t)) (of_none i rs n)
-    ∙ ap pending_end (append-nil (placed r.inode r.from r.bytes))
-    ∙ end_placed r.inode r.from r.bytes o.0.some
-last_run i low (r ∷ rs) (suc k) d o h n e =
-    let rest = last_run i (end_place r) rs k d o.2 (omega arith) n e in
-    let at = (run_at (end_place r) rs k d o.2 (omega arith)).0 in
-    let some = at.some in
-    ap pending_end (filter-append (λ b. eqb b.inode i) (placed r.inode r.from r.bytes) (pending_bytes rs))
-    ∙ end_append (pending_of i (placed r.inode r.from r.bytes)) (pending_of i (pending_bytes rs)) (omega arith)
-    ∙ rest
+pub end_is : (i : ℕ) (rs : List Run) (r : Run) → InOrder 0 rs → Some r ≡ last_of (runs_before (place i 1099511627776) rs) → r.0.inode ≡ i → pending_end (pending_of i (pending_bytes rs)) ≡ end_of_run r
+end_is i rs r o h e =
+    let low = Rise-order 0 rs o in
+    let n : ℕ = place i 1099511627776 in
+    let s = last_split (runs_before n rs) r h in
+    let some = (last_is_run n rs r o h).some in
+    let last = end_placed r.0.inode r.0.from r.1 some in
+    ap (λ (t : List Run). pending_end (pending_of i (pending_bytes t))) (sym (whole n 0 rs low))
+    ∙ ap pending_end (of_append i (runs_before n rs) (runs_from n rs)
+    ∙ ap (λ (t : List PendingByte). pending_of i (pending_bytes (runs_before n rs)) ++ t) (of_none i (runs_from n rs) (none_from i n (runs_from n rs) (omega arith) (Rise-from n 0 rs low)))
+    ∙ append-nil (pending_of i (pending_bytes (runs_before n rs)))
+    ∙ ap (λ (t : List Run). pending_of i (pending_bytes t)) s.1
+    ∙ of_append i s.0 (r ∷ [])
+    ∙ ap (λ (t : List PendingByte). pending_of i (pending_bytes s.0) ++ pending_of i t) (append-nil (placed r.0.inode r.0.from r.1))
+    ∙ ap (λ (t : List PendingByte). pending_of i (pending_bytes s.0) ++ t) (of_placed i r.0.inode r.0.from r.1 e))
+    ∙ end_append (pending_of i (pending_bytes s.0)) (placed r.0.inode r.0.from r.1) (omega arith)
+    ∙ last
 
--- runs of other inodes, by what a search tells
-none_at : (i k j : ℕ) (rs : List Run) (d : Run) → InOrder 0 rs → k ≤ j → j < length rs → place i 1 ≤ end_place (get_or rs k d) → ((get_or rs k d).inode ≡ i → ⊥) → (get_or rs j d).inode ≡ i → ⊥
-none_at i k j rs d o l h p n e =
-    let a = (run_at 0 rs k d o (omega arith)).0 in
-    let b = (run_at 0 rs j d o h).0 in
-    let s = a.some in
-    let f = a.in_file in
-    let g = b.in_file in
-    let r = ends_rise 0 rs k j d o l h in
-    ⊎_elim (λ same. n same) (λ x. ⊎_elim (λ less. absurd (omega arith)) (λ more. absurd (omega arith)) x) (cases_order (get_or rs k d).inode i)
+no_end : (i : ℕ) (rs : List Run) → InOrder 0 rs → NoneOf i (runs_before (place i 1099511627776) rs) → pending_end (pending_of i (pending_bytes rs)) ≡ 0
+no_end i rs o h =
+    let low = Rise-order 0 rs o in
+    let n : ℕ = place i 1099511627776 in
+    ap (λ (t : List Run). pending_end (pending_of i (pending_bytes t))) (sym (whole n 0 rs low))
+    ∙ ap pending_end (of_append i (runs_before n rs) (runs_from n rs)
+    ∙ ap (λ (t : List PendingByte). t ++ pending_of i (pending_bytes (runs_from n rs))) (of_none i (runs_before n rs) h)
+    ∙ of_none i (runs_from n rs) (none_from i n (runs_from n rs) (omega arith) (Rise-from n 0 rs low)))
 
-pub none_before : (i k : ℕ) (rs : List Run) → InOrder 0 rs → k ≤ length rs → AllWithin (λ r. end_place r < place i 1) rs 0 k → (j : ℕ) (d : Run) → j < k → (get_or rs j d).inode ≡ i → ⊥
-none_before i k rs o w b j d l e =
-    let a = (run_at 0 rs j d o (omega arith)).0 in
-    let s = a.some in
-    let h = b j d (omega arith) l in
-    omega arith
+pub end_none : (i : ℕ) (rs : List Run) → InOrder 0 rs → None ≡ last_of (runs_before (place i 1099511627776) rs) → pending_end (pending_of i (pending_bytes rs)) ≡ 0
+end_none i rs o h = no_end i rs o (subst (NoneOf i) (sym (last_nothing (runs_before (place i 1099511627776) rs) h)) tt)
 
-pub none_found : (i k : ℕ) (rs : List Run) → InOrder 0 rs → k ≤ length rs → AllWithin (λ r. end_place r < place i 1) rs 0 k → AllWithin (λ r. place i 1 ≤ end_place r) rs k (length rs) → ((d : Run) → k < length rs → (get_or rs k d).inode ≡ i → ⊥) → NoneOf i rs
-none_found i k rs o w b a n =
-    NoneOf-at i rs (λ j d l e. ⊎_elim (λ lt. none_before i k rs o w b j d lt e) (λ ge. none_at i k j rs d o ge l (a k d (omega arith) (omega arith)) (n d (omega arith)) e) (cases_lt j k))
+pub end_other : (i : ℕ) (rs : List Run) (r : Run) → InOrder 0 rs → Some r ≡ last_of (runs_before (place i 1099511627776) rs) → (r.0.inode ≡ i → ⊥) → pending_end (pending_of i (pending_bytes rs)) ≡ 0
+end_other i rs r o h n =
+    let low = Rise-order 0 rs o in
+    let s = last_split (runs_before (place i 1099511627776) rs) r h in
+    let f = last_file (place i 1099511627776) rs r low h in
+    let k = f.1 in
+    let front = Before-last 0 s.0 r (subst (Rise 0) s.1 (Rise-before (place i 1099511627776) 0 rs low)) in
+    no_end i rs o (subst (NoneOf i) (sym s.1) (none_before i (s.0 ++ r ∷ []) (Before-end (place i 0) s.0 r (Before-weaker (start_place r) (place i 0) s.0 (omega arith) front.0) (omega arith))))
 
--- the last run of an inode, by what a search tells
-pub none_behind : (i k : ℕ) (rs : List Run) → InOrder 0 rs → k ≤ length rs → AllWithin (λ r. place i 1099511627777 ≤ end_place r) rs k (length rs) → NoneOf i (drop k rs)
-none_behind i k rs o w a =
-    NoneOf-at i (drop k rs) (λ j d l e.
-    let n : length (drop k rs) ≡ length rs - k = length-drop k rs in
-    let q : (get_or rs (k + j) d).inode ≡ i = subst (λ (r : Run). r.inode ≡ i) (get_or-drop k rs j d) e in
-    let b = (run_at 0 rs (k + j) d o (omega arith)).0 in
-    let f = b.in_file in
-    let h = a (k + j) d (omega arith) (omega arith) in
-    omega arith)
+-- the run that an inode's first segment names
+pub record Named (start : RunStart) (len : ℕ) (rs : List Run) : Type 0 where
+  pub bytes : List ℕ
+  pub file : start.from < 1099511627776
+  pub len_is : length bytes ≡ len
+  pub found : bytes_at start rs ≡ Some bytes
+  pub all : rs ≡ runs_before (place_of start) rs ++ (start, bytes) ∷ runs_from (place_of start + 1) rs
 
-pub none_but_last : (i k : ℕ) (rs : List Run) → InOrder 0 rs → k ≤ length rs → AllWithin (λ r. end_place r < place i 1099511627777) rs 0 k → AllWithin (λ r. place i 1099511627777 ≤ end_place r) rs k (length rs) → ((d : Run) → 0 < k → (get_or rs (k - 1) d).inode ≡ i → ⊥) → NoneOf i rs
-none_but_last i k rs o w b a n =
-    NoneOf-at i rs (λ j d l e.
-    let here = (run_at 0 rs j d o l).0 in
-    let s = here.some in
-    let f = here.in_file in
-    ⊎_elim
-    (λ lt.
-    let top = (run_at 0 rs (k - 1) d o (omega arith)).0 in
-    let g = top.in_file in
-    let t = top.some in
-    let r = ends_rise 0 rs j (k - 1) d o (omega arith) (omega arith) in
-    let h = b (k - 1) d (omega arith) (omega arith) in
-    ⊎_elim (λ same. n d (omega arith) same) (λ x. ⊎_elim (λ less. absurd (omega arith)) (λ more. absurd (omega arith)) x) (cases_order (get_or rs (k - 1) d).inode i))
-    (λ ge. let h = a j d ge l in omega arith)
-    (cases_lt j k))
+named_run : (rs : List Run) (r : Run) (n : ℕ) → InOrder 0 rs → Some r ≡ first_of (runs_from n rs) → Named r.0 (length r.1) rs
+named_run rs r n o h =
+    let low = Rise-order 0 rs o in
+    let t = first_split (runs_from n rs) r h in
+    let at = first_at n 0 rs r t.0 low t.1 in
+    let found : bytes_at r.0 rs ≡ Some r.1 = there r.0 at.0 0 rs t.0 r.1 low at.2 in
+    record {
+      bytes = r.1;
+      file = at.0;
+      len_is = refl;
+      found = found;
+      all = sym (ap (λ (x : List Run). runs_before (place_of r.0) rs ++ x) (sym (present r.0 at.0 0 rs r.1 low found)) ∙ whole (place_of r.0) 0 rs low);
+    }
 
-pub order_without : (low : ℕ) (xs ys zs : List Run) → InOrder low (xs ++ (ys ++ zs)) → InOrder low (xs ++ zs)
-order_without low xs ys zs o =
-    let rest = InOrder-right low xs (ys ++ zs) o in
-    InOrder-append low xs zs (InOrder-left low xs (ys ++ zs) o)
-    (InOrder-weaker (end_after (end_after low xs) ys) (end_after low xs) zs (end_after_least (end_after low xs) ys (InOrder-left (end_after low xs) ys zs rest)) (InOrder-right (end_after low xs) ys zs rest))
+pub named : (start : RunStart) (s : Segment) (rs : List Run) → InOrder 0 rs → start.inode ≡ s.inode → start.from ≡ s.from → first_segment (pending_of s.inode (pending_bytes rs)) ≡ Some s → Named start s.len rs
+named start s rs o ei ef h =
+    elim (first_of (runs_from (place s.inode 0) rs)) as (λ x. first_of (runs_from (place s.inode 0) rs) ≡ x → Named start s.len rs) [
+      | None ↦ λ e. absurd (none-some s (sym (ap first_segment (own_none s.inode rs o (sym e))) ∙ h))
+      | Some r ↦ λ e. ⊎_elim
+          (λ same.
+          let g : segment_of_run r ≡ s = some_same (segment_of_run r) s (sym (own_first s.inode rs r o (sym e) same) ∙ h) in
+          let i : r.0.inode ≡ start.inode = ap (λ (x : Segment). x.inode) g ∙ sym ei in
+          let f : r.0.from ≡ start.from = ap (λ (x : Segment). x.from) g ∙ sym ef in
+          subst (λ (k : RunStart). Named k s.len rs) (λ j. record { inode = i j; from = f j })
+          (subst (λ n. Named r.0 n rs) (ap (λ (x : Segment). x.len) g) (named_run rs r (place s.inode 0) o (sym e))))
+          (λ n. absurd (none-some s (sym (ap first_segment (own_other s.inode rs r o (sym e) n)) ∙ h)))
+          (cases_eq r.0.inode s.inode)
+    ] refl
 
--- the runs of an inode taken out
-module _ (i first end : ℕ) (rs : List Run) (o : InOrder 0 rs) (rise : first ≤ end) (within : end ≤ length rs) (before : AllWithin (λ r. end_place r < place i 1) rs 0 first) (after : AllWithin (λ r. place i 1 ≤ end_place r) rs first (length rs)) (mid : AllWithin (λ r. (r.inode ≡ i) × (r.from < 1099511627776)) rs first end) (stop : IfSome (slice_get rs end) (λ r. r.inode ≡ i → 1099511627776 ≤ r.from)) where
-  pub cleared_order : InOrder 0 (splice rs first end [])
-  cleared_order = order_without 0 (take first rs) (between first end rs) (drop end rs) (subst (InOrder 0) (sym (parts first end rs rise)) o)
+-- its bytes, and what is left without it
+module _ (start : RunStart) (len : ℕ) (rs : List Run) (o : InOrder 0 rs) (n : Named start len rs) where
+  in_parts : InOrder 0 (runs_before (place_of start) rs ++ (start, n.bytes) ∷ runs_from (place_of start + 1) rs)
+  in_parts = subst (InOrder 0) n.all o
 
-  front_none : NoneOf i (take first rs)
-  front_none = NoneOf-at i (take first rs) (λ j d l e.
-      let n : length (take first rs) ≡ first = length-take-le first rs (omega arith) in
-      none_before i first rs o (omega arith) before j d (omega arith) (subst (λ (r : Run). r.inode ≡ i) (get_or-take first rs j d (omega arith)) e))
+  pub named_bytes : bytes_in_range start.inode start.from len (pending_bytes rs) ≡ n.bytes
+  named_bytes =
+      ap (λ k. bytes_in_range start.inode start.from k (pending_bytes rs)) (sym n.len_is)
+      ∙ ap (λ (t : List Run). bytes_in_range start.inode start.from (length n.bytes) (pending_bytes t)) n.all
+      ∙ run_bytes 0 (runs_before (place_of start) rs) (start, n.bytes) (runs_from (place_of start + 1) rs) in_parts
 
-  mid_all : AllOf i (between first end rs)
-  mid_all = AllOf-at i (between first end rs) (λ j d l.
-      let n : length (between first end rs) ≡ end - first = length-between rs first end within in
-      let e : get_or (between first end rs) j d ≡ get_or rs (first + j) d = get_or-between rs first end j d (omega arith) in
-      subst (λ (r : Run). r.inode ≡ i) (sym e) (mid (first + j) d (omega arith) (omega arith)).0)
+  pub taken_order : InOrder 0 (without_run start rs)
+  taken_order = order_without 0 (runs_before (place_of start) rs) (start, n.bytes) (runs_from (place_of start + 1) rs) in_parts
 
-  end_not : (d : Run) → end < length rs → (get_or rs end d).inode ≡ i → ⊥
-  end_not d l e =
-      let s : slice_get rs end ≡ Some (get_or rs end d) = slice_get-get_or rs end d l in
-      let w : (get_or rs end d).inode ≡ i → 1099511627776 ≤ (get_or rs end d).from = subst (λ (x : Option Run). IfSome x (λ r. r.inode ≡ i → 1099511627776 ≤ r.from)) s stop in
-      let b = (run_at 0 rs end d o l).0 in
-      let f = b.in_file in
-      let g = b.some in
-      let h = w e in
-      omega arith
+  pub taken : pending_bytes (without_run start rs) ≡ without_range start.inode start.from len (pending_bytes rs)
+  taken =
+      sym (run_without 0 (runs_before (place_of start) rs) (start, n.bytes) (runs_from (place_of start + 1) rs) in_parts)
+      ∙ ap (λ (t : List Run). without_range start.inode start.from (length n.bytes) (pending_bytes t)) (sym n.all)
+      ∙ ap (λ k. without_range start.inode start.from k (pending_bytes rs)) n.len_is
 
-  back_none : NoneOf i (drop end rs)
-  back_none = NoneOf-at i (drop end rs) (λ j d l e.
-      let n : length (drop end rs) ≡ length rs - end = length-drop end rs in
-      none_at i end (end + j) rs d o (omega arith) (omega arith) (after end d rise (omega arith)) (end_not d (omega arith)) (subst (λ (r : Run). r.inode ≡ i) (get_or-drop end rs j d) e))
-
-  pub cleared : pending_bytes (splice rs first end []) ≡ pending_of_others i (pending_bytes rs)
-  cleared =
-      pending_bytes-append (take first rs) (drop end rs)
-      ∙ sym
-      (ap (λ (x : List Run). pending_of_others i (pending_bytes x)) (sym (parts first end rs rise))
-      ∙ ap (pending_of_others i) (pending_bytes-append (take first rs) (between first end rs ++ drop end rs) ∙ ap (λ (x : List PendingByte). pending_bytes (take first rs) ++ x) (pending_bytes-append (between first end rs) (drop end rs)))
-      ∙ filter-append (λ b. not (eqb b.inode i)) (pending_bytes (take first rs)) (pending_bytes (between first end rs) ++ pending_bytes (drop end rs))
-      ∙ ap (λ (x : List PendingByte). x ++ pending_of_others i (pending_bytes (between first end rs) ++ pending_bytes (drop end rs))) (others_none i (take first rs) front_none)
-      ∙ ap (λ (x : List PendingByte). pending_bytes (take first rs) ++ x)
-      (filter-append (λ b. not (eqb b.inode i)) (pending_bytes (between first end rs)) (pending_bytes (drop end rs))
-      ∙ ap (λ (x : List PendingByte). x ++ pending_of_others i (pending_bytes (drop end rs))) (others_all i (between first end rs) mid_all)
-      ∙ others_none i (drop end rs) back_none))
-
-  pub cleared_count : length (pending_bytes (splice rs first end [])) + length (pending_bytes (between first end rs)) ≡ length (pending_bytes rs)
-  cleared_count =
-      let all = count_parts first end rs rise in
-      let n = ap length (pending_bytes-append (take first rs) (drop end rs)) ∙ length-append (pending_bytes (take first rs)) (pending_bytes (drop end rs)) in
-      omega arith
-
--- one run taken out
-pub removed_order : (low : ℕ) (rs : List Run) (k : ℕ) → InOrder low rs → InOrder low (take k rs ++ drop (suc k) rs)
-removed_order low rs k o = order_without low (take k rs) (between k (suc k) rs) (drop (suc k) rs) (subst (InOrder low) (sym (parts k (suc k) rs (omega arith))) o)
-
-pub removed_count : (rs : List Run) (k : ℕ) (d : Run) → k < length rs → length (pending_bytes (take k rs ++ drop (suc k) rs)) + length (get_or rs k d).bytes ≡ length (pending_bytes rs)
-removed_count rs k d h =
-    let all = count_parts k (suc k) rs (omega arith) in
-    let n = ap length (pending_bytes-append (take k rs) (drop (suc k) rs)) ∙ length-append (pending_bytes (take k rs)) (pending_bytes (drop (suc k) rs)) in
-    let cons : between k (suc k) rs ≡ get_or rs k d ∷ [] = between_cons k (suc k) rs d (omega arith) (omega arith) ∙ ap (λ m. get_or rs k d ∷ take m (drop (k + 1) rs)) (let z : suc k - (k + 1) ≡ 0 = omega arith in z) in
-    let one : length (pending_bytes (between k (suc k) rs)) ≡ length (get_or rs k d).bytes =
-    ap (λ (x : List Run). length (pending_bytes x)) cons ∙ ap length (append-nil (placed (get_or rs k d).inode (get_or rs k d).from (get_or rs k d).bytes)) ∙ length-placed (get_or rs k d).inode (get_or rs k d).from (get_or rs k d).bytes in
-    omega arith
-
--- the first run is the first segment
-pub least_run : (low : ℕ) (rs : List Run) (d : Run) → InOrder low rs → 0 < length rs → first_segment (pending_bytes rs) ≡ Some (segment_of_run (get_or rs 0 d))
-least_run low [] d o h = absurd (omega arith)
-least_run low (r ∷ rs) d o h = first_placed r (pending_bytes rs) o.0 (apart r rs o.2)
-
-some_same : {A : Type 0} (a b : A) → Some a ≡ Some b → a ≡ b
-some_same a b e = cc
-
--- the run that a segment names
-pub named : (inode from len : ℕ) (r : Run) (o : Option Segment) → o ≡ Some (segment_of_run r) → o ≡ Some (record { inode = inode; from = from; len = len }) → (r.inode ≡ inode) × (r.from ≡ from) × (length r.bytes ≡ len)
-named inode from len r o e f =
-    let s : Segment = record { inode = inode; from = from; len = len } in
-    let g : segment_of_run r ≡ s = some_same (segment_of_run r) s (sym e ∙ f) in
-    (ap (λ (x : Segment). x.inode) g, ap (λ (x : Segment). x.from) g, ap (λ (x : Segment). x.len) g)
-
-pub named_bytes : (inode from len : ℕ) (rs : List Run) (k : ℕ) (d : Run) → InOrder 0 rs → k < length rs → first_segment (pending_of inode (pending_bytes rs)) ≡ Some (segment_of_run (get_or rs k d)) → first_segment (pending_of inode (pending_bytes rs)) ≡ Some (record { inode = inode; from = from; len = len }) → bytes_in_range inode from len (pending_bytes rs) ≡ (get_or rs k d).bytes
-named_bytes inode from len rs k d o h e f =
-    let n = named inode from len (get_or rs k d) (first_segment (pending_of inode (pending_bytes rs))) e f in
-    sym (ap (λ i. bytes_in_range i (get_or rs k d).from (length (get_or rs k d).bytes) (pending_bytes rs)) n.0
-    ∙ ap (λ p. bytes_in_range inode p (length (get_or rs k d).bytes) (pending_bytes rs)) n.1
-    ∙ ap (λ l. bytes_in_range inode from l (pending_bytes rs)) n.2)
-    ∙ run_bytes 0 rs k d o h
+  pub taken_count : length (pending_bytes (without_run start rs)) + length n.bytes ≡ length (pending_bytes rs)
+  taken_count =
+      count_without (runs_before (place_of start) rs) (start, n.bytes) (runs_from (place_of start + 1) rs)
+      ∙ ap (λ (t : List Run). length (pending_bytes t)) (sym n.all)

@@ -1,11 +1,9 @@
 //! Writes over runs, and cuts of them.
-ghost use Rattle.std.specs.Prelude.{◌≡◌, ℕ, ◌+◌, ◌-◌, ◌<◌, ◌≤◌, ◌^◌, ◌%◌, [], ◌∷◌, ◌++◌, length, take, drop, List, vec_len, vec_capacity, OnOk, OnErr, IfOk, slice_index_or};
-ghost use Rattle.std.specs.List.{splice, between};
-ghost use Rattle.jv_model.specs.Pending.{written, without_range, pending_of_others};
-ghost use Rattle.jv_pending.specs.declared.run.Run.{Run as RunSeen};
-ghost use Rattle.jv_pending.specs.Runs.{place, gap, placed, pending_bytes, end_of_run, InOrder, IsCut, IsTouched, head_of, tail_of, joined_from, joined, widened, Rewrites};
+ghost use Rattle.std.specs.Prelude.{◌≡◌, ℕ, ◌+◌, ◌-◌, ◌<◌, ◌≤◌, ◌^◌, ◌%◌, [], ◌∷◌, ◌++◌, length, take, drop, List, vec_len, vec_capacity, OnOk, OnErr, IfOk, Some, unwrap_or, IsSome, IfSome, IsSomeAnd, if◌then◌else◌};
+ghost use Rattle.jv_model.specs.Pending.{written};
+ghost use Rattle.jv_pending.specs.Runs.{place_of, bytes_at, gap, pending_bytes, end_of_run, InOrder, Rise, Before, IsCut, IsFirst, IsTouched, without_run, runs_before, runs_from, runs_within, first_of, first_place, with_runs, head_of, tail_of, joined_from, widened, Rewrites};
 
-use crate::run::{FILE_END, Run, count_before, count_bytes, end_of_touched};
+use crate::run::{RunStart, Runs, count_bytes, first_from, last_before};
 use jv_model::{Bytes, WINDOW, copied};
 use std::alloc::{AllocError, Global};
 use std::mem;
@@ -17,84 +15,169 @@ fn free_before(from: u64) -> u64
     if from.is_multiple_of(WINDOW) { 0 } else { 1 }
 }
 
-/// The indices from and to which a write overlaps runs, or touches them in a window.
-fn find_touched(runs: &[Run], inode: u64, from: u64, to: u64) -> (usize, usize)
-    requires order { InOrder 0 runs.now }
-    requires some { from < to }
-    requires file { to ≤ 1099511627776 }
-    ensures { IsTouched inode from to runs.now result.0 result.1 }
+/// Where the first run begins that a write overlaps, or touches in a window, or the write itself where it begins before.
+fn first_touched(runs: &Runs, inode: u64, from: u64) -> RunStart
+    requires order { InOrder 0 runs.now.entries }
+    requires file { from < 1099511627776 }
+    ensures { IsFirst inode from runs.now.entries result }
 {
-    let first = count_before(runs, inode, from + 1 - free_before(from));
-    let end = end_of_touched(runs, first, inode, to + free_before(to));
-    (first, end)
+    let here = RunStart { inode, from };
+    let Some((start, bytes)) = last_before(runs, here.next()) else {
+        return here;
+    };
+    if start.inode == inode && from < start.end(bytes) + free_before(from) {
+        start
+    } else {
+        here
+    }
 }
 
-/// The bytes of the first run that lie before a position.
-fn head(runs: &[Run], from: u64) -> &[u8]
-    ensures { result.now ≡ head_of from runs.now }
+/// The places from and to which runs begin that a write overlaps, or touches in a window.
+fn find_touched(runs: &Runs, inode: u64, from: u64, to: u64) -> (RunStart, RunStart)
+    requires order { InOrder 0 runs.now.entries }
+    requires some { from < to }
+    requires file { to ≤ 1099511627776 }
+    ensures { IsTouched inode from to runs.now.entries result.0 result.1 }
 {
-    let Some(run) = runs.first() else {
+    let end = RunStart {
+        inode,
+        from: to + free_before(to),
+    };
+    (first_touched(runs, inode, from), end)
+}
+
+/// The bytes of the run at a place that lie before a position, none where there is no run.
+fn head(runs: &Runs, first: RunStart, from: u64) -> &[u8]
+    ensures { result.now ≡ take (from - first.from) (unwrap_or (bytes_at first runs.now.entries) []) }
+{
+    let Some(bytes) = runs.get(&first) else {
         return &[];
     };
-    let bytes = run.bytes.as_slice();
-    let count = from.saturating_sub(run.from) as usize;
+    let bytes = bytes.as_slice();
+    let count = from.saturating_sub(first.from) as usize;
     &bytes[..count.min(bytes.len())]
 }
 
-/// The bytes of the last run from a position on.
-fn tail(runs: &[Run], to: u64) -> &[u8]
-    ensures { result.now ≡ tail_of to runs.now }
+/// The bytes from a position on of the last run that begins at `first` or later, and before `end`.
+fn tail(runs: &Runs, first: RunStart, end: RunStart, to: u64) -> &[u8]
+    requires rise { Rise 0 runs.now.entries }
+    requires first { first.from ≤ 1099511627776 }
+    requires end { end.from ≤ 1099511627776 }
+    ensures { result.now ≡ tail_of to (runs_within (place_of first) (place_of end) runs.now.entries) }
 {
-    let Some(run) = runs.last() else {
-        return &[];
-    };
-    let bytes = run.bytes.as_slice();
-    let count = to.saturating_sub(run.from) as usize;
-    &bytes[count.min(bytes.len())..]
-}
-
-/// Where the bytes of a write begin once they are joined with those of the runs.
-fn start(runs: &[Run], from: u64) -> u64
-    ensures { result ≡ joined_from from runs.now }
-{
-    match runs.first() {
-        Some(run) => run.from.min(from),
-        None => from,
+    match last_before(runs, end) {
+        Some((start, bytes)) if first.cmp(&start).is_le() => {
+            let bytes = bytes.as_slice();
+            let count = to.saturating_sub(start.from) as usize;
+            &bytes[count.min(bytes.len())..]
+        }
+        _ => &[],
     }
 }
 
-/// Takes runs out, without memory.
-pub(crate) fn cut_out(runs: &mut Vec<Run>, first: usize, end: usize)
-    requires rising { first ≤ end }
-    requires within { end ≤ vec_len runs.old }
-    ensures items { runs.new.items ≡ splice runs.old.items first end [] }
-    ensures len { vec_len runs.new + (end - first) ≡ vec_len runs.old }
-    ensures room { vec_capacity runs.new ≡ vec_capacity runs.old }
+/// Takes the runs out that begin at `first` or later, and before `end`. Takes no memory.
+fn remove_runs(runs: &mut Runs, first: RunStart, end: RunStart)
+    requires rise { Rise 0 runs.old.entries }
+    requires first { first.from ≤ 1099511627776 }
+    requires end { end.from ≤ 1099511627776 }
+    requires forward { place_of first ≤ place_of end }
+    ensures { runs.new.entries ≡ runs_before (place_of first) runs.old.entries ++ runs_from (place_of end) runs.old.entries }
 {
-    let count = runs.len();
-    let later = &mut runs[first..];
-    later.rotate_left(end - first);
-    runs.truncate(count - (end - first));
+    while let Some((start, _)) = first_from(runs, first) {
+        if end.cmp(&start).is_le() {
+            break;
+        }
+        runs.remove(&start);
+    }
 }
 
-/// Puts runs in the place of others. Where memory is wanting, nothing has changed.
+/// Gives the run at a place other bytes, and gives those that it had. Takes no memory.
+fn swap_bytes(runs: &mut Runs, start: RunStart, bytes: Bytes) -> Bytes
+    requires rise { Rise 0 runs.old.entries }
+    requires file { start.from < 1099511627776 }
+    requires there { IsSome (bytes_at start runs.old.entries) }
+    ensures bytes { bytes_at start runs.old.entries ≡ Some result }
+    ensures runs { runs.new.entries ≡ with_runs ((start, bytes) ∷ []) (place_of start + 1) runs.old.entries }
+{
+    mem::replace(runs.get_mut(&start).unwrap(), bytes)
+}
+
+/// Gives the run at `start` other bytes, and takes those out that begin after it and before `end`. Takes no memory.
+fn settle(runs: &mut Runs, start: RunStart, end: RunStart, bytes: Bytes)
+    requires rise { Rise 0 runs.old.entries }
+    requires start { start.from < 1099511627776 }
+    requires end { end.from ≤ 1099511627776 }
+    requires forward { place_of start < place_of end }
+    requires there { IsSome (bytes_at start runs.old.entries) }
+    ensures { runs.new.entries ≡ with_runs ((start, bytes) ∷ []) (place_of end) runs.old.entries }
+{
+    remove_runs(runs, start.next(), end);
+    swap_bytes(runs, start, bytes);
+}
+
+/// Sees to it that a run is at a place, one with no bytes where there was none. Says whether there was none.
+fn make_place(alloc: Global, runs: &mut Runs, start: RunStart) -> Result<bool, AllocError>
+    requires rise { Rise 0 runs.old.entries }
+    requires file { start.from < 1099511627776 }
+    ensures rise { Rise 0 runs.new.entries }
+    ensures there { OnOk result (IsSome (bytes_at start runs.new.entries)) }
+    ensures before { OnOk result (runs_before (place_of start) runs.new.entries ≡ runs_before (place_of start) runs.old.entries) }
+    ensures after { OnOk result (runs_from (place_of start + 1) runs.new.entries ≡ runs_from (place_of start + 1) runs.old.entries) }
+    ensures old { IfOk result (λ is_new. runs.old.entries
+        ≡ (if is_new then without_run start runs.new.entries else runs.new.entries)) }
+    ensures err { OnErr result (runs.new.entries ≡ runs.old.entries) }
+{
+    if runs.contains_key(&start) {
+        return Ok(false);
+    }
+    match runs.insert(start, Bytes::new(alloc)) {
+        Ok(_) => Ok(true),
+        Err(_) => Err(AllocError),
+    }
+}
+
+/// Gives a place up that is new. Takes no memory.
+fn unmake_place(runs: &mut Runs, start: RunStart, is_new: bool)
+    requires rise { Rise 0 runs.old.entries }
+    requires file { start.from < 1099511627776 }
+    ensures { runs.new.entries ≡ (if is_new then without_run start runs.old.entries else runs.old.entries) }
+{
+    if is_new {
+        runs.remove(&start);
+    }
+}
+
+/// Puts runs in the place of those that begin from their first one on and before `end`. Where memory is wanting, nothing
+/// has changed.
 fn put_runs(
-    runs: &mut Vec<Run>,
-    first: usize,
-    end: usize,
-    mut fresh: Vec<Run>,
+    alloc: Global,
+    runs: &mut Runs,
+    mut fresh: Vec<(RunStart, Bytes)>,
+    end: RunStart,
 ) -> Result<(), AllocError>
-    requires rising { first ≤ end }
-    requires within { end ≤ vec_len runs.old }
-    ensures ok { OnOk result (runs.new.items ≡ splice runs.old.items first end fresh.items) }
-    ensures err { OnErr result (runs.new.items ≡ runs.old.items) }
+    requires rise { Rise 0 runs.old.entries }
+    requires fresh { Rise 0 fresh.items }
+    requires before { Before (place_of end) fresh.items }
+    requires end { end.from ≤ 1099511627776 }
+    ensures rise { Rise 0 runs.new.entries }
+    ensures ok { OnOk result (runs.new.entries ≡ with_runs fresh.items (place_of end) runs.old.entries) }
+    ensures err { OnErr result (runs.new.entries ≡ runs.old.entries) }
 {
-    runs.reserve(fresh.len())?;
-    cut_out(runs, first, end);
-    while let Some(run) = fresh.pop() {
-        runs.insert(first, run).unwrap();
+    let Some((start, bytes)) = fresh.pop() else {
+        return Ok(());
+    };
+    // Memory is asked for before anything is lost: each run's place is made before the first run is put there.
+    let is_new = make_place(alloc, runs, start)?;
+    match put_runs(alloc, runs, fresh, start) {
+        Ok(()) => {
+            settle(runs, start, end, bytes);
+            Ok(())
+        }
+        Err(refused) => {
+            unmake_place(runs, start, is_new);
+            Err(refused)
+        }
     }
-    Ok(())
 }
 
 /// The head, the bytes and the tail in a row.
@@ -110,7 +193,12 @@ fn join(alloc: Global, head: &[u8], bytes: &[u8], tail: &[u8]) -> Result<Vec<u8>
 }
 
 /// Bytes in a row as runs, cut where windows end.
-fn cut(alloc: Global, inode: u64, from: u64, bytes: Vec<u8>) -> Result<Vec<Run>, AllocError>
+fn cut(
+    alloc: Global,
+    inode: u64,
+    from: u64,
+    bytes: Vec<u8>,
+) -> Result<Vec<(RunStart, Bytes)>, AllocError>
     requires some { 0 < vec_len bytes }
     requires file { from + vec_len bytes ≤ 1099511627776 }
     ensures { IfOk result (λ runs. IsCut inode from bytes.items runs.items) }
@@ -118,15 +206,19 @@ fn cut(alloc: Global, inode: u64, from: u64, bytes: Vec<u8>) -> Result<Vec<Run>,
     let room = (WINDOW - from % WINDOW) as usize;
     if bytes.len() <= room {
         let mut runs = Vec::new(alloc);
-        let bytes = Bytes::from_vec(bytes);
-        runs.push(Run { inode, from, bytes })?;
+        runs.push((RunStart { inode, from }, Bytes::from_vec(bytes)))?;
         return Ok(runs);
     }
     cut_copies(alloc, inode, from, bytes.as_slice())
 }
 
 /// Copies of bytes in a row as runs, cut where windows end.
-fn cut_copies(alloc: Global, inode: u64, from: u64, bytes: &[u8]) -> Result<Vec<Run>, AllocError>
+fn cut_copies(
+    alloc: Global,
+    inode: u64,
+    from: u64,
+    bytes: &[u8],
+) -> Result<Vec<(RunStart, Bytes)>, AllocError>
     requires { from + length bytes.now ≤ 1099511627776 }
     ensures { IfOk result (λ runs. IsCut inode from bytes.now runs.items) }
 {
@@ -136,12 +228,9 @@ fn cut_copies(alloc: Global, inode: u64, from: u64, bytes: &[u8]) -> Result<Vec<
         let at = from + done as u64;
         let room = (WINDOW - at % WINDOW) as usize;
         let next = done + room.min(bytes.len() - done);
+        let start = RunStart { inode, from: at };
         let bytes = copied(alloc, &bytes[done..next])?;
-        runs.push(Run {
-            inode,
-            from: at,
-            bytes,
-        })?;
+        runs.push((start, bytes))?;
         done = next;
     }
     Ok(runs)
@@ -179,181 +268,146 @@ fn extend(all: &mut Vec<u8>, at: usize, bytes: &[u8], more: &[u8]) -> Result<(),
     Ok(())
 }
 
-/// Writes bytes over a run that they overlap or touch, and more behind. Where memory is wanting, nothing has changed.
-fn widen_run(
-    alloc: Global,
-    run: &mut Run,
-    from: u64,
-    bytes: &[u8],
-    more: &[u8],
-) -> Result<(), AllocError>
-    requires starts { run.old.from ≤ from }
-    requires reaches { from ≤ end_of_run run.old }
-    requires small { length bytes.now + length more.now < 2 ^ 63 }
-    ensures ok { OnOk result (run.new ≡ record run.old {
-      bytes = take (from - run.old.from) run.old.bytes
-          ++ (bytes.now ++ (drop (from - run.old.from + length bytes.now) run.old.bytes ++ more.now));
-    }) }
-    ensures err { OnErr result (run.new ≡ run.old) }
-{
-    let at = (from - run.from) as usize;
-    let mut all = mem::replace(&mut run.bytes, Bytes::new(alloc)).into_vec();
-    let extended = extend(&mut all, at, bytes, more);
-    run.bytes = Bytes::from_vec(all);
-    extended
-}
-
 /// Writes bytes over the run at `first`, which begins before them or with them, and joins it with the runs after it that
 /// they overlap or touch. Where memory is wanting, nothing has changed.
 fn widen(
     alloc: Global,
-    runs: &mut Vec<Run>,
-    first: usize,
-    end: usize,
+    runs: &mut Runs,
+    first: RunStart,
+    end: RunStart,
     from: u64,
     bytes: &[u8],
 ) -> Result<(), AllocError>
-    requires order { InOrder 0 runs.old.items }
-    requires some { first < end }
-    requires within { end ≤ vec_len runs.old }
+    requires order { InOrder 0 runs.old.entries }
+    requires some { 0 < length bytes.now }
     requires file { from + length bytes.now ≤ 1099511627776 }
-    requires starts { (d : RunSeen) → (slice_index_or runs.old.items first d).from ≤ from }
-    requires reaches { (d : RunSeen) → from ≤ end_of_run (slice_index_or runs.old.items first d) }
-    ensures ok { OnOk result ((d : RunSeen) → runs.new.items ≡ splice runs.old.items first end
-        (widened from bytes.now (slice_index_or runs.old.items first d)
-        (between (first + 1) end runs.old.items) ∷ [])) }
-    ensures err { OnErr result (runs.new.items ≡ runs.old.items) }
+    requires end { end.from ≤ 1099511627776 }
+    requires forward { place_of first < place_of end }
+    requires starts { first.from ≤ from }
+    requires reaches { IsSomeAnd (bytes_at first runs.old.entries) (λ b. from ≤ end_of_run (first, b)) }
+    ensures ok { OnOk result (IfSome (bytes_at first runs.old.entries) (λ b. runs.new.entries
+        ≡ with_runs (widened from bytes.now (first, b) (runs_within (place_of first + 1) (place_of end) runs.old.entries) ∷ [])
+        (place_of end) runs.old.entries)) }
+    ensures err { OnErr result (runs.new.entries ≡ runs.old.entries) }
 {
     let to = from + bytes.len() as u64;
-    let (front, later) = runs.split_at_mut(first + 1);
-    let more = tail(&later[..end - (first + 1)], to);
-    widen_run(alloc, &mut front[first], from, bytes, more)?;
-    cut_out(runs, first + 1, end);
-    Ok(())
+    let at = (from - first.from) as usize;
+    let mut all = swap_bytes(runs, first, Bytes::new(alloc)).into_vec();
+    let more = tail(runs, first.next(), end, to);
+    let widened = extend(&mut all, at, bytes, more);
+    let bytes = Bytes::from_vec(all);
+    if widened.is_ok() {
+        settle(runs, first, end, bytes);
+    } else {
+        swap_bytes(runs, first, bytes);
+    }
+    widened
 }
 
 /// Puts the bytes, joined with those of the runs that they overlap or touch, in the place of these runs. Where memory is
 /// wanting, nothing has changed.
 fn replace(
     alloc: Global,
-    runs: &mut Vec<Run>,
-    first: usize,
-    end: usize,
-    inode: u64,
+    runs: &mut Runs,
+    first: RunStart,
+    end: RunStart,
     from: u64,
     bytes: &[u8],
 ) -> Result<(), AllocError>
-    requires order { InOrder 0 runs.old.items }
+    requires order { InOrder 0 runs.old.entries }
     requires some { 0 < length bytes.now }
     requires file { from + length bytes.now ≤ 1099511627776 }
-    requires touched { IsTouched inode from (from + length bytes.now) runs.old.items first end }
-    ensures ok { OnOk result (Rewrites inode from bytes.now first end runs.old.items runs.new.items) }
-    ensures err { OnErr result (runs.new.items ≡ runs.old.items) }
+    requires touched { IsTouched first.inode from (from + length bytes.now) runs.old.entries first end }
+    ensures ok { OnOk result (Rewrites first.inode from bytes.now first end runs.old.entries runs.new.entries) }
+    ensures err { OnErr result (runs.new.entries ≡ runs.old.entries) }
 {
-    let touched = &runs[first..end];
     let to = from + bytes.len() as u64;
-    let all = join(alloc, head(touched, from), bytes, tail(touched, to))?;
-    let fresh = cut(alloc, inode, start(touched, from), all)?;
-    put_runs(runs, first, end, fresh)
+    let all = join(
+        alloc,
+        head(runs, first, from),
+        bytes,
+        tail(runs, first, end, to),
+    )?;
+    // No run begins between the end of those that give way and that of the joined bytes.
+    let end = RunStart {
+        inode: end.inode,
+        from: end.from.max(first.from + all.len() as u64),
+    };
+    let fresh = cut(alloc, first.inode, first.from, all)?;
+    put_runs(alloc, runs, fresh, end)
 }
 
 /// Puts the bytes, joined with those of the runs that they overlap or touch, in the place of these runs. A run that they
 /// lengthen in its window is extended, and not copied. Where memory is wanting, nothing has changed.
 fn rewrite(
     alloc: Global,
-    runs: &mut Vec<Run>,
-    first: usize,
-    end: usize,
-    inode: u64,
+    runs: &mut Runs,
+    first: RunStart,
+    end: RunStart,
     from: u64,
     bytes: &[u8],
 ) -> Result<(), AllocError>
-    requires order { InOrder 0 runs.old.items }
+    requires order { InOrder 0 runs.old.entries }
     requires some { 0 < length bytes.now }
     requires file { from + length bytes.now ≤ 1099511627776 }
-    requires touched { IsTouched inode from (from + length bytes.now) runs.old.items first end }
-    ensures ok { OnOk result (Rewrites inode from bytes.now first end runs.old.items runs.new.items) }
-    ensures err { OnErr result (runs.new.items ≡ runs.old.items) }
+    requires touched { IsTouched first.inode from (from + length bytes.now) runs.old.entries first end }
+    ensures ok { OnOk result (Rewrites first.inode from bytes.now first end runs.old.entries runs.new.entries) }
+    ensures err { OnErr result (runs.new.entries ≡ runs.old.entries) }
 {
     let in_window = from % WINDOW + bytes.len() as u64 <= WINDOW;
-    if in_window && first < end && runs[first].from <= from {
+    if in_window && runs.contains_key(&first) {
         return widen(alloc, runs, first, end, from, bytes);
     }
-    replace(alloc, runs, first, end, inode, from, bytes)
+    replace(alloc, runs, first, end, from, bytes)
 }
 
-/// How many bytes there are, of `held` before, once a write from `from` to `to` is joined with the runs that it touches.
-fn count_joined(touched: &[Run], held: u64, from: u64, to: u64) -> u64
-    requires held { length (pending_bytes touched.now) ≤ held }
-    requires rising { from ≤ to }
-    requires small { held - length (pending_bytes touched.now)
-        + (length (head_of from touched.now) + (to - from + length (tail_of to touched.now))) < 2 ^ 64 }
-    ensures { result ≡ held - length (pending_bytes touched.now)
-        + (length (head_of from touched.now) + (to - from + length (tail_of to touched.now))) }
+/// How many bytes there are, of `held` before, once a write is joined with the runs that it touches.
+fn count_written(
+    runs: &Runs,
+    first: RunStart,
+    end: RunStart,
+    held: u64,
+    from: u64,
+    bytes: &[u8],
+) -> u64
+    requires order { InOrder 0 runs.now.entries }
+    requires held { held ≡ length (pending_bytes runs.now.entries) }
+    requires small { held + length bytes.now < 2 ^ 64 }
+    requires some { 0 < length bytes.now }
+    requires file { from + length bytes.now ≤ 1099511627776 }
+    requires touched { IsTouched first.inode from (from + length bytes.now) runs.now.entries first end }
+    ensures { result ≡ length (written first.inode from bytes.now (pending_bytes runs.now.entries)) }
 {
-    let others = held - count_bytes(touched);
-    let joined = head(touched, from).len() as u64 + (to - from + tail(touched, to).len() as u64);
-    others + joined
+    let to = from + bytes.len() as u64;
+    let others = held - count_bytes(runs, first, end);
+    let head = head(runs, first, from).len() as u64;
+    let tail = tail(runs, first, end, to).len() as u64;
+    others + (head + (bytes.len() as u64 + tail))
 }
 
 /// Sets the positions of the bytes, and gives the number of bytes that there are then, of `held` before. Where memory is
 /// wanting, nothing has changed.
 pub(crate) fn write_runs(
     alloc: Global,
-    runs: &mut Vec<Run>,
+    runs: &mut Runs,
     held: u64,
     inode: u64,
     from: u64,
     bytes: &[u8],
 ) -> Result<u64, AllocError>
-    requires order { InOrder 0 runs.old.items }
-    requires held { held ≡ length (pending_bytes runs.old.items) }
+    requires order { InOrder 0 runs.old.entries }
+    requires held { held ≡ length (pending_bytes runs.old.entries) }
     requires small { held + length bytes.now < 2 ^ 64 }
     requires some { 0 < length bytes.now }
     requires file { from + length bytes.now ≤ 1099511627776 }
-    ensures order { InOrder 0 runs.new.items }
-    ensures ok { OnOk result (pending_bytes runs.new.items ≡ written inode from bytes.now (pending_bytes runs.old.items)) }
-    ensures count { IfOk result (λ n. n ≡ length (pending_bytes runs.new.items)) }
-    ensures err { OnErr result (runs.new.items ≡ runs.old.items) }
+    ensures order { InOrder 0 runs.new.entries }
+    ensures ok { OnOk result (pending_bytes runs.new.entries ≡ written inode from bytes.now (pending_bytes runs.old.entries)) }
+    ensures count { IfOk result (λ n. n ≡ length (pending_bytes runs.new.entries)) }
+    ensures err { OnErr result (runs.new.entries ≡ runs.old.entries) }
 {
     let to = from + bytes.len() as u64;
     let (first, end) = find_touched(runs, inode, from, to);
-    let count = count_joined(&runs[first..end], held, from, to);
-    rewrite(alloc, runs, first, end, inode, from, bytes)?;
+    let count = count_written(runs, first, end, held, from, bytes);
+    rewrite(alloc, runs, first, end, from, bytes)?;
     Ok(count)
-}
-
-/// Takes a run out and gives its bytes, without memory.
-pub(crate) fn take_run(runs: &mut Vec<Run>, index: usize) -> Bytes
-    requires order { InOrder 0 runs.old.items }
-    requires within { index < vec_len runs.old }
-    ensures order { InOrder 0 runs.new.items }
-    ensures bytes { (d : RunSeen) → result ≡ (slice_index_or runs.old.items index d).bytes }
-    ensures without { (d : RunSeen) → pending_bytes runs.new.items
-        ≡ without_range (slice_index_or runs.old.items index d).inode
-        (slice_index_or runs.old.items index d).from
-        (length (slice_index_or runs.old.items index d).bytes) (pending_bytes runs.old.items) }
-    ensures count { length (pending_bytes runs.new.items) + length result ≡ length (pending_bytes runs.old.items) }
-{
-    let Run {
-        inode: _,
-        from: _,
-        bytes,
-    } = runs.remove(index);
-    bytes
-}
-
-/// Takes the runs of an inode out and gives the number of their bytes, without memory.
-pub(crate) fn clear_runs(runs: &mut Vec<Run>, inode: u64) -> u64
-    requires order { InOrder 0 runs.old.items }
-    requires small { length (pending_bytes runs.old.items) < 2 ^ 64 }
-    ensures order { InOrder 0 runs.new.items }
-    ensures others { pending_bytes runs.new.items ≡ pending_of_others inode (pending_bytes runs.old.items) }
-    ensures count { length (pending_bytes runs.new.items) + result ≡ length (pending_bytes runs.old.items) }
-{
-    let first = count_before(runs, inode, 1);
-    let end = end_of_touched(runs, first, inode, FILE_END);
-    let count = count_bytes(&runs[first..end]);
-    cut_out(runs, first, end);
-    count
 }

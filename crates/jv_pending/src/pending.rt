@@ -1,11 +1,13 @@
-//! The pending bytes of a client.
+//! The pending bytes of a client. They lie in memory as runs, in a map by where these begin. A call takes time logarithmic
+//! in their number: `write` that and a time linear in its bytes and those that it joins with them, `clear` and `clear_all`
+//! that for each run that they take out.
 ghost use Rattle.std.specs.Prelude.{◌≡◌, ℕ, ◌+◌, ◌<◌, ◌≤◌, ◌↔◌, [], length, Some, OnOk, OnErr, IfSome, IsErrOf, IsOkUnless, IsTrue};
 ghost use Rattle.std.specs.Option.{option_map};
 ghost use Rattle.jv_model.specs.Pending.{window_size, written, next_segment, bytes_in_range, without_range, pending_of_others, end_of, is_rising};
 ghost use Rattle.jv_pending.specs.At.{segment_at};
 
-use crate::edit::{clear_runs, take_run, write_runs};
-use crate::run::{Run, find_end, find_first};
+use crate::edit::write_runs;
+use crate::run::{RunStart, Runs, find_end, find_first};
 use crate::segment::{PendingFault, SegmentAt};
 use jv_model::Bytes;
 use std::alloc::Global;
@@ -14,7 +16,7 @@ use std::marker::Model;
 /// The bytes that a client wrote and hasn't committed, by inode and position, and how many there may be.
 #[derive(Debug, Drop)]
 pub struct Pending {
-    runs: Vec<Run>,
+    runs: Runs,
     held: u64,
     limit: u64,
     alloc: Global,
@@ -26,9 +28,9 @@ impl Model for Pending {
 
     ghost Value = { PendingValue };
 
-    ghost view = { λ p. record { bytes = pending_bytes p.runs.items; limit = p.limit } };
+    ghost view = { λ p. record { bytes = pending_bytes p.runs.entries; limit = p.limit } };
 
-    ghost invariant = { λ p. IsSound p.runs.items p.held p.limit };
+    ghost invariant = { λ p. IsSound p.runs.entries p.held p.limit };
 }
 
 impl Pending {
@@ -38,7 +40,7 @@ impl Pending {
         ensures limit { result.limit ≡ limit }
     {
         Pending {
-            runs: Vec::new(alloc),
+            runs: Runs::new(alloc),
             held: 0,
             limit,
             alloc,
@@ -105,8 +107,7 @@ impl Pending {
         ensures inside { IfSome result (λ at. at.pos + at.len ≤ window_size) }
         ensures file { IfSome result (λ at. at.window < 16384) }
     {
-        let index = find_first(&self.runs, inode)?;
-        Some(self.runs[index].segment())
+        find_first(&self.runs, inode)
     }
 
     /// The bytes of a segment that `first` gives for its inode.
@@ -116,8 +117,7 @@ impl Pending {
         ensures len { length result.now ≡ at.len }
         ensures rising { IsTrue (is_rising self.now.bytes) }
     {
-        let index = find_first(&self.runs, Some(at.inode)).unwrap();
-        self.runs[index].bytes.as_slice()
+        self.runs.get(&RunStart::of(at)).unwrap().as_slice()
     }
 
     /// Takes the bytes of a segment out that `first` gives for its inode.
@@ -128,8 +128,7 @@ impl Pending {
           bytes = without_range at.inode (segment_at at).from at.len self.old.bytes;
         } }
     {
-        let index = find_first(&self.runs, Some(at.inode)).unwrap();
-        let bytes = take_run(&mut self.runs, index);
+        let bytes = self.runs.remove(&RunStart::of(at)).unwrap();
         self.held -= bytes.len() as u64;
         bytes
     }
@@ -148,7 +147,9 @@ impl Pending {
     pub fn clear(&mut self, inode: u64)
         ensures { self.new ≡ record self.old { bytes = pending_of_others inode self.old.bytes } }
     {
-        self.held -= clear_runs(&mut self.runs, inode);
+        while let Some(at) = self.first(Some(inode)) {
+            self.remove(at);
+        }
     }
 
     /// Takes all bytes out.

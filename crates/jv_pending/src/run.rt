@@ -1,39 +1,65 @@
 //! Runs of pending bytes, and where to find them.
-ghost use Rattle.std.specs.Prelude.{◌≡◌, ℕ, ◌+◌, ◌<◌, ◌≤◌, ◌^◌, ◌↔◌, length, take, drop, IsTrue, slice_get, slice_index_or, Some, None, IfSome, MatchOption};
-ghost use Rattle.std.specs.List.{AllWithin};
+ghost use Rattle.std.specs.Prelude.{◌≡◌, ℕ, ◌+◌, ◌*◌, ◌<◌, ◌≤◌, ◌^◌, ◌↔◌, length, Option, Some, None, IfSome, IsTrue};
+ghost use Rattle.std.specs.Option.{option_map};
 ghost use Rattle.jv_model.specs.Pending.{window_size, next_segment, end_of};
-ghost use Rattle.jv_pending.specs.declared.run.Run.{Run as RunSeen};
 ghost use Rattle.jv_pending.specs.At.{segment_at};
-ghost use Rattle.jv_pending.specs.Runs.{place, end_of_run, end_place, segment_of_run, IsRun, InOrder, pending_bytes};
+ghost use Rattle.jv_pending.specs.Runs.{place_of, end_of_run, segment_of_run, IsRun, InOrder, Rise, pending_bytes, runs_before, runs_from, runs_within, first_of, last_of};
 
 use crate::segment::SegmentAt;
 use jv_model::{Bytes, WINDOW};
+use std::collections::BTreeMap;
 
 /// The positions of a file are below this.
 pub(crate) const FILE_END: u64 = 1_099_511_627_776;
 
-/// Bytes at positions in a row, inside one window.
-#[derive(Debug, Drop)]
-pub(crate) struct Run {
+/// Where a run begins. Runs go by inode, then by position.
+#[derive(Clone, Copy, Debug, Drop, PartialEq, Eq, PartialOrd, Ord)]
+pub(crate) struct RunStart {
     pub(crate) inode: u64,
     /// The position of the first byte.
     pub(crate) from: u64,
-    pub(crate) bytes: Bytes,
 }
 
-impl Run {
-    /// The position after the last byte.
-    pub(crate) fn end(&self) -> u64
-        requires { end_of_run self.now < 2 ^ 64 }
-        ensures { result ≡ end_of_run self.now }
+/// Bytes at positions in a row, inside one window, by where they begin.
+pub(crate) type Runs = BTreeMap<RunStart, Bytes>;
+
+impl RunStart {
+    /// Where a segment begins.
+    pub(crate) fn of(at: SegmentAt) -> RunStart
+        ensures inode { result.inode ≡ at.inode }
+        ensures from { result.from ≡ (segment_at at).from }
     {
-        self.from + self.bytes.len() as u64
+        RunStart {
+            inode: at.inode,
+            from: u64::from(at.window) * WINDOW + u64::from(at.pos),
+        }
     }
 
-    /// The run as a segment.
-    pub(crate) fn segment(&self) -> SegmentAt
-        requires { IsRun self.now }
-        ensures same { segment_at result ≡ segment_of_run self.now }
+    /// The next place.
+    pub(crate) fn next(self) -> RunStart
+        requires { self.from < 1099511627776 }
+        ensures inode { result.inode ≡ self.inode }
+        ensures from { result.from ≡ self.from + 1 }
+        ensures place { place_of result ≡ place_of self + 1 }
+    {
+        RunStart {
+            inode: self.inode,
+            from: self.from + 1,
+        }
+    }
+
+    /// The position after the last byte of a run that begins here.
+    pub(crate) fn end(self, bytes: &Bytes) -> u64
+        requires { end_of_run (self, bytes.now) < 2 ^ 64 }
+        ensures { result ≡ end_of_run (self, bytes.now) }
+    {
+        self.from + bytes.len() as u64
+    }
+
+    /// A run that begins here as a segment.
+    pub(crate) fn segment(self, bytes: &Bytes) -> SegmentAt
+        requires { IsRun (self, bytes.now) }
+        ensures same { segment_at result ≡ segment_of_run (self, bytes.now) }
         ensures inside { result.pos + result.len ≤ window_size }
         ensures file { result.window < 16384 }
     {
@@ -41,88 +67,66 @@ impl Run {
             inode: self.inode,
             window: (self.from / WINDOW) as u32,
             pos: (self.from % WINDOW) as u32,
-            len: self.bytes.len() as u32,
+            len: bytes.len() as u32,
         }
     }
-
-    /// Whether the run ends before a place. Positions past the last one stand for all of the inode.
-    fn ends_before(&self, inode: u64, position: u64) -> bool
-        requires run { IsRun self.now }
-        requires low { 1 ≤ position }
-        requires high { position ≤ 1099511627777 }
-        ensures { IsTrue result ↔ (end_place self.now < place inode position) }
-    {
-        self.inode < inode || (self.inode == inode && self.end() < position)
-    }
 }
 
-/// How many runs end before a place.
-pub(crate) fn count_before(runs: &[Run], inode: u64, position: u64) -> usize
-    requires order { InOrder 0 runs.now }
-    requires low { 1 ≤ position }
-    requires high { position ≤ 1099511627777 }
-    ensures within { result ≤ length runs.now }
-    ensures before { AllWithin (λ r. end_place r < place inode position) runs.now 0 result }
-    ensures after { AllWithin (λ r. place inode position ≤ end_place r) runs.now result (length runs.now) }
+/// The first run that begins at a place or after it.
+pub(crate) fn first_from(runs: &Runs, start: RunStart) -> Option<(RunStart, &Bytes)>
+    requires rise { Rise 0 runs.now.entries }
+    requires file { start.from ≤ 1099511627776 }
+    ensures { option_map (λ r. (r.0, r.1.now)) result ≡ first_of (runs_from (place_of start) runs.now.entries) }
 {
-    let mut low = 0;
-    let mut high = runs.len();
-    while low < high {
-        let middle = low + (high - low) / 2;
-        if runs[middle].ends_before(inode, position) {
-            low = middle + 1;
-        } else {
-            high = middle;
-        }
-    }
-    low
+    let (start, bytes) = runs.range(start..).next()?;
+    Some((*start, bytes))
 }
 
-/// The index after the runs of the inode that begin before a position, from an index on.
-pub(crate) fn end_of_touched(runs: &[Run], first: usize, inode: u64, position: u64) -> usize
-    requires { first ≤ length runs.now }
-    ensures low { first ≤ result }
-    ensures within { result ≤ length runs.now }
-    ensures touched { AllWithin (λ r. (r.inode ≡ inode) × (r.from < position)) runs.now first result }
-    ensures stops { IfSome (slice_get runs.now result) (λ r. r.inode ≡ inode → position ≤ r.from) }
+/// The last run that begins before a place.
+pub(crate) fn last_before(runs: &Runs, end: RunStart) -> Option<(RunStart, &Bytes)>
+    requires rise { Rise 0 runs.now.entries }
+    requires file { end.from ≤ 1099511627776 }
+    ensures { option_map (λ r. (r.0, r.1.now)) result ≡ last_of (runs_before (place_of end) runs.now.entries) }
 {
-    let mut end = first;
-    while end < runs.len() && runs[end].inode == inode && runs[end].from < position {
-        end += 1;
-    }
-    end
+    let (start, bytes) = runs.range(..end).next_back()?;
+    Some((*start, bytes))
 }
 
-/// The number of bytes of runs.
-pub(crate) fn count_bytes(runs: &[Run]) -> u64
-    requires { length (pending_bytes runs.now) < 2 ^ 64 }
-    ensures { result ≡ length (pending_bytes runs.now) }
+/// The number of bytes of the runs that begin at `first` or later, and before `end`.
+pub(crate) fn count_bytes(runs: &Runs, first: RunStart, end: RunStart) -> u64
+    requires rise { Rise 0 runs.now.entries }
+    requires first { first.from ≤ 1099511627776 }
+    requires end { end.from ≤ 1099511627776 }
+    requires forward { place_of first < place_of end }
+    requires small { length (pending_bytes runs.now.entries) < 2 ^ 64 }
+    ensures { result ≡ length (pending_bytes (runs_within (place_of first) (place_of end) runs.now.entries)) }
 {
     let mut count = 0;
-    for run in runs {
-        count += run.bytes.len() as u64;
+    for (_, bytes) in runs.range(first..end) {
+        count += bytes.len() as u64;
     }
     count
 }
 
-/// The index of the first run, of the first one of an inode where one is given.
-pub(crate) fn find_first(runs: &[Run], inode: Option<u64>) -> Option<usize>
-    requires { InOrder 0 runs.now }
-    ensures within { IfSome result (λ k. k < length runs.now) }
-    ensures least { MatchOption result
-        (next_segment inode (pending_bytes runs.now) ≡ None)
-        (λ k. (d : RunSeen) → next_segment inode (pending_bytes runs.now)
-        ≡ Some (segment_of_run (slice_index_or runs.now k d))) }
-    ensures own { IfSome result (λ k. (d : RunSeen) →
-        next_segment (Some (slice_index_or runs.now k d).inode) (pending_bytes runs.now)
-        ≡ Some (segment_of_run (slice_index_or runs.now k d))) }
+/// The first run as a segment, of an inode where one is given.
+pub(crate) fn find_first(runs: &Runs, inode: Option<u64>) -> Option<SegmentAt>
+    requires { InOrder 0 runs.now.entries }
+    ensures least { option_map segment_at result ≡ next_segment inode (pending_bytes runs.now.entries) }
+    ensures own { IfSome result (λ at.
+        next_segment (Some at.inode) (pending_bytes runs.now.entries) ≡ Some (segment_at at)) }
+    ensures some { IfSome result (λ at. 0 < at.len) }
+    ensures inside { IfSome result (λ at. at.pos + at.len ≤ window_size) }
+    ensures file { IfSome result (λ at. at.window < 16384) }
 {
     match inode {
-        None => { if runs.is_empty() { None } else { Some(0) } }
+        None => {
+            let (start, bytes) = first_from(runs, RunStart { inode: 0, from: 0 })?;
+            Some(start.segment(bytes))
+        }
         Some(inode) => {
-            let index = count_before(runs, inode, 1);
-            if index < runs.len() && runs[index].inode == inode {
-                Some(index)
+            let (start, bytes) = first_from(runs, RunStart { inode, from: 0 })?;
+            if start.inode == inode {
+                Some(start.segment(bytes))
             } else {
                 None
             }
@@ -131,14 +135,20 @@ pub(crate) fn find_first(runs: &[Run], inode: Option<u64>) -> Option<usize>
 }
 
 /// The position after the last byte of an inode, 0 where it has none.
-pub(crate) fn find_end(runs: &[Run], inode: u64) -> u64
-    requires { InOrder 0 runs.now }
-    ensures same { result ≡ end_of inode (pending_bytes runs.now) }
+pub(crate) fn find_end(runs: &Runs, inode: u64) -> u64
+    requires { InOrder 0 runs.now.entries }
+    ensures same { result ≡ end_of inode (pending_bytes runs.now.entries) }
     ensures file { result ≤ 1099511627776 }
 {
-    let count = count_before(runs, inode, FILE_END + 1);
-    if count > 0 && runs[count - 1].inode == inode {
-        runs[count - 1].end()
+    let end = RunStart {
+        inode,
+        from: FILE_END,
+    };
+    let Some((start, bytes)) = last_before(runs, end) else {
+        return 0;
+    };
+    if start.inode == inode {
+        start.end(bytes)
     } else {
         0
     }

@@ -14,6 +14,7 @@ use std::alloc::Global;
 use std::process::ExitCode;
 use std::rt::Env;
 use std::{env, io};
+use writes::Order;
 
 /// The exit status where the words ask for no measure.
 const WORDS_REFUSED: u8 = 2;
@@ -54,7 +55,8 @@ fn measured(alloc: Global, name: &str, size: u32) -> Result<Option<u64>, Down> {
         "rows-scanned" => rows::scanned(alloc, size)?,
         "records" => plans::listed(alloc, size)?,
         "plan" => plans::planned(alloc, size)?,
-        "pending" => writes::sequential(alloc, size)?,
+        "pending" => writes::pending(alloc, Order::Sequential, size)?,
+        "pending-scattered" => writes::pending(alloc, Order::Scattered, size)?,
         "cache-finds" => finds::found(alloc, size)?,
         "lines" => script::lines_read(alloc, size)?,
         "data-spelled" => script::data_spelled(alloc, size)?,

@@ -1,5 +1,5 @@
-//! Bytes that a client writes one after another.
-ghost use Rattle.std.specs.Prelude.{◌≡◌, length};
+//! Bytes that a client writes, one write after another.
+ghost use Rattle.std.specs.Prelude.{◌≡◌, ◌<◌, ◌^◌, length};
 
 use jv_model::{Bytes, Down, copied};
 use jv_pending::{Pending, PendingFault};
@@ -11,20 +11,49 @@ const INODE: u64 = 2;
 /// The bytes of each write.
 const BYTES: [u8; 16] = *b"sixteen bytes ..";
 
-fn written(alloc: Global, bytes: &Bytes, count: u32) -> Result<Pending, PendingFault>
+/// How far scattered writes lie apart, and how many places there are for them.
+const APART: u64 = 4096;
+
+const PLACES: u32 = 1 << 20;
+
+/// An odd number, so that its multiples go over all places, and jump about.
+const STRIDE: u32 = 0x9E37_79B1;
+
+/// Where the writes lie.
+#[derive(Clone, Copy)]
+pub enum Order {
+    /// Each after the last.
+    Sequential,
+    /// Each far from the last.
+    Scattered,
+}
+
+impl Order {
+    /// Where the write of a number begins.
+    fn place(self, number: u32) -> u64
+        ensures { result < 2 ^ 39 }
+    {
+        match self {
+            Order::Sequential => u64::from(number) * 16,
+            Order::Scattered => u64::from(number.wrapping_mul(STRIDE) % PLACES) * APART,
+        }
+    }
+}
+
+fn written(alloc: Global, bytes: &Bytes, order: Order, count: u32) -> Result<Pending, PendingFault>
     requires { length bytes.now ≡ 16 }
 {
     let mut pending = Pending::new(alloc, u64::MAX);
     for number in 0..count {
-        pending.write(INODE, u64::from(number) * 16, bytes)?;
+        pending.write(INODE, order.place(number), bytes)?;
     }
     Ok(pending)
 }
 
-/// Writes 16 bytes so many times, each after the last. Gives the number of bytes that are pending.
-pub fn sequential(alloc: Global, count: u32) -> Result<u64, Down> {
+/// Writes 16 bytes so many times. Gives the number of bytes that are pending.
+pub fn pending(alloc: Global, order: Order, count: u32) -> Result<u64, Down> {
     let bytes = copied(alloc, &BYTES)?;
-    match written(alloc, &bytes, count) {
+    match written(alloc, &bytes, order, count) {
         Ok(pending) => Ok(pending.bytes()),
         Err(_) => Err(Down::Memory),
     }

@@ -1,27 +1,55 @@
-use Rattle.std.proofs.Common.{◌≡◌, ℕ, ◌+◌, ◌-◌, ◌++◌, ◌∙◌, List, length, take, drop, ap, refl, arith}
-use Rattle.std.specs.List.{between}
-use Rattle.jv_pending.specs.declared.run.Run.{Run}
-use Rattle.jv_pending.specs.Runs.{joined_from, joined, head_of, tail_of, end_after, gap}
-use Rattle.jv_pending.proofs.Joins.{BeginBy-weaker, gap_le}
-use Rattle.jv_pending.proofs.Lookups.{InOrder-between}
-use Rattle.jv_pending.proofs.Cuts.{joined_in_file}
+use Rattle.std.proofs.Common.{◌∙◌, length, ap, arith}
+use Rattle.jv_pending.specs.Runs.{place, with_runs}
+use Rattle.jv_pending.proofs.Parts.{Rise-order}
+use Rattle.jv_pending.proofs.Outcomes.{on_ok}
+use Rattle.jv_pending.proofs.Cuts.{cut_rises, cut_early}
+use Rattle.jv_pending.proofs.Windows.{joined_is, joined_fits, end_in_file, cut_rewrites}
 use Rattle.jv_pending.proofs.edit.replace.Goals as goal
+
+pub tail-requires-clause-rise : goal.tail-requires-clause-rise
+tail-requires-clause-rise c = Rise-order 0 c.args.runs.now.entries c.requires.order
+
+pub tail-requires-clause-end : goal.tail-requires-clause-end
+tail-requires-clause-end c = end_in_file c.args.first.inode c.args.from c.args.bytes.now c.args.first c.args.end c.args.runs.now.entries c.requires.order c.requires.some c.requires.file c.requires.touched
 
 pub cut-requires-clause-file : goal.cut-requires-clause-file
 cut-requires-clause-file c =
-    let old = c.args.runs.now.items in
-    let first = c.args.first in
-    let end = c.args.end in
-    let from = c.args.from in
-    let bytes = c.args.bytes.now in
-    let to : ℕ = from + length bytes in
-    let mid : List Run = between first end old in
-    let touched = c.requires.touched in
-    let part : take (end - first) (drop first c.deref.result.now) ≡ mid = ap (λ (t : List Run). take (end - first) (drop first t)) c.deref.ensures.value in
-    let start : c.start.result ≡ joined_from from mid = c.start.ensures ∙ ap (joined_from from) part in
-    let all : c.in_ok-all.all.items ≡ joined from bytes mid =
-    c.in_ok-all.ensures
-    ∙ ap (λ (t : List ℕ). t ++ (bytes ++ c.tail.result.now)) (c.head.ensures ∙ ap (head_of from) part)
-    ∙ ap (λ (t : List ℕ). head_of from mid ++ (bytes ++ t)) (c.tail.ensures ∙ ap (tail_of (from + length bytes)) part) in
-    let n = ap length all in
-    omega (arith, joined_in_file c.args.inode from (from + length bytes) (end_after 0 (take first old)) bytes mid refl c.requires.file (InOrder-between 0 first end old c.requires.order) (BeginBy-weaker c.args.inode (to + gap to - 1) to mid (omega (arith, (gap_le to).0)) touched.of_inode) touched.reached)
+    let e = joined_is c.args.first.inode c.args.from c.args.bytes.now c.args.first c.args.end c.args.runs.now.entries c.requires.order c.requires.some c.requires.file c.requires.touched c.head.result.now c.tail.result.now c.in_ok-all.all.items c.head.ensures c.tail.ensures c.in_ok-all.ensures in
+    let n = ap length e in
+    let b = c.requires.touched.begins in
+    omega (arith, joined_fits c.args.first.inode c.args.from c.args.bytes.now c.args.first c.args.end c.args.runs.now.entries c.requires.order c.requires.some c.requires.file c.requires.touched)
+
+pub put_runs-requires-clause-rise : goal.put_runs-requires-clause-rise
+put_runs-requires-clause-rise c = Rise-order 0 c.args.runs.now.entries c.requires.order
+
+pub put_runs-requires-clause-fresh : goal.put_runs-requires-clause-fresh
+put_runs-requires-clause-fresh c = cut_rises c.args.first.inode c.args.first.from c.in_ok-all.all.items c.in_ok-fresh.fresh.items c.in_ok-fresh.ensures
+
+pub put_runs-requires-clause-before : goal.put_runs-requires-clause-before
+put_runs-requires-clause-before c =
+    let i = c.requires.touched.end_inode in
+    let m = c.max.ensures in
+    let l = c.len.ensures in
+    cut_early (place c.args.end.inode c.max.result) c.args.first.inode c.args.first.from c.in_ok-all.all.items c.in_ok-fresh.fresh.items c.in_ok-fresh.ensures (omega arith)
+
+pub put_runs-requires-clause-end : goal.put_runs-requires-clause-end
+put_runs-requires-clause-end c =
+    let e = joined_is c.args.first.inode c.args.from c.args.bytes.now c.args.first c.args.end c.args.runs.now.entries c.requires.order c.requires.some c.requires.file c.requires.touched c.head.result.now c.tail.result.now c.in_ok-all.all.items c.head.ensures c.tail.ensures c.in_ok-all.ensures in
+    let n = ap length e in
+    let b = c.requires.touched.begins in
+    let f = joined_fits c.args.first.inode c.args.from c.args.bytes.now c.args.first c.args.end c.args.runs.now.entries c.requires.order c.requires.some c.requires.file c.requires.touched in
+    let g = end_in_file c.args.first.inode c.args.from c.args.bytes.now c.args.first c.args.end c.args.runs.now.entries c.requires.order c.requires.some c.requires.file c.requires.touched in
+    let m = c.max.ensures in
+    let l = c.len.ensures in
+    omega arith
+
+pub returns-clause-ok : goal.returns-clause-ok
+returns-clause-ok c =
+    let e = joined_is c.args.first.inode c.args.from c.args.bytes.now c.args.first c.args.end c.args.runs.now.entries c.requires.order c.requires.some c.requires.file c.requires.touched c.head.result.now c.tail.result.now c.in_ok-all.all.items c.head.ensures c.tail.ensures c.in_ok-all.ensures in
+    let m = c.max.ensures in
+    let l = c.len.ensures in
+    let i = c.requires.touched.end_inode in
+    on_ok c.put_runs.result _ _
+    (λ h. cut_rewrites c.args.first.inode c.args.from c.args.bytes.now c.args.first c.args.end c.args.runs.now.entries c.requires.order c.requires.some c.requires.file c.requires.touched
+    c.put_runs.new.runs.entries c.in_ok-fresh.fresh.items c.in_ok-all.all.items c.max.result e c.in_ok-fresh.ensures (omega arith) (h ∙ ap (λ k. with_runs c.in_ok-fresh.fresh.items (place k c.max.result) c.args.runs.now.entries) i))
+    c.put_runs.ensures.ok

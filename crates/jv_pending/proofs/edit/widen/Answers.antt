@@ -1,42 +1,103 @@
-use Rattle.std.proofs.Common.{◌≡◌, ◌+◌, ◌-◌, ◌≤◌, ap, arith, drop, take, length, get_or, List, [], ◌∷◌, ◌++◌, ℕ, ◌∙◌}
-use Rattle.std.proofs.lemmas.List.{get_or-take, get_or_default}
-use Rattle.std.specs.List.{splice, between}
-use Rattle.jv_pending.specs.Runs.{widened, tail_of}
-use Rattle.jv_pending.specs.declared.run.Run.{Run}
-use Rattle.jv_pending.proofs.Lookups.{tail_small}
-use Rattle.jv_pending.proofs.Cuts.{widen_splice}
+use Rattle.std.proofs.Common.{◌≡◌, ◌+◌, ◌-◌, ◌<◌, ◌∙◌, ◌++◌, ℕ, List, [], ◌∷◌, take, drop, length, Option, is_some, IfSome, ap, sym, subst, arith}
+use Rattle.jv_pending.specs.declared.run.RunStart.{RunStart}
+use Rattle.jv_pending.specs.Runs.{Run, place_of, bytes_at, Rise, runs_within, with_runs, tail_of, widened}
+use Rattle.jv_pending.proofs.Parts.{Rise-order}
+use Rattle.jv_pending.proofs.Outcomes.{on_ok, on_err}
+use Rattle.jv_pending.proofs.Touched.{tail_small}
+use Rattle.jv_pending.proofs.Entries.{put_there, put_back, swap_rises, swap_behind, swap_over}
 use Rattle.jv_pending.proofs.edit.widen.Goals as goal
 
-pub widen_run-requires-clause-small : goal.widen_run-requires-clause-small
-widen_run-requires-clause-small c =
-    let e : c.tail-more.result.now ≡ tail_of (c.args.from + length c.args.bytes.now) (between (c.args.first + 1) c.args.end c.args.runs.now.items) =
-    c.tail-more.ensures ∙ ap (λ (t : List Run). tail_of (c.args.from + length c.args.bytes.now) (take (c.args.end - (c.args.first + 1)) t)) (c.split_at_mut-front.ensures.back ∙ ap (drop (c.args.first + 1)) c.deref_mut.ensures.value) in
-    let n = ap length e in
-    let file = c.requires.file in
-    omega (arith, tail_small (c.args.from + length c.args.bytes.now) 0 (c.args.first + 1) c.args.end c.args.runs.now.items c.requires.order)
+pub swap_bytes-requires-clause-rise : goal.swap_bytes-requires-clause-rise
+swap_bytes-requires-clause-rise c = Rise-order 0 c.args.runs.now.entries c.requires.order
 
-with_more : ℕ → List ℕ → List ℕ → Run → Run
-with_more from bytes more r = record r { bytes = take (from - r.from) r.bytes ++ (bytes ++ (drop (from - r.from + length bytes) r.bytes ++ more)) }
+pub swap_bytes-requires-clause-file : goal.swap_bytes-requires-clause-file
+swap_bytes-requires-clause-file c = let a = c.requires.starts in let b = c.requires.some in let f = c.requires.file in omega arith
 
-pub returns-clause-ok : goal.returns-clause-ok
-unfolding with_more
-returns-clause-ok c = λ d.
-    let old = c.args.runs.now.items in
+pub next-requires : goal.next-requires
+next-requires c = let a = c.requires.starts in let b = c.requires.some in let f = c.requires.file in omega arith
+
+pub tail-more-requires-clause-rise : goal.tail-more-requires-clause-rise
+tail-more-requires-clause-rise c =
+    let a = c.requires.starts in let b = c.requires.some in let f = c.requires.file in
+    let rs = c.args.runs.now.entries in
+    subst (Rise 0) (sym c.swap_bytes.ensures.runs) (swap_rises c.args.first (omega arith) rs (Rise-order 0 rs c.requires.order) c.new.result)
+
+pub tail-more-requires-clause-first : goal.tail-more-requires-clause-first
+tail-more-requires-clause-first c = let a = c.requires.starts in let b = c.requires.some in let f = c.requires.file in let n = c.next.ensures.from in omega arith
+
+-- what is joined behind
+more_is : (to high n : ℕ) (rs : List Run) (start : RunStart) (new : List Run) (bytes more : List ℕ) → start.from < 1099511627776 → Rise 0 rs → n ≡ place_of start + 1
+    → new ≡ with_runs ((start, bytes) ∷ []) (place_of start + 1) rs → more ≡ tail_of to (runs_within n high new) → more ≡ tail_of to (runs_within (place_of start + 1) high rs)
+more_is to high n rs start new bytes more f r e h m =
+    m ∙ ap (λ (t : List Run). tail_of to (runs_within n high t)) h
+    ∙ ap (tail_of to) (swap_behind start f rs r bytes n high e)
+    ∙ ap (λ k. tail_of to (runs_within k high rs)) e
+
+pub extend-widened-requires-clause-small : goal.extend-widened-requires-clause-small
+extend-widened-requires-clause-small c =
+    let a = c.requires.starts in let b = c.requires.some in let f = c.requires.file in
+    let rs = c.args.runs.now.entries in
+    let to : ℕ = c.args.from + length c.args.bytes.now in
+    let e = ap length (more_is to (place_of c.args.end) (place_of c.next.result) rs c.args.first c.swap_bytes.new.runs.entries c.new.result c.tail-more.result.now (omega arith) (Rise-order 0 rs c.requires.order) c.next.ensures.place c.swap_bytes.ensures.runs c.tail-more.ensures) in
+    omega (arith, tail_small to (place_of c.args.first + 1) (place_of c.args.end) rs c.requires.order)
+
+pub settle-requires-clause-rise : goal.settle-requires-clause-rise
+settle-requires-clause-rise c =
+    let a = c.requires.starts in let b = c.requires.some in let f = c.requires.file in
+    let rs = c.args.runs.now.entries in
+    subst (Rise 0) (sym c.swap_bytes.ensures.runs) (swap_rises c.args.first (omega arith) rs (Rise-order 0 rs c.requires.order) c.new.result)
+
+pub settle-requires-clause-there : goal.settle-requires-clause-there
+settle-requires-clause-there c =
+    let a = c.requires.starts in let b = c.requires.some in let f = c.requires.file in
+    let rs = c.args.runs.now.entries in
+    ap is_some (ap (bytes_at c.args.first) c.swap_bytes.ensures.runs ∙ put_there c.args.first (omega arith) rs (Rise-order 0 rs c.requires.order) c.new.result (place_of c.args.first + 1) (omega arith))
+
+pub swap_bytes-requires-else-is_ok-clause-rise : goal.swap_bytes-requires-else-is_ok-clause-rise
+swap_bytes-requires-else-is_ok-clause-rise c =
+    let a = c.requires.starts in let b = c.requires.some in let f = c.requires.file in
+    let rs = c.args.runs.now.entries in
+    subst (Rise 0) (sym c.swap_bytes.ensures.runs) (swap_rises c.args.first (omega arith) rs (Rise-order 0 rs c.requires.order) c.new.result)
+
+pub swap_bytes-requires-else-is_ok-clause-there : goal.swap_bytes-requires-else-is_ok-clause-there
+swap_bytes-requires-else-is_ok-clause-there c =
+    let a = c.requires.starts in let b = c.requires.some in let f = c.requires.file in
+    let rs = c.args.runs.now.entries in
+    ap is_some (ap (bytes_at c.args.first) c.swap_bytes.ensures.runs ∙ put_there c.args.first (omega arith) rs (Rise-order 0 rs c.requires.order) c.new.result (place_of c.args.first + 1) (omega arith))
+
+pub returns-then-is_ok-clause-ok : goal.returns-then-is_ok-clause-ok
+returns-then-is_ok-clause-ok c =
+    let a = c.requires.starts in let b = c.requires.some in let f = c.requires.file in
+    let rs = c.args.runs.now.entries in
     let first = c.args.first in
-    let end = c.args.end in
     let from = c.args.from in
     let bytes = c.args.bytes.now in
-    let parts = c.split_at_mut-front.ensures in
-    let front : c.split_at_mut-front.result.0.now ≡ take (first + 1) old = parts.front ∙ ap (take (first + 1)) c.deref_mut.ensures.value in
-    let back : c.split_at_mut-front.result.1.now ≡ drop (first + 1) old = parts.back ∙ ap (drop (first + 1)) c.deref_mut.ensures.value in
-    let more : c.tail-more.result.now ≡ tail_of (from + length bytes) (between (first + 1) end old) =
-    c.tail-more.ensures ∙ ap (λ (t : List Run). tail_of (from + length bytes) (take (end - (first + 1)) t)) back in
-    let r = c.index-front-first.result in
-    let len : c.args.runs.now.len ≡ length old = omega arith in
-    let within : end ≤ length old = let w = c.requires.within in omega arith in
-    let some = c.requires.some in
-    let at : get_or c.split_at_mut-front.result.0.now first r ≡ get_or old first d =
-    ap (λ (t : List Run). get_or t first r) front ∙ get_or-take (first + 1) old first r (omega arith) ∙ get_or_default old first r d (omega arith) in
-    let new : c.widen_run.new.run ≡ widened from bytes (get_or old first d) (between (first + 1) end old) =
-    c.in_ok-widen_run.ensures.ok ∙ ap (with_more from bytes c.tail-more.result.now) at ∙ ap (λ (t : List ℕ). with_more from bytes t (get_or old first d)) more in
-    c.cut_out.ensures.items ∙ widen_splice old c.args.runs.now.len first end _ _ c.widen_run.new.run len some within front back ∙ ap (λ (x : Run). splice old first end (x ∷ [])) new
+    let high : ℕ = place_of c.args.end in
+    let to : ℕ = from + length bytes in
+    let v = c.swap_bytes.result in
+    let low = Rise-order 0 rs c.requires.order in
+    let more = more_is to high (place_of c.next.result) rs first c.swap_bytes.new.runs.entries c.new.result c.tail-more.result.now (omega arith) low c.next.ensures.place c.swap_bytes.ensures.runs c.tail-more.ensures in
+    on_ok c.extend-widened.result _ _
+    (λ h. subst (λ (o : Option (List ℕ)). IfSome o (λ b'. c.settle.new.runs.entries ≡ with_runs (widened from bytes (first, b') (runs_within (place_of first + 1) high rs) ∷ []) high rs)) (sym c.swap_bytes.ensures.bytes)
+    (c.settle.ensures
+    ∙ ap (with_runs ((first, c.from_vec-bytes.result) ∷ []) high) c.swap_bytes.ensures.runs
+    ∙ swap_over first (omega arith) rs low c.new.result c.from_vec-bytes.result high c.requires.forward
+    ∙ ap (λ (x : List ℕ). with_runs ((first, x) ∷ []) high rs)
+    (c.from_vec-bytes.ensures ∙ h
+    ∙ ap (λ (x : List ℕ). take (from - first.from) x ++ (bytes ++ (drop (from - first.from + length bytes) x ++ c.tail-more.result.now))) c.into_vec-all.ensures
+    ∙ ap (λ (x : List ℕ). take (from - first.from) v ++ (bytes ++ (drop (from - first.from + length bytes) v ++ x))) more)))
+    c.extend-widened.ensures.ok
+
+pub returns-else-is_ok-clause-err : goal.returns-else-is_ok-clause-err
+returns-else-is_ok-clause-err c =
+    let a = c.requires.starts in let b = c.requires.some in let f = c.requires.file in
+    let rs = c.args.runs.now.entries in
+    let first = c.args.first in
+    let low = Rise-order 0 rs c.requires.order in
+    on_err c.extend-widened.result _ _
+    (λ h. c.swap_bytes-else-is_ok.ensures.runs
+    ∙ ap (with_runs ((first, c.from_vec-bytes.result) ∷ []) (place_of first + 1)) c.swap_bytes.ensures.runs
+    ∙ swap_over first (omega arith) rs low c.new.result c.from_vec-bytes.result (place_of first + 1) (omega arith)
+    ∙ ap (λ (x : List ℕ). with_runs ((first, x) ∷ []) (place_of first + 1) rs) (c.from_vec-bytes.ensures ∙ h ∙ c.into_vec-all.ensures)
+    ∙ put_back first (omega arith) rs low c.swap_bytes.result c.swap_bytes.ensures.bytes)
+    c.extend-widened.ensures.err

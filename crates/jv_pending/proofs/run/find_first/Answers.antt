@@ -1,54 +1,76 @@
-use Rattle.std.proofs.Common.{◌≡◌, ◌<◌, ◌∙◌, ℕ, Option, Some, None, List, length, get_or, ap, sym, subst, refl, arith}
-use Rattle.std.proofs.lemmas.Bool.{eqb-false}
-use Rattle.std.proofs.lemmas.List.{get_or_default}
-use Rattle.jv_model.specs.Pending.{next_segment, first_segment, pending_of}
-use Rattle.jv_pending.specs.declared.run.Run.{Run}
-use Rattle.jv_pending.specs.Runs.{pending_bytes, segment_of_run}
-use Rattle.jv_pending.proofs.Segments.{least_run, first_run, none_found, of_none}
+use Rattle.std.proofs.Common.{◌∙◌, Option, Some, ℕ, ap, sym, arith}
+use Rattle.std.specs.Option.{option_map}
+use Rattle.jv_model.specs.Pending.{Segment, next_segment, first_segment}
+use Rattle.jv_pending.specs.At.{segment_at}
+use Rattle.jv_pending.specs.Runs.{pending_bytes}
+use Rattle.jv_pending.proofs.Parts.{Rise-order}
+use Rattle.jv_pending.proofs.Segments.{first_of_all, first_is_own, none_of_all, own_first, own_none, own_other, first_is_run}
 use Rattle.jv_pending.proofs.run.find_first.Goals as goal
-use Rattle.jv_pending.proofs.run.find_first.Goals.{else-index-runs-via-then-index-runs+else-runs-index, else-index-runs-via-else-index-runs}
 
-some_runs : (c : goal.Else-is_empty) → 0 < length c.args.runs.now
-some_runs c = let n = eqb-false (length c.args.runs.now) 0 (sym c.is_empty.ensures ∙ c.if-is_empty.false) in omega arith
+pub first_from-requires-clause-rise : goal.first_from-requires-clause-rise
+first_from-requires-clause-rise c = Rise-order 0 c.args.runs.now.entries c.requires
 
-pub returns-else-is_empty-clause-least : goal.returns-else-is_empty-clause-least
-returns-else-is_empty-clause-least c = λ d.
-    subst (λ (i : Option ℕ). next_segment i (pending_bytes c.args.runs.now) ≡ Some (segment_of_run (get_or c.args.runs.now 0 d))) (sym c.in-None.is)
-    (least_run 0 c.args.runs.now d c.requires (some_runs c))
+pub first_from-requires-in-Some-clause-rise : goal.first_from-requires-in-Some-clause-rise
+first_from-requires-in-Some-clause-rise c = Rise-order 0 c.args.runs.now.entries c.requires
 
-pub returns-else-is_empty-clause-own : goal.returns-else-is_empty-clause-own
-returns-else-is_empty-clause-own c = λ d.
-    first_run (get_or c.args.runs.now 0 d).inode 0 c.args.runs.now 0 d c.requires (some_runs c) (λ k x l m. absurd (omega arith)) refl
+pub segment-requires : goal.segment-requires
+segment-requires c = first_is_run 0 c.args.runs.now.entries (c.in_ok-start-in-None.start, c.in_ok-start-in-None.bytes.now) c.requires c.in_ok-start-in-None.ensures
 
-same_inode : (rs : List Run) (k i : ℕ) (r d : Run) → k < length rs → (get_or rs k r).inode ≡ i → (get_or rs k d).inode ≡ i
-same_inode rs k i r d h e = ap (λ (x : Run). x.inode) (get_or_default rs k d r h) ∙ e
+pub segment-requires-then-start-inode : goal.segment-requires-then-start-inode
+segment-requires-then-start-inode c = first_is_run _ c.args.runs.now.entries (c.in_ok-start-in-Some.start, c.in_ok-start-in-Some.bytes.now) c.requires c.in_ok-start-in-Some.ensures
 
-pub returns-then-runs-index-clause-least : goal.returns-then-runs-index-clause-least
-returns-then-runs-index-clause-least c = λ d.
-    let rs = c.args.runs.now in
-    let k = c.count_before-index.result in
-    let e = same_inode rs k c.in-Some.inode c.index-runs-index.result d c.if-index-runs.true c.if-runs-index.true in
-    subst (λ (i : Option ℕ). next_segment i (pending_bytes rs) ≡ Some (segment_of_run (get_or rs k d))) (sym c.in-Some.is)
-    (first_run c.in-Some.inode 0 rs k d c.requires c.if-index-runs.true c.count_before-index.ensures.before e)
+pub returns-in_err-start-in-None-clause-least : goal.returns-in_err-start-in-None-clause-least
+returns-in_err-start-in-None-clause-least c =
+    ap (option_map segment_at) c.from_residual.ensures
+    ∙ ap first_segment (sym (none_of_all c.args.runs.now.entries c.requires c.in_err-start-in-None.ensures))
+    ∙ ap (λ (i : Option ℕ). next_segment i (pending_bytes c.args.runs.now.entries)) (sym c.in-None.is)
 
-pub returns-then-runs-index-clause-own : goal.returns-then-runs-index-clause-own
-returns-then-runs-index-clause-own c = λ d.
-    let rs = c.args.runs.now in
-    let k = c.count_before-index.result in
-    let e = same_inode rs k c.in-Some.inode c.index-runs-index.result d c.if-index-runs.true c.if-runs-index.true in
-    subst (λ i. first_segment (pending_of i (pending_bytes rs)) ≡ Some (segment_of_run (get_or rs k d))) (sym e)
-    (first_run c.in-Some.inode 0 rs k d c.requires c.if-index-runs.true c.count_before-index.ensures.before e)
+pub returns-in_ok-start-in-None-clause-least : goal.returns-in_ok-start-in-None-clause-least
+returns-in_ok-start-in-None-clause-least c =
+    ap Some c.segment.ensures.same
+    ∙ sym (first_of_all c.args.runs.now.entries (c.in_ok-start-in-None.start, c.in_ok-start-in-None.bytes.now) c.requires c.in_ok-start-in-None.ensures)
+    ∙ ap (λ (i : Option ℕ). next_segment i (pending_bytes c.args.runs.now.entries)) (sym c.in-None.is)
 
-pub returns-else-index-runs-clause-least : goal.returns-else-index-runs-clause-least
-returns-else-index-runs-clause-least c =
-    let rs = c.args.runs.now in
-    let k = c.count_before-index.result in
-    let i = c.in-Some.inode in
-    let f = c.count_before-index.ensures in
-    let n : (d : Run) → k < length rs → (get_or rs k d).inode ≡ i → ⊥ =
-    elim c.else-index-runs.branch [
-      | else-index-runs-via-then-index-runs+else-runs-index w ↦ λ d l e. w.if-runs-index.false (same_inode rs k i d w.index-runs-index.result l e)
-      | else-index-runs-via-else-index-runs w ↦ λ d l e. let h = w.if-index-runs.false in omega arith
-    ] in
-    subst (λ (i : Option ℕ). next_segment i (pending_bytes rs) ≡ None) (sym c.in-Some.is)
-    (ap first_segment (of_none i rs (none_found i k rs c.requires f.within f.before f.after n)))
+pub returns-in_ok-start-in-None-clause-own : goal.returns-in_ok-start-in-None-clause-own
+returns-in_ok-start-in-None-clause-own c =
+    ap (λ (s : Segment). next_segment (Some s.inode) (pending_bytes c.args.runs.now.entries)) c.segment.ensures.same
+    ∙ first_is_own c.args.runs.now.entries (c.in_ok-start-in-None.start, c.in_ok-start-in-None.bytes.now) c.requires c.in_ok-start-in-None.ensures
+    ∙ ap Some (sym c.segment.ensures.same)
+
+pub returns-in_ok-start-in-None-clause-some : goal.returns-in_ok-start-in-None-clause-some
+returns-in_ok-start-in-None-clause-some c =
+    let r = first_is_run 0 c.args.runs.now.entries (c.in_ok-start-in-None.start, c.in_ok-start-in-None.bytes.now) c.requires c.in_ok-start-in-None.ensures in
+    let s = r.some in
+    let e = ap (λ (s : Segment). s.len) c.segment.ensures.same in
+    omega arith
+
+pub returns-in_err-start-in-Some-clause-least : goal.returns-in_err-start-in-Some-clause-least
+returns-in_err-start-in-Some-clause-least c =
+    ap (option_map segment_at) c.from_residual-in_err-start-in-Some.ensures
+    ∙ ap first_segment (sym (own_none c.in-Some.inode c.args.runs.now.entries c.requires c.in_err-start-in-Some.ensures))
+    ∙ ap (λ (i : Option ℕ). next_segment i (pending_bytes c.args.runs.now.entries)) (sym c.in-Some.is)
+
+pub returns-then-start-inode-clause-least : goal.returns-then-start-inode-clause-least
+returns-then-start-inode-clause-least c =
+    ap Some c.segment-then-start-inode.ensures.same
+    ∙ sym (own_first c.in-Some.inode c.args.runs.now.entries (c.in_ok-start-in-Some.start, c.in_ok-start-in-Some.bytes.now) c.requires c.in_ok-start-in-Some.ensures c.if-start-inode.true)
+    ∙ ap (λ (i : Option ℕ). next_segment i (pending_bytes c.args.runs.now.entries)) (sym c.in-Some.is)
+
+pub returns-then-start-inode-clause-own : goal.returns-then-start-inode-clause-own
+returns-then-start-inode-clause-own c =
+    ap (λ (s : Segment). next_segment (Some s.inode) (pending_bytes c.args.runs.now.entries)) c.segment-then-start-inode.ensures.same
+    ∙ ap (λ i. next_segment (Some i) (pending_bytes c.args.runs.now.entries)) c.if-start-inode.true
+    ∙ own_first c.in-Some.inode c.args.runs.now.entries (c.in_ok-start-in-Some.start, c.in_ok-start-in-Some.bytes.now) c.requires c.in_ok-start-in-Some.ensures c.if-start-inode.true
+    ∙ ap Some (sym c.segment-then-start-inode.ensures.same)
+
+pub returns-then-start-inode-clause-some : goal.returns-then-start-inode-clause-some
+returns-then-start-inode-clause-some c =
+    let r = first_is_run _ c.args.runs.now.entries (c.in_ok-start-in-Some.start, c.in_ok-start-in-Some.bytes.now) c.requires c.in_ok-start-in-Some.ensures in
+    let s = r.some in
+    let e = ap (λ (s : Segment). s.len) c.segment-then-start-inode.ensures.same in
+    omega arith
+
+pub returns-else-start-inode-clause-least : goal.returns-else-start-inode-clause-least
+returns-else-start-inode-clause-least c =
+    ap first_segment (sym (own_other c.in-Some.inode c.args.runs.now.entries (c.in_ok-start-in-Some.start, c.in_ok-start-in-Some.bytes.now) c.requires c.in_ok-start-in-Some.ensures c.if-start-inode.false))
+    ∙ ap (λ (i : Option ℕ). next_segment i (pending_bytes c.args.runs.now.entries)) (sym c.in-Some.is)

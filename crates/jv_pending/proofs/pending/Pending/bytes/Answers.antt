@@ -8,5 +8,5 @@ use Rattle.jv_pending.proofs.pending.Pending.bytes.Goals as goal
 
 pub returns-clause-rising : goal.returns-clause-rising
 returns-clause-rising c =
-    let runs = c.self.inside.runs.items in
+    let runs = c.self.inside.runs.entries in
     subst (λ (v : PendingValue). is_rising v.bytes ≡ true) c.self.view_is (rising 0 (pending_bytes runs) (Rises-runs 0 runs c.self.invariant.order))

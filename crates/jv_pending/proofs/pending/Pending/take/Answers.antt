@@ -1,36 +1,59 @@
-use Rattle.std.proofs.Common.{◌≡◌, ◌<◌, ◌+◌, ◌*◌, ◌∙◌, ℕ, List, [], Some, length, get_or, subst, ap, sym}
+use Rattle.std.proofs.Common.{◌≡◌, ◌∙◌, ℕ, List, is_some, length, ap, sym, subst, arith}
 use Rattle.jv_model.specs.Pending.{PendingByte, first_segment, pending_of, bytes_in_range, without_range}
-use Rattle.jv_pending.specs.declared.run.Run.{Run}
+use Rattle.jv_pending.specs.At.{segment_at}
 use Rattle.jv_pending.specs.Held.{PendingValue}
-use Rattle.jv_pending.specs.Runs.{pending_bytes, segment_of_run}
-use Rattle.jv_pending.proofs.Segments.{named, named_bytes}
+use Rattle.jv_pending.specs.Runs.{Run, InOrder, pending_bytes}
+use Rattle.jv_pending.proofs.Outcomes.{some_same}
+use Rattle.jv_pending.proofs.Parts.{Rise-order}
+use Rattle.jv_pending.proofs.Entries.{removed}
+use Rattle.jv_pending.proofs.Segments.{named, named_bytes, taken_order, taken, taken_count}
 use Rattle.jv_pending.proofs.pending.Pending.take.Goals as goal
 
--- the segment is the run that was found
-least : (c : goal.After-self-1) (d : Run) → first_segment (pending_of c.args.at.inode (pending_bytes c.self.inside.runs.items)) ≡ Some (segment_of_run (get_or c.self.inside.runs.items c.unwrap-index.result d))
-least c d =
-    let l = rw c.unwrap-index.ensures at c.find_first.ensures.least in
-    subst (λ (t : List Run). first_segment (pending_of c.args.at.inode (pending_bytes t)) ≡ Some (segment_of_run (get_or t c.unwrap-index.result d))) c.deref.ensures.value (l d)
+pub unwrap-bytes-requires : goal.unwrap-bytes-requires
+unwrap-bytes-requires c =
+    let n = named c.of.result (segment_at c.args.at) c.self.inside.runs.entries c.self.invariant.order c.of.ensures.inode c.of.ensures.from
+    (ap (λ (v : PendingValue). first_segment (pending_of c.args.at.inode v.bytes)) c.self.view_is ∙ c.requires) in
+    ap is_some (c.remove.ensures.value ∙ n.found)
 
-held : (c : goal.After-self-1) → pending_bytes c.self.inside.runs.items ≡ c.args.self.now.bytes
-held c = ap (λ (v : PendingValue). v.bytes) c.self.view_is
+pub overflow_sub-self : goal.overflow_sub-self
+overflow_sub-self c =
+    let rs = c.self.inside.runs.entries in
+    let n = named c.of.result (segment_at c.args.at) rs c.self.invariant.order c.of.ensures.inode c.of.ensures.from
+    (ap (λ (v : PendingValue). first_segment (pending_of c.args.at.inode v.bytes)) c.self.view_is ∙ c.requires) in
+    let e = ap length (some_same c.unwrap-bytes.result n.bytes (sym c.unwrap-bytes.ensures ∙ c.remove.ensures.value ∙ n.found)) in
+    let h = c.self.invariant.count in
+    let l = c.len.ensures.length in
+    omega (arith, taken_count c.of.result c.args.at.len rs c.self.invariant.order n)
 
-there : (c : goal.After-self-1) → first_segment (pending_of c.args.at.inode (pending_bytes c.self.inside.runs.items)) ≡ Some (record { inode = c.args.at.inode; from = c.args.at.window * 67108864 + c.args.at.pos; len = c.args.at.len })
-there c = ap (λ (t : List PendingByte). first_segment (pending_of c.args.at.inode t)) (held c) ∙ c.requires
-
-some_run : Run
-some_run = record { inode = 0; from = 0; bytes = [] }
+pub invariant_of-self : goal.invariant_of-self
+invariant_of-self c =
+    let rs = c.self.inside.runs.entries in
+    let n = named c.of.result (segment_at c.args.at) rs c.self.invariant.order c.of.ensures.inode c.of.ensures.from
+    (ap (λ (v : PendingValue). first_segment (pending_of c.args.at.inode v.bytes)) c.self.view_is ∙ c.requires) in
+    let e = ap length (some_same c.unwrap-bytes.result n.bytes (sym c.unwrap-bytes.ensures ∙ c.remove.ensures.value ∙ n.found)) in
+    let h = c.self.invariant.count in
+    let m = c.self.invariant.limited in
+    let l = c.len.ensures.length in
+    let new = c.remove.ensures.entries ∙ removed c.of.result n.file 0 rs (Rise-order 0 rs c.self.invariant.order) in
+    let left = ap (λ (t : List Run). length (pending_bytes t)) new in
+    record {
+      order = subst (InOrder 0) (sym new) (taken_order c.of.result c.args.at.len rs c.self.invariant.order n);
+      count = omega (arith, taken_count c.of.result c.args.at.len rs c.self.invariant.order n);
+      limited = omega arith;
+    }
 
 pub returns-clause-bytes : goal.returns-clause-bytes
 returns-clause-bytes c =
-    let k = c.unwrap-index.result in
     let at = c.args.at in
-    let from = at.window * 67108864 + at.pos in
-    let rs : List Run = c.self.inside.runs.items in
-    let w = rw c.unwrap-index.ensures at c.find_first.ensures.within in
-    let within : k < length rs = subst (λ (t : List Run). k < length t) c.deref.ensures.value w in
-    c.take_run-bytes.ensures.bytes some_run
-    ∙ sym (ap (bytes_in_range at.inode from at.len) (sym (held c)) ∙ named_bytes at.inode from at.len rs k some_run c.self.invariant.order within (least c some_run) (there c))
+    let start = c.of.result in
+    let rs = c.self.inside.runs.entries in
+    let n = named start (segment_at at) rs c.self.invariant.order c.of.ensures.inode c.of.ensures.from
+    (ap (λ (v : PendingValue). first_segment (pending_of at.inode v.bytes)) c.self.view_is ∙ c.requires) in
+    some_same c.unwrap-bytes.result n.bytes (sym c.unwrap-bytes.ensures ∙ c.remove.ensures.value ∙ n.found)
+    ∙ sym (named_bytes start at.len rs c.self.invariant.order n)
+    ∙ ap (λ i. bytes_in_range i start.from at.len (pending_bytes rs)) c.of.ensures.inode
+    ∙ ap (λ p. bytes_in_range at.inode p at.len (pending_bytes rs)) c.of.ensures.from
+    ∙ ap (λ (v : PendingValue). bytes_in_range at.inode (segment_at at).from at.len v.bytes) c.self.view_is
 
 abbrev made : List PendingByte → ℕ → PendingValue
 made bytes limit = record { bytes = bytes; limit = limit }
@@ -40,17 +63,15 @@ value bytes rest limit same e f = ap (λ (t : List PendingByte). made t limit) e
 
 pub returns-clause-rest : goal.returns-clause-rest
 returns-clause-rest c =
-    let k = c.unwrap-index.result in
     let at = c.args.at in
-    let from = at.window * 67108864 + at.pos in
-    let rs : List Run = c.self.inside.runs.items in
-    let r : Run = get_or rs k some_run in
-    let n = named at.inode from at.len r (first_segment (pending_of at.inode (pending_bytes rs))) (least c some_run) (there c) in
-    let left : pending_bytes c.take_run-bytes.new.runs.items ≡ without_range at.inode from at.len c.args.self.now.bytes =
-    c.take_run-bytes.ensures.without some_run
-    ∙ ap (λ i. without_range i r.from (length r.bytes) (pending_bytes rs)) n.0
-    ∙ ap (λ p. without_range at.inode p (length r.bytes) (pending_bytes rs)) n.1
-    ∙ ap (λ l. without_range at.inode from l (pending_bytes rs)) n.2
-    ∙ ap (without_range at.inode from at.len) (held c) in
-    let limit = ap (λ (v : PendingValue). v.limit) c.self.view_is in
-    value _ _ _ _ left limit
+    let start = c.of.result in
+    let rs = c.self.inside.runs.entries in
+    let n = named start (segment_at at) rs c.self.invariant.order c.of.ensures.inode c.of.ensures.from
+    (ap (λ (v : PendingValue). first_segment (pending_of at.inode v.bytes)) c.self.view_is ∙ c.requires) in
+    let left : pending_bytes c.remove.new.self.entries ≡ without_range at.inode (segment_at at).from at.len c.args.self.now.bytes =
+    ap pending_bytes (c.remove.ensures.entries ∙ removed start n.file 0 rs (Rise-order 0 rs c.self.invariant.order))
+    ∙ taken start at.len rs c.self.invariant.order n
+    ∙ ap (λ i. without_range i start.from at.len (pending_bytes rs)) c.of.ensures.inode
+    ∙ ap (λ p. without_range at.inode p at.len (pending_bytes rs)) c.of.ensures.from
+    ∙ ap (λ (v : PendingValue). without_range at.inode (segment_at at).from at.len v.bytes) c.self.view_is in
+    value _ _ _ _ left (ap (λ (v : PendingValue). v.limit) c.self.view_is)

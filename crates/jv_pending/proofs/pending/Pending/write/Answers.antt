@@ -15,5 +15,5 @@ invariant_of-self c =
     record {
       order = c.write_runs.ensures.order;
       count = count;
-      limited = omega (arith, written_length c.args.inode c.args.from c.as_slice.result.now (pending_bytes c.self.inside.runs.items));
+      limited = omega (arith, written_length c.args.inode c.args.from c.as_slice.result.now (pending_bytes c.self.inside.runs.entries));
     }

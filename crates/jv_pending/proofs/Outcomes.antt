@@ -1,0 +1,24 @@
+-- What is known of an outcome.
+use Rattle.std.proofs.Common.{◌≡◌, true, ℕ, List, Option, Some, None, is_some, Result, Ok, Err, OnOk, OnErr, Bor, refl}
+use Rattle.std.proofs.lemmas.Bool.{false≢true}
+use Rattle.std.proofs.lemmas.Option.{none-some}
+use Rattle.std.specs.Option.{option_copied}
+
+pub on_ok : {T E : Type 0} (r : Result T E) (P Q : Type 0) → (P → Q) → OnOk r P → OnOk r Q
+on_ok (Ok x) P Q f h = f h
+on_ok (Err e) P Q f h = h
+
+pub on_err : {T E : Type 0} (r : Result T E) (P Q : Type 0) → (P → Q) → OnErr r P → OnErr r Q
+on_err (Ok x) P Q f h = h
+on_err (Err e) P Q f h = f h
+
+pub some_value : (o : Option (List ℕ)) → is_some o ≡ true → (v : List ℕ) × (o ≡ Some v)
+some_value None h = absurd (false≢true h)
+some_value (Some v) h = (v, refl)
+
+pub some_copied : (o : Option (Bor (List ℕ))) (v : List ℕ) → option_copied o ≡ Some v → is_some o ≡ true
+some_copied None v h = absurd (none-some v h)
+some_copied (Some x) v h = refl
+
+pub some_same : {A : Type 0} (a b : A) → Some a ≡ Some b → a ≡ b
+some_same a b h = cc
