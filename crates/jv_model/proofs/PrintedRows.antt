@@ -1,5 +1,5 @@
 -- Bytes, as they are printed.
-use Rattle.std.proofs.Common.{◌≡◌, [], ◌∷◌, ◌++◌, refl, replicate, codes}
+use Rattle.std.proofs.Common.{◌≡◌, ◌++◌, refl, replicate, codes}
 use Rattle.std.specs.Prelude.{⊤}
 use Rattle.std.specs.Fmt.{digits}
 use Rattle.jv_model.specs.Printed.{data_text}

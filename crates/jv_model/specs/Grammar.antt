@@ -189,7 +189,13 @@ compact_of first second = do
   window ← number_up_to 4294967295 second
   Some (Compact path window)
 
--- operations of two words
+-- operations of two words: those of two paths, or of a target and a path, behind the others
+unfoldable pub operation_of_two_names : List ℕ → List ℕ → List ℕ → Option Op
+operation_of_two_names name first second = (if bytes_eq name (codes "symlink") then symlink_of first second
+    else if bytes_eq name (codes "link") then option_map (λ both. Link both.0 both.1) (two_paths_of first second)
+    else if bytes_eq name (codes "rename") then option_map (λ both. Rename both.0 both.1 how.Plain) (two_paths_of first second)
+    else None)
+
 unfoldable pub operation_of_two : List ℕ → List ℕ → List ℕ → Option Op
 operation_of_two name first second = (if bytes_eq name (codes "mkdir") then option_map (λ both. Mkdir both.0 both.1) (path_and_mode_of first second)
     else if bytes_eq name (codes "create") then option_map (λ both. Create both.0 both.1) (path_and_mode_of first second)
@@ -197,10 +203,7 @@ operation_of_two name first second = (if bytes_eq name (codes "mkdir") then opti
     else if bytes_eq name (codes "truncate") then truncate_of first second
     else if bytes_eq name (codes "utimes") then utimes_of first second
     else if bytes_eq name (codes "compact") then compact_of first second
-    else if bytes_eq name (codes "symlink") then symlink_of first second
-    else if bytes_eq name (codes "link") then option_map (λ both. Link both.0 both.1) (two_paths_of first second)
-    else if bytes_eq name (codes "rename") then option_map (λ both. Rename both.0 both.1 how.Plain) (two_paths_of first second)
-    else None)
+    else operation_of_two_names name first second)
 
 unfoldable pub read_of : List ℕ → List ℕ → List ℕ → Option Op
 read_of first second third = do

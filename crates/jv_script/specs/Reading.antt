@@ -1,12 +1,9 @@
 -- What the parts of the reader answer, against the grammar.
-use Rattle.std.specs.Prelude.{◌≡◌, ◌==◌, ◌<◌, Bool, true, false, ℕ, ◌+◌, nat_le, List, [], ◌∷◌, ◌++◌, length, Option, None, Some, option_map, IsSome, IfSome, Result, Ok, Err, sum_by, if◌then◌else◌, codes, bytes_eq}
+use Rattle.std.specs.Prelude.{◌≡◌, ◌==◌, ◌<◌, Bool, true, false, ℕ, ◌+◌, nat_le, List, [], ◌∷◌, ◌++◌, length, Option, None, Some, option_map, IsSome, IfSome, Result, Ok, Err, sum_by}
 use Rattle.std.specs.List.{flat_map}
-use Rattle.jv_model.specs.declared.basics.How.TheVariants as how
-use Rattle.jv_model.specs.declared.op.Op.{Op}
-use Rattle.jv_model.specs.declared.op.Op.TheVariants.{Link, Rename}
 use Rattle.jv_model.specs.Spelling.{◌>>=◌, at_most, bytes_of_digits}
 use Rattle.jv_model.specs.Printed.{Part, Plain}
-use Rattle.jv_model.specs.Grammar.{provided, parted, is_pairs, part_length, part_bytes, all_parts_of, symlink_of, two_paths_of}
+use Rattle.jv_model.specs.Grammar.{provided, parted, is_pairs, part_length, part_bytes, all_parts_of}
 use Rattle.jv_script.specs.declared.bad_line.BadLine.{BadLine}
 use Rattle.jv_script.specs.declared.bad_line.BadLine.TheVariants.{Off, Memory}
 
@@ -59,10 +56,3 @@ Appends false before part after = IfSome part (λ p. 8388608 < length before + p
 abbrev pub has_x : List ℕ → Bool
 has_x (_ ∷ _ ∷ x ∷ _) = x == 120
 has_x _ = false
-
--- operations on two paths, or on a target and a path
-unfoldable pub operation_of_two_names : List ℕ → List ℕ → List ℕ → Option Op
-operation_of_two_names name first second = (if bytes_eq name (codes "symlink") then symlink_of first second
-    else if bytes_eq name (codes "link") then option_map (λ both. Link both.0 both.1) (two_paths_of first second)
-    else if bytes_eq name (codes "rename") then option_map (λ both. Rename both.0 both.1 how.Plain) (two_paths_of first second)
-    else None)

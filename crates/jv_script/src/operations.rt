@@ -2,8 +2,8 @@
 ghost use Rattle.std.specs.Prelude.{◌≡◌, bytes_eq};
 ghost use Rattle.std.specs.Option.{option_copied};
 ghost use Rattle.jv_model.specs.Spelling.{number_of};
-ghost use Rattle.jv_model.specs.Grammar.{provided, operation_of, operation_of_none, operation_of_one, operation_of_path, operation_of_two, operation_of_three, symlink_of, two_paths_of, path_and_mode_of, truncate_of, utimes_of, compact_of, read_of, write_of, chown_of, how_of, rename_of, copy_of};
-ghost use Rattle.jv_script.specs.Reading.{Reads, parts_after, operation_of_two_names};
+ghost use Rattle.jv_model.specs.Grammar.{provided, operation_of, operation_of_none, operation_of_one, operation_of_path, operation_of_two, operation_of_two_names, operation_of_three, symlink_of, two_paths_of, path_and_mode_of, truncate_of, utimes_of, compact_of, read_of, write_of, chown_of, how_of, rename_of, copy_of};
+ghost use Rattle.jv_script.specs.Reading.{Reads, parts_after};
 
 use crate::bad_line::BadLine;
 use crate::data::data;
@@ -149,7 +149,7 @@ fn operation_of_path(alloc: Global, name: &[u8], word: &[u8]) -> Result<Op, BadL
     Err(BadLine::Off)
 }
 
-#[tactic(auto, unfolding(jv_model::specs::Grammar::operation_of_two, crate::specs::Reading::operation_of_two_names))]
+#[tactic(auto, unfolding(jv_model::specs::Grammar::operation_of_two))]
 fn operation_of_two(alloc: Global, name: &[u8], first: &[u8], second: &[u8]) -> Result<Op, BadLine>
     ensures { Reads result (operation_of_two name.now first.now second.now) }
 {
@@ -177,7 +177,7 @@ fn operation_of_two(alloc: Global, name: &[u8], first: &[u8], second: &[u8]) -> 
     operation_of_two_names(alloc, name, first, second)
 }
 
-#[tactic(auto, unfolding(crate::specs::Reading::operation_of_two_names))]
+#[tactic(auto, unfolding(jv_model::specs::Grammar::operation_of_two_names))]
 fn operation_of_two_names(
     alloc: Global,
     name: &[u8],
