@@ -1,15 +1,10 @@
 -- A text, cut at the first place of a byte.
-use Rattle.std.proofs.Common.{◌≡◌, ℕ, ◌+◌, ◌-◌, ◌<◌, ◌≤◌, Bool, true, false, ◌==◌, List, [], ◌∷◌, ◌++◌, Option, Some, None, option_map, inl, inr, length, get_or, take, drop, refl, sym, ap, subst, ◌∙◌, arith, add-one, get_or-take, get_or-drop, drop-cons}
-use Rattle.std.proofs.lemmas.Bool.{cases_lt}
+use Rattle.std.proofs.Common.{◌≡◌, ℕ, ◌+◌, ◌-◌, ◌<◌, ◌≤◌, Bool, true, false, ◌==◌, List, [], ◌∷◌, ◌++◌, Option, Some, None, option_map, inl, inr, length, get_or, take, drop, sym, ap, subst, ◌∙◌, arith, add-one, get_or-take, get_or-drop, drop-cons}
+use Rattle.std.proofs.lemmas.Bool.{cases_lt, false_from_ne_true}
 use Rattle.std.proofs.lemmas.List.{take_rest, take-append-drop, length-take, length-drop, get_or_default}
 use Rattle.std.proofs.lemmas.List.Splits.{slice_split_at, slice_split_none}
 use Rattle.memchr.specs.Find.{Nowhere, Passes, IsFirstByte}
 use Rattle.jv_model.specs.Grammar.{parted}
-
--- a test that doesn't pass fails
-fails : (v : Bool) → (v ≡ true → ⊥) → v ≡ false
-fails true h = absurd (h refl)
-fails false h = refl
 
 -- the text round a place
 around : (text : List ℕ) (end : ℕ) → end < length text → text ≡ take end text ++ get_or text end 0 ∷ drop (end + 1) text
@@ -27,11 +22,11 @@ parted_found separator text end within before here =
         let early : k < end = omega (arith, length-take end text) in
         let inside : k < length text = omega (arith, length-take end text) in
         let same : get_or (take end text) k d ≡ get_or text k 0 = get_or-take end text k d early ∙ get_or_default text k d 0 inside in
-        ap (λ c. c == separator) same ∙ fails _ (before k (omega arith) early)
+        ap (λ c. c == separator) same ∙ false_from_ne_true _ (before k (omega arith) early)
 
 pub parted_none : (separator : ℕ) (text : List ℕ) → ((k : ℕ) → 0 ≤ k → k < length text → (get_or text k 0 == separator) ≡ true → ⊥) → parted separator text ≡ text ∷ []
 parted_none separator text nowhere =
-    slice_split_none (λ c. c == separator) text (λ k d below. ap (λ c. c == separator) (get_or_default text k d 0 below) ∙ fails _ (nowhere k (omega arith) below))
+    slice_split_none (λ c. c == separator) text (λ k d below. ap (λ c. c == separator) (get_or_default text k d 0 below) ∙ false_from_ne_true _ (nowhere k (omega arith) below))
 
 -- a byte that isn't near is looked for in the rest
 in_rest : (test : ℕ → Bool) (near k : ℕ) (text : List ℕ) → near ≤ k → Passes test text k → Passes test (drop near text) (k - near)

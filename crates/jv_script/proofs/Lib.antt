@@ -1,7 +1,9 @@
 -- Lemmas on texts, runs and parts.
 pub mod Cuts
 pub mod Digits
+pub mod Values
 pub mod Parts
+pub mod ShortParts
 pub mod Spelling
 pub mod Runs
 pub mod HexText

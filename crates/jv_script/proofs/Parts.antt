@@ -1,9 +1,8 @@
 -- Parts of the bytes of a write, one after another.
-use Rattle.std.proofs.Common.{zero, suc, subst, ◌≡◌, ◌==◌, ◌&&◌, ◌%◌, ℕ, ◌+◌, ◌-◌, ◌/◌, ◌<◌, ◌≤◌, Bool, true, false, List, [], ◌∷◌, ◌++◌, length, get_or, take, drop, Option, Some, None, IsSome, IfSome, option_map, sum_by, refl, sym, ap, ◌∙◌, arith, cond, codes, bytes_eq, eqb-true, nat_lt, nat_le}
+use Rattle.std.proofs.Common.{subst, ◌≡◌, ◌==◌, ◌&&◌, ◌%◌, ℕ, ◌+◌, ◌/◌, ◌<◌, ◌≤◌, Bool, true, false, List, [], ◌∷◌, ◌++◌, length, get_or, Option, Some, None, IsSome, IfSome, option_map, sum_by, refl, sym, ap, ◌∙◌, arith, cond, codes, bytes_eq, eqb-true, nat_lt, nat_le}
 use Rattle.std.specs.List.{flat_map, list_all}
-use Rattle.std.proofs.lemmas.List.{append_assoc, append-nil, take_rest, length-append, length-replicate}
-use Rattle.std.proofs.lemmas.List.Splits.{slice_split_at}
-use Rattle.std.proofs.lemmas.Bool.{eq-eqb, le-leb, lt-leb, lt-ltb, and_parts, false≢true}
+use Rattle.std.proofs.lemmas.List.{append_assoc, append-nil, length-append, length-replicate}
+use Rattle.std.proofs.lemmas.Bool.{le-leb, lt-leb, lt-ltb, and_parts, false≢true, false_from_ne_true}
 use Rattle.std.proofs.Math.Bool.{and-false}
 use Rattle.std.proofs.lemmas.List.Sums.{sum_by-cons}
 use Rattle.jv_model.specs.Spelling.{is_hex_digit, number_of, ◌>>=◌, at_most, bytes_of_digits}
@@ -83,15 +82,11 @@ unfolding data_of
 some_bytes text other = rw other refl
 
 -- the two kinds of parts, told apart by an `x`
-refuted : (v : Bool) → (v ≡ true → ⊥) → v ≡ false
-refuted true h = absurd (h refl)
-refuted false h = refl
-
 no_pairs_with_x : (part : List ℕ) → has_x part ≡ true → is_pairs part ≡ false
 no_pairs_with_x [] h = refl
 no_pairs_with_x (a ∷ []) h = absurd (false≢true h)
 no_pairs_with_x (a ∷ b ∷ []) h = absurd (false≢true h)
-no_pairs_with_x (a ∷ b ∷ x ∷ digits) h = refuted (is_pairs (a ∷ b ∷ x ∷ digits)) (λ pairs.
+no_pairs_with_x (a ∷ b ∷ x ∷ digits) h = false_from_ne_true (is_pairs (a ∷ b ∷ x ∷ digits)) (λ pairs.
     let all = (and_parts (nat_lt 0 (length (a ∷ b ∷ x ∷ digits)) && (length (a ∷ b ∷ x ∷ digits) % 2 == 0)) (list_all is_hex_digit (a ∷ b ∷ x ∷ digits)) pairs).1 in
     let later = (and_parts (is_hex_digit a) (list_all is_hex_digit (b ∷ x ∷ digits)) all).1 in
     let latest = (and_parts (is_hex_digit b) (list_all is_hex_digit (x ∷ digits)) later).1 in
@@ -131,7 +126,7 @@ last_and true true y b = refl
 last_and true false y b = refl
 last_and false x y b = sym (and-false (x && y))
 
-is_pairs-all_paired : (text : List ℕ) → is_pairs text ≡ nat_lt 0 (length text) && all_paired text
+pub is_pairs-all_paired : (text : List ℕ) → is_pairs text ≡ nat_lt 0 (length text) && all_paired text
 is_pairs-all_paired text = by_length (nat_lt 0 (length text))
   where
     by_rest : (text : List ℕ) → (length text % 2 == 0) && list_all is_hex_digit text ≡ all_paired text
@@ -225,29 +220,6 @@ bytes_after-off before after text texts large = by_part (part_of text) (all_part
         let more = length-flat_map_bytes (part ∷ parts) in
         let first = sum_by-cons part_length part parts in
         rw (lt-leb (length (before ++ flat_map part_bytes (part ∷ parts))) 8388608 (omega arith)) refl
-
--- a part of one byte before others
-pub parted_single : (text : List ℕ) → 3 ≤ length text → is_hex_digit (get_or text 0 0) ≡ true → is_hex_digit (get_or text 1 0) ≡ true → get_or text 2 0 ≡ 43
-    → parted 43 text ≡ (get_or text 0 0 ∷ get_or text 1 0 ∷ []) ∷ parted 43 (take (length text - 3) (drop 3 text))
-parted_single [] long is_high is_low plus = absurd (omega arith)
-parted_single (high ∷ []) long is_high is_low plus = absurd (omega arith)
-parted_single (high ∷ low ∷ []) long is_high is_low plus = absurd (omega arith)
-parted_single (high ∷ low ∷ c ∷ rest) long is_high is_low plus =
-    slice_split_at (λ c. c == 43) (high ∷ low ∷ []) c rest others (eq-eqb c 43 plus)
-    ∙ ap (λ (text : List ℕ). (high ∷ low ∷ []) ∷ parted 43 text) (sym (take_rest (high ∷ low ∷ c ∷ rest) 3))
-  where
-    no_plus : (c : ℕ) → is_hex_digit c ≡ true → (c == 43) ≡ false
-    no_plus c hex = refuted (c == 43) (λ plus. false≢true (ap is_hex_digit (sym (eqb-true c 43 plus)) ∙ hex))
-
-    others : (k d : ℕ) → k < length (high ∷ low ∷ []) → (get_or (high ∷ low ∷ []) k d == 43) ≡ false
-    others zero d below = no_plus high is_high
-    others (suc zero) d below = no_plus low is_low
-    others (suc (suc k)) d below = absurd (omega arith)
-
-pub single_appended : (before after : List ℕ) (high low : ℕ) → is_hex_digit high ≡ true → is_hex_digit low ≡ true → after ≡ before ++ byte_of high low ∷ [] → Appends true before (part_of (high ∷ low ∷ [])) after
-single_appended before after high low is_high is_low e =
-    let pair : is_pairs (high ∷ low ∷ []) ≡ true = rw (is_high, is_low) refl in
-    rw (part_of_pairs (high ∷ low ∷ []) pair) (ap (λ (bytes : List ℕ). Some bytes) (sym e))
 
 -- the whole
 

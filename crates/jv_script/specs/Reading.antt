@@ -1,5 +1,5 @@
 -- What the parts of the reader answer, against the grammar.
-use Rattle.std.specs.Prelude.{◌≡◌, ◌==◌, ◌<◌, Bool, true, false, ℕ, ◌+◌, nat_le, List, [], ◌∷◌, ◌++◌, length, Option, None, Some, option_map, IsSome, IfSome, Result, Ok, Err, sum_by}
+use Rattle.std.specs.Prelude.{◌≡◌, ◌==◌, ◌<◌, ◌≤◌, Bool, true, false, ℕ, ◌+◌, nat_le, List, [], ◌∷◌, ◌++◌, length, Option, None, Some, option_map, IsSome, IfSome, Result, Ok, Err, sum_by}
 use Rattle.std.specs.List.{flat_map}
 use Rattle.jv_model.specs.Spelling.{◌>>=◌, at_most, bytes_of_digits}
 use Rattle.jv_model.specs.Printed.{Part, Plain}
@@ -56,3 +56,14 @@ Appends false before part after = IfSome part (λ p. 8388608 < length before + p
 abbrev pub has_x : List ℕ → Bool
 has_x (_ ∷ _ ∷ x ∷ _) = x == 120
 has_x _ = false
+
+-- bytes with those of a text's parts are other bytes with those of a rest's parts, which are no more
+abbrev pub Leaves : List ℕ → List ℕ → List ℕ → List ℕ → Type 0
+Leaves before text after rest = record {
+  whole : bytes_after before (parted 43 text) ≡ bytes_after after (parted 43 rest);
+  no_more : length (parted 43 rest) ≤ length (parted 43 text);
+}
+
+-- the bytes at the front of those of a text's parts, and a text whose parts have the others
+abbrev pub IsFront : List ℕ → List ℕ → List ℕ → Type 0
+IsFront text front rest = (before : List ℕ) → Leaves before text (before ++ front) rest

@@ -3,11 +3,12 @@ ghost use Rattle.std.specs.Prelude.{◌≡◌, ◌≤◌, ◌&&◌, ◌==◌, na
 ghost use Rattle.jv_model.specs.Spelling.{is_hex_digit};
 ghost use Rattle.jv_model.specs.Printed.{Repeated};
 ghost use Rattle.jv_model.specs.Grammar.{parted, repeated_of, part_of, part_length, bytes_of_parts, data_of};
-ghost use Rattle.jv_script.specs.Reading.{Reads, length_with, has_x, bytes_after, pairs_of, Appends};
+ghost use Rattle.jv_script.specs.Reading.{Reads, length_with, bytes_after, pairs_of, Appends};
 
 use crate::bad_line::BadLine;
 use crate::fields::number;
-use crate::hex_digits::{are_hex_digits, byte_of, decode_into, is_pairs};
+use crate::hex_digits::{byte_of_pair, decode_into, is_pairs};
+use crate::short_parts::{has_x, push_short_parts};
 use crate::words::cut;
 use jv_model::{Bytes, Sequence};
 use std::alloc::{AllocError, Global};
@@ -77,17 +78,12 @@ fn repeated(part: &[u8]) -> Option<(u8, u64)>
     let [high, low, x, digits @ ..] = part else {
         return None;
     };
+    let byte = byte_of_pair(*high, *low)?;
     let count = number(digits)?;
-    if !is_repeated(*high, *low, *x, count) {
+    if *x != b'x' || count == 0 {
         return None;
     }
-    Some((byte_of(*high, *low), count))
-}
-
-fn is_repeated(high: u8, low: u8, x: u8, count: u64) -> bool
-    ensures { result ≡ (is_hex_digit high && is_hex_digit low && (x == 120) && nat_lt 0 count) }
-{
-    are_hex_digits(high, low) && x == b'x' && count > 0
+    Some((byte, count))
 }
 
 // The bytes of the parts, if they are parts and have not too many. A function of its own in the program, too: in a large one
@@ -99,7 +95,7 @@ fn joined(alloc: Global, text: &[u8]) -> Result<Option<Bytes>, AllocError>
     let mut bytes = Vec::with_capacity(alloc, text.len() / 2)?;
     let mut rest = Some(text);
     while let Some(parts) = rest {
-        let parts = push_single_bytes(&mut bytes, parts)?;
+        let parts = push_short_parts(&mut bytes, parts)?;
         let (part, after) = cut(parts, b'+');
         if !push_part(&mut bytes, part)? {
             return Ok(None);
@@ -110,23 +106,6 @@ fn joined(alloc: Global, text: &[u8]) -> Result<Option<Bytes>, AllocError>
         return Ok(None);
     }
     Ok(Some(Sequence::from_vec(bytes)))
-}
-
-// The parts at the front that are one byte each and have a part after them, with less work for each than other parts take.
-// Gives the text after them.
-fn push_single_bytes<'a>(bytes: &mut Vec<u8>, text: &'a [u8]) -> Result<&'a [u8], AllocError>
-    ensures whole { IfOk result (λ rest. bytes_after bytes.old.items (parted 43 text.now) ≡ bytes_after bytes.new.items (parted 43 rest.now)) }
-    ensures no_more { IfOk result (λ rest. length (parted 43 rest.now) ≤ length (parted 43 text.now)) }
-{
-    let mut rest = text;
-    while let [high, low, b'+', after @ ..] = rest {
-        if !are_hex_digits(*high, *low) {
-            break;
-        }
-        bytes.push(byte_of(*high, *low))?;
-        rest = after;
-    }
-    Ok(rest)
 }
 
 // Whether the text is a part, and has not too many bytes with those before it. Its bytes are then there.
@@ -140,16 +119,6 @@ fn push_part(bytes: &mut Vec<u8>, part: &[u8]) -> Result<bool, AllocError>
         return push_few_pairs(bytes, part);
     }
     push_pairs(bytes, part)
-}
-
-// Tells parts of the two kinds apart without a look at their digits.
-fn has_x(part: &[u8]) -> bool
-    ensures { result ≡ has_x part.now }
-{
-    match part {
-        [_, _, x, ..] => *x == b'x',
-        _ => false,
-    }
 }
 
 fn push_repeated(bytes: &mut Vec<u8>, part: &[u8]) -> Result<bool, AllocError>
@@ -174,10 +143,10 @@ fn push_few_pairs(bytes: &mut Vec<u8>, digits: &[u8]) -> Result<bool, AllocError
     }
     let mut rest = digits;
     while let [high, low, after @ ..] = rest {
-        if !are_hex_digits(*high, *low) {
+        let Some(byte) = byte_of_pair(*high, *low) else {
             return Ok(false);
-        }
-        bytes.push(byte_of(*high, *low))?;
+        };
+        bytes.push(byte)?;
         rest = after;
     }
     Ok(rest.is_empty())

@@ -2,7 +2,7 @@
 ghost use Rattle.std.specs.Prelude.{◌≡◌, ◌&&◌, ◌*◌, ◌<◌, true, length};
 ghost use Rattle.std.specs.List.{list_all};
 ghost use Rattle.jv_model.specs.Spelling.{is_hex_digit, hex_value, bytes_of_digits};
-ghost use Rattle.jv_model.specs.Grammar.{byte_of, is_pairs};
+ghost use Rattle.jv_model.specs.Grammar.{byte_of, is_pairs, provided};
 
 /// Whether a text is one byte or more as pairs of digits.
 pub(crate) fn is_pairs(text: &[u8]) -> bool
@@ -32,13 +32,6 @@ pub(crate) fn is_hex_digit(c: u8) -> bool
     decimal | upper | lower
 }
 
-/// Whether both are digits. No branch is taken on the first alone.
-pub(crate) fn are_hex_digits(high: u8, low: u8) -> bool
-    ensures { result ≡ (is_hex_digit high && is_hex_digit low) }
-{
-    is_hex_digit(high) & is_hex_digit(low)
-}
-
 // `hex::decode` tells digits apart by branches, which takes five times as long on random bytes.
 /// Writes the bytes of pairs of digits.
 pub(crate) fn decode_into(digits: &[u8], bytes: &mut [u8])
@@ -48,6 +41,38 @@ pub(crate) fn decode_into(digits: &[u8], bytes: &mut [u8])
 {
     for i in 0..bytes.len() {
         bytes[i] = hex_value(digits[2 * i]) * 16 + hex_value(digits[2 * i + 1]);
+    }
+}
+
+// The value of each byte as a digit, or 255.
+const VALUES: [u8; 256] = [
+    255, 255, 255, 255, 255, 255, 255, 255, 255, 255, 255, 255, 255, 255, 255, 255, 255, 255, 255,
+    255, 255, 255, 255, 255, 255, 255, 255, 255, 255, 255, 255, 255, 255, 255, 255, 255, 255, 255,
+    255, 255, 255, 255, 255, 255, 255, 255, 255, 255, 0, 1, 2, 3, 4, 5, 6, 7, 8, 9, 255, 255, 255,
+    255, 255, 255, 255, 10, 11, 12, 13, 14, 15, 255, 255, 255, 255, 255, 255, 255, 255, 255, 255,
+    255, 255, 255, 255, 255, 255, 255, 255, 255, 255, 255, 255, 255, 255, 255, 255, 10, 11, 12, 13,
+    14, 15, 255, 255, 255, 255, 255, 255, 255, 255, 255, 255, 255, 255, 255, 255, 255, 255, 255,
+    255, 255, 255, 255, 255, 255, 255, 255, 255, 255, 255, 255, 255, 255, 255, 255, 255, 255, 255,
+    255, 255, 255, 255, 255, 255, 255, 255, 255, 255, 255, 255, 255, 255, 255, 255, 255, 255, 255,
+    255, 255, 255, 255, 255, 255, 255, 255, 255, 255, 255, 255, 255, 255, 255, 255, 255, 255, 255,
+    255, 255, 255, 255, 255, 255, 255, 255, 255, 255, 255, 255, 255, 255, 255, 255, 255, 255, 255,
+    255, 255, 255, 255, 255, 255, 255, 255, 255, 255, 255, 255, 255, 255, 255, 255, 255, 255, 255,
+    255, 255, 255, 255, 255, 255, 255, 255, 255, 255, 255, 255, 255, 255, 255, 255, 255, 255, 255,
+    255, 255, 255, 255, 255, 255, 255, 255, 255, 255, 255, 255, 255, 255, 255, 255, 255, 255, 255,
+    255, 255, 255,
+];
+
+/// The byte of two digits. None where one of them is none. A look into a table takes less than half the time of tests and
+/// sums, where pairs don't come many at a time.
+pub(crate) fn byte_of_pair(high: u8, low: u8) -> Option<u8>
+    ensures { result ≡ provided (is_hex_digit high && is_hex_digit low) (byte_of high low) }
+{
+    let high = VALUES[high as usize];
+    let low = VALUES[low as usize];
+    if (high < 16) & (low < 16) {
+        Some(high * 16 + low)
+    } else {
+        None
     }
 }
 

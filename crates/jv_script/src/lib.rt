@@ -13,6 +13,7 @@ mod numbers;
 mod operations;
 mod printer;
 mod reader;
+mod short_parts;
 #[cfg(test)]
 mod tests;
 mod words;

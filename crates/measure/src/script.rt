@@ -42,6 +42,8 @@ pub fn lines_read(alloc: Global, count: u32) -> Result<u64, Down> {
 enum Parts {
     Single,
     Double,
+    Triple,
+    Once,
     Counted,
     Mixed,
 }
@@ -63,16 +65,25 @@ fn spelled(alloc: Global, count: u32) -> Result<Vec<u8>, AllocError> {
     Ok(text)
 }
 
-/// A part: one byte, two bytes, one byte one to nine times, or any of these by what the number is.
+/// An `x` and a count of one digit.
+fn push_count(text: &mut Vec<u8>, count: u32) -> Result<(), AllocError> {
+    text.push(b'x')?;
+    text.push(DIGITS[(count % 10) as usize])?;
+    Ok(())
+}
+
+/// A part: one byte, two bytes, three, one byte once, one byte one to nine times, or the first, second or last of these by
+/// what the number is.
 fn push_part(text: &mut Vec<u8>, parts: Parts, number: u32) -> Result<(), AllocError> {
     push_byte(text, number)?;
     match (parts, number / 256 % 3) {
         (Parts::Double, _) | (Parts::Mixed, 1) => push_byte(text, number / 16),
-        (Parts::Counted, _) | (Parts::Mixed, 2) => {
-            text.push(b'x')?;
-            text.push(DIGITS[(1 + number % 9) as usize])?;
-            Ok(())
+        (Parts::Triple, _) => {
+            push_byte(text, number / 16)?;
+            push_byte(text, number / 4)
         }
+        (Parts::Once, _) => push_count(text, 1),
+        (Parts::Counted, _) | (Parts::Mixed, 2) => push_count(text, 1 + number % 9),
         _ => Ok(()),
     }
 }
@@ -95,6 +106,8 @@ fn parts_named(kind: &str) -> Option<Parts> {
     match kind {
         "single" => Some(Parts::Single),
         "double" => Some(Parts::Double),
+        "triple" => Some(Parts::Triple),
+        "once" => Some(Parts::Once),
         "counted" => Some(Parts::Counted),
         "mixed" => Some(Parts::Mixed),
         _ => None,

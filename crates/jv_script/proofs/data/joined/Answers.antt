@@ -11,7 +11,7 @@ loop-rest-init c = bytes_of_parts-after (parted 43 c.args.text.now) ∙ ap (λ f
 
 pub returns-then-not-branch : goal.returns-then-not-branch
 returns-then-not-branch c =
-    let front = c.push_single_bytes.new.bytes.items in
+    let front = c.push_short_parts.new.bytes.items in
     let part = c.cut.result.0.now in
     let texts = parts_after 43 (option_copied c.cut.result.1) in
     let here = c.loop-rest.invariant ∙ ap (λ rest. bytes_after c.loop-rest.bytes.items (parts_after 43 (option_copied rest))) c.in-Some.is ∙ c.in_ok-parts.ensures.whole ∙ ap (bytes_after front) c.cut.ensures in
@@ -24,7 +24,7 @@ loop-rest-smaller c =
 
 pub loop-rest-preserved : goal.loop-rest-preserved
 loop-rest-preserved c =
-    let front = c.push_single_bytes.new.bytes.items in
+    let front = c.push_short_parts.new.bytes.items in
     let part = c.cut.result.0.now in
     let texts = parts_after 43 (option_copied c.cut.result.1) in
     let here = c.loop-rest.invariant ∙ ap (λ rest. bytes_after c.loop-rest.bytes.items (parts_after 43 (option_copied rest))) c.in-Some.is ∙ c.in_ok-parts.ensures.whole ∙ ap (bytes_after front) c.cut.ensures in

@@ -1,9 +1,12 @@
-use Rattle.std.proofs.Common.{rules, arith, ◌<◌, length, sym, ◌∙◌}
+use Rattle.std.proofs.Common.{rules, arith, ◌<◌, length, get_or}
 use Rattle.jv_script.proofs.Parts.{pairs_off, pairs_end}
+use Rattle.jv_script.proofs.ShortParts.{no_pair_given}
 use Rattle.jv_script.proofs.data.push_few_pairs.Goals as goal
 
-pub returns-then-not-are_hex_digits : goal.returns-then-not-are_hex_digits
-returns-then-not-are_hex_digits c = rw (pairs_off c.args.digits.now c.loop-rest.rest.now c.loop-rest.invariant.paired (omega arith) (sym c.are_hex_digits.ensures ∙ c.if-not-are_hex_digits.true)) tt
+pub returns-in_default-byte_of_pair : goal.returns-in_default-byte_of_pair
+returns-in_default-byte_of_pair c =
+    let rest = c.loop-rest.rest.now in
+    rw (pairs_off c.args.digits.now rest c.loop-rest.invariant.paired (omega arith) (no_pair_given (get_or rest 0 0) (get_or rest 1 0) c.in_default-byte_of_pair.ensures)) tt
 
 pub returns : goal.returns
 returns c =

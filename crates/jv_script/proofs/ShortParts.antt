@@ -1,0 +1,186 @@
+-- Parts of a few digits at the front of a text.
+use Rattle.std.proofs.Common.{◌≡◌, ℕ, zero, suc, ◌-◌, ◌<◌, ◌≤◌, ◌&&◌, ◌==◌, Bool, true, false, List, [], ◌∷◌, ◌++◌, Some, None, length, get_or, take, drop, replicate, cond, refl, sym, ap, ◌∙◌, arith}
+use Rattle.std.proofs.lemmas.Bool.{eq-eqb, eqb-true, le-leb, lt-ltb, false≢true, false_from_ne_true}
+use Rattle.std.specs.List.{onto_first}
+use Rattle.std.proofs.lemmas.List.{take_rest, append_assoc}
+use Rattle.std.proofs.lemmas.List.Splits.{slice_split_at, slice_split-cons_no}
+use Rattle.jv_model.specs.Spelling.{is_hex_digit, number_of, value_of, bytes_of_digits}
+use Rattle.jv_model.specs.Printed.{Part, Plain, Repeated}
+use Rattle.jv_model.specs.Grammar.{provided, byte_of, parted, is_pairs, repeated_of, part_of, part_bytes}
+use Rattle.jv_script.specs.Reading.{Appends, Leaves, IsFront, has_x, bytes_after}
+use Rattle.jv_script.proofs.Digits.{number_in}
+use Rattle.jv_script.proofs.Parts.{part_of_pairs, part_of_with_x, part_of_without_x, all_paired, is_pairs-all_paired, bytes_after-more, bytes_after-off}
+
+digit_no_plus : (c : ℕ) → is_hex_digit c ≡ true → (c == 43) ≡ false
+digit_no_plus c hex = false_from_ne_true (c == 43) (λ plus. false≢true (ap is_hex_digit (sym (eqb-true c 43 plus)) ∙ hex))
+
+-- a pair that was read
+pair_given : (high low byte : ℕ) → Some byte ≡ provided (is_hex_digit high && is_hex_digit low) (byte_of high low) → (is_hex_digit high ≡ true) × (is_hex_digit low ≡ true) × (byte_of high low ≡ byte)
+pair_given high low byte read = by_digits (is_hex_digit high) (is_hex_digit low) read
+  where
+    by_digits : (u v : Bool) → Some byte ≡ provided (u && v) (byte_of high low) → (u ≡ true) × (v ≡ true) × (byte_of high low ≡ byte)
+    by_digits true true e = (refl, refl, cc)
+    by_digits true false e = (refl, cc, cc)
+    by_digits false v e = (cc, cc, cc)
+
+pub no_pair_given : (high low : ℕ) → None ≡ provided (is_hex_digit high && is_hex_digit low) (byte_of high low) → is_hex_digit high && is_hex_digit low ≡ false
+no_pair_given high low refused = by_digits (is_hex_digit high && is_hex_digit low) refused
+  where
+    by_digits : (v : Bool) → None ≡ provided v (byte_of high low) → v ≡ false
+    by_digits true e = cc
+    by_digits false e = refl
+
+-- no part ends in it
+unfoldable NoPlus : List ℕ → Type 0
+NoPlus [] = Unit {0}
+NoPlus (c ∷ text) = ((c == 43) ≡ false) × NoPlus text
+
+no_plus_at : (text : List ℕ) → NoPlus text → (k d : ℕ) → k < length text → (get_or text k d == 43) ≡ false
+unfolding NoPlus
+no_plus_at [] others k d below = absurd (omega arith)
+no_plus_at (c ∷ text) others zero d below = others.0
+no_plus_at (c ∷ text) others (suc k) d below = no_plus_at text others.1 k d (omega arith)
+
+-- the first of a text's parts, where it ends
+first_part : (first rest tail : List ℕ) (c : ℕ) (part : Part) → NoPlus first → c ≡ 43 → part_of first ≡ Some part → tail ≡ rest → IsFront (first ++ c ∷ rest) (part_bytes part) tail
+first_part first rest tail c part others plus is_part same before =
+    let parts = slice_split_at (λ c. c == 43) first c rest (no_plus_at first others) (eq-eqb c 43 plus) ∙ ap (λ (text : List ℕ). first ∷ parted 43 text) (sym same) in
+    let here : Appends true before (part_of first) (before ++ part_bytes part) = rw is_part refl in
+    record {
+      whole = ap (bytes_after before) parts ∙ bytes_after-more before (before ++ part_bytes part) first (parted 43 tail) here;
+      no_more = omega (arith, ap length parts);
+    }
+
+-- a pair that is a part
+pub pair_ends : (text : List ℕ) (byte : ℕ) → Some byte ≡ provided (is_hex_digit (get_or text 0 0) && is_hex_digit (get_or text 1 0)) (byte_of (get_or text 0 0) (get_or text 1 0)) → get_or text 2 0 ≡ 43
+    → IsFront text (byte ∷ []) (take (length text - 3) (drop 3 text))
+unfolding NoPlus
+pair_ends [] byte read plus = absurd (omega (arith, plus))
+pair_ends (high ∷ []) byte read plus = absurd (omega (arith, plus))
+pair_ends (high ∷ low ∷ []) byte read plus = absurd (omega (arith, plus))
+pair_ends (high ∷ low ∷ c ∷ rest) byte read plus =
+    let (is_high, is_low, is_byte) = pair_given high low byte read in
+    let pair : is_pairs (high ∷ low ∷ []) ≡ true = rw (is_high, is_low) refl in
+    let part = part_of_pairs (high ∷ low ∷ []) pair ∙ ap (λ (byte : ℕ). Some (Plain (byte ∷ []))) is_byte in
+    first_part (high ∷ low ∷ []) rest (take (length (high ∷ low ∷ c ∷ rest) - 3) (drop 3 (high ∷ low ∷ c ∷ rest))) c (Plain (byte ∷ [])) (digit_no_plus high is_high, (digit_no_plus low is_low, tt)) plus part (take_rest (high ∷ low ∷ c ∷ rest) 3)
+
+-- the first part of a text that begins with no plus
+begun : (c : ℕ) (text : List ℕ) → (c == 43) ≡ false → (first : List ℕ) × (later : List (List ℕ)) × (parted 43 (c ∷ text) ≡ (c ∷ first) ∷ later)
+begun c text other = by_parts (parted 43 text) (slice_split-cons_no (λ c. c == 43) c text other)
+  where
+    by_parts : (parts : List (List ℕ)) → parted 43 (c ∷ text) ≡ onto_first c parts → (first : List ℕ) × (later : List (List ℕ)) × (parted 43 (c ∷ text) ≡ (c ∷ first) ∷ later)
+    by_parts [] e = ([], [], e)
+    by_parts (first ∷ later) e = (first, later, e)
+
+abbrev head : List (List ℕ) → List ℕ
+head [] = []
+head (part ∷ _) = part
+
+-- the third of a part's bytes is no `x` where the text's third is none
+no_x_left : (c : ℕ) (text first : List ℕ) (later : List (List ℕ)) → parted 43 (c ∷ text) ≡ (c ∷ first) ∷ later → (c == 43) ≡ false → has_x (c ∷ text) ≡ false → has_x (c ∷ first) ≡ false
+no_x_left c text [] later e other no_x = refl
+no_x_left c text (a ∷ []) later e other no_x = refl
+no_x_left c text (a ∷ b ∷ first) later e other no_x = by_text text (sym (slice_split-cons_no (λ c. c == 43) c text other) ∙ e) no_x
+  where
+    too_short : (part : List ℕ) (parts : List (List ℕ)) → length part < 3 → part ∷ parts ≡ (c ∷ a ∷ b ∷ first) ∷ later → (b == 120) ≡ false
+    too_short part parts short same = absurd (omega (arith, ap (λ (parts : List (List ℕ)). length (head parts)) same))
+
+    third : (t d : ℕ) (parts : List (List ℕ)) → onto_first c (onto_first t (onto_first d parts)) ≡ (c ∷ a ∷ b ∷ first) ∷ later → (d == 120) ≡ false → (b == 120) ≡ false
+    third t d [] same no_x = ap (λ (n : ℕ). n == 120) (ap (λ (parts : List (List ℕ)). get_or (head parts) 2 0) (sym same)) ∙ no_x
+    third t d (part ∷ parts) same no_x = ap (λ (n : ℕ). n == 120) (ap (λ (parts : List (List ℕ)). get_or (head parts) 2 0) (sym same)) ∙ no_x
+
+    by_tests : (u v : Bool) (t d : ℕ) (parts : List (List ℕ))
+        → onto_first c (cond u ([] ∷ cond v ([] ∷ parts) (onto_first d parts)) (onto_first t (cond v ([] ∷ parts) (onto_first d parts)))) ≡ (c ∷ a ∷ b ∷ first) ∷ later → (d == 120) ≡ false → (b == 120) ≡ false
+    by_tests true v t d parts same no_x = too_short (c ∷ []) (cond v ([] ∷ parts) (onto_first d parts)) (omega arith) same
+    by_tests false true t d parts same no_x = too_short (c ∷ t ∷ []) parts (omega arith) same
+    by_tests false false t d parts same no_x = third t d parts same no_x
+
+    by_test : (u : Bool) (t : ℕ) → onto_first c (cond u ([] ∷ [] ∷ []) ((t ∷ []) ∷ [])) ≡ (c ∷ a ∷ b ∷ first) ∷ later → (b == 120) ≡ false
+    by_test true t same = too_short (c ∷ []) ([] ∷ []) (omega arith) same
+    by_test false t same = too_short (c ∷ t ∷ []) [] (omega arith) same
+
+    by_text : (text : List ℕ) → onto_first c (parted 43 text) ≡ (c ∷ a ∷ b ∷ first) ∷ later → has_x (c ∷ text) ≡ false → (b == 120) ≡ false
+    by_text [] same no_x = too_short (c ∷ []) [] (omega arith) same
+    by_text (t ∷ []) same no_x = by_test (t == 43) t same
+    by_text (t ∷ d ∷ text) same no_x = by_tests (t == 43) (d == 43) t d (parted 43 text) same no_x
+
+-- a pair before others in a part
+pairs_more : (before first : List ℕ) (high low : ℕ) (later : List (List ℕ)) → is_hex_digit high ≡ true → is_hex_digit low ≡ true → 0 < length first → has_x (high ∷ low ∷ first) ≡ false → has_x first ≡ false
+    → bytes_after before ((high ∷ low ∷ first) ∷ later) ≡ bytes_after (before ++ byte_of high low ∷ []) (first ∷ later)
+pairs_more before first high low later is_high is_low some no_x_here left_no_x = by_pairs (is_pairs first) refl
+  where
+    pairs : is_pairs (high ∷ low ∷ first) ≡ is_pairs first
+    pairs =
+        let all : is_pairs (high ∷ low ∷ first) ≡ all_paired first = is_pairs-all_paired (high ∷ low ∷ first) ∙ rw (lt-ltb 0 (length (high ∷ low ∷ first)) (omega arith), is_high, is_low) refl in
+        let others : is_pairs first ≡ all_paired first = is_pairs-all_paired first ∙ rw (lt-ltb 0 (length first) some) refl in
+        all ∙ sym others
+
+    by_pairs : (v : Bool) → is_pairs first ≡ v → bytes_after before ((high ∷ low ∷ first) ∷ later) ≡ bytes_after (before ++ byte_of high low ∷ []) (first ∷ later)
+    by_pairs true are_pairs =
+        let after = before ++ byte_of high low ∷ bytes_of_digits first in
+        let here : Appends true before (part_of (high ∷ low ∷ first)) after = rw (part_of_pairs (high ∷ low ∷ first) (pairs ∙ are_pairs)) refl in
+        let there : Appends true (before ++ byte_of high low ∷ []) (part_of first) after = rw (part_of_pairs first are_pairs) (ap (λ (bytes : List ℕ). Some bytes) (append_assoc before (byte_of high low ∷ []) (bytes_of_digits first))) in
+        bytes_after-more before after (high ∷ low ∷ first) later here ∙ sym (bytes_after-more (before ++ byte_of high low ∷ []) after first later there)
+    by_pairs false no_pairs =
+        let here : part_of (high ∷ low ∷ first) ≡ None = part_of_without_x (high ∷ low ∷ first) no_x_here ∙ rw (pairs ∙ no_pairs) refl in
+        let there : part_of first ≡ None = part_of_without_x first left_no_x ∙ rw no_pairs refl in
+        bytes_after-off before [] (high ∷ low ∷ first) later (rw here tt) ∙ sym (bytes_after-off (before ++ byte_of high low ∷ []) [] first later (rw there tt))
+
+-- a pair that isn't the last of its part
+pub pair_goes_on : (text : List ℕ) (byte : ℕ) → 3 ≤ length text → Some byte ≡ provided (is_hex_digit (get_or text 0 0) && is_hex_digit (get_or text 1 0)) (byte_of (get_or text 0 0) (get_or text 1 0))
+    → (get_or text 2 0 ≡ 43 → ⊥) → has_x text ≡ false → has_x (take (length text - 2) (drop 2 text)) ≡ false → IsFront text (byte ∷ []) (take (length text - 2) (drop 2 text))
+pair_goes_on [] byte long read no_plus no_x left_no_x = absurd (omega arith)
+pair_goes_on (high ∷ []) byte long read no_plus no_x left_no_x = absurd (omega arith)
+pair_goes_on (high ∷ low ∷ []) byte long read no_plus no_x left_no_x = absurd (omega arith)
+pair_goes_on (high ∷ low ∷ next ∷ tail) byte long read no_plus no_x left_no_x = λ before.
+    let (is_high, is_low, is_byte) = pair_given high low byte read in
+    let other : (next == 43) ≡ false = false_from_ne_true (next == 43) (λ plus. no_plus (eqb-true next 43 plus)) in
+    let no_x_in_rest : has_x (next ∷ tail) ≡ false = sym (ap has_x (take_rest (high ∷ low ∷ next ∷ tail) 2)) ∙ left_no_x in
+    let (first, later, here) = begun next tail other in
+    let second = slice_split-cons_no (λ c. c == 43) low (next ∷ tail) (digit_no_plus low is_low) ∙ ap (onto_first low) here in
+    let parts : parted 43 (high ∷ low ∷ next ∷ tail) ≡ (high ∷ low ∷ next ∷ first) ∷ later = slice_split-cons_no (λ c. c == 43) high (low ∷ next ∷ tail) (digit_no_plus high is_high) ∙ ap (onto_first high) second in
+    let rest : parted 43 (take (length (high ∷ low ∷ next ∷ tail) - 2) (drop 2 (high ∷ low ∷ next ∷ tail))) ≡ (next ∷ first) ∷ later = ap (parted 43) (take_rest (high ∷ low ∷ next ∷ tail) 2) ∙ here in
+    let same = pairs_more before (next ∷ first) high low later is_high is_low (omega arith) no_x (no_x_left next tail first later here other no_x_in_rest) in
+    let bytes : before ++ byte_of high low ∷ [] ≡ before ++ byte ∷ [] = ap (λ (byte : ℕ). before ++ byte ∷ []) is_byte in
+    record {
+      whole = ap (bytes_after before) parts ∙ same ∙ ap (λ (bytes : List ℕ). bytes_after bytes ((next ∷ first) ∷ later)) bytes ∙ ap (bytes_after (before ++ byte ∷ [])) (sym rest);
+      no_more = omega (arith, ap length parts, ap length rest);
+    }
+
+digit_number : (c : ℕ) → 49 ≤ c → c ≤ 57 → number_of (c ∷ []) ≡ Some (c - 48)
+digit_number c low high =
+    let value : value_of 10 (c ∷ []) ≡ c - 48 = omega arith in
+    number_in (c ∷ []) (rw (le-leb 48 c (omega arith), le-leb c 57 high) refl) (omega (arith, value)) ∙ ap Some value
+
+-- a byte and how often it stands, by one digit
+counted : (high low x c byte : ℕ) → is_hex_digit high ≡ true → is_hex_digit low ≡ true → byte_of high low ≡ byte → x ≡ 120 → 49 ≤ c → c ≤ 57
+    → part_of (high ∷ low ∷ x ∷ c ∷ []) ≡ Some (Repeated (record { byte = byte; count = c - 48 }))
+unfolding repeated_of
+counted high low x c byte is_high is_low is_byte is_x one nine =
+    part_of_with_x (high ∷ low ∷ x ∷ c ∷ []) (eq-eqb x 120 is_x) ∙ rw (digit_number c one nine, is_high, is_low, eq-eqb x 120 is_x, lt-ltb 0 (c - 48) (omega arith), is_byte) refl
+
+-- a pair with a count that is a part
+pub counted_first : (text : List ℕ) (byte : ℕ) → Some byte ≡ provided (is_hex_digit (get_or text 0 0) && is_hex_digit (get_or text 1 0)) (byte_of (get_or text 0 0) (get_or text 1 0))
+    → get_or text 2 0 ≡ 120 → 49 ≤ get_or text 3 0 → get_or text 3 0 ≤ 57 → get_or text 4 0 ≡ 43
+    → IsFront text (replicate (get_or text 3 0 - 48) byte) (take (length text - 5) (drop 5 text))
+unfolding NoPlus
+counted_first [] byte read is_x one nine plus = absurd (omega (arith, plus))
+counted_first (a ∷ []) byte read is_x one nine plus = absurd (omega (arith, plus))
+counted_first (a ∷ b ∷ []) byte read is_x one nine plus = absurd (omega (arith, plus))
+counted_first (a ∷ b ∷ x ∷ []) byte read is_x one nine plus = absurd (omega (arith, plus))
+counted_first (a ∷ b ∷ x ∷ d ∷ []) byte read is_x one nine plus = absurd (omega (arith, plus))
+counted_first (a ∷ b ∷ x ∷ d ∷ e ∷ rest) byte read is_x one nine plus =
+    let (is_a, is_b, is_byte) = pair_given a b byte read in
+    let x_no_plus : (x == 43) ≡ false = ap (λ (x : ℕ). x == 43) is_x in
+    let digit_is_no_plus : (d == 43) ≡ false = false_from_ne_true (d == 43) (λ plus. absurd (omega (arith, eqb-true d 43 plus))) in
+    let part = counted a b x d byte is_a is_b is_byte is_x one nine in
+    first_part (a ∷ b ∷ x ∷ d ∷ []) rest (take (length (a ∷ b ∷ x ∷ d ∷ e ∷ rest) - 5) (drop 5 (a ∷ b ∷ x ∷ d ∷ e ∷ rest))) e (Repeated (record { byte = byte; count = d - 48 })) (digit_no_plus a is_a, (digit_no_plus b is_b, (x_no_plus, (digit_is_no_plus, tt)))) plus part (take_rest (a ∷ b ∷ x ∷ d ∷ e ∷ rest) 5)
+
+-- one front more
+pub leaves_more : (start whole before text front after rest : List ℕ) → Leaves start whole before text → IsFront text front rest → after ≡ before ++ front → Leaves start whole after rest
+leaves_more start whole before text front after rest left is_front more =
+    let here = is_front before in
+    record {
+      whole = left.whole ∙ here.whole ∙ ap (λ (bytes : List ℕ). bytes_after bytes (parted 43 rest)) (sym more);
+      no_more = omega (arith, left.no_more, here.no_more);
+    }
