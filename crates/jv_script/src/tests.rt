@@ -266,6 +266,7 @@ fn reads_bytes_in_all_spellings(rt: HostRuntime) -> Result<(), Fail> {
         ("A write 1 0 61x3", b"aaa".as_slice()),
         ("A write 1 0 61x1+62+6364+65x2", b"abcdee".as_slice()),
         ("A write 1 0 61+62x3+6364+65", b"abbbcde".as_slice()),
+        ("A write 1 0 61x9+62x1+63", b"aaaaaaaaabc".as_slice()),
         ("A write 1 0 61+6A+00+fF+2b", b"aj\x00\xff+".as_slice()),
         (
             "A write 1 0 61+6263646566676869707172737475767778+79",
@@ -423,6 +424,7 @@ fn refuses_other_paths_and_bytes(rt: HostRuntime) {
         b"A write 1 0 61+636465666768697071727374757677787".as_slice(),
         b"A write 1 0 61++61".as_slice(),
         b"A write 1 0 61x".as_slice(),
+        b"A write 1 0 6162x3".as_slice(),
         b"A write 1 0 61x0".as_slice(),
         b"A write 1 0 61x01".as_slice(),
         b"A write 1 0 6162x2".as_slice(),

@@ -43,6 +43,7 @@ fn measured_kind(alloc: Global, name: &str, size: u32) -> Result<Option<u64>, Do
         ("row", "read") => kinds::read(alloc, kind, size),
         ("parts", "spelled") => script::parts_spelled(alloc, kind, size),
         ("parts", "read") => script::parts_read(alloc, kind, size),
+        ("parts", "printed") => script::parts_printed(alloc, kind, size),
         _ => Ok(None),
     }
 }

@@ -152,6 +152,18 @@ pub fn parts_read(alloc: Global, kind: &str, count: u32) -> Result<Option<u64>, 
     }
 }
 
+/// Spells a line that writes bytes in so many parts of a kind, reads it, and prints the answer that gives the bytes again.
+/// Gives the length of the printed text, or None where there is no such kind.
+pub fn parts_printed(alloc: Global, kind: &str, count: u32) -> Result<Option<u64>, Down> {
+    let Some(parts) = parts_named(kind) else {
+        return Ok(None);
+    };
+    let text = spelled_in_parts(alloc, parts, count)?;
+    let bytes = data_of(alloc, &text)?.unwrap_or(Sequence::new(alloc));
+    let printed = print_reply(alloc, &setting(alloc)?, &Reply::Data(bytes))?;
+    Ok(Some(printed.len() as u64))
+}
+
 fn setting(alloc: Global) -> Result<Setting, AllocError> {
     Ok(Setting {
         version: 1,
