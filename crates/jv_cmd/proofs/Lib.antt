@@ -7,6 +7,7 @@ pub mod StepLaws
 pub mod FreshLaws
 pub mod ActLaws
 pub mod GoingLaws
+pub mod SayingLaws
 mod CommandLaws
 pub mod Apps
 pub mod AskedLaws

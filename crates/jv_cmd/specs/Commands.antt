@@ -12,17 +12,18 @@ use Rattle.jv_cmd.specs.Ends.{status_of, message_of}
 use Rattle.jv_cmd.specs.Fresh.{formatted_text, PutsRows, CannotFormat}
 use Rattle.jv_cmd.specs.Opening.{CannotOpen, IsKnown}
 use Rattle.jv_cmd.specs.Run.{Seen, RunsLines}
+use Rattle.jv_cmd.specs.Saying.{Shown, Says}
 
--- what is seen of the devices: the source's bytes left, what a session's lines see, the keeper's rows and faults, and the
--- bytes of standard error; of each device's content where it tells that
+-- what is seen of the devices: the source's bytes left, what a session's lines see, the keeper's rows and faults, and
+-- standard error; of each device's content where it tells that
 pub record Outside : Type 0 where
   pub left : Option (List ℕ)
   pub lines : Seen
   pub rows : Option RowMap
   pub keeper_faults : ℕ
-  pub shown : Option (List ℕ)
+  pub shown : Shown
 
-abbrev pub outside : Option (List ℕ) → Seen → Option RowMap → ℕ → Option (List ℕ) → Outside
+abbrev pub outside : Option (List ℕ) → Seen → Option RowMap → ℕ → Shown → Outside
 outside left lines rows keeper_faults shown = record { left = left; lines = lines; rows = rows; keeper_faults = keeper_faults; shown = shown }
 
 -- neither the source nor out nor the clock nor the journal was used
@@ -50,17 +51,17 @@ abbrev pub Runs : Command → Outside → Outside → Ended → Type 0
 Runs (Format place setting) before after ended = RunsFormat setting before after ended × (after.left ≡ before.left) × (after.lines.journal ≡ before.lines.journal)
 Runs (Session place options) before after ended = RunsSession before after ended × (after.rows ≡ before.rows)
 
--- how the command ended, its status, and its text on standard error, or a front of it where that failed
+-- how the command ended, its status, and its text on standard error
 pub record EndsCommand (command : Command) (before after : Outside) (status : ℕ) : Type 0 where
   pub ended : Ended
   pub runs : Runs command before after ended
   pub result : status ≡ status_of ended
-  pub shown : GainsFront before.shown after.shown (message_of ended)
+  pub says : Says before.shown after.shown (message_of ended)
 
 -- the words are refused, or there is no memory to read them; nothing but standard error is used
 pub data RefusesWords (before after : Outside) (status : ℕ) : Type 0 where
-  Refused : (text : List ℕ) → status ≡ 2 → GainsFront before.shown after.shown text → RefusesWords before after status
-  NoMemory : status ≡ status_of OutOfMemory → GainsFront before.shown after.shown (message_of OutOfMemory) → RefusesWords before after status
+  Refused : (text : List ℕ) → status ≡ 2 → Says before.shown after.shown text → RefusesWords before after status
+  NoMemory : status ≡ status_of OutOfMemory → Says before.shown after.shown (message_of OutOfMemory) → RefusesWords before after status
 
 pub record EndsUnread (before after : Outside) (status : ℕ) : Type 0 where
   pub refuses : RefusesWords before after status

@@ -5,6 +5,7 @@ pub mod Values
 pub mod Program
 pub mod Words
 pub mod Ends
+pub mod Saying
 pub mod Run
 pub mod Fresh
 pub mod Opening

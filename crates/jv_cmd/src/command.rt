@@ -1,8 +1,8 @@
 //! The top call.
 ghost use Rattle.std.specs.Prelude.{◌≡◌, [], map, string_bytes, true, false};
-ghost use Rattle.jv_outside.specs.Told.{GainsFront};
 ghost use Rattle.jv_cmd.specs.Commands.{outside, Runs, RunsSession, RunsWords};
 ghost use Rattle.jv_cmd.specs.Run.{seen};
+ghost use Rattle.jv_cmd.specs.Saying.{shown};
 ghost use Rattle.jv_cmd.specs.Words.{asked, IsAllowedCommand};
 
 use crate::ended::{Ended, report, say};
@@ -32,8 +32,8 @@ pub fn run<S: Source, O: Sink, E: Sink, K: Keeper, C: Clock>(
     world: World<S, O, E, K, C>,
 ) -> Finish<S, O, E, K, C>
     ensures { RunsWords (asked (map string_bytes words.now))
-        (outside (S.left world.source) (seen (S.faults world.source) (O.taken world.out) (O.faults world.out) (C.answers world.clock) (C.faults world.clock) []) (K.rows world.keeper) (K.faults world.keeper) (E.taken world.err))
-        (outside (S.left result.world.source) (seen (S.faults result.world.source) (O.taken result.world.out) (O.faults result.world.out) (C.answers result.world.clock) (C.faults result.world.clock) result.world.journal.acts) (K.rows result.world.keeper) (K.faults result.world.keeper) (E.taken result.world.err))
+        (outside (S.left world.source) (seen (S.faults world.source) (O.taken world.out) (O.faults world.out) (C.answers world.clock) (C.faults world.clock) []) (K.rows world.keeper) (K.faults world.keeper) (shown (E.taken world.err) (E.faults world.err)))
+        (outside (S.left result.world.source) (seen (S.faults result.world.source) (O.taken result.world.out) (O.faults result.world.out) (C.answers result.world.clock) (C.faults result.world.clock) result.world.journal.acts) (K.rows result.world.keeper) (K.faults result.world.keeper) (shown (E.taken result.world.err) (E.faults result.world.err)))
         result.status }
 {
     let mut world = world;
@@ -41,7 +41,7 @@ pub fn run<S: Source, O: Sink, E: Sink, K: Keeper, C: Clock>(
     match read_words(alloc, words) {
         Ok(command) => {
             let ended = run_command(alloc, command, &mut world);
-            report(alloc, ended, &mut world.err);
+            report(ended, &mut world.err);
             let status = ended.status();
             Finish { status, world }
         }
@@ -50,7 +50,7 @@ pub fn run<S: Source, O: Sink, E: Sink, K: Keeper, C: Clock>(
             Finish { status: 2, world }
         }
         Err(WordsFault::Memory) => {
-            report(alloc, Ended::OutOfMemory, &mut world.err);
+            report(Ended::OutOfMemory, &mut world.err);
             let status = Ended::OutOfMemory.status();
             Finish { status, world }
         }
@@ -65,8 +65,8 @@ fn run_command<S: Source, O: Sink, E: Sink, K: Keeper, C: Clock>(
     requires allowed { IsAllowedCommand command }
     requires empty { world.old.journal.acts ≡ [] }
     ensures runs { Runs command
-        (outside (S.left world.old.source) (seen (S.faults world.old.source) (O.taken world.old.out) (O.faults world.old.out) (C.answers world.old.clock) (C.faults world.old.clock) world.old.journal.acts) (K.rows world.old.keeper) (K.faults world.old.keeper) (E.taken world.old.err))
-        (outside (S.left world.new.source) (seen (S.faults world.new.source) (O.taken world.new.out) (O.faults world.new.out) (C.answers world.new.clock) (C.faults world.new.clock) world.new.journal.acts) (K.rows world.new.keeper) (K.faults world.new.keeper) (E.taken world.new.err))
+        (outside (S.left world.old.source) (seen (S.faults world.old.source) (O.taken world.old.out) (O.faults world.old.out) (C.answers world.old.clock) (C.faults world.old.clock) world.old.journal.acts) (K.rows world.old.keeper) (K.faults world.old.keeper) (shown (E.taken world.old.err) (E.faults world.old.err)))
+        (outside (S.left world.new.source) (seen (S.faults world.new.source) (O.taken world.new.out) (O.faults world.new.out) (C.answers world.new.clock) (C.faults world.new.clock) world.new.journal.acts) (K.rows world.new.keeper) (K.faults world.new.keeper) (shown (E.taken world.new.err) (E.faults world.new.err)))
         result }
     ensures err { world.new.err ≡ world.old.err }
 {
@@ -84,8 +84,8 @@ fn run_session<S: Source, O: Sink, E: Sink, K: Keeper, C: Clock>(
 ) -> Ended
     requires { world.old.journal.acts ≡ [] }
     ensures runs { RunsSession
-        (outside (S.left world.old.source) (seen (S.faults world.old.source) (O.taken world.old.out) (O.faults world.old.out) (C.answers world.old.clock) (C.faults world.old.clock) world.old.journal.acts) (K.rows world.old.keeper) (K.faults world.old.keeper) (E.taken world.old.err))
-        (outside (S.left world.new.source) (seen (S.faults world.new.source) (O.taken world.new.out) (O.faults world.new.out) (C.answers world.new.clock) (C.faults world.new.clock) world.new.journal.acts) (K.rows world.new.keeper) (K.faults world.new.keeper) (E.taken world.new.err))
+        (outside (S.left world.old.source) (seen (S.faults world.old.source) (O.taken world.old.out) (O.faults world.old.out) (C.answers world.old.clock) (C.faults world.old.clock) world.old.journal.acts) (K.rows world.old.keeper) (K.faults world.old.keeper) (shown (E.taken world.old.err) (E.faults world.old.err)))
+        (outside (S.left world.new.source) (seen (S.faults world.new.source) (O.taken world.new.out) (O.faults world.new.out) (C.answers world.new.clock) (C.faults world.new.clock) world.new.journal.acts) (K.rows world.new.keeper) (K.faults world.new.keeper) (shown (E.taken world.new.err) (E.faults world.new.err)))
         result }
     ensures keeper { K.rows world.new.keeper ≡ K.rows world.old.keeper }
     ensures err { world.new.err ≡ world.old.err }

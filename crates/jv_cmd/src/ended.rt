@@ -1,10 +1,11 @@
 //! How a command ends.
-ghost use Rattle.std.specs.Prelude.{◌≡◌};
+ghost use Rattle.std.specs.Prelude.{◌≡◌, ◌++◌, decimal};
 ghost use Rattle.jv_cmd.specs.Ends.{status_of, message_of};
-ghost use Rattle.jv_outside.specs.Told.{GainsFront};
+ghost use Rattle.jv_cmd.specs.Saying.{shown, Says, SaysBy};
 
+use itoa::Buffer;
+use jv_model::Down;
 use jv_outside::{Sink, write_whole};
-use std::alloc::Global;
 
 /// How a command ended.
 #[derive(Clone, Copy, Debug, PartialEq, Eq)]
@@ -44,16 +45,21 @@ impl Ended {
     }
 }
 
-/// Says on standard error how the command ended. A fault there is passed over.
-pub(crate) fn report<E: Sink>(alloc: Global, ended: Ended, err: &mut E)
-    ensures { GainsFront (E.taken err.old) (E.taken err.new) (message_of ended) }
+/// Says on standard error how the command ended. Takes no memory. A fault there is passed over.
+pub(crate) fn report<E: Sink>(ended: Ended, err: &mut E)
+    ensures { Says (shown (E.taken err.old) (E.faults err.old)) (shown (E.taken err.new) (E.faults err.new)) (message_of ended) }
 {
     match ended {
         Ended::Whole => {}
-        Ended::OffLine(number) => report_line(alloc, number, err),
+        Ended::OffLine(number) => say_number(
+            b"juicevol: line ",
+            number,
+            b": not a script line\n",
+            err,
+        ),
         Ended::NoVolume => say(b"juicevol: no volume\n", err),
         Ended::VolumeExists => say(b"juicevol: volume exists\n", err),
-        Ended::NewerVersion(version) => report_version(alloc, version, err),
+        Ended::NewerVersion(version) => say_number(b"juicevol: version ", version, b"\n", err),
         Ended::SettingOff => say(b"juicevol: row 0 0 -: not a row\n", err),
         Ended::SourceFailed => say(b"juicevol: source failed\n", err),
         Ended::OutFailed => say(b"juicevol: out failed\n", err),
@@ -63,27 +69,24 @@ pub(crate) fn report<E: Sink>(alloc: Global, ended: Ended, err: &mut E)
     }
 }
 
-/// Says which line isn't run. Where there is no memory for the text nothing is said.
-fn report_line<E: Sink>(alloc: Global, number: u32, err: &mut E)
-    ensures { GainsFront (E.taken err.old) (E.taken err.new) (message_of (Ended.OffLine number)) }
-{
-    if let Ok(text) = format!(in alloc; "juicevol: line {number}: not a script line\n") {
-        say(text.as_bytes(), err);
-    }
-}
-
-/// Says of which later version the rows are. Where there is no memory for the text nothing is said.
-fn report_version<E: Sink>(alloc: Global, version: u32, err: &mut E)
-    ensures { GainsFront (E.taken err.old) (E.taken err.new) (message_of (Ended.NewerVersion version)) }
-{
-    if let Ok(text) = format!(in alloc; "juicevol: version {version}\n") {
-        say(text.as_bytes(), err);
-    }
-}
-
 /// Writes a text to standard error. A fault there is passed over.
 pub(crate) fn say<E: Sink>(text: &[u8], err: &mut E)
-    ensures { GainsFront (E.taken err.old) (E.taken err.new) text.now }
+    ensures { Says (shown (E.taken err.old) (E.faults err.old)) (shown (E.taken err.new) (E.faults err.new)) text.now }
 {
     let _ = write_whole(err, text);
+}
+
+/// Writes a text with a number in it to standard error. A fault there is passed over.
+fn say_number<E: Sink>(before: &[u8], number: u32, after: &[u8], err: &mut E)
+    ensures { Says (shown (E.taken err.old) (E.faults err.old)) (shown (E.taken err.new) (E.faults err.new)) (before.now ++ decimal number ++ after.now) }
+{
+    let _ = write_number(before, number, after, err);
+}
+
+fn write_number<E: Sink>(before: &[u8], number: u32, after: &[u8], err: &mut E) -> Result<(), Down>
+    ensures { SaysBy result (shown (E.taken err.old) (E.faults err.old)) (shown (E.taken err.new) (E.faults err.new)) (before.now ++ decimal number ++ after.now) }
+{
+    write_whole(err, before)?;
+    write_whole(err, Buffer::new().format(number).as_bytes())?;
+    write_whole(err, after)
 }

@@ -4,6 +4,7 @@ ghost use Rattle.jv_model.specs.RowGrammar.{is_setting};
 ghost use Rattle.jv_cmd.specs.Commands.{outside, RunsFormat};
 ghost use Rattle.jv_cmd.specs.Fresh.{default_setting, fresh_counters, fresh_directory, fresh_rows, formatted_text, PutsRows, CannotFormat};
 ghost use Rattle.jv_cmd.specs.Run.{seen};
+ghost use Rattle.jv_cmd.specs.Saying.{shown};
 
 use crate::ended::Ended;
 use crate::volume::stored_setting;
@@ -125,8 +126,8 @@ pub(crate) fn run_format<S: Source, O: Sink, E: Sink, K: Keeper, C: Clock>(
 ) -> Ended
     requires { IsTrue (is_setting setting.now) }
     ensures formats { RunsFormat setting.now
-        (outside (S.left world.old.source) (seen (S.faults world.old.source) (O.taken world.old.out) (O.faults world.old.out) (C.answers world.old.clock) (C.faults world.old.clock) world.old.journal.acts) (K.rows world.old.keeper) (K.faults world.old.keeper) (E.taken world.old.err))
-        (outside (S.left world.new.source) (seen (S.faults world.new.source) (O.taken world.new.out) (O.faults world.new.out) (C.answers world.new.clock) (C.faults world.new.clock) world.new.journal.acts) (K.rows world.new.keeper) (K.faults world.new.keeper) (E.taken world.new.err))
+        (outside (S.left world.old.source) (seen (S.faults world.old.source) (O.taken world.old.out) (O.faults world.old.out) (C.answers world.old.clock) (C.faults world.old.clock) world.old.journal.acts) (K.rows world.old.keeper) (K.faults world.old.keeper) (shown (E.taken world.old.err) (E.faults world.old.err)))
+        (outside (S.left world.new.source) (seen (S.faults world.new.source) (O.taken world.new.out) (O.faults world.new.out) (C.answers world.new.clock) (C.faults world.new.clock) world.new.journal.acts) (K.rows world.new.keeper) (K.faults world.new.keeper) (shown (E.taken world.new.err) (E.faults world.new.err)))
         result }
     ensures source { world.new.source ≡ world.old.source }
     ensures journal { world.new.journal.acts ≡ world.old.journal.acts }

@@ -1,0 +1,32 @@
+use Rattle.jv_cmd.proofs.SayingLaws.{Says-ended}
+use Rattle.jv_cmd.proofs.ended.report.Goals as goal
+
+pub returns-in-OffLine : goal.returns-in-OffLine
+returns-in-OffLine g c = Says-ended c.in-OffLine.is c.say_number.ensures
+
+pub returns-in-NoVolume : goal.returns-in-NoVolume
+returns-in-NoVolume g c = Says-ended c.in-NoVolume.is c.say.ensures
+
+pub returns-in-VolumeExists : goal.returns-in-VolumeExists
+returns-in-VolumeExists g c = Says-ended c.in-VolumeExists.is c.say-in-VolumeExists.ensures
+
+pub returns-in-NewerVersion : goal.returns-in-NewerVersion
+returns-in-NewerVersion g c = Says-ended c.in-NewerVersion.is c.say_number-in-NewerVersion.ensures
+
+pub returns-in-SettingOff : goal.returns-in-SettingOff
+returns-in-SettingOff g c = Says-ended c.in-SettingOff.is c.say-in-SettingOff.ensures
+
+pub returns-in-SourceFailed : goal.returns-in-SourceFailed
+returns-in-SourceFailed g c = Says-ended c.in-SourceFailed.is c.say-in-SourceFailed.ensures
+
+pub returns-in-OutFailed : goal.returns-in-OutFailed
+returns-in-OutFailed g c = Says-ended c.in-OutFailed.is c.say-in-OutFailed.ensures
+
+pub returns-in-ClockFailed : goal.returns-in-ClockFailed
+returns-in-ClockFailed g c = Says-ended c.in-ClockFailed.is c.say-in-ClockFailed.ensures
+
+pub returns-in-KeeperFailed : goal.returns-in-KeeperFailed
+returns-in-KeeperFailed g c = Says-ended c.in-KeeperFailed.is c.say-in-KeeperFailed.ensures
+
+pub returns-in-OutOfMemory : goal.returns-in-OutOfMemory
+returns-in-OutOfMemory g c = Says-ended c.in-OutOfMemory.is c.say-in-OutOfMemory.ensures
