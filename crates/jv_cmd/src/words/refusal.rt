@@ -59,12 +59,14 @@ fn text_of(alloc: Global, error: &Error) -> Result<String, AllocError> {
     without_hints(alloc, text.as_str())
 }
 
-/// A text of `clap` without the lines that guess at what was meant, and without the blank line above them.
+/// A text of `clap` without the lines that guess at what was meant, and without the blank line above them. Where there is
+/// a guess the usage is one of them: it names the option that is taken for meant.
 fn without_hints(alloc: Global, text: &str) -> Result<String, AllocError> {
+    let has_guess = text.lines().any(is_tip);
     let mut kept = String::new(alloc);
     let mut is_after_blank = false;
     for line in text.lines() {
-        let is_hint = line.starts_with("  tip: ");
+        let is_hint = is_tip(line) || has_guess && line.starts_with("Usage: ");
         if !is_hint && !(line.is_empty() && is_after_blank) {
             kept.push_str(line)?;
             kept.push_str("\n")?;
@@ -72,4 +74,8 @@ fn without_hints(alloc: Global, text: &str) -> Result<String, AllocError> {
         }
     }
     Ok(kept)
+}
+
+fn is_tip(line: &str) -> bool {
+    line.starts_with("  tip: ")
 }

@@ -327,8 +327,6 @@ Options:
 
 const UNKNOWN_OPTION: &str = "error: unexpected argument '--cache-siz' found
 
-Usage: juicevol session --cache-size <N> <META-URL>
-
 For more information, try '--help'.
 ";
 
