@@ -45,6 +45,8 @@ enum Parts {
     Triple,
     Once,
     Counted,
+    Alternating,
+    Runs,
     Mixed,
 }
 
@@ -73,7 +75,7 @@ fn push_count(text: &mut Vec<u8>, count: u32) -> Result<(), AllocError> {
 }
 
 /// A part: one byte, two bytes, three, one byte once, one byte one to nine times, or the first, second or last of these by
-/// what the number is.
+/// what the number is. Or two parts: one byte and another once, or one byte four times and another.
 fn push_part(text: &mut Vec<u8>, parts: Parts, number: u32) -> Result<(), AllocError> {
     push_byte(text, number)?;
     match (parts, number / 256 % 3) {
@@ -83,6 +85,16 @@ fn push_part(text: &mut Vec<u8>, parts: Parts, number: u32) -> Result<(), AllocE
             push_byte(text, number / 4)
         }
         (Parts::Once, _) => push_count(text, 1),
+        (Parts::Alternating, _) => {
+            text.push(b'+')?;
+            push_byte(text, number / 16)?;
+            push_count(text, 1)
+        }
+        (Parts::Runs, _) => {
+            push_count(text, 4)?;
+            text.push(b'+')?;
+            push_byte(text, number.wrapping_add(1))
+        }
         (Parts::Counted, _) | (Parts::Mixed, 2) => push_count(text, 1 + number % 9),
         _ => Ok(()),
     }
@@ -108,6 +120,8 @@ fn parts_named(kind: &str) -> Option<Parts> {
         "double" => Some(Parts::Double),
         "triple" => Some(Parts::Triple),
         "once" => Some(Parts::Once),
+        "alternating" => Some(Parts::Alternating),
+        "runs" => Some(Parts::Runs),
         "counted" => Some(Parts::Counted),
         "mixed" => Some(Parts::Mixed),
         _ => None,
