@@ -5,6 +5,7 @@ pub mod Values
 pub mod Parts
 pub mod ShortParts
 pub mod Spelling
+pub mod Rooms
 pub mod Runs
 pub mod HexText
 pub mod Joined

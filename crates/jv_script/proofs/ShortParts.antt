@@ -2,12 +2,12 @@
 use Rattle.std.proofs.Common.{◌≡◌, ℕ, zero, suc, ◌-◌, ◌<◌, ◌≤◌, ◌&&◌, ◌==◌, Bool, true, false, List, [], ◌∷◌, ◌++◌, Some, None, length, get_or, take, drop, replicate, cond, refl, sym, ap, ◌∙◌, arith}
 use Rattle.std.proofs.lemmas.Bool.{eq-eqb, eqb-true, le-leb, lt-ltb, false≢true, false_from_ne_true}
 use Rattle.std.specs.List.{onto_first}
-use Rattle.std.proofs.lemmas.List.{take_rest, append_assoc}
+use Rattle.std.proofs.lemmas.List.{take_rest, append_assoc, append-nil}
 use Rattle.std.proofs.lemmas.List.Splits.{slice_split_at, slice_split-cons_no}
 use Rattle.jv_model.specs.Spelling.{is_hex_digit, number_of, value_of, bytes_of_digits}
 use Rattle.jv_model.specs.Printed.{Part, Plain, Repeated}
 use Rattle.jv_model.specs.Grammar.{provided, byte_of, parted, is_pairs, repeated_of, part_of, part_bytes}
-use Rattle.jv_script.specs.Reading.{Appends, Leaves, IsFront, has_x, bytes_after}
+use Rattle.jv_script.specs.Reading.{Appends, IsFront, has_x, bytes_after}
 use Rattle.jv_script.proofs.Digits.{number_in}
 use Rattle.jv_script.proofs.Parts.{part_of_pairs, part_of_with_x, part_of_without_x, all_paired, is_pairs-all_paired, bytes_after-more, bytes_after-off}
 
@@ -126,21 +126,28 @@ pairs_more before first high low later is_high is_low some no_x_here left_no_x =
         let there : part_of first ≡ None = part_of_without_x first left_no_x ∙ rw no_pairs refl in
         bytes_after-off before [] (high ∷ low ∷ first) later (rw here tt) ∙ sym (bytes_after-off (before ++ byte_of high low ∷ []) [] first later (rw there tt))
 
+-- no `x` is the third of a text, where the third is another
+has_no_x : (text : List ℕ) → (get_or text 2 0 ≡ 120 → ⊥) → has_x text ≡ false
+has_no_x [] other = refl
+has_no_x (a ∷ []) other = refl
+has_no_x (a ∷ b ∷ []) other = refl
+has_no_x (a ∷ b ∷ c ∷ text) other = false_from_ne_true (c == 120) (λ x. other (eqb-true c 120 x))
+
 -- a pair that isn't the last of its part
-pub pair_goes_on : (text : List ℕ) (byte : ℕ) → 3 ≤ length text → Some byte ≡ provided (is_hex_digit (get_or text 0 0) && is_hex_digit (get_or text 1 0)) (byte_of (get_or text 0 0) (get_or text 1 0))
-    → (get_or text 2 0 ≡ 43 → ⊥) → has_x text ≡ false → has_x (take (length text - 2) (drop 2 text)) ≡ false → IsFront text (byte ∷ []) (take (length text - 2) (drop 2 text))
+pub pair_goes_on : (text : List ℕ) (byte : ℕ) → 5 ≤ length text → Some byte ≡ provided (is_hex_digit (get_or text 0 0) && is_hex_digit (get_or text 1 0)) (byte_of (get_or text 0 0) (get_or text 1 0))
+    → (get_or text 2 0 ≡ 43 → ⊥) → (get_or text 2 0 ≡ 120 → ⊥) → (get_or text 4 0 ≡ 120 → ⊥) → IsFront text (byte ∷ []) (take (length text - 2) (drop 2 text))
 pair_goes_on [] byte long read no_plus no_x left_no_x = absurd (omega arith)
 pair_goes_on (high ∷ []) byte long read no_plus no_x left_no_x = absurd (omega arith)
 pair_goes_on (high ∷ low ∷ []) byte long read no_plus no_x left_no_x = absurd (omega arith)
 pair_goes_on (high ∷ low ∷ next ∷ tail) byte long read no_plus no_x left_no_x = λ before.
     let (is_high, is_low, is_byte) = pair_given high low byte read in
     let other : (next == 43) ≡ false = false_from_ne_true (next == 43) (λ plus. no_plus (eqb-true next 43 plus)) in
-    let no_x_in_rest : has_x (next ∷ tail) ≡ false = sym (ap has_x (take_rest (high ∷ low ∷ next ∷ tail) 2)) ∙ left_no_x in
+    let no_x_in_rest : has_x (next ∷ tail) ≡ false = has_no_x (next ∷ tail) left_no_x in
     let (first, later, here) = begun next tail other in
     let second = slice_split-cons_no (λ c. c == 43) low (next ∷ tail) (digit_no_plus low is_low) ∙ ap (onto_first low) here in
     let parts : parted 43 (high ∷ low ∷ next ∷ tail) ≡ (high ∷ low ∷ next ∷ first) ∷ later = slice_split-cons_no (λ c. c == 43) high (low ∷ next ∷ tail) (digit_no_plus high is_high) ∙ ap (onto_first high) second in
     let rest : parted 43 (take (length (high ∷ low ∷ next ∷ tail) - 2) (drop 2 (high ∷ low ∷ next ∷ tail))) ≡ (next ∷ first) ∷ later = ap (parted 43) (take_rest (high ∷ low ∷ next ∷ tail) 2) ∙ here in
-    let same = pairs_more before (next ∷ first) high low later is_high is_low (omega arith) no_x (no_x_left next tail first later here other no_x_in_rest) in
+    let same = pairs_more before (next ∷ first) high low later is_high is_low (omega arith) (has_no_x (high ∷ low ∷ next ∷ tail) no_x) (no_x_left next tail first later here other no_x_in_rest) in
     let bytes : before ++ byte_of high low ∷ [] ≡ before ++ byte ∷ [] = ap (λ (byte : ℕ). before ++ byte ∷ []) is_byte in
     record {
       whole = ap (bytes_after before) parts ∙ same ∙ ap (λ (bytes : List ℕ). bytes_after bytes ((next ∷ first) ∷ later)) bytes ∙ ap (bytes_after (before ++ byte ∷ [])) (sym rest);
@@ -176,11 +183,17 @@ counted_first (a ∷ b ∷ x ∷ d ∷ e ∷ rest) byte read is_x one nine plus 
     let part = counted a b x d byte is_a is_b is_byte is_x one nine in
     first_part (a ∷ b ∷ x ∷ d ∷ []) rest (take (length (a ∷ b ∷ x ∷ d ∷ e ∷ rest) - 5) (drop 5 (a ∷ b ∷ x ∷ d ∷ e ∷ rest))) e (Repeated (record { byte = byte; count = d - 48 })) (digit_no_plus a is_a, (digit_no_plus b is_b, (x_no_plus, (digit_is_no_plus, tt)))) plus part (take_rest (a ∷ b ∷ x ∷ d ∷ e ∷ rest) 5)
 
+-- no bytes are at the front of the whole
+pub no_front : (text : List ℕ) → IsFront text [] text
+no_front text = λ before. record { whole = ap (λ (bytes : List ℕ). bytes_after bytes (parted 43 text)) (sym (append-nil before)); no_more = omega arith }
+
 -- one front more
-pub leaves_more : (start whole before text front after rest : List ℕ) → Leaves start whole before text → IsFront text front rest → after ≡ before ++ front → Leaves start whole after rest
-leaves_more start whole before text front after rest left is_front more =
+pub fronts : (whole front text more rest both : List ℕ) → IsFront whole front text → IsFront text more rest → both ≡ front ++ more → IsFront whole both rest
+fronts whole front text more rest both is_front is_next joined = λ before.
     let here = is_front before in
+    let next = is_next (before ++ front) in
+    let bytes : (before ++ front) ++ more ≡ before ++ both = append_assoc before front more ∙ ap (λ (bytes : List ℕ). before ++ bytes) (sym joined) in
     record {
-      whole = left.whole ∙ here.whole ∙ ap (λ (bytes : List ℕ). bytes_after bytes (parted 43 rest)) (sym more);
-      no_more = omega (arith, left.no_more, here.no_more);
+      whole = here.whole ∙ next.whole ∙ ap (λ (bytes : List ℕ). bytes_after bytes (parted 43 rest)) bytes;
+      no_more = omega (arith, here.no_more, next.no_more);
     }

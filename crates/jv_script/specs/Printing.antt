@@ -1,8 +1,9 @@
 -- How bytes are cut into the parts that are printed, and which answers are numbers.
-use Rattle.std.specs.Prelude.{Bool, true, false, ◌≡◌, ℕ, ◌<◌, ◌≤◌, ⊤, List, [], ◌∷◌, ◌++◌, length, take, drop, replicate, slice_index}
+use Rattle.std.specs.Prelude.{Bool, true, false, ◌&&◌, ◌==◌, ◌≡◌, ℕ, ◌<◌, ◌≤◌, List, ◌∷◌, ◌++◌, length, take, drop, replicate, map, slice_index}
+use Rattle.std.specs.List.{join_with_byte}
 use Rattle.jv_model.specs.declared.op.Reply.{Reply}
 use Rattle.jv_model.specs.declared.op.Reply.TheVariants as reply
-use Rattle.jv_model.specs.Printed.{runs_of, Part, Plain, Repeated, with_short, parts_of, part_text}
+use Rattle.jv_model.specs.Printed.{runs_of, parts_of, part_text}
 
 -- the first run of bytes has n of them
 pub record IsFirstRun (bytes : List ℕ) (n : ℕ) : Type 0 where
@@ -11,29 +12,26 @@ pub record IsFirstRun (bytes : List ℕ) (n : ℕ) : Type 0 where
   pub same : take n bytes ≡ replicate n (slice_index bytes 0)
   pub runs : runs_of bytes ≡ record { byte = slice_index bytes 0; count = n } ∷ runs_of (drop n bytes)
 
--- the parts after some bytes in front that belong to a plain part
-abbrev pub with_plain : List ℕ → List Part → List Part
-with_plain [] parts = parts
-with_plain (byte ∷ bytes) parts = with_short (byte ∷ bytes) parts
+-- the first four bytes are equal: a run that is printed as a part of its own begins there
+abbrev pub begins_long : List ℕ → Bool
+begins_long (a ∷ b ∷ c ∷ d ∷ _) = a == b && (b == c && c == d)
+begins_long _ = false
 
--- the first part, if any, is a long run
-abbrev pub IsNotPlain : List Part → Type 0
-IsNotPlain [] = ⊤
-IsNotPlain (Plain _ ∷ _) = ⊥
-IsNotPlain (Repeated _ ∷ _) = ⊤
+-- no such run begins at the first n bytes
+abbrev pub HasNoLongBefore : ℕ → List ℕ → Type 0
+HasNoLongBefore n bytes = (k : ℕ) → k < n → begins_long (drop k bytes) ≡ false
 
--- the n bytes before the first long run are one plain part
-pub record IsPlainFront (bytes : List ℕ) (n : ℕ) : Type 0 where
-  pub within : n ≤ length bytes
-  pub parts : parts_of (runs_of bytes) ≡ with_plain (take n bytes) (parts_of (runs_of (drop n bytes)))
-  pub ends : IsNotPlain (parts_of (runs_of (drop n bytes)))
+-- bytes as parts, of no bytes nothing
+abbrev pub parts_text : List ℕ → List ℕ
+parts_text bytes = join_with_byte 43 (map part_text (parts_of (runs_of bytes)))
 
--- the first part of the bytes went to the end of a text, and these are the bytes after it
-pub record PushesPart (old new bytes rest : List ℕ) : Type 0 where
-  pub part : Part
-  pub text : new ≡ old ++ part_text part
-  pub parts : parts_of (runs_of bytes) ≡ part ∷ parts_of (runs_of rest)
-  pub shorter : length rest < length bytes
+-- the front of the text of bytes, and the bytes whose text comes after it
+abbrev pub Spells : List ℕ → List ℕ → List ℕ → Type 0
+Spells bytes front rest = parts_text bytes ≡ front ++ parts_text rest
+
+-- such a front went to the end of a text
+abbrev pub Prints : List ℕ → List ℕ → List ℕ → List ℕ → Type 0
+Prints old bytes new rest = new ++ parts_text rest ≡ old ++ parts_text bytes
 
 -- an answer of numbers alone, or of none
 abbrev pub is_counts : Reply → Bool

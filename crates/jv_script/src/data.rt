@@ -3,12 +3,12 @@ ghost use Rattle.std.specs.Prelude.{◌≡◌, ◌≤◌, ◌&&◌, ◌==◌, na
 ghost use Rattle.jv_model.specs.Spelling.{is_hex_digit};
 ghost use Rattle.jv_model.specs.Printed.{Repeated};
 ghost use Rattle.jv_model.specs.Grammar.{parted, repeated_of, part_of, part_length, bytes_of_parts, data_of};
-ghost use Rattle.jv_script.specs.Reading.{Reads, length_with, bytes_after, pairs_of, Appends};
+ghost use Rattle.jv_script.specs.Reading.{has_x, Reads, length_with, bytes_after, pairs_of, Appends};
 
 use crate::bad_line::BadLine;
 use crate::fields::number;
 use crate::hex_digits::{byte_of_pair, decode_into, is_pairs};
-use crate::short_parts::{has_x, push_short_parts};
+use crate::short_parts::{ROOM, push_short_parts};
 use crate::words::cut;
 use jv_model::{Bytes, Sequence};
 use std::alloc::{AllocError, Global};
@@ -92,10 +92,11 @@ fn repeated(part: &[u8]) -> Option<(u8, u64)>
 fn joined(alloc: Global, text: &[u8]) -> Result<Option<Bytes>, AllocError>
     ensures { IfOk result (λ bytes. bytes ≡ bytes_of_parts (parted 43 text.now)) }
 {
+    let mut room = [0; ROOM];
     let mut bytes = Vec::with_capacity(alloc, text.len() / 2)?;
     let mut rest = Some(text);
     while let Some(parts) = rest {
-        let parts = push_short_parts(&mut bytes, parts)?;
+        let parts = push_short_parts(&mut bytes, &mut room, parts)?;
         let (part, after) = cut(parts, b'+');
         if !push_part(&mut bytes, part)? {
             return Ok(None);
@@ -106,6 +107,16 @@ fn joined(alloc: Global, text: &[u8]) -> Result<Option<Bytes>, AllocError>
         return Ok(None);
     }
     Ok(Some(Sequence::from_vec(bytes)))
+}
+
+// Whether the third byte is an `x`, which tells parts of the two kinds apart without a look at their digits.
+fn has_x(part: &[u8]) -> bool
+    ensures { result ≡ has_x part.now }
+{
+    match part {
+        [_, _, x, ..] => *x == b'x',
+        _ => false,
+    }
 }
 
 // Whether the text is a part, and has not too many bytes with those before it. Its bytes are then there.

@@ -1,109 +1,97 @@
 //! Parts of a few digits, of which the bytes of a write may have many.
-ghost use Rattle.std.specs.Prelude.{◌≡◌, ◌≤◌, ◌++◌, ◌∷◌, [], replicate, IfOk, OnOk, IfSome};
-ghost use Rattle.jv_script.specs.Reading.{has_x, IsFront, Leaves};
+ghost use Rattle.std.specs.Prelude.{◌≡◌, ◌≤◌, ◌<◌, length, take, replicate, IfOk, IfSome};
+ghost use Rattle.jv_script.specs.Reading.{IsFront, Leaves};
 
 use crate::hex_digits::byte_of_pair;
 use std::alloc::AllocError;
 
-/// So many pairs are looked at one by one before a part is looked at as a whole: a part of many pairs is quicker so.
-const FEW_PAIRS: u32 = 64;
-
-/// So often pairs and pairs with a count may take turns before a part is looked at as a whole.
-const ROUNDS: u32 = 16;
+/// So many bytes go to the others at once.
+const MANY: usize = 256;
 
 /// The greatest count of one digit.
 const MAX_COUNT: usize = 9;
 
-/// Appends bytes at the front that come from short parts, with less work for each than a whole part takes. Gives a text
-/// whose parts have the bytes after them.
+/// The room for bytes on their way to the others: the last part may have nine where one is wanting.
+pub(crate) const ROOM: usize = MANY - 1 + MAX_COUNT;
+
+/// A byte at the front of a text, how often it stands there, and a text whose parts have the bytes after it.
+#[derive(Clone, Copy)]
+struct Front<'a> {
+    byte: u8,
+    count: u8,
+    rest: &'a [u8],
+}
+
+/// Appends bytes at the front that come from short parts, a few hundred at most, with less work for each than a whole part
+/// takes. Gives a text whose parts have the bytes after them.
 pub(crate) fn push_short_parts<'a>(
     bytes: &mut Vec<u8>,
+    room: &mut [u8; ROOM],
     text: &'a [u8],
 ) -> Result<&'a [u8], AllocError>
     ensures { IfOk result (λ rest. Leaves bytes.old.items text.now bytes.new.items rest.now) }
 {
-    let mut rest = text;
-    for _ in 0..ROUNDS {
-        let parts = push_first_pairs(bytes, rest)?;
-        let after = push_first_counted(bytes, parts)?;
-        if after.len() == rest.len() {
-            return Ok(after);
-        }
-        rest = after;
-    }
+    let (count, rest) = fill(room, text);
+    bytes.extend_from_slice(&room[..count])?;
     Ok(rest)
 }
 
-// The bytes of the pairs at the front, a few of them at most. A function of its own in the program, too, as is the next one:
-// the values of two loops in one function find no room in registers.
+// The bytes go to room that is there already, always as many as the greatest count of one digit, and those beyond the count
+// are written over: a loop would end at a place that can't be foretold. A function of its own in the program, too: in a large
+// one the loop's values find no room in registers.
 #[inline(never)]
-fn push_first_pairs<'a>(bytes: &mut Vec<u8>, text: &'a [u8]) -> Result<&'a [u8], AllocError>
-    ensures { IfOk result (λ rest. Leaves bytes.old.items text.now bytes.new.items rest.now) }
+fn fill<'a>(room: &mut [u8; ROOM], text: &'a [u8]) -> (usize, &'a [u8])
+    ensures within { result.0 ≤ length room.new }
+    ensures front { IsFront text.now (take result.0 room.new) result.1.now }
 {
+    let mut count = 0;
     let mut rest = text;
-    for _ in 0..FEW_PAIRS {
-        let Some((byte, after)) = first_pair(rest) else {
+    while count < MANY {
+        let Some(front) = first_front(rest) else {
             break;
         };
-        bytes.push(byte)?;
-        rest = after;
+        room[count..count + MAX_COUNT].copy_from_slice(&[front.byte; MAX_COUNT]);
+        count += front.count as usize;
+        rest = front.rest;
     }
-    Ok(rest)
+    (count, rest)
 }
 
-// The byte of the pair at the front, and a text whose parts have the bytes after it. None where the text ends with the pair,
-// where the pair has a count, and where what is left of its part would read as a pair with a count.
-fn first_pair(text: &[u8]) -> Option<(u8, &[u8])>
-    ensures { IfSome result (λ r. IsFront text.now (r.0 ∷ []) r.1.now) }
+// The front that is a pair, or a pair with a count of one digit, and has a part after it. None, too, where what is left of
+// a pair's part would read as a pair with a count.
+fn first_front(text: &[u8]) -> Option<Front>
+    ensures front { IfSome result (λ front. IsFront text.now (replicate front.count front.byte) front.rest.now) }
+    ensures few { IfSome result (λ front. front.count ≤ 9) }
+    ensures shorter { IfSome result (λ front. length front.rest.now < length text.now) }
 {
-    let [high, low, next, after @ ..] = text else {
+    let [high, low, next, count, last, after @ ..] = text else {
         return None;
     };
     let byte = byte_of_pair(*high, *low)?;
     if *next == b'+' {
-        return Some((byte, after));
+        return Some(Front {
+            byte,
+            count: 1,
+            rest: &text[3..],
+        });
     }
-    let rest = &text[2..];
-    if has_x(text) || has_x(rest) {
+    if *next == b'x' {
+        return if matches!(*count, b'1'..=b'9') & (*last == b'+') {
+            Some(Front {
+                byte,
+                count: *count - b'0',
+                rest: after,
+            })
+        } else {
+            None
+        };
+    }
+    if *last == b'x' {
         return None;
     }
-    Some((byte, rest))
-}
-
-/// Whether the third byte is an `x`, which tells parts of the two kinds apart without a look at their digits.
-pub(crate) fn has_x(part: &[u8]) -> bool
-    ensures { result ≡ has_x part.now }
-{
-    match part {
-        [_, _, x, ..] => *x == b'x',
-        _ => false,
-    }
-}
-
-// The bytes of the parts at the front that are a pair and a count of one digit, as many as have a part after them.
-#[inline(never)]
-fn push_first_counted<'a>(bytes: &mut Vec<u8>, text: &'a [u8]) -> Result<&'a [u8], AllocError>
-    ensures { IfOk result (λ rest. Leaves bytes.old.items text.now bytes.new.items rest.now) }
-{
-    let mut rest = text;
-    while let [high, low, b'x', count @ b'1'..=b'9', b'+', after @ ..] = rest {
-        let Some(byte) = byte_of_pair(*high, *low) else {
-            break;
-        };
-        push_times(bytes, byte, *count - b'0')?;
-        rest = after;
-    }
-    Ok(rest)
-}
-
-// Always as many as the greatest count of one digit, of which those beyond the count are taken back: a loop would end at a
-// place that can't be foretold.
-fn push_times(bytes: &mut Vec<u8>, byte: u8, count: u8) -> Result<(), AllocError>
-    requires { count ≤ 9 }
-    ensures { OnOk result (bytes.new.items ≡ bytes.old.items ++ replicate count byte) }
-{
-    let end = bytes.len() + count as usize;
-    bytes.extend_from_slice(&[byte; MAX_COUNT])?;
-    bytes.truncate(end);
-    Ok(())
+    Some(Front {
+        byte,
+        count: 1,
+        rest: &text[2..],
+    })
 }

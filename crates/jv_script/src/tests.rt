@@ -570,6 +570,36 @@ fn prints_bytes(rt: HostRuntime) -> Result<(), Fail> {
     Ok(())
 }
 
+// Texts as they are printed, read and printed again: runs of as many digits as there are, and runs about the end of what is
+// looked through at once.
+#[test]
+fn prints_bytes_as_they_were_read(rt: HostRuntime) -> Result<(), Fail> {
+    let alloc = rt.alloc();
+    for text in [
+        "61x9+62x10+63x99+64x100+65",
+        "000102030405060708090a0b0c0d0e0f101112131415161718191a1b1c1d1e1f202122232425262728292a2b2c2d2e2f303132333435363738393a3b3c3d3e3f+40x4",
+        "000102030405060708090a0b0c0d0e0f101112131415161718191a1b1c1d1e1f202122232425262728292a2b2c2d2e2f303132333435363738393a3b3c3d3e+3fx4+40",
+        "000102030405060708090a0b0c0d0e0f101112131415161718191a1b1c1d1e1f202122232425262728292a2b2c2d2e2f303132333435363738393a3b3c3d3e3f40414243",
+        "000102030405060708090a0b0c0d0e0f101112131415161718191a1b1c1d1e1f202122232425262728292a2b2c2d2e2f303132333435363738393a3b3c3d3e3f40414243434344",
+        "61x4+62+61x4+62+61x4+62+61x4+62+000102030405060708090a0b0c0d0e0f101112131415161718191a1b1c1d1e1f202122232425262728292a2b2c2d2e2f303132333435363738393a3b3c3d3e3f404142434445+80x12+81",
+    ] {
+        let mut line = Vec::new(alloc);
+        line.extend_from_slice(b"A write 1 0 ")?;
+        line.extend_from_slice(text.as_bytes())?;
+        let Ok(Line::Do(_, Op::Write { bytes, .. })) = read_line(alloc, &line) else {
+            assert!(rt; false, "at {text}");
+            return Ok(());
+        };
+        let mut printed = Vec::new(alloc);
+        printed.extend_from_slice(b"ok ")?;
+        printed.extend_from_slice(text.as_bytes())?;
+        printed.push(b'\n')?;
+        let answer = print_reply(alloc, &volume(alloc, 0)?, &Reply::Data(bytes))?;
+        assert_eq!(rt; answer.as_slice(), printed.as_slice(), "at {text}");
+    }
+    Ok(())
+}
+
 #[test]
 fn prints_refusals(rt: HostRuntime) -> Result<(), Fail> {
     let timed_out = Fault::TimedOut {

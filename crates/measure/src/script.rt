@@ -22,6 +22,9 @@ const LINES: [&str; 12] = [
 /// What a number is multiplied by, so that bytes don't repeat.
 const SPREAD: u32 = 2_654_435_769;
 
+/// What a number is multiplied by then, so that what is made of it can't be foretold from those before it.
+const SPREAD_AGAIN: u32 = 2_246_822_507;
+
 /// Hexadecimal digits.
 const DIGITS: [u8; 16] = *b"0123456789abcdef";
 
@@ -47,7 +50,16 @@ enum Parts {
     Counted,
     Alternating,
     Runs,
+    Lengths,
+    Chance,
     Mixed,
+}
+
+/// A number made of another one, with nothing regular in the order of those of numbers in turn.
+fn scattered(number: u32) -> u32 {
+    let spread = number.wrapping_mul(SPREAD);
+    let spread = (spread ^ spread / 32_768).wrapping_mul(SPREAD_AGAIN);
+    spread ^ spread / 8_192
 }
 
 /// The two digits of a number's low byte.
@@ -74,8 +86,9 @@ fn push_count(text: &mut Vec<u8>, count: u32) -> Result<(), AllocError> {
     Ok(())
 }
 
-/// A part: one byte, two bytes, three, one byte once, one byte one to nine times, or the first, second or last of these by
-/// what the number is. Or two parts: one byte and another once, or one byte four times and another.
+/// A part: one byte, two bytes, three, one byte once, one byte one to nine times, one to four times, one byte or one byte
+/// once by chance, or one byte, two, or one byte one to nine times by chance. Or two parts: one byte and another once, or one
+/// byte four times and another.
 fn push_part(text: &mut Vec<u8>, parts: Parts, number: u32) -> Result<(), AllocError> {
     push_byte(text, number)?;
     match (parts, number / 256 % 3) {
@@ -95,7 +108,9 @@ fn push_part(text: &mut Vec<u8>, parts: Parts, number: u32) -> Result<(), AllocE
             text.push(b'+')?;
             push_byte(text, number.wrapping_add(1))
         }
-        (Parts::Counted, _) | (Parts::Mixed, 2) => push_count(text, 1 + number % 9),
+        (Parts::Counted, _) | (Parts::Mixed, 2) => push_count(text, 1 + number / 1024 % 9),
+        (Parts::Lengths, _) => push_count(text, 1 + number / 1024 % 4),
+        (Parts::Chance, _) if number / 1024 % 2 == 0 => push_count(text, 1),
         _ => Ok(()),
     }
 }
@@ -108,7 +123,7 @@ fn spelled_in_parts(alloc: Global, parts: Parts, count: u32) -> Result<Vec<u8>, 
         if number > 0 {
             text.push(b'+')?;
         }
-        push_part(&mut text, parts, number.wrapping_mul(SPREAD) / 65_536)?;
+        push_part(&mut text, parts, scattered(number))?;
     }
     Ok(text)
 }
@@ -122,6 +137,8 @@ fn parts_named(kind: &str) -> Option<Parts> {
         "once" => Some(Parts::Once),
         "alternating" => Some(Parts::Alternating),
         "runs" => Some(Parts::Runs),
+        "lengths" => Some(Parts::Lengths),
+        "chance" => Some(Parts::Chance),
         "counted" => Some(Parts::Counted),
         "mixed" => Some(Parts::Mixed),
         _ => None,

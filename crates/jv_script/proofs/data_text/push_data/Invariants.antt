@@ -1,11 +1,10 @@
-use Rattle.std.proofs.Common.{◌≡◌, ◌++◌, length}
-use Rattle.jv_model.specs.Printed.{data_text, parts_of, runs_of}
-use Rattle.jv_script.proofs.Runs.{more_text}
+use Rattle.std.proofs.Common.{length}
+use Rattle.jv_script.specs.Printing.{Prints}
 use Rattle.jv_script.proofs.data_text.push_data.Given as goal
 
--- what is printed and the parts to come are the whole
+-- what is printed and the text to come are the whole
 abbrev pub invariant-loop-rest : goal.invariant-loop-rest
-invariant-loop-rest l = l.text.items ++ more_text (parts_of (runs_of l.rest)) ≡ l.fn.text.items ++ data_text l.bytes
+invariant-loop-rest l = Prints l.initial.text.items l.bytes l.text.items l.rest
 
 abbrev pub decreases-loop-rest : goal.decreases-loop-rest
 decreases-loop-rest l = length l.rest

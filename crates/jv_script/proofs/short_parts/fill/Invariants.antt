@@ -1,0 +1,13 @@
+use Rattle.std.proofs.Common.{◌≡◌, ◌≤◌, take, length}
+use Rattle.jv_script.specs.Reading.{IsFront}
+use Rattle.jv_script.proofs.short_parts.fill.Given as goal
+
+abbrev pub invariant-loop-count : goal.invariant-loop-count
+invariant-loop-count l = record {
+  size : length l.room ≡ 264;
+  within : l.count ≤ 264;
+  front : IsFront l.text (take l.count l.room) l.rest;
+}
+
+abbrev pub decreases-loop-count : goal.decreases-loop-count
+decreases-loop-count l = length l.rest

@@ -1,5 +1,0 @@
-use Rattle.jv_script.specs.Reading.{Leaves}
-use Rattle.jv_script.proofs.short_parts.push_short_parts.Given as goal
-
-abbrev pub invariant-loop : goal.invariant-loop
-invariant-loop l = Leaves l.initial.bytes.items l.text l.bytes.items l.rest
