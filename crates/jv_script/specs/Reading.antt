@@ -1,5 +1,5 @@
 -- What the parts of the reader answer, against the grammar.
-use Rattle.std.specs.Prelude.{◌≡◌, ◌==◌, ◌<◌, ◌≤◌, Bool, true, false, ℕ, ◌+◌, nat_le, List, [], ◌∷◌, ◌++◌, length, Option, None, Some, option_map, IsSome, IfSome, Result, Ok, Err, sum_by}
+use Rattle.std.specs.Prelude.{◌≡◌, ◌≢◌, ◌⊎◌, ◌==◌, ◌<◌, ◌≤◌, Bool, true, false, ℕ, ◌+◌, nat_le, List, [], ◌∷◌, ◌++◌, length, drop, replicate, slice_index, Option, None, Some, option_map, IsSome, IfSome, Result, Ok, Err, sum_by}
 use Rattle.std.specs.List.{flat_map}
 use Rattle.jv_model.specs.Spelling.{◌>>=◌, at_most, bytes_of_digits}
 use Rattle.jv_model.specs.Printed.{Part, Plain}
@@ -67,3 +67,24 @@ Leaves before text after rest = record {
 -- the bytes at the front of those of a text's parts, and a text whose parts have the others
 abbrev pub IsFront : List ℕ → List ℕ → List ℕ → Type 0
 IsFront text front rest = (before : List ℕ) → Leaves before text (before ++ front) rest
+
+-- a count of one digit and a `+`
+abbrev pub IsCountStep : ℕ → ℕ → ℕ → ℕ → Type 0
+IsCountStep next digit last step = (step ≡ 5) × (next ≡ 120) × (49 ≤ digit) × (digit ≤ 57) × (last ≡ 43)
+
+-- what comes after a pair: a count of one digit and a `+`, or a `+`, or more of its part that isn't a count after another pair
+abbrev pub IsStep : ℕ → ℕ → ℕ → ℕ → Type 0
+IsStep next digit last step = IsCountStep next digit last step ⊎ ((step ≡ 3) × (next ≡ 43)) ⊎ ((step ≡ 2) × (next ≢ 43) × (next ≢ 120) × (last ≢ 120))
+
+-- what is at the front of a text from a place on, if anything is told of it: a byte, how often it stands, and how many characters tell it
+abbrev pub IsPlace : List ℕ → ℕ → ℕ → ℕ → ℕ → Type 0
+IsPlace text k byte count step = 0 < step → record {
+  front : IsFront (drop k text) (replicate count byte) (drop (k + step) text);
+  few : count ≤ 9;
+  far : 2 ≤ step;
+  near : step ≤ 5;
+}
+
+-- the same of the first n places
+abbrev pub ArePlaces : ℕ → List ℕ → List ℕ → List ℕ → List ℕ → Type 0
+ArePlaces n text bytes counts steps = (k : ℕ) → k < n → IsPlace text k (slice_index bytes k) (slice_index counts k) (slice_index steps k)

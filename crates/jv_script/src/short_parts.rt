@@ -1,25 +1,34 @@
 //! Parts of a few digits, of which the bytes of a write may have many.
-ghost use Rattle.std.specs.Prelude.{◌≡◌, ◌≤◌, ◌<◌, length, take, replicate, IfOk, IfSome};
-ghost use Rattle.jv_script.specs.Reading.{IsFront, Leaves};
+ghost use Rattle.std.specs.Prelude.{◌≡◌, ◌≢◌, ◌≤◌, ◌<◌, ◌-◌, true, List, ℕ, length, take, IfOk};
+ghost use Rattle.jv_model.specs.Spelling.{is_hex_digit};
+ghost use Rattle.jv_script.specs.Reading.{ArePlaces, IsFront, IsStep, Leaves};
 
-use crate::hex_digits::byte_of_pair;
+use crate::hex_digits::{byte_of, is_hex_digit};
 use std::alloc::AllocError;
 
 /// So many bytes go to the others at once.
 const MANY: usize = 256;
 
+/// So many places of a text are looked at together.
+const PLACES: usize = 32;
+
+/// The characters that are looked at for a place: a pair, an `x`, a count of one digit, and a `+`.
+const SEEN: usize = 5;
+
 /// The greatest count of one digit.
 const MAX_COUNT: usize = 9;
 
-/// The room for bytes on their way to the others: the last part may have nine where one is wanting.
-pub(crate) const ROOM: usize = MANY - 1 + MAX_COUNT;
+/// The room for bytes on their way to the others. The places looked at last, and what is seen for them, are taken for pairs of
+/// characters that tell the greatest count each.
+pub(crate) const ROOM: usize = MANY + (PLACES + SEEN - 1) / 2 * MAX_COUNT;
 
-/// A byte at the front of a text, how often it stands there, and a text whose parts have the bytes after it.
+/// What would be read at some places of a text if a part, or what is left of one, began there: a byte, how often it stands,
+/// and how many characters tell it. These are 0 where it isn't told by few.
 #[derive(Clone, Copy)]
-struct Front<'a> {
-    byte: u8,
-    count: u8,
-    rest: &'a [u8],
+struct Places {
+    bytes: [u8; PLACES],
+    counts: [u8; PLACES],
+    steps: [u8; PLACES],
 }
 
 /// Appends bytes at the front that come from short parts, a few hundred at most, with less work for each than a whole part
@@ -36,62 +45,94 @@ pub(crate) fn push_short_parts<'a>(
     Ok(rest)
 }
 
-// The bytes go to room that is there already, always as many as the greatest count of one digit, and those beyond the count
-// are written over: a loop would end at a place that can't be foretold. A function of its own in the program, too: in a large
-// one the loop's values find no room in registers.
-#[inline(never)]
+// The bytes go to room that is there already. Ends at a part that isn't short.
 fn fill<'a>(room: &mut [u8; ROOM], text: &'a [u8]) -> (usize, &'a [u8])
     ensures within { result.0 ≤ length room.new }
     ensures front { IsFront text.now (take result.0 room.new) result.1.now }
 {
     let mut count = 0;
     let mut rest = text;
-    while count < MANY {
-        let Some(front) = first_front(rest) else {
+    while count < MANY && rest.len() >= PLACES + SEEN {
+        let places = places_of(rest);
+        let (more, after) = walk(room, count, &places, rest);
+        let is_over = rest.len() - after.len() < PLACES;
+        (count, rest) = (more, after);
+        if is_over {
             break;
-        };
-        room[count..count + MAX_COUNT].copy_from_slice(&[front.byte; MAX_COUNT]);
-        count += front.count as usize;
-        rest = front.rest;
+        }
     }
     (count, rest)
 }
 
-// The front that is a pair, or a pair with a count of one digit, and has a part after it. None, too, where what is left of
-// a pair's part would read as a pair with a count.
-fn first_front(text: &[u8]) -> Option<Front>
-    ensures front { IfSome result (λ front. IsFront text.now (replicate front.count front.byte) front.rest.now) }
-    ensures few { IfSome result (λ front. front.count ≤ 9) }
-    ensures shorter { IfSome result (λ front. length front.rest.now < length text.now) }
+// Looks at the places one by one, in a loop whose steps don't wait for each other: the compiler takes many at a time.
+#[inline(never)]
+fn places_of(text: &[u8]) -> Places
+    requires { 37 ≤ length text.now }
+    ensures { ArePlaces 32 text.now result.bytes result.counts result.steps }
 {
-    let [high, low, next, count, last, after @ ..] = text else {
-        return None;
-    };
-    let byte = byte_of_pair(*high, *low)?;
-    if *next == b'+' {
-        return Some(Front {
-            byte,
-            count: 1,
-            rest: &text[3..],
-        });
+    let mut bytes = [0; PLACES];
+    let mut counts = [0; PLACES];
+    let mut steps = [0; PLACES];
+    for k in 0..PLACES {
+        bytes[k] = byte_of(text[k], text[k + 1]);
+        counts[k] = count_of(text[k + 2], text[k + 3]);
+        steps[k] = step_of(text[k], text[k + 1], text[k + 2], text[k + 3], text[k + 4]);
     }
-    if *next == b'x' {
-        return if matches!(*count, b'1'..=b'9') & (*last == b'+') {
-            Some(Front {
-                byte,
-                count: *count - b'0',
-                rest: after,
-            })
-        } else {
-            None
-        };
+    Places {
+        bytes,
+        counts,
+        steps,
     }
-    if *last == b'x' {
-        return None;
+}
+
+// The byte of a pair at the front, and those at the places that its end leads to, go to room after so many others there,
+// always as many as the greatest count of one digit: a loop would end at a place that can't be foretold. Those beyond the
+// count are written over.
+#[inline(never)]
+fn walk<'a>(
+    room: &mut [u8; ROOM],
+    count: usize,
+    places: &Places,
+    text: &'a [u8],
+) -> (usize, &'a [u8])
+    requires few { count < 256 }
+    requires long { 37 ≤ length text.now }
+    requires places { ArePlaces 32 text.now places.now.bytes places.now.counts places.now.steps }
+    ensures within { result.0 ≤ length room.new }
+    ensures more { (whole : List ℕ) → IsFront whole (take count room.old) text.now → IsFront whole (take result.0 room.new) result.1.now }
+    ensures no_more { length result.1.now ≤ length text.now }
+{
+    let mut filled = count;
+    let mut at = 0;
+    while at < PLACES && places.steps[at] > 0 {
+        room[filled..filled + MAX_COUNT].copy_from_slice(&[places.bytes[at]; MAX_COUNT]);
+        filled += places.counts[at] as usize;
+        at += places.steps[at] as usize;
     }
-    Some(Front {
-        byte,
-        count: 1,
-        rest: &text[2..],
-    })
+    (filled, text.split_at(at).1)
+}
+
+// How often the byte of a pair stands, by what comes after the pair.
+fn count_of(next: u8, digit: u8) -> u8
+    ensures counted { next ≡ 120 → 49 ≤ digit → digit ≤ 57 → result ≡ digit - 48 }
+    ensures once { next ≢ 120 → result ≡ 1 }
+{
+    let count = digit % 16;
+    if next == b'x' { count } else { 1 }
+}
+
+// How many characters a pair has with those that end its part; without them, where it isn't the last of the part. Each choice
+// is between numbers that are there already: a loop over places then takes many of them at a time.
+fn step_of(high: u8, low: u8, next: u8, digit: u8, last: u8) -> u8
+    ensures high { 0 < result → is_hex_digit high ≡ true }
+    ensures low { 0 < result → is_hex_digit low ≡ true }
+    ensures step { 0 < result → IsStep next digit last result }
+{
+    let is_pair = is_hex_digit(high) & is_hex_digit(low);
+    let is_count = (b'1' <= digit) & (digit <= b'9') & (last == b'+');
+    let counted = if is_count { 5 } else { 0 };
+    let going_on = if last == b'x' { 0 } else { 2 };
+    let plain = if next == b'+' { 3 } else { going_on };
+    let step = if next == b'x' { counted } else { plain };
+    if is_pair { step } else { 0 }
 }

@@ -425,6 +425,7 @@ fn refuses_other_paths_and_bytes(rt: HostRuntime) {
         b"A write 1 0 61++61".as_slice(),
         b"A write 1 0 61x".as_slice(),
         b"A write 1 0 6162x3".as_slice(),
+        b"A write 1 0 61+62+63+64+65+66+67+68+69+6a+6b+6c6dx3".as_slice(),
         b"A write 1 0 61x0".as_slice(),
         b"A write 1 0 61x01".as_slice(),
         b"A write 1 0 6162x2".as_slice(),

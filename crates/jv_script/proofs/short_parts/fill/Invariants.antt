@@ -1,11 +1,10 @@
-use Rattle.std.proofs.Common.{◌≡◌, ◌≤◌, take, length}
+use Rattle.std.proofs.Common.{◌≤◌, take, length}
 use Rattle.jv_script.specs.Reading.{IsFront}
 use Rattle.jv_script.proofs.short_parts.fill.Given as goal
 
 abbrev pub invariant-loop-count : goal.invariant-loop-count
 invariant-loop-count l = record {
-  size : length l.room ≡ 264;
-  within : l.count ≤ 264;
+  within : l.count ≤ length l.room;
   front : IsFront l.text (take l.count l.room) l.rest;
 }
 
