@@ -45,7 +45,7 @@ pub(crate) fn push_short_parts<'a>(
     Ok(rest)
 }
 
-// The bytes go to room that is there already. Ends at a part that isn't short.
+// Writes the bytes to room. Ends at a part that isn't short, and where many bytes are there or few characters are left.
 fn fill<'a>(room: &mut [u8; ROOM], text: &'a [u8]) -> (usize, &'a [u8])
     ensures within { result.0 ≤ length room.new }
     ensures front { IsFront text.now (take result.0 room.new) result.1.now }
@@ -85,9 +85,10 @@ fn places_of(text: &[u8]) -> Places
     }
 }
 
-// The byte of a pair at the front, and those at the places that its end leads to, go to room after so many others there,
-// always as many as the greatest count of one digit: a loop would end at a place that can't be foretold. Those beyond the
-// count are written over.
+// Goes from the first place on, from each by as many characters as it tells, up to one that tells nothing, and writes the
+// bytes to room after so many others there. Each is written as often as the greatest count of one digit, and what is beyond
+// its count is written over: a loop would end where it can't be foretold. Gives how many bytes are there then, and the text
+// from the last place on.
 #[inline(never)]
 fn walk<'a>(
     room: &mut [u8; ROOM],
@@ -121,8 +122,9 @@ fn count_of(next: u8, digit: u8) -> u8
     if next == b'x' { count } else { 1 }
 }
 
-// How many characters a pair has with those that end its part; without them, where it isn't the last of the part. Each choice
-// is between numbers that are there already: a loop over places then takes many of them at a time.
+// How many characters tell a pair's byte and count: those of the pair, and those that end its part if it is the last. 0 where
+// the five that are seen don't tell it. Each choice is between numbers that are there already: a loop over places then
+// takes many of them at a time.
 fn step_of(high: u8, low: u8, next: u8, digit: u8, last: u8) -> u8
     ensures high { 0 < result → is_hex_digit high ≡ true }
     ensures low { 0 < result → is_hex_digit low ≡ true }
