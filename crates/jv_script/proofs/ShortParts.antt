@@ -1,13 +1,13 @@
 -- Parts of a few digits at the front of a text.
-use Rattle.std.proofs.Common.{◌≡◌, ◌≢◌, inl, inr, set, ℕ, zero, suc, ◌+◌, ◌-◌, ◌<◌, ◌≤◌, ◌&&◌, ◌==◌, Bool, true, false, List, [], ◌∷◌, ◌++◌, Some, None, length, get_or, take, drop, replicate, cond, refl, sym, ap, subst, ◌∙◌, arith}
+use Rattle.std.proofs.Common.{◌≡◌, ◌≢◌, Option, add-zero, inl, inr, set, ℕ, zero, suc, ◌+◌, ◌-◌, ◌<◌, ◌≤◌, ◌&&◌, ◌==◌, Bool, true, false, List, [], ◌∷◌, ◌++◌, Some, None, length, get_or, take, drop, replicate, cond, refl, sym, ap, subst, ◌∙◌, arith}
 use Rattle.std.proofs.lemmas.Bool.{eq-eqb, eqb-true, le-leb, lt-ltb, cases_lt, false≢true, false_from_ne_true}
 use Rattle.std.specs.List.{onto_first}
-use Rattle.std.proofs.lemmas.List.{take_rest, append_assoc, append-nil, drop-drop, get_or-set_same, get_or-set_other}
+use Rattle.std.proofs.lemmas.List.{get_or-drop, take_rest, append_assoc, append-nil, drop-drop, get_or-set_same, get_or-set_other}
 use Rattle.std.proofs.lemmas.List.Splits.{slice_split_at, slice_split-cons_no}
 use Rattle.jv_model.specs.Spelling.{is_hex_digit, number_of, value_of, bytes_of_digits}
 use Rattle.jv_model.specs.Printed.{Part, Plain, Repeated}
 use Rattle.jv_model.specs.Grammar.{provided, byte_of, parted, is_pairs, repeated_of, part_of, part_bytes}
-use Rattle.jv_script.specs.Reading.{Appends, IsFront, IsStep, ArePlaces, has_x, bytes_after}
+use Rattle.jv_script.specs.Reading.{Appends, IsFront, IsStep, ArePlaces, pair_at, IsPairFront, has_x, bytes_after}
 use Rattle.jv_script.proofs.Digits.{number_in}
 use Rattle.jv_script.proofs.Parts.{part_of_pairs, part_of_with_x, part_of_without_x, all_paired, is_pairs-all_paired, bytes_after-more, bytes_after-off}
 
@@ -199,49 +199,57 @@ fronts whole front text more rest both is_front is_next joined = λ before.
     }
 
 -- what a place tells, of the text from there on
-pub record IsPiece (text : List ℕ) (byte count step : ℕ) : Type 0 where
-  pub front : IsFront text (replicate count byte) (drop step text)
+pub record IsPiece (text : List ℕ) (count step : ℕ) : Type 0 where
+  pub front : IsPairFront (pair_at text 0) count text (drop step text)
   pub few : count ≤ 9
   pub far : 2 ≤ step
   pub near : step ≤ 5
 
-pub piece : (text : List ℕ) (byte count step : ℕ) → 5 ≤ length text → is_hex_digit (get_or text 0 0) ≡ true → is_hex_digit (get_or text 1 0) ≡ true → byte ≡ byte_of (get_or text 0 0) (get_or text 1 0)
-    → (get_or text 2 0 ≡ 120 → 49 ≤ get_or text 3 0 → get_or text 3 0 ≤ 57 → count ≡ get_or text 3 0 - 48) → (get_or text 2 0 ≢ 120 → count ≡ 1) → IsStep (get_or text 2 0) (get_or text 3 0) (get_or text 4 0) step → IsPiece text byte count step
-piece text byte count step long high low is_byte counted once is_step =
-    let read : Some byte ≡ provided (is_hex_digit (get_or text 0 0) && is_hex_digit (get_or text 1 0)) (byte_of (get_or text 0 0) (get_or text 1 0)) = rw (high, low) (ap Some is_byte) in
-    elim is_step [
-      | inl (five, x, one, nine, plus) ↦ record {
-        front = rw (five, counted x one nine) (subst (IsFront text (replicate (get_or text 3 0 - 48) byte)) (take_rest text 5) (counted_first text byte read x one nine plus));
-        few = omega (arith, counted x one nine);
+piece_front : (text : List ℕ) (count step : ℕ) → ((byte : ℕ) → Some byte ≡ pair_at text 0 → IsFront text (replicate count byte) (drop step text)) → IsPairFront (pair_at text 0) count text (drop step text)
+piece_front text count step front = by_pair (pair_at text 0) front
+  where
+    by_pair : (pair : Option ℕ) → ((byte : ℕ) → Some byte ≡ pair → IsFront text (replicate count byte) (drop step text)) → IsPairFront pair count text (drop step text)
+    by_pair None front = tt
+    by_pair (Some byte) front = front byte refl
+
+pub piece : (text : List ℕ) (count step : ℕ) → 5 ≤ length text
+    → (get_or text 2 0 ≡ 120 → 49 ≤ get_or text 3 0 → get_or text 3 0 ≤ 57 → count ≡ get_or text 3 0 - 48) → (get_or text 2 0 ≢ 120 → count ≡ 1) → IsStep (get_or text 2 0) (get_or text 3 0) (get_or text 4 0) step → IsPiece text count step
+piece text count step long counted once is_step = elim is_step [
+  | inl (five, x, one, nine, plus) ↦ record {
+    front = piece_front text count step (λ byte read.
+        rw (five, counted x one nine) (subst (IsFront text (replicate (get_or text 3 0 - 48) byte)) (take_rest text 5) (counted_first text byte read x one nine plus)));
+    few = omega (arith, counted x one nine);
+    far = omega arith;
+    near = omega arith;
+  }
+  | inr (inl (three, plus)) ↦
+      let one = once (λ x. omega (arith, x, plus)) in
+      record {
+        front = piece_front text count step (λ byte read. rw (three, one) (subst (IsFront text (byte ∷ [])) (take_rest text 3) (pair_ends text byte read plus)));
+        few = omega (arith, one);
         far = omega arith;
         near = omega arith;
       }
-      | inr (inl (three, plus)) ↦
-          let one = once (λ x. omega (arith, x, plus)) in
-          record {
-            front = rw (three, one) (subst (IsFront text (byte ∷ [])) (take_rest text 3) (pair_ends text byte read plus));
-            few = omega (arith, one);
-            far = omega arith;
-            near = omega arith;
-          }
-      | inr (inr (two, no_plus, no_x, left_no_x)) ↦
-          let one = once no_x in
-          record {
-            front = rw (two, one) (subst (IsFront text (byte ∷ [])) (take_rest text 2) (pair_goes_on text byte long read no_plus no_x left_no_x));
-            few = omega (arith, one);
-            far = omega arith;
-            near = omega arith;
-          }
-    ]
+  | inr (inr (two, no_plus, no_x, left_no_x)) ↦
+      let one = once no_x in
+      record {
+        front = piece_front text count step (λ byte read. rw (two, one) (subst (IsFront text (byte ∷ [])) (take_rest text 2) (pair_goes_on text byte long read no_plus no_x left_no_x)));
+        few = omega (arith, one);
+        far = omega arith;
+        near = omega arith;
+      }
+]
 
 -- one place more
-pub more_places : (n : ℕ) (text bytes counts steps : List ℕ) (byte count step : ℕ) → n < length bytes → n < length counts → n < length steps → ArePlaces n text bytes counts steps → (0 < step → IsPiece (drop n text) byte count step)
-    → ArePlaces (n + 1) text (set bytes n byte) (set counts n count) (set steps n step)
-more_places n text bytes counts steps byte count step in_bytes in_counts in_steps places piece k below = elim (cases_lt k n) [
-  | inl less ↦ rw (get_or-set_other bytes n k byte 0 (omega arith), get_or-set_other counts n k count 0 (omega arith), get_or-set_other steps n k step 0 (omega arith)) (places k less)
+pub more_places : (n : ℕ) (text counts steps : List ℕ) (count step : ℕ) → n < length counts → n < length steps → ArePlaces n text counts steps → (0 < step → IsPiece (drop n text) count step)
+    → ArePlaces (n + 1) text (set counts n count) (set steps n step)
+more_places n text counts steps count step in_counts in_steps places is_piece k below = elim (cases_lt k n) [
+  | inl less ↦ rw (get_or-set_other counts n k count 0 (omega arith), get_or-set_other steps n k step 0 (omega arith)) (places k less)
   | inr ge ↦
       let here : k ≡ n = omega arith in
-      rw (here, get_or-set_same bytes n byte 0 in_bytes, get_or-set_same counts n count 0 in_counts, get_or-set_same steps n step 0 in_steps) (λ some.
-      let is = piece some in
-      record { front = subst (IsFront (drop n text) (replicate count byte)) (drop-drop step n text) is.front; few = is.few; far = is.far; near = is.near })
+      rw (here, get_or-set_same counts n count 0 in_counts, get_or-set_same steps n step 0 in_steps) (λ some.
+      let is = is_piece some in
+      let pair : pair_at (drop n text) 0 ≡ pair_at text n = rw (get_or-drop n text 0 0, get_or-drop n text 1 0, add-zero) refl in
+      let front : IsPairFront (pair_at text n) count (drop n text) (drop step (drop n text)) = subst (λ (pair : Option ℕ). IsPairFront pair count (drop n text) (drop step (drop n text))) pair is.front in
+      record { front = rw (sym (drop-drop step n text)) front; few = is.few; far = is.far; near = is.near })
 ]

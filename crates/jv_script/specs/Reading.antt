@@ -1,9 +1,9 @@
 -- What the parts of the reader answer, against the grammar.
-use Rattle.std.specs.Prelude.{◌≡◌, ◌≢◌, ◌⊎◌, ◌==◌, ◌<◌, ◌≤◌, Bool, true, false, ℕ, ◌+◌, nat_le, List, [], ◌∷◌, ◌++◌, length, drop, replicate, slice_index, Option, None, Some, option_map, IsSome, IfSome, Result, Ok, Err, sum_by}
+use Rattle.std.specs.Prelude.{◌≡◌, ◌≢◌, ◌⊎◌, ◌==◌, ◌&&◌, ◌<◌, ◌≤◌, Bool, true, false, ℕ, ◌+◌, nat_le, List, [], ◌∷◌, ◌++◌, length, drop, replicate, slice_index, Option, None, Some, option_map, IsSome, IfSome, Result, Ok, Err, sum_by}
 use Rattle.std.specs.List.{flat_map}
-use Rattle.jv_model.specs.Spelling.{◌>>=◌, at_most, bytes_of_digits}
+use Rattle.jv_model.specs.Spelling.{◌>>=◌, at_most, is_hex_digit, bytes_of_digits}
 use Rattle.jv_model.specs.Printed.{Part, Plain}
-use Rattle.jv_model.specs.Grammar.{provided, parted, is_pairs, part_length, part_bytes, all_parts_of}
+use Rattle.jv_model.specs.Grammar.{provided, byte_of, parted, is_pairs, part_length, part_bytes, all_parts_of}
 use Rattle.jv_script.specs.declared.bad_line.BadLine.{BadLine}
 use Rattle.jv_script.specs.declared.bad_line.BadLine.TheVariants.{Off, Memory}
 
@@ -76,15 +76,23 @@ IsCountStep next digit last step = (step ≡ 5) × (next ≡ 120) × (49 ≤ dig
 abbrev pub IsStep : ℕ → ℕ → ℕ → ℕ → Type 0
 IsStep next digit last step = IsCountStep next digit last step ⊎ ((step ≡ 3) × (next ≡ 43)) ⊎ ((step ≡ 2) × (next ≢ 43) × (next ≢ 120) × (last ≢ 120))
 
--- what is at the front of a text from a place on, if anything is told of it: a byte, how often it stands, and how many characters tell it
-abbrev pub IsPlace : List ℕ → ℕ → ℕ → ℕ → ℕ → Type 0
-IsPlace text k byte count step = 0 < step → record {
-  front : IsFront (drop k text) (replicate count byte) (drop (k + step) text);
+-- the byte of the pair of digits at a place of a text, if one is there
+abbrev pub pair_at : List ℕ → ℕ → Option ℕ
+pair_at text k = provided (is_hex_digit (slice_index text k) && is_hex_digit (slice_index text (k + 1))) (byte_of (slice_index text k) (slice_index text (k + 1)))
+
+-- so many of a pair's byte, if there is a pair, and a text whose parts have the others
+abbrev pub IsPairFront : Option ℕ → ℕ → List ℕ → List ℕ → Type 0
+IsPairFront pair count text rest = IfSome pair (λ byte. IsFront text (replicate count byte) rest)
+
+-- what is at the front of a text from a place on, if anything is told of it: a pair, how often its byte stands, and how many characters tell it
+abbrev pub IsPlace : List ℕ → ℕ → ℕ → ℕ → Type 0
+IsPlace text k count step = 0 < step → record {
+  front : IsPairFront (pair_at text k) count (drop k text) (drop (k + step) text);
   few : count ≤ 9;
   far : 2 ≤ step;
   near : step ≤ 5;
 }
 
 -- the same of the first n places
-abbrev pub ArePlaces : ℕ → List ℕ → List ℕ → List ℕ → List ℕ → Type 0
-ArePlaces n text bytes counts steps = (k : ℕ) → k < n → IsPlace text k (slice_index bytes k) (slice_index counts k) (slice_index steps k)
+abbrev pub ArePlaces : ℕ → List ℕ → List ℕ → List ℕ → Type 0
+ArePlaces n text counts steps = (k : ℕ) → k < n → IsPlace text k (slice_index counts k) (slice_index steps k)

@@ -1,16 +1,15 @@
 //! Parts of a few digits, of which the bytes of a write may have many.
 ghost use Rattle.std.specs.Prelude.{◌≡◌, ◌≢◌, ◌≤◌, ◌<◌, ◌-◌, true, List, ℕ, length, take, IfOk};
-ghost use Rattle.jv_model.specs.Spelling.{is_hex_digit};
 ghost use Rattle.jv_script.specs.Reading.{ArePlaces, IsFront, IsStep, Leaves};
 
-use crate::hex_digits::{byte_of, is_hex_digit};
+use crate::hex_digits::byte_of_pair;
 use std::alloc::AllocError;
 
 /// So many bytes go to the others at once.
 const MANY: usize = 256;
 
 /// So many places of a text are looked at together.
-const PLACES: usize = 32;
+const PLACES: usize = 64;
 
 /// The characters that are looked at for a place: a pair, an `x`, a count of one digit, and a `+`.
 const SEEN: usize = 5;
@@ -22,11 +21,10 @@ const MAX_COUNT: usize = 9;
 /// characters that tell the greatest count each.
 pub(crate) const ROOM: usize = MANY + (PLACES + SEEN - 1) / 2 * MAX_COUNT;
 
-/// What would be read at some places of a text if a part, or what is left of one, began there: a byte, how often it stands,
-/// and how many characters tell it. These are 0 where it isn't told by few.
+/// What would be read at some places of a text if a part, or what is left of one, began there with a pair of digits: how
+/// often the pair's byte stands, and how many characters tell it. These are 0 where it isn't told by few.
 #[derive(Clone, Copy)]
 struct Places {
-    bytes: [u8; PLACES],
     counts: [u8; PLACES],
     steps: [u8; PLACES],
 }
@@ -67,28 +65,22 @@ fn fill<'a>(room: &mut [u8; ROOM], text: &'a [u8]) -> (usize, &'a [u8])
 // Looks at the places one by one, in a loop whose steps don't wait for each other: the compiler takes many at a time.
 #[inline(never)]
 fn places_of(text: &[u8]) -> Places
-    requires { 37 ≤ length text.now }
-    ensures { ArePlaces 32 text.now result.bytes result.counts result.steps }
+    requires { 69 ≤ length text.now }
+    ensures { ArePlaces 64 text.now result.counts result.steps }
 {
-    let mut bytes = [0; PLACES];
     let mut counts = [0; PLACES];
     let mut steps = [0; PLACES];
     for k in 0..PLACES {
-        bytes[k] = byte_of(text[k], text[k + 1]);
         counts[k] = count_of(text[k + 2], text[k + 3]);
-        steps[k] = step_of(text[k], text[k + 1], text[k + 2], text[k + 3], text[k + 4]);
+        steps[k] = step_of(text[k + 2], text[k + 3], text[k + 4]);
     }
-    Places {
-        bytes,
-        counts,
-        steps,
-    }
+    Places { counts, steps }
 }
 
-// Goes from the first place on, from each by as many characters as it tells, up to one that tells nothing, and writes the
-// bytes to room after so many others there. Each is written as often as the greatest count of one digit, and what is beyond
-// its count is written over: a loop would end where it can't be foretold. Gives how many bytes are there then, and the text
-// from the last place on.
+// Goes from the first place on, from each by as many characters as it tells, up to one that tells nothing or has no pair, and
+// writes the bytes to room after so many others there. Each is written as often as the greatest count of one digit, and what
+// is beyond its count is written over: a loop would end where it can't be foretold. Gives how many bytes are there then, and
+// the text from the last place on.
 #[inline(never)]
 fn walk<'a>(
     room: &mut [u8; ROOM],
@@ -97,8 +89,8 @@ fn walk<'a>(
     text: &'a [u8],
 ) -> (usize, &'a [u8])
     requires few { count < 256 }
-    requires long { 37 ≤ length text.now }
-    requires places { ArePlaces 32 text.now places.now.bytes places.now.counts places.now.steps }
+    requires long { 69 ≤ length text.now }
+    requires places { ArePlaces 64 text.now places.now.counts places.now.steps }
     ensures within { result.0 ≤ length room.new }
     ensures more { (whole : List ℕ) → IsFront whole (take count room.old) text.now → IsFront whole (take result.0 room.new) result.1.now }
     ensures no_more { length result.1.now ≤ length text.now }
@@ -106,7 +98,10 @@ fn walk<'a>(
     let mut filled = count;
     let mut at = 0;
     while at < PLACES && places.steps[at] > 0 {
-        room[filled..filled + MAX_COUNT].copy_from_slice(&[places.bytes[at]; MAX_COUNT]);
+        let Some(byte) = byte_of_pair(text[at], text[at + 1]) else {
+            break;
+        };
+        room[filled..filled + MAX_COUNT].copy_from_slice(&[byte; MAX_COUNT]);
         filled += places.counts[at] as usize;
         at += places.steps[at] as usize;
     }
@@ -123,18 +118,14 @@ fn count_of(next: u8, digit: u8) -> u8
 }
 
 // How many characters tell a pair's byte and count: those of the pair, and those that end its part if it is the last. 0 where
-// the five that are seen don't tell it. Each choice is between numbers that are there already: a loop over places then
-// takes many of them at a time.
-fn step_of(high: u8, low: u8, next: u8, digit: u8, last: u8) -> u8
-    ensures high { 0 < result → is_hex_digit high ≡ true }
-    ensures low { 0 < result → is_hex_digit low ≡ true }
-    ensures step { 0 < result → IsStep next digit last result }
+// the three that are seen after the pair don't tell it. Each choice is between numbers that are there already: a loop over
+// places then takes many of them at a time.
+fn step_of(next: u8, digit: u8, last: u8) -> u8
+    ensures { 0 < result → IsStep next digit last result }
 {
-    let is_pair = is_hex_digit(high) & is_hex_digit(low);
     let is_count = (b'1' <= digit) & (digit <= b'9') & (last == b'+');
     let counted = if is_count { 5 } else { 0 };
     let going_on = if last == b'x' { 0 } else { 2 };
     let plain = if next == b'+' { 3 } else { going_on };
-    let step = if next == b'x' { counted } else { plain };
-    if is_pair { step } else { 0 }
+    if next == b'x' { counted } else { plain }
 }

@@ -1,4 +1,4 @@
-use Rattle.std.proofs.Common.{arith, ◌≡◌, ◌<◌, add-zero, get_or, drop, refl, ◌∙◌}
+use Rattle.std.proofs.Common.{arith, ◌<◌, drop, ◌∙◌}
 use Rattle.std.proofs.lemmas.List.{length-set, length-drop, get_or-drop}
 use Rattle.jv_script.proofs.ShortParts.{IsPiece, piece, more_places}
 use Rattle.jv_script.proofs.short_parts.places_of.Goals as goal
@@ -7,16 +7,12 @@ pub loop-k-preserved : goal.loop-k-preserved
 loop-k-preserved c =
     let text = c.args.text.now in
     let k = c.loop-k.k in
-    let first : get_or (drop k text) 0 0 ≡ get_or text k 0 = get_or-drop k text 0 0 ∙ rw add-zero refl in
-    let is_piece : 0 < c.step_of.result → IsPiece (drop k text) c.byte_of.result c.count_of.result c.step_of.result = λ some. piece (drop k text) c.byte_of.result c.count_of.result c.step_of.result (omega (arith, length-drop k text))
-    (rw first (c.step_of.ensures.high some)) (rw (get_or-drop k text 1 0) (c.step_of.ensures.low some))
-    (rw (first, get_or-drop k text 1 0) (c.byte_of.ensures (c.step_of.ensures.high some) (c.step_of.ensures.low some)))
+    let is_piece : 0 < c.step_of.result → IsPiece (drop k text) c.count_of.result c.step_of.result = λ some. piece (drop k text) c.count_of.result c.step_of.result (omega (arith, length-drop k text))
     (rw (get_or-drop k text 2 0, get_or-drop k text 3 0) c.count_of.ensures.counted)
     (rw (get_or-drop k text 2 0) c.count_of.ensures.once)
-    (rw (get_or-drop k text 2 0, get_or-drop k text 3 0, get_or-drop k text 4 0) (c.step_of.ensures.step some)) in
+    (rw (get_or-drop k text 2 0, get_or-drop k text 3 0, get_or-drop k text 4 0) (c.step_of.ensures some)) in
     record {
-      bytes = length-set c.loop-k.bytes k c.byte_of.result ∙ c.loop-k.invariant.bytes;
       counts = length-set c.loop-k.counts k c.count_of.result ∙ c.loop-k.invariant.counts;
       steps = length-set c.loop-k.steps k c.step_of.result ∙ c.loop-k.invariant.steps;
-      places = more_places k text c.loop-k.bytes c.loop-k.counts c.loop-k.steps c.byte_of.result c.count_of.result c.step_of.result (omega (arith, c.loop-k.invariant.bytes)) (omega (arith, c.loop-k.invariant.counts)) (omega (arith, c.loop-k.invariant.steps)) c.loop-k.invariant.places is_piece;
+      places = more_places k text c.loop-k.counts c.loop-k.steps c.count_of.result c.step_of.result (omega (arith, c.loop-k.invariant.counts)) (omega (arith, c.loop-k.invariant.steps)) c.loop-k.invariant.places is_piece;
     }

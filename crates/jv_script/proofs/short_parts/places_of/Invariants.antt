@@ -4,8 +4,7 @@ use Rattle.jv_script.proofs.short_parts.places_of.Given as goal
 
 abbrev pub invariant-loop-k : goal.invariant-loop-k
 invariant-loop-k l = record {
-  bytes : length l.bytes ≡ 32;
-  counts : length l.counts ≡ 32;
-  steps : length l.steps ≡ 32;
-  places : ArePlaces l.k l.text l.bytes l.counts l.steps;
+  counts : length l.counts ≡ 64;
+  steps : length l.steps ≡ 64;
+  places : ArePlaces l.k l.text l.counts l.steps;
 }
