@@ -21,6 +21,18 @@ begins_long _ = false
 abbrev pub HasNoLongBefore : ℕ → List ℕ → Type 0
 HasNoLongBefore n bytes = (k : ℕ) → k < n → begins_long (drop k bytes) ≡ false
 
+-- of how many bytes the first piece of printed text is: of one, or of those of a long run; 10 stands for all longer ones
+pub record IsPieceLength (bytes : List ℕ) (n : ℕ) : Type 0 where
+  pub some : 0 < n
+  pub few : n ≤ 10
+  pub byte : n ≡ 1 → begins_long bytes ≡ false
+  pub long : 1 < n → begins_long bytes ≡ true
+  pub run : 1 < n → n < 10 → IsFirstRun bytes n
+
+-- the same of the first n places
+abbrev pub AreLengths : ℕ → List ℕ → List ℕ → Type 0
+AreLengths n bytes lengths = (k : ℕ) → k < n → IsPieceLength (drop k bytes) (slice_index lengths k)
+
 -- bytes as parts, of no bytes nothing
 abbrev pub parts_text : List ℕ → List ℕ
 parts_text bytes = join_with_byte 43 (map part_text (parts_of (runs_of bytes)))

@@ -8,11 +8,14 @@ mod escapes;
 mod faults;
 mod fields;
 mod hex_digits;
+mod hex_text;
 mod names;
 mod numbers;
 mod operations;
+mod pieces;
 mod printer;
 mod reader;
+mod runs;
 mod short_parts;
 #[cfg(test)]
 mod tests;

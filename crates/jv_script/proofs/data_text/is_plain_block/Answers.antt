@@ -1,6 +1,6 @@
 use Rattle.std.proofs.Common.{rules, arith, ◌≡◌, List, ℕ, false, drop, sym, ap, ◌∙◌}
 use Rattle.jv_script.specs.Printing.{begins_long}
-use Rattle.jv_script.proofs.Runs.{no_long_in_front}
+use Rattle.jv_script.proofs.RunText.{no_long_in_front}
 use Rattle.jv_script.proofs.data_text.is_plain_block.Goals as goal
 
 pub returns-clause-plain : goal.returns-clause-plain

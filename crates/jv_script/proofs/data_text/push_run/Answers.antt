@@ -2,7 +2,7 @@ use Rattle.std.proofs.Common.{rules, arith, ◌≡◌, ◌<◌, length, List, �
 use Rattle.std.proofs.lemmas.List.{append_assoc}
 use Rattle.jv_model.specs.Printed.{part_text, Repeated}
 use Rattle.jv_script.specs.Printing.{parts_text}
-use Rattle.jv_script.proofs.Runs.{run_first, run_last, prints_more}
+use Rattle.jv_script.proofs.RunText.{run_first, run_last, prints_more}
 use Rattle.jv_script.proofs.data_text.push_run.Goals as goal
 use Rattle.jv_script.proofs.data_text.push_run.Goals.{then-not-is_empty+in_ok-push, else-not-is_empty}
 

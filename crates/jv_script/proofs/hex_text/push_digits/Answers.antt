@@ -4,7 +4,7 @@ use Rattle.std.proofs.lemmas.Grind.{common_steps}
 use Rattle.hex.specs.Hex.{lower_digits}
 use Rattle.hex.proofs.HexLemmas.{length-encode_with}
 use Rattle.jv_script.proofs.HexText.{encode_lower-flat_map, tail_written}
-use Rattle.jv_script.proofs.data_text.push_digits.Goals as goal
+use Rattle.jv_script.proofs.hex_text.push_digits.Goals as goal
 
 pub returns : goal.returns
 returns c =

@@ -1,5 +1,5 @@
 -- Runs of equal bytes, and the parts that they are printed as.
-use Rattle.std.proofs.Common.{◌≡◌, ◌≢◌, ℕ, zero, suc, ◌+◌, add-zero, ◌<◌, ◌≤◌, ◌&&◌, ◌==◌, nat_le, inl, inr, Bool, true, false, cond, eqb, List, [], ◌∷◌, ◌++◌, length, get_or, take, drop, replicate, map, refl, sym, ap, ◌∙◌, subst, arith}
+use Rattle.std.proofs.Common.{◌≡◌, ◌≢◌, ℕ, zero, suc, ◌+◌, ◌-◌, add-zero, ◌<◌, ◌≤◌, ◌&&◌, ◌==◌, nat_le, inl, inr, Bool, true, false, cond, eqb, List, [], ◌∷◌, ◌++◌, length, get_or, take, drop, replicate, map, refl, sym, ap, ◌∙◌, subst, arith}
 use mir.Val.{bool_byte}
 use Rattle.std.specs.List.{flat_map, join_with_byte}
 use Rattle.std.proofs.lemmas.Bool.{eq-eqb, eqb-true, ne_eqb, le-leb, lt-leb, cases_lt, false≢true}
@@ -277,6 +277,32 @@ bytes_first (suc (suc n)) (b ∷ ys) some more short =
     byte_first b ys (short 0 (omega arith)) ∙ rw next (ap (λ (text : List ℕ). hex_pair b ++ text) later)
     ∙ sym (append_assoc (hex_pair b) (flat_map hex_pair (take (suc n) ys)) (plus_before rest ++ parts_text rest))
 
+-- no long run begins with less than four bytes
+few_short : (bytes : List ℕ) → length bytes ≤ 3 → begins_long bytes ≡ false
+few_short [] few = refl
+few_short (a ∷ []) few = refl
+few_short (a ∷ b ∷ []) few = refl
+few_short (a ∷ b ∷ c ∷ []) few = refl
+few_short (a ∷ b ∷ c ∷ d ∷ bytes) few = absurd (omega (arith, few))
+
+-- bytes with no long run in them are one part
+pub all_short : (bytes : List ℕ) → 0 < length bytes → HasNoLongBefore (length bytes - 3) bytes → parts_text bytes ≡ flat_map hex_pair bytes
+all_short [] some short = absurd (omega (arith, some))
+all_short (b ∷ []) some short = byte_first b [] refl
+all_short (b ∷ y ∷ ys) some short = byte_first b (y ∷ ys) first ∙ rw next (ap (λ (text : List ℕ). hex_pair b ++ text) (all_short (y ∷ ys) (omega arith) (λ k below. short (suc k) (omega (arith, below)))))
+  where
+    first : begins_long (b ∷ y ∷ ys) ≡ false
+    first = elim (cases_lt 0 (length (b ∷ y ∷ ys) - 3)) [
+      | inl more ↦ short 0 more
+      | inr few ↦ few_short (b ∷ y ∷ ys) (omega (arith, few))
+    ]
+
+    next : begins_long (y ∷ ys) ≡ false
+    next = elim (cases_lt 1 (length (b ∷ y ∷ ys) - 3)) [
+      | inl more ↦ short 1 more
+      | inr few ↦ few_short (y ∷ ys) (omega (arith, few))
+    ]
+
 -- the same with the `+`, and without
 pub block_before_run : (n : ℕ) (bytes block after : List ℕ) → 0 < n → n < length bytes → HasNoLongBefore n bytes → block ≡ take n bytes → after ≡ drop n bytes → begins_long after ≡ true → Spells bytes (flat_map hex_pair block ++ 43 ∷ []) after
 block_before_run n bytes block after some more short front back long =
@@ -301,7 +327,7 @@ pub prints_more : (old bytes text rest piece after new : List ℕ) → Prints ol
 prints_more old bytes text rest piece after new so_far next joined =
     ap (λ (text : List ℕ). text ++ parts_text after) joined ∙ append_assoc text piece (parts_text after) ∙ ap (λ (more : List ℕ). text ++ more) (sym next) ∙ so_far
 
-begins_long_at : (bytes : List ℕ) → 4 ≤ length bytes → begins_long bytes ≡ (get_or bytes 0 0 == get_or bytes 1 0 && (get_or bytes 1 0 == get_or bytes 2 0 && get_or bytes 2 0 == get_or bytes 3 0))
+pub begins_long_at : (bytes : List ℕ) → 4 ≤ length bytes → begins_long bytes ≡ (get_or bytes 0 0 == get_or bytes 1 0 && (get_or bytes 1 0 == get_or bytes 2 0 && get_or bytes 2 0 == get_or bytes 3 0))
 begins_long_at [] long = absurd (omega arith)
 begins_long_at (a ∷ []) long = absurd (omega arith)
 begins_long_at (a ∷ b ∷ []) long = absurd (omega arith)

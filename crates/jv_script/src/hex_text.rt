@@ -1,0 +1,32 @@
+//! Bytes as pairs of hexadecimal digits, printed.
+ghost use Rattle.std.specs.Prelude.{◌≡◌, ◌<◌, ◌++◌, OnOk};
+ghost use Rattle.std.specs.List.{flat_map};
+ghost use Rattle.jv_model.specs.Printed.{hex_digit, hex_pair};
+
+use std::alloc::AllocError;
+
+/// Prints bytes, many digits at a time.
+pub(crate) fn push_digits(text: &mut Vec<u8>, bytes: &[u8]) -> Result<(), AllocError>
+    ensures { OnOk result (text.new.items ≡ text.old.items ++ flat_map hex_pair bytes.now) }
+{
+    let start = text.len();
+    let digits = bytes.len().checked_mul(2).ok_or(AllocError)?;
+    let end = start.checked_add(digits).ok_or(AllocError)?;
+    text.resize(end, 0)?;
+    hex::encode_to_slice(bytes, &mut text[start..]).unwrap();
+    Ok(())
+}
+
+/// The two digits of a byte.
+pub(crate) fn hex_pair(byte: u8) -> [u8; 2]
+    ensures { result ≡ hex_pair byte }
+{
+    [hex_digit(byte / 16), hex_digit(byte % 16)]
+}
+
+fn hex_digit(value: u8) -> u8
+    requires { value < 16 }
+    ensures { result ≡ hex_digit value }
+{
+    b"0123456789abcdef"[value as usize]
+}
