@@ -52,6 +52,7 @@ enum Parts {
     Runs,
     Lengths,
     Chance,
+    Sparse,
     Tens,
     Mixed,
 }
@@ -88,8 +89,8 @@ fn push_count(text: &mut Vec<u8>, count: u32) -> Result<(), AllocError> {
 }
 
 /// A part: one byte, two bytes, three, one byte once, one byte one to nine times, one to four times; or by chance one byte or
-/// one byte once, one byte or one byte ten times, or one byte, two, or one byte one to nine times. Or two parts: one byte and
-/// another once, or one byte four times and another.
+/// one byte once, one byte or, of sixteen, one four times, one byte or one byte ten times, or one byte, two, or one byte one to
+/// nine times. Or two parts: one byte and another once, or one byte four times and another.
 fn push_part(text: &mut Vec<u8>, parts: Parts, number: u32) -> Result<(), AllocError> {
     push_byte(text, number)?;
     match (parts, number / 256 % 3) {
@@ -112,6 +113,7 @@ fn push_part(text: &mut Vec<u8>, parts: Parts, number: u32) -> Result<(), AllocE
         (Parts::Counted, _) | (Parts::Mixed, 2) => push_count(text, 1 + number / 1024 % 9),
         (Parts::Lengths, _) => push_count(text, 1 + number / 1024 % 4),
         (Parts::Chance, _) if number / 1024 % 2 == 0 => push_count(text, 1),
+        (Parts::Sparse, _) if number / 1024 % 16 == 0 => push_count(text, 4),
         (Parts::Tens, _) if number / 1024 % 2 == 0 => text.extend_from_slice(b"x10"),
         _ => Ok(()),
     }
@@ -141,6 +143,7 @@ fn parts_named(kind: &str) -> Option<Parts> {
         "runs" => Some(Parts::Runs),
         "lengths" => Some(Parts::Lengths),
         "chance" => Some(Parts::Chance),
+        "sparse" => Some(Parts::Sparse),
         "tens" => Some(Parts::Tens),
         "counted" => Some(Parts::Counted),
         "mixed" => Some(Parts::Mixed),
