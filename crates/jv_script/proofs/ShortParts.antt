@@ -1,13 +1,13 @@
 -- Parts of a few digits at the front of a text.
-use Rattle.std.proofs.Common.{◌≡◌, ◌≢◌, Option, add-zero, inl, inr, set, ℕ, zero, suc, ◌+◌, ◌-◌, ◌<◌, ◌≤◌, ◌&&◌, ◌==◌, Bool, true, false, List, [], ◌∷◌, ◌++◌, Some, None, length, get_or, take, drop, replicate, cond, refl, sym, ap, subst, ◌∙◌, arith}
+use Rattle.std.proofs.Common.{◌≡◌, ◌≢◌, Option, add-zero, inl, inr, set, ℕ, zero, suc, ◌+◌, ◌-◌, ◌*◌, ◌<◌, ◌≤◌, ◌&&◌, ◌==◌, Bool, true, false, List, [], ◌∷◌, ◌++◌, Some, None, length, get_or, take, drop, replicate, cond, refl, sym, ap, subst, ◌∙◌, arith}
 use Rattle.std.proofs.lemmas.Bool.{eq-eqb, eqb-true, le-leb, lt-ltb, cases_lt, false≢true, false_from_ne_true}
 use Rattle.std.specs.List.{onto_first}
 use Rattle.std.proofs.lemmas.List.{get_or-drop, take_rest, append_assoc, append-nil, drop-drop, get_or-set_same, get_or-set_other}
 use Rattle.std.proofs.lemmas.List.Splits.{slice_split_at, slice_split-cons_no}
-use Rattle.jv_model.specs.Spelling.{is_hex_digit, number_of, value_of, bytes_of_digits}
+use Rattle.jv_model.specs.Spelling.{is_hex_digit, is_numeral, number_of, value_of, bytes_of_digits}
 use Rattle.jv_model.specs.Printed.{Part, Plain, Repeated}
 use Rattle.jv_model.specs.Grammar.{provided, byte_of, parted, is_pairs, repeated_of, part_of, part_bytes}
-use Rattle.jv_script.specs.Reading.{Appends, IsFront, IsStep, ArePlaces, pair_at, IsPairFront, has_x, bytes_after}
+use Rattle.jv_script.specs.Reading.{Appends, IsFront, IsStep, IsTens, ArePlaces, pair_at, IsPairFront, has_x, bytes_after}
 use Rattle.jv_script.proofs.Digits.{number_in}
 use Rattle.jv_script.proofs.Parts.{part_of_pairs, part_of_with_x, part_of_without_x, all_paired, is_pairs-all_paired, bytes_after-more, bytes_after-off}
 
@@ -182,6 +182,41 @@ counted_first (a ∷ b ∷ x ∷ d ∷ e ∷ rest) byte read is_x one nine plus 
     let digit_is_no_plus : (d == 43) ≡ false = false_from_ne_true (d == 43) (λ plus. absurd (omega (arith, eqb-true d 43 plus))) in
     let part = counted a b x d byte is_a is_b is_byte is_x one nine in
     first_part (a ∷ b ∷ x ∷ d ∷ []) rest (take (length (a ∷ b ∷ x ∷ d ∷ e ∷ rest) - 5) (drop 5 (a ∷ b ∷ x ∷ d ∷ e ∷ rest))) e (Repeated (record { byte = byte; count = d - 48 })) (digit_no_plus a is_a, (digit_no_plus b is_b, (x_no_plus, (digit_is_no_plus, tt)))) plus part (take_rest (a ∷ b ∷ x ∷ d ∷ e ∷ rest) 5)
+
+tens_number : (t o : ℕ) → 49 ≤ t → t ≤ 57 → 48 ≤ o → o ≤ 57 → number_of (t ∷ o ∷ []) ≡ Some ((t - 48) * 10 + (o - 48))
+tens_number t o one nine from_zero nine_too =
+    let value : value_of 10 (t ∷ o ∷ []) ≡ (t - 48) * 10 + (o - 48) = omega arith in
+    let first : (t == 48) ≡ false = false_from_ne_true (t == 48) (λ zero. absurd (omega (arith, eqb-true t 48 zero))) in
+    let numeral : is_numeral (t ∷ o ∷ []) ≡ true = rw (first, le-leb 48 t (omega arith), le-leb t 57 nine, le-leb 48 o from_zero, le-leb o 57 nine_too) refl in
+    number_in (t ∷ o ∷ []) numeral (omega (arith, value)) ∙ ap Some value
+
+-- the same with a count of two digits
+tens_first : (high low x t o plus : ℕ) (rest : List ℕ) (byte : ℕ) → Some byte ≡ provided (is_hex_digit high && is_hex_digit low) (byte_of high low) → x ≡ 120 → 49 ≤ t → t ≤ 57 → 48 ≤ o → o ≤ 57 → plus ≡ 43
+    → IsFront (high ∷ low ∷ x ∷ t ∷ o ∷ plus ∷ rest) (replicate ((t - 48) * 10 + (o - 48)) byte) rest
+unfolding NoPlus repeated_of
+tens_first high low x t o plus rest byte read is_x one nine from_zero nine_too is_plus =
+    let (is_high, is_low, is_byte) = pair_given high low byte read in
+    let count = (t - 48) * 10 + (o - 48) in
+    let x_no_plus : (x == 43) ≡ false = ap (λ (x : ℕ). x == 43) is_x in
+    let t_no_plus : (t == 43) ≡ false = false_from_ne_true (t == 43) (λ plus. absurd (omega (arith, eqb-true t 43 plus))) in
+    let o_no_plus : (o == 43) ≡ false = false_from_ne_true (o == 43) (λ plus. absurd (omega (arith, eqb-true o 43 plus))) in
+    let part : part_of (high ∷ low ∷ x ∷ t ∷ o ∷ []) ≡ Some (Repeated (record { byte = byte; count = count })) =
+    part_of_with_x (high ∷ low ∷ x ∷ t ∷ o ∷ []) (eq-eqb x 120 is_x) ∙ rw (tens_number t o one nine from_zero nine_too, is_high, is_low, eq-eqb x 120 is_x, lt-ltb 0 count (omega arith), is_byte) refl in
+    first_part (high ∷ low ∷ x ∷ t ∷ o ∷ []) rest rest plus (Repeated (record { byte = byte; count = count })) (digit_no_plus high is_high, (digit_no_plus low is_low, (x_no_plus, (t_no_plus, (o_no_plus, tt))))) is_plus part refl
+
+-- the same of a text that isn't taken apart
+pub tens_of_text : (text : List ℕ) (byte : ℕ) → 6 ≤ length text → Some byte ≡ pair_at text 0 → get_or text 2 0 ≡ 120 → 49 ≤ get_or text 3 0 → get_or text 3 0 ≤ 57 → 48 ≤ get_or text 4 0 → get_or text 4 0 ≤ 57 → get_or text 5 0 ≡ 43
+    → IsTens text byte ((get_or text 3 0 - 48) * 10 + (get_or text 4 0 - 48))
+tens_of_text [] byte long read is_x one nine from_zero nine_too plus = absurd (omega (arith, long))
+tens_of_text (_ ∷ []) byte long read is_x one nine from_zero nine_too plus = absurd (omega (arith, long))
+tens_of_text (_ ∷ _ ∷ []) byte long read is_x one nine from_zero nine_too plus = absurd (omega (arith, long))
+tens_of_text (_ ∷ _ ∷ _ ∷ []) byte long read is_x one nine from_zero nine_too plus = absurd (omega (arith, long))
+tens_of_text (_ ∷ _ ∷ _ ∷ _ ∷ []) byte long read is_x one nine from_zero nine_too plus = absurd (omega (arith, long))
+tens_of_text (_ ∷ _ ∷ _ ∷ _ ∷ _ ∷ []) byte long read is_x one nine from_zero nine_too plus = absurd (omega (arith, long))
+tens_of_text (high ∷ low ∷ x ∷ t ∷ o ∷ e ∷ rest) byte long read is_x one nine from_zero nine_too plus = record {
+  front = tens_first high low x t o e rest byte read is_x one nine from_zero nine_too plus;
+  few = omega arith;
+}
 
 -- no bytes are at the front of the whole
 pub no_front : (text : List ℕ) → IsFront text [] text

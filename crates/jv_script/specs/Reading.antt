@@ -68,6 +68,13 @@ Leaves before text after rest = record {
 abbrev pub IsFront : List ℕ → List ℕ → List ℕ → Type 0
 IsFront text front rest = (before : List ℕ) → Leaves before text (before ++ front) rest
 
+-- a byte and its count of two digits, told by six characters at the front of a text
+abbrev pub IsTens : List ℕ → ℕ → ℕ → Type 0
+IsTens text byte count = record {
+  front : IsFront text (replicate count byte) (drop 6 text);
+  few : count ≤ 99;
+}
+
 -- a count of one digit and a `+`
 abbrev pub IsCountStep : ℕ → ℕ → ℕ → ℕ → Type 0
 IsCountStep next digit last step = (step ≡ 5) × (next ≡ 120) × (49 ≤ digit) × (digit ≤ 57) × (last ≡ 43)

@@ -1,6 +1,6 @@
 //! Parts of a few digits, of which the bytes of a write may have many.
-ghost use Rattle.std.specs.Prelude.{◌≡◌, ◌≢◌, ◌≤◌, ◌<◌, ◌-◌, true, List, ℕ, length, take, IfOk};
-ghost use Rattle.jv_script.specs.Reading.{ArePlaces, IsFront, IsStep, Leaves};
+ghost use Rattle.std.specs.Prelude.{◌≡◌, ◌≢◌, ◌≤◌, ◌<◌, ◌-◌, true, List, ℕ, length, take, drop, IfOk, IfSome};
+ghost use Rattle.jv_script.specs.Reading.{ArePlaces, IsFront, IsStep, IsTens, Leaves};
 
 use crate::hex_digits::byte_of_pair;
 use std::alloc::AllocError;
@@ -17,8 +17,11 @@ const SEEN: usize = 5;
 /// The greatest count of one digit.
 const MAX_COUNT: usize = 9;
 
+/// The greatest count of two digits.
+const MAX_TENS: usize = 99;
+
 /// The room for bytes on their way to the others. The places looked at last, and what is seen for them, are taken for pairs of
-/// characters that tell the greatest count each.
+/// characters that tell the greatest count of one digit each, which is more than a count of two digits tells.
 pub(crate) const ROOM: usize = MANY + (PLACES + SEEN - 1) / 2 * MAX_COUNT;
 
 /// What would be read at some places of a text if a part, or what is left of one, began there with a pair of digits: how
@@ -51,15 +54,72 @@ fn fill<'a>(room: &mut [u8; ROOM], text: &'a [u8]) -> (usize, &'a [u8])
     let mut count = 0;
     let mut rest = text;
     while count < MANY && rest.len() >= PLACES + SEEN {
-        let places = places_of(rest);
-        let (more, after) = walk(room, count, &places, rest);
-        let is_over = rest.len() - after.len() < PLACES;
-        (count, rest) = (more, after);
-        if is_over {
+        let (more, at) = fill_places(room, count, &places_of(rest), rest);
+        (count, rest) = (more, rest.split_at(at).1);
+        if at < PLACES {
             break;
         }
     }
     (count, rest)
+}
+
+// Writes the bytes that are told from the places of a text to room after so many others there, until many are there. Gives how
+// many bytes are there then, and the place from which the others are told.
+fn fill_places(room: &mut [u8; ROOM], count: usize, places: &Places, text: &[u8]) -> (usize, usize)
+    requires few { count < 256 }
+    requires long { 69 ≤ length text.now }
+    requires places { ArePlaces 64 text.now places.now.counts places.now.steps }
+    ensures within { result.0 ≤ length room.new }
+    ensures more { (whole : List ℕ) → IsFront whole (take count room.old) text.now → IsFront whole (take result.0 room.new) (drop result.1 text.now) }
+    ensures in_text { result.1 ≤ length text.now }
+{
+    let mut filled = count;
+    let mut at = 0;
+    while filled < MANY && at < PLACES {
+        let (more, next) = if places.steps[at] > 0 {
+            walk(room, filled, places, text, at)
+        } else {
+            fill_tens(room, filled, text, at)
+        };
+        let is_over = next == at;
+        (filled, at) = (more, next);
+        if is_over {
+            break;
+        }
+    }
+    (filled, at)
+}
+
+// Writes the bytes of a pair with a count of two digits, if one is at a place.
+fn fill_tens(room: &mut [u8; ROOM], count: usize, text: &[u8], at: usize) -> (usize, usize)
+    requires few { count < 256 }
+    requires in_text { at < 64 }
+    requires long { 69 ≤ length text.now }
+    ensures within { result.0 ≤ length room.new }
+    ensures more { (whole : List ℕ) → IsFront whole (take count room.old) (drop at text.now) → IsFront whole (take result.0 room.new) (drop result.1 text.now) }
+    ensures on { at ≤ result.1 }
+    ensures near { result.1 ≤ 69 }
+{
+    let Some((byte, tens)) = tens_of(text.split_at(at).1) else {
+        return (count, at);
+    };
+    room[count..count + MAX_TENS].copy_from_slice(&[byte; MAX_TENS]);
+    (count + tens, at + 6)
+}
+
+// A pair at the front and its count of two digits, if these are a part and another one follows.
+fn tens_of(text: &[u8]) -> Option<(u8, usize)>
+    ensures { IfSome result (λ told. IsTens text.now told.0 told.1) }
+{
+    let [high, low, x, tens, ones, plus, ..] = text else {
+        return None;
+    };
+    let is_count = *x == b'x' && matches!(*tens, b'1'..=b'9') && matches!(*ones, b'0'..=b'9');
+    if !is_count || *plus != b'+' {
+        return None;
+    }
+    let byte = byte_of_pair(*high, *low)?;
+    Some((byte, (*tens - b'0') as usize * 10 + (*ones - b'0') as usize))
 }
 
 // Looks at the places one by one, in a loop whose steps don't wait for each other: the compiler takes many at a time.
@@ -77,26 +137,29 @@ fn places_of(text: &[u8]) -> Places
     Places { counts, steps }
 }
 
-// Goes from the first place on, from each by as many characters as it tells, up to one that tells nothing or has no pair, and
-// writes the bytes to room after so many others there. Each is written as often as the greatest count of one digit, and what
-// is beyond its count is written over: a loop would end where it can't be foretold. Gives how many bytes are there then, and
-// the text from the last place on.
+// Goes from a place on, from each by as many characters as it tells, up to one that tells nothing or has no pair, and writes
+// the bytes to room after so many others there. Each is written as often as the greatest count of one digit, and what is
+// beyond its count is written over: a loop would end where it can't be foretold. Gives how many bytes are there then, and the
+// last place.
 #[inline(never)]
-fn walk<'a>(
+fn walk(
     room: &mut [u8; ROOM],
     count: usize,
     places: &Places,
-    text: &'a [u8],
-) -> (usize, &'a [u8])
+    text: &[u8],
+    from: usize,
+) -> (usize, usize)
     requires few { count < 256 }
+    requires in_text { from < 64 }
     requires long { 69 ≤ length text.now }
     requires places { ArePlaces 64 text.now places.now.counts places.now.steps }
     ensures within { result.0 ≤ length room.new }
-    ensures more { (whole : List ℕ) → IsFront whole (take count room.old) text.now → IsFront whole (take result.0 room.new) result.1.now }
-    ensures no_more { length result.1.now ≤ length text.now }
+    ensures more { (whole : List ℕ) → IsFront whole (take count room.old) (drop from text.now) → IsFront whole (take result.0 room.new) (drop result.1 text.now) }
+    ensures on { from ≤ result.1 }
+    ensures near { result.1 ≤ 68 }
 {
     let mut filled = count;
-    let mut at = 0;
+    let mut at = from;
     while at < PLACES && places.steps[at] > 0 {
         let Some(byte) = byte_of_pair(text[at], text[at + 1]) else {
             break;
@@ -105,7 +168,7 @@ fn walk<'a>(
         filled += places.counts[at] as usize;
         at += places.steps[at] as usize;
     }
-    (filled, text.split_at(at).1)
+    (filled, at)
 }
 
 // How often the byte of a pair stands, by what comes after the pair.

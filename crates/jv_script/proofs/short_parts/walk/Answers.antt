@@ -22,6 +22,7 @@ loop-at-preserved c =
     record {
       size = same_len_mid filled (filled + 9 - filled) room c.copy_from_slice.new.self c.copy_from_slice.ensures.len ∙ c.loop-at.invariant.size;
       near = omega (arith, here.near);
+      on = omega (arith, c.loop-at.invariant.on);
       within = omega (arith, here.few, here.far, c.loop-at.invariant.within);
       front = λ whole is_front. fronts whole (take filled room) (drop at text) (replicate count byte) (drop (at + step) text) _ (c.loop-at.invariant.front whole is_front) front put;
     }
