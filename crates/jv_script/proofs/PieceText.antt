@@ -69,13 +69,13 @@ piece_size bytes text n next size is told = elim (cases_lt 1 n) [
       (omega (arith, told.byte_size same, two_or_three (nat_lt 1 next)), omega (arith, told.byte_size same, two_or_three (nat_lt 1 next)))
 ]
 
-pub piece_spelled : (bytes text : List ℕ) (n next size : ℕ) → IsPieceLength bytes n → n < 10 → n < length bytes → IsPieceLength (drop 1 bytes) next → IsPieceText bytes text n next size → Spells bytes (take size text) (drop n bytes)
+pub piece_spelled : (bytes text : List ℕ) (n next size : ℕ) → IsPieceLength bytes n → n < 10 → n < length bytes → (n ≡ 1 → IsPieceLength (drop 1 bytes) next) → IsPieceText bytes text n next size → Spells bytes (take size text) (drop n bytes)
 piece_spelled bytes text n next size is few fewer is_next told = elim (cases_lt 1 n) [
   | inl more ↦ rw (told.run_size more, told.run more) (run_first bytes n (is.long more) (is.run more few) fewer)
   | inr one ↦
       let same : n ≡ 1 = omega (arith, is.some) in
       let v = nat_lt 1 next in
       let front : take size text ≡ hex_pair (get_or bytes 0 0) ++ plus_before (drop 1 bytes) =
-      ap (λ (size : ℕ). take size text) (told.byte_size same) ∙ sym (take-take (2 + bool_byte v) 3 text (two_or_three v)) ∙ ap (take (2 + bool_byte v)) (told.byte same) ∙ up_to_plus v (get_or bytes 0 0) (drop 1 bytes) (tells_long (drop 1 bytes) next is_next) in
+      ap (λ (size : ℕ). take size text) (told.byte_size same) ∙ sym (take-take (2 + bool_byte v) 3 text (two_or_three v)) ∙ ap (take (2 + bool_byte v)) (told.byte same) ∙ up_to_plus v (get_or bytes 0 0) (drop 1 bytes) (tells_long (drop 1 bytes) next (is_next same)) in
       rw (front, same) (first_of_short bytes (omega arith) (is.byte same))
 ]

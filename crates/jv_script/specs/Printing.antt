@@ -41,6 +41,14 @@ parts_text bytes = join_with_byte 43 (map part_text (parts_of (runs_of bytes)))
 abbrev pub Spells : List ℕ → List ℕ → List ℕ → Type 0
 Spells bytes front rest = parts_text bytes ≡ front ++ parts_text rest
 
+-- what spelled a front before spells more of the whole now, and some bytes are left
+abbrev pub SpellsMore : List ℕ → List ℕ → List ℕ → List ℕ → Type 0
+SpellsMore before bytes after rest = record {
+  spelled : (whole : List ℕ) → Spells whole before bytes → Spells whole after rest;
+  some : 0 < length rest;
+  no_more : length rest ≤ length bytes;
+}
+
 -- such a front went to the end of a text
 abbrev pub Prints : List ℕ → List ℕ → List ℕ → List ℕ → Type 0
 Prints old bytes new rest = new ++ parts_text rest ≡ old ++ parts_text bytes

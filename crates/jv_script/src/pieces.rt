@@ -2,7 +2,7 @@
 ghost use Rattle.std.specs.Prelude.{◌≡◌, ◌≢◌, ◌<◌, ◌≤◌, ◌+◌, ◌++◌, ◌∷◌, [], true, ℕ, nat_lt, List, length, take, slice_index};
 ghost use mir.Val.{bool_byte};
 ghost use Rattle.jv_model.specs.Printed.{hex_pair, part_text, Repeated};
-ghost use Rattle.jv_script.specs.Printing.{begins_long, IsPieceLength, AreLengths, Spells};
+ghost use Rattle.jv_script.specs.Printing.{begins_long, IsPieceLength, AreLengths, Spells, SpellsMore};
 
 use crate::hex_text::hex_pair;
 use crate::runs::run_length;
@@ -29,8 +29,8 @@ const PIECE_TEXT: usize = 5;
 /// bytes with a `+` after each.
 pub(crate) const ROOM: usize = MANY + (PLACES + SEEN) * 3;
 
-/// Spells bytes at the front in room that is there already, and leaves one byte or more. Ends where much text is there or few
-/// bytes are left, and before a run that has no room.
+/// Spells bytes at the front in room that is there already, and leaves one byte or more. Ends where much text is there, before
+/// the last piece, and before a run that has no room.
 pub(crate) fn fill<'a>(room: &mut [u8; ROOM], bytes: &'a [u8]) -> (usize, &'a [u8])
     requires { 0 < length bytes.now }
     ensures within { result.0 ≤ length room.new }
@@ -40,7 +40,7 @@ pub(crate) fn fill<'a>(room: &mut [u8; ROOM], bytes: &'a [u8]) -> (usize, &'a [u
 {
     let mut count = 0;
     let mut rest = bytes;
-    while count < MANY && rest.len() > PLACES + SEEN {
+    while count < MANY {
         let (more, after) = fill_more(room, count, rest);
         let is_over = after.len() == rest.len();
         (count, rest) = (more, after);
@@ -52,19 +52,52 @@ pub(crate) fn fill<'a>(room: &mut [u8; ROOM], bytes: &'a [u8]) -> (usize, &'a [u
 }
 
 // Spells bytes at the front in room after so much text there: a run whose length has two digits, or shorter ones and bytes
-// between them. Gives how much text is there then, and the bytes after those.
+// between them. Gives how much text is there then, and the bytes after those, which are all where these aren't spelled.
 fn fill_more<'a>(room: &mut [u8; ROOM], count: usize, bytes: &'a [u8]) -> (usize, &'a [u8])
     requires few { count < 256 }
-    requires long { 42 < length bytes.now }
+    requires some { 0 < length bytes.now }
     ensures within { result.0 ≤ length room.new }
-    ensures more { (whole : List ℕ) → Spells whole (take count room.old) bytes.now → Spells whole (take result.0 room.new) result.1.now }
-    ensures some { 0 < length result.1.now }
-    ensures no_more { length result.1.now ≤ length bytes.now }
+    ensures more { SpellsMore (take count room.old) bytes.now (take result.0 room.new) result.1.now }
 {
-    if bytes[0] == bytes[SEEN - 1] && piece_length(bytes) as usize == SEEN {
+    if bytes.len() <= PLACES + SEEN {
+        fill_few(room, count, bytes)
+    } else if bytes[0] == bytes[SEEN - 1] && piece_length(bytes) as usize == SEEN {
         fill_run(room, count, bytes)
     } else {
         walk(room, count, &lengths_of(bytes), bytes)
+    }
+}
+
+// Spells pieces of few bytes one after the other, up to the last one or to a run whose length has two digits.
+fn fill_few<'a>(room: &mut [u8; ROOM], count: usize, bytes: &'a [u8]) -> (usize, &'a [u8])
+    requires few { count < 256 }
+    requires some { 0 < length bytes.now }
+    requires short { length bytes.now ≤ 42 }
+    ensures within { result.0 ≤ length room.new }
+    ensures more { SpellsMore (take count room.old) bytes.now (take result.0 room.new) result.1.now }
+{
+    let mut filled = count;
+    let mut rest = bytes;
+    let mut length = first_length(rest);
+    while length < SEEN && length < rest.len() {
+        let after = rest.split_at(length).1;
+        let next_length = first_length(after);
+        let text = piece_text(rest[0], length as u8);
+        room[filled..filled + PIECE_TEXT].copy_from_slice(&text);
+        filled += piece_size(length as u8, next_length as u8);
+        (rest, length) = (after, next_length);
+    }
+    (filled, rest)
+}
+
+// Of how many bytes the first piece is, as `piece_length` tells it of many bytes.
+fn first_length(bytes: &[u8]) -> usize
+    requires { 0 < length bytes.now }
+    ensures { IsPieceLength bytes.now result }
+{
+    match run_length(bytes) {
+        0..=3 => 1,
+        length => length.min(SEEN),
     }
 }
 
@@ -73,9 +106,7 @@ fn fill_run<'a>(room: &mut [u8; ROOM], count: usize, bytes: &'a [u8]) -> (usize,
     requires few { count < 256 }
     requires long { begins_long bytes.now ≡ true }
     ensures within { result.0 ≤ length room.new }
-    ensures more { (whole : List ℕ) → Spells whole (take count room.old) bytes.now → Spells whole (take result.0 room.new) result.1.now }
-    ensures some { 0 < length result.1.now }
-    ensures no_more { length result.1.now ≤ length bytes.now }
+    ensures more { SpellsMore (take count room.old) bytes.now (take result.0 room.new) result.1.now }
 {
     let length = run_length(bytes);
     if length < SEEN || length > MAX_RUN || length == bytes.len() {
@@ -152,9 +183,7 @@ fn walk<'a>(
     requires long { 42 < length bytes.now }
     requires lengths { AreLengths 32 bytes.now lengths.now }
     ensures within { result.0 ≤ length room.new }
-    ensures more { (whole : List ℕ) → Spells whole (take count room.old) bytes.now → Spells whole (take result.0 room.new) result.1.now }
-    ensures some { 0 < length result.1.now }
-    ensures no_more { length result.1.now ≤ length bytes.now }
+    ensures more { SpellsMore (take count room.old) bytes.now (take result.0 room.new) result.1.now }
 {
     let mut filled = count;
     let mut at = 0;

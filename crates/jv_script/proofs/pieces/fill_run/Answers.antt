@@ -17,4 +17,8 @@ returns-clause-more c =
     let next : parts_text bytes ≡ piece ++ parts_text after = run_first bytes n c.requires.long c.run_length-length.ensures fewer ∙ ap (λ (rest : List ℕ). piece ++ parts_text rest) (sym c.split_at.ensures.back) in
     let put = written room at 6 6 c.run_text.result c.copy_from_slice.new.self c.copy_from_slice.ensures.after c.copy_from_slice.ensures.len (omega arith) (omega arith)
     ∙ ap (λ (text : List ℕ). take at room ++ text) c.run_text.ensures in
-    λ whole before. spells_more whole (take at room) bytes piece after _ before next put
+    record {
+      spelled = λ whole before. spells_more whole (take at room) bytes piece after _ before next put;
+      some = omega (arith, fewer, c.split_at.ensures.back_len);
+      no_more = omega (arith, c.split_at.ensures.back_len);
+    }

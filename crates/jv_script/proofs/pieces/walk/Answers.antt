@@ -29,7 +29,7 @@ loop-at-preserved c =
     } in
     let (few, in_proportion) = piece_size rest text n next size is told in
     let put = written room filled size 5 text c.copy_from_slice.new.self c.copy_from_slice.ensures.after c.copy_from_slice.ensures.len (omega (arith, c.loop-at.invariant.size, c.loop-at.invariant.within, c.requires.few, c.loop-at-test.true)) few in
-    let spelled = subst (Spells rest (take size text)) (drop-drop n at bytes) (piece_spelled rest text n next size is c.if-lengths-at-lt-SEEN.true (omega (arith, length-drop at bytes, c.requires.long, c.loop-at-test.true, c.if-lengths-at-lt-SEEN.true)) is_next told) in
+    let spelled = subst (Spells rest (take size text)) (drop-drop n at bytes) (piece_spelled rest text n next size is c.if-lengths-at-lt-SEEN.true (omega (arith, length-drop at bytes, c.requires.long, c.loop-at-test.true, c.if-lengths-at-lt-SEEN.true)) (λ _. is_next) told) in
     record {
       size = same_len_mid filled (filled + 5 - filled) room c.copy_from_slice.new.self c.copy_from_slice.ensures.len ∙ c.loop-at.invariant.size;
       near = omega (arith, c.loop-at-test.true, c.if-lengths-at-lt-SEEN.true);
