@@ -8,9 +8,9 @@ use Rattle.jv_model.specs.declared.act.ActKind.{ActKind}
 use Rattle.jv_model.specs.declared.act.ActKind.TheVariants.{Answered}
 use Rattle.jv_model.specs.declared.act.Told.TheVariants.{Refused}
 use Rattle.jv_model.specs.declared.op.Line.{Line}
-use Rattle.jv_model.specs.Client.{Doing}
-use Rattle.jv_model.specs.Legal.{Allowed, AllAllowed, MayStand}
-use Rattle.jv_model.specs.Past.{Past, Due, NoMore, Refusal, Whole, Unbuilt, begun_to, after, after_due, after_refusal, after_step, advance, past}
+use Rattle.jv_model.specs.run.Client.{Doing}
+use Rattle.jv_model.specs.run.Legal.{Allowed, AllAllowed, MayStand}
+use Rattle.jv_model.specs.run.Past.{Past, Due, NoMore, Refusal, Whole, Unbuilt, begun_to, after, after_due, after_refusal, after_step, advance, past}
 use Rattle.jv_model.proofs.PastLaws.{begun_to-present}
 use Rattle.jv_cmd.specs.Run.{up_to}
 use Rattle.jv_cmd.specs.Steps.{AreBetween}

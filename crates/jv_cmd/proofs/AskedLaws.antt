@@ -2,7 +2,7 @@
 use Rattle.std.proofs.Common.{◌≡◌, ◌≢◌, Bool, true, false, IsTrue, [], ◌∷◌, List, Option, None, Some, Ok, Err, refl, ap, sym, subst, ◌∙◌, codes, bytes_eq}
 use Rattle.std.specs.Prelude.{if◌then◌else◌, IfSome, option_and_then, option_map}
 use Rattle.jv_model.specs.declared.setting.Setting.{Setting}
-use Rattle.jv_model.specs.RowGrammar.{is_setting}
+use Rattle.jv_model.specs.rows.RowGrammar.{is_setting}
 use Rattle.clap.specs.Words.{Row, Text, Kinds, fault_of, subcommand_of, subcommand_rows_of}
 use Rattle.clap.specs.declared.parser.matches.ArgMatches.{ArgMatches}
 use Rattle.jv_cmd.specs.declared.words.request.Command.{Command}

@@ -6,7 +6,7 @@ use Rattle.std.proofs.lemmas.Bool.Decides.{nat_tests}
 use Rattle.std.proofs.lemmas.Grind.{pow_more}
 use Rattle.std.proofs.lemmas.List.Sums.{fold_more}
 use Rattle.std.proofs.Math.Nat.{pow-le-pow_right}
-use Rattle.jv_model.specs.Spelling.{is_decimal_digit, is_numeral, value_of}
+use Rattle.jv_model.specs.script.Spelling.{is_decimal_digit, is_numeral, value_of}
 use Rattle.jv_cmd.specs.Values.{as_block_size, is_block_size}
 
 -- one digit more

@@ -2,11 +2,11 @@
 use Rattle.std.proofs.Common.{ℕ, List, Option, refl, arith}
 use Rattle.jv_model.specs.declared.op.Line.{Line}
 use Rattle.jv_model.specs.FiniteMap.{get, insert, sum_over}
-use Rattle.jv_model.specs.Tree.{fresh_tree}
-use Rattle.jv_model.specs.Past.{at_start}
+use Rattle.jv_model.specs.tree.Tree.{fresh_tree}
+use Rattle.jv_model.specs.run.Past.{at_start}
 use Rattle.jv_session.specs.Agrees.{HasFiles, IsClient, Stands}
 use Rattle.jv_session.specs.Lines.{fresh_schedule}
-use Rattle.jv_model.specs.Client.{unmounted}
+use Rattle.jv_model.specs.run.Client.{unmounted}
 use Rattle.jv_cmd.specs.Run.{FreshVolume, session_limits, session_run}
 
 HasFiles-fresh : (v : FreshVolume) → HasFiles (fresh_tree v.setting v.made) (fresh_schedule v.setting session_limits).volume

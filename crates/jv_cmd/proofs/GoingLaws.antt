@@ -5,8 +5,8 @@ use Rattle.std.proofs.lemmas.List.Elements.{All-push}
 use Rattle.std.specs.Io.KnownBytes.{prepend_known}
 use Rattle.jv_model.specs.declared.act.Act.{Act}
 use Rattle.jv_model.specs.declared.op.Line.{Line}
-use Rattle.jv_model.specs.Grammar.{line_of}
-use Rattle.jv_model.specs.Past.{Past, Setup, at_start, begun_to, reached, at_end}
+use Rattle.jv_model.specs.script.Grammar.{line_of}
+use Rattle.jv_model.specs.run.Past.{Past, Setup, at_start, begun_to, reached, at_end}
 use Rattle.jv_model.proofs.PastLaws.{begun_to-present}
 use Rattle.jv_outside.specs.Causes.{Rose}
 use Rattle.jv_outside.specs.Told.{Gains, Passes}

@@ -5,8 +5,8 @@ use Rattle.std.proofs.lemmas.List.{append-nil}
 use Rattle.jv_model.specs.declared.act.Act.{Act}
 use Rattle.jv_model.specs.declared.op.Line.{Line}
 use Rattle.jv_model.specs.declared.op.Line.TheVariants.{Empty}
-use Rattle.jv_model.specs.Legal.{Legal, AllAllowed, may_be_cut, may_stop}
-use Rattle.jv_model.specs.Past.{Past, Setup, is_no_more, at_start, begun, turned, begin_from, begin_next, begun_by, begun_to, past, reached, at_end, text_of}
+use Rattle.jv_model.specs.run.Legal.{Legal, AllAllowed, may_be_cut, may_stop}
+use Rattle.jv_model.specs.run.Past.{Past, Setup, is_no_more, at_start, begun, turned, begin_from, begin_next, begun_by, begun_to, past, reached, at_end, text_of}
 use Rattle.jv_model.proofs.PastLaws.{begun_to-twice, begun_to-next, past-append, AllAllowed-append, past-begun_to, AllAllowed-begun_to}
 use Rattle.jv_outside.specs.Told.{Passes}
 use Rattle.jv_outside.proofs.ToldLemmas.{Passes-zero}

@@ -1,7 +1,7 @@
 -- What the top call comes to, by the command that it was asked for.
 use Rattle.std.specs.Prelude.{◌≡◌, ℕ, List, Option, None, Some}
 use Rattle.jv_model.specs.declared.setting.Setting.{Setting}
-use Rattle.jv_model.specs.RowKeys.{RowMap}
+use Rattle.jv_model.specs.rows.RowKeys.{RowMap}
 use Rattle.jv_outside.specs.Causes.{Rose}
 use Rattle.jv_outside.specs.Told.{Gains, GainsFront}
 use Rattle.jv_cmd.specs.declared.ended.Ended.{Ended}

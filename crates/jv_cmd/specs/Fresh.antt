@@ -4,9 +4,9 @@ use Rattle.std.specs.Option.{option_map}
 use Rattle.jv_model.specs.declared.row.Counters.{Counters}
 use Rattle.jv_model.specs.declared.row.Node.{Node}
 use Rattle.jv_model.specs.declared.setting.Setting.{Setting}
-use Rattle.jv_model.specs.RowGrammar.{setting_bytes, counters_bytes, node_bytes}
-use Rattle.jv_model.specs.RowKeys.{RowMap}
-use Rattle.jv_model.specs.RowPlaces.{setting_key, counters_key, node_key}
+use Rattle.jv_model.specs.rows.RowGrammar.{setting_bytes, counters_bytes, node_bytes}
+use Rattle.jv_model.specs.rows.RowKeys.{RowMap}
+use Rattle.jv_model.specs.rows.RowPlaces.{setting_key, counters_key, node_key}
 use Rattle.jv_outside.specs.declared.batch.Change.{Change}
 use Rattle.jv_outside.specs.declared.batch.Change.TheVariants.{Put}
 use Rattle.jv_outside.specs.Causes.{Rose}

@@ -2,9 +2,9 @@
 use Rattle.std.specs.Prelude.{◌≡◌, ℕ, ◌<◌, ◌≤◌, List, Option, None, Some, Result, IfOk, IfErr, IfSome, IsSome, IsSomeAnd, IsTrue}
 use Rattle.jv_model.specs.declared.setting.Setting.{Setting}
 use Rattle.jv_model.specs.FiniteMap.{get}
-use Rattle.jv_model.specs.RowGrammar.{is_setting, setting_of}
-use Rattle.jv_model.specs.RowKeys.{RowMap}
-use Rattle.jv_model.specs.RowPlaces.{setting_key}
+use Rattle.jv_model.specs.rows.RowGrammar.{is_setting, setting_of}
+use Rattle.jv_model.specs.rows.RowKeys.{RowMap}
+use Rattle.jv_model.specs.rows.RowPlaces.{setting_key}
 use Rattle.jv_outside.specs.Causes.{Rose}
 use Rattle.jv_cmd.specs.declared.ended.Ended.{Ended}
 use Rattle.jv_cmd.specs.declared.ended.Ended.TheVariants.{NoVolume, NewerVersion, SettingOff, KeeperFailed, OutOfMemory}

@@ -4,11 +4,11 @@ use Rattle.jv_model.specs.declared.act.Act.{Act}
 use Rattle.jv_model.specs.declared.basics.Limits.{Limits}
 use Rattle.jv_model.specs.declared.op.Line.{Line}
 use Rattle.jv_model.specs.declared.setting.Setting.{Setting}
-use Rattle.jv_model.specs.Built.{is_built}
-use Rattle.jv_model.specs.Grammar.{line_of}
-use Rattle.jv_model.specs.Legal.{Legal}
-use Rattle.jv_model.specs.Past.{Past, Setup, begun_to, reached, at_end, text_of}
-use Rattle.jv_model.specs.Tree.{fresh_tree}
+use Rattle.jv_model.specs.run.Built.{is_built}
+use Rattle.jv_model.specs.script.Grammar.{line_of}
+use Rattle.jv_model.specs.run.Legal.{Legal}
+use Rattle.jv_model.specs.run.Past.{Past, Setup, begun_to, reached, at_end, text_of}
+use Rattle.jv_model.specs.tree.Tree.{fresh_tree}
 use Rattle.jv_outside.specs.Causes.{Rose}
 use Rattle.jv_outside.specs.Told.{Gains, GainsFront}
 use Rattle.jv_cmd.specs.declared.ended.Ended.{Ended}

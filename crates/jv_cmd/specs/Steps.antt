@@ -2,9 +2,9 @@
 use Rattle.std.specs.Prelude.{◌≡◌, ℕ, ◌+◌, ◌≤◌, Bool, true, false, IsTrue, List, [], ◌∷◌, ◌++◌, map, length, slice_get, All, Option, None, Some, IfSome, IsSomeAnd, Result, Ok, Err}
 use Rattle.jv_model.specs.declared.act.Act.{Act}
 use Rattle.jv_model.specs.declared.op.Line.{Line}
-use Rattle.jv_model.specs.Grammar.{line_of}
-use Rattle.jv_model.specs.Legal.{AllAllowed}
-use Rattle.jv_model.specs.Past.{Past, Setup, at_start, begun_to, past, reached}
+use Rattle.jv_model.specs.script.Grammar.{line_of}
+use Rattle.jv_model.specs.run.Legal.{AllAllowed}
+use Rattle.jv_model.specs.run.Past.{Past, Setup, at_start, begun_to, past, reached}
 use Rattle.jv_outside.specs.Told.{Gains, GainsFront, Passes}
 use Rattle.jv_session.specs.Agrees.{ScheduleValue, Stands, ClockFor}
 use Rattle.jv_session.specs.BuiltHere.{built_here}

@@ -2,7 +2,7 @@
 use Rattle.std.specs.Prelude.{ℕ, ◌-◌, ◌*◌, ◌^◌, Bool, false, ◌&&◌, ◌||◌, ◌==◌, nat_lt, nat_le, if◌then◌else◌, List, [], ◌∷◌, length, take, drop, slice_get, Option, None, Some, option_and_then, codes, bytes_eq}
 use Rattle.std.specs.List.{list_any}
 use Rattle.std.specs.Option.{option_map_or}
-use Rattle.jv_model.specs.Spelling.{is_numeral, value_of}
+use Rattle.jv_model.specs.script.Spelling.{is_numeral, value_of}
 
 -- a number: decimal digits without a leading zero, at most 19 of them
 unfoldable pub number_of_digits : List ℕ → Option ℕ

@@ -5,7 +5,7 @@ use Rattle.clap.specs.Words.{Row, Text, fault_of, first_of, subcommand_of, subco
 use Rattle.clap.specs.declared.parser.matches.ArgMatches.{ArgMatches}
 use Rattle.clap.specs.Kinds.{Kinds}
 use Rattle.jv_model.specs.declared.setting.Setting.{Setting}
-use Rattle.jv_model.specs.RowGrammar.{is_setting}
+use Rattle.jv_model.specs.rows.RowGrammar.{is_setting}
 use Rattle.jv_cmd.specs.declared.words.request.Command.{Command}
 use Rattle.jv_cmd.specs.declared.words.request.Command.TheVariants.{Format, Session}
 use Rattle.jv_cmd.specs.declared.words.request.SessionOptions.{SessionOptions}

@@ -1,6 +1,6 @@
 //! The command `format`.
 ghost use Rattle.std.specs.Prelude.{◌≡◌, ◌≤◌, IfOk, IfErr, OnOk, OnErr, IsTrue};
-ghost use Rattle.jv_model.specs.RowGrammar.{is_setting};
+ghost use Rattle.jv_model.specs.rows.RowGrammar.{is_setting};
 ghost use Rattle.jv_cmd.specs.Commands.{outside, RunsFormat};
 ghost use Rattle.jv_cmd.specs.Fresh.{default_setting, fresh_counters, fresh_directory, fresh_rows, formatted_text, PutsRows, CannotFormat};
 ghost use Rattle.jv_cmd.specs.Run.{seen};

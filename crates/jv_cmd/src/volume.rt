@@ -1,6 +1,6 @@
 //! The volume that a command is run on.
 ghost use Rattle.std.specs.Prelude.{◌≡◌, ◌≤◌, IfOk, IfErr, IsTrue, IsOk};
-ghost use Rattle.jv_model.specs.RowGrammar.{is_setting};
+ghost use Rattle.jv_model.specs.rows.RowGrammar.{is_setting};
 ghost use Rattle.jv_outside.specs.Causes.{Rose};
 ghost use Rattle.jv_cmd.specs.Opening.{IsStored, CannotRead, CannotOpen, IsKnown, ReadsSetting, OpensVolume};
 

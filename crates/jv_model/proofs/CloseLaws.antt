@@ -13,10 +13,10 @@ use Rattle.jv_model.specs.declared.op.Reply.{Reply}
 use Rattle.jv_model.specs.declared.op.Reply.TheVariants.{SessionMade, FileOpened}
 use Rattle.jv_model.specs.declared.op.Line.{Line}
 use Rattle.jv_model.specs.declared.op.Line.TheVariants.{Empty, Do, Begin, Step, Run, Crash, Drain, Tick}
-use Rattle.jv_model.specs.Client.{ModelClient, OpenFile, OfFile, Doing, Stage, Transacting, Flushing, Reading, Replying, submission, started, flush_of, first_stage, file_of, inode_in, left_to_flush}
-use Rattle.jv_model.specs.Past.{Past, Due, NoMore, Refusal, Whole, Unbuilt, at_start, with_client, begun, begun_by, begun_to, begin_from, begin_next, submitted, turned, with_stage, replied, one_quiet, after_due, after_refusal, after_step, after, advance, past, reached}
-use Rattle.jv_model.specs.Legal.{Allowed, AllAllowed, MayStand, MayStep, MayBeQuiet, MayAnswer, OutOfMemory, Settled, Closed, Wrote, ReadsFresh, OfDoing, IsRefusal, Refuses, WantsMemory}
-use Rattle.jv_model.specs.Laws.{AnswersClose, ClosedFilesAreCommitted, is_fine_answer, pending_at_handle}
+use Rattle.jv_model.specs.run.Client.{ModelClient, OpenFile, OfFile, Doing, Stage, Transacting, Flushing, Reading, Replying, submission, started, flush_of, first_stage, file_of, inode_in, left_to_flush}
+use Rattle.jv_model.specs.run.Past.{Past, Due, NoMore, Refusal, Whole, Unbuilt, at_start, with_client, begun, begun_by, begun_to, begin_from, begin_next, submitted, turned, with_stage, replied, one_quiet, after_due, after_refusal, after_step, after, advance, past, reached}
+use Rattle.jv_model.specs.run.Legal.{Allowed, AllAllowed, MayStand, MayStep, MayBeQuiet, MayAnswer, OutOfMemory, Settled, Closed, Wrote, ReadsFresh, OfDoing, IsRefusal, Refuses, WantsMemory}
+use Rattle.jv_model.specs.run.Laws.{AnswersClose, ClosedFilesAreCommitted, is_fine_answer, pending_at_handle}
 use Rattle.jv_model.proofs.GrowthLaws.{AllAllowed-parts}
 
 -- a stage of an operation that makes no transaction

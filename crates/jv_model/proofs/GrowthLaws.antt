@@ -11,10 +11,10 @@ use Rattle.jv_model.specs.declared.fault.Fault.{Fault}
 use Rattle.jv_model.specs.declared.op.Op.{Op}
 use Rattle.jv_model.specs.declared.op.Line.{Line}
 use Rattle.jv_model.specs.declared.op.Line.TheVariants.{Empty, Do, Begin, Step, Run, Crash, Drain, Tick}
-use Rattle.jv_model.specs.Client.{Doing, submission}
-use Rattle.jv_model.specs.Past.{Past, Due, NoMore, Refusal, Whole, Unbuilt, at_start, begun, begun_by, begun_to, begin_from, begin_next, submitted, turned, after_due, after_refusal, after_step, after, advance, past, reached}
-use Rattle.jv_model.specs.Legal.{AllAllowed}
-use Rattle.jv_model.specs.Laws.{JournalsGrow, EarlierTextStays, text_to}
+use Rattle.jv_model.specs.run.Client.{Doing, submission}
+use Rattle.jv_model.specs.run.Past.{Past, Due, NoMore, Refusal, Whole, Unbuilt, at_start, begun, begun_by, begun_to, begin_from, begin_next, submitted, turned, after_due, after_refusal, after_step, after, advance, past, reached}
+use Rattle.jv_model.specs.run.Legal.{AllAllowed}
+use Rattle.jv_model.specs.run.Laws.{JournalsGrow, EarlierTextStays, text_to}
 use Rattle.jv_model.proofs.PastLaws.{past-append, AllAllowed-append, line-begun_to, begun_to-twice, past-begun_to}
 
 pub AllAllowed-parts : (p : Past) (xs ys : List Act) → AllAllowed p (xs ++ ys) → AllAllowed p xs × AllAllowed (past p xs) ys

@@ -1,13 +1,13 @@
 -- Laws about the definitions, and closed rows of them.
-pub mod PrintedRows
-pub mod GrammarRows
-pub mod ReplyRows
-pub mod MapLaws
-pub mod WorkedRows
+pub mod PrintedExamples
+pub mod GrammarExamples
+pub mod ReplyTextExamples
+pub mod FiniteMapLaws
+pub mod LegalExamples
 pub mod PastLaws
-pub mod LookLaws
+pub mod LooksLaws
 pub mod GrowthLaws
 pub mod CloseLaws
 pub mod WriteLaws
-pub mod BlockNameRows
-pub mod SliceRows
+pub mod BlockNamesExamples
+pub mod SlicesExamples

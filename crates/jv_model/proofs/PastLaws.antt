@@ -5,9 +5,9 @@ use Rattle.jv_model.specs.declared.fault.Fault.{Fault}
 use Rattle.jv_model.specs.declared.op.Op.{Op}
 use Rattle.jv_model.specs.declared.op.Line.{Line}
 use Rattle.jv_model.specs.declared.op.Line.TheVariants.{Empty, Do, Begin, Step, Run, Crash, Drain, Tick}
-use Rattle.jv_model.specs.Past.{Past, begun, begun_by, begun_to, begin_from, begin_next, submitted, turned, after, advance, past}
-use Rattle.jv_model.specs.Client.{submission}
-use Rattle.jv_model.specs.Legal.{Allowed, AllAllowed}
+use Rattle.jv_model.specs.run.Past.{Past, begun, begun_by, begun_to, begin_from, begin_next, submitted, turned, after, advance, past}
+use Rattle.jv_model.specs.run.Client.{submission}
+use Rattle.jv_model.specs.run.Legal.{Allowed, AllAllowed}
 
 -- a line that is the present one is begun already
 pub begun_to-present : (n : ℕ) (p : Past) → p.line ≡ n → begun_to n p ≡ p

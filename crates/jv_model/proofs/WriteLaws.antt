@@ -13,12 +13,12 @@ use Rattle.jv_model.specs.declared.op.Reply.{Reply}
 use Rattle.jv_model.specs.declared.op.Reply.TheVariants.{SessionMade, FileOpened}
 use Rattle.jv_model.specs.declared.op.Line.{Line}
 use Rattle.jv_model.specs.declared.op.Line.TheVariants.{Empty, Do, Begin, Step, Run, Crash, Drain, Tick}
-use Rattle.jv_model.specs.Pending.{PendingByte, stands_at, comes_before, byte_set, written, is_in_range, without_range, pending_of}
-use Rattle.jv_model.specs.Client.{ModelClient, OpenFile, Doing, Stage, Flushing, Reading, submission, file_of}
-use Rattle.jv_model.specs.Past.{Past, Due, NoMore, Refusal, Whole, Unbuilt, at_start, with_client, begun, begun_by, begun_to, begin_from, begin_next, submitted, turned, with_stage, replied, is_fine, finished, after_due, after_refusal, after_step, after, advance, past, reached}
-use Rattle.jv_model.specs.Legal.{Allowed, AllAllowed, MayStand, MayStep, OfDoing}
-use Rattle.jv_model.specs.Looks.{entry_at}
-use Rattle.jv_model.specs.Laws.{AnswersWrite, ClosesCommitWrites, CommitsPosition, commits_position, is_fine_answer}
+use Rattle.jv_model.specs.run.Pending.{PendingByte, stands_at, comes_before, byte_set, written, is_in_range, without_range, pending_of}
+use Rattle.jv_model.specs.run.Client.{ModelClient, OpenFile, Doing, Stage, Flushing, Reading, submission, file_of}
+use Rattle.jv_model.specs.run.Past.{Past, Due, NoMore, Refusal, Whole, Unbuilt, at_start, with_client, begun, begun_by, begun_to, begin_from, begin_next, submitted, turned, with_stage, replied, is_fine, finished, after_due, after_refusal, after_step, after, advance, past, reached}
+use Rattle.jv_model.specs.run.Legal.{Allowed, AllAllowed, MayStand, MayStep, OfDoing}
+use Rattle.jv_model.specs.run.Looks.{entry_at}
+use Rattle.jv_model.specs.run.Laws.{AnswersWrite, ClosesCommitWrites, CommitsPosition, commits_position, is_fine_answer}
 use Rattle.jv_model.proofs.PastLaws.{past-append}
 use Rattle.jv_model.proofs.GrowthLaws.{AllAllowed-parts}
 use Rattle.jv_model.proofs.CloseLaws.{closed_files, refusal_not_fine}

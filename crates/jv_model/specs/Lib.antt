@@ -1,25 +1,7 @@
--- The definitions that contracts cite.
-pub mod JournalValue
-pub mod Attempt
+-- The definitions that contracts cite, by what they are about.
 pub mod FiniteMap
-pub mod RowKeys
-pub mod Pending
-pub mod Spelling
-pub mod Printed
-pub mod ReplyText
-pub mod Grammar
-pub mod Tree
-pub mod Walk
-pub mod TreeAct
-pub mod Client
-pub mod Past
-pub mod Legal
-pub mod Built
-pub mod Looks
-pub mod Laws
-pub mod RowFields
-pub mod RowGrammar
-pub mod RowPlaces
-pub mod RowFaults
-pub mod BlockNames
-pub mod Slices
+pub mod tree
+pub mod script
+pub mod run
+pub mod blocks
+pub mod rows

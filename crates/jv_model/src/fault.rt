@@ -123,7 +123,7 @@ impl From<AllocError> for RowFault {
 
 impl From<Down> for RowFault {
     ghost use Rattle.std.specs.Prelude.{◌≡◌};
-    ghost use Rattle.jv_model.specs.RowFaults.{row_fault};
+    ghost use Rattle.jv_model.specs.rows.RowFaults.{row_fault};
 
     ghost from_gives = { λ down fault. fault ≡ row_fault down };
 

@@ -1,5 +1,5 @@
 //! What holds of every journal that is legal so far. Each law is a function that does nothing.
-ghost use Rattle.jv_model.specs.Laws.{FreshViewsAreFreshLooks, ViewsShowTheFile, PartsReadAreOfFreshLooks, JournalsGrow, EarlierTextStays, ClosedFilesAreCommitted, ClosesCommitWrites};
+ghost use Rattle.jv_model.specs.run.Laws.{FreshViewsAreFreshLooks, ViewsShowTheFile, PartsReadAreOfFreshLooks, JournalsGrow, EarlierTextStays, ClosedFilesAreCommitted, ClosesCommitWrites};
 
 /// The views by which a read is answered are fresh exactly where the journal's own entries say so: the client looked
 /// at that window of the file, after it had opened the file, and has not changed it since.

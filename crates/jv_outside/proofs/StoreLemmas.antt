@@ -9,7 +9,7 @@ use Rattle.jv_model.specs.FiniteMap.{KeyOrder, get, insert, alter, map_of}
 use Rattle.jv_outside.specs.declared.store.RowStore.{RowStore}
 use Rattle.jv_outside.specs.Rows.{applied}
 use Rattle.jv_outside.specs.Store.{stored, IsSettled}
-use Rattle.jv_model.proofs.MapLaws.{get-map_of, get-alter, same_maps}
+use Rattle.jv_model.proofs.FiniteMapLaws.{get-map_of, get-alter, same_maps}
 
 -- rows that are all in order
 pub stored-settled : (store : RowStore) → IsSettled store → stored store ≡ map_of store.sorted.entries

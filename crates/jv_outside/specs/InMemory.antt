@@ -1,7 +1,7 @@
 -- What contracts see of the devices in memory.
 use Rattle.std.specs.Prelude.{◌≡◌, ℕ, List, refl}
 use Rattle.std.specs.Coded.{Coded, code_by, coded×, coded_list, coded_ℕ}
-use Rattle.jv_model.specs.RowKeys.{RowMap, row_map_code}
+use Rattle.jv_model.specs.rows.RowKeys.{RowMap, row_map_code}
 use Rattle.jv_outside.specs.declared.calls.Fails.{Fails}
 use Rattle.jv_outside.specs.declared.calls.Fails.TheVariants.{At}
 use Rattle.jv_outside.specs.Calls.{CallsValue}

@@ -3,7 +3,7 @@ use Rattle.std.specs.Prelude.{ℕ, ◌==◌, ◌&&◌, List, [], ◌∷◌, filt
 use Rattle.std.specs.Ordering.{is_lt}
 use Rattle.jv_model.specs.declared.row.RowKey.{RowKey}
 use Rattle.jv_model.specs.FiniteMap.{insert, remove}
-use Rattle.jv_model.specs.RowKeys.{row_cmp, RowMap}
+use Rattle.jv_model.specs.rows.RowKeys.{row_cmp, RowMap}
 use Rattle.jv_outside.specs.declared.batch.Change.{Change}
 use Rattle.jv_outside.specs.declared.batch.Change.TheVariants.{Put, Del}
 

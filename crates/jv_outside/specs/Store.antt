@@ -4,7 +4,7 @@ use Rattle.std.specs.declared.ops.Bound.{Bound}
 use Rattle.std.specs.declared.ops.Bound.TheVariants.{Included, Excluded}
 use Rattle.std.specs.Ordering.{is_le}
 use Rattle.jv_model.specs.declared.row.RowKey.{RowKey}
-use Rattle.jv_model.specs.RowKeys.{RowMap, row_map, row_cmp}
+use Rattle.jv_model.specs.rows.RowKeys.{RowMap, row_map, row_cmp}
 use Rattle.jv_outside.specs.declared.store.RowStore.{RowStore}
 use Rattle.jv_outside.specs.Rows.{applied}
 

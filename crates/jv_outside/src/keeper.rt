@@ -2,7 +2,7 @@
 ghost use Rattle.std.specs.Prelude.{◌≡◌, ℕ, List, Option, IfSome, IfOk, OnOk, OnErr};
 ghost use Rattle.std.specs.Option.{option_map, option_copied};
 ghost use Rattle.jv_model.specs.FiniteMap.{get};
-ghost use Rattle.jv_model.specs.RowKeys.{RowMap};
+ghost use Rattle.jv_model.specs.rows.RowKeys.{RowMap};
 ghost use Rattle.jv_outside.specs.Causes.{MayFail};
 ghost use Rattle.jv_outside.specs.Rows.{applied, rows_after};
 

@@ -4,7 +4,7 @@ ghost use Rattle.std.specs.Prelude.{◌≡◌, ◌↔◌, IsTrue, IsOk, IfOk, If
 ghost use Rattle.std.specs.Option.{option_copied};
 ghost use Rattle.jv_model.specs.declared.fault.Down.TheVariants.{Failed, Memory};
 ghost use Rattle.jv_model.specs.FiniteMap.{get};
-ghost use Rattle.jv_model.specs.RowKeys.{row_map};
+ghost use Rattle.jv_model.specs.rows.RowKeys.{row_map};
 ghost use Rattle.jv_outside.specs.Calls.{fails_next, after_call};
 ghost use Rattle.jv_outside.specs.Causes.{MayFail};
 ghost use Rattle.jv_outside.specs.Rows.{applied, rows_after};
@@ -108,7 +108,7 @@ pub struct NeverKeeper {
 }
 
 impl Model for NeverKeeper {
-    ghost use Rattle.jv_model.specs.RowKeys.{RowMap, row_map_code};
+    ghost use Rattle.jv_model.specs.rows.RowKeys.{RowMap, row_map_code};
 
     ghost Value = { RowMap };
 

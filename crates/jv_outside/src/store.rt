@@ -3,7 +3,7 @@ ghost use Rattle.std.specs.Prelude.{◌≡◌, ◌==◌, [], take, take_while, I
 ghost use Rattle.std.specs.Option.{option_copied};
 ghost use Rattle.std.specs.Range.Bound.{bound_map};
 ghost use Rattle.jv_model.specs.FiniteMap.{get, insert};
-ghost use Rattle.jv_model.specs.RowKeys.{row_map};
+ghost use Rattle.jv_model.specs.rows.RowKeys.{row_map};
 ghost use Rattle.jv_outside.specs.Rows.{after_change, applied, rows_after};
 ghost use Rattle.jv_outside.specs.Store.{stored, IsSettled, scan_start};
 

@@ -4,7 +4,7 @@ use Rattle.std.proofs.lemmas.Bool.{cases_eq, cond-true, cond-false, eq-eqb, ne_e
 use Rattle.std.proofs.lemmas.Bool.Decides.{nat_tests}
 use Rattle.std.proofs.lemmas.Option.{none-some}
 use Rattle.jv_pending.proofs.Outcomes.{some_same}
-use Rattle.jv_model.specs.Pending.{PendingByte, Segment, is_in_range, without_range, pending_of, pending_of_others, first_segment}
+use Rattle.jv_model.specs.run.Pending.{PendingByte, Segment, is_in_range, without_range, pending_of, pending_of_others, first_segment}
 
 -- an inode's first segment is its own, and its first byte lies in it
 out_of_range : (i f n : ℕ) (b : PendingByte) → (b.inode ≡ i → ⊥) → is_in_range i f n b ≡ false

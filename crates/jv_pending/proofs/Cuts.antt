@@ -4,7 +4,7 @@ use Rattle.std.proofs.lemmas.List.{append-nil, length-take-le, length-drop, take
 use Rattle.std.proofs.lemmas.List.Edits.{length-between}
 use Rattle.std.proofs.lemmas.Slice.{between_is}
 use Rattle.std.specs.List.{between}
-use Rattle.jv_model.specs.Pending.{PendingByte}
+use Rattle.jv_model.specs.run.Pending.{PendingByte}
 use Rattle.jv_pending.specs.Runs.{Run, place, placed, first_place, Rise, Before, pending_bytes, end_place, gap, IsRun, InOrder, end_after, IsCut, BeginBy, Reaches, joined_from, joined, tail_of}
 use Rattle.jv_pending.proofs.Order.{InOrder-weaker, InOrder-append, end_after_least, end_after-append, pending_bytes-append, placed-append}
 use Rattle.jv_pending.proofs.Parts.{Rise-order}

@@ -4,7 +4,7 @@ use Rattle.std.specs.declared.cmp.Ordering.{Ordering}
 use Rattle.std.specs.Ordering.{nat_cmp, ordering_then}
 use Rattle.std.specs.BTreeMap.{is_at}
 use Rattle.std.specs.Map.{lookup}
-use Rattle.jv_model.specs.Pending.{PendingByte, Segment}
+use Rattle.jv_model.specs.run.Pending.{PendingByte, Segment}
 use Rattle.jv_pending.specs.declared.run.RunStart.{RunStart}
 
 -- a run: where it begins, and its bytes

@@ -1,6 +1,6 @@
 //! Writes over runs, and cuts of them.
 ghost use Rattle.std.specs.Prelude.{◌≡◌, ℕ, ◌+◌, ◌-◌, ◌<◌, ◌≤◌, ◌^◌, ◌%◌, [], ◌∷◌, ◌++◌, length, take, drop, List, vec_len, vec_capacity, OnOk, OnErr, IfOk, Some, unwrap_or, IsSome, IfSome, IsSomeAnd, if◌then◌else◌};
-ghost use Rattle.jv_model.specs.Pending.{written};
+ghost use Rattle.jv_model.specs.run.Pending.{written};
 ghost use Rattle.jv_pending.specs.Runs.{place_of, bytes_at, gap, pending_bytes, end_of_run, InOrder, Rise, Before, IsCut, IsFirst, IsTouched, without_run, runs_before, runs_from, runs_within, first_of, first_place, with_runs, head_of, tail_of, joined_from, widened, Rewrites};
 
 use crate::run::{RunStart, Runs, count_bytes, first_from, last_before};

@@ -3,7 +3,7 @@
 //! that for each run that they take out.
 ghost use Rattle.std.specs.Prelude.{◌≡◌, ℕ, ◌+◌, ◌<◌, ◌≤◌, ◌↔◌, [], length, Some, OnOk, OnErr, IfSome, IsErrOf, IsOkUnless, IsTrue};
 ghost use Rattle.std.specs.Option.{option_map};
-ghost use Rattle.jv_model.specs.Pending.{window_size, written, next_segment, bytes_in_range, without_range, pending_of_others, end_of, is_rising};
+ghost use Rattle.jv_model.specs.run.Pending.{window_size, written, next_segment, bytes_in_range, without_range, pending_of_others, end_of, is_rising};
 ghost use Rattle.jv_pending.specs.At.{segment_at};
 
 use crate::edit::write_runs;

@@ -4,7 +4,7 @@ use Rattle.std.specs.Prelude.{IfOk, IsTrue}
 use Rattle.std.specs.Option.{option_map}
 use Rattle.jv_model.specs.declared.row.Row.{Row}
 use Rattle.jv_model.specs.declared.row.Row.TheVariants.{OfSetting, OfCounters, OfNode, OfEdge, OfList, OfSlice, OfSession, OfSustained, OfDropped, OfDead}
-use Rattle.jv_model.specs.RowGrammar.{row_of, row_bytes, is_row}
+use Rattle.jv_model.specs.rows.RowGrammar.{row_of, row_bytes, is_row}
 use Rattle.jv_rows.specs.declared.misread.Misread.{Misread}
 use Rattle.jv_rows.specs.Reads.{Gives, IsSpelled}
 use Rattle.jv_rows.specs.RoundTrips.{AreBytes, IsExact}

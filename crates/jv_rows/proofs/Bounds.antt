@@ -6,7 +6,7 @@ use Rattle.std.proofs.lemmas.Str.{is_utf8-from_IsUtf8, IsUtf8-from_is_utf8}
 use Rattle.std.proofs.lemmas.Bool.{false_from_ne_true}
 use Rattle.std.proofs.lemmas.Bool.Decides.{nat_tests}
 use Rattle.jv_model.specs.declared.setting.Setting.{Setting}
-use Rattle.jv_model.specs.RowGrammar.{is_volume_name, is_bucket, is_setting}
+use Rattle.jv_model.specs.rows.RowGrammar.{is_volume_name, is_bucket, is_setting}
 
 -- whether bytes are text, by the answer of a function that tries them
 pub text_test : {X E : Type 0} (bytes : List ℕ) (A : X → Type 0) (B : E → Type 0) (r : Result X E) → MatchResult r (λ s. A s × IsUtf8 bytes) (λ e. ¬ (IsUtf8 bytes) × B e) → is_ok r ≡ is_utf8 bytes

@@ -8,7 +8,7 @@ use Rattle.jv_model.specs.declared.row.RowKey.{RowKey}
 use Rattle.jv_model.specs.declared.slice.Rec.{Rec}
 use Rattle.jv_model.specs.declared.fault.RowFault.{RowFault}
 use Rattle.jv_model.specs.declared.fault.RowFault.TheVariants.{Bad, Failed, Memory}
-use Rattle.jv_model.specs.RowKeys.{RowMap}
+use Rattle.jv_model.specs.rows.RowKeys.{RowMap}
 use Rattle.jv_outside.specs.declared.batch.Change.{Change}
 use Rattle.jv_outside.specs.Causes.{Rose}
 use Rattle.jv_rows.specs.Drops.{stored_count, slices_after, Dropping, stopped, followed_by, slice_dropping, slices_dropping, records_dropping, IsFront, RefusesDrops, AddsDrops}

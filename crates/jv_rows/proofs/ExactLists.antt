@@ -6,8 +6,8 @@ use Rattle.std.proofs.lemmas.List.{append-nil, length-append}
 use Rattle.std.proofs.Math.Nat.{mul-div_cancel}
 use Rattle.std.proofs.lemmas.List.Concat.{flat_map-cons}
 use Rattle.jv_model.specs.declared.slice.Rec.{Rec}
-use Rattle.jv_model.specs.RowFields.{◌>>=◌, whole}
-use Rattle.jv_model.specs.RowGrammar.{record_bytes, record_at, records_at, is_list, list_bytes, list_of}
+use Rattle.jv_model.specs.rows.RowFields.{◌>>=◌, whole}
+use Rattle.jv_model.specs.rows.RowGrammar.{record_bytes, record_at, records_at, is_list, list_bytes, list_of}
 use Rattle.jv_rows.specs.RoundTrips.{AreBytes, RecordWidths, ListWidths, IsExact}
 use Rattle.jv_rows.proofs.FieldLaws.{AreBytes-back, bind_some, IsField, word_field, long_field}
 use Rattle.jv_rows.proofs.ReaderLaws.{IsReader, field_then, finish_front, some_is, whole_is, lets_through}

@@ -1,7 +1,7 @@
 -- Readers of whole rows, field after field.
 use Rattle.std.proofs.Common.{◌≡◌, ℕ, Bool, true, false, cond, List, [], ◌∷◌, ◌++◌, length, Option, Some, None, refl, sym, ap, subst, ◌∙◌}
 use Rattle.std.specs.Prelude.{IsTrue}
-use Rattle.jv_model.specs.RowFields.{◌>>=◌, front_at, whole}
+use Rattle.jv_model.specs.rows.RowFields.{◌>>=◌, front_at, whole}
 use Rattle.jv_rows.specs.RoundTrips.{AreBytes, IsExact}
 use Rattle.jv_rows.proofs.FieldLaws.{bind_some, IsField, IsFront, front_field}
 

@@ -2,8 +2,8 @@
 use Rattle.std.proofs.Common.{◌≡◌, ℕ, suc, ◌-◌, ◌+◌, ◌≤◌, ◌<◌, List, [], ◌∷◌, ◌++◌, Option, Some, None, refl, sym, ap, ◌∙◌, append_assoc, arith}
 use Rattle.std.proofs.lemmas.List.{append-nil}
 use Rattle.jv_model.specs.declared.slice.Rec.{Rec}
-use Rattle.jv_model.specs.RowFields.{◌>>=◌}
-use Rattle.jv_model.specs.RowGrammar.{record_at, records_at}
+use Rattle.jv_model.specs.rows.RowFields.{◌>>=◌}
+use Rattle.jv_model.specs.rows.RowGrammar.{record_at, records_at}
 use Rattle.jv_rows.specs.declared.misread.Misread.{Misread}
 use Rattle.jv_rows.specs.declared.misread.Misread.TheVariants.{Off, Memory}
 use Rattle.jv_rows.specs.Reads.{Misses}

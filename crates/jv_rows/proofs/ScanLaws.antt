@@ -4,7 +4,7 @@ use Rattle.std.specs.Prelude.{IsTrue}
 use Rattle.std.proofs.lemmas.List.{append-nil, at_drop_more, at_drop_all}
 use Rattle.jv_model.specs.declared.row.RowKey.{RowKey}
 use Rattle.jv_model.specs.declared.row.Row.{Row}
-use Rattle.jv_model.specs.RowGrammar.{row_of, is_row}
+use Rattle.jv_model.specs.rows.RowGrammar.{row_of, is_row}
 use Rattle.jv_model.specs.declared.fault.RowFault.{RowFault}
 use Rattle.jv_model.specs.declared.fault.RowFault.TheVariants.{Bad, Failed, Memory}
 use Rattle.jv_rows.specs.Scans.{row_then, rows_read, AreAllowed, RefusesRow, RefusesRows}

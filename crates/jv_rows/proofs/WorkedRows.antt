@@ -4,7 +4,7 @@ use Rattle.std.specs.Prelude.{codes}
 use Rattle.jv_model.specs.declared.setting.Setting.{Setting}
 use Rattle.jv_model.specs.declared.slice.Rec.{Rec}
 use Rattle.std.specs.Str.{is_utf8, chars}
-use Rattle.jv_model.specs.RowGrammar.{setting_bytes, setting_of, node_of, record_bytes, list_bytes, record_at, records_at, list_of, session_of, row_of}
+use Rattle.jv_model.specs.rows.RowGrammar.{setting_bytes, setting_of, node_of, record_bytes, list_bytes, record_at, records_at, list_of, session_of, row_of}
 use Rattle.jv_rows.specs.Drops.{slices_named}
 
 -- a record: position 3 shows two bytes of slice 2 from its begin on

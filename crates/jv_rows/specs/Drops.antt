@@ -7,9 +7,9 @@ use Rattle.jv_model.specs.declared.slice.Rec.{Rec}
 use Rattle.jv_model.specs.declared.fault.RowFault.{RowFault}
 use Rattle.jv_model.specs.declared.fault.RowFault.TheVariants.{Bad, Failed, Memory}
 use Rattle.jv_model.specs.FiniteMap.{get}
-use Rattle.jv_model.specs.RowKeys.{RowMap}
-use Rattle.jv_model.specs.RowPlaces.{slice_key, dead_key}
-use Rattle.jv_model.specs.RowGrammar.{slice_bytes, slice_of, dead_bytes}
+use Rattle.jv_model.specs.rows.RowKeys.{RowMap}
+use Rattle.jv_model.specs.rows.RowPlaces.{slice_key, dead_key}
+use Rattle.jv_model.specs.rows.RowGrammar.{slice_bytes, slice_of, dead_bytes}
 use Rattle.jv_outside.specs.declared.batch.Change.{Change}
 use Rattle.jv_outside.specs.declared.batch.Change.TheVariants.{Put, Del}
 use Rattle.jv_outside.specs.Causes.{Rose}

@@ -4,7 +4,7 @@ use Rattle.jv_model.specs.declared.row.RowKey.{RowKey}
 use Rattle.jv_model.specs.declared.fault.RowFault.{RowFault}
 use Rattle.jv_model.specs.declared.fault.RowFault.TheVariants.{Bad, Failed, Memory}
 use Rattle.jv_model.specs.FiniteMap.{get}
-use Rattle.jv_model.specs.RowKeys.{RowMap}
+use Rattle.jv_model.specs.rows.RowKeys.{RowMap}
 use Rattle.jv_outside.specs.Causes.{Rose}
 
 -- what is found is what is stored: nothing, or the bytes of the value, from which it is read

@@ -5,8 +5,8 @@ use Rattle.jv_model.specs.declared.row.RowKey.{RowKey}
 use Rattle.jv_model.specs.declared.row.Row.{Row}
 use Rattle.jv_model.specs.declared.fault.RowFault.{RowFault}
 use Rattle.jv_model.specs.declared.fault.RowFault.TheVariants.{Bad, Failed, Memory}
-use Rattle.jv_model.specs.RowKeys.{RowMap}
-use Rattle.jv_model.specs.RowGrammar.{row_of, is_row}
+use Rattle.jv_model.specs.rows.RowKeys.{RowMap}
+use Rattle.jv_model.specs.rows.RowGrammar.{row_of, is_row}
 use Rattle.jv_outside.specs.Causes.{Rose}
 use Rattle.jv_outside.specs.Rows.{rows_after}
 

@@ -2,7 +2,7 @@
 ghost use Rattle.std.specs.Prelude.{◌≡◌, ℕ, ◌++◌, OnOk, OnErr, IfOk, IsTrue};
 ghost use Rattle.std.specs.Ordering.{nat_cmp};
 ghost use Rattle.std.specs.BTreeMap.{get};
-ghost use Rattle.jv_model.specs.RowGrammar.{is_slice};
+ghost use Rattle.jv_model.specs.rows.RowGrammar.{is_slice};
 ghost use Rattle.jv_rows.specs.Drops.{lowered, slice_dropping, records_dropping, stored_count, AddsFront, AddsDrops, HasNoneOf};
 
 use crate::keys::key_of_slice;

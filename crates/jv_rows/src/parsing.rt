@@ -1,7 +1,7 @@
 //! What the bytes of a row spell.
 ghost use Rattle.std.specs.Prelude.{◌≡◌, length};
-ghost use Rattle.jv_model.specs.RowGrammar.{setting_of, counters_of, node_of, edge_of, record_at, records_at, list_of, slice_of, session_of, sustained_of, dropped_of, dead_of};
-ghost use Rattle.jv_model.specs.RowFields.{whole};
+ghost use Rattle.jv_model.specs.rows.RowGrammar.{setting_of, counters_of, node_of, edge_of, record_at, records_at, list_of, slice_of, session_of, sustained_of, dropped_of, dead_of};
+ghost use Rattle.jv_model.specs.rows.RowFields.{whole};
 ghost use Rattle.jv_rows.specs.Reads.{Takes, Gives};
 
 use crate::allowed::{

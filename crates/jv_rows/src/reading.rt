@@ -1,7 +1,7 @@
 //! A keeper's rows, each read by its table's grammar.
 ghost use Rattle.std.specs.Prelude.{[], true};
-ghost use Rattle.jv_model.specs.RowGrammar.{is_setting, setting_bytes, setting_of, is_counters, counters_bytes, counters_of, is_node, node_bytes, node_of, is_edge, edge_bytes, edge_of, is_list, list_bytes, list_of, is_slice, slice_bytes, slice_of, is_session, session_bytes, session_of, sustained_of, dropped_bytes, dropped_of, dead_bytes, dead_of};
-ghost use Rattle.jv_model.specs.RowPlaces.{setting_key, counters_key, node_key, edge_key, list_key, slice_key, session_key, sustained_key, dropped_key, dead_key};
+ghost use Rattle.jv_model.specs.rows.RowGrammar.{is_setting, setting_bytes, setting_of, is_counters, counters_bytes, counters_of, is_node, node_bytes, node_of, is_edge, edge_bytes, edge_of, is_list, list_bytes, list_of, is_slice, slice_bytes, slice_of, is_session, session_bytes, session_of, sustained_of, dropped_bytes, dropped_of, dead_bytes, dead_of};
+ghost use Rattle.jv_model.specs.rows.RowPlaces.{setting_key, counters_key, node_key, edge_key, list_key, slice_key, session_key, sustained_key, dropped_key, dead_key};
 ghost use Rattle.jv_rows.specs.Readings.{ReadsRow};
 
 use crate::grammar::Grammar;

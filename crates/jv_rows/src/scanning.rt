@@ -1,7 +1,7 @@
 //! Several rows of a keeper, each read by its table's grammar.
 ghost use Rattle.std.specs.Prelude.{◌≡◌, Some, Ok, IfOk, IfErr, IsTrue};
 ghost use Rattle.std.specs.Option.{option_copied};
-ghost use Rattle.jv_model.specs.RowGrammar.{row_of, row_bytes, is_row};
+ghost use Rattle.jv_model.specs.rows.RowGrammar.{row_of, row_bytes, is_row};
 ghost use Rattle.jv_rows.specs.Reads.{Gives, IsSpelled};
 ghost use Rattle.jv_rows.specs.Scans.{rows_read, AreAllowed, RefusesRow, RefusesRows, ScansRows};
 

@@ -1,6 +1,6 @@
 //! The one spelling of each row.
 ghost use Rattle.std.specs.Prelude.{◌≡◌, ◌++◌, OnOk, IfOk, IsTrue};
-ghost use Rattle.jv_model.specs.RowGrammar.{is_setting, setting_bytes, counters_bytes, node_bytes, edge_bytes, record_bytes, list_bytes, slice_bytes, session_bytes, dropped_bytes, dead_bytes};
+ghost use Rattle.jv_model.specs.rows.RowGrammar.{is_setting, setting_bytes, counters_bytes, node_bytes, edge_bytes, record_bytes, list_bytes, slice_bytes, session_bytes, dropped_bytes, dead_bytes};
 
 use jv_model::{
     Bytes, Counters, Dead, Dropped, Edge, List, Node, Rec, Sequence, Session, Setting, SliceRow,

@@ -4,7 +4,7 @@ use Rattle.std.specs.List.{flat_map}
 use Rattle.std.proofs.lemmas.List.{append-nil, take_at, take_all, drop_all, length-append, length-drop}
 use borrow.Rule.Slice.PartMut.{post_of}
 use Rattle.hex.specs.Hex.{encode_with, encode_lower}
-use Rattle.jv_model.specs.Printed.{hex_digit, hex_pair}
+use Rattle.jv_model.specs.script.Printed.{hex_digit, hex_pair}
 
 -- what `hex` writes
 pub encode_lower-flat_map : (bytes : List ℕ) → encode_lower bytes ≡ flat_map hex_pair bytes

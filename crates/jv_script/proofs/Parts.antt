@@ -5,9 +5,9 @@ use Rattle.std.proofs.lemmas.List.{append_assoc, append-nil, length-append, leng
 use Rattle.std.proofs.lemmas.Bool.{le-leb, lt-leb, lt-ltb, and_parts, false≢true, false_from_ne_true}
 use Rattle.std.proofs.Math.Bool.{and-false}
 use Rattle.std.proofs.lemmas.List.Sums.{sum_by-cons}
-use Rattle.jv_model.specs.Spelling.{is_hex_digit, number_of, ◌>>=◌, at_most, bytes_of_digits}
-use Rattle.jv_model.specs.Printed.{Part, Plain, Repeated}
-use Rattle.jv_model.specs.Grammar.{provided, byte_of, parted, is_pairs, repeated_of, part_of, part_length, part_bytes, all_parts_of, bytes_of_parts, data_of}
+use Rattle.jv_model.specs.script.Spelling.{is_hex_digit, number_of, ◌>>=◌, at_most, bytes_of_digits}
+use Rattle.jv_model.specs.script.Printed.{Part, Plain, Repeated}
+use Rattle.jv_model.specs.script.Grammar.{provided, byte_of, parted, is_pairs, repeated_of, part_of, part_length, part_bytes, all_parts_of, bytes_of_parts, data_of}
 use Rattle.jv_script.specs.Reading.{length_with, has_x, limited_bytes, bytes_after, pairs_of, Appends}
 
 -- lengths

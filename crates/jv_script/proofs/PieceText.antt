@@ -3,7 +3,7 @@ use Rattle.std.proofs.Common.{◌≡◌, ◌≢◌, ℕ, ◌+◌, ◌*◌, ◌<�
 use mir.Val.{bool_byte}
 use Rattle.std.proofs.lemmas.Bool.{eq-eqb, lt-ltb, cases_lt}
 use Rattle.std.proofs.lemmas.List.{take-take, get_or-set_same, get_or-set_other}
-use Rattle.jv_model.specs.Printed.{hex_pair, part_text, Repeated}
+use Rattle.jv_model.specs.script.Printed.{hex_pair, part_text, Repeated}
 use Rattle.jv_script.specs.Printing.{IsFirstRun, IsPieceLength, AreLengths, begins_long, Spells}
 use Rattle.jv_script.proofs.RunText.{first_run, long_first, begins_long_at, plus_before, first_of_short, up_to_plus, two_or_three, run_first}
 

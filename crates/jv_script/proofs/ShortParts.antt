@@ -4,9 +4,9 @@ use Rattle.std.proofs.lemmas.Bool.{eq-eqb, eqb-true, le-leb, lt-ltb, cases_lt, f
 use Rattle.std.specs.List.{onto_first}
 use Rattle.std.proofs.lemmas.List.{get_or-drop, take_rest, append_assoc, append-nil, drop-drop, get_or-set_same, get_or-set_other}
 use Rattle.std.proofs.lemmas.List.Splits.{slice_split_at, slice_split-cons_no}
-use Rattle.jv_model.specs.Spelling.{is_hex_digit, is_numeral, number_of, value_of, bytes_of_digits}
-use Rattle.jv_model.specs.Printed.{Part, Plain, Repeated}
-use Rattle.jv_model.specs.Grammar.{provided, byte_of, parted, is_pairs, repeated_of, part_of, part_bytes}
+use Rattle.jv_model.specs.script.Spelling.{is_hex_digit, is_numeral, number_of, value_of, bytes_of_digits}
+use Rattle.jv_model.specs.script.Printed.{Part, Plain, Repeated}
+use Rattle.jv_model.specs.script.Grammar.{provided, byte_of, parted, is_pairs, repeated_of, part_of, part_bytes}
 use Rattle.jv_script.specs.Reading.{Appends, IsFront, IsStep, IsTens, ArePlaces, pair_at, IsPairFront, has_x, bytes_after}
 use Rattle.jv_script.proofs.Digits.{number_in}
 use Rattle.jv_script.proofs.Parts.{part_of_pairs, part_of_with_x, part_of_without_x, all_paired, is_pairs-all_paired, bytes_after-more, bytes_after-off}

@@ -1,9 +1,9 @@
 -- What the parts of the reader answer, against the grammar.
 use Rattle.std.specs.Prelude.{◌≡◌, ◌≢◌, ◌⊎◌, ◌==◌, ◌&&◌, ◌<◌, ◌≤◌, Bool, true, false, ℕ, ◌+◌, nat_le, List, [], ◌∷◌, ◌++◌, length, drop, replicate, slice_index, Option, None, Some, option_map, IsSome, IfSome, Result, Ok, Err, sum_by}
 use Rattle.std.specs.List.{flat_map}
-use Rattle.jv_model.specs.Spelling.{◌>>=◌, at_most, is_hex_digit, bytes_of_digits}
-use Rattle.jv_model.specs.Printed.{Part, Plain}
-use Rattle.jv_model.specs.Grammar.{provided, byte_of, parted, is_pairs, part_length, part_bytes, all_parts_of}
+use Rattle.jv_model.specs.script.Spelling.{◌>>=◌, at_most, is_hex_digit, bytes_of_digits}
+use Rattle.jv_model.specs.script.Printed.{Part, Plain}
+use Rattle.jv_model.specs.script.Grammar.{provided, byte_of, parted, is_pairs, part_length, part_bytes, all_parts_of}
 use Rattle.jv_script.specs.declared.bad_line.BadLine.{BadLine}
 use Rattle.jv_script.specs.declared.bad_line.BadLine.TheVariants.{Off, Memory}
 

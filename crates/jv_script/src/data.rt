@@ -1,8 +1,8 @@
 //! The bytes of a write, read.
 ghost use Rattle.std.specs.Prelude.{◌≡◌, ◌≤◌, ◌&&◌, ◌==◌, nat_lt, length, IfOk, option_map};
-ghost use Rattle.jv_model.specs.Spelling.{is_hex_digit};
-ghost use Rattle.jv_model.specs.Printed.{Repeated};
-ghost use Rattle.jv_model.specs.Grammar.{parted, repeated_of, part_of, part_length, bytes_of_parts, data_of};
+ghost use Rattle.jv_model.specs.script.Spelling.{is_hex_digit};
+ghost use Rattle.jv_model.specs.script.Printed.{Repeated};
+ghost use Rattle.jv_model.specs.script.Grammar.{parted, repeated_of, part_of, part_length, bytes_of_parts, data_of};
 ghost use Rattle.jv_script.specs.Reading.{has_x, Reads, length_with, bytes_after, pairs_of, Appends};
 
 use crate::bad_line::BadLine;

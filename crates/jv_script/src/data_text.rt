@@ -1,7 +1,7 @@
 //! Bytes of a file, printed.
 ghost use Rattle.std.specs.Prelude.{◌≡◌, ◌<◌, ◌≤◌, ◌++◌, true, false, length, IfOk, OnOk};
 ghost use Rattle.std.specs.List.{flat_map};
-ghost use Rattle.jv_model.specs.Printed.{hex_pair, data_text, part_text, Repeated};
+ghost use Rattle.jv_model.specs.script.Printed.{hex_pair, data_text, part_text, Repeated};
 ghost use Rattle.jv_script.specs.Printing.{begins_long, HasNoLongBefore, parts_text, Prints};
 
 use crate::hex_text::{hex_pair, push_digits};

@@ -2,7 +2,7 @@
 ghost use Rattle.std.specs.Prelude.{◌≡◌, ◌&&◌, ◌++◌, true, IsSome, IfOk, OnOk, is_some};
 ghost use Rattle.std.specs.Option.{option_copied};
 ghost use Rattle.std.specs.List.{list_all, flat_map};
-ghost use Rattle.jv_model.specs.Grammar.{is_plain, is_escape, escape_bytes, parted, unescaped, path_of, target_of};
+ghost use Rattle.jv_model.specs.script.Grammar.{is_plain, is_escape, escape_bytes, parted, unescaped, path_of, target_of};
 ghost use Rattle.jv_script.specs.Reading.{parts_after, Reads, first_in, first_of};
 
 use crate::bad_line::BadLine;

@@ -1,6 +1,6 @@
 //! Refusals, printed.
 ghost use Rattle.std.specs.Prelude.{◌≡◌, ◌++◌, codes, OnOk};
-ghost use Rattle.jv_model.specs.Printed.{device_name, gone_words, busy_words, fault_name, fault_words, fault_text};
+ghost use Rattle.jv_model.specs.script.Printed.{device_name, gone_words, busy_words, fault_name, fault_words, fault_text};
 
 use crate::numbers::push_number;
 use jv_model::{Busy, Device, Fault, Gone};

@@ -1,8 +1,8 @@
 //! Clients, numbers and modes, read.
 ghost use Rattle.std.specs.Prelude.{◌≡◌, ◌-◌, ◌<◌, ◌≤◌, ◌^◌, if◌then◌else◌, Some, None, IfSome};
 ghost use Rattle.std.specs.List.{list_all};
-ghost use Rattle.jv_model.specs.Spelling.{client_of, mode_of, number_of, length_of, is_numeral, is_decimal_digit, is_octal_digit};
-ghost use Rattle.jv_model.specs.Grammar.{number_up_to, seconds_of};
+ghost use Rattle.jv_model.specs.script.Spelling.{client_of, mode_of, number_of, length_of, is_numeral, is_decimal_digit, is_octal_digit};
+ghost use Rattle.jv_model.specs.script.Grammar.{number_up_to, seconds_of};
 
 use jv_model::ClientId;
 

@@ -1,7 +1,7 @@
 //! Numbers, printed.
 ghost use Rattle.std.specs.Prelude.{◌≡◌, ◌++◌, decimal, OnOk};
 ghost use Rattle.std.specs.List.{flat_map};
-ghost use Rattle.jv_model.specs.Printed.{number_word};
+ghost use Rattle.jv_model.specs.script.Printed.{number_word};
 
 use itoa::Buffer;
 use std::alloc::AllocError;

@@ -1,7 +1,7 @@
 //! Printed bytes piece by piece, a piece being a byte or a long run.
 ghost use Rattle.std.specs.Prelude.{◌≡◌, ◌≢◌, ◌<◌, ◌≤◌, ◌+◌, ◌++◌, ◌∷◌, [], true, ℕ, nat_lt, List, length, take, slice_index};
 ghost use mir.Val.{bool_byte};
-ghost use Rattle.jv_model.specs.Printed.{hex_pair, part_text, Repeated};
+ghost use Rattle.jv_model.specs.script.Printed.{hex_pair, part_text, Repeated};
 ghost use Rattle.jv_script.specs.Printing.{begins_long, IsPieceLength, AreLengths, Spells, SpellsMore};
 
 use crate::hex_text::hex_pair;

@@ -1,7 +1,7 @@
 //! Printed answers.
 ghost use Rattle.std.specs.Prelude.{◌≡◌, true, ◌∷◌, ◌++◌, codes, IfOk, OnOk};
-ghost use Rattle.jv_model.specs.Printed.{data_text, ok_text};
-ghost use Rattle.jv_model.specs.ReplyText.{reply_text, printed_line};
+ghost use Rattle.jv_model.specs.script.Printed.{data_text, ok_text};
+ghost use Rattle.jv_model.specs.script.ReplyText.{reply_text, printed_line};
 ghost use Rattle.jv_script.specs.Printing.{is_counts};
 
 use crate::data_text::push_data;

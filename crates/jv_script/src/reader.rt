@@ -1,8 +1,8 @@
 //! Lines of a script, read by the grammar.
 ghost use Rattle.std.specs.Prelude.{◌≡◌, ◌↔◌, None, Err, IfOk, Some, option_map};
 ghost use Rattle.std.specs.Option.{option_copied};
-ghost use Rattle.jv_model.specs.Spelling.{is_silent, words, client_of};
-ghost use Rattle.jv_model.specs.Grammar.{line_of, command_of, client_line_of, begin_of, where_last, seconds_of};
+ghost use Rattle.jv_model.specs.script.Spelling.{is_silent, words, client_of};
+ghost use Rattle.jv_model.specs.script.Grammar.{line_of, command_of, client_line_of, begin_of, where_last, seconds_of};
 ghost use Rattle.jv_model.specs.declared.op.Line.TheVariants.{Drain, Tick};
 ghost use Rattle.jv_script.specs.Reading.{Reads, parts_after};
 

@@ -14,11 +14,11 @@ use Rattle.jv_model.specs.declared.op.Op.{Op}
 use Rattle.jv_model.specs.declared.op.Op.TheVariants.{Mount, Create, Open, Write, Close, Read}
 use Rattle.jv_model.specs.declared.op.Reply.TheVariants.{Refused, SessionMade, FileOpened, Count, Done, Data}
 use Rattle.jv_model.specs.FiniteMap.{get}
-use Rattle.jv_model.specs.TreeAct.{Outcome, outcome}
-use Rattle.jv_model.specs.Pending.{written, pending_of, window_size}
-use Rattle.jv_model.specs.Client.{free_handle, file_of, file_in, with_file, submission}
-use Rattle.jv_model.specs.Past.{Past, caller, transacted}
-use Rattle.jv_model.specs.ReplyText.{printed_line}
+use Rattle.jv_model.specs.tree.TreeAct.{Outcome, outcome}
+use Rattle.jv_model.specs.run.Pending.{written, pending_of, window_size}
+use Rattle.jv_model.specs.run.Client.{free_handle, file_of, file_in, with_file, submission}
+use Rattle.jv_model.specs.run.Past.{Past, caller, transacted}
+use Rattle.jv_model.specs.script.ReplyText.{printed_line}
 use Rattle.jv_session.specs.Agrees.{ScheduleValue, HasFiles, Stands, Ran, entry_at}
 use Rattle.jv_session.specs.Stored.{IsFile, VolumeValue, Creates, inode_named}
 use Rattle.jv_session.specs.Lines.{Coming}

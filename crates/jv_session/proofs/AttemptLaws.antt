@@ -1,7 +1,7 @@
 -- Steps of an operation that go on or stop.
 use Rattle.std.proofs.Common.{◌≡◌, Bool, true, false, cond, ◌&&◌, Option, Some, Result, Ok, Err, refl, ap}
 use Rattle.jv_model.specs.declared.fault.Fault.{Fault}
-use Rattle.jv_model.specs.Attempt.{◌>>=◌, require, some_or}
+use Rattle.jv_model.specs.tree.Attempt.{◌>>=◌, require, some_or}
 
 pub require-true : {B : Type 0} (test : Bool) (fault : Fault) (next : Unit {0} → Result B Fault) → test ≡ true → (require test fault >>= next) ≡ next tt
 require-true test fault next e = ap (λ b. require b fault >>= next) e

@@ -11,14 +11,14 @@ use Rattle.jv_model.specs.declared.op.Line.TheVariants.{Empty, Do}
 use Rattle.jv_model.specs.declared.op.Op.{Op}
 use Rattle.jv_model.specs.declared.op.Op.TheVariants.{Mount, Create, Open, Close, Read, Write}
 use Rattle.jv_model.specs.declared.op.Reply.TheVariants.{SessionMade, FileOpened}
-use Rattle.jv_model.specs.Attempt.{◌>>=◌, require}
-use Rattle.jv_model.specs.Built.{pending_limit, is_built, is_built_form, is_built_answer, is_built_run, is_built_reply, flush_fits}
-use Rattle.jv_model.specs.Client.{ModelClient, OpenFile, submission, first_refusal, file_of, open_count, is_mount, needs_no_mount, names_handle, handle_in, gives_handle, write_end, inode_in}
+use Rattle.jv_model.specs.tree.Attempt.{◌>>=◌, require}
+use Rattle.jv_model.specs.run.Built.{pending_limit, is_built, is_built_form, is_built_answer, is_built_run, is_built_reply, flush_fits}
+use Rattle.jv_model.specs.run.Client.{ModelClient, OpenFile, submission, first_refusal, file_of, open_count, is_mount, needs_no_mount, names_handle, handle_in, gives_handle, write_end, inode_in}
 use Rattle.jv_model.specs.FiniteMap.{get, insert}
-use Rattle.jv_model.specs.Past.{Past, caller}
-use Rattle.jv_model.specs.Pending.{PendingByte, end_of}
-use Rattle.jv_model.specs.Tree.{Tree, full_count, paged}
-use Rattle.jv_model.specs.TreeAct.{Outcome, outcome}
+use Rattle.jv_model.specs.run.Past.{Past, caller}
+use Rattle.jv_model.specs.run.Pending.{PendingByte, end_of}
+use Rattle.jv_model.specs.tree.Tree.{Tree, full_count, paged}
+use Rattle.jv_model.specs.tree.TreeAct.{Outcome, outcome}
 use Rattle.jv_session.specs.Stored.{VolumeValue, IsFile, inode_named}
 use Rattle.jv_session.specs.Agrees.{ScheduleValue, HasFiles, IsClient, Agrees, Stands}
 use Rattle.jv_session.specs.BuiltHere.{refusal_here, has_form, has_room, space_grown, grown_fits, inode_or_zero, may_flush, may_run, may_answer, built_op, built_here}

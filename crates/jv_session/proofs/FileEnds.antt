@@ -13,12 +13,12 @@ use Rattle.jv_model.specs.declared.op.Op.{Op}
 use Rattle.jv_model.specs.declared.op.Op.TheVariants.{Close, Read}
 use Rattle.jv_model.specs.declared.op.Reply.{Reply}
 use Rattle.jv_model.specs.declared.op.Reply.TheVariants.{Refused, Done, Data}
-use Rattle.jv_model.specs.Pending.{first_segment, pending_of, window_size}
-use Rattle.jv_model.specs.Tree.{Content, content_at}
-use Rattle.jv_model.specs.Client.{ModelClient, OpenFile, Doing, Reading, file_of, inode_in, with_file, submission, answers_once_flushed}
-use Rattle.jv_model.specs.Past.{Past, View, reply_of, with_client, counted, or_empty, or_no_bytes, only_if, second_read, bytes_from, bytes_between, reading, part_read, seen_in, is_fresh, view_at}
-use Rattle.jv_model.specs.ReplyText.{printed_line}
-use Rattle.jv_model.specs.Legal.{IsFlushed, TakesView, Closed, ReadsFresh, is_before_step}
+use Rattle.jv_model.specs.run.Pending.{first_segment, pending_of, window_size}
+use Rattle.jv_model.specs.tree.Tree.{Content, content_at}
+use Rattle.jv_model.specs.run.Client.{ModelClient, OpenFile, Doing, Reading, file_of, inode_in, with_file, submission, answers_once_flushed}
+use Rattle.jv_model.specs.run.Past.{Past, View, reply_of, with_client, counted, or_empty, or_no_bytes, only_if, second_read, bytes_from, bytes_between, reading, part_read, seen_in, is_fresh, view_at}
+use Rattle.jv_model.specs.script.ReplyText.{printed_line}
+use Rattle.jv_model.specs.run.Legal.{IsFlushed, TakesView, Closed, ReadsFresh, is_before_step}
 use Rattle.jv_session.specs.declared.volume.StoredFile.{StoredFile}
 use Rattle.jv_session.specs.Stored.{stored_byte}
 use Rattle.jv_session.specs.Shown.{shown_between}

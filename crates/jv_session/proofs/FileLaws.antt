@@ -1,8 +1,8 @@
 -- A volume's list of files, and the bytes of one.
 use Rattle.std.proofs.Common.{◌≡◌, ℕ, zero, suc, ◌+◌, ◌-◌, ◌<◌, max, cond, List, [], ◌∷◌, ◌++◌, length, slice_get, slice_set, slice_index, Option, None, Some, refl, sym, ap, ◌∙◌, arith}
 use Rattle.std.specs.Prelude.{IfSome, IsSomeAnd}
-use Rattle.jv_model.specs.Tree.{Content}
-use Rattle.jv_model.specs.TreeAct.{overwritten}
+use Rattle.jv_model.specs.tree.Tree.{Content}
+use Rattle.jv_model.specs.tree.TreeAct.{overwritten}
 use Rattle.jv_session.specs.declared.volume.StoredSegment.{StoredSegment}
 use Rattle.jv_session.specs.declared.volume.StoredFile.{StoredFile}
 use Rattle.jv_session.specs.Stored.{covers, shown_over, with_segment}

@@ -10,11 +10,11 @@ use Rattle.jv_model.specs.declared.op.Line.{Line}
 use Rattle.jv_model.specs.declared.op.Op.{Op}
 use Rattle.jv_model.specs.declared.op.Op.TheVariants.{Close, Read, Write}
 use Rattle.jv_model.specs.declared.op.Reply.TheVariants.{Count}
-use Rattle.jv_model.specs.Pending.{PendingByte, written}
-use Rattle.jv_model.specs.Client.{ModelClient, OpenFile, NoFlush, OfAll, left_to_flush, file_in, file_of, inode_in, submission}
-use Rattle.jv_model.specs.Past.{Past}
-use Rattle.jv_model.specs.ReplyText.{printed_line}
-use Rattle.jv_model.specs.Legal.{IsFlushed, Wrote}
+use Rattle.jv_model.specs.run.Pending.{PendingByte, written}
+use Rattle.jv_model.specs.run.Client.{ModelClient, OpenFile, NoFlush, OfAll, left_to_flush, file_in, file_of, inode_in, submission}
+use Rattle.jv_model.specs.run.Past.{Past}
+use Rattle.jv_model.specs.script.ReplyText.{printed_line}
+use Rattle.jv_model.specs.run.Legal.{IsFlushed, Wrote}
 use Rattle.jv_session.specs.Progress.{Reaches, flushing}
 use Rattle.jv_session.specs.Agrees.{ScheduleValue, Agrees, IsClient, Ran, entry_at}
 use Rattle.jv_session.specs.Stored.{IsFile}

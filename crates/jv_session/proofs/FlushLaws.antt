@@ -7,10 +7,10 @@ use Rattle.std.specs.Prelude.{IfSome, IsSomeAnd}
 use Rattle.jv_model.specs.declared.act.Act.{Act}
 use Rattle.jv_model.specs.declared.op.Line.{Line}
 use Rattle.jv_model.specs.declared.op.Op.{Op}
-use Rattle.jv_model.specs.Past.{Past}
-use Rattle.jv_model.specs.Tree.{paged, sum_fits, space_limit}
-use Rattle.jv_model.specs.Pending.{PendingByte, Segment, first_segment, run_length, pending_of, end_of, bytes_in_range, without_range}
-use Rattle.jv_model.specs.Client.{Doing}
+use Rattle.jv_model.specs.run.Past.{Past}
+use Rattle.jv_model.specs.tree.Tree.{paged, sum_fits, space_limit}
+use Rattle.jv_model.specs.run.Pending.{PendingByte, Segment, first_segment, run_length, pending_of, end_of, bytes_in_range, without_range}
+use Rattle.jv_model.specs.run.Client.{Doing}
 use Rattle.jv_session.specs.declared.volume.StoredFile.{StoredFile}
 use Rattle.jv_session.specs.Stored.{VolumeValue, Commits, IsFile, with_segment, with_commit}
 use Rattle.jv_session.specs.BuiltHere.{may_flush, grown_fits}

@@ -6,12 +6,12 @@ use Rattle.std.specs.Prelude.{slice_set, IfSome, is_some}
 use Rattle.jv_model.specs.declared.act.Act.{Act}
 use Rattle.jv_model.specs.declared.act.ActKind.TheVariants.{Commit, Quiet}
 use Rattle.jv_model.specs.declared.op.Line.{Line}
-use Rattle.jv_model.specs.Tree.{Tree, paged, sum_fits, space_limit, fits}
-use Rattle.jv_model.specs.TreeAct.{committed}
-use Rattle.jv_model.specs.Pending.{first_segment, bytes_in_range, without_range}
-use Rattle.jv_model.specs.Client.{Doing, Flushing, left_to_flush}
-use Rattle.jv_model.specs.Past.{Past, with_client, spoiled, counted}
-use Rattle.jv_model.specs.Legal.{Commits, may_be_staged}
+use Rattle.jv_model.specs.tree.Tree.{Tree, paged, sum_fits, space_limit, fits}
+use Rattle.jv_model.specs.tree.TreeAct.{committed}
+use Rattle.jv_model.specs.run.Pending.{first_segment, bytes_in_range, without_range}
+use Rattle.jv_model.specs.run.Client.{Doing, Flushing, left_to_flush}
+use Rattle.jv_model.specs.run.Past.{Past, with_client, spoiled, counted}
+use Rattle.jv_model.specs.run.Legal.{Commits, may_be_staged}
 use Rattle.jv_session.specs.declared.volume.StoredFile.{StoredFile}
 use Rattle.jv_session.specs.Stored.{with_segment, with_commit}
 use Rattle.jv_session.specs.Flushing.{segment_entries}

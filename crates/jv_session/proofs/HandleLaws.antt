@@ -2,7 +2,7 @@
 use Rattle.std.proofs.Common.{◌≡◌, ℕ, zero, suc, ◌+◌, ◌-◌, true, false, cond, List, [], ◌∷◌, ◌++◌, map, length, ◌==◌, Option, None, Some, refl, sym, ap, ◌∙◌}
 use Rattle.std.specs.Prelude.{IfSome, slice_get, slice_set, nat_le}
 use Rattle.std.specs.Option.{option_map}
-use Rattle.jv_model.specs.Client.{free_from, open_count, with_file, file_in, file_of}
+use Rattle.jv_model.specs.run.Client.{free_from, open_count, with_file, file_in, file_of}
 
 module _ {X : Type 0} (P : X → Type 0) where
   all-set : (xs : List X) (i : ℕ) (x : X) → ((j : ℕ) → IfSome (slice_get xs j) P) → P x → (j : ℕ) → IfSome (slice_get (slice_set xs i x) j) P

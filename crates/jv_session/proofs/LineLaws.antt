@@ -12,16 +12,16 @@ use Rattle.jv_model.specs.declared.op.Op.TheVariants.{Mount, Close, Read, Write}
 use Rattle.jv_model.specs.declared.op.Line.{Line}
 use Rattle.jv_model.specs.declared.op.Reply.{Reply}
 use Rattle.jv_model.specs.declared.op.Reply.TheVariants.{Refused, SessionMade, FileOpened}
-use Rattle.jv_model.specs.Attempt.{◌>>=◌, require}
+use Rattle.jv_model.specs.tree.Attempt.{◌>>=◌, require}
 use Rattle.jv_model.specs.FiniteMap.{get, insert}
-use Rattle.jv_model.specs.Tree.{Tree, full_count}
-use Rattle.jv_model.specs.TreeAct.{Caller, Outcome, outcome}
-use Rattle.jv_model.specs.Client.{ModelClient, OpenFile, Doing, Transacting, Replying, is_replying, first_stage, free_handle, with_file, submission}
-use Rattle.jv_model.specs.Past.{Past, NoMore, with_client, caller, transacted, mounts_writeback, after, counted, ended, done_reply, finished, is_no_more}
-use Rattle.jv_model.specs.ReplyText.{printed_line}
-use Rattle.jv_model.specs.Legal.{Allowed, IsRefusal}
+use Rattle.jv_model.specs.tree.Tree.{Tree, full_count}
+use Rattle.jv_model.specs.tree.TreeAct.{Caller, Outcome, outcome}
+use Rattle.jv_model.specs.run.Client.{ModelClient, OpenFile, Doing, Transacting, Replying, is_replying, first_stage, free_handle, with_file, submission}
+use Rattle.jv_model.specs.run.Past.{Past, NoMore, with_client, caller, transacted, mounts_writeback, after, counted, ended, done_reply, finished, is_no_more}
+use Rattle.jv_model.specs.script.ReplyText.{printed_line}
+use Rattle.jv_model.specs.run.Legal.{Allowed, IsRefusal}
 use Rattle.jv_model.proofs.PastLaws.{begun_to-present, advance-present}
-use Rattle.jv_model.proofs.MapLaws.{get-insert}
+use Rattle.jv_model.proofs.FiniteMapLaws.{get-insert}
 use Rattle.jv_session.specs.Stored.{VolumeValue}
 use Rattle.jv_session.specs.Lines.{Coming}
 use Rattle.jv_session.specs.Progress.{StepsTo}

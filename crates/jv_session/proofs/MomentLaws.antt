@@ -4,7 +4,7 @@ use Rattle.std.specs.Prelude.{IfSome, MatchOption}
 use Rattle.jv_model.specs.declared.act.Act.{Act}
 use Rattle.jv_model.specs.declared.op.Line.TheVariants.{Do}
 use Rattle.jv_model.specs.declared.op.Op.{Op}
-use Rattle.jv_model.specs.Legal.{last_moment}
+use Rattle.jv_model.specs.run.Legal.{last_moment}
 use Rattle.jv_outside.specs.Told.{Passes}
 use Rattle.jv_session.specs.Agrees.{ScheduleValue, Ran, ClockFor}
 use Rattle.jv_session.specs.Lines.{Coming, RunsTo, RunsLine}

@@ -4,8 +4,8 @@ use Rattle.std.specs.Prelude.{nat_le}
 use Rattle.std.specs.Option.{option_map}
 use Rattle.std.proofs.lemmas.Bool.{false≢true, and_from, or_right, lt-leb, not_from_false, cond-true, cond-false}
 use Rattle.jv_model.specs.FiniteMap.{insert, sum_over}
-use Rattle.jv_model.specs.Tree.{Tree, Node, Kind, File, Directory, Symlink, Content, trash_root, is_counted, kind_space, node_space, node_count, sum_fits, content_of, parent_of, node_at, used_inodes}
-use Rattle.jv_model.specs.TreeAct.{set_node}
+use Rattle.jv_model.specs.tree.Tree.{Tree, Node, Kind, File, Directory, Symlink, Content, trash_root, is_counted, kind_space, node_space, node_count, sum_fits, content_of, parent_of, node_at, used_inodes}
+use Rattle.jv_model.specs.tree.TreeAct.{set_node}
 use Rattle.jv_session.proofs.SumLaws.{sum-more, sum-least}
 
 -- a node with these bytes

@@ -5,12 +5,12 @@ use Rattle.std.specs.List.{list_all}
 use Rattle.std.proofs.lemmas.Bool.{false≢true, and_parts, and_left, or_from, not_from_false, cond-false}
 use Rattle.jv_model.specs.declared.fault.Fault.{Fault}
 use Rattle.jv_model.specs.declared.fault.Fault.TheVariants.{NotFound, NotADirectory, Invalid, NameTooLong}
-use Rattle.jv_model.specs.Attempt.{◌>>=◌, require, some_or}
+use Rattle.jv_model.specs.tree.Attempt.{◌>>=◌, require, some_or}
 use Rattle.jv_model.specs.FiniteMap.{get}
-use Rattle.jv_model.specs.Spelling.{is_letter_or_digit, is_name, is_root_path}
-use Rattle.jv_model.specs.Tree.{Tree, EntryKey, parent_at}
+use Rattle.jv_model.specs.script.Spelling.{is_letter_or_digit, is_name, is_root_path}
+use Rattle.jv_model.specs.tree.Tree.{Tree, EntryKey, parent_at}
 use Rattle.jv_session.proofs.AttemptLaws.{require-true, some_or-some, ends}
-use Rattle.jv_model.specs.Walk.{before_part, is_empty, parts_between, names_of, is_text, is_dot, is_dot_dot, is_trash, named_from, stepped, walked, inode_of, all_but_last, last_name, entry_of}
+use Rattle.jv_model.specs.tree.Walk.{before_part, is_empty, parts_between, names_of, is_text, is_dot, is_dot_dot, is_trash, named_from, stepped, walked, inode_of, all_but_last, last_name, entry_of}
 
 plain_is_not : (b c : ℕ) → is_letter_or_digit b ≡ true → is_letter_or_digit c ≡ false → (b == c) ≡ false
 plain_is_not b c plain other = ne_eqb b c (λ e. false≢true (sym other ∙ ap is_letter_or_digit (sym e) ∙ plain))

@@ -4,8 +4,8 @@ use Rattle.std.proofs.lemmas.Bool.{cases_Bool, cond-true, cond-false, cond_both,
 use Rattle.std.proofs.lemmas.Bool.Decides.{nat_tests}
 use Rattle.std.proofs.lemmas.Option.{same_Some}
 use Rattle.jv_model.specs.declared.setting.Setting.{Setting}
-use Rattle.jv_model.specs.Pending.{PendingByte, Segment, comes_before, all_after, is_rising, pending_of, pending_end, end_of, first_segment, run_length, without_range, is_in_range, stands_at, window_size}
-use Rattle.jv_model.specs.Tree.{paged, sum_fits, space_limit}
+use Rattle.jv_model.specs.run.Pending.{PendingByte, Segment, comes_before, all_after, is_rising, pending_of, pending_end, end_of, first_segment, run_length, without_range, is_in_range, stands_at, window_size}
+use Rattle.jv_model.specs.tree.Tree.{paged, sum_fits, space_limit}
 use Rattle.jv_session.specs.declared.volume.StoredFile.{StoredFile}
 use Rattle.jv_session.specs.Stored.{VolumeValue, Commits, with_segment, with_commit}
 use Rattle.jv_session.specs.BuiltHere.{grown_fits, space_grown}

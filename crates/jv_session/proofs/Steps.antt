@@ -11,10 +11,10 @@ use Rattle.jv_model.specs.declared.op.Line.TheVariants.{Do}
 use Rattle.jv_model.specs.declared.op.Reply.{Reply}
 use Rattle.jv_model.specs.declared.fault.Fault.{Fault}
 use Rattle.jv_model.specs.declared.setting.Setting.{Setting}
-use Rattle.jv_model.specs.Client.{ModelClient, OpenFile, Doing, Stage, submission, started}
-use Rattle.jv_model.specs.Past.{Past, Whole, Refusal, NoMore, begin_next, begin_from, submitted, turned, with_client, with_stage, one_quiet, after, after_due, after_step, finished, is_fine, reply_of, counted, past, begun_to}
-use Rattle.jv_model.specs.ReplyText.{printed_line}
-use Rattle.jv_model.specs.Legal.{Allowed, AllAllowed, MayStep, MayStand, OfDoing}
+use Rattle.jv_model.specs.run.Client.{ModelClient, OpenFile, Doing, Stage, submission, started}
+use Rattle.jv_model.specs.run.Past.{Past, Whole, Refusal, NoMore, begin_next, begin_from, submitted, turned, with_client, with_stage, one_quiet, after, after_due, after_step, finished, is_fine, reply_of, counted, past, begun_to}
+use Rattle.jv_model.specs.script.ReplyText.{printed_line}
+use Rattle.jv_model.specs.run.Legal.{Allowed, AllAllowed, MayStep, MayStand, OfDoing}
 use Rattle.jv_model.proofs.PastLaws.{begun_to-present, begun_to-next, advance-present, past-append, AllAllowed-append, past-begun_to, AllAllowed-begun_to}
 use Rattle.jv_session.specs.Progress.{InLine, StepsTo, AllOfLine}
 use Rattle.jv_session.specs.Agrees.{ScheduleValue, Agrees, IsClient, Stands, Ran, entry_at}

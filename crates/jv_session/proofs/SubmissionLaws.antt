@@ -10,10 +10,10 @@ use Rattle.jv_model.specs.declared.fault.Fault.TheVariants.{InProgress, NotConne
 use Rattle.jv_model.specs.declared.op.Line.{Line}
 use Rattle.jv_model.specs.declared.op.Op.{Op}
 use Rattle.jv_model.specs.declared.op.Reply.TheVariants.{Refused}
-use Rattle.jv_model.specs.Client.{ModelClient, OpenFile, Doing, submission, first_refusal, is_mount, needs_no_mount, names_handle, handle_in, gives_handle, write_end, file_of, open_count}
-use Rattle.jv_model.specs.Past.{Past}
-use Rattle.jv_model.specs.Legal.{Refuses, WantsMemory}
-use Rattle.jv_model.specs.ReplyText.{printed_line}
+use Rattle.jv_model.specs.run.Client.{ModelClient, OpenFile, Doing, submission, first_refusal, is_mount, needs_no_mount, names_handle, handle_in, gives_handle, write_end, file_of, open_count}
+use Rattle.jv_model.specs.run.Past.{Past}
+use Rattle.jv_model.specs.run.Legal.{Refuses, WantsMemory}
+use Rattle.jv_model.specs.script.ReplyText.{printed_line}
 use Rattle.jv_session.specs.Agrees.{ScheduleValue, IsClient, Ran, entry_at}
 use Rattle.jv_session.specs.Lines.{Coming, RunsTo}
 use Rattle.jv_session.specs.BuiltHere.{refusal_here}

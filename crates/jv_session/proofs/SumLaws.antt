@@ -8,7 +8,7 @@ use Rattle.std.specs.FinMap.Entries.{find}
 use Rattle.std.proofs.lemmas.Bool.{false≢true}
 use Rattle.std.proofs.lemmas.Option.{same_Some}
 use Rattle.jv_model.specs.FiniteMap.{KeyOrder, Map, number_key, get, insert, sum_over, total_over}
-use Rattle.jv_model.proofs.MapLaws.{get-insert, sum-insert, share}
+use Rattle.jv_model.proofs.FiniteMapLaws.{get-insert, sum-insert, share}
 
 module _ {X : Type 0} where
   pub get-same : (m : Map number_key X) (k : ℕ) (v : X) → get (insert m k v) k ≡ Some v

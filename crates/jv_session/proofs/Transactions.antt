@@ -10,10 +10,10 @@ use Rattle.jv_model.specs.declared.op.Op.{Op}
 use Rattle.jv_model.specs.declared.op.Line.{Line}
 use Rattle.jv_model.specs.declared.op.Reply.{Reply}
 use Rattle.jv_model.specs.declared.op.Reply.TheVariants.{SessionMade, FileOpened}
-use Rattle.jv_model.specs.TreeAct.{Outcome}
-use Rattle.jv_model.specs.Client.{ModelClient, Doing, Transacting, Replying, first_stage, flush_of}
-use Rattle.jv_model.specs.Past.{Past, turned, with_client, transacted, replied, mounts_writeback, after_step, after_transaction, counted, told_of, is_no_more}
-use Rattle.jv_model.specs.Legal.{Transacts, MayStep, OutOfMemory, Settled, IsMoment, entry_of_reply, is_before_step}
+use Rattle.jv_model.specs.tree.TreeAct.{Outcome}
+use Rattle.jv_model.specs.run.Client.{ModelClient, Doing, Transacting, Replying, first_stage, flush_of}
+use Rattle.jv_model.specs.run.Past.{Past, turned, with_client, transacted, replied, mounts_writeback, after_step, after_transaction, counted, told_of, is_no_more}
+use Rattle.jv_model.specs.run.Legal.{Transacts, MayStep, OutOfMemory, Settled, IsMoment, entry_of_reply, is_before_step}
 use Rattle.jv_session.specs.Progress.{InLine, StepsTo}
 use Rattle.jv_session.specs.Agrees.{ScheduleValue, Agrees, Stands, entry_at}
 use Rattle.jv_session.proofs.Steps.{one_step, steps_to, started_line, answered, still_client}

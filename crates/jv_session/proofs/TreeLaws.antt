@@ -8,15 +8,15 @@ use Rattle.std.proofs.lemmas.Option.{slice_get_within}
 use Rattle.jv_model.specs.declared.fault.Fault.TheVariants.{NotFound, AlreadyExists, NoSpace}
 use Rattle.jv_model.specs.declared.op.Reply.TheVariants.{FileOpened}
 use Rattle.jv_model.specs.declared.setting.Setting.{Setting}
-use Rattle.jv_model.specs.Attempt.{◌>>=◌, require, some_or}
+use Rattle.jv_model.specs.tree.Attempt.{◌>>=◌, require, some_or}
 use Rattle.jv_model.specs.FiniteMap.{Map, number_key, get, insert}
-use Rattle.jv_model.specs.Spelling.{is_name, is_root_path}
-use Rattle.jv_model.specs.Pending.{PendingByte, end_of}
-use Rattle.jv_model.specs.Tree.{Tree, Node, File, Content, entry_key, new_node, paged, kind_space, node_space, node_count, fits, sum_fits, space_limit, inode_limit, full_count, trash_root, node_at, content_of, content_at, parent_of, parent_at, used_space, used_inodes}
-use Rattle.jv_model.specs.TreeAct.{Caller, Outcome, create, open_file, new_place, with_node, set_node, with_content, overwritten, committed, empty_content}
-use Rattle.jv_model.specs.Walk.{is_trash}
-use Rattle.jv_model.specs.Built.{flush_fits, grown}
-use Rattle.jv_model.proofs.MapLaws.{get-insert}
+use Rattle.jv_model.specs.script.Spelling.{is_name, is_root_path}
+use Rattle.jv_model.specs.run.Pending.{PendingByte, end_of}
+use Rattle.jv_model.specs.tree.Tree.{Tree, Node, File, Content, entry_key, new_node, paged, kind_space, node_space, node_count, fits, sum_fits, space_limit, inode_limit, full_count, trash_root, node_at, content_of, content_at, parent_of, parent_at, used_space, used_inodes}
+use Rattle.jv_model.specs.tree.TreeAct.{Caller, Outcome, create, open_file, new_place, with_node, set_node, with_content, overwritten, committed, empty_content}
+use Rattle.jv_model.specs.tree.Walk.{is_trash}
+use Rattle.jv_model.specs.run.Built.{flush_fits, grown}
+use Rattle.jv_model.proofs.FiniteMapLaws.{get-insert}
 use Rattle.jv_session.specs.declared.volume.StoredFile.{StoredFile}
 use Rattle.jv_session.specs.Stored.{VolumeValue, inode_named, with_segment, with_commit}
 use Rattle.jv_session.specs.BuiltHere.{has_room}

@@ -7,11 +7,11 @@ use Rattle.jv_model.specs.declared.basics.Limits.{Limits}
 use Rattle.jv_model.specs.declared.op.Line.{Line}
 use Rattle.jv_model.specs.declared.setting.Setting.{Setting}
 use Rattle.jv_model.specs.FiniteMap.{get}
-use Rattle.jv_model.specs.Tree.{Tree, Content, root, parent_at, content_at, used_space, used_inodes, full_count}
-use Rattle.jv_model.specs.Pending.{PendingByte}
-use Rattle.jv_model.specs.Client.{ModelClient, OpenFile, Doing}
-use Rattle.jv_model.specs.Past.{Past, NoMore, begun_to, past}
-use Rattle.jv_model.specs.Legal.{AllAllowed, last_moment}
+use Rattle.jv_model.specs.tree.Tree.{Tree, Content, root, parent_at, content_at, used_space, used_inodes, full_count}
+use Rattle.jv_model.specs.run.Pending.{PendingByte}
+use Rattle.jv_model.specs.run.Client.{ModelClient, OpenFile, Doing}
+use Rattle.jv_model.specs.run.Past.{Past, NoMore, begun_to, past}
+use Rattle.jv_model.specs.run.Legal.{AllAllowed, last_moment}
 use Rattle.jv_session.specs.declared.volume.StoredFile.{StoredFile}
 use Rattle.jv_session.specs.Stored.{VolumeValue, IsFile, inode_named, space_of, stored_byte}
 

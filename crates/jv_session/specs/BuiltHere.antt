@@ -8,11 +8,11 @@ use Rattle.jv_model.specs.declared.op.Line.TheVariants.{Empty, Do}
 use Rattle.jv_model.specs.declared.op.Op.{Op}
 use Rattle.jv_model.specs.declared.op.Op.TheVariants.{Mount, Create, Open, Close, Read, Write}
 use Rattle.jv_model.specs.declared.setting.Setting.{Setting}
-use Rattle.jv_model.specs.Spelling.{is_root_path}
-use Rattle.jv_model.specs.Tree.{paged, sum_fits, space_limit, inode_limit, full_count}
-use Rattle.jv_model.specs.Pending.{end_of, window_size}
-use Rattle.jv_model.specs.Client.{first_refusal, is_mount, needs_no_mount, names_handle, handle_in, gives_handle, write_end, file_of, open_count}
-use Rattle.jv_model.specs.Built.{is_built_fault, pending_limit}
+use Rattle.jv_model.specs.script.Spelling.{is_root_path}
+use Rattle.jv_model.specs.tree.Tree.{paged, sum_fits, space_limit, inode_limit, full_count}
+use Rattle.jv_model.specs.run.Pending.{end_of, window_size}
+use Rattle.jv_model.specs.run.Client.{first_refusal, is_mount, needs_no_mount, names_handle, handle_in, gives_handle, write_end, file_of, open_count}
+use Rattle.jv_model.specs.run.Built.{is_built_fault, pending_limit}
 use Rattle.jv_session.specs.Stored.{VolumeValue, inode_named}
 use Rattle.jv_session.specs.declared.volume.StoredFile.{StoredFile}
 use Rattle.jv_session.specs.Agrees.{ScheduleValue}

@@ -1,7 +1,7 @@
 -- What each schedule holds to.
 use Rattle.std.specs.Prelude.{◌≡◌, ℕ, ◌≤◌, min, List, length, slice_get, IfSome, Option}
 use Rattle.jv_model.specs.declared.basics.Limits.{Limits}
-use Rattle.jv_model.specs.Built.{pending_limit}
+use Rattle.jv_model.specs.run.Built.{pending_limit}
 use Rattle.jv_session.specs.Stored.{VolumeValue, IsFile}
 
 -- the last moment is one that there is, handles are of files, and the pending bytes have their limit

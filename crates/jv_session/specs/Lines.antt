@@ -6,8 +6,8 @@ use Rattle.jv_model.specs.declared.op.Line.{Line}
 use Rattle.jv_model.specs.declared.op.Line.TheVariants.{Do}
 use Rattle.jv_model.specs.declared.op.Op.{Op}
 use Rattle.jv_model.specs.declared.setting.Setting.{Setting}
-use Rattle.jv_model.specs.Past.{Past, turned}
-use Rattle.jv_model.specs.Legal.{IsMoment}
+use Rattle.jv_model.specs.run.Past.{Past, turned}
+use Rattle.jv_model.specs.run.Legal.{IsMoment}
 use Rattle.jv_outside.specs.Told.{Passes}
 use Rattle.jv_session.specs.declared.line_end.LineEnd.{LineEnd}
 use Rattle.jv_session.specs.declared.line_end.LineEnd.TheVariants.{Said, Quiet, ClockFailed, Memory}

@@ -3,9 +3,9 @@ use Rattle.std.specs.Prelude.{◌≡◌, ℕ, ◌+◌, true, if◌then◌else◌
 use Rattle.jv_model.specs.declared.act.Act.{Act}
 use Rattle.jv_model.specs.declared.op.Line.{Line}
 use Rattle.jv_model.specs.declared.op.Op.{Op}
-use Rattle.jv_model.specs.Client.{Doing, Stage, Flushing, OfFile}
-use Rattle.jv_model.specs.Past.{Past, Whole, past}
-use Rattle.jv_model.specs.Legal.{AllAllowed, IsMoment}
+use Rattle.jv_model.specs.run.Client.{Doing, Stage, Flushing, OfFile}
+use Rattle.jv_model.specs.run.Past.{Past, Whole, past}
+use Rattle.jv_model.specs.run.Legal.{AllAllowed, IsMoment}
 use Rattle.jv_session.specs.Agrees.{ScheduleValue, Agrees}
 
 -- The present line, begun from p, is an operation of the first client, and its entries have this moment.

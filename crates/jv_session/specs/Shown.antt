@@ -1,6 +1,6 @@
 -- What a read gives of a stored file.
 use Rattle.std.specs.Prelude.{ℕ, ◌-◌, min, List}
-use Rattle.jv_model.specs.Past.{bytes_from}
+use Rattle.jv_model.specs.run.Past.{bytes_from}
 use Rattle.jv_session.specs.declared.volume.StoredFile.{StoredFile}
 use Rattle.jv_session.specs.Stored.{stored_byte}
 

@@ -3,7 +3,7 @@ use Rattle.std.specs.Prelude.{◌≡◌, ℕ, ◌+◌, ◌-◌, ◌≤◌, ◌<�
 use Rattle.std.specs.Ordering.{nat_cmp, is_eq}
 use Rattle.std.specs.Cmp.Lexicographic.{slice_cmp}
 use Rattle.std.specs.Map.{lookup}
-use Rattle.jv_model.specs.Tree.{paged}
+use Rattle.jv_model.specs.tree.Tree.{paged}
 use Rattle.jv_session.specs.declared.volume.StoredSegment.{StoredSegment}
 use Rattle.jv_session.specs.declared.volume.StoredFile.{StoredFile}
 

@@ -1,9 +1,9 @@
 //! Which lines a session runs today.
 ghost use Rattle.std.specs.Prelude.{◌≡◌, ◌+◌, ◌&&◌, nat_le, IsSome, length, None};
-ghost use Rattle.jv_model.specs.Built.{is_built_fault, pending_limit};
-ghost use Rattle.jv_model.specs.Pending.{window_size};
-ghost use Rattle.jv_model.specs.Client.{is_mount, needs_no_mount, names_handle, handle_in, gives_handle, write_end, file_of};
-ghost use Rattle.jv_model.specs.Tree.{space_limit, inode_limit};
+ghost use Rattle.jv_model.specs.run.Built.{is_built_fault, pending_limit};
+ghost use Rattle.jv_model.specs.run.Pending.{window_size};
+ghost use Rattle.jv_model.specs.run.Client.{is_mount, needs_no_mount, names_handle, handle_in, gives_handle, write_end, file_of};
+ghost use Rattle.jv_model.specs.tree.Tree.{space_limit, inode_limit};
 ghost use Rattle.jv_session.specs.Stored.{IsFile};
 ghost use Rattle.jv_session.specs.BuiltHere.{refusal_here, has_form, may_run, may_flush, may_answer, built_op, has_room, inode_or_zero};
 

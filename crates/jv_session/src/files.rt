@@ -5,11 +5,11 @@ ghost use Rattle.jv_model.specs.declared.act.Told.TheVariants.{Fine, Looks, Refu
 ghost use Rattle.jv_model.specs.declared.fault.Fault.TheVariants.{NoMemory};
 ghost use Rattle.jv_model.specs.declared.op.Op.TheVariants.{Close, Write, Read};
 ghost use Rattle.jv_model.specs.declared.op.Reply.TheVariants.{Refused, Data};
-ghost use Rattle.jv_model.specs.Client.{file_of};
-ghost use Rattle.jv_model.specs.ReplyText.{printed_line};
+ghost use Rattle.jv_model.specs.run.Client.{file_of};
+ghost use Rattle.jv_model.specs.script.ReplyText.{printed_line};
 ghost use Rattle.jv_session.specs.Agrees.{entry_at};
 ghost use Rattle.jv_session.specs.BuiltHere.{refusal_here, built_op, may_flush};
-ghost use Rattle.jv_model.specs.Pending.{next_segment, pending_of, window_size, written};
+ghost use Rattle.jv_model.specs.run.Pending.{next_segment, pending_of, window_size, written};
 ghost use Rattle.jv_pending.specs.At.{segment_at};
 ghost use Rattle.jv_session.specs.Lines.{RunsTo};
 ghost use Rattle.jv_session.specs.Shown.{shown_between};

@@ -1,6 +1,6 @@
 //! The table of a client's handles: the handle numbered `h` stands at index `h - 1`.
 ghost use Rattle.std.specs.Prelude.{◌≡◌, ◌+◌, ◌<◌, ◌≤◌, ◌^◌, None, length, vec_len, vec_capacity};
-ghost use Rattle.jv_model.specs.Client.{free_handle, open_count, file_of, with_file};
+ghost use Rattle.jv_model.specs.run.Client.{free_handle, open_count, file_of, with_file};
 
 use jv_model::push_in_room;
 

@@ -5,8 +5,8 @@ ghost use Rattle.jv_model.specs.declared.act.Told.TheVariants.{Fine, Refused as 
 ghost use Rattle.jv_model.specs.declared.fault.Fault.TheVariants.{NoMemory};
 ghost use Rattle.jv_model.specs.declared.op.Op.TheVariants.{Mount, Create, Open};
 ghost use Rattle.jv_model.specs.declared.op.Reply.TheVariants.{Refused};
-ghost use Rattle.jv_model.specs.Spelling.{is_root_path};
-ghost use Rattle.jv_model.specs.ReplyText.{printed_line};
+ghost use Rattle.jv_model.specs.script.Spelling.{is_root_path};
+ghost use Rattle.jv_model.specs.script.ReplyText.{printed_line};
 ghost use Rattle.jv_session.specs.Agrees.{entry_at};
 ghost use Rattle.jv_session.specs.BuiltHere.{refusal_here, built_op, has_room};
 ghost use Rattle.jv_session.specs.Lines.{RunsTo};

@@ -1,7 +1,7 @@
 //! Paths of files in the root, as a session has them today.
 ghost use Rattle.std.specs.Prelude.{◌≡◌};
 ghost use Rattle.std.specs.List.{list_all};
-ghost use Rattle.jv_model.specs.Spelling.{is_root_path, is_letter_or_digit};
+ghost use Rattle.jv_model.specs.script.Spelling.{is_root_path, is_letter_or_digit};
 
 /// Whether a path is a slash and 1 to 255 letters and digits.
 #[tactic(auto, unfolding(jv_model::specs::Spelling::is_root_path))]

@@ -5,9 +5,9 @@ ghost use Rattle.jv_model.specs.declared.act.Told.TheVariants.{Refused as ToldRe
 ghost use Rattle.jv_model.specs.declared.fault.Fault.TheVariants.{NoMemory};
 ghost use Rattle.jv_model.specs.declared.op.Line.TheVariants.{Empty, Do};
 ghost use Rattle.jv_model.specs.declared.op.Reply.TheVariants.{Refused};
-ghost use Rattle.jv_model.specs.Past.{Past};
-ghost use Rattle.jv_model.specs.Built.{is_built};
-ghost use Rattle.jv_model.specs.ReplyText.{printed_line};
+ghost use Rattle.jv_model.specs.run.Past.{Past};
+ghost use Rattle.jv_model.specs.run.Built.{is_built};
+ghost use Rattle.jv_model.specs.script.ReplyText.{printed_line};
 ghost use Rattle.jv_outside.specs.Causes.{Rose};
 ghost use Rattle.jv_session.specs.Agrees.{Stands, entry_at};
 ghost use Rattle.jv_session.specs.Lines.{fresh_schedule, LineRuns, Asks, RunsTo};
@@ -44,7 +44,7 @@ pub struct Schedule {
 
 impl Model for Schedule {
     ghost use Rattle.std.specs.Prelude.{◌≡◌, ℕ, min, slice_get, length, IfSome};
-    ghost use Rattle.jv_model.specs.Built.{pending_limit};
+    ghost use Rattle.jv_model.specs.run.Built.{pending_limit};
     ghost use Rattle.jv_session.specs.Stored.{IsFile};
     ghost use Rattle.jv_session.specs.Agrees.{ScheduleValue};
     ghost use Rattle.jv_session.specs.Held.{IsHeld};

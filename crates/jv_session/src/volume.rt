@@ -2,7 +2,7 @@
 ghost use Rattle.std.specs.Prelude.{◌≡◌, ℕ, ◌+◌, ◌-◌, ◌<◌, ◌≤◌, ◌^◌, [], ◌∷◌, ◌++◌, List, length, max, cond, slice_get, slice_set, slice_index, Some, None, IfOk, OnOk, OnErr, IsSome, IfSome, IsSomeAnd, if◌then◌else◌};
 ghost use Rattle.std.specs.Ordering.{nat_cmp, is_eq};
 ghost use Rattle.std.specs.Cmp.Lexicographic.{slice_cmp};
-ghost use Rattle.jv_model.specs.Tree.{paged};
+ghost use Rattle.jv_model.specs.tree.Tree.{paged};
 ghost use Rattle.jv_session.specs.Stored.{inode_named, with_segment, space_of, covers, Creates, Commits, IsFile};
 ghost use Rattle.jv_session.specs.Shown.{shown_between};
 

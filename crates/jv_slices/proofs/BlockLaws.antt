@@ -2,7 +2,7 @@
 use Rattle.std.proofs.Common.{◌≡◌, ℕ, suc, zero, ◌+◌, ◌-◌, ◌*◌, ◌/◌, ◌<◌, ◌≤◌, min, sym, ap, ◌∙◌, arith, sum, map, fold, add-zero}
 use Rattle.std.specs.List.{range_with_len}
 use Rattle.std.proofs.lemmas.Nat.{div-add-mod', mod_below, le-div, mul-le}
-use Rattle.jv_model.specs.Slices.{block_count, block_length, block_lengths}
+use Rattle.jv_model.specs.blocks.Slices.{block_count, block_length, block_lengths}
 
 -- the index of a place's block is below the number of blocks
 pub index_below : (size block place index : ℕ) → 0 < block → place < size → index ≤ place / block → index < block_count size block

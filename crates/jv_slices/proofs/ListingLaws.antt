@@ -9,7 +9,7 @@ use Rattle.std.proofs.lemmas.Bool.{cases_order, lt-ltb, le-ltb, eq-eqb, ne_eqb}
 use Rattle.std.specs.Cmp.{nat_eq_equiv}
 use Rattle.std.proofs.lemmas.List.Folds.{list_any-append}
 use Rattle.jv_model.specs.declared.slice.BlockId.{BlockId}
-use Rattle.jv_model.specs.Slices.{is_same_block, with_block}
+use Rattle.jv_model.specs.blocks.Slices.{is_same_block, with_block}
 use Rattle.jv_slices.specs.declared.blocks.Listed.{Listed}
 use Rattle.jv_slices.specs.Listing.{listed_of, listed_cmp, Lists}
 

@@ -4,7 +4,7 @@ use Rattle.std.specs.Prelude.{◌↔◌}
 use Rattle.std.proofs.lemmas.List.{append_cancel_right}
 use Rattle.jv_model.specs.declared.setting.Setting.{Setting}
 use Rattle.jv_model.specs.declared.slice.BlockId.{BlockId}
-use Rattle.jv_model.specs.BlockNames.{block_name_of, slice_folder, IsBlockName}
+use Rattle.jv_model.specs.blocks.BlockNames.{block_name_of, slice_folder, IsBlockName}
 use Rattle.jv_slices.specs.Reading.{numbers_of}
 
 -- where the slice lies in a volume, without the last slash

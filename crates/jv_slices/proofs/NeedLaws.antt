@@ -8,7 +8,7 @@ use Rattle.std.proofs.lemmas.Map.Keys.{IsDistinct-push}
 use Rattle.std.proofs.lemmas.Map.Steps.{list_any_congr}
 use Rattle.std.proofs.lemmas.List.Folds.{list_any-append}
 use Rattle.jv_model.specs.declared.slice.BlockId.{BlockId}
-use Rattle.jv_model.specs.Slices.{is_same_block, with_block, blocks_of_piece, needed_blocks}
+use Rattle.jv_model.specs.blocks.Slices.{is_same_block, with_block, blocks_of_piece, needed_blocks}
 use Rattle.jv_slices.proofs.ListingLaws.{same_flips, with_new, with_listed}
 use Rattle.jv_slices.proofs.ParseLaws.{same_block}
 use Rattle.jv_slices.specs.Laws.{NeedsAreOnce, NeedsAreThose}

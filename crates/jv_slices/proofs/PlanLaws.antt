@@ -7,7 +7,7 @@ use Rattle.std.proofs.lemmas.List.Elements.{All-head, All-tail, All-push}
 use Rattle.jv_model.specs.declared.slice.Rec.{Rec}
 use Rattle.jv_model.specs.declared.slice.Piece.{Piece}
 use Rattle.jv_model.specs.declared.slice.Spot.TheVariants.{Zero, Slice}
-use Rattle.jv_model.specs.Slices.{IsRecord, is_part, covers, visible, place_by, stored_place, place_after, IsPiece, IsPlan, IsAsStored, IsPart, LiesIn}
+use Rattle.jv_model.specs.blocks.Slices.{IsRecord, is_part, covers, visible, place_by, stored_place, place_after, IsPiece, IsPlan, IsAsStored, IsPart, LiesIn}
 use Rattle.jv_slices.specs.declared.layout.Run.{Run}
 use Rattle.jv_slices.specs.Runs.{Shows, Turns, Differ, piece_of}
 

@@ -6,7 +6,7 @@ use Rattle.std.proofs.lemmas.List.{drop_more, drop_all, reverse-append}
 use Rattle.std.proofs.lemmas.List.Folds.{find-append}
 use Rattle.std.specs.Prelude.{find, reverse}
 use Rattle.jv_model.specs.declared.slice.Rec.{Rec}
-use Rattle.jv_model.specs.Slices.{covers, visible}
+use Rattle.jv_model.specs.blocks.Slices.{covers, visible}
 use Rattle.jv_slices.specs.declared.layout.Run.{Run}
 use Rattle.jv_slices.specs.Runs.{IsSeen, Shows, Turns, Differ, IsLayout}
 

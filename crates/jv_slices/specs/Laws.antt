@@ -4,7 +4,7 @@ use Rattle.std.specs.List.{flat_map, list_any, IsDistinct}
 use Rattle.jv_model.specs.declared.slice.Rec.{Rec}
 use Rattle.jv_model.specs.declared.slice.Piece.{Piece}
 use Rattle.jv_model.specs.declared.slice.BlockId.{BlockId}
-use Rattle.jv_model.specs.Slices.{IsPlan, is_same_block, blocks_of_piece, needed_blocks}
+use Rattle.jv_model.specs.blocks.Slices.{IsPlan, is_same_block, blocks_of_piece, needed_blocks}
 
 -- a list has one plan of a range
 abbrev pub PlansAreDetermined : Type 0

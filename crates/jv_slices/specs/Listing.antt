@@ -5,7 +5,7 @@ use Rattle.std.specs.declared.cmp.Ordering.{Ordering}
 use Rattle.std.specs.Ordering.{nat_cmp, ordering_then}
 use Rattle.std.specs.BTreeMap.{is_at}
 use Rattle.jv_model.specs.declared.slice.BlockId.{BlockId}
-use Rattle.jv_model.specs.Slices.{is_same_block}
+use Rattle.jv_model.specs.blocks.Slices.{is_same_block}
 use Rattle.jv_slices.specs.declared.blocks.Listed.{Listed}
 
 abbrev pub listed_of : BlockId → Listed

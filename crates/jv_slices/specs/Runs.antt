@@ -2,7 +2,7 @@
 use Rattle.std.specs.Prelude.{◌≡◌, ◌≢◌, ℕ, ◌-◌, ◌<◌, ◌≤◌, List, [], ◌∷◌, Option}
 use Rattle.jv_model.specs.declared.slice.Rec.{Rec}
 use Rattle.jv_model.specs.declared.slice.Piece.{Piece}
-use Rattle.jv_model.specs.Slices.{place_by}
+use Rattle.jv_model.specs.blocks.Slices.{place_by}
 use Rattle.jv_slices.specs.declared.layout.Run.{Run}
 
 -- what is seen is the same at all positions from one to another

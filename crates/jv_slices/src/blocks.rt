@@ -2,7 +2,7 @@
 ghost use Rattle.std.specs.Prelude.{◌≡◌, ℕ, ◌<◌, ◌≤◌, ◌/◌, ◌+◌, ◌-◌, ◌++◌, All, IfOk, OnOk, sum, fold};
 ghost use Rattle.jv_model.specs.declared.slice.BlockId.{BlockId as BlockSeen};
 ghost use Rattle.jv_slices.specs.Listing.{Lists};
-ghost use Rattle.jv_model.specs.Slices.{IsPart, block_count, block_length, block_lengths, needed_blocks, with_block, blocks_of_piece};
+ghost use Rattle.jv_model.specs.blocks.Slices.{IsPart, block_count, block_length, block_lengths, needed_blocks, with_block, blocks_of_piece};
 
 use jv_model::{BlockId, BlockKeys, Piece, Pieces, Spot};
 use std::alloc::{AllocError, Global};

@@ -1,7 +1,7 @@
 //! Names of blocks, read.
 ghost use Rattle.std.specs.Prelude.{◌≡◌, ◌≢◌, ◌↔◌, ℕ, ◌<◌, ◌≤◌, ◌-◌, ◌^◌, ◌++◌, [], ◌∷◌, true, false, List, length, slice_index, IfSome, IsSomeAnd, IsTrue, MatchOption, Some, codes, decimal};
 ghost use Rattle.jv_model.specs.declared.slice.BlockId.{BlockId as BlockSeen};
-ghost use Rattle.jv_model.specs.BlockNames.{IsBlock, IsBlockName, slice_folder, hashed_folder, plain_folder};
+ghost use Rattle.jv_model.specs.blocks.BlockNames.{IsBlock, IsBlockName, slice_folder, hashed_folder, plain_folder};
 ghost use Rattle.jv_slices.specs.Reading.{is_digit, numbers_of};
 
 use crate::spelling::upper_pair;

@@ -1,6 +1,6 @@
 //! What a reader sees of a window.
 ghost use Rattle.std.specs.Prelude.{◌≡◌, ◌<◌, ◌≤◌, true, All, IfOk, IfSome};
-ghost use Rattle.jv_model.specs.Slices.{IsRecord, IsPart, IsPlan, IsAsStored, covers, visible, place_by, stored_place};
+ghost use Rattle.jv_model.specs.blocks.Slices.{IsRecord, IsPart, IsPlan, IsAsStored, covers, visible, place_by, stored_place};
 ghost use Rattle.jv_slices.specs.Runs.{piece_of};
 
 use crate::layout::{Run, layout};

@@ -1,6 +1,6 @@
 //! Names of blocks, spelled.
 ghost use Rattle.std.specs.Prelude.{◌≡◌, ◌%◌, ◌<◌, ◌++◌, [], ◌∷◌, decimal, IfOk, OnOk};
-ghost use Rattle.jv_model.specs.BlockNames.{block_name_of, slice_folder, upper_digit, upper_pair};
+ghost use Rattle.jv_model.specs.blocks.BlockNames.{block_name_of, slice_folder, upper_digit, upper_pair};
 
 use itoa::Buffer;
 use jv_model::{Name, Setting};

@@ -1,6 +1,6 @@
 //! Names and plans from outside, and that calls succeed with ample memory.
 ghost use Rattle.std.specs.Prelude.{All, IfOk};
-ghost use Rattle.jv_model.specs.Slices.{IsRecord};
+ghost use Rattle.jv_model.specs.blocks.Slices.{IsRecord};
 
 use crate::{block_len, block_name, blocks_of, byte_at, needs, parse_block_name, plan};
 use jv_model::{BlockId, List, Piece, Rec, Setting, Spot, copied};

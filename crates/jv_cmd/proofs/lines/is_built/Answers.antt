@@ -1,7 +1,7 @@
 use Rattle.std.proofs.Common.{◌≡◌, Bool, true, false, sym}
 use Rattle.jv_model.specs.declared.op.Line.{Line}
-use Rattle.jv_model.specs.Built.{is_built}
-use Rattle.jv_model.specs.Past.{Past}
+use Rattle.jv_model.specs.run.Built.{is_built}
+use Rattle.jv_model.specs.run.Past.{Past}
 use Rattle.jv_session.specs.Agrees.{ScheduleValue, Stands}
 use Rattle.jv_session.specs.BuiltHere.{built_here}
 use Rattle.jv_cmd.specs.Steps.{TellsBuilt}

@@ -3,7 +3,7 @@ use Rattle.std.proofs.Common.{◌≡◌, true, refl, sym, subst}
 use Rattle.std.specs.Bool.{IsTrue}
 use Rattle.std.specs.Str.{is_utf8, chars}
 use Rattle.jv_model.specs.declared.setting.Setting.{Setting}
-use Rattle.jv_model.specs.RowGrammar.{is_setting}
+use Rattle.jv_model.specs.rows.RowGrammar.{is_setting}
 use Rattle.jv_cmd.specs.Fresh.{default_setting}
 use Rattle.jv_cmd.proofs.tests.volume_rows.Goals as goal
 

@@ -1,4 +1,4 @@
-use Rattle.jv_model.proofs.LookLaws.{shown_files}
+use Rattle.jv_model.proofs.LooksLaws.{shown_files}
 use Rattle.jv_model.proofs.laws.views_show_the_file.Goals as goal
 
 pub returns : goal.returns

@@ -1,6 +1,6 @@
 -- A row that is taken out of the tree is gone from the map.
 use Rattle.std.proofs.Common.{None}
-use Rattle.jv_model.specs.RowKeys.{row_key}
+use Rattle.jv_model.specs.rows.RowKeys.{row_key}
 use Rattle.jv_outside.proofs.StoreLemmas.{map_of-updated}
 use Rattle.jv_outside.proofs.store.make.Goals as goal
 

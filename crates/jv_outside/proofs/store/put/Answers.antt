@@ -1,4 +1,4 @@
-use Rattle.jv_model.specs.RowKeys.{row_key}
+use Rattle.jv_model.specs.rows.RowKeys.{row_key}
 use Rattle.jv_outside.proofs.StoreLemmas.{map_of-updated}
 use Rattle.jv_outside.proofs.store.put.Goals as goal
 

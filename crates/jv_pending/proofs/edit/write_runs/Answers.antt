@@ -1,5 +1,5 @@
 use Rattle.std.proofs.Common.{◌+◌, ◌∙◌, length, ap, sym, subst}
-use Rattle.jv_model.specs.Pending.{written}
+use Rattle.jv_model.specs.run.Pending.{written}
 use Rattle.jv_pending.specs.Runs.{pending_bytes, IsTouched}
 use Rattle.jv_pending.proofs.Windows.{rewritten, rewritten_order}
 use Rattle.jv_pending.proofs.edit.write_runs.Goals as goal

@@ -1,6 +1,6 @@
 use Rattle.std.proofs.Common.{◌≡◌, ◌≤◌, length}
 use Rattle.std.specs.Option.{option_copied}
-use Rattle.jv_model.specs.Grammar.{parted}
+use Rattle.jv_model.specs.script.Grammar.{parted}
 use Rattle.jv_script.specs.Reading.{parts_after, length_with}
 use Rattle.jv_script.proofs.data.joined_length.Given as goal
 

@@ -1,4 +1,4 @@
-use Rattle.jv_model.specs.Grammar.{parted}
+use Rattle.jv_model.specs.script.Grammar.{parted}
 use Rattle.jv_script.proofs.Parts.{within_memory, parts_not_within}
 use Rattle.jv_script.proofs.data.without_memory.Goals as goal
 

@@ -1,7 +1,7 @@
 use Rattle.std.proofs.Common.{arith, List, ℕ, ◌++◌, ◌∷◌, [], ◌∙◌, sym, ap, refl}
 use Rattle.std.specs.List.{flat_map}
 use Rattle.std.proofs.lemmas.List.{append_assoc}
-use Rattle.jv_model.specs.Printed.{hex_pair}
+use Rattle.jv_model.specs.script.Printed.{hex_pair}
 use Rattle.jv_script.proofs.RunText.{block_before_run, block_before_byte, prints_more}
 use Rattle.jv_script.proofs.data_text.push_plain_blocks.Goals as goal
 

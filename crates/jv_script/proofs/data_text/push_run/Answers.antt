@@ -1,6 +1,6 @@
 use Rattle.std.proofs.Common.{rules, arith, ◌≡◌, ◌<◌, length, List, ℕ, ◌++◌, ◌∷◌, [], ◌∙◌, sym, ap, get_or, refl}
 use Rattle.std.proofs.lemmas.List.{append_assoc}
-use Rattle.jv_model.specs.Printed.{part_text, Repeated}
+use Rattle.jv_model.specs.script.Printed.{part_text, Repeated}
 use Rattle.jv_script.specs.Printing.{parts_text}
 use Rattle.jv_script.proofs.RunText.{run_first, run_last, prints_more}
 use Rattle.jv_script.proofs.data_text.push_run.Goals as goal

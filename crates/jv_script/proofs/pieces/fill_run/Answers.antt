@@ -1,5 +1,5 @@
 use Rattle.std.proofs.Common.{arith, ◌≡◌, List, ℕ, ◌<◌, ◌++◌, ◌∷◌, [], length, take, get_or, ◌∙◌, sym, ap}
-use Rattle.jv_model.specs.Printed.{part_text, Repeated}
+use Rattle.jv_model.specs.script.Printed.{part_text, Repeated}
 use Rattle.jv_script.specs.Printing.{parts_text}
 use Rattle.jv_script.proofs.Rooms.{written}
 use Rattle.jv_script.proofs.RunText.{run_first, spells_more}

@@ -1,5 +1,5 @@
 use Rattle.std.proofs.Common.{◌≡◌, ◌+◌, drop}
-use Rattle.jv_model.specs.Client.{free_from}
+use Rattle.jv_model.specs.run.Client.{free_from}
 use Rattle.jv_session.proofs.handles.free_handle.Given as goal
 
 abbrev pub invariant-loop-open : goal.invariant-loop-open

@@ -1,5 +1,5 @@
 use Rattle.std.proofs.Common.{◌≡◌, ◌+◌, ◌≤◌, drop}
-use Rattle.jv_model.specs.Client.{open_count}
+use Rattle.jv_model.specs.run.Client.{open_count}
 use Rattle.jv_session.proofs.handles.open_count.Given as goal
 
 abbrev pub invariant-loop-open : goal.invariant-loop-open

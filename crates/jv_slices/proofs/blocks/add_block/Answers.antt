@@ -2,7 +2,7 @@ use Rattle.std.proofs.Common.{◌≡◌, List, ◌∙◌, sym, ap, subst, true, 
 use Rattle.std.specs.List.{list_any}
 use Rattle.std.proofs.lemmas.Bool.{not-true, not-false}
 use Rattle.jv_model.specs.declared.slice.BlockId.{BlockId}
-use Rattle.jv_model.specs.Slices.{is_same_block}
+use Rattle.jv_model.specs.blocks.Slices.{is_same_block}
 use Rattle.jv_slices.specs.Listing.{Lists}
 use Rattle.jv_slices.proofs.ListingLaws.{lists_push, with_new, with_listed}
 use Rattle.jv_slices.proofs.blocks.add_block.Goals as goal

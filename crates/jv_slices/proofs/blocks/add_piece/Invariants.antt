@@ -1,6 +1,6 @@
 use Rattle.std.proofs.Common.{◌≡◌, ◌-◌, map, fold}
 use Rattle.std.specs.List.{range_with_len}
-use Rattle.jv_model.specs.Slices.{with_block, block_at}
+use Rattle.jv_model.specs.blocks.Slices.{with_block, block_at}
 use Rattle.jv_slices.specs.Listing.{Lists}
 use Rattle.jv_slices.proofs.blocks.add_piece.Given as goal
 

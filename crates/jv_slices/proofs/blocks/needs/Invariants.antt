@@ -1,6 +1,6 @@
 use Rattle.std.proofs.Common.{◌≡◌, [], take, fold}
 use Rattle.std.specs.List.{flat_map}
-use Rattle.jv_model.specs.Slices.{with_block, blocks_of_piece}
+use Rattle.jv_model.specs.blocks.Slices.{with_block, blocks_of_piece}
 use Rattle.jv_slices.specs.Listing.{Lists}
 use Rattle.jv_slices.proofs.blocks.needs.Given as goal
 

@@ -1,5 +1,5 @@
 use Rattle.std.proofs.Common.{[], ◌∷◌, arith}
-use Rattle.jv_model.specs.Slices.{visible}
+use Rattle.jv_model.specs.blocks.Slices.{visible}
 use Rattle.jv_slices.proofs.RunLaws.{layout_none, only_before, only_in, only_behind}
 use Rattle.jv_slices.proofs.layout.lay_one.Goals as goal
 

@@ -1,7 +1,7 @@
 use Rattle.std.proofs.Common.{◌≡◌, ◌≢◌, ℕ, List, ◌++◌, ◌/◌, ◌%◌, codes, subst}
 use Rattle.std.specs.Prelude.{MatchOption}
 use Rattle.std.specs.Fmt.{decimal}
-use Rattle.jv_model.specs.BlockNames.{upper_pair}
+use Rattle.jv_model.specs.blocks.BlockNames.{upper_pair}
 use Rattle.jv_slices.proofs.ParseLaws.{match_none, lacks_last, lacks_mid, ends_three}
 use Rattle.jv_slices.proofs.parsing.strip_hashed.Goals as goal
 

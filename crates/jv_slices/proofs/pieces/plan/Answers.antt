@@ -3,7 +3,7 @@ use Rattle.std.specs.Prelude.{All}
 use Rattle.std.proofs.lemmas.List.{append-nil}
 use Rattle.std.proofs.lemmas.List.Elements.{All-push}
 use Rattle.jv_model.specs.declared.slice.Piece.{Piece}
-use Rattle.jv_model.specs.Slices.{IsPart, IsPlan, IsAsStored, visible}
+use Rattle.jv_model.specs.blocks.Slices.{IsPart, IsPlan, IsAsStored, visible}
 use Rattle.jv_slices.specs.declared.layout.Run.{Run}
 use Rattle.jv_slices.specs.Runs.{IsSeen, Shows, Turns, Differ, piece_of}
 use Rattle.jv_slices.proofs.RunLaws.{shows_drop, shows_end}

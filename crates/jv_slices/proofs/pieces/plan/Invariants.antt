@@ -1,7 +1,7 @@
 use Rattle.std.proofs.Common.{◌++◌, List, drop}
 use Rattle.std.specs.Prelude.{All}
 use Rattle.jv_model.specs.declared.slice.Piece.{Piece}
-use Rattle.jv_model.specs.Slices.{IsPart, IsPlan, IsAsStored, visible}
+use Rattle.jv_model.specs.blocks.Slices.{IsPart, IsPlan, IsAsStored, visible}
 use Rattle.jv_slices.specs.Runs.{Shows, Differ}
 use Rattle.jv_slices.proofs.pieces.plan.Given as goal
 

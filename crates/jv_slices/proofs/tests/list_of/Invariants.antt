@@ -1,5 +1,5 @@
 use Rattle.std.specs.Prelude.{All}
-use Rattle.jv_model.specs.Slices.{IsRecord}
+use Rattle.jv_model.specs.blocks.Slices.{IsRecord}
 use Rattle.jv_slices.proofs.tests.list_of.Given as goal
 
 abbrev pub invariant-loop-pos : goal.invariant-loop-pos

@@ -1,7 +1,7 @@
 -- A row that is brought into order stays what the rows have at its key.
 use Rattle.std.proofs.Common.{◌++◌, sym, ap, ◌∙◌}
-use Rattle.jv_model.specs.RowKeys.{row_map}
-use Rattle.jv_model.specs.RowKeys.{row_key}
+use Rattle.jv_model.specs.rows.RowKeys.{row_map}
+use Rattle.jv_model.specs.rows.RowKeys.{row_key}
 use Rattle.jv_outside.specs.Rows.{applied}
 use Rattle.jv_outside.proofs.StoreLemmas.{map_of-moved}
 use Rattle.jv_outside.proofs.store.RowStore.sort_listed.Goals as goal

@@ -1,5 +1,5 @@
 use Rattle.std.proofs.Common.{◌∙◌, length, ap, sym, arith}
-use Rattle.jv_model.specs.Pending.{without_range, pending_of_others}
+use Rattle.jv_model.specs.run.Pending.{without_range, pending_of_others}
 use Rattle.jv_pending.specs.At.{segment_at}
 use Rattle.jv_pending.specs.Held.{PendingValue}
 use Rattle.jv_pending.proofs.Cleared.{own_segment, shorter, others_stay, others_all}

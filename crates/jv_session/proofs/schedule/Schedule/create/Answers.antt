@@ -7,8 +7,8 @@ use Rattle.jv_model.specs.declared.act.Told.TheVariants.{Fine, Refused as ToldRe
 use Rattle.jv_model.specs.declared.fault.Fault.TheVariants.{AlreadyExists}
 use Rattle.jv_model.specs.declared.op.Op.TheVariants.{Create}
 use Rattle.jv_model.specs.declared.op.Reply.TheVariants.{Refused, FileOpened}
-use Rattle.jv_model.specs.Client.{free_handle, with_file}
-use Rattle.jv_model.specs.ReplyText.{printed_line}
+use Rattle.jv_model.specs.run.Client.{free_handle, with_file}
+use Rattle.jv_model.specs.script.ReplyText.{printed_line}
 use Rattle.jv_session.specs.Agrees.{ScheduleValue, entry_at}
 use Rattle.jv_session.specs.Stored.{IsFile, VolumeValue, Creates, inode_named}
 use Rattle.jv_session.specs.contracts.schedule.Schedule.{the_view}

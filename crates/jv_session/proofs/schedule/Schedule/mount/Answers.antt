@@ -5,8 +5,8 @@ use Rattle.jv_model.specs.declared.act.Told.TheVariants.{Fine, Refused as ToldRe
 use Rattle.jv_model.specs.declared.fault.Fault.TheVariants.{NoMemory}
 use Rattle.jv_model.specs.declared.op.Op.TheVariants.{Mount}
 use Rattle.jv_model.specs.declared.op.Reply.TheVariants.{Refused, SessionMade}
-use Rattle.jv_model.specs.ReplyText.{printed_line}
-use Rattle.jv_model.specs.Past.{Past}
+use Rattle.jv_model.specs.script.ReplyText.{printed_line}
+use Rattle.jv_model.specs.run.Past.{Past}
 use Rattle.jv_model.specs.declared.op.Line.{Line}
 use Rattle.jv_session.specs.Agrees.{ScheduleValue, Ran, entry_at}
 use Rattle.jv_session.specs.Lines.{Coming}

@@ -1,6 +1,6 @@
 -- The clock's answer gives the line its moment.
 use Rattle.std.proofs.Common.{◌≤◌, max, ap, subst, ◌∙◌}
-use Rattle.jv_model.specs.Legal.{last_moment}
+use Rattle.jv_model.specs.run.Legal.{last_moment}
 use Rattle.jv_session.specs.Agrees.{ScheduleValue}
 use Rattle.jv_session.specs.contracts.schedule.Schedule.{the_view}
 use Rattle.jv_session.proofs.MomentLaws.{run_of_told}

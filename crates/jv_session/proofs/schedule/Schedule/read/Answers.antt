@@ -5,9 +5,9 @@ use Rattle.jv_model.specs.declared.act.ActKind.TheVariants.{Answered}
 use Rattle.jv_model.specs.declared.act.Told.TheVariants.{Refused as ToldRefused}
 use Rattle.jv_model.specs.declared.fault.Fault.TheVariants.{NoMemory}
 use Rattle.jv_model.specs.declared.op.Reply.TheVariants.{Refused}
-use Rattle.jv_model.specs.ReplyText.{printed_line}
+use Rattle.jv_model.specs.script.ReplyText.{printed_line}
 use Rattle.jv_model.specs.declared.op.Op.TheVariants.{Read}
-use Rattle.jv_model.specs.Client.{file_of}
+use Rattle.jv_model.specs.run.Client.{file_of}
 use Rattle.jv_session.specs.declared.volume.StoredFile.{StoredFile}
 use Rattle.jv_session.specs.Stored.{IsFile}
 use Rattle.jv_session.specs.Shown.{shown_between}

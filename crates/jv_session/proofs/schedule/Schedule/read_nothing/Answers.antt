@@ -2,8 +2,8 @@
 use Rattle.std.proofs.Common.{◌≡◌, [], ◌∷◌, ◌++◌, Some, refl, sym, ap, ◌∙◌}
 use Rattle.jv_model.specs.declared.op.Op.TheVariants.{Read}
 use Rattle.jv_model.specs.declared.op.Reply.TheVariants.{Data}
-use Rattle.jv_model.specs.Client.{file_of}
-use Rattle.jv_model.specs.ReplyText.{printed_line}
+use Rattle.jv_model.specs.run.Client.{file_of}
+use Rattle.jv_model.specs.script.ReplyText.{printed_line}
 use Rattle.jv_session.specs.Agrees.{ScheduleValue, entry_at}
 use Rattle.jv_session.proofs.SubmissionLaws.{memory_ran}
 use Rattle.jv_session.proofs.FileLines.{AReads}

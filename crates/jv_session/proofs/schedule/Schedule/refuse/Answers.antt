@@ -3,7 +3,7 @@ use Rattle.std.proofs.Common.{[], ◌∷◌, ◌++◌, refl, ap, ◌∙◌}
 use Rattle.jv_model.specs.declared.act.ActKind.TheVariants.{Answered}
 use Rattle.jv_model.specs.declared.act.Told.TheVariants.{Refused as ToldRefused}
 use Rattle.jv_model.specs.declared.op.Reply.TheVariants.{Refused}
-use Rattle.jv_model.specs.ReplyText.{printed_line}
+use Rattle.jv_model.specs.script.ReplyText.{printed_line}
 use Rattle.jv_session.specs.Agrees.{entry_at}
 use Rattle.jv_session.proofs.SubmissionLaws.{memory_ran, refusal_ran}
 use Rattle.jv_session.proofs.AnswerLaws.{on_err, runs_as}

@@ -3,7 +3,7 @@ use Rattle.std.proofs.Common.{◌≡◌, ℕ, ◌+◌, ◌-◌, ◌<◌, ◌≤�
 use Rattle.std.specs.Prelude.{IfSome}
 use Rattle.std.proofs.lemmas.List.{with_items_is, length-set}
 use Rattle.std.proofs.lemmas.Option.{slice_get-get_or}
-use Rattle.jv_model.specs.Tree.{paged}
+use Rattle.jv_model.specs.tree.Tree.{paged}
 use Rattle.jv_session.specs.Stored.{VolumeValue, space_of, inode_named, with_segment, IsFile, IsVolume}
 use Rattle.jv_session.specs.declared.volume.StoredFile.{StoredFile}
 use Rattle.jv_session.proofs.SpaceLaws.{space_of-set, AllShort-set, AllShort-at}

@@ -2,7 +2,7 @@
 use Rattle.std.proofs.Common.{◌≡◌, ℕ, ◌+◌, ◌-◌, ◌*◌, ◌<◌, ◌≤◌, ◌^◌, max, length, slice_get, Some, sym, ap, subst, ◌∙◌, arith}
 use Rattle.std.specs.Prelude.{IfSome}
 use Rattle.std.proofs.lemmas.Option.{slice_get_read}
-use Rattle.jv_model.specs.Tree.{paged}
+use Rattle.jv_model.specs.tree.Tree.{paged}
 use Rattle.jv_session.specs.Stored.{VolumeValue, space_of}
 use Rattle.jv_session.proofs.SpaceLaws.{AllShort-at, space_of-part, space_of-bound}
 use Rattle.jv_session.proofs.volume.Volume.space_with.Goals as goal

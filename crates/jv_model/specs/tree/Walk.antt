@@ -4,9 +4,9 @@ use Rattle.std.specs.Prelude.{ℕ, Bool, true, false, ◌&&◌, ◌||◌, not, �
 use Rattle.std.specs.Cmp.Lexicographic.{pointwise}
 use Rattle.jv_model.specs.declared.fault.Fault.{Fault}
 use Rattle.jv_model.specs.declared.fault.Fault.TheVariants.{NotFound, NotADirectory, Invalid, NameTooLong}
-use Rattle.jv_model.specs.Attempt.{◌>>=◌, require, some_or}
+use Rattle.jv_model.specs.tree.Attempt.{◌>>=◌, require, some_or}
 use Rattle.jv_model.specs.FiniteMap.{get}
-use Rattle.jv_model.specs.Tree.{Tree, EntryKey, root, trash_root, parent_at}
+use Rattle.jv_model.specs.tree.Tree.{Tree, EntryKey, root, trash_root, parent_at}
 
 -- the parts of a text between separators
 abbrev pub before_part : ℕ → List (List ℕ) → List (List ℕ)

@@ -3,7 +3,7 @@ use Rattle.std.specs.Prelude.{◌≡◌, ℕ, zero, suc, ◌<◌, Bool, false, �
 use Rattle.jv_model.specs.declared.act.Act.{Act}
 use Rattle.jv_model.specs.declared.act.ActKind.{ActKind}
 use Rattle.jv_model.specs.declared.act.ActKind.TheVariants.{Look, Commit, Truncated, Copied}
-use Rattle.jv_model.specs.Client.{OpenFile}
+use Rattle.jv_model.specs.run.Client.{OpenFile}
 
 -- the entry with a number, the first one being 1
 abbrev pub entry_at : List Act → ℕ → Option Act

@@ -7,8 +7,8 @@ use Rattle.jv_model.specs.declared.op.Op.{Op}
 use Rattle.jv_model.specs.declared.op.Op.TheVariants.{Mount, Umount, Beat, Lookup, Stat, Lstat, Fstat, Mkdir, Create, Open, Close, Flush, Read, Write, Truncate, Copy, Readdir, Chmod, Chown, Utimes, Statfs, Symlink, Readlink, Unlink, Rmdir, Link, Rename, Compact, Clean, Gc, Upload, Stats}
 use Rattle.jv_model.specs.declared.op.Line.{Line}
 use Rattle.jv_model.specs.declared.op.Line.TheVariants.{Empty, Do, Begin, Step, Run, Crash, Drain, Tick}
-use Rattle.jv_model.specs.Spelling.{◌>>=◌, words, at_most, number_of, length_of, mode_of, is_hex_digit, hex_value, bytes_of_digits, client_of, is_silent}
-use Rattle.jv_model.specs.Printed.{Part, Plain, Repeated}
+use Rattle.jv_model.specs.script.Spelling.{◌>>=◌, words, at_most, number_of, length_of, mode_of, is_hex_digit, hex_value, bytes_of_digits, client_of, is_silent}
+use Rattle.jv_model.specs.script.Printed.{Part, Plain, Repeated}
 
 -- the parts of a text between the places of one byte, which are words at a space
 abbrev pub parted : ℕ → List ℕ → List (List ℕ)

@@ -14,11 +14,11 @@ use Rattle.jv_model.specs.declared.op.Line.{Line}
 use Rattle.jv_model.specs.declared.op.Line.TheVariants.{Empty, Do}
 use Rattle.jv_model.specs.declared.op.Reply.{Reply}
 use Rattle.jv_model.specs.declared.op.Reply.TheVariants.{Refused, Done, SessionMade, FileOpened, Data, Count}
-use Rattle.jv_model.specs.Tree.{Tree, Content, content_at}
-use Rattle.jv_model.specs.TreeAct.{Caller, Outcome, tree_act, committed, empty_content}
-use Rattle.jv_model.specs.Pending.{written, without_range, bytes_in_range, window_size}
-use Rattle.jv_model.specs.Client.{ModelClient, OpenFile, Doing, Stage, Flushing, Reading, Replying, unmounted, submission, started, free_handle, with_file, file_of}
-use Rattle.jv_model.specs.ReplyText.{printed_line}
+use Rattle.jv_model.specs.tree.Tree.{Tree, Content, content_at}
+use Rattle.jv_model.specs.tree.TreeAct.{Caller, Outcome, tree_act, committed, empty_content}
+use Rattle.jv_model.specs.run.Pending.{written, without_range, bytes_in_range, window_size}
+use Rattle.jv_model.specs.run.Client.{ModelClient, OpenFile, Doing, Stage, Flushing, Reading, Replying, unmounted, submission, started, free_handle, with_file, file_of}
+use Rattle.jv_model.specs.script.ReplyText.{printed_line}
 
 -- what a run begins with, and what it ends with
 pub record Setup : Type 0 where

@@ -6,12 +6,12 @@ use Rattle.jv_model.specs.declared.act.ActKind.{ActKind}
 use Rattle.jv_model.specs.declared.act.ActKind.TheVariants.{Commit, Answered}
 use Rattle.jv_model.specs.declared.act.Told.TheVariants.{Fine}
 use Rattle.jv_model.specs.declared.op.Op.TheVariants.{Close, Write}
-use Rattle.jv_model.specs.Tree.{content_at}
-use Rattle.jv_model.specs.Pending.{PendingByte, pending_of}
-use Rattle.jv_model.specs.Client.{ModelClient, OpenFile, Doing, file_of, inode_in}
-use Rattle.jv_model.specs.Past.{Setup, Past, View, at_start, begun_to, reached, or_empty, view_at, is_fresh, part_read, bytes_between}
-use Rattle.jv_model.specs.Legal.{AllAllowed}
-use Rattle.jv_model.specs.Looks.{IsFreshLook, entry_at}
+use Rattle.jv_model.specs.tree.Tree.{content_at}
+use Rattle.jv_model.specs.run.Pending.{PendingByte, pending_of}
+use Rattle.jv_model.specs.run.Client.{ModelClient, OpenFile, Doing, file_of, inode_in}
+use Rattle.jv_model.specs.run.Past.{Setup, Past, View, at_start, begun_to, reached, or_empty, view_at, is_fresh, part_read, bytes_between}
+use Rattle.jv_model.specs.run.Legal.{AllAllowed}
+use Rattle.jv_model.specs.run.Looks.{IsFreshLook, entry_at}
 
 -- the view taken at an entry is there, and fresh
 abbrev pub HasFreshView : List View → ℕ → OpenFile → ℕ → ℕ → Type 0

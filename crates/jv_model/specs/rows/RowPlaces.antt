@@ -1,7 +1,7 @@
 -- Where rows stand: the table's number, a number, and bytes.
 use Rattle.std.specs.Prelude.{ℕ, List, []}
 use Rattle.jv_model.specs.declared.row.RowKey.{RowKey}
-use Rattle.jv_model.specs.RowFields.{word, long}
+use Rattle.jv_model.specs.rows.RowFields.{word, long}
 
 abbrev pub setting_key : RowKey
 setting_key = record { tab = 0; a = 0; b = [] }

@@ -10,11 +10,11 @@ use Rattle.jv_model.specs.declared.fault.Fault.TheVariants.{NoMemory}
 use Rattle.jv_model.specs.declared.op.Op.TheVariants.{Close, Read, Write}
 use Rattle.jv_model.specs.declared.op.Reply.{Reply}
 use Rattle.jv_model.specs.declared.op.Reply.TheVariants.{SessionMade, FileOpened}
-use Rattle.jv_model.specs.Tree.{fits}
-use Rattle.jv_model.specs.TreeAct.{committed}
-use Rattle.jv_model.specs.Pending.{first_segment, bytes_in_range, window_size}
-use Rattle.jv_model.specs.Client.{ModelClient, OpenFile, Doing, Stage, Transacting, Flushing, Reading, Replying, is_replying, left_to_flush, answers_once_flushed, file_of, inode_in}
-use Rattle.jv_model.specs.Past.{Setup, Past, Due, NoMore, Refusal, Whole, Unbuilt, at_start, begun_to, advance, at_end, transacted, reading, told_of, is_no_more}
+use Rattle.jv_model.specs.tree.Tree.{fits}
+use Rattle.jv_model.specs.tree.TreeAct.{committed}
+use Rattle.jv_model.specs.run.Pending.{first_segment, bytes_in_range, window_size}
+use Rattle.jv_model.specs.run.Client.{ModelClient, OpenFile, Doing, Stage, Transacting, Flushing, Reading, Replying, is_replying, left_to_flush, answers_once_flushed, file_of, inode_in}
+use Rattle.jv_model.specs.run.Past.{Setup, Past, Due, NoMore, Refusal, Whole, Unbuilt, at_start, begun_to, advance, at_end, transacted, reading, told_of, is_no_more}
 
 -- the last moment there is, in seconds
 abbrev pub last_moment : ℕ

@@ -9,12 +9,12 @@ use Rattle.jv_model.specs.declared.op.Line.{Line}
 use Rattle.jv_model.specs.declared.op.Line.TheVariants.{Empty, Do}
 use Rattle.jv_model.specs.declared.op.Reply.{Reply}
 use Rattle.jv_model.specs.declared.op.Reply.TheVariants.{Refused}
-use Rattle.jv_model.specs.Tree.{Tree, Content, content_at, fits}
-use Rattle.jv_model.specs.TreeAct.{with_content}
-use Rattle.jv_model.specs.Spelling.{is_root_path}
-use Rattle.jv_model.specs.Pending.{PendingByte, end_of, window_size}
-use Rattle.jv_model.specs.Client.{submission, file_of, inode_in}
-use Rattle.jv_model.specs.Past.{Past, mounts_writeback, transacted}
+use Rattle.jv_model.specs.tree.Tree.{Tree, Content, content_at, fits}
+use Rattle.jv_model.specs.tree.TreeAct.{with_content}
+use Rattle.jv_model.specs.script.Spelling.{is_root_path}
+use Rattle.jv_model.specs.run.Pending.{PendingByte, end_of, window_size}
+use Rattle.jv_model.specs.run.Client.{submission, file_of, inode_in}
+use Rattle.jv_model.specs.run.Past.{Past, mounts_writeback, transacted}
 
 -- the bytes that may be pending
 abbrev pub pending_limit : ℕ

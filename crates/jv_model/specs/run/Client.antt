@@ -6,7 +6,7 @@ use Rattle.jv_model.specs.declared.fault.Fault.TheVariants.{InProgress, NotConne
 use Rattle.jv_model.specs.declared.op.Op.{Op}
 use Rattle.jv_model.specs.declared.op.Op.TheVariants.{Mount, Create, Open, Close, Read, Write, Upload}
 use Rattle.jv_model.specs.declared.op.Reply.{Reply}
-use Rattle.jv_model.specs.Pending.{PendingByte, pending_of}
+use Rattle.jv_model.specs.run.Pending.{PendingByte, pending_of}
 
 -- an open file: its inode, and the number of the entry that opened it
 pub record OpenFile : Type 0 where

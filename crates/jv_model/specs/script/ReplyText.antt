@@ -8,9 +8,9 @@ use Rattle.jv_model.specs.declared.setting.FileKind.{FileKind}
 use Rattle.jv_model.specs.declared.setting.FileKind.TheVariants as kind
 use Rattle.jv_model.specs.declared.setting.Setting.{Setting}
 use Rattle.jv_model.specs.declared.slice.BlockId.{BlockId}
-use Rattle.jv_model.specs.BlockNames.{upper_pair, block_name_of}
-use Rattle.jv_model.specs.Spelling.{is_letter_or_digit}
-use Rattle.jv_model.specs.Printed.{number_word, ok_text, data_text, fault_text}
+use Rattle.jv_model.specs.blocks.BlockNames.{upper_pair, block_name_of}
+use Rattle.jv_model.specs.script.Spelling.{is_letter_or_digit}
+use Rattle.jv_model.specs.script.Printed.{number_word, ok_text, data_text, fault_text}
 
 -- names, paths and targets: letters, digits and a few others stand for themselves, all else is `%` and two upper-case digits
 abbrev pub is_kept_in_name : ℕ → Bool

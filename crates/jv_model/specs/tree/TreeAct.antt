@@ -9,10 +9,10 @@ use Rattle.jv_model.specs.declared.op.Op.{Op}
 use Rattle.jv_model.specs.declared.op.Op.TheVariants.{Mount, Create, Open}
 use Rattle.jv_model.specs.declared.op.Reply.{Reply}
 use Rattle.jv_model.specs.declared.op.Reply.TheVariants.{Refused, Done, SessionMade, FileOpened}
-use Rattle.jv_model.specs.Attempt.{◌>>=◌, require}
+use Rattle.jv_model.specs.tree.Attempt.{◌>>=◌, require}
 use Rattle.jv_model.specs.FiniteMap.{get, insert}
-use Rattle.jv_model.specs.Tree.{Tree, Node, Content, File, EntryKey, new_node, node_at, parent_at, content_at, fits, full_count, trash_root}
-use Rattle.jv_model.specs.Walk.{entry_of, inode_of, is_trash}
+use Rattle.jv_model.specs.tree.Tree.{Tree, Node, Content, File, EntryKey, new_node, node_at, parent_at, content_at, fits, full_count, trash_root}
+use Rattle.jv_model.specs.tree.Walk.{entry_of, inode_of, is_trash}
 
 -- for whom, and when, a transaction is made
 pub record Caller : Type 0 where

@@ -11,12 +11,12 @@ use Rattle.jv_model.specs.declared.fault.Fault.{Fault}
 use Rattle.jv_model.specs.declared.op.Op.{Op}
 use Rattle.jv_model.specs.declared.op.Line.{Line}
 use Rattle.jv_model.specs.declared.op.Line.TheVariants.{Empty, Do, Begin, Step, Run, Crash, Drain, Tick}
-use Rattle.jv_model.specs.Tree.{Tree, content_at}
-use Rattle.jv_model.specs.Client.{OpenFile, Doing, submission}
-use Rattle.jv_model.specs.Past.{Setup, Past, View, Due, NoMore, Refusal, Whole, Unbuilt, at_start, begun, begun_by, begun_to, begin_from, begin_next, submitted, turned, spoiled, or_empty, view_at, is_fresh, seen_in, bytes_between, after_due, after_refusal, after_step, after, advance, past, reached}
-use Rattle.jv_model.specs.Legal.{Allowed, AllAllowed, MayStand, MayStep, OfDoing, IsRefusal, Refuses, WantsMemory}
-use Rattle.jv_model.specs.Looks.{IsFreshLook, entry_at, changes_file}
-use Rattle.jv_model.specs.Laws.{HasFreshView, FreshViewsAreFreshLooks, ViewsShowTheFile, PartsReadAreOfFreshLooks}
+use Rattle.jv_model.specs.tree.Tree.{Tree, content_at}
+use Rattle.jv_model.specs.run.Client.{OpenFile, Doing, submission}
+use Rattle.jv_model.specs.run.Past.{Setup, Past, View, Due, NoMore, Refusal, Whole, Unbuilt, at_start, begun, begun_by, begun_to, begin_from, begin_next, submitted, turned, spoiled, or_empty, view_at, is_fresh, seen_in, bytes_between, after_due, after_refusal, after_step, after, advance, past, reached}
+use Rattle.jv_model.specs.run.Legal.{Allowed, AllAllowed, MayStand, MayStep, OfDoing, IsRefusal, Refuses, WantsMemory}
+use Rattle.jv_model.specs.run.Looks.{IsFreshLook, entry_at, changes_file}
+use Rattle.jv_model.specs.run.Laws.{HasFreshView, FreshViewsAreFreshLooks, ViewsShowTheFile, PartsReadAreOfFreshLooks}
 use Rattle.jv_model.proofs.PastLaws.{past-append}
 
 -- entries by their numbers

@@ -12,12 +12,12 @@ use Rattle.jv_model.specs.declared.op.Line.TheVariants.{Do}
 use Rattle.jv_model.specs.declared.op.Op.TheVariants.{Mount, Create, Open, Close, Read, Write}
 use Rattle.jv_model.specs.declared.setting.Setting.{Setting}
 use Rattle.jv_model.specs.FiniteMap.{get, insert, sum_over}
-use Rattle.jv_model.specs.Tree.{fresh_tree, link_count}
-use Rattle.jv_model.specs.Client.{ModelClient, OpenFile, Doing, Flushing, is_replying, left_to_flush, file_of, handle_in}
-use Rattle.jv_model.specs.Past.{Setup, Past, View, reading, or_no_bytes, at_start, begun_to, begin_next, advance, after, reached, at_end, text_of}
-use Rattle.jv_model.proofs.ReplyRows.{replies_on_literals}
+use Rattle.jv_model.specs.tree.Tree.{fresh_tree, link_count}
+use Rattle.jv_model.specs.run.Client.{ModelClient, OpenFile, Doing, Flushing, is_replying, left_to_flush, file_of, handle_in}
+use Rattle.jv_model.specs.run.Past.{Setup, Past, View, reading, or_no_bytes, at_start, begun_to, begin_next, advance, after, reached, at_end, text_of}
+use Rattle.jv_model.proofs.ReplyTextExamples.{replies_on_literals}
 use Rattle.std.specs.List.{flat_map}
-use Rattle.jv_model.specs.Legal.{Legal, ends_well, AllAllowed, Allowed, MayAnswer, OutOfMemory, Settled, Wrote, Closed, ReadsFresh, Refuses, is_before_step, may_stop}
+use Rattle.jv_model.specs.run.Legal.{Legal, ends_well, AllAllowed, Allowed, MayAnswer, OutOfMemory, Settled, Wrote, Closed, ReadsFresh, Refuses, is_before_step, may_stop}
 
 abbrev plain_setting : Setting
 plain_setting = record { version = 1; block = 65536; trash_days = 0; capacity = 0; inodes = 0; hash = 0; name = codes "test"; bucket = codes "b" }
