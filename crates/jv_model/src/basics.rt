@@ -1,13 +1,11 @@
 //! Moments, clients, and what names a caller.
 ghost use Rattle.std.specs.Prelude.{◌≡◌, ℕ, ◌≤◌};
+ghost use Rattle.jv_model.specs.declared.limits.TheConstants.{LAST_MOMENT};
 
 use crate::sequence::Sequence;
 use std::marker::Model;
 
-/// The last moment, in seconds.
-pub const LAST_MOMENT: u64 = 137_438_953_471;
-
-/// A moment, in seconds since the start of 1970 (UTC), at most [`LAST_MOMENT`].
+/// A moment, in seconds since the start of 1970 (UTC), at most [`crate::LAST_MOMENT`].
 #[derive(Clone, Copy, Debug, PartialEq, Eq, PartialOrd, Ord)]
 pub struct Moment(pub u64);
 
@@ -16,7 +14,7 @@ impl Model for Moment {
 
     ghost view = { λ m. m.0 };
 
-    ghost invariant = { λ m. m.0 ≤ 137438953471 };
+    ghost invariant = { λ m. m.0 ≤ LAST_MOMENT };
 
     ghost inverse = { λ n. record { 0 = n } };
 }
@@ -25,7 +23,7 @@ impl Moment {
     /// The moment in seconds.
     pub fn seconds(self) -> u64
         ensures seconds { result ≡ self }
-        ensures limit { result ≤ 137438953471 }
+        ensures limit { result ≤ LAST_MOMENT }
     {
         self.0
     }

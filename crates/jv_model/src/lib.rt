@@ -8,6 +8,7 @@ mod bytes;
 mod fault;
 mod journal;
 mod laws;
+mod limits;
 mod op;
 mod row;
 mod sequence;
@@ -15,13 +16,18 @@ mod setting;
 mod slice;
 
 pub use act::{Act, ActKind, NO_CLIENT, Told};
-pub use basics::{ClientId, How, InodeList, LAST_MOMENT, Limits, Moment, Who};
+pub use basics::{ClientId, How, InodeList, Limits, Moment, Who};
 pub use bytes::{Bytes, Name, Path, Text, copied};
 pub use fault::{Busy, Device, Down, Fault, Gone, RowFault, TxFault};
 pub use journal::Journal;
 pub use laws::{
     closed_files_are_committed, closes_commit_writes, earlier_text_stays,
     fresh_views_are_fresh_looks, journals_grow, parts_read_are_of_fresh_looks, views_show_the_file,
+};
+pub use limits::{
+    DEFAULT_BLOCK, DEFAULT_BUFFER, FILE_END, FULL_COUNT, GIB, KIB, LAST_MOMENT, MAX_BLOCK,
+    MAX_BLOCKS, MAX_BUCKET, MAX_CAPACITY, MAX_DATA, MAX_HANDLES, MAX_LINE, MAX_LINES, MAX_NAME,
+    MAX_PATH, MAX_TICK, MAX_TRASH_DAYS, MIB, MIN_BLOCK, ROOT, SPACE_UNIT, TRASH_ROOT, WINDOW,
 };
 pub use op::{Line, Op, Reply, Step};
 pub use row::{
@@ -31,5 +37,5 @@ pub use row::{
 pub use sequence::{Sequence, push_in_room};
 pub use setting::{Attr, FileKind, Setting, Space};
 pub use slice::{
-    BlockId, BlockKeys, EntryList, List, NameList, Piece, Pieces, Rec, Seen, SeenList, Spot, WINDOW,
+    BlockId, BlockKeys, EntryList, List, NameList, Piece, Pieces, Rec, Seen, SeenList, Spot,
 };

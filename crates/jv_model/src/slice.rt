@@ -3,9 +3,6 @@ use crate::basics::Moment;
 use crate::bytes::Name;
 use crate::sequence::Sequence;
 
-/// The positions of a window (chunk) of a file.
-pub const WINDOW: u64 = 67_108_864;
-
 /// One contiguous write inside a window: the positions from `pos` on show the bytes of a slice from `off` on.
 #[derive(Clone, Copy, Debug, PartialEq, Eq)]
 pub struct Rec {
