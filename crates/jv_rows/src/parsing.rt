@@ -26,7 +26,7 @@ fn settled<T: Drop>(value: T, allowed: bool, rest: &[u8]) -> Result<T, Misread>
 }
 
 /// The setting that the bytes spell, of whatever version.
-#[tactic(auto, unfolding(jv_model::specs::RowGrammar::setting_of))]
+#[tactic(auto, unfolding(jv_model::specs::rows::RowGrammar::setting_of))]
 pub fn parse_setting(alloc: Global, bytes: &[u8]) -> Result<Setting, Misread>
     ensures { Gives result (setting_of bytes.now) }
 {
@@ -55,7 +55,7 @@ pub fn parse_setting(alloc: Global, bytes: &[u8]) -> Result<Setting, Misread>
 }
 
 /// The running numbers that the bytes spell.
-#[tactic(auto, unfolding(jv_model::specs::RowGrammar::counters_of))]
+#[tactic(auto, unfolding(jv_model::specs::rows::RowGrammar::counters_of))]
 pub fn parse_counters(bytes: &[u8]) -> Result<Counters, Misread>
     ensures { Gives result (counters_of bytes.now) }
 {
@@ -76,7 +76,7 @@ pub fn parse_counters(bytes: &[u8]) -> Result<Counters, Misread>
 }
 
 /// The node that the bytes spell.
-#[tactic(auto, unfolding(jv_model::specs::RowGrammar::node_of))]
+#[tactic(auto, unfolding(jv_model::specs::rows::RowGrammar::node_of))]
 pub fn parse_node(alloc: Global, bytes: &[u8]) -> Result<Node, Misread>
     ensures { Gives result (node_of bytes.now) }
 {
@@ -106,7 +106,7 @@ pub fn parse_node(alloc: Global, bytes: &[u8]) -> Result<Node, Misread>
 }
 
 /// The entry that the bytes spell.
-#[tactic(auto, unfolding(jv_model::specs::RowGrammar::edge_of))]
+#[tactic(auto, unfolding(jv_model::specs::rows::RowGrammar::edge_of))]
 pub fn parse_edge(bytes: &[u8]) -> Result<Edge, Misread>
     ensures { Gives result (edge_of bytes.now) }
 {
@@ -118,7 +118,7 @@ pub fn parse_edge(bytes: &[u8]) -> Result<Edge, Misread>
 }
 
 /// A record at the front of bytes, and the bytes after it.
-#[tactic(auto, unfolding(jv_model::specs::RowGrammar::record_at))]
+#[tactic(auto, unfolding(jv_model::specs::rows::RowGrammar::record_at))]
 fn take_record(bytes: &[u8]) -> Result<(Rec, &[u8]), Misread>
     ensures { Takes (λ x. (x.0, x.1.now)) result (record_at bytes.now) }
 {
@@ -154,7 +154,7 @@ fn take_records(alloc: Global, count: usize, bytes: &[u8]) -> Result<(Vec<Rec>, 
 }
 
 /// The list of a window that the bytes spell.
-#[tactic(auto, unfolding(jv_model::specs::RowGrammar::list_of))]
+#[tactic(auto, unfolding(jv_model::specs::rows::RowGrammar::list_of))]
 pub fn parse_list(alloc: Global, bytes: &[u8]) -> Result<List, Misread>
     ensures { Gives result (list_of bytes.now) }
 {
@@ -165,7 +165,7 @@ pub fn parse_list(alloc: Global, bytes: &[u8]) -> Result<List, Misread>
 }
 
 /// The slice that the bytes spell.
-#[tactic(auto, unfolding(jv_model::specs::RowGrammar::slice_of))]
+#[tactic(auto, unfolding(jv_model::specs::rows::RowGrammar::slice_of))]
 pub fn parse_slice(bytes: &[u8]) -> Result<SliceRow, Misread>
     ensures { Gives result (slice_of bytes.now) }
 {
@@ -177,7 +177,7 @@ pub fn parse_slice(bytes: &[u8]) -> Result<SliceRow, Misread>
 }
 
 /// The session that the bytes spell.
-#[tactic(auto, unfolding(jv_model::specs::RowGrammar::session_of))]
+#[tactic(auto, unfolding(jv_model::specs::rows::RowGrammar::session_of))]
 pub fn parse_session(bytes: &[u8]) -> Result<Session, Misread>
     ensures { Gives result (session_of bytes.now) }
 {
@@ -189,7 +189,7 @@ pub fn parse_session(bytes: &[u8]) -> Result<Session, Misread>
 }
 
 /// Nothing, of which the row of a sustained file consists.
-#[tactic(auto, unfolding(jv_model::specs::RowGrammar::sustained_of))]
+#[tactic(auto, unfolding(jv_model::specs::rows::RowGrammar::sustained_of))]
 pub fn parse_sustained(bytes: &[u8]) -> Result<(), Misread>
     ensures { Gives result (sustained_of bytes.now) }
 {
@@ -197,7 +197,7 @@ pub fn parse_sustained(bytes: &[u8]) -> Result<(), Misread>
 }
 
 /// The dropped file that the bytes spell.
-#[tactic(auto, unfolding(jv_model::specs::RowGrammar::dropped_of))]
+#[tactic(auto, unfolding(jv_model::specs::rows::RowGrammar::dropped_of))]
 pub fn parse_dropped(bytes: &[u8]) -> Result<Dropped, Misread>
     ensures { Gives result (dropped_of bytes.now) }
 {
@@ -206,7 +206,7 @@ pub fn parse_dropped(bytes: &[u8]) -> Result<Dropped, Misread>
 }
 
 /// The dead slice that the bytes spell.
-#[tactic(auto, unfolding(jv_model::specs::RowGrammar::dead_of))]
+#[tactic(auto, unfolding(jv_model::specs::rows::RowGrammar::dead_of))]
 pub fn parse_dead(bytes: &[u8]) -> Result<Dead, Misread>
     ensures { Gives result (dead_of bytes.now) }
 {

@@ -15,7 +15,7 @@ use jv_outside::Keeper;
 use std::alloc::Global;
 
 /// The row that the bytes spell in the table of that number. There are no rows in tables from 10 on.
-#[tactic(auto, unfolding(jv_model::specs::RowGrammar::row_of))]
+#[tactic(auto, unfolding(jv_model::specs::rows::RowGrammar::row_of))]
 fn row_in(alloc: Global, tab: u8, bytes: &[u8]) -> Result<Row, Misread>
     ensures { Gives result (row_of tab bytes.now) }
 {

@@ -8,7 +8,7 @@ use jv_model::{
 use std::alloc::{AllocError, Global};
 
 /// The bytes of a setting.
-#[tactic(auto, unfolding(jv_model::specs::RowGrammar::setting_bytes))]
+#[tactic(auto, unfolding(jv_model::specs::rows::RowGrammar::setting_bytes))]
 pub fn spell_setting(alloc: Global, s: &Setting) -> Result<Bytes, AllocError>
     requires { IsTrue (is_setting s.now) }
     ensures { IfOk result (λ bytes. bytes ≡ setting_bytes s.now) }
@@ -28,7 +28,7 @@ pub fn spell_setting(alloc: Global, s: &Setting) -> Result<Bytes, AllocError>
 }
 
 /// The bytes of the running numbers.
-#[tactic(auto, unfolding(jv_model::specs::RowGrammar::counters_bytes))]
+#[tactic(auto, unfolding(jv_model::specs::rows::RowGrammar::counters_bytes))]
 pub fn spell_counters(alloc: Global, c: &Counters) -> Result<Bytes, AllocError>
     ensures { IfOk result (λ bytes. bytes ≡ counters_bytes c.now) }
 {
@@ -42,7 +42,7 @@ pub fn spell_counters(alloc: Global, c: &Counters) -> Result<Bytes, AllocError>
 }
 
 /// The bytes of a node.
-#[tactic(auto, unfolding(jv_model::specs::RowGrammar::node_bytes))]
+#[tactic(auto, unfolding(jv_model::specs::rows::RowGrammar::node_bytes))]
 pub fn spell_node(alloc: Global, node: &Node) -> Result<Bytes, AllocError>
     ensures { IfOk result (λ bytes. bytes ≡ node_bytes node.now) }
 {
@@ -61,7 +61,7 @@ pub fn spell_node(alloc: Global, node: &Node) -> Result<Bytes, AllocError>
 }
 
 /// The bytes of an entry.
-#[tactic(auto, unfolding(jv_model::specs::RowGrammar::edge_bytes))]
+#[tactic(auto, unfolding(jv_model::specs::rows::RowGrammar::edge_bytes))]
 pub fn spell_edge(alloc: Global, edge: &Edge) -> Result<Bytes, AllocError>
     ensures { IfOk result (λ bytes. bytes ≡ edge_bytes edge.now) }
 {
@@ -72,7 +72,7 @@ pub fn spell_edge(alloc: Global, edge: &Edge) -> Result<Bytes, AllocError>
 }
 
 /// Adds the bytes of a record at the end.
-#[tactic(auto, unfolding(jv_model::specs::RowGrammar::record_bytes))]
+#[tactic(auto, unfolding(jv_model::specs::rows::RowGrammar::record_bytes))]
 fn put_record(out: &mut Vec<u8>, r: &Rec) -> Result<(), AllocError>
     ensures { OnOk result (out.new.items ≡ out.old.items ++ record_bytes r.now) }
 {
@@ -85,7 +85,7 @@ fn put_record(out: &mut Vec<u8>, r: &Rec) -> Result<(), AllocError>
 }
 
 /// The bytes of a window's list.
-#[tactic(auto, unfolding(jv_model::specs::RowGrammar::list_bytes))]
+#[tactic(auto, unfolding(jv_model::specs::rows::RowGrammar::list_bytes))]
 pub fn spell_list(alloc: Global, list: &List) -> Result<Bytes, AllocError>
     ensures { IfOk result (λ bytes. bytes ≡ list_bytes list.now) }
 {
@@ -97,7 +97,7 @@ pub fn spell_list(alloc: Global, list: &List) -> Result<Bytes, AllocError>
 }
 
 /// The bytes of a slice's row.
-#[tactic(auto, unfolding(jv_model::specs::RowGrammar::slice_bytes))]
+#[tactic(auto, unfolding(jv_model::specs::rows::RowGrammar::slice_bytes))]
 pub fn spell_slice(alloc: Global, slice: &SliceRow) -> Result<Bytes, AllocError>
     ensures { IfOk result (λ bytes. bytes ≡ slice_bytes slice.now) }
 {
@@ -108,7 +108,7 @@ pub fn spell_slice(alloc: Global, slice: &SliceRow) -> Result<Bytes, AllocError>
 }
 
 /// The bytes of a session.
-#[tactic(auto, unfolding(jv_model::specs::RowGrammar::session_bytes))]
+#[tactic(auto, unfolding(jv_model::specs::rows::RowGrammar::session_bytes))]
 pub fn spell_session(alloc: Global, session: &Session) -> Result<Bytes, AllocError>
     ensures { IfOk result (λ bytes. bytes ≡ session_bytes session.now) }
 {
@@ -119,7 +119,7 @@ pub fn spell_session(alloc: Global, session: &Session) -> Result<Bytes, AllocErr
 }
 
 /// The bytes of a dropped file's row.
-#[tactic(auto, unfolding(jv_model::specs::RowGrammar::dropped_bytes))]
+#[tactic(auto, unfolding(jv_model::specs::rows::RowGrammar::dropped_bytes))]
 pub fn spell_dropped(alloc: Global, dropped: &Dropped) -> Result<Bytes, AllocError>
     ensures { IfOk result (λ bytes. bytes ≡ dropped_bytes dropped.now) }
 {
@@ -129,7 +129,7 @@ pub fn spell_dropped(alloc: Global, dropped: &Dropped) -> Result<Bytes, AllocErr
 }
 
 /// The bytes of a dead slice's row.
-#[tactic(auto, unfolding(jv_model::specs::RowGrammar::dead_bytes))]
+#[tactic(auto, unfolding(jv_model::specs::rows::RowGrammar::dead_bytes))]
 pub fn spell_dead(alloc: Global, dead: &Dead) -> Result<Bytes, AllocError>
     ensures { IfOk result (λ bytes. bytes ≡ dead_bytes dead.now) }
 {

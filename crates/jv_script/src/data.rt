@@ -71,7 +71,7 @@ fn part_length(part: &[u8]) -> Option<u64>
 }
 
 // A byte and how often it stands.
-#[tactic(auto, unfolding(jv_model::specs::Grammar::repeated_of))]
+#[tactic(auto, unfolding(jv_model::specs::script::Grammar::repeated_of))]
 fn repeated(part: &[u8]) -> Option<(u8, u64)>
     ensures { option_map (λ r. Repeated (record { byte = r.0; count = r.1 })) result ≡ repeated_of part.now }
 {

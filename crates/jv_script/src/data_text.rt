@@ -13,7 +13,7 @@ use std::alloc::AllocError;
 /// So many bytes are looked through for a long run at once.
 const BLOCK: usize = 64;
 
-#[tactic(auto, unfolding(jv_model::specs::Printed::data_text))]
+#[tactic(auto, unfolding(jv_model::specs::script::Printed::data_text))]
 pub(crate) fn push_data(text: &mut Vec<u8>, bytes: &[u8]) -> Result<(), AllocError>
     ensures { OnOk result (text.new.items ≡ text.old.items ++ data_text bytes.now) }
 {

@@ -14,7 +14,7 @@ pub(crate) fn push_refusal(text: &mut Vec<u8>, fault: &Fault) -> Result<(), Allo
     push_fault_words(text, fault)
 }
 
-#[tactic(auto, unfolding(jv_model::specs::Printed::fault_name))]
+#[tactic(auto, unfolding(jv_model::specs::script::Printed::fault_name))]
 fn fault_name(fault: &Fault) -> &'static str
     ensures { result.now ≡ fault_name fault.now }
 {
@@ -43,7 +43,7 @@ fn fault_name(fault: &Fault) -> &'static str
     }
 }
 
-#[tactic(auto, unfolding(jv_model::specs::Printed::fault_words))]
+#[tactic(auto, unfolding(jv_model::specs::script::Printed::fault_words))]
 fn push_fault_words(text: &mut Vec<u8>, fault: &Fault) -> Result<(), AllocError>
     ensures { OnOk result (text.new.items ≡ text.old.items ++ fault_words fault.now) }
 {

@@ -13,7 +13,7 @@ const MAX_LENGTH: u64 = 8_388_608;
 const MAX_TICK: u64 = 4_294_967_296;
 
 /// A client of its letter, A to H.
-#[tactic(auto, unfolding(jv_model::specs::Spelling::client_of))]
+#[tactic(auto, unfolding(jv_model::specs::script::Spelling::client_of))]
 pub(crate) fn client(letter: &[u8]) -> Option<ClientId>
     ensures { result ≡ client_of letter.now }
 {
@@ -27,7 +27,7 @@ pub(crate) fn client(letter: &[u8]) -> Option<ClientId>
 }
 
 /// The mode of four octal digits.
-#[tactic(auto, unfolding(jv_model::specs::Spelling::mode_of))]
+#[tactic(auto, unfolding(jv_model::specs::script::Spelling::mode_of))]
 pub(crate) fn mode(digits: &[u8]) -> Option<u16>
     ensures { result ≡ mode_of digits.now }
 {
@@ -50,7 +50,7 @@ fn octal_value(digit: u8) -> Option<u16>
 }
 
 /// A decimal number without leading zeros, of 64 bits at most.
-#[tactic(auto, unfolding(jv_model::specs::Spelling::number_of))]
+#[tactic(auto, unfolding(jv_model::specs::script::Spelling::number_of))]
 pub(crate) fn number(digits: &[u8]) -> Option<u64>
     ensures { result ≡ number_of digits.now }
 {
@@ -82,7 +82,7 @@ fn all_decimal_digits(digits: &[u8]) -> bool
 }
 
 /// The length of a read in bytes.
-#[tactic(auto, unfolding(jv_model::specs::Spelling::length_of))]
+#[tactic(auto, unfolding(jv_model::specs::script::Spelling::length_of))]
 pub(crate) fn read_length(digits: &[u8]) -> Option<u32>
     ensures { result ≡ length_of digits.now }
 {
@@ -94,7 +94,7 @@ pub(crate) fn read_length(digits: &[u8]) -> Option<u32>
 }
 
 /// A number of at most `limit`.
-#[tactic(auto, unfolding(jv_model::specs::Grammar::number_up_to))]
+#[tactic(auto, unfolding(jv_model::specs::script::Grammar::number_up_to))]
 pub(crate) fn number_up_to(limit: u64, digits: &[u8]) -> Option<u64>
     ensures value { result ≡ number_up_to limit digits.now }
     ensures small { IfSome result (λ number. number ≤ limit) }
@@ -115,7 +115,7 @@ pub(crate) fn short_number(digits: &[u8]) -> Option<u32>
 }
 
 /// The seconds of a tick.
-#[tactic(auto, unfolding(jv_model::specs::Grammar::seconds_of))]
+#[tactic(auto, unfolding(jv_model::specs::script::Grammar::seconds_of))]
 pub(crate) fn tick_seconds(digits: &[u8]) -> Option<u64>
     ensures { result ≡ seconds_of digits.now }
 {

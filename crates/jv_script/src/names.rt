@@ -9,7 +9,7 @@ use jv_model::{Attr, BlockId, FileKind, Name, Setting};
 use jv_slices::block_name;
 use std::alloc::{AllocError, Global};
 
-#[tactic(auto, unfolding(jv_model::specs::ReplyText::path_text))]
+#[tactic(auto, unfolding(jv_model::specs::script::ReplyText::path_text))]
 pub(crate) fn push_path(text: &mut Vec<u8>, path: &[u8]) -> Result<(), AllocError>
     ensures { OnOk result (text.new.items ≡ text.old.items ++ path_text path.now) }
 {
@@ -19,7 +19,7 @@ pub(crate) fn push_path(text: &mut Vec<u8>, path: &[u8]) -> Result<(), AllocErro
     Ok(())
 }
 
-#[tactic(auto, unfolding(jv_model::specs::ReplyText::name_text))]
+#[tactic(auto, unfolding(jv_model::specs::script::ReplyText::name_text))]
 fn push_name(text: &mut Vec<u8>, name: &[u8]) -> Result<(), AllocError>
     ensures { OnOk result (text.new.items ≡ text.old.items ++ name_text name.now) }
 {
@@ -95,7 +95,7 @@ fn push_entry(text: &mut Vec<u8>, entry: &(Name, u64)) -> Result<(), AllocError>
     push_decimal(text, entry.1)
 }
 
-#[tactic(auto, unfolding(jv_model::specs::ReplyText::attr_words))]
+#[tactic(auto, unfolding(jv_model::specs::script::ReplyText::attr_words))]
 pub(crate) fn push_attr(text: &mut Vec<u8>, attr: &Attr) -> Result<(), AllocError>
     ensures { OnOk result (text.new.items ≡ text.old.items ++ attr_words attr.now) }
 {
@@ -145,7 +145,7 @@ fn octal_digit(number: u16) -> u8
     b'0' + (number % 8) as u8
 }
 
-#[tactic(auto, unfolding(jv_model::specs::ReplyText::uploaded_text))]
+#[tactic(auto, unfolding(jv_model::specs::script::ReplyText::uploaded_text))]
 pub(crate) fn push_uploaded(
     alloc: Global,
     text: &mut Vec<u8>,

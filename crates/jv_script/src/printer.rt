@@ -21,7 +21,7 @@ pub fn print_reply(alloc: Global, setting: &Setting, reply: &Reply) -> Result<By
     Ok(Sequence::from_vec(line))
 }
 
-#[tactic(auto, unfolding(jv_model::specs::ReplyText::reply_text))]
+#[tactic(auto, unfolding(jv_model::specs::script::ReplyText::reply_text))]
 fn push_reply(
     alloc: Global,
     text: &mut Vec<u8>,
@@ -54,7 +54,7 @@ fn push_reply(
 }
 
 // Answers that are numbers, or nothing at all.
-#[tactic(auto, unfolding(jv_model::specs::ReplyText::reply_text))]
+#[tactic(auto, unfolding(jv_model::specs::script::ReplyText::reply_text))]
 fn push_counts(text: &mut Vec<u8>, setting: &Setting, reply: &Reply) -> Result<(), AllocError>
     requires { is_counts reply.now ≡ true }
     ensures { OnOk result (text.new.items ≡ text.old.items ++ reply_text setting.now reply.now) }

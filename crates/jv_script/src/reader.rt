@@ -14,7 +14,7 @@ use jv_model::{ClientId, Line};
 use std::alloc::Global;
 
 /// Reads a line, given without its line feed.
-#[tactic(auto, unfolding(jv_model::specs::Grammar::line_of))]
+#[tactic(auto, unfolding(jv_model::specs::script::Grammar::line_of))]
 pub fn read_line(alloc: Global, text: &[u8]) -> Result<Line, BadLine>
     ensures read { IfOk result (λ line. line_of text.now ≡ Some line) }
     // A text that is no line is told as such, also where memory is wanting.
@@ -35,7 +35,7 @@ fn is_silent(text: &[u8]) -> bool
     }
 }
 
-#[tactic(auto, unfolding(jv_model::specs::Grammar::command_of))]
+#[tactic(auto, unfolding(jv_model::specs::script::Grammar::command_of))]
 fn command(alloc: Global, text: &[u8]) -> Result<Line, BadLine>
     ensures { Reads result (command_of (words text.now)) }
 {
@@ -77,7 +77,7 @@ fn where_last(rest: Option<&[u8]>, line: Line) -> Option<Line>
 }
 
 // What follows a client's letter.
-#[tactic(auto, unfolding(jv_model::specs::Grammar::client_line_of))]
+#[tactic(auto, unfolding(jv_model::specs::script::Grammar::client_line_of))]
 fn client_line(
     alloc: Global,
     client: ClientId,
@@ -103,7 +103,7 @@ fn client_line(
 }
 
 // An operation that is submitted alone.
-#[tactic(auto, unfolding(jv_model::specs::Grammar::begin_of))]
+#[tactic(auto, unfolding(jv_model::specs::script::Grammar::begin_of))]
 fn begin(alloc: Global, client: ClientId, rest: Option<&[u8]>) -> Result<Line, BadLine>
     ensures { Reads result (begin_of client (parts_after 32 (option_copied rest.entry))) }
 {

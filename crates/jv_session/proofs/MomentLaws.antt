@@ -4,14 +4,14 @@ use Rattle.std.specs.Prelude.{IfSome, MatchOption}
 use Rattle.jv_model.specs.declared.act.Act.{Act}
 use Rattle.jv_model.specs.declared.op.Line.TheVariants.{Do}
 use Rattle.jv_model.specs.declared.op.Op.{Op}
-use Rattle.jv_model.specs.run.Legal.{last_moment}
+use Rattle.jv_model.specs.declared.limits.TheConstants.{LAST_MOMENT}
 use Rattle.jv_outside.specs.Told.{Passes}
 use Rattle.jv_session.specs.Agrees.{ScheduleValue, Ran, ClockFor}
 use Rattle.jv_session.specs.Lines.{Coming, RunsTo, RunsLine}
 
 pub moment_of : (clock : Option (ℕ → ℕ)) (asked before m at : ℕ) (told told' : Option (ℕ → ℕ)) → ClockFor clock asked told told' → IfSome told (λ answers. m ≡ answers 0) → Passes told told' 1
-    → before ≤ last_moment → m ≤ last_moment → at ≡ max before m
-    → MatchOption clock ((before ≤ at) × (at ≤ last_moment)) (λ answers. at ≡ min last_moment (max before (answers asked)))
+    → before ≤ LAST_MOMENT → m ≤ LAST_MOMENT → at ≡ max before m
+    → MatchOption clock ((before ≤ at) × (at ≤ LAST_MOMENT)) (λ answers. at ≡ min LAST_MOMENT (max before (answers asked)))
 moment_of None asked before m at told told' for gives passes low high is = (omega arith, omega arith)
 moment_of (Some answers) asked before m at None None for gives passes low high is = absurd (let e : ◌≡◌ {A = Bool} false true = for.0 in cc)
 moment_of (Some answers) asked before m at (Some rest) None for gives passes low high is = absurd (let e : ◌≡◌ {A = Bool} false true = for.0 in cc)
@@ -22,10 +22,10 @@ moment_of (Some answers) asked before m at (Some rest) (Some rest') for gives pa
 
 -- what a line's call comes to from wherever its schedule stands, once the clock has answered
 pub run_of_told : (op : Op) (line m at : ℕ) (told told' : Option (ℕ → ℕ)) (before during after : List Act) (s t end : ScheduleValue) (text : List ℕ)
-    → IfSome told (λ answers. m ≡ answers 0) → Passes told told' 1 → m ≤ last_moment → at ≡ max s.at m → during ≡ before → end ≡ record t { at = at }
+    → IfSome told (λ answers. m ≡ answers 0) → Passes told told' 1 → m ≤ LAST_MOMENT → at ≡ max s.at m → during ≡ before → end ≡ record t { at = at }
     → RunsTo op line at during after s t text → RunsLine told told' (Do 0 op) line before after s end text
 run_of_told op line m at told told' before during after s t end text gives passes high is same ends runs p more stands next rest count for =
-    let low : s.at ≤ last_moment = omega (arith, stands.at, stands.last) in
+    let low : s.at ≤ LAST_MOMENT = omega (arith, stands.at, stands.last) in
     let is' : at ≡ max p.at m = is ∙ ap (λ n. max n m) (sym stands.at) in
     let coming : Coming p more line at op s during = record {
       stands = stands;

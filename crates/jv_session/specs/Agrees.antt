@@ -11,7 +11,8 @@ use Rattle.jv_model.specs.tree.Tree.{Tree, Content, root, parent_at, content_at,
 use Rattle.jv_model.specs.run.Pending.{PendingByte}
 use Rattle.jv_model.specs.run.Client.{ModelClient, OpenFile, Doing}
 use Rattle.jv_model.specs.run.Past.{Past, NoMore, begun_to, past}
-use Rattle.jv_model.specs.run.Legal.{AllAllowed, last_moment}
+use Rattle.jv_model.specs.run.Legal.{AllAllowed}
+use Rattle.jv_model.specs.declared.limits.TheConstants.{LAST_MOMENT}
 use Rattle.jv_session.specs.declared.volume.StoredFile.{StoredFile}
 use Rattle.jv_session.specs.Stored.{VolumeValue, IsFile, inode_named, space_of, stored_byte}
 
@@ -72,7 +73,7 @@ pub record Stands (q : Past) (s : ScheduleValue) : Type 0 where
   pub complete : q.complete ≡ true
   pub due : q.due ≡ NoMore
   pub at : q.at ≡ s.at
-  pub last : q.at ≤ last_moment
+  pub last : q.at ≤ LAST_MOMENT
   pub agrees : Agrees q None s
 
 -- an entry of the first client

@@ -1,5 +1,6 @@
 -- Which lines a schedule runs today, by its own state; the model says the same of the past where it stands.
 use Rattle.std.specs.Prelude.{ℕ, ◌+◌, ◌-◌, ◌^◌, max, Bool, true, false, ◌&&◌, ◌||◌, not, ◌==◌, nat_lt, nat_le, [], ◌∷◌, length, slice_get, is_some, Option, None, Some}
+use Rattle.jv_model.specs.declared.limits.TheConstants.{MAX_HANDLES, FILE_END, SPACE_UNIT}
 use Rattle.jv_model.specs.declared.basics.Limits.{Limits}
 use Rattle.jv_model.specs.declared.fault.Fault.{Fault}
 use Rattle.jv_model.specs.declared.fault.Fault.TheVariants.{InProgress, NotConnected, BadHandle, TooManyHandles, FileTooLarge}
@@ -23,8 +24,8 @@ refusal_here s op = first_refusal (
     (is_mount op && is_some s.session, InProgress)
     ∷ (not (is_some s.session) && not (needs_no_mount op), NotConnected)
     ∷ (names_handle op && not (is_some (file_of s.handles (handle_in op))), BadHandle)
-    ∷ (gives_handle op && nat_le 1024 (open_count s.handles), TooManyHandles)
-    ∷ (nat_lt (2 ^ 40) (write_end op), FileTooLarge)
+    ∷ (gives_handle op && nat_le MAX_HANDLES (open_count s.handles), TooManyHandles)
+    ∷ (nat_lt FILE_END (write_end op), FileTooLarge)
     ∷ [])
 
 -- the form of an operation
@@ -39,7 +40,7 @@ has_form limits _ = false
 
 -- whether one more file is within the volume's limits
 abbrev pub has_room : Setting → VolumeValue → Bool
-has_room setting v = nat_lt (2 + length v.files) full_count && (nat_le (v.used_space + 4096) (space_limit setting) && nat_le (length v.files + 1) (inode_limit setting))
+has_room setting v = nat_lt (2 + length v.files) full_count && (nat_le (v.used_space + SPACE_UNIT) (space_limit setting) && nat_le (length v.files + 1) (inode_limit setting))
 
 -- the space that all files use, once this one of them reaches to a position
 abbrev pub space_grown : VolumeValue → StoredFile → ℕ → ℕ

@@ -1,5 +1,6 @@
 -- What the call for one line of a script does.
 use Rattle.std.specs.Prelude.{◌≡◌, ℕ, ◌+◌, ◌≤◌, List, [], ◌∷◌, length, Option, None}
+use Rattle.jv_model.specs.declared.limits.TheConstants.{LAST_MOMENT}
 use Rattle.jv_model.specs.declared.act.Act.{Act}
 use Rattle.jv_model.specs.declared.basics.Limits.{Limits}
 use Rattle.jv_model.specs.declared.op.Line.{Line}
@@ -41,7 +42,7 @@ pub record Coming (p : Past) (more : List Line) (line at : ℕ) (op : Op) (s : S
   pub next : p.line + 1 ≡ line
   pub rest : p.rest ≡ Do 0 op ∷ more
   pub moment : IsMoment (turned p more) at
-  pub last : at ≤ 137438953471
+  pub last : at ≤ LAST_MOMENT
   pub count : p.count ≡ length before
 
 -- by how the call ended

@@ -3,6 +3,7 @@ use Rattle.std.specs.Prelude.{◌≡◌, ℕ, ◌+◌, ◌-◌, ◌≤◌, ◌<�
 use Rattle.std.specs.Ordering.{nat_cmp, is_eq}
 use Rattle.std.specs.Cmp.Lexicographic.{slice_cmp}
 use Rattle.std.specs.Map.{lookup}
+use Rattle.jv_model.specs.declared.limits.TheConstants.{FILE_END, SPACE_UNIT}
 use Rattle.jv_model.specs.tree.Tree.{paged}
 use Rattle.jv_session.specs.declared.volume.StoredSegment.{StoredSegment}
 use Rattle.jv_session.specs.declared.volume.StoredFile.{StoredFile}
@@ -35,7 +36,7 @@ space_of (file ∷ files) = paged file.length + space_of files
 
 abbrev pub AllShort : List StoredFile → Type 0
 AllShort [] = Unit {0}
-AllShort (file ∷ files) = (file.length ≤ 1099511627776) × AllShort files
+AllShort (file ∷ files) = (file.length ≤ FILE_END) × AllShort files
 
 -- a file with one more segment
 abbrev pub with_segment : ℕ → List ℕ → StoredFile → StoredFile
@@ -48,7 +49,7 @@ with_segment from bytes file = record {
 pub record Creates (before : VolumeValue) (path : List ℕ) (after : VolumeValue) : Type 0 where
   pub names : (q : List ℕ) → inode_named after.names q ≡ (if is_eq (slice_cmp nat_cmp q path) then Some (2 + length before.files) else inode_named before.names q)
   pub files : after.files ≡ before.files ++ record { length = 0; segments = [] } ∷ []
-  pub space : after.used_space ≡ before.used_space + 4096
+  pub space : after.used_space ≡ before.used_space + SPACE_UNIT
 
 -- the volume with bytes committed to the file at a place, whose space is then this
 abbrev pub with_commit : VolumeValue → ℕ → ℕ → List ℕ → StoredFile → ℕ → VolumeValue

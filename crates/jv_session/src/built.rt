@@ -9,20 +9,12 @@ ghost use Rattle.jv_session.specs.BuiltHere.{refusal_here, has_form, may_run, ma
 
 use crate::handles::{named, open_count};
 use crate::root_paths::is_root_path;
-use crate::schedule::{PENDING_LIMIT, Schedule};
+use crate::schedule::Schedule;
 use crate::volume::Volume;
-use jv_model::{Fault, Limits, Op, Setting, WINDOW};
-
-/// The most handles that a client may have open.
-const HANDLE_LIMIT: usize = 1024;
-
-/// A position that no file passes.
-const POSITION_LIMIT: u128 = 1 << 40;
-
-/// The greatest stored count, for which a limit of 0 stands too.
-const FULL_COUNT: u64 = 1 << 62;
-
-const GIB: u128 = 1 << 30;
+use jv_model::{
+    DEFAULT_BUFFER, FILE_END, FULL_COUNT, Fault, GIB, Limits, MAX_HANDLES, Op, SPACE_UNIT, Setting,
+    WINDOW,
+};
 
 impl Schedule {
     /// Whether an operation has a form and an answer that a session has today.
@@ -55,10 +47,10 @@ impl Schedule {
         if names_handle(op) && named(&self.handles, handle_in(op)).is_none() {
             return Some(Fault::BadHandle);
         }
-        if gives_handle(op) && open_count(&self.handles) >= HANDLE_LIMIT {
+        if gives_handle(op) && open_count(&self.handles) >= MAX_HANDLES {
             return Some(Fault::TooManyHandles);
         }
-        if write_end(op) > POSITION_LIMIT {
+        if write_end(op) > u128::from(FILE_END) {
             return Some(Fault::FileTooLarge);
         }
         None
@@ -103,7 +95,7 @@ impl Schedule {
         ensures { result ≡ (nat_le (length self.now.pending + more) pending_limit && nat_le (length self.now.pending + more) self.now.limits.buffer) }
     {
         let held = u128::from(self.pending.bytes()) + more as u128;
-        held <= u128::from(PENDING_LIMIT) && held <= u128::from(self.limits.buffer)
+        held <= u128::from(DEFAULT_BUFFER) && held <= u128::from(self.limits.buffer)
     }
 }
 
@@ -144,7 +136,7 @@ fn space_limit(setting: &Setting) -> u128
     if setting.capacity == 0 {
         u128::from(FULL_COUNT)
     } else {
-        u128::from(setting.capacity) * GIB
+        u128::from(setting.capacity) * u128::from(GIB)
     }
 }
 
@@ -166,8 +158,8 @@ fn has_room(setting: &Setting, volume: &Volume) -> bool
     let count = volume.count();
     let limit = space_limit(setting);
     count + 2 < FULL_COUNT
-        && limit >= 4096
-        && volume.used_space() <= limit - 4096
+        && limit >= u128::from(SPACE_UNIT)
+        && volume.used_space() <= limit - u128::from(SPACE_UNIT)
         && count < inode_limit(setting)
 }
 

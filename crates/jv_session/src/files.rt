@@ -1,5 +1,6 @@
 //! Operations on open files: close, write and read, and the flush before a close and a read.
 ghost use Rattle.std.specs.Prelude.{◌≡◌, ℕ, ◌+◌, ◌≤◌, ◌<◌, ◌-◌, ◌++◌, ◌∷◌, [], length, slice_get, is_some, IsTrue, IfOk, IfSome, OnOk, OnErr, Some, None};
+ghost use Rattle.jv_model.specs.declared.limits.TheConstants.{FILE_END};
 ghost use Rattle.jv_model.specs.declared.act.ActKind.TheVariants.{Answered};
 ghost use Rattle.jv_model.specs.declared.act.Told.TheVariants.{Fine, Looks, Refused as ToldRefused};
 ghost use Rattle.jv_model.specs.declared.fault.Fault.TheVariants.{NoMemory};
@@ -52,7 +53,7 @@ impl Schedule {
 
     /// Keeps bytes as pending. Where memory is wanting, nothing has changed.
     fn hold(&mut self, inode: u64, offset: u64, bytes: &Bytes) -> Result<(), AllocError>
-        requires end { offset + length bytes.now ≤ 1099511627776 }
+        requires end { offset + length bytes.now ≤ FILE_END }
         ensures ok { OnOk result (self.new ≡ record self.old { pending = written inode offset bytes.now self.old.pending }) }
         ensures err { OnErr result (self.new ≡ self.old) }
     {
@@ -237,7 +238,7 @@ fn range_of(at: SegmentAt) -> (u64, u64)
     requires window { at.window < 16384 }
     ensures from { result.0 ≡ (segment_at at).from }
     ensures len { result.1 ≡ at.len }
-    ensures end { result.0 + result.1 ≤ 1099511627776 }
+    ensures end { result.0 + result.1 ≤ FILE_END }
 {
     (
         u64::from(at.window) * WINDOW + u64::from(at.pos),

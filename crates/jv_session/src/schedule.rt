@@ -1,5 +1,6 @@
 //! A session of one client: each line of its script in turn.
 ghost use Rattle.std.specs.Prelude.{◌≡◌, ◌↔◌, ℕ, ◌+◌, ◌≤◌, ◌<◌, ◌++◌, ◌∷◌, [], min, max, ◌≢◌, IsTrue, IfOk, OnOk, OnErr};
+ghost use Rattle.jv_model.specs.declared.limits.TheConstants.{LAST_MOMENT, MAX_DATA};
 ghost use Rattle.jv_model.specs.declared.act.ActKind.TheVariants.{Answered};
 ghost use Rattle.jv_model.specs.declared.act.Told.TheVariants.{Refused as ToldRefused};
 ghost use Rattle.jv_model.specs.declared.fault.Fault.TheVariants.{NoMemory};
@@ -16,16 +17,14 @@ ghost use Rattle.jv_session.specs.BuiltHere.{built_here, built_op};
 use crate::line_end::LineEnd;
 use crate::volume::Volume;
 use jv_model::{
-    Act, ActKind, Bytes, Fault, Journal, Limits, Line, Moment, Op, Reply, Setting, Told,
+    Act, ActKind, Bytes, DEFAULT_BUFFER, Fault, Journal, Limits, Line, Moment, Op, Reply, Setting,
+    Told,
 };
 use jv_outside::Clock;
 use jv_pending::Pending;
 use jv_script::print_reply;
 use std::alloc::{AllocError, Global};
 use std::marker::Model;
-
-/// The greatest number of bytes that may be pending.
-pub(crate) const PENDING_LIMIT: u64 = 33_554_432;
 
 /// The state of a session between two lines of its script.
 #[derive(Drop)]
@@ -62,7 +61,7 @@ pub(crate) struct Turn {
     pub(crate) line: u32,
     /// Seconds.
     pub(crate) at: u64,
-    ghost in_range: { at ≤ 137438953471 },
+    ghost in_range: { at ≤ LAST_MOMENT },
 }
 
 /// Appends an entry of the first client.
@@ -82,7 +81,7 @@ pub(crate) fn note(journal: &mut Journal, turn: &Turn, kind: ActKind)
 impl Schedule {
     /// A session over a volume that was just formatted with this setting. Takes no memory.
     pub fn new(alloc: Global, setting: Setting, limits: Limits) -> Schedule
-        requires { 8388608 ≤ limits.buffer }
+        requires { MAX_DATA ≤ limits.buffer }
         ensures { result ≡ fresh_schedule setting limits }
     {
         Schedule {
@@ -92,7 +91,7 @@ impl Schedule {
             at: 0,
             session: None,
             handles: Vec::new(alloc),
-            pending: Pending::new(alloc, limits.buffer.min(PENDING_LIMIT)),
+            pending: Pending::new(alloc, limits.buffer.min(DEFAULT_BUFFER)),
             volume: Volume::new(alloc),
         }
     }

@@ -6,13 +6,10 @@ ghost use Rattle.jv_model.specs.tree.Tree.{paged};
 ghost use Rattle.jv_session.specs.Stored.{inode_named, with_segment, space_of, covers, Creates, Commits, IsFile};
 ghost use Rattle.jv_session.specs.Shown.{shown_between};
 
-use jv_model::{Bytes, Path, Sequence, copied, push_in_room};
+use jv_model::{Bytes, FILE_END, Path, SPACE_UNIT, Sequence, copied, push_in_room};
 use std::alloc::{AllocError, Global};
 use std::collections::BTreeMap;
 use std::marker::Model;
-
-/// The greatest length of a file in bytes.
-pub(crate) const LENGTH_LIMIT: u64 = 1 << 40;
 
 /// The inode of the first file.
 const FIRST_INODE: u64 = 2;
@@ -51,12 +48,12 @@ impl Model for Volume {
     ghost invariant = { λ v. IsVolume v.names.entries v.files.items v.used_space };
 }
 
-/// The space of a file of that length: whole pages of 4,096 bytes, at least one.
+/// The space of a file of that length: whole units, at least one.
 fn paged(length: u64) -> u64
-    requires { length ≤ 2 ^ 40 }
+    requires { length ≤ FILE_END }
     ensures { result ≡ paged length }
 {
-    4096.max(length.div_ceil(4096) * 4096)
+    SPACE_UNIT.max(length.div_ceil(SPACE_UNIT) * SPACE_UNIT)
 }
 
 impl Volume {
@@ -102,7 +99,7 @@ impl Volume {
         self.files.reserve(1)?;
         self.names.insert(key, inode)?;
         push_in_room(&mut self.files, file);
-        self.used_space += 4096;
+        self.used_space += u128::from(SPACE_UNIT);
         Ok(inode)
     }
 
@@ -116,7 +113,7 @@ impl Volume {
     /// The space that all files use once one of them reaches at least to a position.
     pub(crate) fn space_with(&self, inode: u64, end: u64) -> u128
         requires file { IsFile (length self.now.files) inode }
-        requires end { end ≤ 2 ^ 40 }
+        requires end { end ≤ FILE_END }
         ensures { IfSome (slice_get self.now.files (inode - 2)) (λ file.
             result + paged file.length ≡ self.now.used_space + paged (max file.length end)) }
     {
@@ -127,7 +124,7 @@ impl Volume {
     /// Puts bytes into a file. Where memory is wanting, nothing has changed.
     pub(crate) fn commit(&mut self, inode: u64, from: u64, bytes: &[u8]) -> Result<(), AllocError>
         requires file { IsFile (length self.old.files) inode }
-        requires end { from + length bytes.now ≤ 2 ^ 40 }
+        requires end { from + length bytes.now ≤ FILE_END }
         ensures ok { OnOk result (IfSome (slice_get self.old.files (inode - 2)) (λ file. Commits self.old (inode - 2) from bytes.now file self.new)) }
         ensures counted { OnOk result (self.old.used_space ≡ space_of self.old.files) }
         ensures err { OnErr result (self.new ≡ self.old) }
@@ -142,7 +139,7 @@ impl Volume {
     /// The bytes of a file from one position up to another, as far as the file goes.
     pub(crate) fn read(&self, inode: u64, from: u64, to: u64) -> Result<Bytes, AllocError>
         requires file { IsFile (length self.now.files) inode }
-        requires end { to ≤ 2 ^ 40 }
+        requires end { to ≤ FILE_END }
         ensures { IfOk result (λ bytes. IfSome (slice_get self.now.files (inode - 2)) (λ file. bytes ≡ shown_between file from to)) }
     {
         shown(
@@ -188,7 +185,7 @@ fn add_segment(
 /// The bytes of a file from one position up to another, as far as the file goes: each segment painted over the ones
 /// before it.
 fn shown(alloc: Global, file: &StoredFile, from: u64, to: u64) -> Result<Bytes, AllocError>
-    requires { to ≤ 2 ^ 40 }
+    requires { to ≤ FILE_END }
     ensures { IfOk result (λ bytes. bytes ≡ shown_between file.now from to) }
 {
     let end = to.min(file.length);
@@ -202,7 +199,7 @@ fn shown(alloc: Global, file: &StoredFile, from: u64, to: u64) -> Result<Bytes, 
 
 /// Writes what a segment has over bytes that begin at a position.
 fn paint(bytes: &mut [u8], from: u64, segment: &StoredSegment)
-    requires end { from + length bytes.old ≤ 2 ^ 40 }
+    requires end { from + length bytes.old ≤ FILE_END }
     ensures { (k : ℕ) → k < length bytes.old → slice_index bytes.new k ≡ (if covers segment.now (from + k) then slice_index segment.now.bytes (from + k - segment.now.from) else slice_index bytes.old k) }
 {
     let low = from.max(segment.from);

@@ -28,7 +28,7 @@ pub fn block_len(size: u32, block: u32, index: u32) -> u32
 }
 
 /// The blocks that pieces need, each once, as a reader comes to them from piece to piece.
-#[tactic(auto, unfolding(jv_model::specs::Slices::needed_blocks))]
+#[tactic(auto, unfolding(jv_model::specs::blocks::Slices::needed_blocks))]
 pub fn needs(alloc: Global, pieces: &Pieces, block: u32) -> Result<BlockKeys, AllocError>
     requires some { 0 < block }
     requires parts { All IsPart pieces.now }

@@ -12,7 +12,7 @@ use jv_model::{BlockId, Setting};
 const MAX_BLOCKS: u32 = 1024;
 
 /// The block of a volume that a text names, or `None` where it is no name of a block of that volume. Takes no memory.
-#[tactic(auto, unfolding(jv_model::specs::BlockNames::block_name_of))]
+#[tactic(auto, unfolding(jv_model::specs::blocks::BlockNames::block_name_of))]
 pub fn parse_block_name(setting: &Setting, text: &[u8]) -> Option<BlockId>
     ensures { (block : BlockSeen) → (result ≡ Some block) ↔ IsBlockName setting.now block text.now }
 {

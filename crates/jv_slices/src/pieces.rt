@@ -8,7 +8,7 @@ use jv_model::{List, Piece, Pieces, Rec, Spot};
 use std::alloc::{AllocError, Global};
 
 /// Where the byte of a position of a window lies: as the last record of the list says that covers it.
-#[tactic(auto, unfolding(jv_model::specs::Slices::stored_place))]
+#[tactic(auto, unfolding(jv_model::specs::blocks::Slices::stored_place))]
 pub fn byte_at(list: &List, position: u32) -> Spot
     requires { All IsRecord list.now }
     ensures { result ≡ stored_place list.now position }

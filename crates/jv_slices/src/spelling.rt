@@ -11,7 +11,7 @@ const ROOM: usize = 128;
 
 /// The name of a block as an object: of the block at `index` of the slice `id`, which has `size` bytes. Any numbers are
 /// spelled, also those of no block.
-#[tactic(auto, unfolding(jv_model::specs::BlockNames::block_name_of))]
+#[tactic(auto, unfolding(jv_model::specs::blocks::BlockNames::block_name_of))]
 pub fn block_name(
     alloc: Global,
     setting: &Setting,

@@ -1,5 +1,6 @@
 -- The names of blocks as objects.
 use Rattle.std.specs.Prelude.{◌≡◌, ℕ, ◌/◌, ◌%◌, ◌<◌, ◌≤◌, ◌^◌, ◌==◌, if◌then◌else◌, List, [], ◌∷◌, ◌++◌, slice_index, codes, decimal}
+use Rattle.jv_model.specs.declared.limits.TheConstants.{MAX_BLOCKS}
 use Rattle.jv_model.specs.declared.setting.Setting.{Setting}
 use Rattle.jv_model.specs.declared.slice.BlockId.{BlockId}
 
@@ -32,7 +33,7 @@ block_name_of setting id index size = setting.name ++ codes "/chunks/" ++ slice_
 pub record IsBlock (block_size : ℕ) (block : BlockId) : Type 0 where
   pub id : 1 ≤ block.id
   pub id_in_range : block.id < 2 ^ 64
-  pub index : block.index < 1024
+  pub index : block.index < MAX_BLOCKS
   pub some : 1 ≤ block.size
   pub size : block.size ≤ block_size
 

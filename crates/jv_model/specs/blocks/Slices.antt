@@ -1,6 +1,7 @@
 -- Which byte of which slice a position of a window shows, what a reader sees of a window, and which blocks that needs.
 use Rattle.std.specs.Prelude.{◌≡◌, ◌≢◌, ℕ, ◌+◌, ◌-◌, ◌*◌, ◌/◌, ◌<◌, ◌≤◌, Bool, ◌&&◌, ◌==◌, nat_lt, nat_le, if◌then◌else◌, List, [], ◌∷◌, ◌++◌, map, reverse, find, fold, min, Option, None, Some, IsTrue}
 use Rattle.std.specs.List.{flat_map, list_any, range_with_len}
+use Rattle.jv_model.specs.declared.limits.TheConstants.{WINDOW}
 use Rattle.jv_model.specs.declared.slice.Rec.{Rec}
 use Rattle.jv_model.specs.declared.slice.Spot.{Spot}
 use Rattle.jv_model.specs.declared.slice.Spot.TheVariants.{Zero, Slice}
@@ -13,7 +14,7 @@ is_part r = if r.id == 0 then r.size == 0 && r.off == 0 else nat_le (r.off + r.l
 
 -- what a record may be: it shows this in a part of the window
 abbrev pub is_record : Rec → Bool
-is_record r = nat_le 1 r.len && nat_le (r.pos + r.len) 67108864 && is_part r
+is_record r = nat_le 1 r.len && nat_le (r.pos + r.len) WINDOW && is_part r
 
 abbrev pub IsRecord : Rec → Type 0
 IsRecord r = IsTrue (is_record r)

@@ -3,6 +3,7 @@ use Rattle.std.specs.Prelude.{ℕ, ◌-◌, ◌/◌, zero, suc, Bool, true, ◌&
 use Rattle.std.specs.List.{flat_map, list_all, list_any}
 use Rattle.std.specs.Option.{option_map}
 use Rattle.std.specs.Str.{is_utf8}
+use Rattle.jv_model.specs.declared.limits.TheConstants.{MAX_BUCKET, MAX_TRASH_DAYS, MAX_CAPACITY, FULL_COUNT, SPACE_UNIT, MAX_PATH}
 use Rattle.jv_model.specs.declared.setting.Setting.{Setting}
 use Rattle.jv_model.specs.declared.slice.Rec.{Rec}
 use Rattle.jv_model.specs.declared.row.Counters.{Counters}
@@ -35,11 +36,11 @@ abbrev pub is_volume_name : List ℕ → Bool
 is_volume_name name = nat_le 3 (length name) && nat_le (length name) 63 && list_all is_name_byte name && not (slice_index name 0 == 45) && not (slice_index name (length name - 1) == 45)
 
 abbrev pub is_bucket : List ℕ → Bool
-is_bucket bucket = nat_le 1 (length bucket) && nat_le (length bucket) 1024 && is_utf8 bucket
+is_bucket bucket = nat_le 1 (length bucket) && nat_le (length bucket) MAX_BUCKET && is_utf8 bucket
 
 -- of any version from 1 on
 abbrev pub is_setting : Setting → Bool
-is_setting s = nat_le 1 s.version && is_block s.block && nat_le s.trash_days 36500 && nat_le s.capacity 4294967296 && nat_le s.inodes 4611686018427387904 && nat_le s.hash 1 && is_volume_name s.name && is_bucket s.bucket
+is_setting s = nat_le 1 s.version && is_block s.block && nat_le s.trash_days MAX_TRASH_DAYS && nat_le s.capacity MAX_CAPACITY && nat_le s.inodes FULL_COUNT && nat_le s.hash 1 && is_volume_name s.name && is_bucket s.bucket
 
 unfoldable pub setting_bytes : Setting → List ℕ
 setting_bytes s = word s.version ++ word s.block ++ word s.trash_days ++ long s.capacity ++ long s.inodes ++ byte s.hash ++ byte (length s.name) ++ s.name ++ half (length s.bucket) ++ s.bucket
@@ -82,11 +83,11 @@ abbrev pub is_file : Node → Bool
 is_file n = n.parent == 0 && is_nil n.target
 
 abbrev pub is_directory : Node → Bool
-is_directory n = n.length == 4096 && is_nil n.target
+is_directory n = n.length == SPACE_UNIT && is_nil n.target
 
 -- 1 to 4,096 bytes without the byte 0
 abbrev pub is_target : List ℕ → Bool
-is_target target = nat_le 1 (length target) && nat_le (length target) 4096 && list_all (λ b. not (b == 0)) target
+is_target target = nat_le 1 (length target) && nat_le (length target) MAX_PATH && list_all (λ b. not (b == 0)) target
 
 abbrev pub is_symlink : Node → Bool
 is_symlink n = n.parent == 0 && n.length == length n.target && is_target n.target

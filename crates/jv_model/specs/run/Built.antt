@@ -1,6 +1,7 @@
 -- The lines that a session runs today: one client's files in the root, with the answers of success, ENOENT, EEXIST,
 -- EBADF and ENOMEM.
 use Rattle.std.specs.Prelude.{ℕ, ◌+◌, max, Bool, true, false, ◌&&◌, not, ◌==◌, nat_le, List, length, Option, None, Some}
+use Rattle.jv_model.specs.declared.limits.TheConstants.{DEFAULT_BUFFER}
 use Rattle.jv_model.specs.declared.fault.Fault.{Fault}
 use Rattle.jv_model.specs.declared.fault.Fault.TheVariants.{NotFound, AlreadyExists, BadHandle, NoMemory}
 use Rattle.jv_model.specs.declared.op.Op.{Op}
@@ -18,7 +19,7 @@ use Rattle.jv_model.specs.run.Past.{Past, mounts_writeback, transacted}
 
 -- the bytes that may be pending
 abbrev pub pending_limit : ℕ
-pending_limit = 33554432
+pending_limit = DEFAULT_BUFFER
 
 abbrev pub is_built_fault : Fault → Bool
 is_built_fault NotFound = true

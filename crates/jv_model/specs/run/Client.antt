@@ -1,5 +1,6 @@
 -- A client as the model has it: its session, its open files, what it wrote and didn't commit, and what it is doing.
 use Rattle.std.specs.Prelude.{ℕ, ◌+◌, ◌-◌, ◌^◌, min, Bool, true, false, ◌&&◌, ◌||◌, not, ◌==◌, nat_lt, nat_le, if◌then◌else◌, List, [], ◌∷◌, ◌++◌, length, slice_get, slice_set, is_some, Option, None, Some}
+use Rattle.jv_model.specs.declared.limits.TheConstants.{MAX_HANDLES, FILE_END}
 use Rattle.jv_model.specs.declared.basics.Limits.{Limits}
 use Rattle.jv_model.specs.declared.fault.Fault.{Fault}
 use Rattle.jv_model.specs.declared.fault.Fault.TheVariants.{InProgress, NotConnected, BadHandle, TooManyHandles, FileTooLarge}
@@ -123,8 +124,8 @@ submission client op = first_refusal (
     (is_some client.doing || (is_mount op && is_some client.session), InProgress)
     ∷ (not (is_some client.session) && not (needs_no_mount op), NotConnected)
     ∷ (names_handle op && not (is_some (file_of client.handles (handle_in op))), BadHandle)
-    ∷ (gives_handle op && nat_le 1024 (open_count client.handles), TooManyHandles)
-    ∷ (nat_lt (2 ^ 40) (write_end op), FileTooLarge)
+    ∷ (gives_handle op && nat_le MAX_HANDLES (open_count client.handles), TooManyHandles)
+    ∷ (nat_lt FILE_END (write_end op), FileTooLarge)
     ∷ [])
 
 -- what an operation flushes: a file's reader and closer that file, a writer all that is pending where its buffer is full
@@ -150,7 +151,7 @@ left_to_flush OfAll pending = pending
 abbrev pub answers_once_flushed : Op → Bool
 answers_once_flushed (Close handle) = true
 answers_once_flushed (Write handle offset bytes) = true
-answers_once_flushed (Read handle offset len) = nat_le (min (offset + len) (2 ^ 40)) offset
+answers_once_flushed (Read handle offset len) = nat_le (min (offset + len) FILE_END) offset
 answers_once_flushed _ = false
 
 -- an operation submitted

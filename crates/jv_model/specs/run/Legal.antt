@@ -1,5 +1,6 @@
 -- When a journal is legal for one POSIX tree: every entry may stand where it stands, and every line has its entries.
 use Rattle.std.specs.Prelude.{◌≡◌, ℕ, ◌+◌, ◌*◌, ◌≤◌, ◌<◌, min, max, Bool, true, false, ◌&&◌, ◌||◌, not, nat_le, nat_lt, ◌==◌, IsTrue, MatchBool, MatchOption, IsSome, is_some, List, [], ◌∷◌, length, Option, None, Some}
+use Rattle.jv_model.specs.declared.limits.TheConstants.{LAST_MOMENT}
 use Rattle.jv_model.specs.declared.act.Act.{Act}
 use Rattle.jv_model.specs.declared.act.ActKind.{ActKind}
 use Rattle.jv_model.specs.declared.act.ActKind.TheVariants.{Mounted, Meta, Opened, Look, Commit, Quiet, Answered}
@@ -16,15 +17,11 @@ use Rattle.jv_model.specs.run.Pending.{first_segment, bytes_in_range, window_siz
 use Rattle.jv_model.specs.run.Client.{ModelClient, OpenFile, Doing, Stage, Transacting, Flushing, Reading, Replying, is_replying, left_to_flush, answers_once_flushed, file_of, inode_in}
 use Rattle.jv_model.specs.run.Past.{Setup, Past, Due, NoMore, Refusal, Whole, Unbuilt, at_start, begun_to, advance, at_end, transacted, reading, told_of, is_no_more}
 
--- the last moment there is, in seconds
-abbrev pub last_moment : ℕ
-last_moment = 137438953471
-
 -- The clock is asked once a line, before the line's first entry. A moment is the larger of the last one and the
 -- clock's answer, and at most the last moment there is.
 abbrev pub IsMoment : Past → ℕ → Type 0
 IsMoment p at = MatchBool p.has_asked (at ≡ p.at)
-    (MatchOption p.run.clock ((p.at ≤ at) × (at ≤ last_moment)) (λ answers. at ≡ min last_moment (max p.at (answers p.asked))))
+    (MatchOption p.run.clock ((p.at ≤ at) × (at ≤ LAST_MOMENT)) (λ answers. at ≡ min LAST_MOMENT (max p.at (answers p.asked))))
 
 -- the entry that a transaction makes, by its reply
 abbrev pub entry_of_reply : Reply → ActKind

@@ -1,6 +1,7 @@
 -- What a journal so far comes to: the lines begun, the tree and the clients reached, and the views taken. A journal is
 -- read from its first entry on, one entry at a time.
 use Rattle.std.specs.Prelude.{ℕ, zero, suc, ◌+◌, ◌-◌, ◌*◌, ◌/◌, ◌^◌, min, Bool, true, false, ◌&&◌, ◌||◌, not, ◌==◌, nat_lt, nat_le, if◌then◌else◌, List, [], ◌∷◌, ◌++◌, map, length, unwrap_or, Option, None, Some}
+use Rattle.jv_model.specs.declared.limits.TheConstants.{FILE_END}
 use Rattle.jv_model.specs.declared.basics.Limits.{Limits}
 use Rattle.jv_model.specs.declared.act.Act.{Act}
 use Rattle.jv_model.specs.declared.act.ActKind.{ActKind}
@@ -228,7 +229,7 @@ second_read wanted second (Some bytes) more = (if nat_lt (length bytes) wanted
 -- touches, at most two. No file goes past 2^40 bytes.
 abbrev pub reading : List View → ℕ → OpenFile → ℕ → ℕ → ℕ → ℕ → Option (List ℕ)
 reading views client file offset len first second =
-    let stop = min (offset + len) (2 ^ 40) in
+    let stop = min (offset + len) FILE_END in
     let window = offset / window_size in
     let border = (window + 1) * window_size in
     if nat_le stop offset then only_if ((first == 0) && (second == 0)) []

@@ -1,6 +1,7 @@
 -- Bytes that a client has written and not yet committed: a partial map from inode and position to byte, kept as
 -- the list of its bytes in rising order of their places.
 use Rattle.std.specs.Prelude.{ℕ, ◌+◌, ◌%◌, Bool, true, ◌&&◌, ◌||◌, not, ◌==◌, nat_lt, nat_le, if◌then◌else◌, List, [], ◌∷◌, map, filter, Option, None, Some}
+use Rattle.jv_model.specs.declared.limits.TheConstants.{WINDOW}
 
 -- a pending byte and its place
 pub record PendingByte : Type 0 where
@@ -16,7 +17,7 @@ pub record Segment : Type 0 where
 
 -- the positions of a window
 abbrev pub window_size : ℕ
-window_size = 67108864
+window_size = WINDOW
 
 -- whether a byte stands at a place
 abbrev pub stands_at : ℕ → ℕ → PendingByte → Bool

@@ -1,6 +1,7 @@
 -- The whole grammar of a script: which line a text is, if it is one. A text is the bytes of a line without its line feed.
 use Rattle.std.specs.Prelude.{ℕ, ◌+◌, ◌*◌, ◌%◌, Bool, true, false, ◌&&◌, not, ◌==◌, nat_lt, nat_le, if◌then◌else◌, List, [], ◌∷◌, ◌++◌, length, replicate, Option, None, Some, option_map, codes, bytes_eq, sum_by}
 use Rattle.std.specs.List.{slice_split, list_all, flat_map}
+use Rattle.jv_model.specs.declared.limits.TheConstants.{MAX_TICK, MAX_DATA, LAST_MOMENT}
 use Rattle.jv_model.specs.declared.basics.How.{How}
 use Rattle.jv_model.specs.declared.basics.How.TheVariants as how
 use Rattle.jv_model.specs.declared.op.Op.{Op}
@@ -28,7 +29,7 @@ number_up_to limit text = do
 -- the seconds of a tick: 1 to 4,294,967,296
 unfoldable pub seconds_of : List ℕ → Option ℕ
 seconds_of text = do
-  n ← number_up_to 4294967296 text
+  n ← number_up_to MAX_TICK text
   provided (nat_lt 0 n) n
 
 -- a byte that is written as itself: 0x21 to 0x7E, but for `%`
@@ -110,7 +111,7 @@ all_parts_of (text ∷ texts) = do
 unfoldable pub bytes_of_parts : List (List ℕ) → Option (List ℕ)
 bytes_of_parts texts = do
   parts ← all_parts_of texts
-  _ ← at_most 8388608 (sum_by part_length parts)
+  _ ← at_most MAX_DATA (sum_by part_length parts)
   Some (flat_map part_bytes parts)
 
 -- the bytes of a write: `-` for none, or parts joined by `+`
@@ -180,7 +181,7 @@ truncate_of first second = do
 unfoldable pub utimes_of : List ℕ → List ℕ → Option Op
 utimes_of first second = do
   path ← path_of first
-  mtime ← number_up_to 137438953471 second
+  mtime ← number_up_to LAST_MOMENT second
   Some (Utimes path mtime)
 
 unfoldable pub compact_of : List ℕ → List ℕ → Option Op

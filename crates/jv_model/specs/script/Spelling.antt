@@ -1,6 +1,7 @@
 -- How the fields of a script's line are spelled: words, numbers, modes, digits and letters.
 use Rattle.std.specs.Prelude.{ℕ, ◌+◌, ◌-◌, ◌*◌, Bool, true, false, ◌&&◌, ◌||◌, not, ◌==◌, nat_lt, nat_le, if◌then◌else◌, List, [], ◌∷◌, length, Option, None, Some, option_and_then, fold}
 use Rattle.std.specs.List.{slice_split, list_all}
+use Rattle.jv_model.specs.declared.limits.TheConstants.{MAX_DATA, MAX_NAME}
 
 -- the second step, if the first gave a value
 infixl 10 ◌>>=◌
@@ -36,7 +37,7 @@ number_of text = (if is_numeral text then at_most 18446744073709551615 (value_of
 unfoldable pub length_of : List ℕ → Option ℕ
 length_of text = do
   n ← number_of text
-  at_most 8388608 n
+  at_most MAX_DATA n
 
 abbrev pub is_octal_digit : ℕ → Bool
 is_octal_digit c = nat_le 48 c && nat_le c 55
@@ -50,7 +51,7 @@ is_letter_or_digit c = is_decimal_digit c || (nat_le 65 c && nat_le c 90) || (na
 
 -- the name of a file: 1 to 255 letters and digits
 abbrev pub is_name : List ℕ → Bool
-is_name name = nat_lt 0 (length name) && nat_le (length name) 255 && list_all is_letter_or_digit name
+is_name name = nat_lt 0 (length name) && nat_le (length name) MAX_NAME && list_all is_letter_or_digit name
 
 -- whether a text is the path of a file in the root: a slash and a name
 unfoldable pub is_root_path : List ℕ → Bool

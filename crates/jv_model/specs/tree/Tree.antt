@@ -1,10 +1,11 @@
 -- The tree of a file system (POSIX.1-2017, 4.6 "File Hierarchy" and 4.9 "File Times Update", and "Directory" of chapter 3):
 -- nodes by inode, and one map of all entries, keyed by directory and name.
-use Rattle.std.specs.Prelude.{ℕ, ◌+◌, ◌*◌, ◌/◌, max, Bool, ◌&&◌, ◌||◌, not, ◌==◌, nat_lt, nat_le, if◌then◌else◌, List, [], ◌∷◌, is_some, Option, None, Some}
+use Rattle.std.specs.Prelude.{ℕ, ◌+◌, ◌-◌, ◌*◌, ◌/◌, max, Bool, ◌&&◌, ◌||◌, not, ◌==◌, nat_lt, nat_le, if◌then◌else◌, List, [], ◌∷◌, is_some, Option, None, Some}
 use Rattle.std.proofs.Common.{ap}
 use Rattle.std.specs.Ordering.{nat_cmp, on}
 use Rattle.std.specs.Cmp.{on_total}
 use Rattle.std.specs.Cmp.Lexicographic.{slice_cmp, nat_list_cmp_total}
+use Rattle.jv_model.specs.declared.limits.TheConstants.{ROOT, TRASH_ROOT, FULL_COUNT, SPACE_UNIT, GIB}
 use Rattle.jv_model.specs.declared.setting.Setting.{Setting}
 use Rattle.jv_model.specs.FiniteMap.{KeyOrder, Map, number_key, text_key, empty_map, get, insert, sum_over}
 
@@ -65,15 +66,15 @@ pub record Tree : Type 0 where
   pub next_session : ℕ
 
 abbrev pub root : ℕ
-root = 1
+root = ROOT
 
 -- the trash, which has no entry: a walk finds it as `.trash` in the root
 abbrev pub trash_root : ℕ
-trash_root = 9223372032828243968
+trash_root = TRASH_ROOT
 
 -- a stored number that stands here refuses to grow
 abbrev pub full_count : ℕ
-full_count = 4611686018427387904
+full_count = FULL_COUNT
 
 abbrev pub new_node : Kind → ℕ → ℕ → Node
 new_node kind mode now = record { kind = kind; mode = mode; uid = 0; gid = 0; mtime = now; ctime = now }
@@ -93,14 +94,14 @@ fresh_tree setting now = record {
 abbrev pub is_counted : ℕ → Bool
 is_counted inode = not (inode == root) && nat_lt inode trash_root
 
--- a length in whole pages of 4,096 bytes, at least one
+-- a length in whole units of space, at least one
 abbrev pub paged : ℕ → ℕ
-paged length = max 4096 ((length + 4095) / 4096 * 4096)
+paged length = max SPACE_UNIT ((length + (SPACE_UNIT - 1)) / SPACE_UNIT * SPACE_UNIT)
 
 abbrev pub kind_space : Kind → ℕ
 kind_space (File content) = paged content.length
-kind_space (Directory parent) = 4096
-kind_space (Symlink target) = 4096
+kind_space (Directory parent) = SPACE_UNIT
+kind_space (Symlink target) = SPACE_UNIT
 
 abbrev pub node_space : ℕ → Node → ℕ
 node_space inode node = (if is_counted inode then kind_space node.kind else 0)
@@ -116,7 +117,7 @@ used_inodes t = sum_over node_count t.nodes
 
 -- the limits in bytes and inodes; a limit of 0 in the setting stands for 2^62
 abbrev pub space_limit : Setting → ℕ
-space_limit s = (if s.capacity == 0 then full_count else s.capacity * 1073741824)
+space_limit s = (if s.capacity == 0 then full_count else s.capacity * GIB)
 
 abbrev pub inode_limit : Setting → ℕ
 inode_limit s = (if s.inodes == 0 then full_count else s.inodes)

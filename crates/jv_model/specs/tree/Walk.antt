@@ -2,6 +2,7 @@
 -- end is ignored. Symlinks come with the operation that makes them.
 use Rattle.std.specs.Prelude.{ℕ, Bool, true, false, ◌&&◌, ◌||◌, not, ◌==◌, nat_le, nat_eq, if◌then◌else◌, List, [], ◌∷◌, filter, length, is_some, Option, None, Some, Result, Ok, codes}
 use Rattle.std.specs.Cmp.Lexicographic.{pointwise}
+use Rattle.jv_model.specs.declared.limits.TheConstants.{MAX_NAME, MAX_PATH}
 use Rattle.jv_model.specs.declared.fault.Fault.{Fault}
 use Rattle.jv_model.specs.declared.fault.Fault.TheVariants.{NotFound, NotADirectory, Invalid, NameTooLong}
 use Rattle.jv_model.specs.tree.Attempt.{◌>>=◌, require, some_or}
@@ -49,7 +50,7 @@ named_from t dir parent name = (if is_dot name then Ok dir
 abbrev pub stepped : Tree → ℕ → List ℕ → Result ℕ Fault
 stepped t inode name = do
   parent ← some_or (parent_at t inode) NotADirectory
-  _ ← require (nat_le (length name) 255) NameTooLong
+  _ ← require (nat_le (length name) MAX_NAME) NameTooLong
   named_from t inode parent name
 
 abbrev pub walked : Tree → ℕ → List (List ℕ) → Result ℕ Fault
@@ -61,7 +62,7 @@ walked t inode (name ∷ names) = do
 -- the inode that a path leads to from the root
 abbrev pub inode_of : Tree → List ℕ → Result ℕ Fault
 inode_of t path = do
-  _ ← require (nat_le (length path) 4096) NameTooLong
+  _ ← require (nat_le (length path) MAX_PATH) NameTooLong
   walked t root (names_of path)
 
 -- all names but the last one, and the last one
@@ -78,10 +79,10 @@ last_name (_ ∷ other ∷ names) = last_name (other ∷ names)
 -- the entry that a path names. A path without a last name is refused; POSIX has several answers there.
 abbrev pub entry_of : Tree → List ℕ → Result EntryKey Fault
 entry_of t path = do
-  _ ← require (nat_le (length path) 4096) NameTooLong
+  _ ← require (nat_le (length path) MAX_PATH) NameTooLong
   name ← some_or (last_name (names_of path)) Invalid
   _ ← require (not (is_dot name || is_dot_dot name)) Invalid
   dir ← walked t root (all_but_last (names_of path))
   _ ← require (is_some (parent_at t dir)) NotADirectory
-  _ ← require (nat_le (length name) 255) NameTooLong
+  _ ← require (nat_le (length name) MAX_NAME) NameTooLong
   Ok (record { dir = dir; name = name })

@@ -1,6 +1,6 @@
 -- The clock's answer gives the line its moment.
 use Rattle.std.proofs.Common.{◌≤◌, max, ap, subst, ◌∙◌}
-use Rattle.jv_model.specs.run.Legal.{last_moment}
+use Rattle.jv_model.specs.declared.limits.TheConstants.{LAST_MOMENT}
 use Rattle.jv_session.specs.Agrees.{ScheduleValue}
 use Rattle.jv_session.specs.contracts.schedule.Schedule.{the_view}
 use Rattle.jv_session.proofs.MomentLaws.{run_of_told}
@@ -12,6 +12,6 @@ returns-clause-runs g c =
     let at = c.max.result in
     run_of_told c.args.op.now c.args.number c.in-Ok-now.now at _ _ c.args.journal.now.acts c.reserve.new.self.acts c.answer_or-text.new.journal.acts
     s c.answer_or-text.new.self (record (the_view c.self-2.inside) { at = at }) c.answer_or-text.result
-    c.in-Ok-now.ensures.answer.answer c.in-Ok-now.ensures.answer.rest (subst (λ n. n ≤ last_moment) c.seconds.ensures.seconds c.seconds.ensures.limit)
+    c.in-Ok-now.ensures.answer.answer c.in-Ok-now.ensures.answer.rest (subst (λ n. n ≤ LAST_MOMENT) c.seconds.ensures.seconds c.seconds.ensures.limit)
     (c.max.ensures ∙ ap (λ (x : ScheduleValue). max x.at c.seconds.result) c.self.view_is ∙ ap (max s.at) c.seconds.ensures.seconds)
     c.reserve.ensures.same (ap (λ (x : ScheduleValue). record x { at = at }) c.self-2.view_is) c.answer_or-text.ensures.runs
