@@ -1,6 +1,7 @@
 //! A volume's setting, and what `stat` and `statfs` tell.
 use crate::basics::Moment;
 use crate::bytes::Text;
+use crate::limits::{FULL_COUNT, GIB};
 
 /// What a volume was formatted with.
 #[derive(Debug, Drop, PartialEq, Eq)]
@@ -21,6 +22,33 @@ pub struct Setting {
     pub name: Text,
     /// Where the objects lie, 1 to 1,024 bytes.
     pub bucket: Text,
+}
+
+impl Setting {
+    ghost use Rattle.std.specs.Prelude.{◌≡◌};
+    ghost use Rattle.jv_model.specs.tree.Tree.{space_limit, inode_limit};
+
+    /// The greatest used space in bytes.
+    pub fn space_limit(&self) -> u128
+        ensures { result ≡ space_limit self.now }
+    {
+        if self.capacity == 0 {
+            u128::from(FULL_COUNT)
+        } else {
+            u128::from(self.capacity) * u128::from(GIB)
+        }
+    }
+
+    /// The greatest number of used inodes.
+    pub fn inode_limit(&self) -> u64
+        ensures { result ≡ inode_limit self.now }
+    {
+        if self.inodes == 0 {
+            FULL_COUNT
+        } else {
+            self.inodes
+        }
+    }
 }
 
 /// What an inode is.
