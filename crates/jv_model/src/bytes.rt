@@ -22,17 +22,3 @@ pub fn copied(alloc: Global, bytes: &[u8]) -> Result<Bytes, AllocError>
 {
     Ok(Sequence::from_vec(bytes.to_vec(alloc)?))
 }
-
-#[cfg(test)]
-mod tests {
-    use super::*;
-    use std::test::Fail;
-
-    #[test]
-    fn copies_and_grows(rt: HostRuntime) -> Result<(), Fail> {
-        let mut bytes = copied(rt.alloc(), b"hi")?;
-        bytes.push(33)?;
-        assert_eq!(rt; bytes.as_slice(), b"hi!".as_slice());
-        Ok(())
-    }
-}

@@ -175,32 +175,3 @@ pub enum Finding {
 }
 
 pub type Findings = Sequence<Finding>;
-
-#[cfg(test)]
-mod tests {
-    use super::*;
-    use std::test::Fail;
-
-    fn key(alloc: Global, tab: u8, a: u64, b: &[u8]) -> Result<RowKey, AllocError> {
-        let b = copied(alloc, b)?;
-        Ok(RowKey { tab, a, b })
-    }
-
-    #[test]
-    fn keys_go_by_table_number_and_bytes(rt: HostRuntime) -> Result<(), Fail> {
-        let alloc = rt.alloc();
-        for (first, second) in [
-            ((1u8, 9u64, b"z".as_slice()), (2u8, 1u64, b"a".as_slice())),
-            ((3, 1, b"b"), (3, 2, b"a")),
-            ((3, 1, b"a"), (3, 1, b"a\0")),
-            ((3, 1, b""), (3, 1, b"a")),
-            ((3, 1, b"ab"), (3, 1, b"b")),
-        ] {
-            let lower = key(alloc, first.0, first.1, first.2)?;
-            let upper = key(alloc, second.0, second.1, second.2)?;
-            assert!(rt; lower < upper);
-            assert_eq!(rt; lower.copied(alloc)?, lower);
-        }
-        Ok(())
-    }
-}
