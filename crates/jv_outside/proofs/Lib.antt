@@ -1,3 +1,4 @@
-pub mod ToldLemmas
-pub mod StoreLemmas
-pub mod ScanLemmas
+pub mod StreamLaws
+pub mod TicksLaws
+pub mod StoredLaws
+pub mod ScanLaws

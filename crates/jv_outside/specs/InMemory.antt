@@ -1,10 +1,13 @@
 -- What contracts see of the devices in memory.
-use Rattle.std.specs.Prelude.{◌≡◌, ℕ, List, refl}
-use Rattle.std.specs.Coded.{Coded, code_by, coded×, coded_list, coded_ℕ}
+use Rattle.std.specs.Prelude.{◌≡◌, ℕ, List, Option, Some, refl}
+use Rattle.std.specs.Coded.{Coded, code_by, coded×, coded_list, coded_option, coded_ℕ}
 use Rattle.jv_model.specs.rows.RowKeys.{RowMap, row_map_code}
 use Rattle.jv_outside.specs.declared.calls.Fails.{Fails}
 use Rattle.jv_outside.specs.declared.calls.Fails.TheVariants.{At}
 use Rattle.jv_outside.specs.Calls.{CallsValue}
+use Rattle.jv_outside.specs.Store.{Store}
+use Rattle.jv_outside.specs.Stream.{Stream}
+use Rattle.jv_outside.specs.Ticks.{Ticks}
 
 -- the bytes left, the most that a call gives, and the calls
 pub record SourceValue : Type 0 where
@@ -23,10 +26,34 @@ pub record ClockValue : Type 0 where
   pub at : ℕ
   pub calls : CallsValue
 
--- the rows, and the calls
+-- the rows, the place where the keeper was opened, and the calls
 pub record KeeperValue : Type 0 where
   pub rows : RowMap
+  pub opened : Option (List ℕ)
   pub calls : CallsValue
+
+-- the same of a keeper that counts no calls
+pub record OpenedRows : Type 0 where
+  pub rows : RowMap
+  pub opened : Option (List ℕ)
+
+-- bytes that are all known, and the faults of the calls
+abbrev pub stream_of : List ℕ → CallsValue → Stream
+stream_of bytes calls = record { content = Some bytes; faults = calls.faults }
+
+-- bytes of a device that never fails
+abbrev pub never_failing : Option (List ℕ) → Stream
+never_failing content = record { content = content; faults = 0 }
+
+-- a clock that answers one moment, whatever the calls are
+abbrev pub ticks_at : ℕ → ℕ → Ticks
+ticks_at at faults = record { answers = Some (λ _. at); faults = faults }
+
+abbrev pub store_of : KeeperValue → Store
+store_of keeper = record { rows = Some keeper.rows; opened = keeper.opened; faults = keeper.calls.faults }
+
+abbrev pub never_failing_store : OpenedRows → Store
+never_failing_store keeper = record { rows = Some keeper.rows; opened = keeper.opened; faults = 0 }
 
 abbrev pub numbers_of : Fails → List ℕ
 numbers_of (At numbers) = numbers
@@ -40,5 +67,14 @@ calls_code =
     code_by ((ℕ × ℕ) × List ℕ) (coded× (coded× coded_ℕ coded_ℕ) (coded_list coded_ℕ)) (λ c. ((c.made, c.faults), numbers_of c.fails))
     (λ p. record { made = p.0.0; fails = At p.1; faults = p.0.1 }) (λ c i. record c { fails = At-numbers c.fails i })
 
+abbrev pub opened_code : Coded (RowMap × Option (List ℕ))
+opened_code = coded× row_map_code (coded_option (coded_list coded_ℕ))
+
+abbrev pub opened_rows_code : Coded OpenedRows
+opened_rows_code =
+    code_by (RowMap × Option (List ℕ)) opened_code (λ k. (k.rows, k.opened)) (λ p. record { rows = p.0; opened = p.1 }) (λ _. refl)
+
 abbrev pub keeper_code : Coded KeeperValue
-keeper_code = code_by (RowMap × CallsValue) (coded× row_map_code calls_code) (λ k. (k.rows, k.calls)) (λ p. record { rows = p.0; calls = p.1 }) (λ _. refl)
+keeper_code =
+    code_by ((RowMap × Option (List ℕ)) × CallsValue) (coded× opened_code calls_code) (λ k. ((k.rows, k.opened), k.calls))
+    (λ p. record { rows = p.0.0; opened = p.0.1; calls = p.1 }) (λ _. refl)

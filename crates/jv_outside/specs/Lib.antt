@@ -1,7 +1,9 @@
 -- The definitions that contracts cite.
 pub mod Causes
-pub mod Calls
-pub mod Told
-pub mod InMemory
 pub mod Rows
+pub mod Stream
+pub mod Ticks
 pub mod Store
+pub mod Calls
+pub mod InMemory
+pub mod Stored

@@ -1,4 +1,3 @@
-//! Changes of rows that are made together.
 ghost use Rattle.std.specs.Prelude.{◌≡◌, ◌^◌, ◌<◌, [], ◌∷◌, ◌++◌, length, OnOk, OnErr, IsTrue, ◌↔◌};
 
 use jv_model::{Bytes, RowKey, Sequence};
@@ -41,7 +40,7 @@ impl Batch {
         }
     }
 
-    /// Adds that the row has these bytes from then on. Where memory is wanting, nothing has changed.
+    /// Adds that the row has these bytes from then on. Out of memory, nothing has changed.
     pub fn put(&mut self, key: RowKey, bytes: Bytes) -> Result<(), AllocError>
         ensures ok { OnOk result (self.new ≡ self.old ++ Put key bytes ∷ []) }
         ensures err { OnErr result (self.new ≡ self.old) }
@@ -49,7 +48,7 @@ impl Batch {
         self.changes.push(Change::Put(key, bytes))
     }
 
-    /// Adds that the row is gone from then on. Where memory is wanting, nothing has changed.
+    /// Adds that the row is gone from then on. Out of memory, nothing has changed.
     pub fn del(&mut self, key: RowKey) -> Result<(), AllocError>
         ensures ok { OnOk result (self.new ≡ self.old ++ Del key ∷ []) }
         ensures err { OnErr result (self.new ≡ self.old) }
@@ -57,7 +56,7 @@ impl Batch {
         self.changes.push(Change::Del(key))
     }
 
-    /// How many changes.
+    /// The number of changes.
     pub fn len(&self) -> usize
         ensures length { result ≡ length self.now }
         ensures small { result < 2 ^ 63 }

@@ -1,7 +1,6 @@
-//! Which calls of a device in memory fail.
 ghost use Rattle.std.specs.Prelude.{◌≡◌, ℕ, ◌+◌, ◌-◌, ◌^◌, min, Bool, true, false, is_err, IfErr};
 ghost use Rattle.jv_model.specs.declared.fault.Down.TheVariants.{Failed};
-ghost use Rattle.jv_outside.specs.Causes.{HasCause};
+ghost use Rattle.jv_outside.specs.Causes.{HasFailed};
 
 use jv_model::{Down, Sequence};
 use std::marker::Model;
@@ -9,7 +8,7 @@ use std::marker::Model;
 /// Numbers in a row.
 pub type NumberList = Sequence<u64>;
 
-/// Which calls of a device in memory are to fail, by their numbers from 1.
+/// Which calls of a device in memory fail, by their numbers from 1.
 #[derive(Debug, Drop)]
 pub enum Fails {
     /// The calls of these numbers.
@@ -29,7 +28,7 @@ impl Fails {
     }
 }
 
-/// The calls of a device in memory. Both counts are of 64 bits and stand at their end.
+/// The calls of a device in memory. Both counts saturate at 2^64 - 1.
 #[derive(Debug, Drop)]
 pub(crate) struct Calls {
     made: u64,
@@ -63,7 +62,7 @@ impl Calls {
     pub(crate) fn begin(&mut self) -> Result<(), Down>
         ensures counted { self.new ≡ after_call (is_err result) self.old }
         ensures fails { is_err result ≡ fails_next self.old }
-        ensures cause { HasCause self.old.faults self.new.faults result }
+        ensures cause { IfErr result (HasFailed self.old.faults self.new.faults) }
     {
         self.made = self.made.saturating_add(1);
         if self.fails.includes(self.made) {
@@ -76,17 +75,17 @@ impl Calls {
     pub(crate) fn fault<T>(&mut self) -> Result<T, Down>
         ensures counted { self.new ≡ after_fault self.old }
         ensures failed { result ≡ Err Failed }
-        ensures cause { HasCause self.old.faults self.new.faults result }
+        ensures cause { IfErr result (HasFailed self.old.faults self.new.faults) }
     {
         fault(&mut self.faults)
     }
 }
 
-/// Counts a fault, and gives its error.
+/// Counts a fault, and returns its error.
 pub(crate) fn fault<T>(faults: &mut u64) -> Result<T, Down>
     ensures counted { faults.new ≡ min (faults.old + 1) (2 ^ 64 - 1) }
     ensures failed { result ≡ Err Failed }
-    ensures cause { HasCause faults.old faults.new result }
+    ensures cause { IfErr result (HasFailed faults.old faults.new) }
 {
     *faults = faults.saturating_add(1);
     Err(Down::Failed)

@@ -1,21 +1,15 @@
-//! Moments.
-ghost use Rattle.std.specs.Prelude.{ℕ, Option};
-ghost use Rattle.jv_outside.specs.Causes.{HasCause};
-ghost use Rattle.jv_outside.specs.Told.{ClockTells};
+ghost use Rattle.jv_outside.specs.Ticks.{Ticks, Answers};
 
 use jv_model::{Down, Moment};
 
-/// What tells the moment.
+/// A clock of whole seconds since 1970, up to [`jv_model::LAST_MOMENT`].
 pub trait Clock {
-    // The answers to come, by their number from 0, where the clock tells them. It may stop telling, and never
-    // begins again.
-    ghost answers: { Self → Option (ℕ → ℕ) };
+    // The answers to come, where they are known, and how many calls failed: a count of 64 bits at least, which
+    // saturates.
+    ghost seen: { Self → Ticks };
 
-    // How many calls failed. An adapter's count is of 64 bits, and stands at its end.
-    ghost faults: { Self → ℕ };
-
-    /// The moment now. After an error the answers to come are the same.
+    /// The moment now. Returns [`Down::Failed`] if the clock failed, and then the answers to come are the same. It is
+    /// never out of memory.
     fn now(&mut self) -> Result<Moment, Down>
-        ensures answer { ClockTells (answers self.old) (answers self.new) result }
-        ensures cause { HasCause (faults self.old) (faults self.new) result };
+        ensures { Answers (seen self.old) (seen self.new) result };
 }

@@ -27,6 +27,3 @@ pub use mem_source::{MemSource, NeverSource};
 pub use sink::{Sink, write_whole};
 pub use source::Source;
 pub use standard::{Reading, Ticking, Writing};
-
-#[cfg(test)]
-mod tests;

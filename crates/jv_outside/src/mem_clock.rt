@@ -1,8 +1,7 @@
-//! Clocks in memory.
-ghost use Rattle.std.specs.Prelude.{◌≡◌, ℕ, Option, Some, Ok, IfOk, is_err};
+ghost use Rattle.std.specs.Prelude.{◌≡◌, Ok, is_err};
 ghost use Rattle.jv_outside.specs.Calls.{fails_next, after_call};
-ghost use Rattle.jv_outside.specs.Causes.{HasCause};
-ghost use Rattle.jv_outside.specs.Told.{ClockTells};
+ghost use Rattle.jv_outside.specs.InMemory.{ticks_at};
+ghost use Rattle.jv_outside.specs.Ticks.{Answers};
 
 use crate::calls::{Calls, Fails};
 use crate::clock::Clock;
@@ -38,13 +37,11 @@ impl MemClock {
 }
 
 impl Clock for MemClock {
-    ghost answers = { λ c. Some (λ _. c.at) };
-
-    ghost faults = { λ c. c.calls.faults };
+    ghost seen = { λ c. ticks_at c.at c.calls.faults };
 
     fn now(&mut self) -> Result<Moment, Down>
-        ensures answer { ClockTells (Some (λ (_ : ℕ). self.old.at)) (Some (λ (_ : ℕ). self.new.at)) result }
-        ensures cause { HasCause self.old.calls.faults self.new.calls.faults result }
+        ensures answers { Answers (ticks_at self.old.at self.old.calls.faults)
+            (ticks_at self.new.at self.new.calls.faults) result }
         ensures fails { is_err result ≡ fails_next self.old.calls }
         ensures calls { self.new.calls ≡ after_call (is_err result) self.old.calls }
         ensures same { self.new.at ≡ self.old.at }
@@ -78,13 +75,10 @@ impl NeverClock {
 }
 
 impl Clock for NeverClock {
-    ghost answers = { λ at. Some (λ _. at) };
-
-    ghost faults = { λ _. 0 };
+    ghost seen = { λ at. ticks_at at 0 };
 
     fn now(&mut self) -> Result<Moment, Down>
-        ensures answer { ClockTells (Some (λ (_ : ℕ). self.old)) (Some (λ (_ : ℕ). self.new)) result }
-        ensures cause { HasCause 0 0 result }
+        ensures answers { Answers (ticks_at self.old 0) (ticks_at self.new 0) result }
         ensures same { self.new ≡ self.old }
         ensures moment { result ≡ Ok self.old }
     {

@@ -1,19 +1,19 @@
 //! Keepers in memory. Their `get` and `commit` take time logarithmic in the number of rows, and `scan` that and a time
-//! linear in the rows that it gives; the first call after `new`, which brings the rows into order, takes that for each row.
-ghost use Rattle.std.specs.Prelude.{◌≡◌, ◌↔◌, IsTrue, IsOk, IfOk, IfErr, OnOk, OnErr};
+//! linear in the rows that it returns; the first call after `new`, which brings the rows into order, takes that for each
+//! row.
+ghost use Rattle.std.specs.Prelude.{◌≡◌, ◌↔◌, IsTrue, IfErr, None};
 ghost use Rattle.std.specs.Option.{option_copied};
 ghost use Rattle.jv_model.specs.declared.fault.Down.TheVariants.{Failed, Memory};
-ghost use Rattle.jv_model.specs.FiniteMap.{get};
 ghost use Rattle.jv_model.specs.rows.RowKeys.{row_map};
 ghost use Rattle.jv_outside.specs.Calls.{fails_next, after_call};
-ghost use Rattle.jv_outside.specs.Causes.{MayFail};
-ghost use Rattle.jv_outside.specs.Rows.{applied, rows_after};
+ghost use Rattle.jv_outside.specs.InMemory.{store_of, never_failing_store};
+ghost use Rattle.jv_outside.specs.Store.{Opens, Finds, Scans, Commits};
 
 use crate::batch::Batch;
 use crate::calls::{Calls, Fails};
 use crate::keeper::Keeper;
 use crate::store::RowStore;
-use jv_model::{Bytes, Down, RowKey, Rows, Text};
+use jv_model::{Bytes, Down, RowKey, Rows, Text, copied};
 use std::alloc::Global;
 use std::marker::Model;
 
@@ -21,7 +21,9 @@ use std::marker::Model;
 #[derive(Debug, Drop)]
 pub struct MemKeeper {
     store: RowStore,
+    opened: Option<Text>,
     calls: Calls,
+    alloc: Global,
 }
 
 impl Model for MemKeeper {
@@ -31,45 +33,42 @@ impl Model for MemKeeper {
 
     ghost coded = { keeper_code };
 
-    ghost use Rattle.jv_outside.specs.Store.{stored};
+    ghost use Rattle.jv_outside.specs.Stored.{stored};
 
-    ghost view = { λ k. record { rows = stored k.store; calls = k.calls } };
+    ghost view = { λ k. record { rows = stored k.store; opened = k.opened; calls = k.calls } };
 }
 
 impl MemKeeper {
-    /// A keeper of these rows. Takes no memory. Of rows with one key the first stands.
+    /// A keeper of these rows, which isn't opened anywhere. Takes no memory. Of rows with one key the first stands.
     pub fn new(alloc: Global, rows: Rows, fails: Fails) -> MemKeeper
         ensures rows { result.rows ≡ row_map rows }
+        ensures opened { result.opened ≡ None }
         ensures calls { result.calls ≡ record { made = 0; fails = fails; faults = 0 } }
     {
         MemKeeper {
             store: RowStore::new(alloc, rows),
+            opened: None,
             calls: Calls::new(fails),
+            alloc,
         }
     }
 }
 
 impl Keeper for MemKeeper {
-    ghost use Rattle.std.specs.Prelude.{Some};
+    ghost seen = { λ k. store_of k };
 
-    ghost rows = { λ k. Some k.rows };
-
-    ghost faults = { λ k. k.calls.faults };
-
-    fn attach(&mut self, _place: &Text) -> Result<(), Down>
-        ensures rows { Some self.new.rows ≡ Some self.old.rows }
-        ensures cause { MayFail self.old.calls.faults self.new.calls.faults result }
+    fn attach(&mut self, place: &Text) -> Result<(), Down>
+        ensures opens { Opens (store_of self.old) (store_of self.new) result place.now }
         ensures fails { (result ≡ Err Failed) ↔ IsTrue (fails_next self.old.calls) }
         ensures calls { self.new.calls ≡ after_call (fails_next self.old.calls) self.old.calls }
-        ensures failed { IfErr result (λ e. e ≡ Failed) }
     {
-        self.calls.begin()
+        self.calls.begin()?;
+        self.opened = Some(copied(self.alloc, place.as_slice())?);
+        Ok(())
     }
 
     fn get(&mut self, key: &RowKey) -> Result<Option<Bytes>, Down>
-        ensures rows { Some self.new.rows ≡ Some self.old.rows }
-        ensures value { IfOk result (λ value. value ≡ get self.old.rows key.now) }
-        ensures cause { MayFail self.old.calls.faults self.new.calls.faults result }
+        ensures finds { Finds (store_of self.old) (store_of self.new) result key.now }
         ensures fails { (result ≡ Err Failed) ↔ IsTrue (fails_next self.old.calls) }
         ensures calls { self.new.calls ≡ after_call (fails_next self.old.calls) self.old.calls }
     {
@@ -78,10 +77,8 @@ impl Keeper for MemKeeper {
     }
 
     fn scan(&mut self, tab: u8, after: Option<&RowKey>, n: u32) -> Result<Rows, Down>
-        ensures rows { Some self.new.rows ≡ Some self.old.rows }
-        ensures found { IfOk result (λ found.
-            found ≡ rows_after self.old.rows tab (option_copied after.entry) n) }
-        ensures cause { MayFail self.old.calls.faults self.new.calls.faults result }
+        ensures scans { Scans (store_of self.old) (store_of self.new) result
+            tab (option_copied after.entry) n }
         ensures fails { (result ≡ Err Failed) ↔ IsTrue (fails_next self.old.calls) }
         ensures calls { self.new.calls ≡ after_call (fails_next self.old.calls) self.old.calls }
     {
@@ -90,9 +87,7 @@ impl Keeper for MemKeeper {
     }
 
     fn commit(&mut self, batch: &Batch) -> Result<(), Down>
-        ensures ok { OnOk result (Some self.new.rows ≡ Some (applied batch.now self.old.rows)) }
-        ensures err { OnErr result (Some self.new.rows ≡ Some self.old.rows) }
-        ensures cause { MayFail self.old.calls.faults self.new.calls.faults result }
+        ensures commits { Commits (store_of self.old) (store_of self.new) result batch.now }
         ensures fails { (result ≡ Err Failed) ↔ IsTrue (fails_next self.old.calls) }
         ensures calls { self.new.calls ≡ after_call (fails_next self.old.calls) self.old.calls }
     {
@@ -105,74 +100,69 @@ impl Keeper for MemKeeper {
 #[derive(Debug, Drop)]
 pub struct NeverKeeper {
     store: RowStore,
+    opened: Option<Text>,
+    alloc: Global,
 }
 
 impl Model for NeverKeeper {
-    ghost use Rattle.jv_model.specs.rows.RowKeys.{RowMap, row_map_code};
+    ghost use Rattle.jv_outside.specs.InMemory.{OpenedRows, opened_rows_code};
 
-    ghost Value = { RowMap };
+    ghost Value = { OpenedRows };
 
-    ghost coded = { row_map_code };
+    ghost coded = { opened_rows_code };
 
-    ghost use Rattle.jv_outside.specs.Store.{stored};
+    ghost use Rattle.jv_outside.specs.Stored.{stored};
 
-    ghost view = { λ k. stored k.store };
+    ghost view = { λ k. record { rows = stored k.store; opened = k.opened } };
 }
 
 impl NeverKeeper {
-    /// A keeper of these rows. Takes no memory. Of rows with one key the first stands.
+    /// A keeper of these rows, which isn't opened anywhere. Takes no memory. Of rows with one key the first stands.
     pub fn new(alloc: Global, rows: Rows) -> NeverKeeper
-        ensures { result ≡ row_map rows }
+        ensures rows { result.rows ≡ row_map rows }
+        ensures opened { result.opened ≡ None }
     {
         NeverKeeper {
             store: RowStore::new(alloc, rows),
+            opened: None,
+            alloc,
         }
     }
 }
 
 impl Keeper for NeverKeeper {
-    ghost use Rattle.std.specs.Prelude.{Some};
+    ghost seen = { λ k. never_failing_store k };
 
-    ghost rows = { λ k. Some k };
-
-    ghost faults = { λ _. 0 };
-
-    fn attach(&mut self, _place: &Text) -> Result<(), Down>
-        ensures rows { Some self.new ≡ Some self.old }
-        ensures cause { MayFail 0 0 result }
-        ensures ok { IsOk result }
+    fn attach(&mut self, place: &Text) -> Result<(), Down>
+        ensures opens { Opens (never_failing_store self.old) (never_failing_store self.new)
+            result place.now }
+        ensures memory { IfErr result (λ e. e ≡ Memory) }
     {
+        self.opened = Some(copied(self.alloc, place.as_slice())?);
         Ok(())
     }
 
     fn get(&mut self, key: &RowKey) -> Result<Option<Bytes>, Down>
-        ensures rows { Some self.new ≡ Some self.old }
-        ensures value { IfOk result (λ value. value ≡ get self.old key.now) }
-        ensures cause { MayFail 0 0 result }
+        ensures finds { Finds (never_failing_store self.old) (never_failing_store self.new)
+            result key.now }
         ensures memory { IfErr result (λ e. e ≡ Memory) }
     {
         Ok(self.store.get(key)?)
     }
 
     fn scan(&mut self, tab: u8, after: Option<&RowKey>, n: u32) -> Result<Rows, Down>
-        ensures rows { Some self.new ≡ Some self.old }
-        ensures found { IfOk result (λ found.
-            found ≡ rows_after self.old tab (option_copied after.entry) n) }
-        ensures cause { MayFail 0 0 result }
+        ensures scans { Scans (never_failing_store self.old) (never_failing_store self.new) result
+            tab (option_copied after.entry) n }
         ensures memory { IfErr result (λ e. e ≡ Memory) }
     {
         Ok(self.store.scan(tab, after, n)?)
     }
 
     fn commit(&mut self, batch: &Batch) -> Result<(), Down>
-        ensures ok { OnOk result (Some self.new ≡ Some (applied batch.now self.old)) }
-        ensures err { OnErr result (Some self.new ≡ Some self.old) }
-        ensures cause { MayFail 0 0 result }
+        ensures commits { Commits (never_failing_store self.old) (never_failing_store self.new)
+            result batch.now }
         ensures memory { IfErr result (λ e. e ≡ Memory) }
     {
         Ok(self.store.commit(batch)?)
     }
 }
-
-#[cfg(test)]
-mod tests;

@@ -1,17 +1,15 @@
-//! Sinks in memory.
-ghost use Rattle.std.specs.Prelude.{◌≡◌, ℕ, ◌-◌, ◌^◌, ◌<◌, min, List, length, Option, Some, Ok, IfOk, IsErr, is_err, IsTrue};
-ghost use Rattle.std.specs.Io.{WritesAtMost};
+ghost use Rattle.std.specs.Prelude.{◌≡◌, ◌-◌, ◌^◌, ◌<◌, min, length, Some, Ok, IfOk, IsErr, is_err, IsTrue};
 ghost use Rattle.std.specs.Option.{option_copied};
 ghost use Rattle.jv_outside.specs.Calls.{fails_next, after_call};
-ghost use Rattle.jv_outside.specs.Causes.{HasCause};
-ghost use Rattle.jv_outside.specs.Told.{TakesFront};
+ghost use Rattle.jv_outside.specs.InMemory.{never_failing, stream_of};
+ghost use Rattle.jv_outside.specs.Stream.{Writes};
 
 use crate::calls::{Calls, Fails};
 use crate::sink::Sink;
 use jv_model::{Bytes, Down};
 use std::marker::Model;
 
-/// A sink that keeps the bytes that it takes, and some of whose calls fail. Want of memory is a fault of its call.
+/// A sink that keeps the bytes that it takes, and some of whose calls fail. A call that is out of memory fails.
 #[derive(Debug, Drop)]
 pub struct MemSink {
     taken: Vec<u8>,
@@ -63,15 +61,11 @@ impl MemSink {
 }
 
 impl Sink for MemSink {
-    ghost taken = { λ s. Some s.taken };
-
-    ghost faults = { λ s. s.calls.faults };
+    ghost seen = { λ s. stream_of s.taken s.calls };
 
     fn write(&mut self, piece: &[u8]) -> Result<usize, Down>
-        ensures bound { WritesAtMost result piece.now }
-        ensures some { IfOk result (λ count. 0 < length piece.now → 0 < count) }
-        ensures bytes { TakesFront (Some self.old.taken) (Some self.new.taken) result piece.now }
-        ensures cause { HasCause self.old.calls.faults self.new.calls.faults result }
+        ensures writes { Writes (stream_of self.old.taken self.old.calls)
+            (stream_of self.new.taken self.new.calls) result piece.now }
         ensures count { IfOk result (λ n. n ≡ min (length piece.now) self.old.most) }
         ensures fails { IsTrue (fails_next self.old.calls) → IsErr result }
         ensures calls { self.new.calls ≡ after_call (is_err result) self.old.calls }
@@ -86,7 +80,7 @@ impl Sink for MemSink {
     }
 }
 
-/// A sink that never fails. It keeps the bytes that it takes until memory is wanting, and from then on none.
+/// A sink that never fails. It keeps the bytes that it takes until it is out of memory, and from then on none.
 #[derive(Debug, Drop)]
 pub struct NeverSink {
     taken: Option<Vec<u8>>,
@@ -123,15 +117,10 @@ impl NeverSink {
 }
 
 impl Sink for NeverSink {
-    ghost taken = { λ s. s };
-
-    ghost faults = { λ _. 0 };
+    ghost seen = { λ s. never_failing s };
 
     fn write(&mut self, piece: &[u8]) -> Result<usize, Down>
-        ensures bound { WritesAtMost result piece.now }
-        ensures some { IfOk result (λ count. 0 < length piece.now → 0 < count) }
-        ensures bytes { TakesFront self.old self.new result piece.now }
-        ensures cause { HasCause 0 0 result }
+        ensures writes { Writes (never_failing self.old) (never_failing self.new) result piece.now }
         ensures whole { result ≡ Ok (length piece.now) }
     {
         if let Some(bytes) = &mut self.taken {

@@ -1,9 +1,7 @@
-//! Sources in memory.
-ghost use Rattle.std.specs.Prelude.{◌≡◌, ℕ, ◌-◌, ◌^◌, ◌<◌, ◌≤◌, min, List, length, take, drop, Some, Ok, IfOk, is_err};
-ghost use Rattle.std.specs.Io.{ReadsAtMost};
-ghost use Rattle.std.specs.Io.KnownBytes.{ReadConsumes};
+ghost use Rattle.std.specs.Prelude.{◌≡◌, ◌-◌, ◌^◌, ◌<◌, min, length, take, drop, Some, Ok, IfOk, is_err};
 ghost use Rattle.jv_outside.specs.Calls.{fails_next, after_call};
-ghost use Rattle.jv_outside.specs.Causes.{HasCause};
+ghost use Rattle.jv_outside.specs.InMemory.{never_failing, stream_of};
+ghost use Rattle.jv_outside.specs.Stream.{Reads};
 
 use crate::calls::{Calls, Fails};
 use crate::source::Source;
@@ -78,7 +76,7 @@ impl Model for MemSource {
 }
 
 impl MemSource {
-    /// A source of these bytes. A call gives as many as fit.
+    /// A source of these bytes. A call reads as many as fit.
     pub fn new(left: Bytes, fails: Fails) -> MemSource
         ensures left { result.left ≡ left }
         ensures most { result.most ≡ 2 ^ 64 - 1 }
@@ -91,7 +89,7 @@ impl MemSource {
         }
     }
 
-    /// The same source, whose calls give at most `most` bytes each.
+    /// The same source, whose calls read at most `most` bytes each.
     pub fn in_pieces_of(self, most: usize) -> MemSource
         requires { 0 < most }
         ensures { result ≡ record self { most = most } }
@@ -102,14 +100,11 @@ impl MemSource {
 }
 
 impl Source for MemSource {
-    ghost left = { λ s. Some s.left };
-
-    ghost faults = { λ s. s.calls.faults };
+    ghost seen = { λ s. stream_of s.left s.calls };
 
     fn read(&mut self, into: &mut [u8]) -> Result<usize, Down>
-        ensures bound { ReadsAtMost result into.new }
-        ensures bytes { ReadConsumes (Some self.old.left) (Some self.new.left) result into.new }
-        ensures cause { HasCause self.old.calls.faults self.new.calls.faults result }
+        ensures reads { Reads (stream_of self.old.left self.old.calls)
+            (stream_of self.new.left self.new.calls) result into.new }
         ensures count { IfOk result (λ n.
             n ≡ min (min (length into.new) (length self.old.left)) self.old.most) }
         ensures fails { is_err result ≡ fails_next self.old.calls }
@@ -147,14 +142,11 @@ impl NeverSource {
 }
 
 impl Source for NeverSource {
-    ghost left = { λ s. Some s };
-
-    ghost faults = { λ _. 0 };
+    ghost seen = { λ s. never_failing (Some s) };
 
     fn read(&mut self, into: &mut [u8]) -> Result<usize, Down>
-        ensures bound { ReadsAtMost result into.new }
-        ensures bytes { ReadConsumes (Some self.old) (Some self.new) result into.new }
-        ensures cause { HasCause 0 0 result }
+        ensures reads { Reads (never_failing (Some self.old)) (never_failing (Some self.new))
+            result into.new }
         ensures whole { result ≡ Ok (min (length into.new) (length self.old)) }
     {
         Ok(self.input.read(into, usize::MAX))

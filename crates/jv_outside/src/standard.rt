@@ -1,5 +1,5 @@
-//! Std's readers, writers and clocks as devices. Each counts its faults in 64 bits, and each error of std is one,
-//! an interrupted call too.
+//! Std's readers, writers and clocks as devices. Each error of std is a fault, an interrupted call too, and is counted
+//! in 64 bits, which saturate.
 ghost use Rattle.std.specs.Prelude.{◌≡◌, ◌/◌, min, None};
 ghost use Rattle.std.specs.Io.{WritesAtMost};
 ghost use Rattle.std.specs.Duration.{as_nanos};
@@ -13,7 +13,7 @@ use std::io::{self, ErrorKind, Read, Write};
 use std::rt;
 use std::time::Duration;
 
-/// A reader as a source. It tells the bytes left where the reader does.
+/// A reader as a source. Its bytes left are known if the reader's are.
 #[derive(Drop)]
 pub struct Reading<R> {
     inner: R,
@@ -23,17 +23,15 @@ pub struct Reading<R> {
 impl<R: Read> Reading<R> {
     /// A source over that reader, without faults.
     pub fn new(inner: R) -> Self
-        ensures left { ⟦<Reading<R> as Source>⟧.left result ≡ R.remaining inner }
-        ensures faults { ⟦<Reading<R> as Source>⟧.faults result ≡ 0 }
+        ensures { ⟦<Reading<R> as Source>⟧.seen result
+            ≡ record { content = R.remaining inner; faults = 0 } }
     {
         Reading { inner, faults: 0 }
     }
 }
 
 impl<R: Read> Source for Reading<R> {
-    ghost left = { λ s. R.remaining s.inner };
-
-    ghost faults = { λ s. s.faults };
+    ghost seen = { λ s. record { content = R.remaining s.inner; faults = s.faults } };
 
     fn read(&mut self, into: &mut [u8]) -> Result<usize, Down> {
         match self.inner.read(into) {
@@ -43,8 +41,8 @@ impl<R: Read> Source for Reading<R> {
     }
 }
 
-/// A writer as a sink, which is flushed by each call. It never tells its bytes, since a writer of std may begin to
-/// tell them in mid-stream. After an error the writer may have taken bytes.
+/// A writer as a sink, which is flushed by each call. Its bytes are never known, since those of a writer of std may
+/// become known in mid-stream. After an error the writer may have taken bytes.
 #[derive(Drop)]
 pub struct Writing<W> {
     inner: W,
@@ -54,8 +52,7 @@ pub struct Writing<W> {
 impl<W: Write> Writing<W> {
     /// A sink over that writer, without faults.
     pub fn new(inner: W) -> Self
-        ensures taken { ⟦<Writing<W> as Sink>⟧.taken result ≡ None }
-        ensures faults { ⟦<Writing<W> as Sink>⟧.faults result ≡ 0 }
+        ensures { ⟦<Writing<W> as Sink>⟧.seen result ≡ record { content = None; faults = 0 } }
     {
         Writing { inner, faults: 0 }
     }
@@ -71,9 +68,7 @@ fn written_through<W: Write>(writer: &mut W, piece: &[u8]) -> io::Result<usize>
 }
 
 impl<W: Write> Sink for Writing<W> {
-    ghost taken = { λ _. None };
-
-    ghost faults = { λ s. s.faults };
+    ghost seen = { λ s. record { content = None; faults = s.faults } };
 
     fn write(&mut self, piece: &[u8]) -> Result<usize, Down> {
         match written_through(&mut self.inner, piece) {
@@ -83,7 +78,7 @@ impl<W: Write> Sink for Writing<W> {
     }
 }
 
-/// A clock of std as a clock. It gives 0 before 1970 and [`LAST_MOMENT`] after that one, and tells no answers.
+/// A clock of std as a clock. It answers 0 before 1970 and [`LAST_MOMENT`] after that one. Its answers are never known.
 #[derive(Drop)]
 pub struct Ticking<R> {
     clock: R,
@@ -93,17 +88,14 @@ pub struct Ticking<R> {
 impl<R: rt::Clock> Ticking<R> {
     /// A clock over that one, without faults.
     pub fn new(clock: R) -> Self
-        ensures answers { ⟦<Ticking<R> as Clock>⟧.answers result ≡ None }
-        ensures faults { ⟦<Ticking<R> as Clock>⟧.faults result ≡ 0 }
+        ensures { ⟦<Ticking<R> as Clock>⟧.seen result ≡ record { answers = None; faults = 0 } }
     {
         Ticking { clock, faults: 0 }
     }
 }
 
 impl<R: rt::Clock> Clock for Ticking<R> {
-    ghost answers = { λ _. None };
-
-    ghost faults = { λ s. s.faults };
+    ghost seen = { λ s. record { answers = None; faults = s.faults } };
 
     fn now(&mut self) -> Result<Moment, Down> {
         match self.clock.since_1970() {

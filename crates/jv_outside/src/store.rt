@@ -5,7 +5,7 @@ ghost use Rattle.std.specs.Range.Bound.{bound_map};
 ghost use Rattle.jv_model.specs.FiniteMap.{get, insert};
 ghost use Rattle.jv_model.specs.rows.RowKeys.{row_map};
 ghost use Rattle.jv_outside.specs.Rows.{after_change, applied, rows_after};
-ghost use Rattle.jv_outside.specs.Store.{stored, IsSettled, scan_start};
+ghost use Rattle.jv_outside.specs.Stored.{stored, IsSettled, scan_start};
 
 use crate::batch::{Batch, Change};
 use jv_model::{Bytes, RowKey, Rows, Sequence, copied, push_in_room};
@@ -71,7 +71,7 @@ impl RowStore {
         copied_rows(self.alloc, rows, tab, n)
     }
 
-    /// Makes all the changes. Where memory is wanting, it has made none.
+    /// Makes all the changes. Out of memory, it has made none.
     pub(crate) fn commit(&mut self, batch: &Batch) -> Result<(), AllocError>
         ensures ok { OnOk result (stored self.new ≡ applied batch.now (stored self.old)) }
         ensures err { OnErr result (stored self.new ≡ stored self.old) }
@@ -122,7 +122,7 @@ impl RowStore {
     }
 }
 
-/// Puts a row among rows in order. Where memory is wanting, nothing has changed, and the row comes back.
+/// Puts a row among rows in order. Out of memory, nothing has changed, and it returns the row.
 fn put(
     sorted: &mut BTreeMap<RowKey, Bytes>,
     key: RowKey,
@@ -138,7 +138,7 @@ fn put(
     }
 }
 
-/// Makes a change among rows in order. Where memory is wanting, nothing has changed, and the change comes back.
+/// Makes a change among rows in order. Out of memory, nothing has changed, and it returns the change.
 fn make(sorted: &mut BTreeMap<RowKey, Bytes>, change: Change) -> Result<(), Change>
     ensures ok { OnOk result (row_map sorted.new.entries
         ≡ after_change change (row_map sorted.old.entries)) }

@@ -10,8 +10,9 @@ use Rattle.jv_model.specs.declared.fault.RowFault.{RowFault}
 use Rattle.jv_model.specs.declared.fault.RowFault.TheVariants.{Bad, Failed, Memory}
 use Rattle.jv_model.specs.rows.RowKeys.{RowMap}
 use Rattle.jv_outside.specs.declared.batch.Change.{Change}
-use Rattle.jv_outside.specs.Causes.{Rose}
+use Rattle.jv_outside.specs.Store.{Store, IsSame}
 use Rattle.jv_rows.specs.Drops.{stored_count, slices_after, Dropping, stopped, followed_by, slice_dropping, slices_dropping, records_dropping, IsFront, RefusesDrops, AddsDrops}
+use Rattle.jv_rows.specs.Readings.{Counts, RowCause}
 use Rattle.jv_rows.proofs.DropLaws.{none, left_count, left_more, IsLeft, is_left, is_not_left}
 
 -- what is left to drop before a record
@@ -23,27 +24,25 @@ abbrev after_first : Dropping → Dropping → Dropping
 after_first first rest = followed_by first.changes first.stop rest
 
 -- what a loop over the records has come to
-pub record IsDroppedSoFar (gone : List Rec) (due i : ℕ) (counts : ℕ → Option ℕ) (rows after : Option RowMap) (before now : ℕ) (batch changed : List Change) : Type 0 where
+pub record IsDroppedSoFar (gone : List Rec) (due i : ℕ) (counts : ℕ → Option ℕ) (start now : Store) (batch changed : List Change) : Type 0 where
   pub left : (id : ℕ) → counts id ≡ left_count gone i id
-  pub same : after ≡ rows
-  pub later : before ≤ now
+  pub same : IsSame start now
   pub added : List Change
   pub adds : changed ≡ batch ++ added
-  pub so_far : IfSome rows (λ told. records_dropping gone due told ≡ followed_by added None (dropping_from gone due i told))
+  pub so_far : IfSome start.rows (λ told. records_dropping gone due told ≡ followed_by added None (dropping_from gone due i told))
 
 nothing_before : (gone : List Rec) (due : ℕ) (rows : Option RowMap) → IfSome rows (λ told. records_dropping gone due told ≡ followed_by [] None (dropping_from gone due 0 told))
 nothing_before gone due None = tt
 nothing_before gone due (Some told) = refl
 
-pub none_dropped : (gone : List Rec) (due : ℕ) (counts : ℕ → Option ℕ) (rows : Option RowMap) (before : ℕ) (batch : List Change) → ((id : ℕ) → counts id ≡ stored_count gone id)
-    → IsDroppedSoFar gone due 0 counts rows rows before before batch batch
-none_dropped gone due counts rows before batch h = record {
+pub none_dropped : (gone : List Rec) (due : ℕ) (counts : ℕ → Option ℕ) (start : Store) (batch : List Change) → ((id : ℕ) → counts id ≡ stored_count gone id)
+    → IsDroppedSoFar gone due 0 counts start start batch batch
+none_dropped gone due counts start batch h = record {
   left = h;
-  same = refl;
-  later = omega arith;
+  same = record { rows_are = refl; opened_at = refl; calm = refl };
   added = [];
   adds = sym (append-nil batch);
-  so_far = nothing_before gone due rows;
+  so_far = nothing_before gone due start.rows;
 }
 
 -- what is left begins with the slice of a record that is left
@@ -93,16 +92,13 @@ first_front (Some told) gone due i n added more left so_far first =
       parts = ap (λ (d : Dropping). d.changes) so_far ∙ ap (λ (l : List Change). added ++ l) front.parts ∙ sym (append_assoc added more front.more);
     }
 
-earlier_rose : (a b c : ℕ) → a ≤ b → Rose b c → Rose a c
-earlier_rose a b c h r = grind arith
-
-refused_with : (e : RowFault) (rows : Option RowMap) (gone : List Rec) (due i n start before now : ℕ) (added more : List Change) → start ≤ before → IsLeft gone i n
+refused_with : (e : RowFault) (rows : Option RowMap) (gone : List Rec) (due i n : ℕ) (added more : List Change) → IsLeft gone i n
     → IfSome rows (λ told. records_dropping gone due told ≡ followed_by added None (dropping_from gone due i told))
-    → RefusesDrops (slice_dropping (get_or gone i none).id n due) rows before now more e
-    → RefusesDrops (records_dropping gone due) rows start now (added ++ more) e
-refused_with (Bad at bytes) rows gone due i n start before now added more le left so_far r = first_stopped rows gone due i n added more (at, bytes) left so_far r
-refused_with Failed rows gone due i n start before now added more le left so_far r = (earlier_rose start before now le r.0, first_front rows gone due i n added more left so_far r.1)
-refused_with Memory rows gone due i n start before now added more le left so_far r = first_front rows gone due i n added more left so_far r
+    → RefusesDrops (slice_dropping (get_or gone i none).id n due) rows more e
+    → RefusesDrops (records_dropping gone due) rows (added ++ more) e
+refused_with (Bad at bytes) rows gone due i n added more left so_far r = first_stopped rows gone due i n added more (at, bytes) left so_far r
+refused_with Failed rows gone due i n added more left so_far r = first_front rows gone due i n added more left so_far r
+refused_with Memory rows gone due i n added more left so_far r = first_front rows gone due i n added more left so_far r
 
 -- ---- the steps of the loop
 
@@ -116,17 +112,16 @@ counts_left gone i id counts fewer lt here left taken q =
 found_left : (gone : List Rec) (i id : ℕ) (counts : ℕ → Option ℕ) (o : Option ℕ) → id ≡ (get_or gone i none).id → ((q : ℕ) → counts q ≡ left_count gone i q) → counts id ≡ o → left_count gone i (get_or gone i none).id ≡ o
 found_left gone i id counts o here left e = sym (ap (left_count gone i) here) ∙ sym (left id) ∙ e
 
-pub passed_by : (gone : List Rec) (due i id : ℕ) (counts fewer : ℕ → Option ℕ) (rows after : Option RowMap) (before now : ℕ) (batch changed : List Change)
-    → IsDroppedSoFar gone due i counts rows after before now batch changed → i < length gone → id ≡ (get_or gone i none).id → counts id ≡ None
+pub passed_by : (gone : List Rec) (due i id : ℕ) (counts fewer : ℕ → Option ℕ) (start now : Store) (batch changed : List Change)
+    → IsDroppedSoFar gone due i counts start now batch changed → i < length gone → id ≡ (get_or gone i none).id → counts id ≡ None
     → ((q : ℕ) → fewer q ≡ cond (is_at (nat_cmp id) q) None (counts q))
-    → IsDroppedSoFar gone due (i + 1) fewer rows after before now batch changed
-passed_by gone due i id counts fewer rows after before now batch changed h lt here e taken = record {
+    → IsDroppedSoFar gone due (i + 1) fewer start now batch changed
+passed_by gone due i id counts fewer start now batch changed h lt here e taken = record {
   left = counts_left gone i id counts fewer lt here h.left taken;
   same = h.same;
-  later = h.later;
   added = h.added;
   adds = h.adds;
-  so_far = subst (λ (ids : List ℕ). IfSome rows (λ told. records_dropping gone due told ≡ followed_by h.added None (slices_dropping gone due told ids))) (is_not_left gone i lt (found_left gone i id counts None here h.left e)) h.so_far;
+  so_far = subst (λ (ids : List ℕ). IfSome start.rows (λ told. records_dropping gone due told ≡ followed_by h.added None (slices_dropping gone due told ids))) (is_not_left gone i lt (found_left gone i id counts None here h.left e)) h.so_far;
 }
 
 -- the changes of a slice are those of the record's slice
@@ -134,39 +129,43 @@ at_record : (T : Dropping → Type 0) (gone : List Rec) (due i id n : ℕ) (rows
     → IfSome rows (λ told. T (slice_dropping id n due told)) → IfSome rows (λ told. T (slice_dropping (get_or gone i none).id n due told))
 at_record T gone due i id n rows here h = subst (λ (k : ℕ). IfSome rows (λ told. T (slice_dropping k n due told))) here h
 
-pub one_dropped : (gone : List Rec) (due i id n : ℕ) (counts fewer : ℕ → Option ℕ) (rows middle after : Option RowMap) (start before now : ℕ) (batch middle_batch changed : List Change) (r : Result (Unit {0}) RowFault)
-    → IsDroppedSoFar gone due i counts rows middle start before batch middle_batch → i < length gone → id ≡ (get_or gone i none).id → counts id ≡ Some n
+pub one_dropped : (gone : List Rec) (due i id n : ℕ) (counts fewer : ℕ → Option ℕ) (start middle now : Store) (batch middle_batch changed : List Change) (r : Result (Unit {0}) RowFault)
+    → IsDroppedSoFar gone due i counts start middle batch middle_batch → i < length gone → id ≡ (get_or gone i none).id → counts id ≡ Some n
     → ((q : ℕ) → fewer q ≡ cond (is_at (nat_cmp id) q) None (counts q))
-    → AddsDrops (slice_dropping id n due) middle after before now middle_batch changed r → r ≡ Ok tt
-    → IsDroppedSoFar gone due (i + 1) fewer rows after start now batch changed
-one_dropped gone due i id n counts fewer rows middle after start before now batch middle_batch changed r h lt here e taken d was =
+    → AddsDrops (slice_dropping id n due) middle now middle_batch changed r → r ≡ Ok tt
+    → IsDroppedSoFar gone due (i + 1) fewer start now batch changed
+one_dropped gone due i id n counts fewer start middle now batch middle_batch changed r h lt here e taken d was =
     let left = is_left gone i n lt (found_left gone i id counts (Some n) here h.left e) in
-    let done : IfSome middle (λ told. slice_dropping id n due told ≡ stopped d.added None) = subst (λ (r : Result (Unit {0}) RowFault). OnOk r (IfSome middle (λ told. slice_dropping id n due told ≡ stopped d.added None))) was d.done in
+    let done : IfSome middle.rows (λ told. slice_dropping id n due told ≡ stopped d.added None) =
+    subst (λ (r : Result (Unit {0}) RowFault). OnOk r (IfSome middle.rows (λ told. slice_dropping id n due told ≡ stopped d.added None))) was d.done in
+    let calm : now.faults ≡ middle.faults = subst (λ (r : Result (Unit {0}) RowFault). Counts middle.faults now.faults r) was d.counts in
     record {
       left = counts_left gone i id counts fewer lt here h.left taken;
-      same = d.same ∙ h.same;
-      later = omega (arith, h.later, d.later);
+      same = record { rows_are = d.rows_are ∙ h.same.rows_are; opened_at = d.opened_at ∙ h.same.opened_at; calm = calm ∙ h.same.calm };
       added = h.added ++ d.added;
       adds = d.adds ∙ ap (λ (l : List Change). l ++ d.added) h.adds ∙ append_assoc batch h.added d.added;
-      so_far = first_done rows gone due i n h.added d.added left h.so_far
-          (at_record (λ x. x ≡ stopped d.added None) gone due i id n rows here (subst (λ (o : Option RowMap). IfSome o (λ told. slice_dropping id n due told ≡ stopped d.added None)) h.same done));
+      so_far = first_done start.rows gone due i n h.added d.added left h.so_far
+          (at_record (λ x. x ≡ stopped d.added None) gone due i id n start.rows here (subst (λ (o : Option RowMap). IfSome o (λ told. slice_dropping id n due told ≡ stopped d.added None)) h.same.rows_are done));
     }
 
-pub one_refused : (gone : List Rec) (due i id n : ℕ) (counts : ℕ → Option ℕ) (rows middle after : Option RowMap) (start before now : ℕ) (batch middle_batch changed : List Change) (r : Result (Unit {0}) RowFault) (fault : RowFault)
-    → IsDroppedSoFar gone due i counts rows middle start before batch middle_batch → i < length gone → id ≡ (get_or gone i none).id → counts id ≡ Some n
-    → AddsDrops (slice_dropping id n due) middle after before now middle_batch changed r → r ≡ Err fault
-    → AddsDrops (records_dropping gone due) rows after start now batch changed (Err fault)
-one_refused gone due i id n counts rows middle after start before now batch middle_batch changed r fault h lt here e d was =
+pub one_refused : (gone : List Rec) (due i id n : ℕ) (counts : ℕ → Option ℕ) (start middle now : Store) (batch middle_batch changed : List Change) (r : Result (Unit {0}) RowFault) (fault : RowFault)
+    → IsDroppedSoFar gone due i counts start middle batch middle_batch → i < length gone → id ≡ (get_or gone i none).id → counts id ≡ Some n
+    → AddsDrops (slice_dropping id n due) middle now middle_batch changed r → r ≡ Err fault
+    → AddsDrops (records_dropping gone due) start now batch changed (Err fault)
+one_refused gone due i id n counts start middle now batch middle_batch changed r fault h lt here e d was =
     let left = is_left gone i n lt (found_left gone i id counts (Some n) here h.left e) in
-    let refused : RefusesDrops (slice_dropping id n due) middle before now d.added fault = subst (λ (r : Result (Unit {0}) RowFault). IfErr r (RefusesDrops (slice_dropping id n due) middle before now d.added)) was d.refused in
+    let refused : RefusesDrops (slice_dropping id n due) middle.rows d.added fault =
+    subst (λ (r : Result (Unit {0}) RowFault). IfErr r (RefusesDrops (slice_dropping id n due) middle.rows d.added)) was d.refused in
+    let counts : RowCause middle.faults now.faults fault = subst (λ (r : Result (Unit {0}) RowFault). Counts middle.faults now.faults r) was d.counts in
     record {
-      same = d.same ∙ h.same;
-      later = omega (arith, h.later, d.later);
+      rows_are = d.rows_are ∙ h.same.rows_are;
+      opened_at = d.opened_at ∙ h.same.opened_at;
+      counts = subst (λ n. RowCause n now.faults fault) h.same.calm counts;
       added = h.added ++ d.added;
       adds = d.adds ∙ ap (λ (l : List Change). l ++ d.added) h.adds ∙ append_assoc batch h.added d.added;
       done = tt;
-      refused = refused_with fault rows gone due i n start before now h.added d.added h.later left h.so_far
-          (subst (λ (k : ℕ). RefusesDrops (slice_dropping k n due) rows before now d.added fault) here (subst (λ (o : Option RowMap). RefusesDrops (slice_dropping id n due) o before now d.added fault) h.same refused));
+      refused = refused_with fault start.rows gone due i n h.added d.added left h.so_far
+          (subst (λ (k : ℕ). RefusesDrops (slice_dropping k n due) start.rows d.added fault) here (subst (λ (o : Option RowMap). RefusesDrops (slice_dropping id n due) o d.added fault) h.same.rows_are refused));
     }
 
 all_done : (rows : Option RowMap) (gone : List Rec) (due i : ℕ) (added : List Change) → length gone ≤ i
@@ -178,14 +177,15 @@ all_done (Some told) gone due i added le so_far =
     ∙ ap (λ (rest : List Rec). followed_by added None (slices_dropping gone due told (slices_after (take i gone) rest))) (drop_all i gone le)
     ∙ ap (λ (changes : List Change). stopped changes None) (append-nil added)
 
-pub all_dropped : (gone : List Rec) (due i : ℕ) (counts : ℕ → Option ℕ) (rows after : Option RowMap) (before now : ℕ) (batch changed : List Change)
-    → IsDroppedSoFar gone due i counts rows after before now batch changed → length gone ≤ i
-    → AddsDrops (records_dropping gone due) rows after before now batch changed (Ok tt)
-all_dropped gone due i counts rows after before now batch changed h le = record {
-  same = h.same;
-  later = h.later;
+pub all_dropped : (gone : List Rec) (due i : ℕ) (counts : ℕ → Option ℕ) (start now : Store) (batch changed : List Change)
+    → IsDroppedSoFar gone due i counts start now batch changed → length gone ≤ i
+    → AddsDrops (records_dropping gone due) start now batch changed (Ok tt)
+all_dropped gone due i counts start now batch changed h le = record {
+  rows_are = h.same.rows_are;
+  opened_at = h.same.opened_at;
+  counts = h.same.calm;
   added = h.added;
   adds = h.adds;
-  done = all_done rows gone due i h.added le h.so_far;
+  done = all_done start.rows gone due i h.added le h.so_far;
   refused = tt;
 }

@@ -12,7 +12,8 @@ use Rattle.jv_model.specs.rows.RowPlaces.{slice_key, dead_key}
 use Rattle.jv_model.specs.rows.RowGrammar.{slice_bytes, slice_of, dead_bytes}
 use Rattle.jv_outside.specs.declared.batch.Change.{Change}
 use Rattle.jv_outside.specs.declared.batch.Change.TheVariants.{Put, Del}
-use Rattle.jv_outside.specs.Causes.{Rose}
+use Rattle.jv_outside.specs.Store.{Store}
+use Rattle.jv_rows.specs.Readings.{Counts}
 
 -- whether a record names the slice, and how many do
 abbrev pub is_named : List Rec → ℕ → Bool
@@ -87,20 +88,21 @@ pub record AddsFront (batch changed whole : List Change) : Type 0 where
   pub adds : changed ≡ batch ++ added
   pub front : IsFront added whole
 
--- why changes were not all added: a slice's row is absent or off the grammar, the keeper's count rose, or memory ran out
-abbrev pub RefusesDrops : (RowMap → Dropping) → Option RowMap → ℕ → ℕ → List Change → RowFault → Type 0
-RefusesDrops wanted rows before now added (Bad at bytes) = IfSome rows (λ told. wanted told ≡ stopped added (Some (at, bytes)))
-RefusesDrops wanted rows before now added Failed = Rose before now × IfSome rows (λ told. IsFront added (wanted told).changes)
-RefusesDrops wanted rows before now added Memory = IfSome rows (λ told. IsFront added (wanted told).changes)
+-- why changes were not all added: a slice's row is absent or malformed, the keeper failed, or memory ran out
+abbrev pub RefusesDrops : (RowMap → Dropping) → Option RowMap → List Change → RowFault → Type 0
+RefusesDrops wanted rows added (Bad at bytes) = IfSome rows (λ known. wanted known ≡ stopped added (Some (at, bytes)))
+RefusesDrops wanted rows added Failed = IfSome rows (λ known. IsFront added (wanted known).changes)
+RefusesDrops wanted rows added Memory = IfSome rows (λ known. IsFront added (wanted known).changes)
 
 -- changes are added to a batch: all that are wanted, or after an error the first of them
-pub record AddsDrops (wanted : RowMap → Dropping) (rows after : Option RowMap) (before now : ℕ) (batch changed : List Change) (result : Result (Unit {0}) RowFault) : Type 0 where
-  pub same : after ≡ rows
-  pub later : before ≤ now
+pub record AddsDrops (wanted : RowMap → Dropping) (before after : Store) (batch changed : List Change) (result : Result (Unit {0}) RowFault) : Type 0 where
+  pub rows_are : after.rows ≡ before.rows
+  pub opened_at : after.opened ≡ before.opened
+  pub counts : Counts before.faults after.faults result
   pub added : List Change
   pub adds : changed ≡ batch ++ added
-  pub done : OnOk result (IfSome rows (λ told. wanted told ≡ stopped added None))
-  pub refused : IfErr result (RefusesDrops wanted rows before now added)
+  pub done : OnOk result (IfSome before.rows (λ known. wanted known ≡ stopped added None))
+  pub refused : IfErr result (RefusesDrops wanted before.rows added)
 
 -- the key of the row that a change is of
 abbrev pub key_of_change : Change → RowKey

@@ -1,5 +1,5 @@
 -- What a reading of several rows gives.
-use Rattle.std.specs.Prelude.{◌≡◌, ℕ, ◌≤◌, List, [], ◌∷◌, Option, None, Some, Result, Ok, Err, IfOk, IfErr, IfSome, IsTrue}
+use Rattle.std.specs.Prelude.{◌≡◌, ℕ, List, [], ◌∷◌, Option, None, Some, Result, Ok, Err, IfOk, IfErr, IfSome, IsTrue}
 use Rattle.std.specs.List.{AllByRecursion}
 use Rattle.jv_model.specs.declared.row.RowKey.{RowKey}
 use Rattle.jv_model.specs.declared.row.Row.{Row}
@@ -7,8 +7,9 @@ use Rattle.jv_model.specs.declared.fault.RowFault.{RowFault}
 use Rattle.jv_model.specs.declared.fault.RowFault.TheVariants.{Bad, Failed, Memory}
 use Rattle.jv_model.specs.rows.RowKeys.{RowMap}
 use Rattle.jv_model.specs.rows.RowGrammar.{row_of, is_row}
-use Rattle.jv_outside.specs.Causes.{Rose}
+use Rattle.jv_outside.specs.Store.{Store}
 use Rattle.jv_outside.specs.Rows.{rows_after}
+use Rattle.jv_rows.specs.Readings.{Counts}
 
 -- a row and those behind it, up to the first that is off the grammar
 abbrev pub row_then : RowKey → List ℕ → Option Row → Result (List (RowKey × Row)) (RowKey × List ℕ) → Result (List (RowKey × Row)) (RowKey × List ℕ)
@@ -37,15 +38,16 @@ RefusesRows rows (Bad at bytes) = (row_of at.tab bytes ≡ None) × (rows_read r
 RefusesRows rows Failed = ⊥
 RefusesRows rows Memory = Unit {0}
 
-abbrev pub RefusesScan : Option RowMap → ℕ → Option RowKey → ℕ → ℕ → ℕ → RowFault → Type 0
-RefusesScan rows tab last count before now (Bad at bytes) = (row_of at.tab bytes ≡ None) × IfSome rows (λ told. rows_read (rows_after told tab last count) ≡ Err (at, bytes))
-RefusesScan rows tab last count before now Failed = Rose before now
-RefusesScan rows tab last count before now Memory = Unit {0}
+abbrev pub RefusesScan : Option RowMap → ℕ → Option RowKey → ℕ → RowFault → Type 0
+RefusesScan rows tab last count (Bad at bytes) = (row_of at.tab bytes ≡ None) × IfSome rows (λ known. rows_read (rows_after known tab last count) ≡ Err (at, bytes))
+RefusesScan rows tab last count Failed = Unit {0}
+RefusesScan rows tab last count Memory = Unit {0}
 
 -- a reading of the first so many rows of a table after a key
-pub record ScansRows (tab : ℕ) (last : Option RowKey) (count : ℕ) (rows after : Option RowMap) (before now : ℕ) (result : Result (List (RowKey × Row)) RowFault) : Type 0 where
-  pub same : after ≡ rows
-  pub later : before ≤ now
-  pub found : IfOk result (λ list. IfSome rows (λ told. rows_read (rows_after told tab last count) ≡ Ok list))
+pub record ScansRows (tab : ℕ) (last : Option RowKey) (count : ℕ) (before after : Store) (result : Result (List (RowKey × Row)) RowFault) : Type 0 where
+  pub rows_are : after.rows ≡ before.rows
+  pub opened_at : after.opened ≡ before.opened
+  pub counts : Counts before.faults after.faults result
+  pub found : IfOk result (λ list. IfSome before.rows (λ known. rows_read (rows_after known tab last count) ≡ Ok list))
   pub allowed : IfOk result AreAllowed
-  pub refused : IfErr result (RefusesScan rows tab last count before now)
+  pub refused : IfErr result (RefusesScan before.rows tab last count)

@@ -63,8 +63,8 @@ fn drop_from_slice<K: Keeper>(
     gone: u64,
     due: u64,
 ) -> Result<(), RowFault>
-    ensures { AddsDrops (slice_dropping id gone due)
-        (K.rows k.old) (K.rows k.new) (K.faults k.old) (K.faults k.new) batch.old batch.new result }
+    ensures { AddsDrops (slice_dropping id gone due) (K.seen k.old) (K.seen k.new)
+        batch.old batch.new result }
 {
     let Some(slice) = read_slice(alloc, k, id)? else {
         return Err(RowFault::Bad(key_of_slice(alloc, id), Bytes::new(alloc)));
@@ -84,8 +84,8 @@ pub fn drop_records<K: Keeper>(
     due: u64,
 ) -> Result<(), RowFault>
     requires { HasNoneOf gone.now batch.old }
-    ensures { AddsDrops (records_dropping gone.now due)
-        (K.rows k.old) (K.rows k.new) (K.faults k.old) (K.faults k.new) batch.old batch.new result }
+    ensures { AddsDrops (records_dropping gone.now due) (K.seen k.old) (K.seen k.new)
+        batch.old batch.new result }
 {
     let mut counts = count_records(alloc, gone.as_slice())?;
     for record in gone.as_slice() {

@@ -23,7 +23,7 @@ fn read_row<K: Keeper, R: Grammar>(
     key: RowKey,
 ) -> Result<Option<R>, RowFault>
     ensures { ReadsRow R.read_as R.spelled_as R.is_allowed key
-        (K.rows k.old) (K.rows k.new) (K.faults k.old) (K.faults k.new) result }
+        (K.seen k.old) (K.seen k.new) result }
 {
     let Some(bytes) = k.get(&key)? else {
         return Ok(None);
@@ -38,7 +38,7 @@ fn read_row<K: Keeper, R: Grammar>(
 /// The volume's setting, of whatever version. None exactly where there is no such row.
 pub fn read_setting<K: Keeper>(alloc: Global, k: &mut K) -> Result<Option<Setting>, RowFault>
     ensures { ReadsRow setting_of setting_bytes is_setting setting_key
-        (K.rows k.old) (K.rows k.new) (K.faults k.old) (K.faults k.new) result }
+        (K.seen k.old) (K.seen k.new) result }
 {
     let key = key_of_setting(alloc);
     read_row(alloc, k, key)
@@ -47,7 +47,7 @@ pub fn read_setting<K: Keeper>(alloc: Global, k: &mut K) -> Result<Option<Settin
 /// The next numbers and the running totals. None exactly where there is no such row.
 pub fn read_counters<K: Keeper>(alloc: Global, k: &mut K) -> Result<Option<Counters>, RowFault>
     ensures { ReadsRow counters_of counters_bytes is_counters counters_key
-        (K.rows k.old) (K.rows k.new) (K.faults k.old) (K.faults k.new) result }
+        (K.seen k.old) (K.seen k.new) result }
 {
     let key = key_of_counters(alloc);
     read_row(alloc, k, key)
@@ -56,7 +56,7 @@ pub fn read_counters<K: Keeper>(alloc: Global, k: &mut K) -> Result<Option<Count
 /// A node. None exactly where there is no such row.
 pub fn read_node<K: Keeper>(alloc: Global, k: &mut K, inode: u64) -> Result<Option<Node>, RowFault>
     ensures { ReadsRow node_of node_bytes is_node (node_key inode)
-        (K.rows k.old) (K.rows k.new) (K.faults k.old) (K.faults k.new) result }
+        (K.seen k.old) (K.seen k.new) result }
 {
     let key = key_of_node(alloc, inode);
     read_row(alloc, k, key)
@@ -70,7 +70,7 @@ pub fn read_edge<K: Keeper>(
     name: &Name,
 ) -> Result<Option<Edge>, RowFault>
     ensures { ReadsRow edge_of edge_bytes is_edge (edge_key dir name.now)
-        (K.rows k.old) (K.rows k.new) (K.faults k.old) (K.faults k.new) result }
+        (K.seen k.old) (K.seen k.new) result }
 {
     let key = key_of_edge(alloc, dir, name)?;
     read_row(alloc, k, key)
@@ -84,7 +84,7 @@ pub fn read_list<K: Keeper>(
     window: u32,
 ) -> Result<Option<List>, RowFault>
     ensures { ReadsRow list_of list_bytes is_list (list_key inode window)
-        (K.rows k.old) (K.rows k.new) (K.faults k.old) (K.faults k.new) result }
+        (K.seen k.old) (K.seen k.new) result }
 {
     let key = key_of_list(alloc, inode, window)?;
     read_row(alloc, k, key)
@@ -97,7 +97,7 @@ pub fn read_slice<K: Keeper>(
     id: u64,
 ) -> Result<Option<SliceRow>, RowFault>
     ensures { ReadsRow slice_of slice_bytes is_slice (slice_key id)
-        (K.rows k.old) (K.rows k.new) (K.faults k.old) (K.faults k.new) result }
+        (K.seen k.old) (K.seen k.new) result }
 {
     let key = key_of_slice(alloc, id);
     read_row(alloc, k, key)
@@ -110,7 +110,7 @@ pub fn read_session<K: Keeper>(
     sid: u64,
 ) -> Result<Option<Session>, RowFault>
     ensures { ReadsRow session_of session_bytes is_session (session_key sid)
-        (K.rows k.old) (K.rows k.new) (K.faults k.old) (K.faults k.new) result }
+        (K.seen k.old) (K.seen k.new) result }
 {
     let key = key_of_session(alloc, sid);
     read_row(alloc, k, key)
@@ -124,7 +124,7 @@ pub fn read_sustained<K: Keeper>(
     inode: u64,
 ) -> Result<Option<()>, RowFault>
     ensures { ReadsRow sustained_of (λ _. []) (λ _. true) (sustained_key sid inode)
-        (K.rows k.old) (K.rows k.new) (K.faults k.old) (K.faults k.new) result }
+        (K.seen k.old) (K.seen k.new) result }
 {
     let key = key_of_sustained(alloc, sid, inode)?;
     read_row(alloc, k, key)
@@ -137,7 +137,7 @@ pub fn read_dropped<K: Keeper>(
     inode: u64,
 ) -> Result<Option<Dropped>, RowFault>
     ensures { ReadsRow dropped_of dropped_bytes (λ _. true) (dropped_key inode)
-        (K.rows k.old) (K.rows k.new) (K.faults k.old) (K.faults k.new) result }
+        (K.seen k.old) (K.seen k.new) result }
 {
     let key = key_of_dropped(alloc, inode);
     read_row(alloc, k, key)
@@ -146,7 +146,7 @@ pub fn read_dropped<K: Keeper>(
 /// A dead slice. None exactly where there is no such row.
 pub fn read_dead<K: Keeper>(alloc: Global, k: &mut K, id: u64) -> Result<Option<Dead>, RowFault>
     ensures { ReadsRow dead_of dead_bytes (λ _. true) (dead_key id)
-        (K.rows k.old) (K.rows k.new) (K.faults k.old) (K.faults k.new) result }
+        (K.seen k.old) (K.seen k.new) result }
 {
     let key = key_of_dead(alloc, id);
     read_row(alloc, k, key)

@@ -82,7 +82,7 @@ pub fn scan_rows<K: Keeper>(
     n: u32,
 ) -> Result<RowList, RowFault>
     ensures { ScansRows tab (option_copied after.entry) n
-        (K.rows k.old) (K.rows k.new) (K.faults k.old) (K.faults k.new) result }
+        (K.seen k.old) (K.seen k.new) result }
 {
     let rows = k.scan(tab, after, n)?;
     typed_rows(alloc, rows)

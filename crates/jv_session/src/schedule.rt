@@ -9,9 +9,8 @@ ghost use Rattle.jv_model.specs.declared.op.Reply.TheVariants.{Refused};
 ghost use Rattle.jv_model.specs.run.Past.{Past};
 ghost use Rattle.jv_model.specs.run.Built.{is_built};
 ghost use Rattle.jv_model.specs.script.ReplyText.{printed_line};
-ghost use Rattle.jv_outside.specs.Causes.{Rose};
 ghost use Rattle.jv_session.specs.Agrees.{Stands, entry_at};
-ghost use Rattle.jv_session.specs.Lines.{fresh_schedule, LineRuns, Asks, RunsTo};
+ghost use Rattle.jv_session.specs.Lines.{fresh_schedule, line_state, LineRuns, RunsTo};
 ghost use Rattle.jv_session.specs.BuiltHere.{built_here, built_op};
 
 use crate::line_end::LineEnd;
@@ -118,11 +117,9 @@ impl Schedule {
         journal: &mut Journal,
     ) -> LineEnd
         requires built { IsTrue (built_here self.old line.now) }
-        ensures runs { LineRuns (C.answers clock.old) (C.answers clock.new) line.now number journal.old.acts journal.new.acts self.old self.new result }
+        ensures runs { LineRuns line.now number (line_state (C.seen clock.old) journal.old.acts self.old)
+            (line_state (C.seen clock.new) journal.new.acts self.new) result }
         ensures quiet { (result ≡ LineEnd.Quiet) ↔ (line.now ≡ Empty) }
-        ensures failed { result ≡ LineEnd.ClockFailed → Rose (C.faults clock.old) (C.faults clock.new) }
-        ensures later { C.faults clock.old ≤ C.faults clock.new }
-        ensures asked { Asks (C.answers clock.old) (C.answers clock.new) result }
     {
         match line {
             Line::Empty => LineEnd::Quiet,
@@ -147,11 +144,9 @@ impl Schedule {
         journal: &mut Journal,
     ) -> LineEnd
         requires built { IsTrue (built_op self.old op.now) }
-        ensures runs { LineRuns (C.answers clock.old) (C.answers clock.new) (Do 0 op.now) number journal.old.acts journal.new.acts self.old self.new result }
+        ensures runs { LineRuns (Do 0 op.now) number (line_state (C.seen clock.old) journal.old.acts self.old)
+            (line_state (C.seen clock.new) journal.new.acts self.new) result }
         ensures some { result ≢ LineEnd.Quiet }
-        ensures failed { result ≡ LineEnd.ClockFailed → Rose (C.faults clock.old) (C.faults clock.new) }
-        ensures later { C.faults clock.old ≤ C.faults clock.new }
-        ensures asked { Asks (C.answers clock.old) (C.answers clock.new) result }
     {
         let Ok(no_memory) = self.print(&Reply::Refused(Fault::NoMemory)) else {
             return LineEnd::Memory;

@@ -1,6 +1,6 @@
 -- A row that is found is the next one that the rest gives.
 use Rattle.std.proofs.Common.{◌<◌, length, eq-eqb, ◌∙◌, arith}
-use Rattle.jv_outside.proofs.ScanLemmas.{outlook-next}
+use Rattle.jv_outside.proofs.ScanLaws.{outlook-next}
 use Rattle.jv_outside.proofs.store.copied_rows.Goals as goal
 
 pub loop-key-preserved : goal.loop-key-preserved

@@ -1,5 +1,5 @@
 use Rattle.std.proofs.Common.{◌≡◌, ◌==◌, take, take_while}
-use Rattle.jv_outside.proofs.ScanLemmas.{outlook}
+use Rattle.jv_outside.proofs.ScanLaws.{outlook}
 use Rattle.jv_outside.proofs.store.copied_rows.Given as goal
 
 abbrev pub invariant-loop-key : goal.invariant-loop-key

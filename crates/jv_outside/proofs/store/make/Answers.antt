@@ -1,7 +1,7 @@
 -- A row that is taken out of the tree is gone from the map.
 use Rattle.std.proofs.Common.{None}
 use Rattle.jv_model.specs.rows.RowKeys.{row_key}
-use Rattle.jv_outside.proofs.StoreLemmas.{map_of-updated}
+use Rattle.jv_outside.proofs.StoredLaws.{map_of-updated}
 use Rattle.jv_outside.proofs.store.make.Goals as goal
 
 pub returns-in-Del-clause-ok : goal.returns-in-Del-clause-ok

@@ -1,5 +1,5 @@
 use Rattle.jv_model.specs.rows.RowKeys.{row_key}
-use Rattle.jv_outside.proofs.StoreLemmas.{map_of-updated}
+use Rattle.jv_outside.proofs.StoredLaws.{map_of-updated}
 use Rattle.jv_outside.proofs.store.put.Goals as goal
 
 pub returns-in-Ok-clause-ok : goal.returns-in-Ok-clause-ok

@@ -11,7 +11,7 @@ use Rattle.jv_rows.proofs.dropping.drop_records.Goals.{in-Some+in_ok-drop_from_s
 
 pub loop-record-init : goal.loop-record-init
 loop-record-init g c =
-    none_dropped c.args.gone.now c.args.due (get nat_cmp c.in_ok-counts.counts) (g.K.Keeper.rows c.args.k.now) (g.K.Keeper.faults c.args.k.now) c.args.batch.now
+    none_dropped c.args.gone.now c.args.due (get nat_cmp c.in_ok-counts.counts) (g.K.Keeper.seen c.args.k.now) c.args.batch.now
     (λ id. c.in_ok-counts.ensures id ∙ ap (λ (rs : List Rec). stored_count rs id) c.as_slice.ensures)
 
 pub loop-record-preserved : goal.loop-record-preserved
@@ -23,19 +23,18 @@ loop-record-preserved g c =
     elim c.match-remove.branch [
       | in-Some+in_ok-drop_from_slice w ↦ rw (w.k-is, w.batch-is)
           (one_dropped c.args.gone.now c.args.due i id w.in-Some.count (get nat_cmp c.loop-record.counts) (get nat_cmp c.remove.new.self)
-          (g.K.Keeper.rows c.args.k.now) (g.K.Keeper.rows c.loop-record.k) (g.K.Keeper.rows w.drop_from_slice.new.k)
-          (g.K.Keeper.faults c.args.k.now) (g.K.Keeper.faults c.loop-record.k) (g.K.Keeper.faults w.drop_from_slice.new.k)
+          (g.K.Keeper.seen c.args.k.now) (g.K.Keeper.seen c.loop-record.k) (g.K.Keeper.seen w.drop_from_slice.new.k)
           c.args.batch.now c.loop-record.batch w.drop_from_slice.new.batch (Ok tt)
           c.loop-record.invariant lt here (sym c.remove.ensures.value ∙ w.in-Some.is) c.remove.ensures.updates.0 w.in_ok-drop_from_slice.ensures refl)
       | in_default w ↦ rw (w.k-is, w.batch-is)
           (passed_by c.args.gone.now c.args.due i id (get nat_cmp c.loop-record.counts) (get nat_cmp c.remove.new.self)
-          (g.K.Keeper.rows c.args.k.now) (g.K.Keeper.rows c.loop-record.k) (g.K.Keeper.faults c.args.k.now) (g.K.Keeper.faults c.loop-record.k)
+          (g.K.Keeper.seen c.args.k.now) (g.K.Keeper.seen c.loop-record.k)
           c.args.batch.now c.loop-record.batch c.loop-record.invariant lt here (sym c.remove.ensures.value ∙ w.in_default.is) c.remove.ensures.updates.0)
     ]
 
 pub returns : goal.returns
 returns g c =
-    all_dropped c.args.gone.now c.args.due c.loop-record.record-index (get nat_cmp c.loop-record.counts) (g.K.Keeper.rows c.args.k.now) (g.K.Keeper.rows c.loop-record.k) (g.K.Keeper.faults c.args.k.now) (g.K.Keeper.faults c.loop-record.k) c.args.batch.now c.loop-record.batch
+    all_dropped c.args.gone.now c.args.due c.loop-record.record-index (get nat_cmp c.loop-record.counts) (g.K.Keeper.seen c.args.k.now) (g.K.Keeper.seen c.loop-record.k) c.args.batch.now c.loop-record.batch
     c.loop-record.invariant (subst (λ (rs : List Rec). length rs ≤ c.loop-record.record-index) c.as_slice-record-items.ensures c.loop-record-test.false)
 
 pub returns-in_err-drop_from_slice : goal.returns-in_err-drop_from_slice
@@ -47,7 +46,6 @@ returns-in_err-drop_from_slice g c =
     let p = err_from_is_err_and c.from_residual-in_err-drop_from_slice.result c.from_residual-in_err-drop_from_slice.ensures.1 in
     rw (p.1, p.2)
     (one_refused c.args.gone.now c.args.due i id c.in-Some.count (get nat_cmp c.loop-record.counts)
-    (g.K.Keeper.rows c.args.k.now) (g.K.Keeper.rows c.loop-record.k) (g.K.Keeper.rows c.drop_from_slice.new.k)
-    (g.K.Keeper.faults c.args.k.now) (g.K.Keeper.faults c.loop-record.k) (g.K.Keeper.faults c.drop_from_slice.new.k)
+    (g.K.Keeper.seen c.args.k.now) (g.K.Keeper.seen c.loop-record.k) (g.K.Keeper.seen c.drop_from_slice.new.k)
     c.args.batch.now c.loop-record.batch c.drop_from_slice.new.batch (Err c.in_err-drop_from_slice.field-0.0) c.in_err-drop_from_slice.field-0.0
     c.loop-record.invariant lt here (sym c.remove.ensures.value ∙ c.in-Some.is) c.in_err-drop_from_slice.ensures refl)

@@ -2,7 +2,7 @@
 use Rattle.std.proofs.Common.{ap, sym, ◌∙◌, Some}
 use Rattle.jv_model.specs.FiniteMap.{get}
 use Rattle.jv_model.specs.rows.RowKeys.{row_key}
-use Rattle.jv_outside.proofs.StoreLemmas.{stored-settled, get-lookup}
+use Rattle.jv_outside.proofs.StoredLaws.{stored-settled, get-lookup}
 use Rattle.jv_outside.proofs.store.RowStore.get.Goals as goal
 
 pub returns-in_ok-copied-in-Some-clause-value : goal.returns-in_ok-copied-in-Some-clause-value

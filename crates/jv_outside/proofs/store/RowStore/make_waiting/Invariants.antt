@@ -1,5 +1,5 @@
 use Rattle.std.proofs.Common.{◌≡◌, [], length}
-use Rattle.jv_outside.specs.Store.{stored}
+use Rattle.jv_outside.specs.Stored.{stored}
 use Rattle.jv_outside.proofs.store.RowStore.make_waiting.Given as goal
 
 abbrev pub invariant-loop-change : goal.invariant-loop-change

@@ -5,9 +5,9 @@ use Rattle.std.specs.BTreeMap.Range.{entries_between}
 use Rattle.std.specs.Option.{option_copied}
 use Rattle.jv_model.specs.rows.RowKeys.{row_cmp, row_key}
 use Rattle.jv_outside.specs.Rows.{is_after, rows_after}
-use Rattle.jv_outside.specs.Store.{scan_start}
-use Rattle.jv_outside.proofs.ScanLemmas.{rows-from, list-map_of, if_ok_along}
-use Rattle.jv_outside.proofs.StoreLemmas.{stored-settled}
+use Rattle.jv_outside.specs.Stored.{scan_start}
+use Rattle.jv_outside.proofs.ScanLaws.{rows-from, list-map_of, if_ok_along}
+use Rattle.jv_outside.proofs.StoredLaws.{stored-settled}
 use Rattle.jv_outside.proofs.store.RowStore.scan.Goals as goal
 
 pub returns-clause-found : goal.returns-clause-found

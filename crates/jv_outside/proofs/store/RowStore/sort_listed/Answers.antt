@@ -3,7 +3,7 @@ use Rattle.std.proofs.Common.{◌++◌, sym, ap, ◌∙◌}
 use Rattle.jv_model.specs.rows.RowKeys.{row_map}
 use Rattle.jv_model.specs.rows.RowKeys.{row_key}
 use Rattle.jv_outside.specs.Rows.{applied}
-use Rattle.jv_outside.proofs.StoreLemmas.{map_of-moved}
+use Rattle.jv_outside.proofs.StoredLaws.{map_of-moved}
 use Rattle.jv_outside.proofs.store.RowStore.sort_listed.Goals as goal
 
 pub loop-key-preserved : goal.loop-key-preserved

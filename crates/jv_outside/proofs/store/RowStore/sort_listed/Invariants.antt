@@ -1,5 +1,5 @@
 use Rattle.std.proofs.Common.{◌≡◌, length}
-use Rattle.jv_outside.specs.Store.{stored}
+use Rattle.jv_outside.specs.Stored.{stored}
 use Rattle.jv_outside.proofs.store.RowStore.sort_listed.Given as goal
 
 abbrev pub invariant-loop-key : goal.invariant-loop-key

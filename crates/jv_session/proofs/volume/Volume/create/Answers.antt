@@ -38,12 +38,12 @@ invariant_of-self-2 c =
     let count : c.len.result ≡ length v.files.items = c.len.ensures ∙ v.files.ok.0 in
     let key : c.in_ok-key.key ≡ c.args.path.now = c.in_ok-key.ensures ∙ c.as_slice.ensures in
     let names = one_name v.names.entries c.insert.new.self.entries c.in_ok-key.key c.args.path.now c.len.result (length v.files.items) key count c.in_ok-insert.ensures.updates.0 in
-    subst (λ fs. IsVolume c.insert.new.self.entries fs (v.used_space + 4096)) (sym files) (record {
+    rw c.from.ensures (subst (λ fs. IsVolume c.insert.new.self.entries fs (v.used_space + 4096)) (sym files) (record {
       named = λ q. subst (λ o. IfSome o (IsFile (length (v.files.items ++ empty ∷ [])))) (sym (names q))
           (named_with (length v.files.items) (length (v.files.items ++ empty ∷ [])) (is_eq (slice_cmp nat_cmp q c.args.path.now)) (inode_named v.names.entries q) (length-append v.files.items (empty ∷ [])) (c.self.invariant.named q));
       space = ap (λ n. n + 4096) c.self.invariant.space ∙ sym space;
       short = AllShort-push v.files.items empty c.self.invariant.short (lit≤ tt);
-    })
+    }))
 
 pub returns-clause-ok : goal.returns-clause-ok
 returns-clause-ok c =
@@ -55,5 +55,5 @@ returns-clause-ok c =
     let count : c.len.result ≡ length v.files.items = c.len.ensures ∙ v.files.ok.0 in
     let key : c.in_ok-key.key ≡ c.args.path.now = c.in_ok-key.ensures ∙ c.as_slice.ensures in
     let names = one_name v.names.entries c.insert.new.self.entries c.in_ok-key.key c.args.path.now c.len.result (length v.files.items) key count c.in_ok-insert.ensures.updates.0 in
-    subst (λ (old : VolumeValue). (2 + c.len.result ≡ 2 + length old.files) × Creates old c.args.path.now (record { names = c.insert.new.self.entries; files = c.push_in_room.new.items.items; used_space = v.used_space + 4096 })) c.self.view_is
-    (ap (λ n. 2 + n) count, record { names = names; files = files; space = refl })
+    rw c.from.ensures (subst (λ (old : VolumeValue). (2 + c.len.result ≡ 2 + length old.files) × Creates old c.args.path.now (record { names = c.insert.new.self.entries; files = c.push_in_room.new.items.items; used_space = v.used_space + 4096 })) c.self.view_is
+    (ap (λ n. 2 + n) count, record { names = names; files = files; space = refl }))

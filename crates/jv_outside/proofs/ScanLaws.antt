@@ -18,7 +18,7 @@ use Rattle.jv_model.specs.FiniteMap.{KeyOrder, Map, get, map_of}
 use Rattle.jv_model.specs.rows.RowKeys.{row_cmp, row_cmp_total}
 use Rattle.jv_model.proofs.FiniteMapLaws.{get-map_of, same_map}
 use Rattle.jv_outside.specs.Rows.{is_after}
-use Rattle.jv_outside.specs.Store.{scan_start}
+use Rattle.jv_outside.specs.Stored.{scan_start}
 
 -- ---- what a loop has found, and what the rest still gives
 

@@ -8,7 +8,7 @@ use Rattle.std.specs.FinMap.Entries.{find}
 use Rattle.jv_model.specs.FiniteMap.{KeyOrder, get, insert, alter, map_of}
 use Rattle.jv_outside.specs.declared.store.RowStore.{RowStore}
 use Rattle.jv_outside.specs.Rows.{applied}
-use Rattle.jv_outside.specs.Store.{stored, IsSettled}
+use Rattle.jv_outside.specs.Stored.{stored, IsSettled}
 use Rattle.jv_model.proofs.FiniteMapLaws.{get-map_of, get-alter, same_maps}
 
 -- rows that are all in order

@@ -1,0 +1,23 @@
+-- What contracts see of rows in memory.
+use Rattle.std.specs.Prelude.{◌≡◌, [], ◌++◌, if◌then◌else◌, Option, None, Some}
+use Rattle.std.specs.declared.ops.Bound.{Bound}
+use Rattle.std.specs.declared.ops.Bound.TheVariants.{Included, Excluded}
+use Rattle.std.specs.Ordering.{is_le}
+use Rattle.jv_model.specs.declared.row.RowKey.{RowKey}
+use Rattle.jv_model.specs.rows.RowKeys.{RowMap, row_map, row_cmp}
+use Rattle.jv_outside.specs.declared.store.RowStore.{RowStore}
+use Rattle.jv_outside.specs.Rows.{applied}
+
+-- the rows: those in order, before them those that aren't in order yet, and on both the changes that wait
+abbrev pub stored : RowStore → RowMap
+stored store = applied store.waiting.items (row_map (store.listed.items ++ store.sorted.entries))
+
+-- all rows are in order, and no change waits
+pub record IsSettled (store : RowStore) : Type 0 where
+  pub listed : store.listed.items ≡ []
+  pub waiting : store.waiting.items ≡ []
+
+-- where a scan of a table begins: at its least key, or after a key that isn't before that
+abbrev pub scan_start : RowKey → Option RowKey → Bound RowKey
+scan_start first None = Included first
+scan_start first (Some last) = (if is_le (row_cmp first last) then Excluded last else Included first)

@@ -1,0 +1,66 @@
+-- What is seen of a source or a sink, and what a call does to it.
+use Rattle.std.specs.Prelude.{◌≡◌, ℕ, ◌<◌, ◌≤◌, List, ◌++◌, length, take, Option, IfSome, IsSomeAnd, Result, Ok, Err}
+use Rattle.std.specs.Io.KnownBytes.{Consumes, IsAtEnd, Keeps}
+use Rattle.jv_model.specs.declared.fault.Down.{Down}
+use Rattle.jv_outside.specs.Causes.{Rose, HasFailed}
+
+-- The bytes left of a source, or taken by a sink, where they are known; and how many calls failed. A sink's bytes may
+-- become unknown, and then stay so.
+pub record Stream : Type 0 where
+  pub content : Option (List ℕ)
+  pub faults : ℕ
+
+-- where the bytes are known after, they were known before, and are now followed by these
+pub record Gains (before after : Option (List ℕ)) (gained : List ℕ) : Type 0 where
+  pub known : IfSome after (λ new. IsSomeAnd before (λ old. new ≡ old ++ gained))
+
+-- `count` bytes were read from the front of those left, and none only at the end or where there was no room
+pub record HasRead (before after : Stream) (count : ℕ) (into : List ℕ) : Type 0 where
+  pub within : count ≤ length into
+  pub bytes : Consumes before.content after.content (take count into)
+  pub at_end : count ≡ 0 → 0 < length into → IsAtEnd after.content
+  pub calm : after.faults ≡ before.faults
+
+-- no byte was read, and the count of faults rose
+pub record FailsToRead (before after : Stream) (down : Down) : Type 0 where
+  pub content : Keeps before.content after.content
+  pub cause : HasFailed before.faults after.faults down
+
+-- what a call of a source comes to
+abbrev pub Reads : Stream → Stream → Result ℕ Down → List ℕ → Type 0
+Reads before after (Ok count) into = HasRead before after count into
+Reads before after (Err down) into = FailsToRead before after down
+
+-- the first `count` bytes of a piece were written, and none only of an empty piece
+pub record HasWritten (before after : Stream) (count : ℕ) (piece : List ℕ) : Type 0 where
+  pub within : count ≤ length piece
+  pub some : 0 < length piece → 0 < count
+  pub gains : Gains before.content after.content (take count piece)
+  pub calm : after.faults ≡ before.faults
+
+-- no byte was written, and the count of faults rose
+pub record FailsToWrite (before after : Stream) (down : Down) : Type 0 where
+  pub content : after.content ≡ before.content
+  pub cause : HasFailed before.faults after.faults down
+
+-- what a call of a sink comes to
+abbrev pub Writes : Stream → Stream → Result ℕ Down → List ℕ → Type 0
+Writes before after (Ok count) piece = HasWritten before after count piece
+Writes before after (Err down) piece = FailsToWrite before after down
+
+-- all these bytes were written, by calls that succeeded
+pub record HasAll (before after : Stream) (bytes : List ℕ) : Type 0 where
+  pub gains : Gains before.content after.content bytes
+  pub calm : after.faults ≡ before.faults
+
+-- a proper prefix of these bytes was written, and then a call failed
+pub record IsCut (before after : Stream) (bytes : List ℕ) : Type 0 where
+  pub count : ℕ
+  pub proper : count < length bytes
+  pub gains : Gains before.content after.content (take count bytes)
+  pub rose : Rose before.faults after.faults
+
+-- what it comes to to write all bytes
+abbrev pub WritesAll : Stream → Stream → Result (Unit {0}) Down → List ℕ → Type 0
+WritesAll before after (Ok unit) bytes = HasAll before after bytes
+WritesAll before after (Err down) bytes = IsCut before after bytes

@@ -1,0 +1,30 @@
+-- What is seen of a clock, and what a call does to it.
+use Rattle.std.specs.Prelude.{◌≡◌, ℕ, ◌+◌, Option, IfSome, IsSomeAnd, Result, Ok, Err}
+use Rattle.jv_model.specs.declared.fault.Down.{Down}
+use Rattle.jv_outside.specs.Causes.{HasFailed}
+
+-- The answers to come, by their number from 0, where they are known; and how many calls failed. The answers may become
+-- unknown, and then stay so.
+pub record Ticks : Type 0 where
+  pub answers : Option (ℕ → ℕ)
+  pub faults : ℕ
+
+-- where the answers to come are known after, they were known before, and `count` of those have passed
+pub record Passes (before after : Option (ℕ → ℕ)) (count : ℕ) : Type 0 where
+  pub known : IfSome after (λ rest. IsSomeAnd before (λ answers. (n : ℕ) → rest n ≡ answers (n + count)))
+
+-- the clock answered the first of the answers to come, in seconds
+pub record HasAnswered (before after : Ticks) (moment : ℕ) : Type 0 where
+  pub answer : IfSome before.answers (λ answers. moment ≡ answers 0)
+  pub passes : Passes before.answers after.answers 1
+  pub calm : after.faults ≡ before.faults
+
+-- no answer has passed, and the count of faults rose
+pub record FailsToAnswer (before after : Ticks) (down : Down) : Type 0 where
+  pub answers : after.answers ≡ before.answers
+  pub cause : HasFailed before.faults after.faults down
+
+-- what a call of a clock comes to
+abbrev pub Answers : Ticks → Ticks → Result ℕ Down → Type 0
+Answers before after (Ok moment) = HasAnswered before after moment
+Answers before after (Err down) = FailsToAnswer before after down
