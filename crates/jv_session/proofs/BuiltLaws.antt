@@ -26,34 +26,10 @@ use Rattle.jv_session.proofs.FileLaws.{slice_get_inside}
 use Rattle.jv_session.proofs.FileLines.{open_at, inode_in-open}
 use Rattle.jv_session.proofs.HandleLaws.{file_of-table, open_count-table}
 use Rattle.jv_session.proofs.SpaceLaws.{space_of-part}
-use Rattle.jv_session.proofs.TreeLaws.{created, create-exists, create-new, open-found, open-absent, flush_fits-file}
+use Rattle.jv_session.proofs.SubmissionLaws.{submission-here}
+use Rattle.jv_session.proofs.TreeLaws.{and_when, created, create-exists, create-new, open-found, open-absent, flush_fits-file}
 
 -- refusals
-
--- the refusal by what is asked of a client
-abbrev refused_by : Bool → Bool → Bool → ℕ → Op → Option Fault
-refused_by busy mounted there opened op = first_refusal (
-    (busy || (is_mount op && mounted), InProgress)
-    ∷ (not mounted && not (needs_no_mount op), NotConnected)
-    ∷ (names_handle op && not there, BadHandle)
-    ∷ (gives_handle op && nat_le 1024 opened, TooManyHandles)
-    ∷ (nat_lt 1099511627776 (write_end op), FileTooLarge)
-    ∷ [])
-
-is_some-map : {X Y : Type 0} (f : X → Y) (o : Option X) → is_some (option_map f o) ≡ is_some o
-is_some-map f None = refl
-is_some-map f (Some x) = refl
-
-submission-here : (c : ModelClient) (count : ℕ) (s : ScheduleValue) (op : Op) → IsClient c count s → c.doing ≡ None → refusal_here s op ≡ submission c op
-submission-here c count s op h idle =
-    let inode = λ (file : OpenFile). file.inode in
-    let there : is_some (file_of s.handles (handle_in op)) ≡ is_some (file_of c.handles (handle_in op)) =
-    ap (λ handles. is_some (file_of handles (handle_in op))) (sym h.handles) ∙ ap is_some (file_of-table inode c.handles (handle_in op)) ∙ is_some-map inode (file_of c.handles (handle_in op)) in
-    let opened : open_count s.handles ≡ open_count c.handles = ap open_count (sym h.handles) ∙ open_count-table inode c.handles in
-    ap (λ session. refused_by false (is_some session) (is_some (file_of s.handles (handle_in op))) (open_count s.handles) op) (sym h.session)
-    ∙ ap (λ b. refused_by false (is_some c.session) b (open_count s.handles) op) there
-    ∙ ap (λ n. refused_by false (is_some c.session) (is_some (file_of c.handles (handle_in op))) n op) opened
-    ∙ ap (λ doing. refused_by (is_some doing) (is_some c.session) (is_some (file_of c.handles (handle_in op))) (open_count c.handles) op) (sym idle)
 
 -- a test that refuses nothing
 passed : (b : Bool) (fault : Fault) (rest : Option Fault) → cond b (Some fault) rest ≡ None → (b ≡ false) × (rest ≡ None)
@@ -192,16 +168,11 @@ answer-here : (p : Past) (s : ScheduleValue) (op : Op) (r : Option Fault) → Ag
 answer-here p s op (Some fault) a form is = refl
 answer-here p s op None a form is = run-here p s op a form is
 
--- what follows a test may rest on it
-and_when : (a b c : Bool) → (a ≡ true → b ≡ c) → (a && b) ≡ (a && c)
-and_when true b c h = h refl
-and_when false b c h = refl
-
 op-here : (p : Past) (s : ScheduleValue) (op : Op) → Agrees p None s → built_op s op ≡ (is_built_form p op && is_built_answer p 0 op (submission (p.clients 0) op))
 op-here p s op a =
     and_when (has_form s.limits op) _ _ (λ form. answer-here p s op (refusal_here s op) a form refl)
     ∙ ap (λ b. b && is_built_answer p 0 op (refusal_here s op)) (form-here p s op a.limits)
-    ∙ ap (λ r. is_built_form p op && is_built_answer p 0 op r) (submission-here (p.clients 0) p.count s op a.client a.busy)
+    ∙ ap (λ r. is_built_form p op && is_built_answer p 0 op r) (sym (submission-here (p.clients 0) p.count s op a.client a.busy))
 
 client-here : (p : Past) (s : ScheduleValue) (client : ℕ) (op : Op) → Agrees p None s → (client == 0) ≡ true
     → built_op s op ≡ (is_built_form p op && is_built_answer p client op (submission (p.clients client) op))

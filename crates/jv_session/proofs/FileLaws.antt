@@ -37,7 +37,7 @@ module _ {X : Type 0} where
   some_and None P h = absurd h
   some_and (Some x) P h = (x, refl, h)
 
-shown_over-push : (below : ℕ) (segments : List StoredSegment) (s : StoredSegment) (position : ℕ)
+pub shown_over-push : (below : ℕ) (segments : List StoredSegment) (s : StoredSegment) (position : ℕ)
     → shown_over below (segments ++ s ∷ []) position ≡ cond (covers s position) (slice_index s.bytes (position - s.from)) (shown_over below segments position)
 shown_over-push below [] s position = refl
 shown_over-push below (first ∷ segments) s position = shown_over-push (cond (covers first position) (slice_index first.bytes (position - first.from)) below) segments s position

@@ -10,6 +10,7 @@ use Rattle.jv_session.specs.declared.volume.StoredFile.{StoredFile}
 use Rattle.jv_session.specs.declared.volume.StoredSegment.{StoredSegment}
 use Rattle.jv_session.specs.Stored.{covers, shown_over, stored_byte}
 use Rattle.jv_session.specs.Shown.{shown_between}
+use Rattle.jv_session.proofs.FileLaws.{shown_over-push}
 use borrow.Rule.Slice.PartMut.{put_mid}
 
 module _ (xs part : List ℕ) (a n : ℕ) (fits : a + n ≤ length xs) (long : length part ≡ n) where
@@ -70,11 +71,6 @@ painted bytes part s from low high low_is high_is small some copied k inside =
     (λ (after : a + n ≤ k). after_part bytes part a n fits long k after ∙ sym (other_byte s from bytes k (uncovered_after s (from + k) (omega arith))))
     (cases_lt k (a + n)))
     (cases_lt k a)
-
-shown_over-push : (below : ℕ) (segments : List StoredSegment) (s : StoredSegment) (position : ℕ)
-    → shown_over below (segments ++ s ∷ []) position ≡ cond (covers s position) (slice_index s.bytes (position - s.from)) (shown_over below segments position)
-shown_over-push below [] s position = refl
-shown_over-push below (first ∷ segments) s position = shown_over-push (cond (covers first position) (slice_index first.bytes (position - first.from)) below) segments s position
 
 -- the loop over the segments: one more is painted over the ones before it
 pub shown_more : (segments : List StoredSegment) (i : ℕ) (s : StoredSegment) (old new : List ℕ) (from k : ℕ) → i < length segments → s ≡ get_or segments i s

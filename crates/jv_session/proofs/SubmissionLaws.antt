@@ -2,6 +2,7 @@
 use Rattle.std.proofs.Common.{◌≡◌, ℕ, ◌^◌, Bool, not, ◌&&◌, ◌||◌, List, [], ◌∷◌, ◌++◌, Option, None, Some, refl, sym, ap, ◌∙◌}
 use Rattle.std.specs.Prelude.{is_some, nat_le, nat_lt}
 use Rattle.std.specs.Option.{option_map}
+use Rattle.jv_model.specs.declared.limits.TheConstants.{MAX_HANDLES, FILE_END}
 use Rattle.jv_model.specs.declared.act.Act.{Act}
 use Rattle.jv_model.specs.declared.act.ActKind.TheVariants.{Answered}
 use Rattle.jv_model.specs.declared.act.Told.TheVariants.{Refused as ToldRefused}
@@ -25,8 +26,8 @@ submission_tests op doing session found count = first_refusal (
     (is_some doing || (is_mount op && is_some session), InProgress)
     ∷ (not (is_some session) && not (needs_no_mount op), NotConnected)
     ∷ (names_handle op && not found, BadHandle)
-    ∷ (gives_handle op && nat_le 1024 count, TooManyHandles)
-    ∷ (nat_lt (2 ^ 40) (write_end op), FileTooLarge)
+    ∷ (gives_handle op && nat_le MAX_HANDLES count, TooManyHandles)
+    ∷ (nat_lt FILE_END (write_end op), FileTooLarge)
     ∷ [])
 
 is_some-option_map : {X Y : Type 0} (f : X → Y) (o : Option X) → is_some (option_map f o) ≡ is_some o

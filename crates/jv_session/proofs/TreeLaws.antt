@@ -1,5 +1,6 @@
 -- What the lines of today do to a tree that has a volume's files in its root.
 use Rattle.std.proofs.Common.{◌≡◌, ℕ, ◌+◌, ◌-◌, ◌≤◌, ◌<◌, max, Bool, true, false, cond, not, ◌&&◌, ◌||◌, List, [], ◌∷◌, ◌++◌, length, slice_get, slice_set, Option, None, Some, Ok, Err, refl, sym, ap, subst, ◌∙◌, arith, length-append, length-set, ltb-true}
+use Rattle.std.proofs.Math.Bool.{and-true}
 use Rattle.std.specs.Prelude.{is_some, nat_le, nat_lt, IfSome, IsSomeAnd}
 use Rattle.std.specs.Ordering.{nat_cmp, is_eq, eq_by_cmp}
 use Rattle.std.specs.Cmp.Lexicographic.{slice_cmp}
@@ -94,13 +95,10 @@ some_node : (o : Option Node) (parent : ℕ) → parent_of o ≡ Some parent →
 some_node None parent e = absurd (cc e)
 some_node (Some node) parent e = (node, refl, e)
 
-and-true : (b : Bool) → (b && true) ≡ b
-and-true true = refl
-and-true false = refl
-
-and-when : (a b c : Bool) → (a ≡ true → b ≡ c) → (a && b) ≡ (a && c)
-and-when true b c h = h refl
-and-when false b c h = refl
+-- what follows a test may rest on it
+pub and_when : (a b c : Bool) → (a ≡ true → b ≡ c) → (a && b) ≡ (a && c)
+and_when true b c h = h refl
+and_when false b c h = refl
 
 -- the nodes of a tree with a new file
 module _ (t : Tree) (v : VolumeValue) (who : Caller) (name : List ℕ) (mode : ℕ) (h : HasFiles t v) (low : 2 + length v.files < full_count) where
@@ -172,7 +170,7 @@ has_room-created : (t : Tree) (v : VolumeValue) (who : Caller) (name : List ℕ)
     → (nat_lt t.next_inode full_count && fits t (created t who (47 ∷ name) mode)) ≡ has_room t.setting v
 has_room-created t v who name mode h =
     ap (λ inode. nat_lt inode full_count && fits t (created t who (47 ∷ name) mode)) h.next
-    ∙ and-when (nat_lt (2 + length v.files) full_count) _ _ (λ low.
+    ∙ and_when (nat_lt (2 + length v.files) full_count) _ _ (λ low.
     let less = ltb-true _ _ low in
     ap (fits t) (created-is t v who name mode h less) ∙ fits-created t v who name mode h less)
 

@@ -58,10 +58,14 @@ inode_or_zero (Some inode) = inode
 abbrev pub may_flush : ScheduleValue → ℕ → Bool
 may_flush s inode = grown_fits s.setting s.volume (slice_get s.volume.files (inode - 2)) (end_of inode s.pending)
 
+-- whether so many bytes more may be pending
+abbrev pub may_hold : ScheduleValue → ℕ → Bool
+may_hold s more = nat_le (length s.pending + more) pending_limit && nat_le (length s.pending + more) s.limits.buffer
+
 abbrev pub may_run : ScheduleValue → Op → Bool
 may_run s (Close handle) = may_flush s (inode_or_zero (file_of s.handles handle))
 may_run s (Read handle offset len) = may_flush s (inode_or_zero (file_of s.handles handle))
-may_run s (Write handle offset bytes) = nat_le (length s.pending + length bytes) pending_limit && nat_le (length s.pending + length bytes) s.limits.buffer
+may_run s (Write handle offset bytes) = may_hold s (length bytes)
 may_run s (Create path mode) = is_some (inode_named s.volume.names path) || has_room s.setting s.volume
 may_run s op = true
 

@@ -3,6 +3,7 @@ pub mod Stored
 pub mod Agrees
 pub mod Shown
 pub mod Lines
+pub mod Answers
 pub mod BuiltHere
 pub mod Held
 pub mod Progress

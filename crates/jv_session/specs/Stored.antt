@@ -55,6 +55,10 @@ pub record Creates (before : VolumeValue) (path : List ℕ) (after : VolumeValue
 abbrev pub with_commit : VolumeValue → ℕ → ℕ → List ℕ → StoredFile → ℕ → VolumeValue
 with_commit v k from bytes file used = record v { files = slice_set v.files k (with_segment from bytes file); used_space = used }
 
+-- what holds of the file of an inode, where there is one
+abbrev pub OfFileAt : VolumeValue → ℕ → (StoredFile → Type 0) → Type 0
+OfFileAt v inode p = IfSome (slice_get v.files (inode - 2)) p
+
 -- an inode of one of so many files
 pub record IsFile (count inode : ℕ) : Type 0 where
   pub low : 2 ≤ inode

@@ -2,17 +2,16 @@
 ghost use Rattle.std.specs.Prelude.{◌≡◌, ◌+◌, ◌&&◌, nat_le, IsSome, length, None};
 ghost use Rattle.jv_model.specs.run.Built.{is_built_fault, pending_limit};
 ghost use Rattle.jv_model.specs.run.Pending.{window_size};
-ghost use Rattle.jv_model.specs.run.Client.{is_mount, needs_no_mount, names_handle, handle_in, gives_handle, write_end, file_of};
-ghost use Rattle.jv_model.specs.tree.Tree.{space_limit, inode_limit};
+ghost use Rattle.jv_model.specs.run.Client.{file_of};
 ghost use Rattle.jv_session.specs.Stored.{IsFile};
-ghost use Rattle.jv_session.specs.BuiltHere.{refusal_here, has_form, may_run, may_flush, may_answer, built_op, has_room, inode_or_zero};
+ghost use Rattle.jv_session.specs.BuiltHere.{refusal_here, has_form, may_run, may_flush, may_answer, may_hold, built_op, has_room, inode_or_zero};
 
 use crate::handles::{named, open_count};
 use crate::root_paths::is_root_path;
 use crate::schedule::Schedule;
 use crate::volume::Volume;
 use jv_model::{
-    DEFAULT_BUFFER, FILE_END, FULL_COUNT, Fault, GIB, Limits, MAX_HANDLES, Op, SPACE_UNIT, Setting,
+    DEFAULT_BUFFER, FILE_END, FULL_COUNT, Fault, Limits, MAX_HANDLES, Op, SPACE_UNIT, Setting,
     WINDOW,
 };
 
@@ -38,19 +37,19 @@ impl Schedule {
         ensures { result ≡ refusal_here self.now op.now }
     {
         let is_mounted = self.session.is_some();
-        if is_mount(op) && is_mounted {
+        if op.is_mount() && is_mounted {
             return Some(Fault::InProgress);
         }
-        if !is_mounted && !needs_no_mount(op) {
+        if !is_mounted && !op.needs_no_mount() {
             return Some(Fault::NotConnected);
         }
-        if names_handle(op) && named(&self.handles, handle_in(op)).is_none() {
+        if op.names_handle() && named(&self.handles, op.handle()).is_none() {
             return Some(Fault::BadHandle);
         }
-        if gives_handle(op) && open_count(&self.handles) >= MAX_HANDLES {
+        if op.gives_handle() && open_count(&self.handles) >= MAX_HANDLES {
             return Some(Fault::TooManyHandles);
         }
-        if write_end(op) > u128::from(FILE_END) {
+        if op.write_end() > u128::from(FILE_END) {
             return Some(Fault::FileTooLarge);
         }
         None
@@ -87,12 +86,12 @@ impl Schedule {
     {
         let before = self.volume.used_space();
         let after = self.volume.space_with(inode, self.pending.end_of(inode));
-        after <= space_limit(&self.setting) || after <= before
+        after <= self.setting.space_limit() || after <= before
     }
 
-    /// Whether so many more bytes may be pending.
+    /// Whether `more` bytes more may be pending.
     fn may_hold(&self, more: usize) -> bool
-        ensures { result ≡ (nat_le (length self.now.pending + more) pending_limit && nat_le (length self.now.pending + more) self.now.limits.buffer) }
+        ensures { result ≡ may_hold self.now more }
     {
         let held = u128::from(self.pending.bytes()) + more as u128;
         held <= u128::from(DEFAULT_BUFFER) && held <= u128::from(self.limits.buffer)
@@ -129,80 +128,14 @@ fn is_built_fault(fault: Fault) -> bool
     )
 }
 
-/// The volume's limit of used space in bytes.
-fn space_limit(setting: &Setting) -> u128
-    ensures { result ≡ space_limit setting.now }
-{
-    if setting.capacity == 0 {
-        u128::from(FULL_COUNT)
-    } else {
-        u128::from(setting.capacity) * u128::from(GIB)
-    }
-}
-
-/// The volume's limit of used inodes.
-fn inode_limit(setting: &Setting) -> u64
-    ensures { result ≡ inode_limit setting.now }
-{
-    if setting.inodes == 0 {
-        FULL_COUNT
-    } else {
-        setting.inodes
-    }
-}
-
 /// Whether one more file is within the volume's limits.
 fn has_room(setting: &Setting, volume: &Volume) -> bool
     ensures { result ≡ has_room setting.now volume.now }
 {
     let count = volume.count();
-    let limit = space_limit(setting);
+    let limit = setting.space_limit();
     count + 2 < FULL_COUNT
         && limit >= u128::from(SPACE_UNIT)
         && volume.used_space() <= limit - u128::from(SPACE_UNIT)
-        && count < inode_limit(setting)
-}
-
-fn is_mount(op: &Op) -> bool
-    ensures { result ≡ is_mount op.now }
-{
-    matches!(op, Op::Mount { .. })
-}
-
-fn needs_no_mount(op: &Op) -> bool
-    ensures { result ≡ needs_no_mount op.now }
-{
-    matches!(op, Op::Mount { .. } | Op::Upload)
-}
-
-fn names_handle(op: &Op) -> bool
-    ensures { result ≡ names_handle op.now }
-{
-    matches!(op, Op::Close { .. } | Op::Read { .. } | Op::Write { .. })
-}
-
-fn handle_in(op: &Op) -> u64
-    ensures { result ≡ handle_in op.now }
-{
-    match op {
-        Op::Close { handle } => *handle,
-        Op::Read { handle, .. } => *handle,
-        Op::Write { handle, .. } => *handle,
-        _ => 0,
-    }
-}
-
-fn gives_handle(op: &Op) -> bool
-    ensures { result ≡ gives_handle op.now }
-{
-    matches!(op, Op::Create { .. } | Op::Open { .. })
-}
-
-fn write_end(op: &Op) -> u128
-    ensures { result ≡ write_end op.now }
-{
-    match op {
-        Op::Write { offset, bytes, .. } => u128::from(*offset) + bytes.len() as u128,
-        _ => 0,
-    }
+        && count < setting.inode_limit()
 }

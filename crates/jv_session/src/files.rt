@@ -12,9 +12,9 @@ ghost use Rattle.jv_session.specs.Agrees.{entry_at};
 ghost use Rattle.jv_session.specs.BuiltHere.{refusal_here, built_op, may_flush};
 ghost use Rattle.jv_model.specs.run.Pending.{next_segment, pending_of, window_size, written};
 ghost use Rattle.jv_pending.specs.At.{segment_at};
-ghost use Rattle.jv_session.specs.Lines.{RunsTo};
+ghost use Rattle.jv_session.specs.Answers.{Answers, RunsOut};
 ghost use Rattle.jv_session.specs.Shown.{shown_between};
-ghost use Rattle.jv_session.specs.Stored.{IsFile};
+ghost use Rattle.jv_session.specs.Stored.{IsFile, OfFileAt};
 ghost use Rattle.jv_session.specs.Flushing.{Flushed, FlushesSegment, ShowsFile};
 
 use crate::handles;
@@ -37,8 +37,10 @@ impl Schedule {
         requires built { IsTrue (built_op self.old (Write handle offset bytes.now)) }
         requires fresh { refusal_here self.old (Write handle offset bytes.now) ≡ None }
         requires room { 1 ≤ journal.old.spare }
-        ensures ok { IfOk result (λ text. RunsTo (Write handle offset bytes.now) turn.now.line turn.now.at journal.old.acts journal.new.acts self.old self.new text) }
-        ensures err { OnErr result (RunsTo (Write handle offset bytes.now) turn.now.line turn.now.at journal.old.acts (journal.new.acts ++ entry_at turn.now.line turn.now.at (Answered (ToldRefused NoMemory)) ∷ []) self.old self.new (printed_line self.old.setting (Refused NoMemory))) }
+        ensures ok { Answers (Write handle offset bytes.now) turn.now journal.old journal.new
+            self.old self.new result }
+        ensures err { RunsOut (Write handle offset bytes.now) turn.now journal.old journal.new
+            self.old self.new result }
         ensures room { OnErr result (1 ≤ journal.new.spare) }
     {
         let count = bytes.len() as u64;
@@ -51,10 +53,13 @@ impl Schedule {
         Ok(text)
     }
 
-    /// Keeps bytes as pending. Where memory is wanting, nothing has changed.
+    /// Keeps bytes as pending. On error nothing has changed.
     fn hold(&mut self, inode: u64, offset: u64, bytes: &Bytes) -> Result<(), AllocError>
         requires end { offset + length bytes.now ≤ FILE_END }
-        ensures ok { OnOk result (self.new ≡ record self.old { pending = written inode offset bytes.now self.old.pending }) }
+        ensures ok { OnOk result (self.new ≡ record self.old {
+          pending = written inode offset
+              bytes.now self.old.pending;
+        }) }
         ensures err { OnErr result (self.new ≡ self.old) }
     {
         if self.pending.write(inode, offset, bytes).is_err() {
@@ -63,15 +68,16 @@ impl Schedule {
         Ok(())
     }
 
-    /// Commits what is pending of a file, one segment at a time. Where memory is wanting, the segments before stand, and
-    /// one is left.
+    /// Commits what is pending of a file, one segment at a time. On error the segments before are committed,
+    /// and one is left.
     fn flush(&mut self, inode: u64, turn: &Turn, journal: &mut Journal) -> Result<(), AllocError>
         requires file { IsFile (length self.old.volume.files) inode }
         requires fits { IsTrue (may_flush self.old inode) }
         requires room { 1 ≤ journal.old.spare }
         ensures empty { OnOk result (pending_of inode self.new.pending ≡ []) }
         ensures left { OnErr result (IsTrue (is_some (next_segment (Some inode) self.new.pending))) }
-        ensures flushed { Flushed inode turn.now.line turn.now.at journal.old.acts journal.new.acts self.old self.new }
+        ensures flushed { Flushed inode turn.now.line turn.now.at journal.old.acts journal.new.acts
+            self.old self.new }
         ensures room { 1 ≤ journal.new.spare }
     {
         while let Some(at) = self.pending.first(Some(inode)) {
@@ -80,7 +86,7 @@ impl Schedule {
         Ok(())
     }
 
-    /// Commits a segment. Where memory is wanting, nothing has changed.
+    /// Commits a segment. On error nothing has changed.
     fn flush_segment(
         &mut self,
         inode: u64,
@@ -94,7 +100,8 @@ impl Schedule {
         requires inside { at.pos + at.len ≤ window_size }
         requires window { at.window < 16384 }
         requires room { 1 ≤ journal.old.spare }
-        ensures ok { OnOk result (FlushesSegment inode (segment_at at) turn.now.line turn.now.at journal.old.acts journal.new.acts self.old self.new) }
+        ensures ok { OnOk result (FlushesSegment inode (segment_at at) turn.now.line turn.now.at
+            journal.old.acts journal.new.acts self.old self.new) }
         ensures err { OnErr result ((journal.new.acts ≡ journal.old.acts) × (self.new ≡ self.old)) }
         ensures room { 1 ≤ journal.new.spare }
     {
@@ -127,8 +134,10 @@ impl Schedule {
         requires built { IsTrue (built_op self.old (Close handle)) }
         requires fresh { refusal_here self.old (Close handle) ≡ None }
         requires room { 1 ≤ journal.old.spare }
-        ensures ok { IfOk result (λ text. RunsTo (Close handle) turn.now.line turn.now.at journal.old.acts journal.new.acts self.old self.new text) }
-        ensures err { OnErr result (RunsTo (Close handle) turn.now.line turn.now.at journal.old.acts (journal.new.acts ++ entry_at turn.now.line turn.now.at (Answered (ToldRefused NoMemory)) ∷ []) self.old self.new (printed_line self.old.setting (Refused NoMemory))) }
+        ensures ok { Answers (Close handle) turn.now journal.old journal.new self.old self.new
+            result }
+        ensures err { RunsOut (Close handle) turn.now journal.old journal.new self.old self.new
+            result }
         ensures room { OnErr result (1 ≤ journal.new.spare) }
     {
         let Some(inode) = handles::named(&self.handles, handle) else {
@@ -153,8 +162,10 @@ impl Schedule {
         requires built { IsTrue (built_op self.old (Read handle offset len)) }
         requires fresh { refusal_here self.old (Read handle offset len) ≡ None }
         requires room { 1 ≤ journal.old.spare }
-        ensures ok { IfOk result (λ text. RunsTo (Read handle offset len) turn.now.line turn.now.at journal.old.acts journal.new.acts self.old self.new text) }
-        ensures err { OnErr result (RunsTo (Read handle offset len) turn.now.line turn.now.at journal.old.acts (journal.new.acts ++ entry_at turn.now.line turn.now.at (Answered (ToldRefused NoMemory)) ∷ []) self.old self.new (printed_line self.old.setting (Refused NoMemory))) }
+        ensures ok { Answers (Read handle offset len) turn.now journal.old journal.new self.old
+            self.new result }
+        ensures err { RunsOut (Read handle offset len) turn.now journal.old journal.new self.old
+            self.new result }
         ensures room { OnErr result (1 ≤ journal.new.spare) }
     {
         if len == 0 {
@@ -167,8 +178,8 @@ impl Schedule {
         self.read_flushed(inode, offset, len, turn, journal)
     }
 
-    /// Answers a read of no byte. It looks at nothing, so its answer comes in the step of the last commit, and has its
-    /// memory before.
+    /// Answers a read of no byte. It looks at nothing, so its answer comes in the step of the last
+    /// commit, and has its memory before.
     fn read_nothing(
         &mut self,
         handle: u64,
@@ -179,8 +190,10 @@ impl Schedule {
         requires built { IsTrue (built_op self.old (Read handle offset 0)) }
         requires fresh { refusal_here self.old (Read handle offset 0) ≡ None }
         requires room { 1 ≤ journal.old.spare }
-        ensures ok { IfOk result (λ text. RunsTo (Read handle offset 0) turn.now.line turn.now.at journal.old.acts journal.new.acts self.old self.new text) }
-        ensures err { OnErr result (RunsTo (Read handle offset 0) turn.now.line turn.now.at journal.old.acts (journal.new.acts ++ entry_at turn.now.line turn.now.at (Answered (ToldRefused NoMemory)) ∷ []) self.old self.new (printed_line self.old.setting (Refused NoMemory))) }
+        ensures ok { Answers (Read handle offset 0) turn.now journal.old journal.new self.old
+            self.new result }
+        ensures err { RunsOut (Read handle offset 0) turn.now journal.old journal.new self.old
+            self.new result }
         ensures room { OnErr result (1 ≤ journal.new.spare) }
     {
         let Some(inode) = handles::named(&self.handles, handle) else {
@@ -204,7 +217,9 @@ impl Schedule {
         requires file { IsFile (length self.now.volume.files) inode }
         requires end { offset + len ≤ window_size }
         requires room { 1 ≤ journal.old.spare }
-        ensures ok { IfOk result (λ text. IfSome (slice_get self.now.volume.files (inode - 2)) (λ file. ShowsFile self.now.setting inode (shown_between file offset (offset + len)) turn.now.line turn.now.at journal.old.acts journal.new.acts text)) }
+        ensures ok { IfOk result (λ text. OfFileAt self.now.volume inode (λ file.
+            ShowsFile self.now.setting inode (shown_between file offset (offset + len))
+            turn.now.line turn.now.at journal.old.acts journal.new.acts text)) }
         ensures err { OnErr result (journal.new.acts ≡ journal.old.acts) }
         ensures room { OnErr result (1 ≤ journal.new.spare) }
     {

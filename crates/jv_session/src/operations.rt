@@ -9,7 +9,7 @@ ghost use Rattle.jv_model.specs.script.Spelling.{is_root_path};
 ghost use Rattle.jv_model.specs.script.ReplyText.{printed_line};
 ghost use Rattle.jv_session.specs.Agrees.{entry_at};
 ghost use Rattle.jv_session.specs.BuiltHere.{refusal_here, built_op, has_room};
-ghost use Rattle.jv_session.specs.Lines.{RunsTo};
+ghost use Rattle.jv_session.specs.Answers.{Answers, RunsOut, RefusedByTree};
 ghost use Rattle.jv_session.specs.Stored.{inode_named};
 
 use crate::handles;
@@ -28,8 +28,8 @@ impl Schedule {
     ) -> Result<Bytes, AllocError>
         requires refused { refusal_here self.now op.now ≡ Some fault }
         requires room { 1 ≤ journal.old.spare }
-        ensures ok { IfOk result (λ text. RunsTo op.now turn.now.line turn.now.at journal.old.acts journal.new.acts self.now self.now text) }
-        ensures err { OnErr result (RunsTo op.now turn.now.line turn.now.at journal.old.acts (journal.new.acts ++ entry_at turn.now.line turn.now.at (Answered (ToldRefused NoMemory)) ∷ []) self.now self.now (printed_line self.now.setting (Refused NoMemory))) }
+        ensures ok { Answers op.now turn.now journal.old journal.new self.now self.now result }
+        ensures err { RunsOut op.now turn.now journal.old journal.new self.now self.now result }
         ensures room { OnErr result (1 ≤ journal.new.spare) }
     {
         let text = self.print(&Reply::Refused(fault))?;
@@ -45,7 +45,7 @@ impl Schedule {
         journal: &mut Journal,
     ) -> Result<Bytes, AllocError>
         requires room { 1 ≤ journal.old.spare }
-        ensures ok { IfOk result (λ text. (text ≡ printed_line self.now.setting (Refused fault)) × (journal.new.acts ≡ journal.old.acts ++ entry_at turn.now.line turn.now.at Meta ∷ entry_at turn.now.line turn.now.at (Answered (ToldRefused fault)) ∷ [])) }
+        ensures ok { IfOk result (RefusedByTree fault turn.now journal.old journal.new self.now) }
         ensures err { OnErr result (journal.new.acts ≡ journal.old.acts) }
         ensures room { OnErr result (1 ≤ journal.new.spare) }
     {
@@ -61,8 +61,9 @@ impl Schedule {
         requires fresh { refusal_here self.old (Mount false) ≡ None }
         requires direct { self.old.limits.writeback ≡ false }
         requires room { 1 ≤ journal.old.spare }
-        ensures ok { IfOk result (λ text. RunsTo (Mount false) turn.now.line turn.now.at journal.old.acts journal.new.acts self.old self.new text) }
-        ensures err { OnErr result (RunsTo (Mount false) turn.now.line turn.now.at journal.old.acts (journal.new.acts ++ entry_at turn.now.line turn.now.at (Answered (ToldRefused NoMemory)) ∷ []) self.old self.new (printed_line self.old.setting (Refused NoMemory))) }
+        ensures ok { Answers (Mount false) turn.now journal.old journal.new self.old self.new result }
+        ensures err { RunsOut (Mount false) turn.now journal.old journal.new self.old self.new
+            result }
         ensures room { OnErr result (1 ≤ journal.new.spare) }
     {
         let text = self.print(&Reply::SessionMade { sid: 1 })?;
@@ -84,8 +85,10 @@ impl Schedule {
         requires built { IsTrue (built_op self.old (Create path.now mode)) }
         requires fresh { refusal_here self.old (Create path.now mode) ≡ None }
         requires room { 1 ≤ journal.old.spare }
-        ensures ok { IfOk result (λ text. RunsTo (Create path.now mode) turn.now.line turn.now.at journal.old.acts journal.new.acts self.old self.new text) }
-        ensures err { OnErr result (RunsTo (Create path.now mode) turn.now.line turn.now.at journal.old.acts (journal.new.acts ++ entry_at turn.now.line turn.now.at (Answered (ToldRefused NoMemory)) ∷ []) self.old self.new (printed_line self.old.setting (Refused NoMemory))) }
+        ensures ok { Answers (Create path.now mode) turn.now journal.old journal.new self.old
+            self.new result }
+        ensures err { RunsOut (Create path.now mode) turn.now journal.old journal.new self.old
+            self.new result }
         ensures room { OnErr result (1 ≤ journal.new.spare) }
     {
         if self.volume.find(path).is_some() {
@@ -113,8 +116,10 @@ impl Schedule {
         requires built { IsTrue (built_op self.old (Open path.now)) }
         requires fresh { refusal_here self.old (Open path.now) ≡ None }
         requires room { 1 ≤ journal.old.spare }
-        ensures ok { IfOk result (λ text. RunsTo (Open path.now) turn.now.line turn.now.at journal.old.acts journal.new.acts self.old self.new text) }
-        ensures err { OnErr result (RunsTo (Open path.now) turn.now.line turn.now.at journal.old.acts (journal.new.acts ++ entry_at turn.now.line turn.now.at (Answered (ToldRefused NoMemory)) ∷ []) self.old self.new (printed_line self.old.setting (Refused NoMemory))) }
+        ensures ok { Answers (Open path.now) turn.now journal.old journal.new self.old self.new
+            result }
+        ensures err { RunsOut (Open path.now) turn.now journal.old journal.new self.old self.new
+            result }
         ensures room { OnErr result (1 ≤ journal.new.spare) }
     {
         let Some(inode) = self.volume.find(path) else {

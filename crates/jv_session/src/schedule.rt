@@ -1,4 +1,4 @@
-//! A session of one client: each line of its script in turn.
+//! A session of one client, line by line.
 ghost use Rattle.std.specs.Prelude.{◌≡◌, ◌↔◌, ℕ, ◌+◌, ◌≤◌, ◌<◌, ◌++◌, ◌∷◌, [], min, max, ◌≢◌, IsTrue, IfOk, OnOk, OnErr};
 ghost use Rattle.jv_model.specs.declared.limits.TheConstants.{LAST_MOMENT, MAX_DATA};
 ghost use Rattle.jv_model.specs.declared.act.ActKind.TheVariants.{Answered};
@@ -11,6 +11,7 @@ ghost use Rattle.jv_model.specs.run.Built.{is_built};
 ghost use Rattle.jv_model.specs.script.ReplyText.{printed_line};
 ghost use Rattle.jv_session.specs.Agrees.{Stands, entry_at};
 ghost use Rattle.jv_session.specs.Lines.{fresh_schedule, line_state, LineRuns, RunsTo};
+ghost use Rattle.jv_session.specs.Answers.{Answers, RunsOut};
 ghost use Rattle.jv_session.specs.BuiltHere.{built_here, built_op};
 
 use crate::line_end::LineEnd;
@@ -49,7 +50,15 @@ impl Model for Schedule {
 
     ghost Value = { ScheduleValue };
 
-    ghost view = { λ s. record { setting = s.setting; limits = s.limits; at = s.at; session = s.session; handles = s.handles.items; pending = s.pending.bytes; volume = s.volume } };
+    ghost view = { λ s. record {
+      setting = s.setting;
+      limits = s.limits;
+      at = s.at;
+      session = s.session;
+      handles = s.handles.items;
+      pending = s.pending.bytes;
+      volume = s.volume;
+    } };
 
     ghost invariant = { λ s. IsHeld s.limits s.at s.handles.items s.pending.limit s.volume };
 }
@@ -66,7 +75,8 @@ pub(crate) struct Turn {
 /// Appends an entry of the first client.
 pub(crate) fn note(journal: &mut Journal, turn: &Turn, kind: ActKind)
     requires { 1 ≤ journal.old.spare }
-    ensures added { journal.new.acts ≡ journal.old.acts ++ entry_at turn.now.line turn.now.at kind ∷ [] }
+    ensures added { journal.new.acts ≡ journal.old.acts ++ entry_at turn.now.line turn.now.at kind
+        ∷ [] }
     ensures room { journal.old.spare ≤ journal.new.spare + 1 }
 {
     journal.push_reserved(Act {
@@ -95,7 +105,7 @@ impl Schedule {
         }
     }
 
-    /// Whether the line is one of those that a session runs today, with the answer that it would get.
+    /// Whether the line is one that a session runs today, with the answer that it would get.
     pub fn is_built(&self, line: &Line) -> bool
         ensures here { result ≡ built_here self.now line.now }
         ensures model { (p : Past) → Stands p self.now → result ≡ is_built p line.now }
@@ -107,8 +117,8 @@ impl Schedule {
         }
     }
 
-    /// Runs a line that is built, and whose number is one above that of the line before. The clock is asked once,
-    /// before the line's first step, and not for a line that does nothing.
+    /// Runs a line that is built, and whose number is one above that of the line before. Asks the
+    /// clock once, before the line's first step, and not for a line that does nothing.
     pub fn line<C: Clock>(
         &mut self,
         line: &Line,
@@ -135,7 +145,7 @@ impl Schedule {
         print_reply(self.alloc, &self.setting, reply)
     }
 
-    /// Asks the clock and runs an operation. The entry and the text of a want of memory have their room before.
+    /// Asks the clock and runs an operation. Reserves room for an ENOMEM answer first.
     fn operation<C: Clock>(
         &mut self,
         op: &Op,
@@ -166,12 +176,13 @@ impl Schedule {
         LineEnd::Said(text)
     }
 
-    /// Runs an operation to its answer, which may be want of memory, with this text.
+    /// Runs an operation to its answer, which is `no_memory` where memory runs out.
     fn answer_or(&mut self, op: &Op, turn: &Turn, journal: &mut Journal, no_memory: Bytes) -> Bytes
         requires built { IsTrue (built_op self.old op.now) }
         requires room { 1 ≤ journal.old.spare }
         requires text { no_memory ≡ printed_line self.old.setting (Refused NoMemory) }
-        ensures runs { RunsTo op.now turn.now.line turn.now.at journal.old.acts journal.new.acts self.old self.new result }
+        ensures runs { RunsTo op.now turn.now.line turn.now.at journal.old.acts journal.new.acts
+            self.old self.new result }
     {
         match self.answer(op, turn, journal) {
             Ok(text) => text,
@@ -193,8 +204,8 @@ pub(crate) fn refusal(fault: Fault) -> ActKind
 }
 
 impl Schedule {
-    /// Runs an operation to its answer. Where memory is wanting, the steps made so far stand, and the refusal is still to
-    /// be appended.
+    /// Runs an operation to its answer. On error the steps made so far stand, and the refusal is
+    /// still to be appended.
     pub(crate) fn answer(
         &mut self,
         op: &Op,
@@ -203,8 +214,8 @@ impl Schedule {
     ) -> Result<Bytes, AllocError>
         requires built { IsTrue (built_op self.old op.now) }
         requires room { 1 ≤ journal.old.spare }
-        ensures ok { IfOk result (λ text. RunsTo op.now turn.now.line turn.now.at journal.old.acts journal.new.acts self.old self.new text) }
-        ensures err { OnErr result (RunsTo op.now turn.now.line turn.now.at journal.old.acts (journal.new.acts ++ entry_at turn.now.line turn.now.at (Answered (ToldRefused NoMemory)) ∷ []) self.old self.new (printed_line self.old.setting (Refused NoMemory))) }
+        ensures ok { Answers op.now turn.now journal.old journal.new self.old self.new result }
+        ensures err { RunsOut op.now turn.now journal.old journal.new self.old self.new result }
         ensures room { OnErr result (1 ≤ journal.new.spare) }
     {
         if let Some(fault) = self.submission(op) {

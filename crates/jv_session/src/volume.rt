@@ -3,7 +3,7 @@ ghost use Rattle.std.specs.Prelude.{◌≡◌, ℕ, ◌+◌, ◌-◌, ◌<◌, �
 ghost use Rattle.std.specs.Ordering.{nat_cmp, is_eq};
 ghost use Rattle.std.specs.Cmp.Lexicographic.{slice_cmp};
 ghost use Rattle.jv_model.specs.tree.Tree.{paged};
-ghost use Rattle.jv_session.specs.Stored.{inode_named, with_segment, space_of, covers, Creates, Commits, IsFile};
+ghost use Rattle.jv_session.specs.Stored.{inode_named, with_segment, space_of, covers, Creates, Commits, IsFile, OfFileAt};
 ghost use Rattle.jv_session.specs.Shown.{shown_between};
 
 use jv_model::{Bytes, FILE_END, Path, SPACE_UNIT, Sequence, copied, push_in_room};
@@ -43,7 +43,11 @@ impl Model for Volume {
 
     ghost Value = { VolumeValue };
 
-    ghost view = { λ v. record { names = v.names.entries; files = v.files.items; used_space = v.used_space } };
+    ghost view = { λ v. record {
+      names = v.names.entries;
+      files = v.files.items;
+      used_space = v.used_space;
+    } };
 
     ghost invariant = { λ v. IsVolume v.names.entries v.files.items v.used_space };
 }
@@ -85,9 +89,10 @@ impl Volume {
         self.files.len() as u64
     }
 
-    /// Makes a file without bytes, and gives its inode. Where memory is wanting, nothing has changed.
+    /// Makes a file without bytes, and returns its inode. On error nothing has changed.
     pub(crate) fn create(&mut self, path: &Path) -> Result<u64, AllocError>
-        ensures ok { IfOk result (λ inode. (inode ≡ 2 + length self.old.files) × Creates self.old path.now self.new) }
+        ensures ok { IfOk result (λ inode. (inode ≡ 2 + length self.old.files) × Creates self.old
+            path.now self.new) }
         ensures err { OnErr result (self.new ≡ self.old) }
     {
         let key = copied(self.alloc, path.as_slice())?;
@@ -121,11 +126,12 @@ impl Volume {
         self.used_space - u128::from(paged(length)) + u128::from(paged(length.max(end)))
     }
 
-    /// Puts bytes into a file. Where memory is wanting, nothing has changed.
+    /// Puts bytes into a file. On error nothing has changed.
     pub(crate) fn commit(&mut self, inode: u64, from: u64, bytes: &[u8]) -> Result<(), AllocError>
         requires file { IsFile (length self.old.files) inode }
         requires end { from + length bytes.now ≤ FILE_END }
-        ensures ok { OnOk result (IfSome (slice_get self.old.files (inode - 2)) (λ file. Commits self.old (inode - 2) from bytes.now file self.new)) }
+        ensures ok { OnOk result (OfFileAt self.old inode (λ file.
+            Commits self.old (inode - 2) from bytes.now file self.new)) }
         ensures counted { OnOk result (self.old.used_space ≡ space_of self.old.files) }
         ensures err { OnErr result (self.new ≡ self.old) }
     {
@@ -140,7 +146,8 @@ impl Volume {
     pub(crate) fn read(&self, inode: u64, from: u64, to: u64) -> Result<Bytes, AllocError>
         requires file { IsFile (length self.now.files) inode }
         requires end { to ≤ FILE_END }
-        ensures { IfOk result (λ bytes. IfSome (slice_get self.now.files (inode - 2)) (λ file. bytes ≡ shown_between file from to)) }
+        ensures { IfOk result (λ bytes.
+            OfFileAt self.now inode (λ file. bytes ≡ shown_between file from to)) }
     {
         shown(
             self.alloc,
@@ -154,7 +161,7 @@ impl Volume {
 impl StoredFile {
     ghost use Rattle.jv_session.specs.Stored.{with_segment};
 
-    /// Puts bytes into the file. Where memory is wanting, nothing has changed.
+    /// Puts bytes into the file. On error nothing has changed.
     fn add(&mut self, from: u64, bytes: Bytes) -> Result<(), AllocError>
         requires { from + length bytes < 2 ^ 64 }
         ensures ok { OnOk result (self.new ≡ with_segment from bytes self.old) }
@@ -175,15 +182,16 @@ fn add_segment(
 ) -> Result<(), AllocError>
     requires index { index < length files.old }
     requires end { from + length bytes < 2 ^ 64 }
-    ensures ok { OnOk result (IfSome (slice_get files.old index) (λ file. files.new ≡ slice_set files.old index (with_segment from bytes file))) }
+    ensures ok { OnOk result (IfSome (slice_get files.old index) (λ file.
+        files.new ≡ slice_set files.old index (with_segment from bytes file))) }
     ensures err { OnErr result (files.new ≡ files.old) }
 {
     let file = &mut files[index];
     file.add(from, bytes)
 }
 
-/// The bytes of a file from one position up to another, as far as the file goes: each segment painted over the ones
-/// before it.
+/// The bytes of a file from one position up to another, as far as the file goes: each segment is
+/// painted over those before it.
 fn shown(alloc: Global, file: &StoredFile, from: u64, to: u64) -> Result<Bytes, AllocError>
     requires { to ≤ FILE_END }
     ensures { IfOk result (λ bytes. bytes ≡ shown_between file.now from to) }
@@ -200,7 +208,9 @@ fn shown(alloc: Global, file: &StoredFile, from: u64, to: u64) -> Result<Bytes, 
 /// Writes what a segment has over bytes that begin at a position.
 fn paint(bytes: &mut [u8], from: u64, segment: &StoredSegment)
     requires end { from + length bytes.old ≤ FILE_END }
-    ensures { (k : ℕ) → k < length bytes.old → slice_index bytes.new k ≡ (if covers segment.now (from + k) then slice_index segment.now.bytes (from + k - segment.now.from) else slice_index bytes.old k) }
+    ensures { (k : ℕ) → k < length bytes.old → slice_index bytes.new k ≡
+        (if covers segment.now (from + k) then slice_index segment.now.bytes (from + k - segment.now.from)
+        else slice_index bytes.old k) }
 {
     let low = from.max(segment.from);
     let segment_end = segment.from.saturating_add(segment.bytes.len() as u64);
