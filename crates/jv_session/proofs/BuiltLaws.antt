@@ -1,11 +1,10 @@
 -- A schedule runs the lines that the model's sessions run today, wherever it stands with a journal's past.
-use Rattle.std.proofs.Common.{◌≡◌, ℕ, ◌+◌, ◌-◌, ◌≤◌, ◌<◌, max, Bool, true, false, cond, not, ◌&&◌, ◌||◌, ◌==◌, IsTrue, List, [], ◌∷◌, length, slice_get, Option, None, Some, Ok, Err, refl, sym, ap, subst, ◌∙◌, arith}
+use Rattle.std.proofs.Common.{◌≡◌, ℕ, ◌+◌, ◌-◌, ◌≤◌, ◌<◌, max, Bool, true, false, cond, not, ◌&&◌, ◌||◌, ◌==◌, IsTrue, List, length, slice_get, Option, None, Some, Ok, Err, refl, sym, ap, subst, ◌∙◌, arith}
 use Rattle.std.specs.Prelude.{IfSome, is_some, nat_le, nat_lt, unwrap_or}
-use Rattle.std.specs.Option.{option_map}
 use Rattle.std.proofs.Math.Bool.{and-true, and_assoc}
 use Rattle.std.proofs.lemmas.Bool.{eqb-true}
 use Rattle.jv_model.specs.declared.fault.Fault.{Fault}
-use Rattle.jv_model.specs.declared.fault.Fault.TheVariants.{InProgress, NotConnected, BadHandle, TooManyHandles, FileTooLarge, NoSpace}
+use Rattle.jv_model.specs.declared.fault.Fault.TheVariants.{InProgress, NotConnected, BadHandle, NoSpace}
 use Rattle.jv_model.specs.declared.op.Line.{Line}
 use Rattle.jv_model.specs.declared.op.Line.TheVariants.{Empty, Do}
 use Rattle.jv_model.specs.declared.op.Op.{Op}
@@ -13,18 +12,17 @@ use Rattle.jv_model.specs.declared.op.Op.TheVariants.{Mount, Create, Open, Close
 use Rattle.jv_model.specs.declared.op.Reply.TheVariants.{SessionMade, FileOpened}
 use Rattle.jv_model.specs.tree.Attempt.{◌>>=◌, require}
 use Rattle.jv_model.specs.run.Built.{pending_limit, is_built, is_built_form, is_built_answer, is_built_run, is_built_reply, flush_fits}
-use Rattle.jv_model.specs.run.Client.{ModelClient, OpenFile, submission, first_refusal, file_of, open_count, is_mount, needs_no_mount, names_handle, handle_in, gives_handle, write_end, inode_in}
+use Rattle.jv_model.specs.run.Client.{submission, file_of, is_mount, needs_no_mount, names_handle, handle_in, inode_in}
 use Rattle.jv_model.specs.FiniteMap.{get, insert}
 use Rattle.jv_model.specs.run.Past.{Past, caller}
 use Rattle.jv_model.specs.run.Pending.{PendingByte, end_of}
 use Rattle.jv_model.specs.tree.Tree.{Tree, full_count, paged}
 use Rattle.jv_model.specs.tree.TreeAct.{Outcome, outcome}
 use Rattle.jv_session.specs.Stored.{VolumeValue, IsFile, inode_named}
-use Rattle.jv_session.specs.Agrees.{ScheduleValue, HasFiles, IsClient, Agrees, Stands}
+use Rattle.jv_session.specs.Agrees.{ScheduleValue, HasFiles, Agrees, Stands}
 use Rattle.jv_session.specs.BuiltHere.{refusal_here, has_form, has_room, space_grown, grown_fits, inode_or_zero, may_flush, may_run, may_answer, built_op, built_here}
 use Rattle.jv_session.proofs.FileLaws.{slice_get_inside}
 use Rattle.jv_session.proofs.FileLines.{open_at, inode_in-open}
-use Rattle.jv_session.proofs.HandleLaws.{file_of-table, open_count-table}
 use Rattle.jv_session.proofs.SpaceLaws.{space_of-part}
 use Rattle.jv_session.proofs.SubmissionLaws.{submission-here}
 use Rattle.jv_session.proofs.TreeLaws.{and_when, created, create-exists, create-new, open-found, open-absent, flush_fits-file}

@@ -1,7 +1,6 @@
 -- What a call that runs an operation to its answer came to.
-use Rattle.std.specs.Prelude.{◌≡◌, ℕ, ◌-◌, List, [], ◌∷◌, ◌++◌, slice_get, slice_set, Option, IfSome, Result, IfOk, OnErr, OnOk}
-use Rattle.core.specs.declared.alloc.AllocError.{AllocError}
-use Rattle.jv_model.specs.declared.act.Act.{Act}
+use Rattle.std.specs.Prelude.{◌≡◌, ℕ, List, [], ◌∷◌, ◌++◌, Result, IfOk, OnErr}
+use Rattle.std.specs.declared.alloc.AllocError.{AllocError}
 use Rattle.jv_model.specs.declared.act.ActKind.TheVariants.{Answered, Meta}
 use Rattle.jv_model.specs.declared.act.Told.TheVariants.{Refused as ToldRefused}
 use Rattle.jv_model.specs.declared.fault.Fault.{Fault}
@@ -10,7 +9,7 @@ use Rattle.jv_model.specs.declared.op.Op.{Op}
 use Rattle.jv_model.specs.declared.op.Reply.TheVariants.{Refused}
 use Rattle.jv_model.specs.run.JournalValue.{JournalValue}
 use Rattle.jv_model.specs.script.ReplyText.{printed_line}
-use Rattle.jv_session.specs.declared.schedule.Turn.{Turn}
+use Rattle.jv_session.specs.declared.turn.Turn.{Turn}
 use Rattle.jv_session.specs.Agrees.{ScheduleValue, entry_at}
 use Rattle.jv_session.specs.Lines.{RunsTo}
 

@@ -1,5 +1,5 @@
 -- Which lines a schedule runs today, by its own state; the model says the same of the past where it stands.
-use Rattle.std.specs.Prelude.{ℕ, ◌+◌, ◌-◌, ◌^◌, max, Bool, true, false, ◌&&◌, ◌||◌, not, ◌==◌, nat_lt, nat_le, [], ◌∷◌, length, slice_get, is_some, Option, None, Some}
+use Rattle.std.specs.Prelude.{ℕ, ◌+◌, ◌-◌, max, Bool, true, false, ◌&&◌, ◌||◌, not, ◌==◌, nat_lt, nat_le, [], ◌∷◌, length, slice_get, is_some, Option, None, Some}
 use Rattle.jv_model.specs.declared.limits.TheConstants.{MAX_HANDLES, FILE_END, SPACE_UNIT}
 use Rattle.jv_model.specs.declared.basics.Limits.{Limits}
 use Rattle.jv_model.specs.declared.fault.Fault.{Fault}

@@ -19,7 +19,8 @@ ghost use Rattle.jv_session.specs.Flushing.{Flushed, FlushesSegment, ShowsFile};
 
 use crate::handles;
 use crate::operations::fine;
-use crate::schedule::{Schedule, Turn, note};
+use crate::schedule::{Schedule, note};
+use crate::turn::Turn;
 use jv_model::{ActKind, Bytes, Journal, Reply, Sequence, Told, WINDOW};
 use jv_pending::SegmentAt;
 use std::alloc::AllocError;

@@ -8,6 +8,7 @@ mod line_end;
 mod operations;
 mod root_paths;
 mod schedule;
+mod turn;
 mod volume;
 
 pub use line_end::LineEnd;

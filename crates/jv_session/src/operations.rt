@@ -13,7 +13,8 @@ ghost use Rattle.jv_session.specs.Answers.{Answers, RunsOut, RefusedByTree};
 ghost use Rattle.jv_session.specs.Stored.{inode_named};
 
 use crate::handles;
-use crate::schedule::{Schedule, Turn, note, refusal};
+use crate::schedule::{Schedule, note, refusal};
+use crate::turn::Turn;
 use jv_model::{ActKind, Bytes, Fault, Journal, Op, Path, Reply, Told};
 use std::alloc::AllocError;
 

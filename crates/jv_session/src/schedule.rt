@@ -1,6 +1,6 @@
 //! A session of one client, line by line.
 ghost use Rattle.std.specs.Prelude.{◌≡◌, ◌↔◌, ℕ, ◌+◌, ◌≤◌, ◌<◌, ◌++◌, ◌∷◌, [], min, max, ◌≢◌, IsTrue, IfOk, OnOk, OnErr};
-ghost use Rattle.jv_model.specs.declared.limits.TheConstants.{LAST_MOMENT, MAX_DATA};
+ghost use Rattle.jv_model.specs.declared.limits.TheConstants.{MAX_DATA};
 ghost use Rattle.jv_model.specs.declared.act.ActKind.TheVariants.{Answered};
 ghost use Rattle.jv_model.specs.declared.act.Told.TheVariants.{Refused as ToldRefused};
 ghost use Rattle.jv_model.specs.declared.fault.Fault.TheVariants.{NoMemory};
@@ -15,6 +15,7 @@ ghost use Rattle.jv_session.specs.Answers.{Answers, RunsOut};
 ghost use Rattle.jv_session.specs.BuiltHere.{built_here, built_op};
 
 use crate::line_end::LineEnd;
+use crate::turn::Turn;
 use crate::volume::Volume;
 use jv_model::{
     Act, ActKind, Bytes, DEFAULT_BUFFER, Fault, Journal, Limits, Line, Moment, Op, Reply, Setting,
@@ -61,15 +62,6 @@ impl Model for Schedule {
     } };
 
     ghost invariant = { λ s. IsHeld s.limits s.at s.handles.items s.pending.limit s.volume };
-}
-
-/// The number and the moment of the line that is run.
-#[derive(Drop)]
-pub(crate) struct Turn {
-    pub(crate) line: u32,
-    /// Seconds.
-    pub(crate) at: u64,
-    ghost in_range: { at ≤ LAST_MOMENT },
 }
 
 /// Appends an entry of the first client.
