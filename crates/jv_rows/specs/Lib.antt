@@ -4,3 +4,4 @@ pub mod RoundTrips
 pub mod Readings
 pub mod Scans
 pub mod Drops
+pub mod FreshRows

@@ -4,6 +4,7 @@
 mod allowed;
 mod dropping;
 mod fields;
+mod fresh;
 mod grammar;
 mod keys;
 mod laws;
@@ -19,6 +20,7 @@ pub use allowed::{
     allows_setting, allows_slice,
 };
 pub use dropping::drop_records;
+pub use fresh::{default_setting, fresh_rows};
 pub use keys::{
     key_of_counters, key_of_dead, key_of_dropped, key_of_edge, key_of_list, key_of_node,
     key_of_session, key_of_setting, key_of_slice, key_of_sustained,

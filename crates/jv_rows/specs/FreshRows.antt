@@ -1,0 +1,58 @@
+-- The rows of a volume that was just formatted.
+use Rattle.std.specs.Prelude.{ℕ, ◌+◌, List, [], ◌∷◌, codes}
+use Rattle.jv_model.specs.declared.limits.TheConstants.{ROOT, TRASH_ROOT, SPACE_UNIT, DEFAULT_BLOCK}
+use Rattle.jv_model.specs.declared.row.Counters.{Counters}
+use Rattle.jv_model.specs.declared.row.Node.{Node}
+use Rattle.jv_model.specs.declared.setting.Setting.{Setting}
+use Rattle.jv_model.specs.rows.RowGrammar.{setting_bytes, counters_bytes, node_bytes}
+use Rattle.jv_model.specs.rows.RowPlaces.{setting_key, counters_key, node_key}
+use Rattle.jv_outside.specs.declared.batch.Change.{Change}
+use Rattle.jv_outside.specs.declared.batch.Change.TheVariants.{Put}
+
+-- a volume named `juicefs` over memory, with default options
+abbrev pub default_setting : Setting
+default_setting = record {
+  version = 1;
+  block = DEFAULT_BLOCK;
+  trash_days = 1;
+  capacity = 0;
+  inodes = 0;
+  hash = 0;
+  name = codes "juicefs";
+  bucket = codes ":memory:";
+}
+
+-- the first inode after the root is next, and nothing counts as used
+abbrev pub fresh_counters : Counters
+fresh_counters = record { inode = ROOT + 1; slice = 1; session = 1; used_space = 0; used_inodes = 0 }
+
+-- an empty directory whose parent is the root, with these permission bits, made at a moment
+abbrev pub fresh_directory : ℕ → ℕ → Node
+fresh_directory mode at = record {
+  kind = 2;
+  mode = mode;
+  uid = 0;
+  gid = 0;
+  nlink = 2;
+  mtime = at;
+  ctime = at;
+  length = SPACE_UNIT;
+  parent = ROOT;
+  target = [];
+}
+
+-- the permission bits of the root (0o777), where all may write, and of the trash (0o555), where all may read
+abbrev pub root_mode : ℕ
+root_mode = 511
+
+abbrev pub trash_mode : ℕ
+trash_mode = 365
+
+-- the rows of a volume that is formatted at a moment: its setting, its counters, its root and its trash
+abbrev pub fresh_rows : Setting → ℕ → List Change
+fresh_rows setting at =
+    Put setting_key (setting_bytes setting)
+    ∷ Put counters_key (counters_bytes fresh_counters)
+    ∷ Put (node_key ROOT) (node_bytes (fresh_directory root_mode at))
+    ∷ Put (node_key TRASH_ROOT) (node_bytes (fresh_directory trash_mode at))
+    ∷ []

@@ -1,0 +1,83 @@
+//! The rows of a volume that was just formatted.
+ghost use Rattle.std.specs.Prelude.{◌≡◌, IfOk, IsTrue};
+ghost use Rattle.jv_model.specs.rows.RowGrammar.{is_setting};
+ghost use Rattle.jv_rows.specs.FreshRows.{default_setting, fresh_directory, fresh_rows};
+
+use crate::writing::{put_counters, put_node, put_setting};
+use jv_model::{
+    Counters, DEFAULT_BLOCK, Moment, Node, ROOT, SPACE_UNIT, Sequence, Setting, TRASH_ROOT, copied,
+};
+use jv_outside::Batch;
+use std::alloc::{AllocError, Global};
+
+/// The permission bits of the root.
+const ROOT_MODE: u16 = 0o777;
+
+/// The permission bits of the trash.
+const TRASH_MODE: u16 = 0o555;
+
+/// The numbers of a volume without files.
+const FRESH_COUNTERS: Counters = Counters {
+    inode: ROOT + 1,
+    slice: 1,
+    session: 1,
+    used_space: 0,
+    used_inodes: 0,
+};
+
+/// The setting of a volume named `juicefs` over memory, with default options.
+pub fn default_setting(alloc: Global) -> Result<Setting, AllocError>
+    ensures { IfOk result (λ setting. setting ≡ default_setting) }
+{
+    Ok(Setting {
+        version: 1,
+        block: DEFAULT_BLOCK,
+        trash_days: 1,
+        capacity: 0,
+        inodes: 0,
+        hash: 0,
+        name: copied(alloc, b"juicefs")?,
+        bucket: copied(alloc, b":memory:")?,
+    })
+}
+
+/// An empty directory whose parent is the root, with these permission bits.
+fn fresh_directory(alloc: Global, mode: u16, at: Moment) -> Node
+    ensures { result ≡ fresh_directory mode at }
+{
+    Node {
+        kind: 2,
+        mode,
+        uid: 0,
+        gid: 0,
+        nlink: 2,
+        mtime: at.seconds(),
+        ctime: at.seconds(),
+        length: SPACE_UNIT,
+        parent: ROOT,
+        target: Sequence::new(alloc),
+    }
+}
+
+/// The rows of a volume that is formatted at a moment: its setting, its counters, its root and its trash.
+pub fn fresh_rows(alloc: Global, setting: &Setting, at: Moment) -> Result<Batch, AllocError>
+    requires { IsTrue (is_setting setting.now) }
+    ensures { IfOk result (λ batch. batch ≡ fresh_rows setting.now at) }
+{
+    let mut batch = Batch::new(alloc);
+    put_setting(alloc, &mut batch, setting)?;
+    put_counters(alloc, &mut batch, &FRESH_COUNTERS)?;
+    put_node(
+        alloc,
+        &mut batch,
+        ROOT,
+        &fresh_directory(alloc, ROOT_MODE, at),
+    )?;
+    put_node(
+        alloc,
+        &mut batch,
+        TRASH_ROOT,
+        &fresh_directory(alloc, TRASH_MODE, at),
+    )?;
+    Ok(batch)
+}
