@@ -1,5 +1,5 @@
 -- What contracts see of a cache of blocks.
-use Rattle.std.specs.Prelude.{ℕ, ◌+◌, ◌==◌, min, is_some, if◌then◌else◌, List, [], Option, None, Some}
+use Rattle.std.specs.Prelude.{◌≡◌, ℕ, ◌+◌, ◌-◌, ◌^◌, ◌<◌, ◌≤◌, ◌==◌, min, length, slice_get, is_some, if◌then◌else◌, List, [], Option, None, Some}
 use Rattle.std.specs.Map.{lookup}
 use Rattle.lru.specs.LruCache.{LruCache, lru_cache, promoted, put_entries}
 use Rattle.jv_cache.specs.declared.key.BlockKey.{BlockKey}
@@ -16,18 +16,27 @@ abbrev pub cached : Option (LruCache BlockKey (List ℕ)) → ℕ → ℕ → Ca
 cached None hits misses = record { blocks = []; entries = 0; hits = hits; misses = misses }
 cached (Some c) hits misses = record { blocks = c.entries; entries = c.cap; hits = hits; misses = misses }
 
--- a cache without room is none
-abbrev pub HasRoom : Option (LruCache BlockKey (List ℕ)) → ℕ
-HasRoom None = 1
-HasRoom (Some c) = c.cap
+-- the room of a cache that is there, where none is there 1
+abbrev pub room_in : Option (LruCache BlockKey (List ℕ)) → ℕ
+room_in None = 1
+room_in (Some c) = c.cap
+
+abbrev pub blocks_in : Option (LruCache BlockKey (List ℕ)) → List (BlockKey × List ℕ)
+blocks_in None = []
+blocks_in (Some c) = c.entries
+
+-- a cache that is there has room for a block, and no more blocks than it has room for
+pub record IsBounded (cache : Option (LruCache BlockKey (List ℕ))) : Type 0 where
+  pub some : 0 < room_in cache
+  pub within : length (blocks_in cache) ≤ room_in cache
 
 -- the bytes of a block, where it is kept
 abbrev pub found_in : Cached → BlockKey → Option (List ℕ)
 found_in cache key = lookup (same_key key) cache.blocks
 
--- one more, up to the greatest number of 64 bits
+-- one more; the count saturates at 2^64 - 1
 abbrev pub one_more : ℕ → ℕ
-one_more n = min (n + 1) 18446744073709551615
+one_more n = min (n + 1) (2 ^ 64 - 1)
 
 -- a block that is there goes first
 abbrev pub promoted_in : Cached → BlockKey → Cached
@@ -39,7 +48,12 @@ noted_in cache key = (if is_some (found_in cache key)
     then record (promoted_in cache key) { hits = one_more cache.hits }
     else record cache { misses = one_more cache.misses })
 
--- a block goes first, and the least recently used one goes where there is no room for it; without room nothing is kept
+-- a block goes first, and the least recently used one goes where there is no room for it; a cache for no block keeps none
 abbrev pub kept_in : Cached → BlockKey → List ℕ → Cached
 kept_in cache key bytes = (if cache.entries == 0 then cache
     else record cache { blocks = put_entries same_key (lru_cache cache.blocks cache.entries) key bytes })
+
+-- the block stands first, with these bytes, and is found
+pub record IsFirst (cache : Cached) (key : BlockKey) (bytes : List ℕ) : Type 0 where
+  pub first : slice_get cache.blocks 0 ≡ Some (key, bytes)
+  pub found : found_in cache key ≡ Some bytes

@@ -1,4 +1,3 @@
-//! The cache.
 use crate::key::BlockKey;
 use jv_model::Bytes;
 use lru::LruCache;
@@ -6,34 +5,33 @@ use std::alloc::{AllocError, Global};
 use std::marker::Model;
 use std::num::NonZeroUsize;
 
-/// Blocks that were read, with counts of hits and misses. It holds no more of them than it was made for.
+/// The blocks that a client read last, with counts of hits and misses. It keeps no more of them than it was made for.
 #[derive(Drop)]
 pub struct BlockCache {
-    /// `None` where no block may be kept.
+    /// `None` in a cache for no block.
     blocks: Option<LruCache<BlockKey, Bytes>>,
     hits: u64,
     misses: u64,
 }
 
 impl Model for BlockCache {
-    ghost use Rattle.std.specs.Prelude.{◌<◌};
-    ghost use Rattle.jv_cache.specs.Cached.{Cached, cached, HasRoom};
+    ghost use Rattle.jv_cache.specs.Cached.{Cached, cached, IsBounded};
 
     ghost Value = { Cached };
 
     ghost view = { λ c. cached c.blocks c.hits c.misses };
 
-    ghost invariant = { λ c. 0 < HasRoom c.blocks };
+    ghost invariant = { λ c. IsBounded c.blocks };
 }
 
 impl BlockCache {
-    ghost use Rattle.std.specs.Prelude.{◌≡◌, ◌≤◌, [], length, is_some, false, IfOk, OnOk, OnErr, IfErr};
+    ghost use Rattle.std.specs.Prelude.{◌≡◌, ◌⊎◌, ◌<◌, ◌≤◌, [], length, is_some, false, IsSome, IfOk, IsOk, OnOk, OnErr, IfErr};
     ghost use Rattle.std.specs.Option.{option_copied};
     ghost use Rattle.std.specs.Borrow.{sem};
     ghost use Rattle.jv_cache.specs.Loans.{EndsNoted};
-    ghost use Rattle.jv_cache.specs.Cached.{found_in, promoted_in, noted_in, kept_in};
+    ghost use Rattle.jv_cache.specs.Cached.{found_in, promoted_in, noted_in, kept_in, IsFirst};
 
-    /// A cache of at most `entries` blocks. It takes memory for a block only when that is kept.
+    /// An empty cache of at most `entries` blocks. It takes memory for a block only when that is kept.
     pub fn new(alloc: Global, entries: usize) -> Result<BlockCache, AllocError>
         ensures { IfOk result (λ cache. cache ≡ record { blocks = []; entries = entries; hits = 0; misses = 0 }) }
     {
@@ -48,7 +46,7 @@ impl BlockCache {
         })
     }
 
-    /// Puts a block first, if it is there, and says whether it is.
+    /// Puts a block first, if it is there, and returns whether it is.
     fn promote(&mut self, key: BlockKey) -> bool
         ensures there { result ≡ is_some (found_in self.old key) }
         ensures first { self.new ≡ promoted_in self.old key }
@@ -79,8 +77,8 @@ impl BlockCache {
         }
     }
 
-    /// The bytes of a block, where they are kept; the block is then the most recently used one. Counts a hit or a miss.
-    /// Takes no memory.
+    /// The bytes of a block, if they are kept; the block is then the most recently used one. Counts a hit or a miss. Takes
+    /// no memory.
     pub fn find(&mut self, key: BlockKey) -> Option<&Bytes>
         ensures* notes { sem 𝓛 (EndsNoted self.entry key) }
         ensures found { option_copied result ≡ found_in self.old key }
@@ -90,10 +88,13 @@ impl BlockCache {
     }
 
     /// Keeps a block as the most recently used one, in place of the least recently used one where there is no room for
-    /// another. A cache for no block keeps nothing, and answers `Ok`. Where memory is wanting the bytes come back, and
-    /// nothing has changed.
+    /// another. A cache for no block keeps nothing and succeeds. Out of memory the bytes come back, and nothing has
+    /// changed; a block that is there already takes no memory.
     pub fn keep(&mut self, key: BlockKey, bytes: Bytes) -> Result<(), Bytes>
         ensures kept { OnOk result (self.new ≡ kept_in self.old key bytes) }
+        ensures first { OnOk result (0 < self.old.entries → IsFirst self.new key bytes) }
+        ensures bounded { length self.new.blocks ≤ self.new.entries }
+        ensures succeeds { (self.old.entries ≡ 0) ⊎ IsSome (found_in self.old key) → IsOk result }
         ensures returned { IfErr result (λ same. same ≡ bytes) }
         ensures unchanged { OnErr result (self.new ≡ self.old) }
     {
@@ -106,21 +107,21 @@ impl BlockCache {
         }
     }
 
-    /// How many finds were hits, up to the greatest number of 64 bits. Takes no memory.
+    /// The number of finds that were hits. It saturates at 2^64 - 1. Takes no memory.
     pub fn hits(&self) -> u64
         ensures { result ≡ self.now.hits }
     {
         self.hits
     }
 
-    /// How many finds were misses, up to the greatest number of 64 bits. Takes no memory.
+    /// The number of finds that were misses. It saturates at 2^64 - 1. Takes no memory.
     pub fn misses(&self) -> u64
         ensures { result ≡ self.now.misses }
     {
         self.misses
     }
 
-    /// How many blocks are kept. Takes no memory.
+    /// The number of blocks that are kept. Takes no memory.
     pub fn len(&self) -> usize
         ensures count { result ≡ length self.now.blocks }
         ensures within { result ≤ self.now.entries }

@@ -1,6 +1,4 @@
-//! What names a block in the cache.
-
-/// A block of a slice.
+/// What names a block in the cache.
 #[derive(Clone, Copy, Debug, PartialEq, Eq, Hash)]
 pub struct BlockKey {
     /// The slice.

@@ -3,8 +3,6 @@
 
 mod cache;
 mod key;
-#[cfg(test)]
-mod tests;
 
 pub use cache::BlockCache;
 pub use key::BlockKey;
