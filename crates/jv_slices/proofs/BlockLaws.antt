@@ -1,7 +1,9 @@
 -- Laws of blocks.
-use Rattle.std.proofs.Common.{◌≡◌, ℕ, suc, zero, ◌+◌, ◌-◌, ◌*◌, ◌/◌, ◌<◌, ◌≤◌, min, sym, ap, ◌∙◌, arith, sum, map, fold, add-zero}
+use Rattle.std.proofs.Common.{◌≡◌, ℕ, suc, zero, ◌+◌, ◌-◌, ◌*◌, ◌/◌, ◌<◌, ◌≤◌, min, sym, ap, ◌∙◌, arith, sum, map, fold, add-zero, ⊎_elim}
 use Rattle.std.specs.List.{range_with_len}
 use Rattle.std.proofs.lemmas.Nat.{div-add-mod', mod_below, le-div, mul-le}
+use Rattle.std.proofs.lemmas.Bool.{cases_lt}
+use Rattle.std.proofs.Math.Nat.{add-mul-div_right}
 use Rattle.jv_model.specs.blocks.Slices.{block_count, block_length, block_lengths}
 
 -- the index of a place's block is below the number of blocks
@@ -27,3 +29,19 @@ lengths_add_up size block some =
     let n = size + (block - 1) in
     let whole : min size ((0 + n / block) * block) ≡ size = omega (arith, div-add-mod' n block, mod_below n block some) in
     sum_from size block (block_count size block) 0 0 (omega arith) ∙ whole
+
+-- of two places the later one isn't in an earlier block
+pub div_rises : (a b block : ℕ) → 0 < block → a ≤ b → a / block ≤ b / block
+div_rises a b block some low = le-div (a / block) b block some (omega (arith, low, div-add-mod' a block))
+
+-- so many places further on are at most so many blocks
+pub div_few : (a n block : ℕ) → 0 < block → (a + n) / block ≤ a / block + n
+div_few a n block some =
+    let more : a + n ≤ a + n * block = omega (arith, mul-le n 1 n block (omega arith) some) in
+    omega (arith, div_rises (a + n) (a + n * block) block some more, add-mul-div_right a n some)
+
+-- a place of a window is in one of its blocks
+pub index_low : (place index block : ℕ) → 65536 ≤ block → place < 67108864 → index ≤ place / block → index < 1024
+index_low place index block wide inside low =
+    ⊎_elim (λ (below : place / block < 1024). omega (arith, low, below))
+    (λ (above : 1024 ≤ place / block). absurd (omega (arith, inside, div-add-mod' place block, mul-le 1024 65536 (place / block) block above wide))) (cases_lt (place / block) 1024)

@@ -1,6 +1,6 @@
 -- Lemmas.
-pub mod RunLaws
-pub mod ParseLaws
+pub mod StretchLaws
+pub mod NameEndLaws
 pub mod NameLaws
 pub mod PlanLaws
 pub mod BlockLaws

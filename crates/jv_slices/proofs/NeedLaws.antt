@@ -1,17 +1,26 @@
--- Each block that pieces need is listed once.
-use Rattle.std.proofs.Common.{◌≡◌, Bool, true, false, List, [], ◌∷◌, refl, sym, ap, ◌∙◌, subst, ⊎_elim, fold}
-use Rattle.std.specs.Prelude.{◌&&◌, ◌||◌, ◌==◌}
-use Rattle.std.specs.List.{list_any, flat_map, IsDistinct}
+-- Laws of the blocks that pieces need.
+use Rattle.std.proofs.Common.{◌≡◌, ℕ, zero, suc, ◌+◌, ◌-◌, ◌/◌, ◌<◌, ◌≤◌, Bool, true, false, List, [], ◌∷◌, ◌++◌, length, map, slice_get, Some, refl, sym, ap, ◌∙◌, subst, arith, ⊎_elim, fold, length-append}
+use Rattle.std.specs.Prelude.{◌&&◌, ◌||◌, ◌==◌, All, Contains}
+use Rattle.std.specs.List.{list_any, flat_map, range_with_len, IsDistinct}
 use Rattle.std.specs.Cmp.{IsEquivalence, nat_eq_equiv}
-use Rattle.std.proofs.lemmas.Bool.{cases_Bool, and_parts, eqb-true}
+use Rattle.std.proofs.lemmas.Bool.{cases_Bool, cases_lt, and_parts, eqb-true}
 use Rattle.std.proofs.lemmas.Map.Keys.{IsDistinct-push}
 use Rattle.std.proofs.lemmas.Map.Steps.{list_any_congr}
+use Rattle.std.proofs.lemmas.Map.Views.{Contains-from_any}
+use Rattle.std.proofs.lemmas.List.Concat.{flat_map-cons}
+use Rattle.std.proofs.lemmas.List.Elements.{All-head, All-tail, All-push, All-append}
+use Rattle.std.proofs.lemmas.List.FromFn.{length-map-range_with_len}
 use Rattle.std.proofs.lemmas.List.Folds.{list_any-append}
 use Rattle.jv_model.specs.declared.slice.BlockId.{BlockId}
-use Rattle.jv_model.specs.blocks.Slices.{is_same_block, with_block, blocks_of_piece, needed_blocks}
+use Rattle.jv_model.specs.declared.slice.Piece.{Piece}
+use Rattle.jv_model.specs.declared.slice.Rec.{Rec}
+use Rattle.jv_model.specs.declared.slice.Spot.{Spot}
+use Rattle.jv_model.specs.declared.slice.Spot.TheVariants.{Zero, Slice}
+use Rattle.jv_model.specs.blocks.Slices.{IsPlan, IsPart, LiesIn, is_same_block, with_block, block_at, blocks_under, blocks_of_piece, needed_blocks}
 use Rattle.jv_slices.proofs.ListingLaws.{same_flips, with_new, with_listed}
-use Rattle.jv_slices.proofs.ParseLaws.{same_block}
-use Rattle.jv_slices.specs.Laws.{NeedsAreOnce, NeedsAreThose}
+use Rattle.jv_slices.proofs.NameEndLaws.{same_block}
+use Rattle.jv_slices.proofs.BlockLaws.{div_rises, div_few, index_low}
+use Rattle.jv_slices.specs.Laws.{NeedsAreOnce, NeedsAreThose, NeedsAreFew, NeedsHaveEachByte, FitsWindow, IndexesAreLow}
 
 pub equal_if_same : (a b : BlockId) → is_same_block a b ≡ true → a ≡ b
 equal_if_same a b h =
@@ -85,3 +94,116 @@ listed_has keys (b ∷ bs) q =
 pub needs_are_those : NeedsAreThose
 unfolding needed_blocks
 needs_are_those block pieces q = listed_has [] (flat_map (blocks_of_piece block) pieces) q
+
+-- one block more is at most one more in the list
+with_block_few : (keys : List BlockId) (b : BlockId) → length (with_block keys b) ≤ length keys + 1
+with_block_few keys b =
+    ⊎_elim (λ (there : list_any (is_same_block b) keys ≡ true). omega (arith, ap (length {A = BlockId}) (with_listed keys b there)))
+    (λ (fresh : list_any (is_same_block b) keys ≡ false). omega (arith, ap (length {A = BlockId}) (with_new keys b fresh), length-append keys (b ∷ [])))
+    (cases_Bool (list_any (is_same_block b) keys))
+
+listed_few : (keys bs : List BlockId) → length (fold with_block keys bs) ≤ length keys + length bs
+listed_few keys [] = omega arith
+listed_few keys (b ∷ bs) = omega (arith, listed_few (with_block keys b) bs, with_block_few keys b)
+
+-- a piece needs at most as many blocks as it has positions
+piece_few : (block len : ℕ) (spot : Spot) → 0 < block → 0 < len → length (blocks_under block len spot) ≤ len
+piece_few block len Zero wide some = omega arith
+piece_few block len (Slice id size at) wide some =
+    let last : at + len - 1 ≡ at + (len - 1) = omega arith in
+    let same : (at + len - 1) / block ≡ (at + (len - 1)) / block = ap (λ x. x / block) last in
+    omega (arith, same, div_few at (len - 1) block wide, length-map-range_with_len (block_at id size block) (at / block) ((at + len - 1) / block + 1 - at / block))
+
+plan_few : (block : ℕ) (list : List Rec) (from to : ℕ) (pieces : List Piece) → 0 < block → IsPlan list from to pieces → (from ≤ to) × (length (flat_map (blocks_of_piece block) pieces) ≤ to - from)
+plan_few block list from to [] wide h = (omega (arith, h), omega arith)
+plan_few block list from to (p ∷ ps) wide (begins, is, rest) =
+    let more = plan_few block list (from + p.len) to ps wide rest in
+    let first = piece_few block p.len p.spot wide is.some in
+    let parts : length (flat_map (blocks_of_piece block) (p ∷ ps)) ≡ length (blocks_of_piece block p) + length (flat_map (blocks_of_piece block) ps) =
+    ap (length {A = BlockId}) (flat_map-cons (blocks_of_piece block) p ps) ∙ length-append (blocks_of_piece block p) (flat_map (blocks_of_piece block) ps) in
+    (omega (arith, more.0), omega (arith, more.0, more.1, first, parts))
+
+pub needs_are_few : NeedsAreFew
+unfolding needed_blocks
+needs_are_few block list from to pieces wide plan =
+    omega (arith, listed_few [] (flat_map (blocks_of_piece block) pieces), (plan_few block list from to pieces wide plan).1)
+
+-- a block is among those of a range of indexes that has its own
+any_in_range : (id size block start n index : ℕ) → start ≤ index → index < start + n → list_any (is_same_block (block_at id size block index)) (map (block_at id size block) (range_with_len start n)) ≡ true
+any_in_range id size block start zero index low high = absurd (omega arith)
+any_in_range id size block start (suc n) index low high =
+    ⊎_elim (λ (later : start < index). on (is_same_block (block_at id size block index) (block_at id size block start)) (any_in_range id size block (start + 1) n index (omega arith) (omega arith)))
+    (λ (here : index ≤ start).
+    let same : index ≡ start = omega arith in
+    let first : is_same_block (block_at id size block index) (block_at id size block start) ≡ true = ap (λ (i : ℕ). is_same_block (block_at id size block index) (block_at id size block i)) (sym same) ∙ same_self (block_at id size block index) in
+    ap (λ b. b || list_any (is_same_block (block_at id size block index)) (map (block_at id size block) (range_with_len (start + 1) n))) first)
+    (cases_lt start index)
+  where
+    on : (x : Bool) {y : Bool} → y ≡ true → (x || y) ≡ true
+    on true e = refl
+    on false e = e
+
+has_byte : (block : ℕ) (pieces : List Piece) (k : ℕ) (piece : Piece) (b : BlockId) → slice_get pieces k ≡ Some piece → list_any (is_same_block b) (blocks_of_piece block piece) ≡ true → list_any (is_same_block b) (flat_map (blocks_of_piece block) pieces) ≡ true
+has_byte block [] k piece b e h = let never : ⊥ = cc in absurd never
+has_byte block (p ∷ ps) zero piece b e h =
+    let same : p ≡ piece = cc in
+    let front : list_any (is_same_block b) (blocks_of_piece block p) ≡ true = subst (λ (q : Piece). list_any (is_same_block b) (blocks_of_piece block q) ≡ true) (sym same) h in
+    ap (list_any (is_same_block b)) (flat_map-cons (blocks_of_piece block) p ps) ∙ list_any-append (is_same_block b) (blocks_of_piece block p) (flat_map (blocks_of_piece block) ps)
+    ∙ ap (λ x. x || list_any (is_same_block b) (flat_map (blocks_of_piece block) ps)) front
+has_byte block (p ∷ ps) (suc k) piece b e h =
+    ap (list_any (is_same_block b)) (flat_map-cons (blocks_of_piece block) p ps) ∙ list_any-append (is_same_block b) (blocks_of_piece block p) (flat_map (blocks_of_piece block) ps)
+    ∙ on (list_any (is_same_block b) (blocks_of_piece block p)) (has_byte block ps k piece b e h)
+  where
+    on : (x : Bool) {y : Bool} → y ≡ true → (x || y) ≡ true
+    on true e = refl
+    on false e = e
+
+pub needs_have_each_byte : NeedsHaveEachByte
+needs_have_each_byte block pieces k piece id size at n wide there spot below =
+    let b : BlockId = block_at id size block ((at + n) / block) in
+    let low : at / block ≤ (at + n) / block = div_rises at (at + n) block wide (omega arith) in
+    let high : (at + n) / block ≤ (at + piece.len - 1) / block = div_rises (at + n) (at + piece.len - 1) block wide (omega arith) in
+    let in_range : list_any (is_same_block b) (blocks_under block piece.len (Slice id size at)) ≡ true =
+    any_in_range id size block (at / block) ((at + piece.len - 1) / block + 1 - at / block) ((at + n) / block) low (omega (arith, low, high)) in
+    let in_piece : list_any (is_same_block b) (blocks_of_piece block piece) ≡ true = ap (λ (s : Spot). list_any (is_same_block b) (blocks_under block piece.len s)) spot ∙ in_range in
+    Contains-from_any equal_if_same b (needed_blocks block pieces) (needs_are_those block pieces b ∙ has_byte block pieces k piece b there in_piece)
+
+-- what each block of each piece has, each needed block has
+listed_All : (P : BlockId → Type 0) (keys bs : List BlockId) → All P keys → All P bs → All P (fold with_block keys bs)
+listed_All P keys [] h k = h
+listed_All P keys (b ∷ bs) h k =
+    let first : P b = All-head P b bs k in
+    let one : All P (with_block keys b) =
+    ⊎_elim (λ (there : list_any (is_same_block b) keys ≡ true). subst (λ (xs : List BlockId). All P xs) (sym (with_listed keys b there)) h)
+    (λ (fresh : list_any (is_same_block b) keys ≡ false). subst (λ (xs : List BlockId). All P xs) (sym (with_new keys b fresh)) (All-push P keys b h first))
+    (cases_Bool (list_any (is_same_block b) keys)) in
+    listed_All P (with_block keys b) bs one (All-tail P b bs k)
+
+range_low : (id size block start n : ℕ) → ((index : ℕ) → start ≤ index → index < start + n → index < 1024) → All (λ (b : BlockId). b.index < 1024) (map (block_at id size block) (range_with_len start n))
+range_low id size block start zero h = λ k d below. absurd (omega arith)
+range_low id size block start (suc n) h =
+    let P : BlockId → Type 0 = λ b. b.index < 1024 in
+    All-append P (block_at id size block start ∷ []) (map (block_at id size block) (range_with_len (start + 1) n))
+    (All-push P [] (block_at id size block start) (λ k d below. absurd (omega arith)) (h start (omega arith) (omega arith))) (range_low id size block (start + 1) n (λ index low high. h index (omega arith) (omega arith)))
+
+piece_low : (block len : ℕ) (spot : Spot) → 65536 ≤ block → 1 ≤ len → LiesIn len spot → FitsWindow spot → All (λ (b : BlockId). b.index < 1024) (blocks_under block len spot)
+piece_low block len Zero wide some lies fits = λ k d below. absurd (omega arith)
+piece_low block len (Slice id size at) wide some lies fits =
+    let rises : at / block ≤ (at + len - 1) / block = div_rises at (at + len - 1) block (omega arith) (omega arith) in
+    range_low id size block (at / block) ((at + len - 1) / block + 1 - at / block)
+    (λ index low high. index_low (at + len - 1) index block wide (omega (arith, lies, fits)) (omega (arith, rises, low, high)))
+
+pieces_low : (block : ℕ) (pieces : List Piece) → 65536 ≤ block → All IsPart pieces → All (λ (p : Piece). FitsWindow p.spot) pieces → All (λ (b : BlockId). b.index < 1024) (flat_map (blocks_of_piece block) pieces)
+pieces_low block [] wide parts fits = λ k d below. absurd (omega arith)
+pieces_low block (p ∷ ps) wide parts fits =
+    let P : BlockId → Type 0 = λ b. b.index < 1024 in
+    let part : IsPart p = All-head IsPart p ps parts in
+    let fit : FitsWindow p.spot = All-head (λ (q : Piece). FitsWindow q.spot) p ps fits in
+    subst (λ (bs : List BlockId). All P bs) (sym (flat_map-cons (blocks_of_piece block) p ps))
+    (All-append P (blocks_of_piece block p) (flat_map (blocks_of_piece block) ps) (piece_low block p.len p.spot wide part.some part.inside fit)
+    (pieces_low block ps wide (All-tail IsPart p ps parts) (All-tail (λ (q : Piece). FitsWindow q.spot) p ps fits)))
+
+pub indexes_are_low : IndexesAreLow
+unfolding needed_blocks
+indexes_are_low block pieces wide parts fits =
+    listed_All (λ (b : BlockId). b.index < 1024) [] (flat_map (blocks_of_piece block) pieces) (λ k d below. absurd (omega arith)) (pieces_low block pieces wide parts fits)

@@ -1,5 +1,6 @@
 -- The definitions that contracts cite.
-pub mod Reading
-pub mod Runs
+pub mod NameParts
+pub mod Stretches
 pub mod Listing
 pub mod Laws
+pub mod Shown

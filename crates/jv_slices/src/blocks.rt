@@ -60,7 +60,8 @@ fn add_piece(
     requires part { IsPart piece }
     requires listed { Lists keys.old.items listed.old.keys }
     ensures listed { OnOk result (Lists keys.new.items listed.new.keys) }
-    ensures keys { OnOk result (keys.new.items ≡ fold with_block keys.old.items (blocks_of_piece block piece)) }
+    ensures keys { OnOk result
+        (keys.new.items ≡ fold with_block keys.old.items (blocks_of_piece block piece)) }
 {
     let Spot::Slice { id, size, at } = piece.spot else {
         return Ok(());

@@ -1,32 +1,32 @@
-//! What records show of a range, as runs of positions.
+//! What records show of a range, as stretches of positions.
 ghost use Rattle.std.specs.Prelude.{◌≡◌, ◌≢◌, ◌↔◌, ℕ, [], ◌∷◌, ◌+◌, ◌-◌, ◌<◌, ◌≤◌, false, IsTrue, All, drop, length, Option, OnOk, IfOk, slice_index_or};
 ghost use Rattle.std.specs.Option.{option_or};
 ghost use Rattle.jv_model.specs.declared.slice.Rec.{Rec as RecSeen};
 ghost use Rattle.jv_model.specs.blocks.Slices.{IsRecord, visible};
-ghost use Rattle.jv_slices.specs.Runs.{IsSeen, Shows, IsLayout};
-ghost use Rattle.jv_slices.specs.declared.layout.Run.{Run as RunSeen};
+ghost use Rattle.jv_slices.specs.Stretches.{IsSeen, Shows, IsLayout};
+ghost use Rattle.jv_slices.specs.declared.layout.Stretch.{Stretch as StretchSeen};
 
 use jv_model::Rec;
 use std::alloc::{AllocError, Global};
 
-/// Positions up to `end` that show one record, or none. They begin where the run before ends.
+/// Positions up to `end` that show one record, or none. They begin where the stretch before ends.
 #[derive(Clone, Copy, Debug, PartialEq, Eq)]
-pub(crate) struct Run {
+pub(crate) struct Stretch {
     pub(crate) end: u32,
     pub(crate) seen: Option<Rec>,
 }
 
-/// What records show from one position to another, in as few runs as there can be. The two halves of the records are laid
+/// What records show from one position to another, in as few stretches as there can be. The two halves of the records are laid
 /// out each for itself, and then the later one over the earlier one, so that the time is that of a merge sort.
 pub(crate) fn layout(
     alloc: Global,
     records: &[Rec],
     from: u32,
     to: u32,
-) -> Result<Vec<Run>, AllocError>
+) -> Result<Vec<Stretch>, AllocError>
     requires records { All IsRecord records.now }
     requires rising { from ≤ to }
-    ensures { IfOk result (λ runs. IsLayout (visible records.now) from to runs.items) }
+    ensures { IfOk result (λ stretches. IsLayout (visible records.now) from to stretches.items) }
 {
     match records {
         [] => lay_none(alloc, from, to),
@@ -40,90 +40,103 @@ pub(crate) fn layout(
     }
 }
 
-fn lay_none(alloc: Global, from: u32, to: u32) -> Result<Vec<Run>, AllocError>
+fn lay_none(alloc: Global, from: u32, to: u32) -> Result<Vec<Stretch>, AllocError>
     requires { from ≤ to }
-    ensures { IfOk result (λ runs. IsLayout (visible []) from to runs.items) }
+    ensures { IfOk result (λ stretches. IsLayout (visible []) from to stretches.items) }
 {
-    let mut runs = Vec::new(alloc);
-    show(&mut runs, from, to, None)?;
-    Ok(runs)
+    let mut stretches = Vec::new(alloc);
+    show(&mut stretches, from, to, None)?;
+    Ok(stretches)
 }
 
-fn lay_one(alloc: Global, only: Rec, from: u32, to: u32) -> Result<Vec<Run>, AllocError>
+fn lay_one(alloc: Global, only: Rec, from: u32, to: u32) -> Result<Vec<Stretch>, AllocError>
     requires part { IsRecord only }
     requires rising { from ≤ to }
-    ensures { IfOk result (λ runs. IsLayout (visible (only ∷ [])) from to runs.items) }
+    ensures { IfOk result (λ stretches. IsLayout (visible (only ∷ [])) from to stretches.items) }
 {
     let start = only.pos.clamp(from, to);
     let end = (only.pos + only.len).clamp(from, to);
-    let mut runs = Vec::new(alloc);
-    show(&mut runs, from, start, None)?;
-    show(&mut runs, start, end, Some(only))?;
-    show(&mut runs, end, to, None)?;
-    Ok(runs)
+    let mut stretches = Vec::new(alloc);
+    show(&mut stretches, from, start, None)?;
+    show(&mut stretches, start, end, Some(only))?;
+    show(&mut stretches, end, to, None)?;
+    Ok(stretches)
 }
 
-/// What the upper runs see, and where they see nothing, what the lower ones see.
-fn lay_over(alloc: Global, from: u32, lower: &[Run], upper: &[Run]) -> Result<Vec<Run>, AllocError>
-    ensures { IfOk result (λ runs. (below above : ℕ → Option RecSeen) (to : ℕ) →
+/// What the upper stretches see, and where they see nothing, what the lower ones see.
+fn lay_over(
+    alloc: Global,
+    from: u32,
+    lower: &[Stretch],
+    upper: &[Stretch],
+) -> Result<Vec<Stretch>, AllocError>
+    ensures { IfOk result (λ stretches. (below above : ℕ → Option RecSeen) (to : ℕ) →
         Shows below from to lower.now → Shows above from to upper.now →
-        IsLayout (λ position. option_or (above position) (below position)) from to runs.items) }
+        IsLayout (λ at. option_or (above at) (below at)) from to stretches.items) }
 {
-    let mut runs = Vec::new(alloc);
+    let mut stretches = Vec::new(alloc);
     let (mut i, mut j, mut at) = (0, 0, from);
     while i < lower.len() && j < upper.len() {
         let end = lower[i].end.min(upper[j].end);
-        show(&mut runs, at, end, upper[j].seen.or(lower[i].seen))?;
+        show(&mut stretches, at, end, upper[j].seen.or(lower[i].seen))?;
         i = next_index(lower, i, end);
         j = next_index(upper, j, end);
         at = end;
     }
-    Ok(runs)
+    Ok(stretches)
 }
 
-/// The index of the run that a position is in, where it is the end of the run at `index` or before it.
-fn next_index(runs: &[Run], index: usize, position: u32) -> usize
-    requires { index < length runs.now }
-    ensures rest { (all : ℕ → Option RecSeen) (from to : ℕ) (d : RunSeen) →
-        from ≤ position → position ≤ (slice_index_or runs.now index d).end →
-        Shows all from to (drop index runs.now) → Shows all position to (drop result runs.now) }
-    ensures next { (d : RunSeen) → position ≡ (slice_index_or runs.now index d).end → result ≡ index + 1 }
-    ensures within { result ≤ length runs.now }
+/// The index of the stretch that a position is in, where it is the end of the stretch at `index` or before it.
+fn next_index(stretches: &[Stretch], index: usize, position: u32) -> usize
+    requires { index < length stretches.now }
+    ensures rest { (all : ℕ → Option RecSeen) (from to : ℕ) (d : StretchSeen) →
+        from ≤ position → position ≤ (slice_index_or stretches.now index d).end →
+        Shows all from to (drop index stretches.now) →
+        Shows all position to (drop result stretches.now) }
+    ensures next { (d : StretchSeen) →
+        position ≡ (slice_index_or stretches.now index d).end → result ≡ index + 1 }
+    ensures within { result ≤ length stretches.now }
     ensures rises { index ≤ result }
 {
-    if runs[index].end == position {
+    if stretches[index].end == position {
         index + 1
     } else {
         index
     }
 }
 
-/// Adds the positions from one to another to runs that end there. The last run grows where it sees the same.
-fn show(runs: &mut Vec<Run>, from: u32, to: u32, seen: Option<Rec>) -> Result<(), AllocError>
+/// Adds the positions from one to another to stretches that end there. The last stretch grows where it sees the same.
+fn show(
+    stretches: &mut Vec<Stretch>,
+    from: u32,
+    to: u32,
+    seen: Option<Rec>,
+) -> Result<(), AllocError>
     ensures { OnOk result ((all : ℕ → Option RecSeen) (start : ℕ) →
-        IsLayout all start from runs.old.items → from ≤ to → IsSeen all from to seen →
-        IsLayout all start to runs.new.items) }
+        IsLayout all start from stretches.old.items → from ≤ to → IsSeen all from to seen →
+        IsLayout all start to stretches.new.items) }
 {
     if from >= to {
         return Ok(());
     }
-    if sees_last(runs, seen) {
-        let last = runs.len() - 1;
-        runs[last].end = to;
+    if sees_last(stretches, seen) {
+        let last = stretches.len() - 1;
+        stretches[last].end = to;
     } else {
-        runs.push(Run { end: to, seen })?;
+        stretches.push(Stretch { end: to, seen })?;
     }
     Ok(())
 }
 
-/// Whether the last run sees this.
-fn sees_last(runs: &[Run], seen: Option<Rec>) -> bool
-    ensures some { IsTrue result → 0 < length runs.now }
-    ensures same { IsTrue result → (d : RunSeen) → (slice_index_or runs.now (length runs.now - 1) d).seen ≡ seen }
-    ensures other { result ≡ false → (k : ℕ) (d : RunSeen) → length runs.now ≡ k + 1 →
-        (slice_index_or runs.now k d).seen ≢ seen }
+/// Whether the last stretch sees this.
+fn sees_last(stretches: &[Stretch], seen: Option<Rec>) -> bool
+    ensures some { IsTrue result → 0 < length stretches.now }
+    ensures same { IsTrue result → (d : StretchSeen) →
+        (slice_index_or stretches.now (length stretches.now - 1) d).seen ≡ seen }
+    ensures other { result ≡ false → (k : ℕ) (d : StretchSeen) → length stretches.now ≡ k + 1 →
+        (slice_index_or stretches.now k d).seen ≢ seen }
 {
-    match runs.last() {
+    match stretches.last() {
         Some(last) => is_same(last.seen, seen),
         None => false,
     }
