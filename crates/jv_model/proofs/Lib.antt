@@ -11,3 +11,4 @@ pub mod CloseLaws
 pub mod WriteLaws
 pub mod BlockNamesExamples
 pub mod SlicesExamples
+pub mod RowGrammarExamples
