@@ -1,5 +1,6 @@
 -- The definitions that contracts cite, by what they are about.
 pub mod FiniteMap
+pub mod Optional
 pub mod tree
 pub mod script
 pub mod run

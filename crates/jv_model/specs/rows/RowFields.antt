@@ -1,11 +1,7 @@
 -- The fields of rows: how each is spelled, and how it is read from the front of bytes. Numbers are big-endian.
 use Rattle.std.specs.Prelude.{ℕ, Bool, true, false, ◌&&◌, nat_lt, if◌then◌else◌, List, [], ◌∷◌, length, take, drop, Option, None, Some, option_and_then}
 use Rattle.std.specs.Int.{w16, w32, w64, Width, byte_len, from_be_bytes, to_be_bytes}
-
--- the second step, if the first gave a value
-infixl 10 ◌>>=◌
-abbrev pub ◌>>=◌ : {A B : Type 0} → Option A → (A → Option B) → Option B
-o >>= f = option_and_then f o
+pub use Rattle.jv_model.specs.Optional.{◌>>=◌}
 
 -- a number of 8 bits, of 16, of 32 and of 64
 abbrev pub byte : ℕ → List ℕ

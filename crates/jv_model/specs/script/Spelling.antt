@@ -2,11 +2,7 @@
 use Rattle.std.specs.Prelude.{ℕ, ◌+◌, ◌-◌, ◌*◌, Bool, true, false, ◌&&◌, ◌||◌, not, ◌==◌, nat_lt, nat_le, if◌then◌else◌, List, [], ◌∷◌, length, Option, None, Some, option_and_then, fold}
 use Rattle.std.specs.List.{slice_split, list_all}
 use Rattle.jv_model.specs.declared.limits.TheConstants.{MAX_DATA, MAX_NAME}
-
--- the second step, if the first gave a value
-infixl 10 ◌>>=◌
-abbrev pub ◌>>=◌ : {A B : Type 0} → Option A → (A → Option B) → Option B
-o >>= f = option_and_then f o
+pub use Rattle.jv_model.specs.Optional.{◌>>=◌}
 
 -- the words of a text, parted at each space: two spaces in a row part an empty word off
 abbrev pub words : List ℕ → List (List ℕ)
