@@ -74,7 +74,7 @@ pub enum Fault {
     NotConnected,
     /// EALREADY: an operation is in progress, or the client is mounted.
     InProgress,
-    /// ENOMEM: want of memory.
+    /// ENOMEM: out of memory.
     NoMemory,
 }
 

@@ -32,7 +32,7 @@ impl Journal {
         }
     }
 
-    /// Makes room for `n` more entries. Where memory is wanting, nothing has changed.
+    /// Makes room for `n` more entries. On error nothing has changed.
     pub fn reserve(&mut self, n: usize) -> Result<(), AllocError>
         ensures same { self.new.acts ≡ self.old.acts }
         ensures room { OnOk result (n ≤ self.new.spare) }

@@ -12,12 +12,12 @@ pub fn views_show_the_file()
     ensures { ViewsShowTheFile }
 {}
 
-/// A read that cites a fresh look gives the file's bytes as they were just after it, and may cite no other look.
+/// A read that cites a fresh look returns the file's bytes as they were just after it, and may cite no other look.
 pub fn parts_read_are_of_fresh_looks()
     ensures { PartsReadAreOfFreshLooks }
 {}
 
-/// A journal is legal so far exactly where each part of it is, from what the entries before it come to.
+/// A journal is legal so far exactly where each part of it is, from where the entries before it lead.
 pub fn journals_grow()
     ensures { JournalsGrow }
 {}

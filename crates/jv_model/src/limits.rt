@@ -48,7 +48,7 @@ pub const MIN_BLOCK: u32 = 65_536;
 /// The greatest length of a block in bytes.
 pub const MAX_BLOCK: u32 = 16_777_216;
 
-/// The length of a block in bytes where no option gives another.
+/// The length of a block in bytes where no option sets another.
 pub const DEFAULT_BLOCK: u32 = 4_194_304;
 
 /// The most days that a removed file stays in the trash.
@@ -63,7 +63,7 @@ pub const MAX_DATA: u64 = 8_388_608;
 /// The most open handles of a client.
 pub const MAX_HANDLES: usize = 1_024;
 
-/// The bytes that may wait for their commit in a client where no option gives another number.
+/// The bytes that may wait for their commit in a client where no option sets another number.
 pub const DEFAULT_BUFFER: u64 = 33_554_432;
 
 /// The longest line of a script in bytes, its line feed not counted.

@@ -46,13 +46,13 @@ pub enum Op {
     Read {
         handle: u64,
         offset: u64,
-        /// At most 8,388,608 bytes.
+        /// At most [`crate::MAX_DATA`] bytes.
         len: u32,
     },
     Write {
         handle: u64,
         offset: u64,
-        /// At most 8,388,608 bytes.
+        /// At most [`crate::MAX_DATA`] bytes.
         bytes: Bytes,
     },
     Truncate {
@@ -80,7 +80,7 @@ pub enum Op {
     },
     Utimes {
         path: Path,
-        /// Seconds, at most 137,438,953,471.
+        /// Seconds, at most [`crate::LAST_MOMENT`].
         mtime: u64,
     },
     Statfs,
@@ -190,7 +190,7 @@ pub enum Line {
     Crash(ClientId),
     /// Uploads until nothing is staged for the client.
     Drain(ClientId),
-    /// Moves the clock on by so many seconds, 1 to 4,294,967,296.
+    /// Moves the clock on by a number of seconds, 1 to [`crate::MAX_TICK`].
     Tick(u64),
 }
 

@@ -5,7 +5,7 @@ use std::alloc::{AllocError, Global};
 use std::cmp::Ordering;
 use std::marker::Model;
 
-/// Values in a row, which contracts see as a list. It is made from a `Vec`, and gives it back, without memory.
+/// Values in a row, which contracts see as a list. It is made from a `Vec` and turned back into one without taking memory.
 #[derive(Debug, Drop)]
 pub struct Sequence<T> {
     items: Vec<T>,
@@ -60,7 +60,7 @@ impl<T> Sequence<T> {
         self.items.is_empty()
     }
 
-    /// Adds a value at the end. Where memory is wanting, nothing has changed.
+    /// Adds a value at the end. On error nothing has changed.
     pub fn push(&mut self, value: T) -> Result<(), AllocError>
     where
         T: Drop,

@@ -1,4 +1,4 @@
-//! A volume's setting, and what `stat` and `statfs` tell.
+//! A volume's setting, and what `stat` and `statfs` return.
 use crate::basics::Moment;
 use crate::bytes::Text;
 use crate::limits::{FULL_COUNT, GIB};
@@ -75,7 +75,7 @@ pub struct Attr {
     pub ctime: Moment,
 }
 
-/// What `statfs` tells of a volume.
+/// What `statfs` returns of a volume.
 #[derive(Clone, Copy, Debug, PartialEq, Eq)]
 pub struct Space {
     /// Used space in bytes.

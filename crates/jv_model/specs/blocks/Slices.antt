@@ -53,7 +53,7 @@ abbrev pub IsPlan : List Rec → ℕ → ℕ → List Piece → Type 0
 IsPlan list from to [] = from ≡ to
 IsPlan list from to (piece ∷ pieces) = (piece.from ≡ from) × IsPiece list to piece × IsPlan list (from + piece.len) to pieces
 
--- the places that a piece gives its positions are the stored ones
+-- the places of a piece's positions are the stored ones
 abbrev pub IsAsStored : List Rec → Piece → Type 0
 IsAsStored list piece = (n : ℕ) → n < piece.len → place_after piece.spot n ≡ stored_place list (piece.from + n)
 
@@ -96,6 +96,6 @@ is_same_block a b = (a.id == b.id) && (a.index == b.index) && (a.size == b.size)
 abbrev pub with_block : List BlockId → BlockId → List BlockId
 with_block blocks b = (if list_any (is_same_block b) blocks then blocks else blocks ++ b ∷ [])
 
--- the blocks that pieces need, each once, as a reader comes to them from piece to piece
+-- the blocks that pieces need, each once, as a reader reaches them from piece to piece
 unfoldable pub needed_blocks : ℕ → List Piece → List BlockId
 needed_blocks block pieces = fold with_block [] (flat_map (blocks_of_piece block) pieces)

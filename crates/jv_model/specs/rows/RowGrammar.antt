@@ -150,7 +150,7 @@ record_at bytes = do
   len ← word_at off.1
   Some (record { pos = pos.0; id = id.0; size = size.0; off = off.0; len = len.0 }, len.1)
 
--- so many records
+-- a number of records
 unfoldable pub records_at : ℕ → List ℕ → Option (List Rec × List ℕ)
 records_at zero bytes = Some ([], bytes)
 records_at (suc n) bytes = do

@@ -23,7 +23,7 @@ pub data Flush : Type 0 where
 -- how far an operation is
 pub data Stage : Type 0 where
   Transacting : Stage  -- its metadata transaction is to come
-  Flushing : (quiets : ℕ) → Stage  -- so many steps of the next segment are made
+  Flushing : (quiets : ℕ) → Stage  -- how many steps of the next segment are made
   Reading : Stage  -- a view was taken
   Replying : Reply → Stage  -- its answer is settled, in this same step
 

@@ -104,7 +104,7 @@ pub record AreSeen (run : Setup) (journal : List Act) (client : ℕ) (file : Ope
   pub fresh : IsFreshLook journal client file window look
   pub same : bytes ≡ bytes_between (or_empty (content_at (reached run (take look journal)).tree file.inode)) from to
 
--- a read that cites a look gives these bytes, and none where the look isn't fresh
+-- a read that cites a look returns these bytes, and none where the look isn't fresh
 abbrev pub PartsReadAreOfFreshLooks : Type 0
 PartsReadAreOfFreshLooks = (run : Setup) (journal : List Act) → AllAllowed (at_start run) journal
     → (client : ℕ) (file : OpenFile) (window look from to : ℕ) (bytes : List ℕ)

@@ -85,8 +85,8 @@ pub record TakesView (c : ModelClient) (doing : Doing) (inode window : ℕ) : Ty
   pub begins : window * window_size < offset + len
   pub ends : offset < (window + 1) * window_size
 
--- An answer may stand where want of memory is told before a step, where a transaction settled it, or where the operation has done
--- all its steps. A read gives the bytes of the fresh views that it cites.
+-- An answer may stand where memory ran out before a step, where a transaction settled it, or where the operation has done
+-- all its steps. A read returns the bytes of the fresh views that it cites.
 pub data MayAnswer (p : Past) (client : ℕ) (c : ModelClient) (doing : Doing) (told : Told) : Type 0 where
   OutOfMemory : IsTrue (is_before_step p c doing) → told ≡ ToldRefused NoMemory → MayAnswer p client c doing told
   Settled : (reply : Reply) → doing.stage ≡ Replying reply → told ≡ told_of reply → MayAnswer p client c doing told
@@ -108,7 +108,7 @@ MayStep p client now c doing (Look inode window) = TakesView c doing inode windo
 MayStep p client now c doing (Answered told) = MayAnswer p client c doing told
 MayStep p client now c doing _ = ⊥
 
--- the one entry of a refused submission, for which memory may be wanting too
+-- the one entry of a refused submission, for which memory may run out too
 pub data IsRefusal (fault : Fault) (kind : ActKind) : Type 0 where
   Refuses : kind ≡ Answered (ToldRefused fault) → IsRefusal fault kind
   WantsMemory : kind ≡ Answered (ToldRefused NoMemory) → IsRefusal fault kind

@@ -1,4 +1,4 @@
--- What a journal so far comes to: the lines begun, the tree and the clients reached, and the views taken. A journal is
+-- Where a journal so far leads: the lines begun, the tree and the clients reached, and the views taken. A journal is
 -- read from its first entry on, one entry at a time.
 use Rattle.std.specs.Prelude.{ℕ, zero, suc, ◌+◌, ◌-◌, ◌*◌, ◌/◌, ◌^◌, min, Bool, true, false, ◌&&◌, ◌||◌, not, ◌==◌, nat_lt, nat_le, if◌then◌else◌, List, [], ◌∷◌, ◌++◌, map, length, unwrap_or, Option, None, Some}
 use Rattle.jv_model.specs.declared.limits.TheConstants.{FILE_END}
@@ -27,7 +27,7 @@ pub record Setup : Type 0 where
   pub script : List Line
   pub limits : Limits
   pub uploads : ℕ  -- how many uploading threads may run
-  pub clock : Option (ℕ → ℕ)  -- the clock's answers by number from 0, where it tells them
+  pub clock : Option (ℕ → ℕ)  -- the clock's answers by number from 0, where they are known
   pub status : ℕ
 
 -- what the present line may still have
@@ -117,7 +117,7 @@ begin_from (line ∷ rest) p = begun (turned p rest) line
 unfoldable pub begin_next : Past → Past
 begin_next p = begin_from p.rest p
 
--- so many more lines begun, the newest last
+-- a number of further lines begun, the newest last
 abbrev pub begun_by : ℕ → Past → Past
 begun_by zero p = p
 begun_by (suc n) p = begin_next (begun_by n p)
@@ -188,7 +188,7 @@ after_look p client inode window = record p {
 
 -- reads
 
--- so many bytes from a position on
+-- a number of bytes from a position on
 abbrev pub bytes_from : (ℕ → ℕ) → ℕ → ℕ → List ℕ
 bytes_from byte from zero = []
 bytes_from byte from (suc n) = byte from ∷ bytes_from byte (from + 1) n
@@ -225,7 +225,7 @@ second_read wanted second (Some bytes) more = (if nat_lt (length bytes) wanted
     then only_if (second == 0) bytes
     else elim more [ None ↦ None | Some others ↦ Some (bytes ++ others) ])
 
--- What a read of a range gives by the views that it cites: none for no byte, else one for each window that the range
+-- What a read of a range returns by the views that it cites: none for no byte, else one for each window that the range
 -- touches, at most two. No file goes past 2^40 bytes.
 abbrev pub reading : List View → ℕ → OpenFile → ℕ → ℕ → ℕ → ℕ → Option (List ℕ)
 reading views client file offset len first second =
@@ -309,14 +309,14 @@ after_due p act Unbuilt = p
 abbrev pub counted : Act → Past → Past
 counted act p = record p { count = p.count + 1; at = act.at; asked = (if p.has_asked then p.asked else p.asked + 1); has_asked = true }
 
--- what it comes to with one more entry, whose line is begun
+-- where it leads with one more entry, whose line is begun
 unfoldable pub after : Past → Act → Past
 after p act = counted act (after_due p act p.due)
 
 unfoldable pub advance : Past → Act → Past
 advance p act = after (begun_to act.line p) act
 
--- what it comes to with more entries
+-- where it leads with more entries
 abbrev pub past : Past → List Act → Past
 past p [] = p
 past p (act ∷ acts) = past (advance p act) acts

@@ -122,7 +122,7 @@ space_limit s = (if s.capacity == 0 then full_count else s.capacity * GIB)
 abbrev pub inode_limit : Setting → ℕ
 inode_limit s = (if s.inodes == 0 then full_count else s.inodes)
 
--- whether a sum may come to be `after`: it is within its limit, or didn't grow
+-- whether a sum may become `after`: it is within its limit, or didn't grow
 abbrev pub sum_fits : ℕ → ℕ → ℕ → Bool
 sum_fits limit before after = nat_le after limit || nat_le after before
 
