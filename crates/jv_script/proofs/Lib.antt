@@ -1,12 +1,12 @@
--- Lemmas on texts, runs and parts.
-pub mod Cuts
-pub mod Digits
-pub mod Values
-pub mod Parts
-pub mod PieceText
-pub mod ShortParts
-pub mod Spelling
-pub mod Rooms
-pub mod RunText
-pub mod HexText
-pub mod Joined
+-- Lemmas on texts, their parts and repeats.
+pub mod CutLaws
+pub mod DataRoundTripLaws
+pub mod DigitLaws
+pub mod EntryLaws
+pub mod EscapeLaws
+pub mod HexTextLaws
+pub mod HexValueLaws
+pub mod PartLaws
+pub mod RepeatLaws
+pub mod RoundTripLaws
+pub mod ShortPartLaws

@@ -1,3 +1,4 @@
 -- What only this crate's contracts cite.
 pub mod Printing
 pub mod Reading
+pub mod RoundTrips

@@ -4,10 +4,10 @@ use thiserror::Error;
 /// Why a text isn't read as a line.
 #[derive(Clone, Copy, Debug, PartialEq, Eq, Error)]
 pub enum BadLine {
-    /// The text is off the grammar.
+    /// The text is malformed.
     #[error("not a script line")]
     Off,
-    /// Want of memory for a path, a target or the bytes of a write.
+    /// Out of memory for a path, a target or the bytes of a write; the text is well-formed.
     #[error("out of memory")]
     Memory,
 }

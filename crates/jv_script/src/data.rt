@@ -1,25 +1,21 @@
-//! The bytes of a write, read.
-ghost use Rattle.std.specs.Prelude.{◌≡◌, ◌≤◌, ◌&&◌, ◌==◌, nat_lt, length, IfOk, option_map};
-ghost use Rattle.jv_model.specs.script.Spelling.{is_hex_digit};
+//! Reads DATA, the bytes of a write: `-` for none, or parts joined by `+`.
+ghost use Rattle.std.specs.Prelude.{◌≡◌, is_some, IfOk, option_map};
 ghost use Rattle.jv_model.specs.script.Printed.{Repeated};
 ghost use Rattle.jv_model.specs.script.Grammar.{parted, repeated_of, part_of, part_length, bytes_of_parts, data_of};
-ghost use Rattle.jv_script.specs.Reading.{has_x, Reads, length_with, bytes_after, pairs_of, Appends};
+ghost use Rattle.jv_script.specs.Reading.{has_x, pairs_of, Reads, Appends};
 
 use crate::bad_line::BadLine;
 use crate::fields::number;
 use crate::hex_digits::{byte_of_pair, decode_into, is_pairs};
-use crate::short_parts::{ROOM, push_short_parts};
-use crate::words::cut;
-use jv_model::{Bytes, Sequence};
+use crate::short_parts::push_short_parts;
+use crate::word_cuts::cut;
+use jv_model::{Bytes, MAX_DATA, Sequence};
 use std::alloc::{AllocError, Global};
 
-/// The greatest number of bytes of a write.
-const MAX_BYTES: u64 = 8_388_608;
-
-/// From so many digits on, work on many at a time is quicker.
+/// From so many digits on, a block at a time is quicker than pair by pair.
 const MANY_DIGITS: usize = 32;
 
-/// The bytes of a write, in any of their spellings.
+/// Reads the bytes of a write. Malformed text is reported as such even where memory runs out before all of it is read.
 pub(crate) fn data(alloc: Global, text: &[u8]) -> Result<Bytes, BadLine>
     ensures { Reads result (data_of text.now) }
 {
@@ -28,36 +24,39 @@ pub(crate) fn data(alloc: Global, text: &[u8]) -> Result<Bytes, BadLine>
     }
     match joined(alloc, text) {
         Ok(bytes) => bytes.ok_or(BadLine::Off),
-        Err(_) => Err(without_memory(text)),
+        Err(_) => Err(out_of_memory(text)),
     }
 }
 
-// What is told where memory is wanting: the parts may be off in what wasn't read yet.
-fn without_memory(text: &[u8]) -> BadLine
+// Why the parts weren't read where memory ran out: the text may be malformed behind the place that was reached.
+fn out_of_memory(text: &[u8]) -> BadLine
     ensures { Reads (Err result) (bytes_of_parts (parted 43 text.now)) }
 {
-    match joined_length(text) {
-        Some(_) => BadLine::Memory,
-        None => BadLine::Off,
+    if are_parts(text) {
+        BadLine::Memory
+    } else {
+        BadLine::Off
     }
 }
 
-// How many bytes the parts have, if they are parts and have not too many.
-fn joined_length(text: &[u8]) -> Option<u64>
-    ensures { result ≡ length_with 0 (parted 43 text.now) }
+// Whether the text is parts joined by `+` that have at most MAX_DATA bytes together.
+fn are_parts(text: &[u8]) -> bool
+    ensures { result ≡ is_some (bytes_of_parts (parted 43 text.now)) }
 {
     let mut total = 0;
     let mut rest = Some(text);
     while let Some(parts) = rest {
         let (part, after) = cut(parts, b'+');
-        let length = part_length(part)?;
-        if length > MAX_BYTES - total {
-            return None;
+        let Some(length) = part_length(part) else {
+            return false;
+        };
+        if length > MAX_DATA - total {
+            return false;
         }
         total += length;
         rest = after;
     }
-    Some(total)
+    true
 }
 
 fn part_length(part: &[u8]) -> Option<u64>
@@ -70,10 +69,11 @@ fn part_length(part: &[u8]) -> Option<u64>
     Some(count)
 }
 
-// A byte and how often it stands.
+// The byte of a part `HHxN`, and how often it stands.
 #[tactic(auto, unfolding(jv_model::specs::script::Grammar::repeated_of))]
 fn repeated(part: &[u8]) -> Option<(u8, u64)>
-    ensures { option_map (λ r. Repeated (record { byte = r.0; count = r.1 })) result ≡ repeated_of part.now }
+    ensures { option_map (λ r. Repeated (record { byte = r.0; count = r.1 })) result
+        ≡ repeated_of part.now }
 {
     let [high, low, x, digits @ ..] = part else {
         return None;
@@ -86,30 +86,28 @@ fn repeated(part: &[u8]) -> Option<(u8, u64)>
     Some((byte, count))
 }
 
-// The bytes of the parts, if they are parts and have not too many. A function of its own in the program, too: in a large one
-// the loop's values find no room in registers.
+// The bytes of parts joined by `+`. None where the text is no parts, or they have more than MAX_DATA bytes together.
 #[inline(never)]
 fn joined(alloc: Global, text: &[u8]) -> Result<Option<Bytes>, AllocError>
     ensures { IfOk result (λ bytes. bytes ≡ bytes_of_parts (parted 43 text.now)) }
 {
-    let mut room = [0; ROOM];
     let mut bytes = Vec::with_capacity(alloc, text.len() / 2)?;
     let mut rest = Some(text);
     while let Some(parts) = rest {
-        let parts = push_short_parts(&mut bytes, &mut room, parts)?;
+        let parts = push_short_parts(&mut bytes, parts)?;
         let (part, after) = cut(parts, b'+');
         if !push_part(&mut bytes, part)? {
             return Ok(None);
         }
         rest = after;
     }
-    if bytes.len() as u64 > MAX_BYTES {
+    if bytes.len() as u64 > MAX_DATA {
         return Ok(None);
     }
     Ok(Some(Sequence::from_vec(bytes)))
 }
 
-// Whether the third byte is an `x`, which tells parts of the two kinds apart without a look at their digits.
+// Whether the third byte is an `x`, as it is in a part `HHxN` alone.
 fn has_x(part: &[u8]) -> bool
     ensures { result ≡ has_x part.now }
 {
@@ -119,9 +117,10 @@ fn has_x(part: &[u8]) -> bool
     }
 }
 
-// Whether the text is a part, and has not too many bytes with those before it. Its bytes are then there.
+// Appends the bytes of a part. False where the text is no part, or a count makes the bytes more than MAX_DATA.
 fn push_part(bytes: &mut Vec<u8>, part: &[u8]) -> Result<bool, AllocError>
-    ensures { IfOk result (λ is_part. Appends is_part bytes.old.items (part_of part.now) bytes.new.items) }
+    ensures { IfOk result
+        (λ is_part. Appends is_part bytes.old.items (part_of part.now) bytes.new.items) }
 {
     if has_x(part) {
         return push_repeated(bytes, part);
@@ -133,12 +132,13 @@ fn push_part(bytes: &mut Vec<u8>, part: &[u8]) -> Result<bool, AllocError>
 }
 
 fn push_repeated(bytes: &mut Vec<u8>, part: &[u8]) -> Result<bool, AllocError>
-    ensures { IfOk result (λ is_part. Appends is_part bytes.old.items (repeated_of part.now) bytes.new.items) }
+    ensures { IfOk result
+        (λ is_part. Appends is_part bytes.old.items (repeated_of part.now) bytes.new.items) }
 {
     let Some((byte, count)) = repeated(part) else {
         return Ok(false);
     };
-    if count > MAX_BYTES.saturating_sub(bytes.len() as u64) {
+    if count > MAX_DATA.saturating_sub(bytes.len() as u64) {
         return Ok(false);
     }
     bytes.resize(bytes.len() + count as usize, byte)?;
@@ -147,7 +147,8 @@ fn push_repeated(bytes: &mut Vec<u8>, part: &[u8]) -> Result<bool, AllocError>
 
 // One pair after the other.
 fn push_few_pairs(bytes: &mut Vec<u8>, digits: &[u8]) -> Result<bool, AllocError>
-    ensures { IfOk result (λ are_pairs. Appends are_pairs bytes.old.items (pairs_of digits.now) bytes.new.items) }
+    ensures { IfOk result
+        (λ are_pairs. Appends are_pairs bytes.old.items (pairs_of digits.now) bytes.new.items) }
 {
     if digits.is_empty() {
         return Ok(false);
@@ -165,7 +166,8 @@ fn push_few_pairs(bytes: &mut Vec<u8>, digits: &[u8]) -> Result<bool, AllocError
 
 // Many pairs at a time.
 fn push_pairs(bytes: &mut Vec<u8>, digits: &[u8]) -> Result<bool, AllocError>
-    ensures { IfOk result (λ are_pairs. Appends are_pairs bytes.old.items (pairs_of digits.now) bytes.new.items) }
+    ensures { IfOk result
+        (λ are_pairs. Appends are_pairs bytes.old.items (pairs_of digits.now) bytes.new.items) }
 {
     if !is_pairs(digits) {
         return Ok(false);

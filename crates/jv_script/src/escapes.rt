@@ -1,13 +1,12 @@
 //! Paths and the targets of symlinks, read.
 ghost use Rattle.std.specs.Prelude.{◌≡◌, ◌&&◌, ◌++◌, true, IsSome, IfOk, OnOk, is_some};
-ghost use Rattle.std.specs.Option.{option_copied};
 ghost use Rattle.std.specs.List.{list_all, flat_map};
-ghost use Rattle.jv_model.specs.script.Grammar.{is_plain, is_escape, escape_bytes, parted, unescaped, path_of, target_of};
-ghost use Rattle.jv_script.specs.Reading.{parts_after, Reads, first_in, first_of};
+ghost use Rattle.jv_model.specs.script.Grammar.{is_plain, is_escape, escape_bytes, unescaped, path_of, target_of};
+ghost use Rattle.jv_script.specs.Reading.{escapes_left, Reads, first_in, first_of};
 
 use crate::bad_line::BadLine;
 use crate::hex_digits::{byte_of, is_hex_digit};
-use crate::words::cut;
+use crate::word_cuts::cut;
 use jv_model::{Bytes, Path, Sequence};
 use std::alloc::{AllocError, Global};
 
@@ -59,14 +58,15 @@ fn first_byte(text: &[u8]) -> Option<u8>
 }
 
 fn is_sound(plain: &[u8], escapes: Option<&[u8]>) -> bool
-    ensures { result ≡ (list_all is_plain plain.now && list_all is_escape (parts_after 37 (option_copied escapes.entry))) }
+    ensures { result
+        ≡ (list_all is_plain plain.now && list_all is_escape (escapes_left escapes.entry)) }
 {
     all_plain(plain) && all_escapes(escapes)
 }
 
 fn first_spelled(plain: &[u8], escapes: Option<&[u8]>) -> Option<u8>
-    requires { list_all is_escape (parts_after 37 (option_copied escapes)) ≡ true }
-    ensures { result ≡ first_in (plain.now ++ flat_map escape_bytes (parts_after 37 (option_copied escapes.entry))) }
+    requires { list_all is_escape (escapes_left escapes) ≡ true }
+    ensures { result ≡ first_in (plain.now ++ flat_map escape_bytes (escapes_left escapes.entry)) }
 {
     match plain {
         [first, ..] => Some(*first),
@@ -76,8 +76,8 @@ fn first_spelled(plain: &[u8], escapes: Option<&[u8]>) -> Option<u8>
 
 // The byte of the first escape.
 fn first_escaped(escapes: Option<&[u8]>) -> Option<u8>
-    requires { list_all is_escape (parts_after 37 (option_copied escapes)) ≡ true }
-    ensures { result ≡ first_in (flat_map escape_bytes (parts_after 37 (option_copied escapes.entry))) }
+    requires { list_all is_escape (escapes_left escapes) ≡ true }
+    ensures { result ≡ first_in (flat_map escape_bytes (escapes_left escapes.entry)) }
 {
     let (escape, _) = cut(escapes?, b'%');
     match escape {
@@ -87,7 +87,7 @@ fn first_escaped(escapes: Option<&[u8]>) -> Option<u8>
 }
 
 fn all_escapes(escapes: Option<&[u8]>) -> bool
-    ensures { result ≡ list_all is_escape (parts_after 37 (option_copied escapes.entry)) }
+    ensures { result ≡ list_all is_escape (escapes_left escapes.entry) }
 {
     let mut rest = escapes;
     while let Some(text) = rest {

@@ -7,7 +7,8 @@ use jv_model::{Busy, Device, Fault, Gone};
 use std::alloc::AllocError;
 
 pub(crate) fn push_refusal(text: &mut Vec<u8>, fault: &Fault) -> Result<(), AllocError>
-    ensures { OnOk result (text.new.items ≡ text.old.items ++ (codes "err " ++ fault_text fault.now)) }
+    ensures { OnOk result
+        (text.new.items ≡ text.old.items ++ (codes "err " ++ fault_text fault.now)) }
 {
     text.extend_from_slice(b"err ")?;
     text.extend_from_slice(fault_name(fault).as_bytes())?;

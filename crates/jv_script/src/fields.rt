@@ -4,15 +4,9 @@ ghost use Rattle.std.specs.List.{list_all};
 ghost use Rattle.jv_model.specs.script.Spelling.{client_of, mode_of, number_of, length_of, is_numeral, is_decimal_digit, is_octal_digit};
 ghost use Rattle.jv_model.specs.script.Grammar.{number_up_to, seconds_of};
 
-use jv_model::ClientId;
+use jv_model::{ClientId, MAX_DATA, MAX_TICK};
 
-/// The greatest length of a read in bytes.
-const MAX_LENGTH: u64 = 8_388_608;
-
-/// The greatest number of seconds of a tick.
-const MAX_TICK: u64 = 4_294_967_296;
-
-/// A client of its letter, A to H.
+/// The client of a letter, A to H.
 #[tactic(auto, unfolding(jv_model::specs::script::Spelling::client_of))]
 pub(crate) fn client(letter: &[u8]) -> Option<ClientId>
     ensures { result ≡ client_of letter.now }
@@ -87,7 +81,7 @@ pub(crate) fn read_length(digits: &[u8]) -> Option<u32>
     ensures { result ≡ length_of digits.now }
 {
     let length = number(digits)?;
-    if length > MAX_LENGTH {
+    if length > MAX_DATA {
         return None;
     }
     Some(length as u32)

@@ -62,8 +62,8 @@ const VALUES: [u8; 256] = [
     255, 255, 255,
 ];
 
-/// The byte of two digits. None where one of them is none. A look into a table takes less than half the time of tests and
-/// sums, where pairs don't come many at a time.
+/// The byte of two digits. None where one of them is no digit. The table takes half the time of tests for pairs that
+/// are read one by one.
 pub(crate) fn byte_of_pair(high: u8, low: u8) -> Option<u8>
     ensures { result ≡ provided (is_hex_digit high && is_hex_digit low) (byte_of high low) }
 {

@@ -9,18 +9,19 @@ mod faults;
 mod fields;
 mod hex_digits;
 mod hex_text;
+mod laws;
+mod line_reader;
 mod names;
 mod numbers;
-mod operations;
-mod pieces;
+mod operation_words;
 mod printer;
-mod reader;
-mod runs;
+mod repeats;
 mod short_parts;
-#[cfg(test)]
-mod tests;
-mod words;
+mod word_cuts;
 
 pub use bad_line::BadLine;
+pub use laws::{
+    data_is_read_again, names_are_read_again, paths_are_read_again, targets_are_read_again,
+};
+pub use line_reader::read_line;
 pub use printer::print_reply;
-pub use reader::read_line;

@@ -78,7 +78,8 @@ pub(crate) fn push_entries(text: &mut Vec<u8>, entries: &[(Name, u64)]) -> Resul
 
 // Each entry with a space before it.
 fn push_more_entries(text: &mut Vec<u8>, entries: &[(Name, u64)]) -> Result<(), AllocError>
-    ensures { OnOk result (text.new.items ≡ text.old.items ++ flat_map (λ entry. 32 ∷ entry_text entry) entries.now) }
+    ensures { OnOk result (text.new.items
+        ≡ text.old.items ++ flat_map (λ entry. 32 ∷ entry_text entry) entries.now) }
 {
     for entry in entries {
         text.push(b' ')?;
@@ -115,7 +116,8 @@ pub(crate) fn push_attr(text: &mut Vec<u8>, attr: &Attr) -> Result<(), AllocErro
 }
 
 fn push_kind_and_mode(text: &mut Vec<u8>, kind: FileKind, mode: u16) -> Result<(), AllocError>
-    ensures { OnOk result (text.new.items ≡ text.old.items ++ (32 ∷ kind_letter kind ∷ 32 ∷ mode_digits mode)) }
+    ensures { OnOk result (text.new.items
+        ≡ text.old.items ++ (32 ∷ kind_letter kind ∷ 32 ∷ mode_digits mode)) }
 {
     text.extend_from_slice(&[
         b' ',

@@ -11,7 +11,7 @@ use crate::numbers::push_numbers;
 use jv_model::{Bytes, Reply, Sequence, Setting};
 use std::alloc::{AllocError, Global};
 
-/// The printed line of an answer on a volume with this setting, with its line feed.
+/// The printed line of an answer on a volume with this setting, with its line feed. The only error is out of memory.
 pub fn print_reply(alloc: Global, setting: &Setting, reply: &Reply) -> Result<Bytes, AllocError>
     ensures { IfOk result (λ line. line ≡ printed_line setting.now reply.now) }
 {
@@ -98,7 +98,8 @@ fn push_success(text: &mut Vec<u8>, numbers: &[u64]) -> Result<(), AllocError>
 }
 
 fn push_read_bytes(text: &mut Vec<u8>, bytes: &[u8]) -> Result<(), AllocError>
-    ensures { OnOk result (text.new.items ≡ text.old.items ++ (codes "ok " ++ data_text bytes.now)) }
+    ensures { OnOk result
+        (text.new.items ≡ text.old.items ++ (codes "ok " ++ data_text bytes.now)) }
 {
     // No part has more than two bytes for each of its own, the `+` before the next one included.
     text.reserve(bytes.len().saturating_mul(2).saturating_add(8))?;

@@ -1,5 +1,5 @@
 use Rattle.std.proofs.Common.{rules, ◌≡◌, bytes_eq, codes, true, false}
-use Rattle.jv_script.proofs.Parts.{no_bytes, some_bytes}
+use Rattle.jv_script.proofs.PartLaws.{no_bytes, some_bytes}
 use Rattle.jv_script.proofs.data.data.Goals as goal
 
 pub returns-then-eq : goal.returns-then-eq
@@ -15,4 +15,4 @@ returns-in-Ok c =
 pub returns-in-Err : goal.returns-in-Err
 returns-in-Err c =
     let other : bytes_eq c.args.text.now (codes "-") ≡ false = search rules in
-    rw (some_bytes c.args.text.now other) c.without_memory.ensures
+    rw (some_bytes c.args.text.now other) c.out_of_memory.ensures

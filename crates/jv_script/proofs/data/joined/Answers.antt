@@ -1,9 +1,10 @@
 use Rattle.std.proofs.Common.{arith, ap, sym, ◌∙◌, length}
 use Rattle.std.specs.Option.{option_copied}
 use Rattle.std.proofs.lemmas.Bool.{le-leb, lt-leb}
+use Rattle.jv_model.specs.declared.limits.TheConstants.{MAX_DATA}
 use Rattle.jv_model.specs.script.Grammar.{parted}
 use Rattle.jv_script.specs.Reading.{parts_after, bytes_after}
-use Rattle.jv_script.proofs.Parts.{bytes_of_parts-after, bytes_after-none, bytes_after-more, bytes_after-off}
+use Rattle.jv_script.proofs.PartLaws.{bytes_of_parts-after, bytes_after-none, bytes_after-more, bytes_after-off}
 use Rattle.jv_script.proofs.data.joined.Goals as goal
 
 pub loop-rest-init : goal.loop-rest-init
@@ -30,14 +31,14 @@ loop-rest-preserved c =
     let here = c.loop-rest.invariant ∙ ap (λ rest. bytes_after c.loop-rest.bytes.items (parts_after 43 (option_copied rest))) c.in-Some.is ∙ c.in_ok-parts.ensures.whole ∙ ap (bytes_after front) c.cut.ensures in
     here ∙ bytes_after-more front c.push_part.new.bytes.items part texts (rw c.if-not-branch.false at c.in_ok-push_part.ensures)
 
-pub returns-then-len-gt-MAX_BYTES : goal.returns-then-len-gt-MAX_BYTES
-returns-then-len-gt-MAX_BYTES c =
+pub returns-then-len-gt-MAX_DATA : goal.returns-then-len-gt-MAX_DATA
+returns-then-len-gt-MAX_DATA c =
     let bytes = c.loop-rest.bytes.items in
     let whole = c.loop-rest.invariant ∙ ap (λ rest. bytes_after c.loop-rest.bytes.items (parts_after 43 (option_copied rest))) c.in_default.is ∙ bytes_after-none bytes in
-    rw (whole, lt-leb (length bytes) 8388608 (omega arith))
+    rw (whole, lt-leb (length bytes) MAX_DATA (omega arith))
 
 pub returns : goal.returns
 returns c =
     let bytes = c.loop-rest.bytes.items in
     let whole = c.loop-rest.invariant ∙ ap (λ rest. bytes_after c.loop-rest.bytes.items (parts_after 43 (option_copied rest))) c.in_default.is ∙ bytes_after-none bytes in
-    rw (whole, le-leb (length bytes) 8388608 (omega arith), c.from_vec.ensures)
+    rw (whole, le-leb (length bytes) MAX_DATA (omega arith), c.from_vec.ensures)

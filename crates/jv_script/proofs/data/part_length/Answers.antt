@@ -1,6 +1,6 @@
 use Rattle.std.proofs.Common.{sym, ◌∙◌, ap, Some, option_map}
 use Rattle.jv_model.specs.script.Grammar.{part_length}
-use Rattle.jv_script.proofs.Parts.{part_of_pairs, part_of_other, length-bytes_of_digits}
+use Rattle.jv_script.proofs.PartLaws.{part_of_pairs, part_of_other, length-bytes_of_digits}
 use Rattle.jv_script.proofs.data.part_length.Goals as goal
 
 pub returns-then-is_pairs : goal.returns-then-is_pairs

@@ -1,6 +1,5 @@
 use Rattle.std.proofs.Common.{rules, arith, ◌<◌, length, get_or}
-use Rattle.jv_script.proofs.Parts.{pairs_off, pairs_end}
-use Rattle.jv_script.proofs.ShortParts.{no_pair_given}
+use Rattle.jv_script.proofs.PartLaws.{no_pair_given, pairs_off, pairs_end}
 use Rattle.jv_script.proofs.data.push_few_pairs.Goals as goal
 
 pub returns-in_default-byte_of_pair : goal.returns-in_default-byte_of_pair

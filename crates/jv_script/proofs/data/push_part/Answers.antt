@@ -1,5 +1,5 @@
 use Rattle.std.proofs.Common.{sym, ◌∙◌}
-use Rattle.jv_script.proofs.Parts.{part_of_with_x, part_of_without_x}
+use Rattle.jv_script.proofs.PartLaws.{part_of_with_x, part_of_without_x}
 use Rattle.jv_script.proofs.data.push_part.Goals as goal
 
 pub returns-then-has_x : goal.returns-then-has_x

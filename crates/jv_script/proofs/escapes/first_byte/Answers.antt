@@ -1,7 +1,7 @@
 use Rattle.std.proofs.Common.{refl, sym, ◌∙◌}
 use Rattle.std.specs.Option.{option_copied}
 use Rattle.jv_script.specs.Reading.{parts_after}
-use Rattle.jv_script.proofs.Spelling.{unescaped_parts}
+use Rattle.jv_script.proofs.EscapeLaws.{unescaped_parts}
 use Rattle.jv_script.proofs.escapes.first_byte.Goals as goal
 
 pub returns-then-not-is_sound : goal.returns-then-not-is_sound

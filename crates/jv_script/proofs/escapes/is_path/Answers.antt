@@ -1,5 +1,5 @@
 use Rattle.std.proofs.Common.{sym, ◌∙◌}
-use Rattle.jv_script.proofs.Spelling.{path_of_some, path_of_none}
+use Rattle.jv_script.proofs.EscapeLaws.{path_of_some, path_of_none}
 use Rattle.jv_script.proofs.escapes.is_path.Goals as goal
 
 pub returns-in-Some : goal.returns-in-Some

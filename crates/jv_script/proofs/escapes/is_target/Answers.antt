@@ -1,5 +1,5 @@
 use Rattle.std.proofs.Common.{◌∙◌, ap, is_some}
-use Rattle.jv_script.proofs.Spelling.{target_by_first}
+use Rattle.jv_script.proofs.EscapeLaws.{target_by_first}
 use Rattle.jv_script.proofs.escapes.is_target.Goals as goal
 
 pub returns : goal.returns

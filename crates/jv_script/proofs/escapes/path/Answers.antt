@@ -1,6 +1,7 @@
 use Rattle.std.proofs.Common.{arith, sym, ◌∙◌}
 use Rattle.std.proofs.lemmas.Grind.{common_steps}
-use Rattle.jv_script.proofs.Spelling.{path_is_spelled, no_value}
+use Rattle.jv_script.proofs.EscapeLaws.{path_is_spelled}
+use Rattle.jv_script.proofs.PartLaws.{no_value}
 use Rattle.jv_script.proofs.escapes.path.Goals as goal
 
 pub returns-then-not-is_path : goal.returns-then-not-is_path

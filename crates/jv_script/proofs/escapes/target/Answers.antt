@@ -1,6 +1,7 @@
 use Rattle.std.proofs.Common.{arith, sym, ◌∙◌}
 use Rattle.std.proofs.lemmas.Grind.{common_steps}
-use Rattle.jv_script.proofs.Spelling.{target_is_spelled, no_value}
+use Rattle.jv_script.proofs.EscapeLaws.{target_is_spelled}
+use Rattle.jv_script.proofs.PartLaws.{no_value}
 use Rattle.jv_script.proofs.escapes.target.Goals as goal
 
 pub returns-then-not-is_target : goal.returns-then-not-is_target

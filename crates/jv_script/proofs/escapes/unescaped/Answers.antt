@@ -4,7 +4,7 @@ use Rattle.std.specs.Option.{option_copied}
 use Rattle.std.proofs.lemmas.Grind.{common_steps}
 use Rattle.jv_model.specs.script.Grammar.{escape_bytes}
 use Rattle.jv_script.specs.Reading.{parts_after}
-use Rattle.jv_script.proofs.Spelling.{sound_parts}
+use Rattle.jv_script.proofs.EscapeLaws.{sound_parts}
 use Rattle.jv_script.proofs.escapes.unescaped.Goals as goal
 
 pub loop-rest-init : goal.loop-rest-init

@@ -1,6 +1,6 @@
 use Rattle.std.proofs.Common.{◌+◌, arith}
 use Rattle.std.proofs.lemmas.Grind.{common_steps}
-use Rattle.jv_script.proofs.Digits.{value_of_more, number_in, number_over}
+use Rattle.jv_script.proofs.DigitLaws.{value_of_more, number_in, number_over}
 use Rattle.jv_script.proofs.fields.number.Goals as goal
 
 pub returns-in_err-checked_mul : goal.returns-in_err-checked_mul

@@ -1,7 +1,7 @@
 use Rattle.std.proofs.Common.{arith, ◌<◌, get_or}
 use Rattle.std.proofs.lemmas.Bool.Decides.{nat_tests}
 use Rattle.jv_script.specs.declared.hex_digits.TheConstants.{VALUES}
-use Rattle.jv_script.proofs.Values.{pair_read, pair_refused}
+use Rattle.jv_script.proofs.HexValueLaws.{pair_read, pair_refused}
 use Rattle.jv_script.proofs.hex_digits.byte_of_pair.Goals as goal
 
 pub returns-then-high-low : goal.returns-then-high-low

@@ -1,5 +1,5 @@
 use Rattle.std.proofs.Common.{◌≡◌, ℕ, ◌<◌, get_or}
-use Rattle.jv_script.proofs.Digits.{byte_at}
+use Rattle.jv_script.proofs.DigitLaws.{byte_at}
 use Rattle.jv_script.proofs.hex_digits.decode_into.Given as goal
 
 -- the bytes written so far are those of their digits
