@@ -122,3 +122,8 @@ byte_set_length i f b (x ∷ p) =
 pub written_length : (i f : ℕ) (bs : List ℕ) (p : List PendingByte) → length (written i f bs p) ≤ length p + length bs
 written_length i f [] p = omega arith
 written_length i f (b ∷ bs) p = omega (arith, byte_set_length i f b (written i (f + 1) bs p), written_length i (f + 1) bs p)
+
+-- a write in two parts
+pub written-append : (i f : ℕ) (xs ys : List ℕ) (p : List PendingByte) → written i f (xs ++ ys) p ≡ written i f xs (written i (f + length xs) ys p)
+written-append i f [] ys p = ap (λ n. written i n ys p) (omega arith)
+written-append i f (x ∷ xs) ys p = ap (byte_set i f x) (written-append i (f + 1) xs ys p ∙ ap (λ n. written i (f + 1) xs (written i n ys p)) (omega arith))

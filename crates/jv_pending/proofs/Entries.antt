@@ -1,5 +1,5 @@
 -- What a map's calls do to its list of runs.
-use Rattle.std.proofs.Common.{◌≡◌, ℕ, ◌+◌, ◌<◌, ◌≤◌, Bool, true, false, not, ◌&&◌, eqb, ltb, leb, cond, List, [], ◌∷◌, ◌++◌, Option, Some, None, refl, sym, ap, subst, ◌∙◌, ⊎_elim, arith}
+use Rattle.std.proofs.Common.{◌≡◌, ℕ, ◌+◌, ◌<◌, ◌≤◌, Bool, true, false, not, ◌&&◌, eqb, ltb, leb, cond, if◌then◌else◌, List, [], ◌∷◌, ◌++◌, Option, Some, None, refl, sym, ap, subst, ◌∙◌, ⊎_elim, arith}
 use Rattle.std.proofs.lemmas.Bool.{cases_lt, cases_order, cond-true, cond-false, lt-ltb, le-ltb, le-leb, lt-leb, eq-eqb, ne_eqb}
 use Rattle.std.proofs.lemmas.Option.{none-some}
 use Rattle.std.specs.declared.cmp.Ordering.TheVariants.{Less, Equal, Greater}
@@ -10,7 +10,7 @@ use Rattle.std.specs.BTreeMap.Range.{entries_between}
 use Rattle.std.proofs.lemmas.List.Elements.{filter-append}
 use Rattle.std.specs.Map.{lookup, remove_entry, set_value}
 use Rattle.jv_pending.specs.declared.run.RunStart.{RunStart}
-use Rattle.jv_pending.specs.Runs.{Run, start_cmp, bytes_at, place_of, start_place, Rise, Before, runs_before, runs_from, runs_within, with_runs, without_run}
+use Rattle.jv_pending.specs.Runs.{Run, start_cmp, bytes_at, place_of, start_place, Rise, Before, runs_before, runs_from, runs_within, with_runs, without_run, given_back}
 use Rattle.jv_pending.proofs.Outcomes.{some_same}
 use Rattle.jv_pending.proofs.Parts.{before_yes, before_no, from_yes, from_no, before_none, from_all, Rise-from, whole, within_is, cut_before, cut_rest, cut_rise, with_before, with_from, with_here, with_rise, with_with}
 
@@ -250,11 +250,6 @@ module _ (k : RunStart) (file : k.from < 1099511627776) (es : List Run) (r : Ris
       ∙ ap (λ (t : List Run). runs_before (place_of k) es ++ t) (with_from ((k, []) ∷ []) (place_of k + 1) 0 es (one_rises []) (up, tt) r (place_of k + 1) (omega arith) ∙ sym (absent k file 0 es r h))
       ∙ whole (place_of k) 0 es r)
 
-  pub still_there : (rest : List Run) (v : List ℕ) → Rise 0 rest → Before (place_of k) rest → bytes_at k es ≡ Some v → bytes_at k (with_runs rest (place_of k) es) ≡ Some v
-  still_there rest v f b h =
-      there k file 0 (with_runs rest (place_of k) es) (runs_from (place_of k + 1) es) v (with_rise rest (place_of k) 0 es f b r)
-      (with_from rest (place_of k) 0 es f b r (place_of k) (omega arith) ∙ present k file 0 es v r h)
-
   -- the run at a start is left where those behind it are taken out
   pub left_there : (v : List ℕ) (high : ℕ) → place_of k < high → bytes_at k es ≡ Some v → bytes_at k (runs_before (place_of k + 1) es ++ runs_from high es) ≡ Some v
   left_there v high h e =
@@ -276,12 +271,6 @@ module _ (k : RunStart) (file : k.from < 1099511627776) (es : List Run) (r : Ris
   pub swap_rises : (w : List ℕ) → Rise 0 (with_runs ((k, w) ∷ []) (place_of k + 1) es)
   swap_rises w = with_rise ((k, w) ∷ []) (place_of k + 1) 0 es (one_rises w) (omega arith, tt) r
 
-  pub swap_behind : (w : List ℕ) (n high : ℕ) → n ≡ place_of k + 1 → runs_within n high (with_runs ((k, w) ∷ []) (place_of k + 1) es) ≡ runs_within n high es
-  swap_behind w n high e =
-      within_is n high (with_runs ((k, w) ∷ []) (place_of k + 1) es)
-      ∙ ap (runs_before high) (with_from ((k, w) ∷ []) (place_of k + 1) 0 es (one_rises w) (omega arith, tt) r n (omega arith))
-      ∙ sym (within_is n high es)
-
   pub swap_over : (w v : List ℕ) (high : ℕ) → place_of k < high → with_runs ((k, v) ∷ []) high (with_runs ((k, w) ∷ []) (place_of k + 1) es) ≡ with_runs ((k, v) ∷ []) high es
   swap_over w v high h = with_with ((k, v) ∷ []) ((k, w) ∷ []) high (place_of k + 1) 0 es (one_rises w) (omega arith, tt) r (omega arith) (omega arith)
 
@@ -292,3 +281,35 @@ within_cons k high es v file h r e =
     ∙ ap (runs_before high) (present k file 0 es v r e)
     ∙ before_yes high (k, v) (runs_from (place_of k + 1) es) h
     ∙ ap (λ (t : List Run). (k, v) ∷ t) (sym (within_is (place_of k + 1) high es))
+
+-- other bytes in a run change none before it
+pub kept_there : (k s : RunStart) (es : List Run) (v w : List ℕ) → k.from < 1099511627776 → s.from < 1099511627776 → place_of k < place_of s → Rise 0 es → bytes_at k es ≡ Some v → bytes_at k (with_runs ((s, w) ∷ []) (place_of s + 1) es) ≡ Some v
+kept_there k s es v w f g h r e =
+    there k f 0 (with_runs ((s, w) ∷ []) (place_of s + 1) es)
+    (runs_within (place_of k + 1) (place_of s) es ++ runs_from (place_of k) ((s, w) ∷ runs_from (place_of s + 1) es)) v
+    (swap_rises s g es r w)
+    (filter-append (λ x. leb (place_of k) (start_place x)) (runs_before (place_of s) es) ((s, w) ∷ runs_from (place_of s + 1) es)
+    ∙ ap (λ (t : List Run). t ++ runs_from (place_of k) ((s, w) ∷ runs_from (place_of s + 1) es)) (within_cons k (place_of s) es v f h r e))
+
+-- a run that is given back to the place that it was taken out of
+pub given_back_is : (is_new : Bool) (k : RunStart) (old made mid : List Run) (v w : List ℕ) → k.from < 1099511627776 → Rise 0 made → bytes_at k made ≡ Some v → mid ≡ with_runs ((k, w) ∷ []) (place_of k + 1) made
+    → old ≡ (if is_new then without_run k made else made) → given_back k is_new v mid ≡ old
+given_back_is true k old made mid v w f r e m h =
+    ap (without_run k) m
+    ∙ ap (λ (t : List Run). t ++ runs_from (place_of k + 1) (with_runs ((k, w) ∷ []) (place_of k + 1) made)) (with_before ((k, w) ∷ []) (place_of k + 1) 0 made (one_rises k f made r w) (omega arith, tt) r (place_of k) (omega arith))
+    ∙ ap (λ (t : List Run). runs_before (place_of k) made ++ t) (with_from ((k, w) ∷ []) (place_of k + 1) 0 made (one_rises k f made r w) (omega arith, tt) r (place_of k + 1) (omega arith))
+    ∙ sym h
+given_back_is false k old made mid v w f r e m h =
+    ap (with_runs ((k, v) ∷ []) (place_of k + 1)) m
+    ∙ swap_over k f made r w v (place_of k + 1) (omega arith)
+    ∙ put_back k f made r v e
+    ∙ sym h
+
+-- a run before a place stays where those before it do
+pub there_before : (k : RunStart) (high : ℕ) (es fs : List Run) (v : List ℕ) → k.from < 1099511627776 → place_of k < high → Rise 0 es → Rise 0 fs → runs_before high fs ≡ runs_before high es → bytes_at k es ≡ Some v → bytes_at k fs ≡ Some v
+there_before k high es fs v f h r q same e =
+    there k f 0 fs (runs_within (place_of k + 1) high es ++ runs_from (place_of k) (runs_from high fs)) v q
+    (ap (runs_from (place_of k)) (sym (whole high 0 fs q))
+    ∙ filter-append (λ x. leb (place_of k) (start_place x)) (runs_before high fs) (runs_from high fs)
+    ∙ ap (λ (t : List Run). runs_from (place_of k) t ++ runs_from (place_of k) (runs_from high fs)) same
+    ∙ ap (λ (t : List Run). t ++ runs_from (place_of k) (runs_from high fs)) (within_cons k high es v f h r e))

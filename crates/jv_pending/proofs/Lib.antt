@@ -1,3 +1,4 @@
+pub mod RunBytesLaws
 pub mod Places
 pub mod Bytes
 pub mod Order
@@ -7,6 +8,7 @@ pub mod Entries
 pub mod Touched
 pub mod Cuts
 pub mod Windows
+pub mod Written
 pub mod Outcomes
 pub mod Segments
-pub mod Cleared
+pub mod SegmentLaws

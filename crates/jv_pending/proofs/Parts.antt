@@ -193,17 +193,6 @@ module _ (fresh : List Run) (high low : ℕ) (es : List Run) (f : Rise 0 fresh) 
       ∙ ap (λ (t : List Run). t ++ runs_from (first_place high fresh) (runs_from high es)) (from_all (first_place high fresh) (first_place high fresh) fresh (omega arith) (Rise-first high 0 fresh f))
       ∙ ap (λ (t : List Run). fresh ++ t) (from_all (first_place high fresh) high (runs_from high es) top (Rise-from high low es e))
 
-  pub with_high : runs_before high (with_runs fresh high es) ≡ runs_before (first_place high fresh) es ++ fresh
-  with_high =
-      let top = first_low high fresh b in
-      filter-append (λ r. ltb (start_place r) high) (runs_before (first_place high fresh) es) (fresh ++ runs_from high es)
-      ∙ ap (λ (t : List Run). t ++ runs_before high (fresh ++ runs_from high es)) (before_all high (runs_before (first_place high fresh) es) (Before-weaker (first_place high fresh) high (runs_before (first_place high fresh) es) top (Before-before (first_place high fresh) es)))
-      ∙ ap (λ (t : List Run). runs_before (first_place high fresh) es ++ t)
-      (filter-append (λ r. ltb (start_place r) high) fresh (runs_from high es)
-      ∙ ap (λ (t : List Run). t ++ runs_before high (runs_from high es)) (before_all high fresh b)
-      ∙ ap (λ (t : List Run). fresh ++ t) (before_none high high (runs_from high es) (omega arith) (Rise-from high low es e))
-      ∙ append-nil fresh)
-
   pub with_rise : Rise 0 (with_runs fresh high es)
   with_rise =
       Rise-append 0 (first_place high fresh) (runs_before (first_place high fresh) es) (fresh ++ runs_from high es) (omega arith)
@@ -215,29 +204,6 @@ pub with_with : (xs ys : List Run) (high top low : ℕ) (es : List Run) → Rise
 with_with xs ys high top low es f b r h k =
     ap (λ (t : List Run). t ++ (xs ++ runs_from high (with_runs ys top es))) (with_before ys top low es f b r (first_place high xs) h)
     ∙ ap (λ (t : List Run). runs_before (first_place high xs) es ++ (xs ++ t)) (with_from ys top low es f b r high k)
-
-first_more : (n : ℕ) (rs : List Run) (r : Run) → first_place n (rs ++ r ∷ []) ≡ first_place (start_place r) rs
-first_more n [] r = refl
-first_more n (x ∷ rs) r = refl
-
--- runs put one after another, the last one's place made first: `made` has its place, and `put` the others
-pub put_more : (rest : List Run) (r : Run) (high : ℕ) (es made put : List Run) → Rise 0 (rest ++ r ∷ []) → Before high (rest ++ r ∷ []) → Rise 0 made
-    → runs_before (start_place r) made ≡ runs_before (start_place r) es → runs_from (start_place r + 1) made ≡ runs_from (start_place r + 1) es
-    → put ≡ with_runs rest (start_place r) made → start_place r < high
-    → with_runs (r ∷ []) high put ≡ with_runs (rest ++ r ∷ []) high es
-put_more rest r high es made put f b m before after p l =
-    let left = Rise-left 0 rest (r ∷ []) f in
-    let under = (Before-last 0 rest r f).0 in
-    let low : ℕ = first_place (start_place r) rest in
-    let top : low ≤ start_place r = first_low (start_place r) rest under in
-    ap (with_runs (r ∷ []) high) p
-    ∙ ap (λ (t : List Run). t ++ (r ∷ runs_from high (with_runs rest (start_place r) made))) (with_high rest (start_place r) 0 made left under m)
-    ∙ ap (λ (t : List Run). (runs_before low made ++ rest) ++ (r ∷ t)) (with_from rest (start_place r) 0 made left under m high (omega arith)
-    ∙ sym (from_from (start_place r + 1) high made (omega arith)) ∙ ap (runs_from high) after ∙ from_from (start_place r + 1) high es (omega arith))
-    ∙ ap (λ (t : List Run). (t ++ rest) ++ (r ∷ runs_from high es)) (sym (before_before low (start_place r) made top) ∙ ap (runs_before low) before ∙ before_before low (start_place r) es top)
-    ∙ append_assoc (runs_before low es) rest (r ∷ runs_from high es)
-    ∙ ap (λ (t : List Run). runs_before low es ++ t) (sym (append_assoc rest (r ∷ []) (runs_from high es)))
-    ∙ ap (λ n. runs_before n es ++ ((rest ++ r ∷ []) ++ runs_from high es)) (sym (first_more high rest r))
 
 -- runs taken out
 module _ (lo hi low : ℕ) (es : List Run) (h : lo ≤ hi) (e : Rise low es) where

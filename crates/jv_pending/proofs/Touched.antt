@@ -10,7 +10,7 @@ use Rattle.jv_pending.proofs.Outcomes.{some_same}
 use Rattle.jv_pending.proofs.Order.{EndBy-weaker, InOrder-left}
 use Rattle.jv_pending.proofs.Joins.{BeginBy-weaker, gap_le, gap_tells, order_after}
 use Rattle.jv_pending.proofs.Parts.{before_yes, before_no, before_none, before_all, from_yes, from_no, from_none, from_all, Rise-order, Rise-before, Rise-from, Before-before, Before-weaker, Before-last, file_last, last_early, before_before, within_is, whole}
-use Rattle.jv_pending.proofs.Entries.{present, absent}
+use Rattle.jv_pending.proofs.Entries.{present, absent, there}
 
 -- the last run
 pub last_split : (xs : List Run) (r : Run) → Some r ≡ last_of xs → (t : List Run) × (xs ≡ t ++ r ∷ [])
@@ -112,7 +112,7 @@ EndBy-before m n (r ∷ rs) e =
     (cases_lt (start_place r) n)
 
 -- the runs before one end early enough
-end_early : (low : ℕ) (xs : List Run) (r : Run) (ys : List Run) → InOrder low (xs ++ r ∷ ys) → EndBy (start_place r - gap r.0.from) xs × (low + gap r.0.from ≤ start_place r)
+pub end_early : (low : ℕ) (xs : List Run) (r : Run) (ys : List Run) → InOrder low (xs ++ r ∷ ys) → EndBy (start_place r - gap r.0.from) xs × (low + gap r.0.from ≤ start_place r)
 end_early low [] r ys o = (tt, o.1)
 end_early low (x ∷ xs) r ys o =
     let q = end_early (end_place x) xs r ys o.2 in
@@ -128,7 +128,7 @@ end_is_run : (low : ℕ) (xs : List Run) (r : Run) → InOrder low (xs ++ r ∷ 
 end_is_run low [] r o = o.0
 end_is_run low (x ∷ xs) r o = end_is_run (end_place x) xs r o.2
 
-InOrder-before : (n : ℕ) (rs : List Run) → InOrder 0 rs → InOrder 0 (runs_before n rs)
+pub InOrder-before : (n : ℕ) (rs : List Run) → InOrder 0 rs → InOrder 0 (runs_before n rs)
 InOrder-before n rs o = InOrder-left 0 (runs_before n rs) (runs_from n rs) (subst (InOrder 0) (sym (whole n 0 rs (Rise-order 0 rs o))) o)
 
 pub last_is_run : (n : ℕ) (rs : List Run) (r : Run) → InOrder 0 rs → Some r ≡ last_of (runs_before n rs) → IsRun r
@@ -138,8 +138,22 @@ Rise-split : (low : ℕ) (xs : List Run) (r : Run) (ys : List Run) → Rise low 
 Rise-split low [] r ys h = (tt, (h.0, omega arith, h.2), h.1)
 Rise-split low (x ∷ xs) r ys h = let q = Rise-split (start_place x + 1) xs r ys h.2 in let k = h.1 in let e = q.2 in ((omega arith, q.0), q.1, omega arith)
 
+-- the last run before a place is in the map
+pub last_there : (n : ℕ) (rs : List Run) (r : Run) → Rise 0 rs → Some r ≡ last_of (runs_before n rs) → bytes_at r.0 rs ≡ Some r.1
+last_there n rs r o h =
+    let s = last_split (runs_before n rs) r h in
+    let after : List Run = runs_from n rs in
+    let all : rs ≡ s.0 ++ r ∷ after = sym (whole n 0 rs o) ∙ ap (λ (t : List Run). t ++ after) s.1 ∙ append_assoc s.0 (r ∷ []) after in
+    let under = Rise-split 0 s.0 r after (subst (Rise 0) all o) in
+    let here : runs_from (start_place r) rs ≡ r ∷ after =
+    ap (runs_from (start_place r)) all
+    ∙ filter-append (λ x. leb (start_place r) (start_place x)) s.0 (r ∷ after)
+    ∙ ap (λ (t : List Run). t ++ runs_from (start_place r) (r ∷ after)) (from_none (start_place r) s.0 under.0)
+    ∙ from_all (start_place r) (start_place r) (r ∷ after) (omega arith) under.1 in
+    there r.0 (last_file n rs r o h).0 0 rs after r.1 o here
+
 -- a run that begins at a position or later reaches it
-late : (i from low : ℕ) (rs : List Run) → InOrder low rs → Rise (place i from) rs → IfSome (first_of rs) (λ r. r.0.inode ≡ i → from + 1 ≤ end_of_run r + gap from)
+pub late : (i from low : ℕ) (rs : List Run) → InOrder low rs → Rise (place i from) rs → IfSome (first_of rs) (λ r. r.0.inode ≡ i → from + 1 ≤ end_of_run r + gap from)
 late i from low [] o r = tt
 late i from low (x ∷ rs) o r = λ e. let s = o.0.some in let k = r.1 in omega arith
 
@@ -272,12 +286,3 @@ touched i from to rs first end o lt file f ei ef =
           (first_within (place_of end) behind (λ r. r.0.inode ≡ i → from + 1 ≤ end_of_run r + gap from) (place_of first) (Rise-from (place_of first) 0 rs low) f.reached)) wide;
       after = order_after i to q.0 (runs_from (place_of end) rs) q.1 file (subst (λ n. Rise n (runs_from (place_of end) rs)) last (Rise-from (place_of end) 0 rs low));
     }
-
--- what a write leaves behind it is within one window
-small_tail : (to low : ℕ) (rs : List Run) → InOrder low rs → length (tail_of to rs) ≤ 67108864
-small_tail to low [] o = omega arith
-small_tail to low (x ∷ []) o = let w = o.0.in_window in omega (arith, length-drop (to - x.0.from) x.1)
-small_tail to low (x ∷ y ∷ rs) o = small_tail to (end_place x) (y ∷ rs) o.2
-
-pub tail_small : (to first end : ℕ) (rs : List Run) → InOrder 0 rs → length (tail_of to (runs_within first end rs)) ≤ 67108864
-tail_small to first end rs o = let q = InOrder-from first 0 (runs_before end rs) (InOrder-before end rs o) in small_tail to q.0 (runs_within first end rs) q.1

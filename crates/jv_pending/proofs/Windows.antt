@@ -1,16 +1,16 @@
 -- A write inside one window, and what a write comes to.
-use Rattle.std.proofs.Common.{◌≡◌, ℕ, ◌+◌, ◌-◌, ◌*◌, ◌/◌, ◌%◌, ◌<◌, ◌≤◌, min, List, [], ◌∷◌, ◌++◌, length, take, drop, max, unwrap_or, Some, ◌⊎◌, inl, inr, refl, sym, ap, subst, ◌∙◌, ⊎_elim, arith}
+use Rattle.std.proofs.Common.{◌≡◌, ℕ, ◌+◌, ◌-◌, ◌*◌, ◌/◌, ◌%◌, ◌<◌, ◌≤◌, min, List, [], ◌∷◌, ◌++◌, length, take, drop, max, unwrap_or, Some, None, ◌⊎◌, inl, inr, refl, sym, ap, subst, ◌∙◌, ⊎_elim, arith}
 use Rattle.std.proofs.lemmas.List.{append-nil, length-append, length-drop, drop_all}
 use Rattle.std.proofs.lemmas.Bool.{cases_lt}
 use Rattle.jv_model.specs.run.Pending.{PendingByte, written}
-use Rattle.jv_pending.specs.Runs.{Run, place, place_of, bytes_at, first_place, with_runs, runs_before, runs_from, runs_within, Rise, end_of_run, placed, pending_bytes, end_place, gap, IsRun, InOrder, end_after, IsCut, IsTouched, BeginBy, Reaches, head_of, tail_of, joined_from, joined, widened, Rewrites}
+use Rattle.jv_pending.specs.Runs.{Run, place, place_of, bytes_at, first_place, with_runs, runs_before, runs_from, runs_within, Rise, end_of_run, placed, pending_bytes, end_place, gap, IsRun, InOrder, end_after, IsCut, IsTouched, BeginBy, Reaches, head_of, tail_of, joined_from, joined, joined_behind, Rewrites}
 use Rattle.jv_pending.specs.declared.run.RunStart.{RunStart}
 use Rattle.jv_pending.proofs.Order.{EndBy-weaker, InOrder-left, InOrder-right, pending_bytes-append, length-placed, Rises-runs}
 use Rattle.jv_pending.proofs.Joins.{gap_le, gap_tells, length_joined, BeginBy-weaker, written_joined, order_joined, tail_order}
-use Rattle.jv_pending.proofs.Cuts.{one_cut, joined_in_file, cut_first}
-use Rattle.jv_pending.proofs.Parts.{thirds, Rise-order, Rise-from, from_from, from_all}
-use Rattle.jv_pending.proofs.Entries.{within_cons}
-use Rattle.jv_pending.proofs.Touched.{head_is}
+use Rattle.jv_pending.proofs.Cuts.{one_cut, joined_in_file}
+use Rattle.jv_pending.proofs.Parts.{thirds, within_is, Rise-order}
+use Rattle.jv_pending.proofs.Entries.{within_cons, absent}
+use Rattle.jv_pending.proofs.Touched.{head_is, take_none}
 
 -- the touched runs end in the window of the write
 tail_in_window : (i q to low : ℕ) (mid : List Run) → q * 67108864 < to → to ≤ q * 67108864 + 67108864 → InOrder low mid → BeginBy i (to + gap to - 1) mid → to + length (tail_of to mid) ≤ q * 67108864 + 67108864
@@ -33,31 +33,39 @@ tail_joined i to low x (y ∷ ms) o a =
     let e = a.0 in let f = a.2.0 in let g = a.2.1 in let h = o.2.1 in
     ap (λ (t : List ℕ). t ++ tail_of to (y ∷ ms)) (drop_all (to - x.0.from) x.1 (omega arith))
 
-widened_bytes : (i from low : ℕ) (bs : List ℕ) (x : Run) (rest : List Run) → x.0.from ≤ from → InOrder low (x ∷ rest) → BeginBy i (from + length bs) (x ∷ rest) → (widened from bs x rest).1 ≡ joined from bs (x ∷ rest)
-widened_bytes i from low bs x rest h o a =
-    ap (λ k. take (from - x.0.from) x.1 ++ (bs ++ (drop k x.1 ++ tail_of (from + length bs) rest))) (let d : from - x.0.from + length bs ≡ from + length bs - x.0.from = omega arith in d)
-    ∙ ap (λ (t : List ℕ). take (from - x.0.from) x.1 ++ (bs ++ t)) (tail_joined i (from + length bs) low x rest o a)
+no_length : (xs : List ℕ) → length xs ≤ 0 → xs ≡ []
+no_length [] h = refl
+no_length (x ∷ xs) h = absurd (omega arith)
 
 cut_same : (i j f g : ℕ) (xs ys : List ℕ) (rs : List Run) → i ≡ j → f ≡ g → xs ≡ ys → IsCut i f xs rs → IsCut j g ys rs
 cut_same i j f g xs ys rs ei ef ex c = subst (λ k. IsCut k g ys rs) ei (subst (λ k. IsCut i k ys rs) ef (subst (λ t. IsCut i f t rs) ex c))
 
-widened_cut : (i from low : ℕ) (bs : List ℕ) (x : Run) (rest : List Run) → 0 < length bs → from % 67108864 + length bs ≤ 67108864 → from + length bs ≤ 1099511627776 → x.0.from ≤ from → InOrder low (x ∷ rest) → BeginBy i (from + length bs + gap (from + length bs) - 1) (x ∷ rest) → Reaches from (x ∷ rest) → IsCut i (joined_from from (x ∷ rest)) (joined from bs (x ∷ rest)) (widened from bs x rest ∷ [])
-widened_cut i from low bs x rest some window file h o a r =
-    let to : ℕ = from + length bs in
-    let b : BeginBy i to (x ∷ rest) = BeginBy-weaker i (to + gap to - 1) to (x ∷ rest) (omega (arith, (gap_le to).0)) a in
-    let e : (widened from bs x rest).1 ≡ joined from bs (x ∷ rest) = widened_bytes i from low bs x rest h o b in
-    let f : x.0.from ≡ min x.0.from from = omega arith in
-    let n = ap length e in
-    let q : x.0.from / 67108864 ≡ from / 67108864 = same_window x.0.from (length x.1) from (length bs) h r o.0.in_window some window in
-    let t : to + length (tail_of to (x ∷ rest)) ≤ from / 67108864 * 67108864 + 67108864 = tail_in_window i (from / 67108864) to low (x ∷ rest) (omega arith) (omega arith) o a in
-    let l : min x.0.from from + length (joined from bs (x ∷ rest)) ≡ to + length (tail_of to (x ∷ rest)) = length_joined from to bs (x ∷ rest) refl r in
-    let k : min x.0.from from + length (joined from bs (x ∷ rest)) ≤ 1099511627776 = joined_in_file i from to low bs (x ∷ rest) refl file o b r in
-    let run : IsRun (widened from bs x rest) = record {
-      some = omega arith;
-      in_window = omega arith;
-      in_file = omega arith;
-    } in
-    cut_same x.0.inode i x.0.from (min x.0.from from) (widened from bs x rest).1 (joined from bs (x ∷ rest)) (widened from bs x rest ∷ []) a.0 f e (one_cut (widened from bs x rest) run)
+-- the run at a place and the runs behind it, or none there
+abbrev pub AtFirst : RunStart → List ℕ → List Run → List Run → Type 0
+AtFirst first v rest mid = (mid ≡ (first, v) ∷ rest) ⊎ ((v ≡ []) × (mid ≡ rest))
+
+pub at_first : (k : RunStart) (high : ℕ) (es : List Run) → k.from < 1099511627776 → place_of k < high → Rise 0 es → AtFirst k (unwrap_or (bytes_at k es) []) (runs_within (place_of k + 1) high es) (runs_within (place_of k) high es)
+at_first k high es file h r =
+    elim (bytes_at k es) as (λ o. bytes_at k es ≡ o → AtFirst k (unwrap_or o []) (runs_within (place_of k + 1) high es) (runs_within (place_of k) high es)) [
+      | Some v ↦ λ e. inl (within_cons k high es v file h r e)
+      | None ↦ λ e. inr (refl, within_is (place_of k) high es ∙ ap (runs_before high) (absent k file 0 es r e) ∙ sym (within_is (place_of k + 1) high es))
+    ] refl
+
+-- a write that no run reaches begins where they are put
+late_first : (i from low : ℕ) (mid : List Run) (first : RunStart) → first.inode ≡ i → first.from ≤ from → low ≡ place_of first + 1 → Rise low mid → BeginBy i 1099511627776 mid → joined_from from mid ≡ first.from → (first.from ≡ from) × (head_of from mid ≡ [])
+late_first i from low [] first e f l r b j = (omega arith, refl)
+late_first i from low (x ∷ mid) first e f l r b j =
+    let k = r.1 in
+    let n = b.0 in
+    (omega arith, ap (λ m. take m x.1) (let z : from - x.0.from ≡ 0 = omega arith in z))
+
+joined_window : (from len : ℕ) (mid : List Run) (first : ℕ) → joined_from from mid ≡ first → Reaches from mid → (low : ℕ) → InOrder low mid → 0 < len → from % 67108864 + len ≤ 67108864 → first / 67108864 ≡ from / 67108864
+joined_window from len [] first j r low o some window = let e : from ≡ first = j in omega arith
+joined_window from len (x ∷ mid) first j r low o some window =
+    ⊎_elim
+    (λ l. let e : x.0.from ≡ first = omega arith in ap (λ n. n / 67108864) (sym e) ∙ same_window x.0.from (length x.1) from len (omega arith) r o.0.in_window some window)
+    (λ g. let e : from ≡ first = omega arith in ap (λ n. n / 67108864) (sym e))
+    (cases_lt x.0.from from)
 
 of_inode_by : (i to : ℕ) (mid : List Run) → BeginBy i (to + gap to - 1) mid → BeginBy i to mid
 of_inode_by i to mid a = BeginBy-weaker i (to + gap to - 1) to mid (omega (arith, (gap_le to).0)) a
@@ -88,11 +96,6 @@ module _ (i from : ℕ) (bs : List ℕ) (first end : RunStart) (rs : List Run) (
   pub forward : place_of first < place_of end
   forward = let fi = t.first_inode in let ff = t.first_from in let ei = t.end_inode in let ef = t.end_from in omega arith
 
-  pub end_in_file : end.from ≤ 1099511627776
-  end_in_file =
-      let ef = t.end_from in
-      ⊎_elim (λ z. let e = z.1 in omega arith) (λ z. let p = z.0 in let e = z.1 in ⊎_elim (λ l. omega arith) (λ s. absurd (omega arith)) (cases_lt to 1099511627776)) (gap_tells to)
-
   in_parts : InOrder 0 (front ++ (mid ++ behind))
   in_parts = subst (InOrder 0) (sym (thirds (place_of first) (place_of end) 0 rs (let f = forward in omega arith) rises)) o
 
@@ -113,10 +116,11 @@ module _ (i from : ℕ) (bs : List ℕ) (first end : RunStart) (rs : List Run) (
       ∙ ap (λ (x : List PendingByte). pending_bytes front ++ x) (pending_bytes-append w.fresh behind ∙ ap (λ (x : List PendingByte). x ++ pending_bytes behind) w.cut.same)
       ∙ sym written_parts
 
-  pub rewritten_order : (new : List Run) → Rewrites i from bs first end rs new → InOrder 0 new
-  rewritten_order new w =
-      subst (InOrder 0) (sym w.same)
-      (order_joined i from to 0 bs front mid behind w.fresh refl file in_parts (omega arith) t.before
+  pub rewritten_order : (low : ℕ) → InOrder low rs → low ≤ place i from - gap from → (new : List Run) → Rewrites i from bs first end rs new → InOrder low new
+  rewritten_order low ordered early new w =
+      subst (InOrder low) (sym w.same)
+      (order_joined i from to low bs front mid behind w.fresh refl file
+      (subst (InOrder low) (sym (thirds (place_of first) (place_of end) 0 rs (let f = forward in omega arith) rises)) ordered) early t.before
       (of_inode_by i to mid t.of_inode) t.reached t.after w.cut)
 
   pub mid_count : length (pending_bytes mid) ≤ length (pending_bytes rs)
@@ -145,65 +149,79 @@ module _ (i from : ℕ) (bs : List ℕ) (first end : RunStart) (rs : List Run) (
       let b = ap length l in
       omega arith
 
-  pub joined_fits : joined_from from mid + length (joined from bs mid) ≤ 1099511627776
-  joined_fits = joined_in_file i from to (end_after 0 front) bs mid refl file mid_order (of_inode_by i to mid t.of_inode) t.reached
-
-  pub joined_is : (head tail all : List ℕ) → head ≡ take (from - first.from) (unwrap_or (bytes_at first rs) []) → tail ≡ tail_of to mid → all ≡ head ++ (bs ++ tail) → all ≡ joined from bs mid
-  joined_is head tail all h l e =
-      e
-      ∙ ap (λ (x : List ℕ). x ++ (bs ++ tail)) (h ∙ sym (head_is i from to rs first end rises file (omega arith) t))
-      ∙ ap (λ (x : List ℕ). head_of from mid ++ (bs ++ x)) l
-
-  -- a run that is widened in its window
-  pub widened_rewrites : (new : List Run) (v : List ℕ) → from % 67108864 + length bs ≤ 67108864 → bytes_at first rs ≡ Some v
-      → new ≡ with_runs (widened from bs (first, v) (runs_within (place_of first + 1) (place_of end) rs) ∷ []) (place_of end) rs → Rewrites i from bs first end rs new
-  widened_rewrites new v window h e =
-      let rest : List Run = runs_within (place_of first + 1) (place_of end) rs in
-      let f = t.first_from in
-      let cons : mid ≡ (first, v) ∷ rest = within_cons first (place_of end) rs v (omega arith) forward rises h in
-      record {
-        fresh = widened from bs (first, v) rest ∷ [];
-        cut = subst (λ (m : List Run). IsCut i (joined_from from m) (joined from bs m) (widened from bs (first, v) rest ∷ [])) (sym cons)
-            (widened_cut i from (end_after 0 front) bs (first, v) rest some window file t.first_from
-            (subst (InOrder (end_after 0 front)) cons mid_order)
-            (subst (BeginBy i (to + gap to - 1)) cons t.of_inode)
-            (subst (Reaches from) cons t.reached));
-        same = e;
-      }
-
-  pub widened_reaches : (v : List ℕ) → bytes_at first rs ≡ Some v → from ≤ end_of_run (first, v)
-  widened_reaches v h =
-      let f = t.first_from in
-      let r = subst (Reaches from) (within_cons first (place_of end) rs v (omega arith) forward rises h) t.reached in
-      omega (arith, (gap_le from).0)
-
-  -- runs that are cut from the joined bytes: none of the others begins before these end
-  others_late : (n : ℕ) → place_of end ≤ place i n → n ≤ to + gap to ⊎ n ≤ to + length (tail_of to mid) → runs_from (place i n) rs ≡ behind
-  others_late n h l =
-      let ei = t.end_inode in
-      let ef = t.end_from in
-      let last = tail_order i to (end_after 0 front) mid behind (of_inode_by i to mid t.of_inode) (InOrder-right (end_after 0 front) mid behind (InOrder-right 0 front (mid ++ behind) in_parts)) t.after in
-      sym (from_from (place_of end) (place i n) rs h)
-      ∙ ⊎_elim
-      (λ a. from_all (place i n) (place_of end) behind (omega arith) (Rise-from (place_of end) 0 rs rises))
-      (λ b. from_all (place i n) (place i (to + length (tail_of to mid))) behind (omega arith) (Rise-order (place i (to + length (tail_of to mid))) behind last))
-      l
-
-  pub cut_rewrites : (new fresh : List Run) (all : List ℕ) (n : ℕ) → all ≡ joined from bs mid → IsCut i first.from all fresh → n ≡ max end.from (first.from + length all)
-      → new ≡ with_runs fresh (place i n) rs → Rewrites i from bs first end rs new
-  cut_rewrites new fresh all n ea c en e =
-      let fi = t.first_inode in
-      let ei = t.end_inode in
-      let ef = t.end_from in
+  -- one run in the place of those that are touched in one window
+  pub one_rewrites : (new : List Run) (all : List ℕ) → from % 67108864 + length bs ≤ 67108864 → all ≡ joined from bs mid → new ≡ front ++ ((first, all) ∷ behind) → Rewrites i from bs first end rs new
+  one_rewrites new all window e h =
+      let q : first.from / 67108864 ≡ from / 67108864 = joined_window from (length bs) mid first.from t.begins t.reached (end_after 0 front) mid_order some window in
+      let n = ap length e in
       let b = t.begins in
-      let len = length_joined from to bs mid refl t.reached in
-      let la = ap length ea in
-      let long : 0 < length all = omega (arith, length_joined from to bs mid refl t.reached, t.first_from) in
-      let here : first_place (place i n) fresh ≡ place_of first = cut_first (place i n) i first.from all fresh long c ∙ omega arith in
+      let l : joined_from from mid + length (joined from bs mid) ≡ to + length (tail_of to mid) = length_joined from to bs mid refl t.reached in
+      let w : to + length (tail_of to mid) ≤ from / 67108864 * 67108864 + 67108864 = tail_in_window i (from / 67108864) to (end_after 0 front) mid (omega arith) (omega arith) mid_order t.of_inode in
+      let f = t.first_from in
+      let k : joined_from from mid + length (joined from bs mid) ≤ 1099511627776 = joined_in_file i from to (end_after 0 front) bs mid refl file mid_order (of_inode_by i to mid t.of_inode) t.reached in
+      let run : IsRun (first, all) = record {
+        some = omega arith;
+        in_window = omega arith;
+        in_file = omega arith;
+      } in
       record {
-        fresh = fresh;
-        cut = subst (λ m. IsCut i m (joined from bs mid) fresh) (sym b) (subst (λ (l : List ℕ). IsCut i first.from l fresh) ea c);
-        same = e
-            ∙ ap (λ m. runs_before m rs ++ (fresh ++ runs_from (place i n) rs)) here
-            ∙ ap (λ (x : List Run). front ++ (fresh ++ x)) (others_late n (omega arith) (⊎_elim (λ lt. inr (omega arith)) (λ ge. inl (omega arith)) (cases_lt end.from (first.from + length all))));
+        fresh = (first, all) ∷ [];
+        cut = cut_same first.inode i first.from (joined_from from mid) all (joined from bs mid) ((first, all) ∷ []) t.first_inode (sym b) e (one_cut (first, all) run);
+        same = h;
       }
+
+  module _ (v : List ℕ) (rest : List Run) (at : AtFirst first v rest mid) (rise : Rise (place_of first + 1) rest) where
+    late_here : mid ≡ rest → (first.from ≡ from) × (head_of from mid ≡ [])
+    late_here e = late_first i from (place_of first + 1) mid first t.first_inode t.first_from refl (subst (Rise (place_of first + 1)) (sym e) rise) (BeginBy-weaker i (to + gap to - 1) 1099511627776 mid (omega (arith, (gap_le to).0)) t.of_inode) t.begins
+
+    pub at_reaches : from - first.from ≤ length v
+    at_reaches =
+        ⊎_elim
+        (λ e. let r = subst (Reaches from) e t.reached in omega (arith, (gap_le from).0))
+        (λ e. let z = (late_here e.1).0 in omega arith)
+        at
+
+    pub head_here : take (from - first.from) v ≡ head_of from mid
+    head_here =
+        ⊎_elim
+        (λ e. ap (head_of from) (sym e))
+        (λ e. ap (take (from - first.from)) e.0 ∙ take_none (from - first.from) ∙ sym (late_here e.1).1)
+        at
+
+    pub joined_here : joined_behind (from - first.from) v bs (tail_of to rest) ≡ joined from bs mid
+    joined_here =
+        let f = t.first_from in
+        let tail : drop (from - first.from + length bs) v ++ tail_of to rest ≡ tail_of to mid =
+        ⊎_elim
+        (λ e. ap (λ n. drop n v ++ tail_of to rest) (let d : from - first.from + length bs ≡ to - first.from = omega arith in d)
+        ∙ tail_joined i to (end_after 0 front) (first, v) rest (subst (InOrder (end_after 0 front)) e mid_order) (subst (BeginBy i to) e (of_inode_by i to mid t.of_inode))
+        ∙ ap (tail_of to) (sym e))
+        (λ e. ap (λ (x : List ℕ). drop (from - first.from + length bs) x ++ tail_of to rest) e.0 ∙ ap (λ (x : List ℕ). x ++ tail_of to rest) (drop_all (from - first.from + length bs) [] (omega arith)) ∙ ap (tail_of to) (sym e.1))
+        at in
+        ap (λ (x : List ℕ). take (from - first.from) v ++ (bs ++ x)) tail
+        ∙ ap (λ (x : List ℕ). x ++ (bs ++ tail_of to mid)) head_here
+
+    -- up to a border nothing is left behind the write
+    module _ (border : to % 67108864 ≡ 0) (window : from % 67108864 + length bs ≤ 67108864) where
+      pub none_behind_border : tail_of to mid ≡ []
+      none_behind_border =
+          no_length (tail_of to mid)
+          (let w = tail_in_window i (from / 67108864) to (end_after 0 front) mid (omega arith) (omega arith) mid_order t.of_inode in omega arith)
+
+      pub ends_by_border : length v ≤ from - first.from + length bs
+      ends_by_border =
+          ⊎_elim
+          (λ e.
+          let o = subst (InOrder (end_after 0 front)) e mid_order in
+          let w = o.0.in_window in
+          let f = t.first_from in
+          let q : first.from / 67108864 ≡ from / 67108864 = joined_window from (length bs) mid first.from t.begins t.reached (end_after 0 front) mid_order some window in
+          omega arith)
+          (λ e. let n = ap length e.0 in omega arith)
+          at
+
+      pub joined_border : take (from - first.from) v ++ bs ≡ joined from bs mid
+      joined_border =
+          ap (λ (x : List ℕ). x ++ bs) head_here
+          ∙ ap (λ (x : List ℕ). head_of from mid ++ x) (sym (append-nil bs))
+          ∙ ap (λ (x : List ℕ). head_of from mid ++ (bs ++ x)) (sym none_behind_border)

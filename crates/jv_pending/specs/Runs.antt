@@ -1,10 +1,10 @@
 -- Runs: how the pending bytes lie in memory.
-use Rattle.std.specs.Prelude.{◌≡◌, ℕ, ◌+◌, ◌-◌, ◌*◌, ◌%◌, ◌<◌, ◌≤◌, ◌==◌, nat_lt, nat_le, if◌then◌else◌, List, [], ◌∷◌, ◌++◌, length, take, drop, min, filter, Option, None, Some, IfSome, IsSomeAnd}
+use Rattle.std.specs.Prelude.{◌≡◌, ℕ, ◌+◌, ◌-◌, ◌*◌, ◌%◌, ◌<◌, ◌≤◌, ◌==◌, nat_lt, nat_le, if◌then◌else◌, Bool, List, [], ◌∷◌, ◌++◌, length, take, drop, min, filter, Option, None, Some, IfSome, IsSomeAnd}
 use Rattle.std.specs.declared.cmp.Ordering.{Ordering}
 use Rattle.std.specs.Ordering.{nat_cmp, ordering_then}
 use Rattle.std.specs.BTreeMap.{is_at}
 use Rattle.std.specs.Map.{lookup}
-use Rattle.jv_model.specs.run.Pending.{PendingByte, Segment}
+use Rattle.jv_model.specs.run.Pending.{PendingByte, Segment, written}
 use Rattle.jv_pending.specs.declared.run.RunStart.{RunStart}
 
 -- a run: where it begins, and its bytes
@@ -171,10 +171,33 @@ pub record IsTouched (inode from to : ℕ) (runs : List Run) (first end : RunSta
   pub reached : Reaches from (runs_within (place_of first) (place_of end) runs)
   pub after : InOrder (place inode to) (runs_from (place_of end) runs)
 
--- a run with bytes over its own from a position on, and joined with the runs behind it
-abbrev pub widened : ℕ → List ℕ → Run → List Run → Run
-widened from bytes r rest =
-    (r.0, take (from - r.0.from) r.1 ++ (bytes ++ (drop (from - r.0.from + length bytes) r.1 ++ tail_of (from + length bytes) rest)))
+-- bytes over those of a run from an index on, and more behind all
+abbrev pub joined_behind : ℕ → List ℕ → List ℕ → List ℕ → List ℕ
+joined_behind at run bytes more = take at run ++ (bytes ++ (drop (at + length bytes) run ++ more))
+
+-- a run that was taken out of its place, back in it, or the place gone where it was new
+abbrev pub given_back : RunStart → Bool → List ℕ → List Run → List Run
+given_back s is_new bytes runs = if is_new then without_run s runs else with_runs ((s, bytes) ∷ []) (place_of s + 1) runs
+
+-- the last run before `end` begins behind `first`, and more than `count` of its bytes lie behind a position
+pub record IsLonger (first end : RunStart) (to count : ℕ) (runs : List Run) (last : RunStart) : Type 0 where
+  pub bytes : List ℕ
+  pub is_last : Some (last, bytes) ≡ last_of (runs_before (place_of end) runs)
+  pub behind : place_of first < place_of last
+  pub from : last.from ≤ to
+  pub longer : count + (to - last.from) < length bytes
+
+-- the run at `first` overlaps or touches what begins at a position, or `first` is its start, and the runs from there on are
+-- in order
+pub record Starts (from : ℕ) (runs : List Run) (first : RunStart) : Type 0 where
+  pub order : InOrder (place_of first - gap first.from) (runs_from (place_of first) runs)
+  pub touches : IsFirst first.inode from (runs_from (place_of first) runs) first
+
+-- the runs from `first` on are those with the bytes written, and the runs before it stay
+pub record Writes (from : ℕ) (bytes : List ℕ) (first : RunStart) (old new : List Run) : Type 0 where
+  pub before : runs_before (place_of first) new ≡ runs_before (place_of first) old
+  pub order : InOrder (place_of first - gap first.from) (runs_from (place_of first) new)
+  pub same : pending_bytes (runs_from (place_of first) new) ≡ written first.inode from bytes (pending_bytes (runs_from (place_of first) old))
 
 -- the touched runs give way to the bytes of the write joined with theirs
 pub record Rewrites (inode from : ℕ) (bytes : List ℕ) (first end : RunStart) (old new : List Run) : Type 0 where

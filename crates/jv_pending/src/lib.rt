@@ -1,12 +1,12 @@
 //! The bytes that a client wrote and hasn't committed.
 #![tactic(auto)]
 
-mod edit;
 mod pending;
+mod place;
 mod run;
+mod run_bytes;
 mod segment;
-#[cfg(test)]
-mod tests;
+mod write;
 
 pub use pending::Pending;
 pub use segment::{PendingFault, SegmentAt};

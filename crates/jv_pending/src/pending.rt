@@ -1,14 +1,14 @@
 //! The pending bytes of a client. They lie in memory as runs, in a map by where these begin. A call takes time logarithmic
 //! in their number: `write` that and a time linear in its bytes and those that it joins with them, `clear` and `clear_all`
 //! that for each run that they take out.
-ghost use Rattle.std.specs.Prelude.{◌≡◌, ℕ, ◌+◌, ◌<◌, ◌≤◌, ◌↔◌, [], length, Some, OnOk, OnErr, IfSome, IsErrOf, IsOkUnless, IsTrue};
+ghost use Rattle.std.specs.Prelude.{◌≡◌, ℕ, ◌+◌, ◌<◌, ◌≤◌, ◌↔◌, [], length, Some, OnOk, OnErr, IfSome, IsErrOf, IsOk, IsOkUnless, IsTrue};
 ghost use Rattle.std.specs.Option.{option_map};
-ghost use Rattle.jv_model.specs.run.Pending.{window_size, written, next_segment, bytes_in_range, without_range, pending_of_others, end_of, is_rising};
+ghost use Rattle.jv_model.specs.run.Pending.{window_size, written, next_segment, bytes_in_range, without_range, pending_of, pending_of_others, end_of, is_rising};
 ghost use Rattle.jv_pending.specs.At.{segment_at};
 
-use crate::edit::write_runs;
 use crate::run::{RunStart, Runs, find_end, find_first};
 use crate::segment::{PendingFault, SegmentAt};
+use crate::write::write_runs;
 use jv_model::Bytes;
 use std::alloc::Global;
 use std::marker::Model;
@@ -74,6 +74,10 @@ impl Pending {
         ensures only_memory_else { length self.old.bytes + length bytes.now ≤ self.old.limit
             → IsOkUnless result PendingFault.Memory }
         ensures err { OnErr result (self.new ≡ self.old) }
+        ensures limit { length self.new.bytes ≤ self.old.limit }
+        ensures rising { IsTrue (is_rising self.new.bytes) }
+        ensures others { pending_of_others inode self.new.bytes ≡ pending_of_others inode self.old.bytes }
+        ensures nothing { bytes.now ≡ [] → IsOk result }
     {
         let held = self.held;
         let asked = bytes.len() as u64;
@@ -127,25 +131,29 @@ impl Pending {
         ensures rest { self.new ≡ record self.old {
           bytes = without_range at.inode (segment_at at).from at.len self.old.bytes;
         } }
+        ensures fewer { length self.new.bytes < length self.old.bytes }
     {
-        let bytes = self.runs.remove(&RunStart::of(at)).unwrap();
-        self.held -= bytes.len() as u64;
-        bytes
+        let run = self.runs.remove(&RunStart::of(at)).unwrap();
+        self.held -= run.len() as u64;
+        run.into_bytes()
     }
 
     /// Takes a segment out that `first` gives for its inode.
     pub fn remove(&mut self, at: SegmentAt)
         requires { next_segment (Some at.inode) self.old.bytes ≡ Some (segment_at at) }
-        ensures { self.new ≡ record self.old {
+        ensures rest { self.new ≡ record self.old {
           bytes = without_range at.inode (segment_at at).from at.len self.old.bytes;
         } }
+        ensures fewer { length self.new.bytes < length self.old.bytes }
     {
         drop(self.take(at));
     }
 
     /// Takes all bytes of an inode out.
     pub fn clear(&mut self, inode: u64)
-        ensures { self.new ≡ record self.old { bytes = pending_of_others inode self.old.bytes } }
+        ensures others { self.new ≡ record self.old { bytes = pending_of_others inode self.old.bytes } }
+        ensures none { pending_of inode self.new.bytes ≡ [] }
+        ensures ends { end_of inode self.new.bytes ≡ 0 }
     {
         while let Some(at) = self.first(Some(inode)) {
             self.remove(at);

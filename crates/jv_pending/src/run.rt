@@ -5,8 +5,9 @@ ghost use Rattle.jv_model.specs.run.Pending.{window_size, next_segment, end_of};
 ghost use Rattle.jv_pending.specs.At.{segment_at};
 ghost use Rattle.jv_pending.specs.Runs.{place_of, end_of_run, segment_of_run, IsRun, InOrder, Rise, pending_bytes, runs_before, runs_from, runs_within, first_of, last_of};
 
+use crate::run_bytes::RunBytes;
 use crate::segment::SegmentAt;
-use jv_model::{Bytes, WINDOW};
+use jv_model::WINDOW;
 use std::collections::BTreeMap;
 
 /// The positions of a file are below this.
@@ -21,7 +22,7 @@ pub(crate) struct RunStart {
 }
 
 /// Bytes at positions in a row, inside one window, by where they begin.
-pub(crate) type Runs = BTreeMap<RunStart, Bytes>;
+pub(crate) type Runs = BTreeMap<RunStart, RunBytes>;
 
 impl RunStart {
     /// Where a segment begins.
@@ -49,7 +50,7 @@ impl RunStart {
     }
 
     /// The position after the last byte of a run that begins here.
-    pub(crate) fn end(self, bytes: &Bytes) -> u64
+    pub(crate) fn end(self, bytes: &RunBytes) -> u64
         requires { end_of_run (self, bytes.now) < 2 ^ 64 }
         ensures { result ≡ end_of_run (self, bytes.now) }
     {
@@ -57,7 +58,7 @@ impl RunStart {
     }
 
     /// A run that begins here as a segment.
-    pub(crate) fn segment(self, bytes: &Bytes) -> SegmentAt
+    pub(crate) fn segment(self, bytes: &RunBytes) -> SegmentAt
         requires { IsRun (self, bytes.now) }
         ensures same { segment_at result ≡ segment_of_run (self, bytes.now) }
         ensures inside { result.pos + result.len ≤ window_size }
@@ -73,7 +74,7 @@ impl RunStart {
 }
 
 /// The first run that begins at a place or after it.
-pub(crate) fn first_from(runs: &Runs, start: RunStart) -> Option<(RunStart, &Bytes)>
+pub(crate) fn first_from(runs: &Runs, start: RunStart) -> Option<(RunStart, &RunBytes)>
     requires rise { Rise 0 runs.now.entries }
     requires file { start.from ≤ 1099511627776 }
     ensures { option_map (λ r. (r.0, r.1.now)) result ≡ first_of (runs_from (place_of start) runs.now.entries) }
@@ -83,7 +84,7 @@ pub(crate) fn first_from(runs: &Runs, start: RunStart) -> Option<(RunStart, &Byt
 }
 
 /// The last run that begins before a place.
-pub(crate) fn last_before(runs: &Runs, end: RunStart) -> Option<(RunStart, &Bytes)>
+pub(crate) fn last_before(runs: &Runs, end: RunStart) -> Option<(RunStart, &RunBytes)>
     requires rise { Rise 0 runs.now.entries }
     requires file { end.from ≤ 1099511627776 }
     ensures { option_map (λ r. (r.0, r.1.now)) result ≡ last_of (runs_before (place_of end) runs.now.entries) }

@@ -7,10 +7,11 @@ use Rattle.jv_pending.proofs.Outcomes.{some_same}
 use Rattle.jv_pending.proofs.Parts.{Rise-order}
 use Rattle.jv_pending.proofs.Entries.{removed}
 use Rattle.jv_pending.proofs.Segments.{named, named_bytes, taken_order, taken, taken_count}
+use Rattle.jv_pending.proofs.SegmentLaws.{length-without}
 use Rattle.jv_pending.proofs.pending.Pending.take.Goals as goal
 
-pub unwrap-bytes-requires : goal.unwrap-bytes-requires
-unwrap-bytes-requires c =
+pub unwrap-run-requires : goal.unwrap-run-requires
+unwrap-run-requires c =
     let n = named c.of.result (segment_at c.args.at) c.self.inside.runs.entries c.self.invariant.order c.of.ensures.inode c.of.ensures.from
     (ap (λ (v : PendingValue). first_segment (pending_of c.args.at.inode v.bytes)) c.self.view_is ∙ c.requires) in
     ap is_some (c.remove.ensures.value ∙ n.found)
@@ -20,7 +21,7 @@ overflow_sub-self c =
     let rs = c.self.inside.runs.entries in
     let n = named c.of.result (segment_at c.args.at) rs c.self.invariant.order c.of.ensures.inode c.of.ensures.from
     (ap (λ (v : PendingValue). first_segment (pending_of c.args.at.inode v.bytes)) c.self.view_is ∙ c.requires) in
-    let e = ap length (some_same c.unwrap-bytes.result n.bytes (sym c.unwrap-bytes.ensures ∙ c.remove.ensures.value ∙ n.found)) in
+    let e = ap length (some_same c.unwrap-run.result n.bytes (sym c.unwrap-run.ensures ∙ c.remove.ensures.value ∙ n.found)) in
     let h = c.self.invariant.count in
     let l = c.len.ensures.length in
     omega (arith, taken_count c.of.result c.args.at.len rs c.self.invariant.order n)
@@ -30,7 +31,7 @@ invariant_of-self c =
     let rs = c.self.inside.runs.entries in
     let n = named c.of.result (segment_at c.args.at) rs c.self.invariant.order c.of.ensures.inode c.of.ensures.from
     (ap (λ (v : PendingValue). first_segment (pending_of c.args.at.inode v.bytes)) c.self.view_is ∙ c.requires) in
-    let e = ap length (some_same c.unwrap-bytes.result n.bytes (sym c.unwrap-bytes.ensures ∙ c.remove.ensures.value ∙ n.found)) in
+    let e = ap length (some_same c.unwrap-run.result n.bytes (sym c.unwrap-run.ensures ∙ c.remove.ensures.value ∙ n.found)) in
     let h = c.self.invariant.count in
     let m = c.self.invariant.limited in
     let l = c.len.ensures.length in
@@ -49,7 +50,8 @@ returns-clause-bytes c =
     let rs = c.self.inside.runs.entries in
     let n = named start (segment_at at) rs c.self.invariant.order c.of.ensures.inode c.of.ensures.from
     (ap (λ (v : PendingValue). first_segment (pending_of at.inode v.bytes)) c.self.view_is ∙ c.requires) in
-    some_same c.unwrap-bytes.result n.bytes (sym c.unwrap-bytes.ensures ∙ c.remove.ensures.value ∙ n.found)
+    c.into_bytes.ensures
+    ∙ some_same c.unwrap-run.result n.bytes (sym c.unwrap-run.ensures ∙ c.remove.ensures.value ∙ n.found)
     ∙ sym (named_bytes start at.len rs c.self.invariant.order n)
     ∙ ap (λ i. bytes_in_range i start.from at.len (pending_bytes rs)) c.of.ensures.inode
     ∙ ap (λ p. bytes_in_range at.inode p at.len (pending_bytes rs)) c.of.ensures.from
@@ -75,3 +77,8 @@ returns-clause-rest c =
     ∙ ap (λ p. without_range at.inode p at.len (pending_bytes rs)) c.of.ensures.from
     ∙ ap (λ (v : PendingValue). without_range at.inode (segment_at at).from at.len v.bytes) c.self.view_is in
     value _ _ _ _ left (ap (λ (v : PendingValue). v.limit) c.self.view_is)
+
+pub returns-clause-fewer : goal.returns-clause-fewer
+returns-clause-fewer c =
+    let e = ap (λ (v : PendingValue). length v.bytes) (returns-clause-rest c) in
+    omega (arith, e, length-without c.args.at.inode c.args.self.now.bytes (segment_at c.args.at) c.requires)

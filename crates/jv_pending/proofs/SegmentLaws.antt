@@ -1,0 +1,273 @@
+-- An inode's first segment, and what is left without it.
+use Rattle.std.proofs.Common.{◌≡◌, ℕ, ◌+◌, ◌%◌, ◌<◌, ◌≤◌, Bool, true, false, not, cond, eqb, ◌==◌, List, [], ◌∷◌, filter, length, Option, Some, None, refl, sym, ap, subst, ◌∙◌, ⊎_elim, arith}
+use Rattle.std.proofs.lemmas.Bool.{cases_Bool, true≢false, cases_eq, cond-true, cond-false, cond_both, and_parts, eqb-true, eq-eqb, ne_eqb}
+use Rattle.std.proofs.lemmas.Bool.Decides.{nat_tests}
+use Rattle.std.proofs.lemmas.Option.{none-some, same_Some}
+use Rattle.jv_model.specs.run.Pending.{PendingByte, Segment, comes_before, all_after, is_rising, stands_at, is_in_range, without_range, pending_of, pending_of_others, pending_end, end_of, run_length, first_segment, window_size, byte_set, written}
+use Rattle.jv_pending.proofs.Outcomes.{some_same}
+
+-- an inode's first segment is its own, and its first byte lies in it
+out_of_range : (i f n : ℕ) (b : PendingByte) → (b.inode ≡ i → ⊥) → is_in_range i f n b ≡ false
+out_of_range i f n b h = grind (arith, nat_tests)
+
+in_range : (i f n : ℕ) (b : PendingByte) → b.inode ≡ i → b.position ≡ f → 0 < n → is_in_range i f n b ≡ true
+in_range i f n b e p h = grind (arith, nat_tests)
+
+pub own_segment : (i : ℕ) (bytes : List PendingByte) (s : Segment) → first_segment (pending_of i bytes) ≡ Some s → s.inode ≡ i
+own_segment i [] s h = absurd (none-some s h)
+own_segment i (b ∷ bytes) s h =
+    ⊎_elim
+    (λ e.
+    let here = ap first_segment (cond-true (eqb b.inode i) (b ∷ pending_of i bytes) (pending_of i bytes) (eq-eqb b.inode i e)) in
+    sym (ap (λ (t : Segment). t.inode) (some_same _ s (sym here ∙ h))) ∙ e)
+    (λ n. own_segment i bytes s (sym (ap first_segment (cond-false (eqb b.inode i) (b ∷ pending_of i bytes) (pending_of i bytes) (ne_eqb b.inode i n))) ∙ h))
+    (cases_eq b.inode i)
+
+stands_here : (b : PendingByte) → stands_at b.inode b.position b ≡ true
+stands_here b = grind (arith, nat_tests)
+
+-- a first segment has a byte
+pub segment-some : (bytes : List PendingByte) (s : Segment) → first_segment bytes ≡ Some s → 0 < s.len
+segment-some [] s h = absurd (none-some s h)
+segment-some (b ∷ bytes) s h =
+    let same = some_same _ s h in
+    let more : ℕ = run_length b.inode (b.position + 1) bytes in
+    let ahead : ℕ = cond ((b.position + 1) % window_size == 0) 1 (1 + more) in
+    let some : 0 < ahead = cond_both ((b.position + 1) % window_size == 0) 1 (1 + more) (λ n. 0 < n) (λ _. omega arith) (λ _. omega arith) in
+    let is : cond (stands_at b.inode b.position b) ahead 0 ≡ ahead = cond-true (stands_at b.inode b.position b) ahead 0 (stands_here b) in
+    subst (λ (t : Segment). 0 < t.len) same (subst (λ n. 0 < n) (sym is) some)
+
+fewer : (i f n : ℕ) (bytes : List PendingByte) → length (without_range i f n bytes) ≤ length bytes
+fewer i f n [] = omega arith
+fewer i f n (b ∷ bytes) =
+    elim (not (is_in_range i f n b)) as (λ t. length (cond t (b ∷ without_range i f n bytes) (without_range i f n bytes)) ≤ length (b ∷ bytes)) [
+      | true ↦ omega (arith, fewer i f n bytes)
+      | false ↦ omega (arith, fewer i f n bytes)
+    ]
+
+pub length-without : (i : ℕ) (bytes : List PendingByte) (s : Segment) → first_segment (pending_of i bytes) ≡ Some s → length (without_range s.inode s.from s.len bytes) < length bytes
+length-without i [] s h = absurd (none-some s h)
+length-without i (b ∷ bytes) s h =
+    let l = segment-some (pending_of i (b ∷ bytes)) s h in
+    ⊎_elim
+    (λ e.
+    let here = ap first_segment (cond-true (eqb b.inode i) (b ∷ pending_of i bytes) (pending_of i bytes) (eq-eqb b.inode i e)) in
+    let same = some_same _ s (sym here ∙ h) in
+    let inside = in_range s.inode s.from s.len b (ap (λ (t : Segment). t.inode) same) (ap (λ (t : Segment). t.from) same) l in
+    let gone = ap length (cond-false (not (is_in_range s.inode s.from s.len b)) (b ∷ without_range s.inode s.from s.len bytes) (without_range s.inode s.from s.len bytes) (ap not inside)) in
+    omega (arith, fewer s.inode s.from s.len bytes))
+    (λ n.
+    let rest = sym (ap first_segment (cond-false (eqb b.inode i) (b ∷ pending_of i bytes) (pending_of i bytes) (ne_eqb b.inode i n))) ∙ h in
+    let own = own_segment i bytes s rest in
+    let outside = out_of_range s.inode s.from s.len b (λ e. n (e ∙ own)) in
+    let kept = ap length (cond-true (not (is_in_range s.inode s.from s.len b)) (b ∷ without_range s.inode s.from s.len bytes) (without_range s.inode s.from s.len bytes) (ap not outside)) in
+    omega (arith, length-without i bytes s rest))
+    (cases_eq b.inode i)
+
+-- the bytes of an inode are from a position on
+abbrev Above : ℕ → ℕ → List PendingByte → Type 0
+Above i low [] = Unit {0}
+Above i low (b ∷ bs) = (b.inode ≡ i → low ≤ b.position) × Above i low bs
+
+-- all bytes are of one inode, and rise from a position on
+abbrev RiseFrom : ℕ → ℕ → List PendingByte → Type 0
+RiseFrom i low [] = Unit {0}
+RiseFrom i low (b ∷ bs) = (b.inode ≡ i) × (low ≤ b.position) × RiseFrom i (b.position + 1) bs
+
+above_none : (i : ℕ) (bs : List PendingByte) → Above i 0 bs
+above_none i [] = tt
+above_none i (b ∷ bs) = (λ e. omega arith, above_none i bs)
+
+before_tells : (i p : ℕ) (b : PendingByte) → comes_before i p b ≡ true → b.inode ≡ i → p < b.position
+before_tells i p b h e = grind (arith, nat_tests)
+
+above_after : (i p : ℕ) (bs : List PendingByte) → all_after i p bs ≡ true → Above i (p + 1) bs
+above_after i p [] h = tt
+above_after i p (b ∷ bs) h =
+    let both = and_parts (comes_before i p b) (all_after i p bs) h in
+    (λ e. let l = before_tells i p b both.0 e in omega arith, above_after i p bs both.1)
+
+-- the bytes of an inode rise
+rises_of : (i low : ℕ) (bs : List PendingByte) → is_rising bs ≡ true → Above i low bs → RiseFrom i low (pending_of i bs)
+rises_of i low [] r a = tt
+rises_of i low (b ∷ bs) r a =
+    let both = and_parts (all_after b.inode b.position bs) (is_rising bs) r in
+    cond_both (b.inode == i) (b ∷ pending_of i bs) (pending_of i bs) (RiseFrom i low)
+    (λ e. let same = eqb-true b.inode i e in
+    (same, a.0 same, rises_of i (b.position + 1) bs both.1 (subst (λ j. Above j (b.position + 1) bs) same (above_after b.inode b.position bs both.0))))
+    (λ e. rises_of i low bs both.1 a.1)
+
+rises : (i : ℕ) (bs : List PendingByte) → is_rising bs ≡ true → RiseFrom i 0 (pending_of i bs)
+rises i bs r = rises_of i 0 bs r (above_none i bs)
+
+-- they end after the first of them
+ends_after : (i low : ℕ) (b : PendingByte) (bs : List PendingByte) → RiseFrom i low (b ∷ bs) → b.position < pending_end (b ∷ bs)
+ends_after i low b [] r = omega arith
+ends_after i low b (c ∷ cs) r = let l = ends_after i (b.position + 1) c cs r.2 in let m = r.2.1 in omega arith
+
+stands_tells : (j p : ℕ) (b : PendingByte) → stands_at j p b ≡ true → b.position ≡ p
+stands_tells j p b h = grind (arith, nat_tests)
+
+-- and a run of them ends where they end, or before
+run_ends : (i low j p : ℕ) (bs : List PendingByte) → RiseFrom i low bs → p ≤ pending_end bs → p + run_length j p bs ≤ pending_end bs
+run_ends i low j p [] r h = omega arith
+run_ends i low j p (b ∷ []) r h =
+    cond_both (stands_at j p b) (cond ((p + 1) % window_size == 0) 1 (1 + 0)) 0 (λ n. p + n ≤ pending_end (b ∷ []))
+    (λ e. let same = stands_tells j p b e in cond_both ((p + 1) % window_size == 0) 1 (1 + 0) (λ n. p + n ≤ pending_end (b ∷ [])) (λ _. omega arith) (λ _. omega arith))
+    (λ e. omega arith)
+run_ends i low j p (b ∷ c ∷ cs) r h =
+    cond_both (stands_at j p b) (cond ((p + 1) % window_size == 0) 1 (1 + run_length j (p + 1) (c ∷ cs))) 0 (λ n. p + n ≤ pending_end (c ∷ cs))
+    (λ e.
+    let same = stands_tells j p b e in
+    let after = r.2.1 in
+    let ends = ends_after i (b.position + 1) c cs r.2 in
+    let rest = run_ends i (b.position + 1) j (p + 1) (c ∷ cs) r.2 (omega arith) in
+    cond_both ((p + 1) % window_size == 0) 1 (1 + run_length j (p + 1) (c ∷ cs)) (λ n. p + n ≤ pending_end (c ∷ cs)) (λ _. omega arith) (λ _. omega arith))
+    (λ e. omega arith)
+
+segment_ends : (i from len : ℕ) (bs : List PendingByte) → RiseFrom i 0 bs → first_segment bs ≡ Some (record { inode = i; from = from; len = len }) → from + len ≤ pending_end bs
+segment_ends i from len [] r e = absurd (let f : ◌≡◌ {A = Option Segment} None (Some (record { inode = i; from = from; len = len })) = e in cc)
+segment_ends i from len (b ∷ bs) r e =
+    let same = same_Some (record { inode = b.inode; from = b.position; len = run_length b.inode b.position (b ∷ bs) }) (record { inode = i; from = from; len = len }) e in
+    let begins : b.position ≡ from = ap (λ (s : Segment). s.from) same in
+    let long : run_length b.inode b.position (b ∷ bs) ≡ len = ap (λ (s : Segment). s.len) same in
+    let ends = ends_after i 0 b bs r in
+    let run = run_ends i 0 b.inode b.position (b ∷ bs) r (omega arith) in
+    omega arith
+
+-- what passes two tests passes them in either order
+filter_swap : (p q : PendingByte → Bool) (bs : List PendingByte) → filter p (filter q bs) ≡ filter q (filter p bs)
+filter_swap p q [] = refl
+filter_swap p q (b ∷ bs) =
+    ⊎_elim
+    (λ e. ⊎_elim
+    (λ f. ap (filter p) (first q bs f) ∙ first p (filter q bs) e ∙ ap (λ (t : List PendingByte). b ∷ t) (filter_swap p q bs) ∙ sym (ap (filter q) (first p bs e) ∙ first q (filter p bs) f))
+    (λ f. ap (filter p) (behind q bs f) ∙ filter_swap p q bs ∙ sym (ap (filter q) (first p bs e) ∙ behind q (filter p bs) f))
+    (cases_Bool (q b)))
+    (λ e. ⊎_elim
+    (λ f. ap (filter p) (first q bs f) ∙ behind p (filter q bs) e ∙ filter_swap p q bs ∙ sym (ap (filter q) (behind p bs e)))
+    (λ f. ap (filter p) (behind q bs f) ∙ filter_swap p q bs ∙ sym (ap (filter q) (behind p bs e)))
+    (cases_Bool (q b)))
+    (cases_Bool (p b))
+  where
+    first : (t : PendingByte → Bool) (xs : List PendingByte) → t b ≡ true → filter t (b ∷ xs) ≡ b ∷ filter t xs
+    first t xs e = cond-true (t b) (b ∷ filter t xs) (filter t xs) e
+
+    behind : (t : PendingByte → Bool) (xs : List PendingByte) → t b ≡ false → filter t (b ∷ xs) ≡ filter t xs
+    behind t xs e = cond-false (t b) (b ∷ filter t xs) (filter t xs) e
+
+last_ends : (n : ℕ) (b : PendingByte) (bs : List PendingByte) → b.position < n → pending_end bs ≤ n → pending_end (b ∷ bs) ≤ n
+last_ends n b [] h l = omega arith
+last_ends n b (c ∷ cs) h l = l
+
+ends_behind : (b : PendingByte) (bs : List PendingByte) → pending_end bs ≤ pending_end (b ∷ bs)
+ends_behind b [] = omega arith
+ends_behind b (c ∷ cs) = omega arith
+
+-- fewer bytes end there or before
+filter_ends : (q : PendingByte → Bool) (i low : ℕ) (bs : List PendingByte) → RiseFrom i low bs → pending_end (filter q bs) ≤ pending_end bs
+filter_ends q i low [] r = omega arith
+filter_ends q i low (b ∷ bs) r =
+    let rest = filter_ends q i (b.position + 1) bs r.2 in
+    let behind = ends_behind b bs in
+    let ends = ends_after i low b bs r in
+    cond_both (q b) (b ∷ filter q bs) (filter q bs) (λ kept. pending_end kept ≤ pending_end (b ∷ bs))
+    (λ _. last_ends (pending_end (b ∷ bs)) b (filter q bs) ends (omega arith))
+    (λ _. omega arith)
+
+-- the segment that a flush commits first ends where the pending bytes of the file end, or before
+pub first_segment-ends : (inode from len : ℕ) (pending : List PendingByte) → is_rising pending ≡ true
+    → first_segment (pending_of inode pending) ≡ Some (record { inode = inode; from = from; len = len }) → from + len ≤ end_of inode pending
+first_segment-ends inode from len pending rising first = segment_ends inode from len (pending_of inode pending) (rises inode pending rising) first
+
+-- without it, they end there or before
+pub end_of-without : (inode from len : ℕ) (pending : List PendingByte) → is_rising pending ≡ true → end_of inode (without_range inode from len pending) ≤ end_of inode pending
+end_of-without inode from len pending rising =
+    subst (λ (t : List PendingByte). pending_end t ≤ end_of inode pending)
+    (filter_swap (λ b. not (is_in_range inode from len b)) (λ b. b.inode == inode) pending)
+    (filter_ends (λ b. not (is_in_range inode from len b)) inode 0 (pending_of inode pending) (rises inode pending rising))
+
+-- a run of bytes ends where its window ends, or before
+run_in_window : (i p : ℕ) (bs : List PendingByte) → p % window_size + run_length i p bs ≤ window_size
+run_in_window i p [] = omega arith
+run_in_window i p (b ∷ bs) =
+    let rest = run_in_window i (p + 1) bs in
+    cond_both (stands_at i p b) (cond ((p + 1) % window_size == 0) 1 (1 + run_length i (p + 1) bs)) 0 (λ n. p % window_size + n ≤ window_size)
+    (λ _. cond_both ((p + 1) % window_size == 0) 1 (1 + run_length i (p + 1) bs) (λ n. p % window_size + n ≤ window_size)
+    (λ _. omega arith)
+    (λ apart. let n : (p + 1) % window_size ≡ 0 → ⊥ = λ e. true≢false (sym (eq-eqb ((p + 1) % window_size) 0 e) ∙ apart) in ⊎_elim (λ e. absurd (n e)) (λ _. omega arith) (cases_eq ((p + 1) % window_size) 0)))
+    (λ _. omega arith)
+
+-- a first segment lies in one window
+pub segment-in_window : (bytes : List PendingByte) (s : Segment) → first_segment bytes ≡ Some s → s.from % window_size + s.len ≤ window_size
+segment-in_window [] s h = absurd (none-some s h)
+segment-in_window (b ∷ bytes) s h =
+    let same = some_same _ s h in
+    subst (λ (t : Segment). t.from % window_size + t.len ≤ window_size) same (run_in_window b.inode b.position (b ∷ bytes))
+
+-- the others' bytes stay
+pub others_stay : (i f n : ℕ) (bytes : List PendingByte) → pending_of_others i (without_range i f n bytes) ≡ pending_of_others i bytes
+others_stay i f n [] = refl
+others_stay i f n (b ∷ bytes) =
+    ⊎_elim
+    (λ e.
+    let drops : (t : List PendingByte) → pending_of_others i (b ∷ t) ≡ pending_of_others i t = λ t. cond-false (not (eqb b.inode i)) (b ∷ pending_of_others i t) (pending_of_others i t) (ap not (eq-eqb b.inode i e)) in
+    elim (not (is_in_range i f n b)) as (λ t. pending_of_others i (cond t (b ∷ without_range i f n bytes) (without_range i f n bytes)) ≡ pending_of_others i (b ∷ bytes)) [
+      | true ↦ drops (without_range i f n bytes) ∙ others_stay i f n bytes ∙ sym (drops bytes)
+      | false ↦ others_stay i f n bytes ∙ sym (drops bytes)
+    ])
+    (λ m.
+    let keeps : (t : List PendingByte) → pending_of_others i (b ∷ t) ≡ b ∷ pending_of_others i t = λ t. cond-true (not (eqb b.inode i)) (b ∷ pending_of_others i t) (pending_of_others i t) (ap not (ne_eqb b.inode i m)) in
+    ap (pending_of_others i) (cond-true (not (is_in_range i f n b)) (b ∷ without_range i f n bytes) (without_range i f n bytes) (ap not (out_of_range i f n b m)))
+    ∙ keeps (without_range i f n bytes) ∙ ap (λ (t : List PendingByte). b ∷ t) (others_stay i f n bytes) ∙ sym (keeps bytes))
+    (cases_eq b.inode i)
+
+-- where an inode has no segment, all bytes are the others'
+some_segment : (b : PendingByte) (bytes : List PendingByte) → first_segment (b ∷ bytes) ≡ None → ⊥
+some_segment b bytes h = none-some _ (sym h)
+
+pub others_all : (i : ℕ) (bytes : List PendingByte) → first_segment (pending_of i bytes) ≡ None → pending_of_others i bytes ≡ bytes
+others_all i [] h = refl
+others_all i (b ∷ bytes) h =
+    ⊎_elim
+    (λ e. absurd (some_segment b (pending_of i bytes) (sym (ap first_segment (cond-true (eqb b.inode i) (b ∷ pending_of i bytes) (pending_of i bytes) (eq-eqb b.inode i e))) ∙ h)))
+    (λ n.
+    cond-true (not (eqb b.inode i)) (b ∷ pending_of_others i bytes) (pending_of_others i bytes) (ap not (ne_eqb b.inode i n))
+    ∙ ap (λ (t : List PendingByte). b ∷ t) (others_all i bytes (sym (ap first_segment (cond-false (eqb b.inode i) (b ∷ pending_of i bytes) (pending_of i bytes) (ne_eqb b.inode i n))) ∙ h)))
+    (cases_eq b.inode i)
+
+pub none_of_others : (i : ℕ) (bytes : List PendingByte) → first_segment (pending_of i bytes) ≡ None → pending_of i bytes ≡ []
+none_of_others i bytes h = none (pending_of i bytes) h
+  where
+    none : (bs : List PendingByte) → first_segment bs ≡ None → bs ≡ []
+    none [] e = refl
+    none (b ∷ bs) e = absurd (some_segment b bs e)
+
+pub no_end : (i : ℕ) (bytes : List PendingByte) → first_segment (pending_of i bytes) ≡ None → end_of i bytes ≡ 0
+no_end i bytes h = ap pending_end (none_of_others i bytes h)
+
+drop_same : (i : ℕ) (x : PendingByte) (bs : List PendingByte) → x.inode ≡ i → pending_of_others i (x ∷ bs) ≡ pending_of_others i bs
+drop_same i x bs e = cond-false (not (eqb x.inode i)) (x ∷ pending_of_others i bs) (pending_of_others i bs) (ap not (eq-eqb x.inode i e))
+
+drop_own : (i p b : ℕ) (bs : List PendingByte) → pending_of_others i (record { inode = i; position = p; byte = b } ∷ bs) ≡ pending_of_others i bs
+drop_own i p b bs = drop_same i (record { inode = i; position = p; byte = b }) bs refl
+
+stands_inode : (i p : ℕ) (x : PendingByte) → stands_at i p x ≡ true → x.inode ≡ i
+stands_inode i p x h = grind (arith, nat_tests)
+
+-- a write changes no other inode's bytes
+set_others : (i p b : ℕ) (bytes : List PendingByte) → pending_of_others i (byte_set i p b bytes) ≡ pending_of_others i bytes
+set_others i p b [] = drop_own i p b []
+set_others i p b (x ∷ bytes) =
+    cond_both (stands_at i p x) (record { inode = i; position = p; byte = b } ∷ bytes)
+    (cond (comes_before i p x) (record { inode = i; position = p; byte = b } ∷ x ∷ bytes) (x ∷ byte_set i p b bytes))
+    (λ t. pending_of_others i t ≡ pending_of_others i (x ∷ bytes))
+    (λ here. drop_own i p b bytes ∙ sym (drop_same i x bytes (stands_inode i p x here)))
+    (λ _. cond_both (comes_before i p x) (record { inode = i; position = p; byte = b } ∷ x ∷ bytes) (x ∷ byte_set i p b bytes)
+    (λ t. pending_of_others i t ≡ pending_of_others i (x ∷ bytes))
+    (λ _. drop_own i p b (x ∷ bytes))
+    (λ _. ap (λ (t : List PendingByte). cond (not (eqb x.inode i)) (x ∷ t) t) (set_others i p b bytes)))
+
+pub written_others : (i from : ℕ) (bs : List ℕ) (bytes : List PendingByte) → pending_of_others i (written i from bs bytes) ≡ pending_of_others i bytes
+written_others i from [] bytes = refl
+written_others i from (b ∷ bs) bytes = set_others i from b (written i (from + 1) bs bytes) ∙ written_others i (from + 1) bs bytes

@@ -1,0 +1,327 @@
+//! Writes over runs. A write is cut where windows end, so that each part touches the runs of one window: it joins them, by
+//! moving the shorter ones into the longest.
+ghost use Rattle.std.specs.Prelude.{◌≡◌, ℕ, ◌+◌, ◌-◌, ◌<◌, ◌≤◌, ◌^◌, ◌%◌, [], ◌∷◌, ◌++◌, length, take, drop, List, OnOk, OnErr, IfOk, IfErr, Some, unwrap_or, IsSome, IfSome, IsSomeAnd};
+ghost use Rattle.std.specs.Option.{option_map};
+ghost use Rattle.jv_model.specs.run.Pending.{written};
+ghost use Rattle.jv_pending.specs.Runs.{place_of, bytes_at, gap, pending_bytes, InOrder, Rise, IsFirst, IsTouched, runs_before, runs_within, last_of, with_runs, tail_of, joined_behind, IsLonger, Starts, Writes};
+
+use crate::place::{give_back, put_over, swap_bytes, take_run};
+use crate::run::{RunStart, Runs, count_bytes, last_before};
+use crate::run_bytes::RunBytes;
+use jv_model::WINDOW;
+use std::alloc::{AllocError, Global};
+use std::mem;
+
+/// How many positions must lie free before a run that begins here.
+fn free_before(from: u64) -> u64
+    ensures { result ≡ gap from }
+{
+    if from.is_multiple_of(WINDOW) { 0 } else { 1 }
+}
+
+/// Where the first run begins that a write overlaps, or touches in a window, or the write itself where it begins before.
+fn first_touched(runs: &Runs, inode: u64, from: u64) -> RunStart
+    requires order { InOrder 0 runs.now.entries }
+    requires file { from < 1099511627776 }
+    ensures { IsFirst inode from runs.now.entries result }
+{
+    let here = RunStart { inode, from };
+    let Some((start, bytes)) = last_before(runs, here.next()) else {
+        return here;
+    };
+    if start.inode == inode && from < start.end(bytes) + free_before(from) {
+        start
+    } else {
+        here
+    }
+}
+
+/// Where the first run begins that a write to a position doesn't touch.
+fn end_touched(inode: u64, to: u64) -> RunStart
+    requires { to ≤ 1099511627776 }
+    ensures inode { result.inode ≡ inode }
+    ensures from { result.from ≡ to + gap to }
+{
+    RunStart {
+        inode,
+        from: to + free_before(to),
+    }
+}
+
+/// The bytes of the run at a place that lie before a position, none where there is no run.
+fn head(runs: &Runs, first: RunStart, from: u64) -> &[u8]
+    ensures { result.now ≡ take (from - first.from) (unwrap_or (bytes_at first runs.now.entries) []) }
+{
+    let Some(bytes) = runs.get(&first) else {
+        return &[];
+    };
+    let bytes = bytes.as_slice();
+    let count = from.saturating_sub(first.from) as usize;
+    &bytes[..count.min(bytes.len())]
+}
+
+/// The bytes from a position on of the last run that begins at `first` or later, and before `end`.
+fn tail(runs: &Runs, first: RunStart, end: RunStart, to: u64) -> &[u8]
+    requires rise { Rise 0 runs.now.entries }
+    requires first { first.from ≤ 1099511627776 }
+    requires end { end.from ≤ 1099511627776 }
+    ensures { result.now ≡ tail_of to (runs_within (place_of first) (place_of end) runs.now.entries) }
+{
+    match last_before(runs, end) {
+        Some((start, bytes)) if first.cmp(&start).is_le() => {
+            let bytes = bytes.as_slice();
+            let count = to.saturating_sub(start.from) as usize;
+            &bytes[count.min(bytes.len())..]
+        }
+        _ => &[],
+    }
+}
+
+/// The last run behind `first` and before `end`, where more than `count` of its bytes lie behind a position.
+fn longer_tail(runs: &Runs, first: RunStart, end: RunStart, to: u64, count: u64) -> Option<RunStart>
+    requires rise { Rise 0 runs.now.entries }
+    requires first { first.from < 1099511627776 }
+    requires end { end.from ≤ 1099511627776 }
+    requires to { to ≤ 1099511627776 }
+    requires count { count ≤ 1099511627776 }
+    ensures { IfSome result (λ last. IsLonger first end to count runs.now.entries last) }
+{
+    let (start, bytes) = last_before(runs, end)?;
+    let is_longer = to >= start.from && bytes.len() as u64 > count + (to - start.from);
+    if first.cmp(&start).is_lt() && is_longer {
+        Some(start)
+    } else {
+        None
+    }
+}
+
+/// Joins bytes with those before them, and with those behind them of the run at `last`, in that run. On error nothing has
+/// changed.
+fn join_before(
+    alloc: Global,
+    runs: &mut Runs,
+    first: RunStart,
+    last: RunStart,
+    end: RunStart,
+    to: u64,
+    head: &[u8],
+    bytes: &[u8],
+) -> Result<(), AllocError>
+    requires rise { Rise 0 runs.old.entries }
+    requires start { first.from < 1099511627776 }
+    requires end { end.from ≤ 1099511627776 }
+    requires there { IsSome (bytes_at first runs.old.entries) }
+    requires last { IsLonger first end to (length head.now) runs.old.entries last }
+    requires small { length head.now + length bytes.now < 2 ^ 63 }
+    ensures ok { OnOk result (let tail = tail_of to (runs_within (place_of first + 1) (place_of end) runs.old.entries) in
+        runs.new.entries ≡ with_runs ((first, head.now ++ (bytes.now ++ tail)) ∷ []) (place_of end) runs.old.entries) }
+    ensures err { OnErr result (runs.new.entries ≡ runs.old.entries) }
+{
+    let mut run = swap_bytes(runs, last, RunBytes::new(alloc));
+    match run.write_before(alloc, (to - last.from) as usize, head, bytes) {
+        Ok(()) => {
+            put_over(runs, first, end, run);
+            Ok(())
+        }
+        Err(refused) => {
+            swap_bytes(runs, last, run);
+            Err(refused)
+        }
+    }
+}
+
+/// Joins bytes with those of a run, and with those behind them of the last run before `end`, in the run. On error nothing
+/// has changed.
+fn join_behind(
+    alloc: Global,
+    runs: &mut Runs,
+    first: RunStart,
+    end: RunStart,
+    from: u64,
+    bytes: &[u8],
+    run: &mut RunBytes,
+) -> Result<(), AllocError>
+    requires rise { Rise 0 runs.old.entries }
+    requires starts { first.from ≤ from }
+    requires some { 0 < length bytes.now }
+    requires file { from + length bytes.now ≤ 1099511627776 }
+    requires end { end.from ≤ 1099511627776 }
+    requires forward { place_of first < place_of end }
+    requires there { IsSome (bytes_at first runs.old.entries) }
+    requires reaches { from - first.from ≤ length run.old }
+    ensures ok { OnOk result (let tail = tail_of (from + length bytes.now)
+        (runs_within (place_of first + 1) (place_of end) runs.old.entries) in
+        runs.new.entries ≡ with_runs
+        ((first, joined_behind (from - first.from) run.old bytes.now tail) ∷ []) (place_of end) runs.old.entries) }
+    ensures err { OnErr result (runs.new.entries ≡ runs.old.entries) }
+    ensures run { OnErr result (run.new ≡ run.old) }
+{
+    let to = from + bytes.len() as u64;
+    run.write(
+        (from - first.from) as usize,
+        bytes,
+        tail(runs, first.next(), end, to),
+    )?;
+    put_over(runs, first, end, mem::replace(run, RunBytes::new(alloc)));
+    Ok(())
+}
+
+/// Joins bytes with those of a run, and with those behind them of the last run before `end`. On error nothing has changed.
+fn join_runs(
+    alloc: Global,
+    runs: &mut Runs,
+    first: RunStart,
+    end: RunStart,
+    from: u64,
+    bytes: &[u8],
+    run: &mut RunBytes,
+) -> Result<(), AllocError>
+    requires rise { Rise 0 runs.old.entries }
+    requires starts { first.from ≤ from }
+    requires some { 0 < length bytes.now }
+    requires file { from + length bytes.now ≤ 1099511627776 }
+    requires end { end.from ≤ 1099511627776 }
+    requires forward { place_of first < place_of end }
+    requires there { IsSome (bytes_at first runs.old.entries) }
+    requires reaches { from - first.from ≤ length run.old }
+    ensures ok { OnOk result (let tail = tail_of (from + length bytes.now)
+        (runs_within (place_of first + 1) (place_of end) runs.old.entries) in
+        runs.new.entries ≡ with_runs
+        ((first, joined_behind (from - first.from) run.old bytes.now tail) ∷ []) (place_of end) runs.old.entries) }
+    ensures err { OnErr result (runs.new.entries ≡ runs.old.entries) }
+    ensures run { OnErr result (run.new ≡ run.old) }
+{
+    let to = from + bytes.len() as u64;
+    let before = from - first.from;
+    let last = longer_tail(runs, first, end, to, before);
+    let ends_before = run.len() as u64 <= before + bytes.len() as u64;
+    match last {
+        Some(last) if ends_before => {
+            let head = &run.as_slice()[..before as usize];
+            join_before(alloc, runs, first, last, end, to, head, bytes)
+        }
+        _ => join_behind(alloc, runs, first, end, from, bytes, run),
+    }
+}
+
+/// Writes bytes inside one window, joined with the runs that they overlap or touch. On error nothing has changed.
+fn write_window(
+    alloc: Global,
+    runs: &mut Runs,
+    first: RunStart,
+    from: u64,
+    bytes: &[u8],
+) -> Result<(), AllocError>
+    requires rise { Rise 0 runs.old.entries }
+    requires starts { Starts from runs.old.entries first }
+    requires some { 0 < length bytes.now }
+    requires file { from + length bytes.now ≤ 1099511627776 }
+    requires window { from % 67108864 + length bytes.now ≤ 67108864 }
+    ensures rise { Rise 0 runs.new.entries }
+    ensures ok { OnOk result (Writes from bytes.now first runs.old.entries runs.new.entries) }
+    ensures err { OnErr result (runs.new.entries ≡ runs.old.entries) }
+{
+    let end = end_touched(first.inode, from + bytes.len() as u64);
+    let mut taken = take_run(alloc, runs, first, 0)?;
+    match join_runs(alloc, runs, first, end, from, bytes, &mut taken.run) {
+        Ok(()) => Ok(()),
+        Err(refused) => {
+            give_back(runs, first, taken);
+            Err(refused)
+        }
+    }
+}
+
+/// Writes bytes from a position on, joined with the runs that they overlap or touch. `first` is where the first of these
+/// begins, or the write. On error nothing has changed.
+fn write_from(
+    alloc: Global,
+    runs: &mut Runs,
+    first: RunStart,
+    from: u64,
+    bytes: &[u8],
+) -> Result<(), AllocError>
+    requires rise { Rise 0 runs.old.entries }
+    requires starts { Starts from runs.old.entries first }
+    requires some { 0 < length bytes.now }
+    requires file { from + length bytes.now ≤ 1099511627776 }
+    ensures rise { Rise 0 runs.new.entries }
+    ensures ok { OnOk result (Writes from bytes.now first runs.old.entries runs.new.entries) }
+    ensures err { OnErr result (runs.new.entries ≡ runs.old.entries) }
+{
+    let room = (WINDOW - from % WINDOW) as usize;
+    if bytes.len() <= room {
+        return write_window(alloc, runs, first, from, bytes);
+    }
+    let (part, rest) = bytes.split_at(room);
+    let at = (from - first.from) as usize;
+    let border = RunStart {
+        inode: first.inode,
+        from: from + room as u64,
+    };
+    // Memory is asked for first, in each window, and then nothing fails.
+    let mut taken = take_run(alloc, runs, first, at + room)?;
+    match write_from(alloc, runs, border, border.from, rest) {
+        Ok(()) => {
+            taken.run.put(at, part);
+            put_over(runs, first, border, taken.run);
+            Ok(())
+        }
+        Err(refused) => {
+            give_back(runs, first, taken);
+            Err(refused)
+        }
+    }
+}
+
+/// How many bytes there are, of `held` before, once a write is joined with the runs that it touches.
+fn count_written(
+    runs: &Runs,
+    first: RunStart,
+    end: RunStart,
+    held: u64,
+    from: u64,
+    bytes: &[u8],
+) -> u64
+    requires order { InOrder 0 runs.now.entries }
+    requires held { held ≡ length (pending_bytes runs.now.entries) }
+    requires small { held + length bytes.now < 2 ^ 64 }
+    requires some { 0 < length bytes.now }
+    requires file { from + length bytes.now ≤ 1099511627776 }
+    requires touched { IsTouched first.inode from (from + length bytes.now) runs.now.entries first end }
+    ensures { result ≡ length (written first.inode from bytes.now (pending_bytes runs.now.entries)) }
+{
+    let to = from + bytes.len() as u64;
+    let others = held - count_bytes(runs, first, end);
+    let head = head(runs, first, from).len() as u64;
+    let tail = tail(runs, first, end, to).len() as u64;
+    others + (head + (bytes.len() as u64 + tail))
+}
+
+/// Sets the positions of the bytes, and returns the number of bytes that there are then, of `held` before. On error nothing
+/// has changed.
+pub(crate) fn write_runs(
+    alloc: Global,
+    runs: &mut Runs,
+    held: u64,
+    inode: u64,
+    from: u64,
+    bytes: &[u8],
+) -> Result<u64, AllocError>
+    requires order { InOrder 0 runs.old.entries }
+    requires held { held ≡ length (pending_bytes runs.old.entries) }
+    requires small { held + length bytes.now < 2 ^ 64 }
+    requires some { 0 < length bytes.now }
+    requires file { from + length bytes.now ≤ 1099511627776 }
+    ensures order { InOrder 0 runs.new.entries }
+    ensures ok { OnOk result (pending_bytes runs.new.entries
+        ≡ written inode from bytes.now (pending_bytes runs.old.entries)) }
+    ensures count { IfOk result (λ n. n ≡ length (pending_bytes runs.new.entries)) }
+    ensures err { OnErr result (runs.new.entries ≡ runs.old.entries) }
+{
+    let first = first_touched(runs, inode, from);
+    let end = end_touched(inode, from + bytes.len() as u64);
+    let count = count_written(runs, first, end, held, from, bytes);
+    write_from(alloc, runs, first, from, bytes)?;
+    Ok(count)
+}
