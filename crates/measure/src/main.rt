@@ -58,6 +58,8 @@ fn measured(alloc: Global, name: &str, size: u32) -> Result<Option<u64>, Down> {
         "plan" => plans::planned(alloc, size)?,
         "pending" => writes::pending(alloc, Order::Sequential, size)?,
         "pending-scattered" => writes::pending(alloc, Order::Scattered, size)?,
+        "pending-backward" => writes::pending(alloc, Order::Backward, size)?,
+        "pending-border" => writes::pending(alloc, Order::Border, size)?,
         "cache-finds" => finds::found(alloc, size)?,
         "lines" => script::lines_read(alloc, size)?,
         "data-spelled" => script::data_spelled(alloc, size)?,

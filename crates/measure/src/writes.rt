@@ -1,7 +1,7 @@
 //! Bytes that a client writes, one write after another.
 ghost use Rattle.std.specs.Prelude.{◌≡◌, ◌<◌, ◌^◌, length};
 
-use jv_model::{Bytes, Down, copied};
+use jv_model::{Bytes, Down, MAX_DATA, WINDOW, copied};
 use jv_pending::{Pending, PendingFault};
 use std::alloc::Global;
 
@@ -19,6 +19,9 @@ const PLACES: u32 = 1 << 20;
 /// An odd number, so that its multiples go over all places, and jump about.
 const STRIDE: u32 = 0x9E37_79B1;
 
+/// Where the first of the backward writes ends.
+const TOP: u64 = 1 << 38;
+
 /// Where the writes lie.
 #[derive(Clone, Copy)]
 pub enum Order {
@@ -26,6 +29,10 @@ pub enum Order {
     Sequential,
     /// Each far from the last.
     Scattered,
+    /// Each before the last.
+    Backward,
+    /// All across one border of windows, with `MAX_DATA` bytes on each side.
+    Border,
 }
 
 impl Order {
@@ -36,14 +43,29 @@ impl Order {
         match self {
             Order::Sequential => u64::from(number) * 16,
             Order::Scattered => u64::from(number.wrapping_mul(STRIDE) % PLACES) * APART,
+            Order::Backward => TOP - (u64::from(number) + 1) * 16,
+            Order::Border => WINDOW - 8,
         }
     }
+}
+
+/// Writes `MAX_DATA` bytes on each side of the first border of windows.
+fn fill_sides(alloc: Global, pending: &mut Pending) -> Result<(), PendingFault> {
+    let Ok(side) = vec![in alloc; 0; MAX_DATA as usize] else {
+        return Err(PendingFault::Memory);
+    };
+    let side = Bytes::from_vec(side);
+    pending.write(INODE, WINDOW - MAX_DATA, &side)?;
+    pending.write(INODE, WINDOW, &side)
 }
 
 fn written(alloc: Global, bytes: &Bytes, order: Order, count: u32) -> Result<Pending, PendingFault>
     requires { length bytes.now ≡ 16 }
 {
     let mut pending = Pending::new(alloc, u64::MAX);
+    if let Order::Border = order {
+        fill_sides(alloc, &mut pending)?;
+    }
     for number in 0..count {
         pending.write(INODE, order.place(number), bytes)?;
     }
