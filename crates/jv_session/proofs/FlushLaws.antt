@@ -20,7 +20,8 @@ use Rattle.jv_session.specs.Flushing.{FlushesSegment, Flushed, segment_entries}
 use Rattle.jv_session.proofs.Steps.{more_steps, all_of_line-append}
 use Rattle.jv_session.proofs.FileLaws.{some_and}
 use Rattle.jv_session.proofs.SpaceLaws.{space_of-part}
-use Rattle.jv_session.proofs.PendingLaws.{first_segment-ends, end_of-without, length-without, commit-fits}
+use Rattle.jv_pending.proofs.SegmentLaws.{own_segment, first_segment-ends, end_of-without, length-without}
+use Rattle.jv_session.proofs.PendingLaws.{commit-fits}
 use Rattle.jv_session.proofs.Flushes.{MayCommit, flush_segment}
 
 pub three_notes : (xs ys zs ws : List Act) (a b c : Act) → ys ≡ xs ++ a ∷ [] → zs ≡ ys ++ b ∷ [] → ws ≡ zs ++ c ∷ [] → ws ≡ xs ++ a ∷ b ∷ c ∷ []
@@ -43,18 +44,6 @@ at_file files inode h P facts =
     let high : inode < 2 + length files = h.high in
     let there = some_at files (inode - 2) (omega (arith, low, high)) in
     and_some (slice_get files (inode - 2)) P there.0 there.1 facts
-
--- the segment that comes first is of the file itself
-head_of_file : (inode : ℕ) (ps : List PendingByte) (segment : Segment) → first_segment (pending_of inode ps) ≡ Some segment → segment.inode ≡ inode
-head_of_file inode [] segment e = absurd (let f : ◌≡◌ {A = Option Segment} None (Some segment) = e in cc)
-head_of_file inode (b ∷ bs) segment e =
-    elim (b.inode == inode) as (λ t. (b.inode == inode) ≡ t → first_segment (cond t (b ∷ pending_of inode bs) (pending_of inode bs)) ≡ Some segment → segment.inode ≡ inode) [
-      | true ↦ λ same first. sym (ap (λ (s : Segment). s.inode) (same_Some (record { inode = b.inode; from = b.position; len = run_length b.inode b.position (b ∷ pending_of inode bs) }) segment first)) ∙ (let e : b.inode ≡ inode = grind (arith, nat_tests) in e)
-      | false ↦ λ other first. head_of_file inode bs segment first
-    ] refl e
-
-pub own_segment : (inode : ℕ) (ps : List PendingByte) (segment : Segment) → first_segment (pending_of inode ps) ≡ Some segment → segment.inode ≡ inode
-own_segment = head_of_file
 
 -- one way after another
 pub reaches_more : (p : Past) (more : List Line) (q : Past) (xs ys : List Act) (line at : ℕ) (doing doing' : Doing) (m e : ScheduleValue) → (r : Reaches p more q xs line at doing m) → Reaches p more r.there ys line at doing' e → Reaches p more q (xs ++ ys) line at doing' e
@@ -121,7 +110,7 @@ flushed_more inode line at segment before mid after s m e is_file fits some firs
         files = ap (λ (v : VolumeValue). length v.files) commit.same ∙ length-set m.volume.files k (with_segment segment.from bytes file) ∙ so_far.files;
       },
       ap (λ x. grown_fits x e.volume (slice_get e.volume.files k) (end_of inode e.pending)) setting ∙ both.1,
-      subst (λ ps. length ps < length m.pending) (sym left) (length-without inode segment.from segment.len m.pending some first'),
+      subst (λ ps. length ps < length m.pending) (sym left) (length-without inode m.pending (record { inode = inode; from = segment.from; len = segment.len }) first'),
     )
 
 -- before the first segment

@@ -6,7 +6,8 @@ use Rattle.jv_session.specs.Stored.{IsFile}
 use Rattle.jv_session.specs.BuiltHere.{may_flush}
 use Rattle.jv_session.specs.Agrees.{ScheduleValue}
 use Rattle.jv_session.specs.Flushing.{Flushed}
-use Rattle.jv_session.proofs.FlushLaws.{flushed_none, flushed_more, own_segment}
+use Rattle.jv_pending.proofs.SegmentLaws.{own_segment}
+use Rattle.jv_session.proofs.FlushLaws.{flushed_none, flushed_more}
 use Rattle.jv_session.proofs.schedule.Schedule.flush.Goals as goal
 
 pub loop-at-init : goal.loop-at-init

@@ -22,7 +22,7 @@ returns-clause-ok c =
     let bytes : c.segment.result.now ≡ bytes_in_range inode from at.len s.pending =
     c.segment.ensures.bytes ∙ ap (λ i. bytes_in_range i from at.len inside.pending.bytes) c.requires.own ∙ ap (bytes_in_range inode from at.len) pending in
     let left : c.remove.new.self.bytes ≡ without_range inode from at.len s.pending =
-    ap (λ p. p.bytes) c.remove.ensures ∙ ap (λ i. without_range i from at.len inside.pending.bytes) c.requires.own ∙ ap (without_range inode from at.len) pending in
+    ap (λ p. p.bytes) c.remove.ensures.rest ∙ ap (λ i. without_range i from at.len inside.pending.bytes) c.requires.own ∙ ap (without_range inode from at.len) pending in
     let kind = ap (λ n. Commit inode n c.range_of-from.result.1 0) c.range_of-from.ensures.from ∙ ap (λ n. Commit inode from n 0) c.range_of-from.ensures.len in
     let there : IsFile (length s.volume.files) inode = c.requires.file in
     record {
