@@ -1,21 +1,22 @@
 //! The program: its words and the process's own streams and clock, handed to `jv_cmd`.
 #![tactic(auto)]
 
-use jv_cmd::{Finish, World, default_setting, fresh_rows, run};
+use jv_cmd::{Finish, World, run};
 use jv_model::{Down, Journal, Moment, Sequence};
 use jv_outside::{Fails, Keeper, MemKeeper, Reading, Sink, Ticking, Writing, write_whole};
+use jv_rows::{default_setting, fresh_rows};
 use std::alloc::Global;
 use std::process::ExitCode;
 use std::rt::Env;
 use std::{env, io};
 
-/// The exit status where the words are refused.
+/// The exit status if the words are refused.
 const WORDS_REFUSED: u8 = 2;
 
-/// The exit status where memory is wanting.
+/// The exit status if the process is out of memory.
 const OUT_OF_MEMORY: u8 = 6;
 
-/// The words after the program's name. It fails where one of them isn't text, or where memory is wanting.
+/// The words after the program's name. Fails if one of them isn't text, or if the process is out of memory.
 fn words(rt: &(impl Env + AllocGlobal)) -> io::Result<Vec<String>> {
     let mut all = env::args(rt)?;
     let _program = all.next();
@@ -31,13 +32,13 @@ fn keeper(alloc: Global) -> Result<MemKeeper, Down> {
     Ok(keeper)
 }
 
-/// Says that memory is wanting, and gives the exit status.
+/// Writes that the process is out of memory, and returns the exit status.
 fn give_up(err: &mut impl Sink) -> u8 {
     let _ = write_whole(err, b"juicevol: out of memory\n");
     OUT_OF_MEMORY
 }
 
-/// Says why there are no words, and gives the exit status.
+/// Writes why there are no words, and returns the exit status.
 fn refuse(error: &io::Error, err: &mut impl Sink) -> u8 {
     if error.kind() == io::ErrorKind::OutOfMemory {
         return give_up(err);

@@ -12,7 +12,7 @@ use Rattle.jv_cmd.specs.declared.words.request.WordsFault.{WordsFault}
 use Rattle.jv_cmd.specs.declared.words.request.WordsFault.TheVariants.{Refused, Memory}
 use Rattle.jv_cmd.specs.Program.{program_app}
 use Rattle.jv_cmd.specs.Values.{place_of}
-use Rattle.jv_cmd.specs.Words.{Answers, Parses, asked, command_at, command_in, read_by, format_in, session_in, options_in, setting_in, setting_fields_in, stored_setting_in, where_allowed, value_in, is_built_store, IsAllowedCommand}
+use Rattle.jv_cmd.specs.Words.{Answers, Parses, asked, command_at, command_in, read_by, format_in, session_in, options_in, setting_in, setting_fields_in, stored_setting_in, where_allowed, value_in, is_built_store, IsAllowedCommand, Refuses, HasFeed, SaysRefused}
 
 read_by_a_fault : (kinds : Kinds) (stop : Option (Text × List Row)) → kinds ≢ [] → read_by kinds stop ≡ None
 read_by_a_fault [] stop h = absurd (h refl)
@@ -21,7 +21,7 @@ read_by_a_fault (k ∷ ks) stop h = refl
 -- words that `clap` refuses ask for nothing
 pub refused_words : (words : List Text) (fault : WordsFault) → Parses words (Err fault) → Answers (asked words) (Err fault)
 unfolding asked
-refused_words words (Refused text) h = read_by_a_fault (fault_of program_app words) (subcommand_of program_app words) h
+refused_words words (Refused text) h = read_by_a_fault (fault_of program_app words) (subcommand_of program_app words) h.0
 refused_words words Memory h = tt
 
 -- the others ask for what is read of the subcommand
@@ -33,6 +33,20 @@ asked_of words matches h = ap (λ kinds. read_by kinds (subcommand_of program_ap
 pub off_words : (words : List Text) (fault : WordsFault) → asked words ≡ None → Answers (asked words) (Err fault)
 off_words words (Refused text) e = e
 off_words words Memory e = tt
+
+-- what is said of words that `clap` refuses
+pub Refuses-parsed : (words : List Text) (fault : WordsFault) → Parses words (Err fault) → Refuses words fault
+Refuses-parsed words (Refused text) h = record { own = λ none. absurd (h.0 none); ends = h.1 }
+Refuses-parsed words Memory h = tt
+
+-- the program's own text
+pub feed_of_own : (fault : WordsFault) → SaysRefused fault → HasFeed fault
+feed_of_own (Refused text) h = record { line = codes "juicevol: words refused"; is = h }
+feed_of_own Memory h = tt
+
+pub Refuses-own : (words : List Text) (fault : WordsFault) → SaysRefused fault → Refuses words fault
+Refuses-own words (Refused text) h = record { own = λ none. h; ends = feed_of_own (Refused text) h }
+Refuses-own words Memory h = tt
 
 -- what is asked for is allowed
 

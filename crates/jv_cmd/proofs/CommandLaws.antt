@@ -1,59 +1,90 @@
--- What a command's run comes to, by the function that ran it.
-use Rattle.std.proofs.Common.{◌≡◌, ℕ, List, Option, None, Some, refl, sym, ap, subst}
+-- What the top call comes to, by the function that ran the command.
+use Rattle.std.proofs.Common.{◌≡◌, ℕ, List, Option, None, Some, refl, sym, subst}
+use Rattle.clap.specs.Words.{Text}
+use Rattle.jv_model.specs.declared.setting.Setting.{Setting}
+use Rattle.jv_outside.specs.Store.{Store}
+use Rattle.jv_outside.specs.Stream.{Stream}
 use Rattle.jv_cmd.specs.declared.ended.Ended.{Ended}
 use Rattle.jv_cmd.specs.declared.ended.Ended.TheVariants.{Whole, OffLine, NoVolume, VolumeExists, NewerVersion, SettingOff, SourceFailed, OutFailed, ClockFailed, KeeperFailed, OutOfMemory}
 use Rattle.jv_cmd.specs.declared.words.request.Command.{Command}
 use Rattle.jv_cmd.specs.declared.words.request.Command.TheVariants.{Format, Session}
 use Rattle.jv_cmd.specs.declared.words.request.SessionOptions.{SessionOptions}
+use Rattle.jv_cmd.specs.Commands.{RunsCommand, RunsSession, NotOpened, Refused, NoMemory, RunsAsked}
 use Rattle.jv_cmd.specs.Ends.{status_of, message_of}
-use Rattle.jv_cmd.specs.Saying.{Shown, Says}
-use Rattle.jv_cmd.specs.Commands.{Outside, Runs, RunsSession, NotOpened, Opened, LeavesLines, Refused, NoMemory, RunsWords}
+use Rattle.jv_cmd.specs.Faults.{CountsFaults, UsesKeeper, Unopened, OpenedThere}
+use Rattle.jv_cmd.specs.Formatting.{Formats}
+use Rattle.jv_cmd.specs.Run.{FreshVolume, RunsLines}
+use Rattle.jv_cmd.specs.Saying.{Says}
+use Rattle.jv_cmd.specs.Words.{IsRefusal}
+use Rattle.jv_cmd.specs.Worlds.{WorldValue}
 
-pub Runs-session : (command : Command) (place : List ℕ) (options : SessionOptions) (before after : Outside) (ended : Ended) → command ≡ Session place options → RunsSession before after ended → after.rows ≡ before.rows
-    → Runs command before after ended
-Runs-session command place options before after ended is runs rows = subst (λ (c : Command). Runs c before after ended) (sym is) (runs, rows)
+pub RunsCommand-session : (command : Command) (place : List ℕ) (options : SessionOptions) (before after : WorldValue) (ended : Ended) → command ≡ Session place options → RunsSession before after ended
+    → CountsFaults ended before after → UsesKeeper ended place before.keeper after.keeper → RunsCommand command before after ended
+RunsCommand-session command place options before after ended is runs faults keeper =
+    subst (λ (c : Command). RunsCommand c before after ended) (sym is) (record { does = runs; faults = faults; keeper = keeper })
 
--- whatever is on standard error
-Runs-shown : (command : Command) (before after : Outside) (ended : Ended) (shown : Shown) → Runs command before after ended → Runs command before (record after { shown = shown }) ended
-Runs-shown (Format place setting) before after Whole shown h = h
-Runs-shown (Format place setting) before after (OffLine number) shown h = h
-Runs-shown (Format place setting) before after NoVolume shown h = h
-Runs-shown (Format place setting) before after VolumeExists shown h = h
-Runs-shown (Format place setting) before after (NewerVersion version) shown h = h
-Runs-shown (Format place setting) before after SettingOff shown h = h
-Runs-shown (Format place setting) before after SourceFailed shown h = h
-Runs-shown (Format place setting) before after OutFailed shown h = h
-Runs-shown (Format place setting) before after ClockFailed shown h = h
-Runs-shown (Format place setting) before after KeeperFailed shown h = h
-Runs-shown (Format place setting) before after OutOfMemory shown h = h
-Runs-shown (Session place options) before after ended shown (NotOpened cannot leaves, rows) = (NotOpened cannot (record { source = leaves.source; lines = leaves.lines }), rows)
-Runs-shown (Session place options) before after ended shown (Opened setting known runs, rows) = (Opened setting known runs, rows)
+pub RunsCommand-format : (command : Command) (place : List ℕ) (setting : Setting) (before after : WorldValue) (ended : Ended) → command ≡ Format place setting → Formats setting before after ended
+    → CountsFaults ended before after → UsesKeeper ended place before.keeper after.keeper → RunsCommand command before after ended
+RunsCommand-format command place setting before after ended is formats faults keeper =
+    subst (λ (c : Command). RunsCommand c before after ended) (sym is) (record { does = formats; faults = faults; keeper = keeper })
 
 -- the words were a command
-pub RunsWords-ran : (asked : Option Command) (command : Command) (before before' after : Outside) (ended : Ended) (shown : Shown) (status : ℕ) → before ≡ before' → asked ≡ Some command → Runs command before after ended
-    → status ≡ status_of ended → Says before.shown shown (message_of ended) → RunsWords asked before' (record after { shown = shown }) status
-RunsWords-ran asked command before before' after ended shown status same is runs result says =
-    subst (λ b. RunsWords asked b (record after { shown = shown }) status) same
-    (subst (λ o. RunsWords o before (record after { shown = shown }) status) (sym is) (record { ended = ended; runs = Runs-shown command before after ended shown runs; result = result; says = says }))
+pub RunsAsked-ran : (words : List Text) (asked : Option Command) (command : Command) (before after : WorldValue) (err : Stream) (ended : Ended) (status : ℕ) → asked ≡ Some command → RunsCommand command before after ended
+    → after.err ≡ before.err → status ≡ status_of ended → Says after.err err (message_of ended) → RunsAsked words asked before (record after { err = err }) status
+RunsAsked-ran words asked command before after err ended status is runs same result says =
+    subst (λ o. RunsAsked words o before (record after { err = err }) status) (sym is) (record {
+      ended = ended;
+      runs = subst (λ e. RunsCommand command before (record after { err = e }) ended) same runs;
+      result = result;
+      says = subst (λ e. Says e err (message_of ended)) same says;
+    })
 
 -- they were none
-pub RunsWords-refused : (asked : Option Command) (before after : Outside) (text : List ℕ) → asked ≡ None → LeavesLines before after → after.rows ≡ before.rows → Says before.shown after.shown text
-    → RunsWords asked before after 2
-RunsWords-refused asked before after text none leaves rows shown =
-    subst (λ o. RunsWords o before after 2) (sym none) (record { refuses = Refused text refl shown; leaves = leaves; rows = rows })
+pub RunsAsked-refused : (words : List Text) (asked : Option Command) (before : WorldValue) (err : Stream) (text : List ℕ) → asked ≡ None → IsRefusal words text → Says before.err err text
+    → RunsAsked words asked before (record before { err = err }) 2
+RunsAsked-refused words asked before err text none refusal says =
+    subst (λ o. RunsAsked words o before (record before { err = err }) 2) (sym none) (record { refuses = Refused text refusal refl says; others = refl })
 
 -- there was no memory to read them
-unread : (asked : Option Command) (before after : Outside) → LeavesLines before after → after.rows ≡ before.rows → Says before.shown after.shown (message_of OutOfMemory)
-    → RunsWords asked before after (status_of OutOfMemory)
-unread None before after leaves rows shown = record { refuses = NoMemory refl shown; leaves = leaves; rows = rows }
-unread (Some (Format place setting)) before after leaves rows shown = record {
+unread : (words : List Text) (asked : Option Command) (before : WorldValue) (err : Stream) → Says before.err err (message_of OutOfMemory)
+    → RunsAsked words asked before (record before { err = err }) (status_of OutOfMemory)
+unread words None before err says = record { refuses = NoMemory refl says; others = refl }
+unread words (Some (Format place setting)) before err says = record {
   ended = OutOfMemory;
-  runs = ((tt, rows, ap (λ lines. lines.taken) leaves.lines), leaves.source, ap (λ lines. lines.journal) leaves.lines);
+  runs = record {
+    does = record { ends = (tt, refl, refl); source = refl; journal = refl };
+    faults = record { source = refl; out = refl; clock = refl };
+    keeper = record { opened = Unopened refl; faults = refl };
+  };
   result = refl;
-  says = shown;
+  says = says;
 }
-unread (Some (Session place options)) before after leaves rows shown = record { ended = OutOfMemory; runs = (NotOpened tt leaves, rows); result = refl; says = shown }
+unread words (Some (Session place options)) before err says = record {
+  ended = OutOfMemory;
+  runs = record {
+    does = record { ends = NotOpened tt (record { source = refl; out = refl; clock = refl; journal = refl }); rows = refl };
+    faults = record { source = refl; out = refl; clock = refl };
+    keeper = record { opened = Unopened refl; faults = refl };
+  };
+  result = refl;
+  says = says;
+}
 
-pub RunsWords-unread : (asked : Option Command) (before after : Outside) (status : ℕ) → LeavesLines before after → after.rows ≡ before.rows → Says before.shown after.shown (message_of OutOfMemory) → status ≡ status_of OutOfMemory
-    → RunsWords asked before after status
-RunsWords-unread asked before after status leaves rows shown result = subst (λ n. RunsWords asked before after n) (sym result) (unread asked before after leaves rows shown)
+pub RunsAsked-unread : (words : List Text) (asked : Option Command) (before : WorldValue) (err : Stream) (status : ℕ) → Says before.err err (message_of OutOfMemory) → status ≡ status_of OutOfMemory
+    → RunsAsked words asked before (record before { err = err }) status
+RunsAsked-unread words asked before err status says result = subst (λ n. RunsAsked words asked before (record before { err = err }) n) (sym result) (unread words asked before err says)
+
+-- lines don't use the keeper once it is opened
+pub UsesKeeper-lines : (v : FreshVolume) (before after : WorldValue) (ended : Ended) (place : List ℕ) (old new : Store) → RunsLines v before after ended
+    → new.opened ≡ Some place → new.faults ≡ old.faults → UsesKeeper ended place old new
+UsesKeeper-lines v before after Whole place old new runs opened faults = record { opened = opened; faults = faults }
+UsesKeeper-lines v before after (OffLine number) place old new runs opened faults = record { opened = opened; faults = faults }
+UsesKeeper-lines v before after NoVolume place old new runs opened faults = absurd runs.cause
+UsesKeeper-lines v before after VolumeExists place old new runs opened faults = absurd runs.cause
+UsesKeeper-lines v before after (NewerVersion version) place old new runs opened faults = absurd runs.cause
+UsesKeeper-lines v before after SettingOff place old new runs opened faults = absurd runs.cause
+UsesKeeper-lines v before after SourceFailed place old new runs opened faults = record { opened = opened; faults = faults }
+UsesKeeper-lines v before after OutFailed place old new runs opened faults = record { opened = opened; faults = faults }
+UsesKeeper-lines v before after ClockFailed place old new runs opened faults = record { opened = opened; faults = faults }
+UsesKeeper-lines v before after KeeperFailed place old new runs opened faults = absurd runs.cause
+UsesKeeper-lines v before after OutOfMemory place old new runs opened faults = record { opened = OpenedThere opened; faults = faults }

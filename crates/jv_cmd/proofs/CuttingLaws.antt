@@ -5,7 +5,8 @@ use Rattle.std.proofs.lemmas.List.{append_assoc, append-nil, take_all, drop_all,
 use Rattle.std.specs.List.{position}
 use Rattle.std.specs.Io.KnownBytes.{prepend_known, Keeps, IsAtEnd}
 use Rattle.jv_cmd.specs.declared.reader.Next.TheVariants.{Text, TooLong, End}
-use Rattle.jv_cmd.specs.Texts.{is_feed, has_feed, texts_of, longest_text}
+use Rattle.jv_model.specs.declared.limits.TheConstants.{MAX_LINE}
+use Rattle.jv_cmd.specs.Texts.{is_feed, has_feed, texts_of}
 use Rattle.jv_cmd.specs.Cutting.{Fills, BeginsWith, CutsText, IsOverlong, Finds}
 use Rattle.jv_cmd.proofs.TextLaws.{texts_of-feed, texts_of-last, texts_of-long, around_feed}
 
@@ -28,34 +29,34 @@ cut_at xs held ys k e at =
     sym e ∙ ap (λ bs. bs ++ ys) around.2 ∙ append_assoc (take k held) (10 ∷ drop (k + 1) held) ys in
     ap texts_of whole ∙ texts_of-feed (take k held) (drop (k + 1) held ++ ys) around.1
 
-cuts : (start left : Option (List ℕ)) (held : List ℕ) (k : ℕ) → Keeps start (prepend_known held left) → position is_feed held ≡ Some k → k ≤ longest_text → CutsText start left held k
-cuts None left held k keeps at short = record { within = omega (arith, (around_feed held k at).0); short = short; told = tt }
+cuts : (start left : Option (List ℕ)) (held : List ℕ) (k : ℕ) → Keeps start (prepend_known held left) → position is_feed held ≡ Some k → k ≤ MAX_LINE → CutsText start left held k
+cuts None left held k keeps at short = record { within = omega (arith, (around_feed held k at).0); short = short; known = tt }
 cuts (Some xs) None held k keeps at short = absurd keeps
-cuts (Some xs) (Some ys) held k keeps at short = record { within = omega (arith, (around_feed held k at).0); short = short; told = cut_at xs held ys k keeps at }
+cuts (Some xs) (Some ys) held k keeps at short = record { within = omega (arith, (around_feed held k at).0); short = short; known = cut_at xs held ys k keeps at }
 
 passes : (start left : Option (List ℕ)) (held : List ℕ) (k : ℕ) → Keeps start (prepend_known held left) → position is_feed held ≡ Some k → BeginsWith start (take k held)
-passes None left held k keeps at = record { told = tt }
+passes None left held k keeps at = record { known = tt }
 passes (Some xs) None held k keeps at = absurd keeps
-passes (Some xs) (Some ys) held k keeps at = record { told = (texts_of (drop (k + 1) held ++ ys), cut_at xs held ys k keeps at) }
+passes (Some xs) (Some ys) held k keeps at = record { known = (texts_of (drop (k + 1) held ++ ys), cut_at xs held ys k keeps at) }
 
 -- a line feed is held
-pub Finds-feed : (start left : Option (List ℕ)) (held : List ℕ) (k : ℕ) → Keeps start (prepend_known held left) → position is_feed held ≡ Some k → Finds start left held (Ok (cond (leb k longest_text) (Text k) TooLong))
-Finds-feed start left held k keeps at = elim (cases_Bool (leb k longest_text)) [
-  | inl e ↦ subst (λ b. Finds start left held (Ok (cond b (Text k) TooLong))) (sym e) (cuts start left held k keeps at (leb-true k longest_text e))
+pub Finds-feed : (start left : Option (List ℕ)) (held : List ℕ) (k : ℕ) → Keeps start (prepend_known held left) → position is_feed held ≡ Some k → Finds start left held (Ok (cond (leb k MAX_LINE) (Text k) TooLong))
+Finds-feed start left held k keeps at = elim (cases_Bool (leb k MAX_LINE)) [
+  | inl e ↦ subst (λ b. Finds start left held (Ok (cond b (Text k) TooLong))) (sym e) (cuts start left held k keeps at (leb-true k MAX_LINE e))
   | inr e ↦
-      let far = leb-false k longest_text e in
-      let size : longest_text < length (take k held) = omega (arith, far, length-take k held, (around_feed held k at).0) in
+      let far = leb-false k MAX_LINE e in
+      let size : MAX_LINE < length (take k held) = omega (arith, far, length-take k held, (around_feed held k at).0) in
       let long : IsOverlong start = record { next = take k held; long = size; begins = passes start left held k keeps at } in
       subst (λ b. Finds start left held (Ok (cond b (Text k) TooLong))) (sym e) long
 ]
 
 -- no line feed is held, and more bytes than a text may have
-pub IsOverlong-held : (start left : Option (List ℕ)) (held : List ℕ) → Keeps start (prepend_known held left) → has_feed held ≡ false → longest_text < length held → IsOverlong start
-IsOverlong-held None left held keeps none long = record { next = held; long = long; begins = record { told = tt } }
+pub IsOverlong-held : (start left : Option (List ℕ)) (held : List ℕ) → Keeps start (prepend_known held left) → has_feed held ≡ false → MAX_LINE < length held → IsOverlong start
+IsOverlong-held None left held keeps none long = record { next = held; long = long; begins = record { known = tt } }
 IsOverlong-held (Some xs) None held keeps none long = absurd keeps
 IsOverlong-held (Some xs) (Some ys) held keeps none long =
     let first = texts_of-long held ys none (omega (arith, long)) in
-    record { next = first.0; long = omega (arith, long, first.2); begins = record { told = (first.1, ap texts_of (sym keeps) ∙ first.3) } }
+    record { next = first.0; long = omega (arith, long, first.2); begins = record { known = (first.1, ap texts_of (sym keeps) ∙ first.3) } }
 
 nothing_more : (left left' : Option (List ℕ)) (held new : List ℕ) → Fills left left' held new 0 → new ≡ held
 nothing_more left left' held new f = f.held ∙ ap (λ bs. held ++ bs) (nil_from_length f.bytes f.size) ∙ append-nil held
@@ -65,8 +66,8 @@ none_last None left' new keeps at_end e = tt
 none_last (Some xs) None new keeps at_end e = absurd keeps
 none_last (Some xs) (Some zs) new keeps at_end e = ap texts_of (sym keeps ∙ ap (λ bs. bs ++ zs) e ∙ at_end)
 
-one_last : (start left' : Option (List ℕ)) (new : List ℕ) (seen : ℕ) → Keeps start (prepend_known new left') → IsAtEnd left' → has_feed new ≡ false → seen ≡ length new → 0 < seen → seen ≤ longest_text → CutsText start left' new seen
-one_last None left' new seen keeps at_end none size some short = record { within = omega (arith, size); short = short; told = tt }
+one_last : (start left' : Option (List ℕ)) (new : List ℕ) (seen : ℕ) → Keeps start (prepend_known new left') → IsAtEnd left' → has_feed new ≡ false → seen ≡ length new → 0 < seen → seen ≤ MAX_LINE → CutsText start left' new seen
+one_last None left' new seen keeps at_end none size some short = record { within = omega (arith, size); short = short; known = tt }
 one_last (Some xs) None new seen keeps at_end none size some short = absurd keeps
 one_last (Some xs) (Some zs) new seen keeps at_end none size some short =
     let only : xs ≡ new = sym keeps ∙ ap (λ bs. new ++ bs) at_end ∙ append-nil new in
@@ -74,11 +75,11 @@ one_last (Some xs) (Some zs) new seen keeps at_end none size some short =
     record {
       within = omega (arith, size);
       short = short;
-      told = ap texts_of only ∙ texts_of-last new none (omega (arith, size)) ∙ ap (λ text. text ∷ []) (sym (take_all seen new (omega (arith, size)))) ∙ ap (λ texts. take seen new ∷ texts) (sym none_left);
+      known = ap texts_of only ∙ texts_of-last new none (omega (arith, size)) ∙ ap (λ text. text ∷ []) (sym (take_all seen new (omega (arith, size)))) ∙ ap (λ texts. take seen new ∷ texts) (sym none_left);
     }
 
 -- the source is at its end, and no line feed is held
-pub Finds-last : (start left left' : Option (List ℕ)) (held new : List ℕ) (seen : ℕ) → Keeps start (prepend_known held left) → Fills left left' held new 0 → has_feed held ≡ false → seen ≡ length held → seen ≤ longest_text → Finds start left' new (Ok (cond (eqb seen 0) End (Text seen)))
+pub Finds-last : (start left left' : Option (List ℕ)) (held new : List ℕ) (seen : ℕ) → Keeps start (prepend_known held left) → Fills left left' held new 0 → has_feed held ≡ false → seen ≡ length held → seen ≤ MAX_LINE → Finds start left' new (Ok (cond (eqb seen 0) End (Text seen)))
 Finds-last start left left' held new seen keeps f none size short =
     let kept = Keeps-filled start left left' held new 0 keeps f in
     let same = nothing_more left left' held new f in

@@ -32,8 +32,8 @@ IsClient-fresh v = record {
   pending = refl;
 }
 
-pub Stands-start : (v : FreshVolume) (told : Option (ℕ → ℕ)) (lines : List Line) (status : ℕ) → Stands (at_start (session_run v told lines status)) (fresh_schedule v.setting session_limits)
-Stands-start v told lines status = record {
+pub Stands-start : (v : FreshVolume) (known : Option (ℕ → ℕ)) (lines : List Line) (status : ℕ) → Stands (at_start (session_run v known lines status)) (fresh_schedule v.setting session_limits)
+Stands-start v known lines status = record {
   complete = refl;
   due = refl;
   at = refl;

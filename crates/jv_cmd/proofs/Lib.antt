@@ -2,7 +2,6 @@
 pub mod TextLaws
 pub mod Buffers
 pub mod CuttingLaws
-pub mod ToldFronts
 pub mod StepLaws
 pub mod FreshLaws
 pub mod ActLaws

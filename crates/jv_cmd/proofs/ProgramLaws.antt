@@ -9,7 +9,7 @@ use Rattle.clap.proofs.OnLiterals.{clap_on_literals}
 use Rattle.jv_cmd.specs.declared.words.request.WordsFault.{WordsFault}
 use Rattle.jv_cmd.specs.declared.words.request.WordsFault.TheVariants.{Refused, Memory}
 use Rattle.jv_cmd.specs.Program.{program_app}
-use Rattle.jv_cmd.specs.Words.{Parses}
+use Rattle.jv_cmd.specs.Words.{Parses, HasFeed}
 
 pub program_is_free : is_simple_and_free program_app ≡ true
 unfolding clap_on_literals program_app
@@ -26,9 +26,12 @@ parsed app words m e kinds matches = (
 )
 
 -- words that were refused for another cause than memory
-pub refused : (app : App) (words : List Text) (error : Error) (fault : WordsFault) → app ≡ program_app → (is_simple_and_free app ≡ true → HasKind (fault_of app words) error) → (kind_of error ≡ OutOfMemory → fault ≡ Memory) → Parses words (Err fault)
-refused app words error Memory e kinds told = tt
-refused app words error (Refused text) e kinds told = λ none. elim (kinds (ap is_simple_and_free e ∙ program_is_free)) [
-  | inl memory ↦ let bad = told memory in cc
-  | inr among ↦ subst (IsAmong (kind_of error)) (ap (λ a. fault_of a words) e ∙ none) among
-]
+pub refused : (app : App) (words : List Text) (error : Error) (fault : WordsFault) → app ≡ program_app → (is_simple_and_free app ≡ true → HasKind (fault_of app words) error) → (kind_of error ≡ OutOfMemory → fault ≡ Memory) → HasFeed fault → Parses words (Err fault)
+refused app words error Memory e kinds told feed = tt
+refused app words error (Refused text) e kinds told feed = (
+  λ none. elim (kinds (ap is_simple_and_free e ∙ program_is_free)) [
+    | inl memory ↦ let bad = told memory in cc
+    | inr among ↦ subst (IsAmong (kind_of error)) (ap (λ a. fault_of a words) e ∙ none) among
+  ],
+  feed,
+)

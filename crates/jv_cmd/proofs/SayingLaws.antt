@@ -1,45 +1,61 @@
 -- What was said, by one write after another.
-use Rattle.std.proofs.Common.{◌≡◌, ℕ, ◌≤◌, List, ◌++◌, Result, Ok, Err, OnOk, OnErr, IsErr, sym, subst}
+use Rattle.std.proofs.Common.{◌≡◌, ℕ, ◌+◌, ◌<◌, ◌≤◌, List, ◌++◌, length, take, drop, Result, Ok, Err, IsErr, sym, ap, subst, ◌∙◌, arith, length-append, refl}
 use Rattle.std.proofs.lemmas.Bool.{false≢true}
+use Rattle.std.proofs.lemmas.List.{take_at, drop_at, take-append-le}
+use Rattle.std.proofs.Math.Seq.{take-add}
 use Rattle.jv_model.specs.declared.fault.Down.{Down}
-use Rattle.jv_outside.specs.Causes.{HasCause}
-use Rattle.jv_outside.specs.Told.{Gains, GainsFront}
-use Rattle.jv_outside.proofs.ToldLemmas.{Gains-trans}
-use Rattle.jv_cmd.specs.Saying.{Shown, Says, SaysBy, IsCut, Said, Cut}
+use Rattle.jv_outside.specs.Stream.{Stream, Gains, HasAll, IsCut, WritesAll}
+use Rattle.jv_outside.proofs.StreamLaws.{Gains-trans}
+use Rattle.jv_cmd.specs.Saying.{Says, Said, Cut}
 use Rattle.jv_cmd.specs.declared.ended.Ended.{Ended}
 use Rattle.jv_cmd.specs.Ends.{message_of}
-use Rattle.jv_cmd.proofs.GoingLaws.{Rose-earlier}
-use Rattle.jv_cmd.proofs.ToldFronts.{GainsFront-after, GainsFront-more}
+use Rattle.jv_cmd.proofs.GoingLaws.{Rose-since}
 
--- whichever it was
-pub Says-by : {E : Type 0} (result : Result (Unit {0}) E) (before after : Shown) (text : List ℕ) → SaysBy result before after text → Says before after text
-Says-by (Ok unit) before after text said = Said said
-Says-by (Err fault) before after text cut = Cut cut
+-- whether a call failed or not
+pub Says-written : (result : Result (Unit {0}) Down) (before after : Stream) (text : List ℕ) → WritesAll before after result text → Says before after text
+Says-written (Ok unit) before after text all = Said all
+Says-written (Err down) before after text cut = Cut cut
 
--- one write
-pub SaysBy-written : (result : Result (Unit {0}) Down) (before after : Shown) (text : List ℕ) → OnOk result (Gains before.bytes after.bytes text) → OnErr result (GainsFront before.bytes after.bytes text)
-    → HasCause before.faults after.faults result → SaysBy result before after text
-SaysBy-written (Ok unit) before after text ok err cause = ok
-SaysBy-written (Err fault) before after text ok err cause = (err, cause.rose)
+pub HasAll-after : (before between after : Stream) (first second : List ℕ) → HasAll before between first → HasAll between after second → HasAll before after (first ++ second)
+HasAll-after before between after first second p q = record {
+  gains = Gains-trans before.content between.content after.content first second p.gains q.gains;
+  calm = q.calm ∙ p.calm;
+}
 
--- a front after a whole
-pub Cut-after : (before between after : Shown) (first second : List ℕ) → Gains before.bytes between.bytes first → before.faults ≤ between.faults → IsCut between after second → IsCut before after (first ++ second)
-Cut-after before between after first second gains later cut = (GainsFront-after before.bytes between.bytes after.bytes first second gains cut.0, Rose-earlier before.faults between.faults after.faults later cut.1)
+take_behind : (first second : List ℕ) (count : ℕ) → first ++ take count second ≡ take (length first + count) (first ++ second)
+take_behind first second count =
+    sym (take-add (length first) count (first ++ second)
+    ∙ ap (λ front. front ++ take count (drop (length first) (first ++ second))) (take_at first second (length first) refl)
+    ∙ ap (λ rest. first ++ take count rest) (drop_at first second (length first) refl))
+
+-- a proper prefix after a whole
+pub IsCut-after : (before between after : Stream) (first second : List ℕ) → HasAll before between first → IsCut between after second → IsCut before after (first ++ second)
+IsCut-after before between after first second p q = record {
+  count = length first + q.count;
+  proper = omega (arith, q.proper, length-append first second);
+  gains = subst (λ bytes. Gains before.content after.content bytes) (take_behind first second q.count)
+      (Gains-trans before.content between.content after.content first (take q.count second) p.gains q.gains);
+  rose = Rose-since before.faults between.faults after.faults p.calm q.rose;
+}
+
+-- a proper prefix of the first text is one of both
+pub IsCut-more : (before after : Stream) (first second : List ℕ) → IsCut before after first → IsCut before after (first ++ second)
+IsCut-more before after first second q = record {
+  count = q.count;
+  proper = omega (arith, q.proper, length-append first second);
+  gains = subst (λ bytes. Gains before.content after.content bytes) (sym (take-append-le q.count first second (omega (arith, q.proper)))) q.gains;
+  rose = q.rose;
+}
 
 -- a write after another
-pub SaysBy-after : {E : Type 0} (result : Result (Unit {0}) E) (before between after : Shown) (first second : List ℕ) → Gains before.bytes between.bytes first → before.faults ≤ between.faults
-    → SaysBy result between after second → SaysBy result before after (first ++ second)
-SaysBy-after (Ok unit) before between after first second gains later said = Gains-trans before.bytes between.bytes after.bytes first second gains said
-SaysBy-after (Err fault) before between after first second gains later cut = Cut-after before between after first second gains later cut
+pub WritesAll-after : (result : Result (Unit {0}) Down) (before between after : Stream) (first second : List ℕ) → HasAll before between first → WritesAll between after result second → WritesAll before after result (first ++ second)
+WritesAll-after (Ok unit) before between after first second p all = HasAll-after before between after first second p all
+WritesAll-after (Err down) before between after first second p cut = IsCut-after before between after first second p cut
 
 -- a write that failed
-pub SaysBy-cut : {E : Type 0} (result : Result (Unit {0}) E) (before after : Shown) (text : List ℕ) → IsErr result → IsCut before after text → SaysBy result before after text
-SaysBy-cut (Ok unit) before after text refused cut = absurd (false≢true refused)
-SaysBy-cut (Err fault) before after text refused cut = cut
+pub WritesAll-cut : (result : Result (Unit {0}) Down) (before after : Stream) (text : List ℕ) → IsErr result → IsCut before after text → WritesAll before after result text
+WritesAll-cut (Ok unit) before after text refused cut = absurd (false≢true refused)
+WritesAll-cut (Err down) before after text refused cut = cut
 
--- a front of the first text is one of both
-pub Cut-more : (before after : Shown) (first second : List ℕ) → IsCut before after first → IsCut before after (first ++ second)
-Cut-more before after first second cut = (GainsFront-more before.bytes after.bytes first second cut.0, cut.1)
-
-pub Says-ended : {ended this : Ended} {before after : Shown} → ended ≡ this → Says before after (message_of this) → Says before after (message_of ended)
+pub Says-ended : {ended this : Ended} {before after : Stream} → ended ≡ this → Says before after (message_of this) → Says before after (message_of ended)
 Says-ended {ended} {this} {before} {after} same says = subst (λ (e : Ended). Says before after (message_of e)) (sym same) says

@@ -8,11 +8,12 @@ use Rattle.jv_model.specs.declared.op.Line.TheVariants.{Empty}
 use Rattle.jv_model.specs.run.Legal.{Legal, AllAllowed, may_be_cut, may_stop}
 use Rattle.jv_model.specs.run.Past.{Past, Setup, is_no_more, at_start, begun, turned, begin_from, begin_next, begun_by, begun_to, past, reached, at_end, text_of}
 use Rattle.jv_model.proofs.PastLaws.{begun_to-twice, begun_to-next, past-append, AllAllowed-append, past-begun_to, AllAllowed-begun_to}
-use Rattle.jv_outside.specs.Told.{Passes}
-use Rattle.jv_outside.proofs.ToldLemmas.{Passes-zero}
+use Rattle.jv_outside.specs.Ticks.{Ticks, Passes}
+use Rattle.jv_outside.proofs.TicksLaws.{Passes-zero}
 use Rattle.jv_session.specs.Agrees.{ScheduleValue, Agrees, Stands}
-use Rattle.jv_session.specs.Lines.{LeavesAll, RunsLine}
+use Rattle.jv_session.specs.Lines.{LineState, line_state, LeavesAll, SaysLine}
 use Rattle.jv_cmd.specs.Steps.{IsAt, Reaches, Goes, Advances}
+use Rattle.jv_cmd.specs.Worlds.{WorldValue}
 
 -- a past that comes to a line wasn't past it
 pub low : (n : ℕ) (p : Past) → (begun_to n p).line ≡ n → p.line ≤ n
@@ -62,13 +63,13 @@ Reaches-more run line more n asked asks text printed journal journal' s s' r g =
     }
 
 -- a line that was run
-pub Advances-said : (told told' : Option (ℕ → ℕ)) (line : Line) (number : ℕ) (before after : List Act) (s s' : ScheduleValue) (text : List ℕ)
-    → RunsLine told told' line number before after s s' text → Passes told told' 1 → Advances line number told told' before after s s' text
-Advances-said told told' line number before after s s' text runs passes = record {
+pub Advances-said : (line : Line) (number : ℕ) (before after : WorldValue) (s s' : ScheduleValue) (text : List ℕ)
+    → SaysLine line number (line_state before.clock before.journal s) (line_state after.clock after.journal s') text → Advances line number before after s s' text
+Advances-said line number before after s s' text says = record {
   asks = 1;
-  passes = passes;
+  passes = says.passes;
   goes = λ p more stands next rest count clock.
-      let ran = runs p more stands next rest count clock in
+      let ran = says.runs p more stands next rest count clock in
       record {
         acts = ran.acts;
         grows = ran.grows;
@@ -109,19 +110,19 @@ next_is : (p : Past) (more : List Line) → p.rest ≡ Empty ∷ more → begin_
 unfolding begin_next
 next_is p more e = ap (λ rest. begin_from rest p) e
 
-pub Advances-quiet : (told told' : Option (ℕ → ℕ)) (line : Line) (number : ℕ) (before after : List Act) (s s' : ScheduleValue)
-    → line ≡ Empty → LeavesAll before after s s' → told' ≡ told → Advances line number told told' before after s s' []
-Advances-quiet told told' line number before after s s' empty leaves same = record {
+pub Advances-quiet : (line : Line) (number : ℕ) (before after : WorldValue) (s s' : ScheduleValue)
+    → line ≡ Empty → LeavesAll (line_state before.clock before.journal s) (line_state after.clock after.journal s') → Advances line number before after s s' []
+Advances-quiet line number before after s s' empty leaves = record {
   asks = 0;
-  passes = subst (λ later. Passes told later 0) (sym same) (Passes-zero told);
+  passes = subst (λ (later : Ticks). Passes before.clock.answers later.answers 0) (sym leaves.clock) (Passes-zero before.clock.answers);
   goes = λ p more stands next rest count clock.
       let is : begun (turned p more) Empty ≡ begun_to number p =
       sym (begun_to-next number p next ∙ next_is p more (rest ∙ ap (λ (l : Line). l ∷ more) empty)) in
       record {
         acts = [];
-        grows = leaves.journal ∙ sym (append-nil before);
+        grows = leaves.journal ∙ sym (append-nil before.journal);
         allowed = tt;
-        at = subst (λ q. IsAt q p.run more number (p.asked + 0) (length after) (p.printed ++ p.said ++ []) s') is (record {
+        at = subst (λ q. IsAt q p.run more number (p.asked + 0) (length after.journal) (p.printed ++ p.said ++ []) s') is (record {
           line = next;
           stands = subst (λ v. Stands (begun (turned p more) Empty) v) (sym leaves.schedule) (Stands-turned p more s stands);
           same_run = refl;

@@ -1,74 +1,74 @@
--- What the top call comes to, by the command that it was asked for.
+-- What the top call does, by the words that it was given.
 use Rattle.std.specs.Prelude.{◌≡◌, ℕ, List, Option, None, Some}
+use Rattle.clap.specs.Words.{Text}
 use Rattle.jv_model.specs.declared.setting.Setting.{Setting}
-use Rattle.jv_model.specs.rows.RowKeys.{RowMap}
-use Rattle.jv_outside.specs.Causes.{Rose}
-use Rattle.jv_outside.specs.Told.{Gains, GainsFront}
 use Rattle.jv_cmd.specs.declared.ended.Ended.{Ended}
-use Rattle.jv_cmd.specs.declared.ended.Ended.TheVariants.{Whole, OutFailed, OutOfMemory}
+use Rattle.jv_cmd.specs.declared.ended.Ended.TheVariants.{OutOfMemory}
 use Rattle.jv_cmd.specs.declared.words.request.Command.{Command}
 use Rattle.jv_cmd.specs.declared.words.request.Command.TheVariants.{Format, Session}
 use Rattle.jv_cmd.specs.Ends.{status_of, message_of}
-use Rattle.jv_cmd.specs.Fresh.{formatted_text, PutsRows, CannotFormat}
+use Rattle.jv_cmd.specs.Faults.{CountsFaults, UsesKeeper}
+use Rattle.jv_cmd.specs.Formatting.{Formats}
 use Rattle.jv_cmd.specs.Opening.{CannotOpen, IsKnown}
-use Rattle.jv_cmd.specs.Run.{Seen, RunsLines}
-use Rattle.jv_cmd.specs.Saying.{Shown, Says}
-
--- what is seen of the devices: the source's bytes left, what a session's lines see, the keeper's rows and faults, and
--- standard error; of each device's content where it tells that
-pub record Outside : Type 0 where
-  pub left : Option (List ℕ)
-  pub lines : Seen
-  pub rows : Option RowMap
-  pub keeper_faults : ℕ
-  pub shown : Shown
-
-abbrev pub outside : Option (List ℕ) → Seen → Option RowMap → ℕ → Shown → Outside
-outside left lines rows keeper_faults shown = record { left = left; lines = lines; rows = rows; keeper_faults = keeper_faults; shown = shown }
+use Rattle.jv_cmd.specs.Run.{RunsLines}
+use Rattle.jv_cmd.specs.Saying.{Says}
+use Rattle.jv_cmd.specs.Words.{asked, IsRefusal}
+use Rattle.jv_cmd.specs.Worlds.{WorldValue, emptied}
 
 -- neither the source nor out nor the clock nor the journal was used
-pub record LeavesLines (before after : Outside) : Type 0 where
-  pub source : after.left ≡ before.left
-  pub lines : after.lines ≡ before.lines
+pub record LeavesLines (before after : WorldValue) : Type 0 where
+  pub source : after.source ≡ before.source
+  pub out : after.out ≡ before.out
+  pub clock : after.clock ≡ before.clock
+  pub journal : after.journal ≡ before.journal
 
--- A session: there is no volume to run on, or the lines run on the volume of that setting, as it was formatted at some
--- moment.
-pub data RunsSession (before after : Outside) (ended : Ended) : Type 0 where
-  NotOpened : CannotOpen before.rows before.keeper_faults after.keeper_faults ended → LeavesLines before after → RunsSession before after ended
-  Opened : (setting : Setting) → IsKnown before.rows setting
-      → ((made : ℕ) → RunsLines (record { setting = setting; made = made }) before.left before.lines after.lines ended) → RunsSession before after ended
+-- A session: there is no volume to run on, or the lines run, once the keeper is opened, on the volume of that setting, as
+-- it was formatted at some moment.
+pub data SessionEnds (before after : WorldValue) (ended : Ended) : Type 0 where
+  NotOpened : CannotOpen before.keeper.rows ended → LeavesLines before after → SessionEnds before after ended
+  Opened : (setting : Setting) → IsKnown before.keeper.rows setting
+      → ((made : ℕ) → RunsLines (record { setting = setting; made = made }) (record before { keeper = after.keeper }) after ended) → SessionEnds before after ended
 
--- the rows of a fresh volume are there, or not, and what was printed of it
-abbrev pub RunsFormat : Setting → Outside → Outside → Ended → Type 0
-RunsFormat setting before after Whole = PutsRows setting before.rows after.rows before.lines.answers after.lines.answers × Gains before.lines.taken after.lines.taken (formatted_text setting)
-RunsFormat setting before after OutFailed = PutsRows setting before.rows after.rows before.lines.answers after.lines.answers × Rose before.lines.out_faults after.lines.out_faults
-    × GainsFront before.lines.taken after.lines.taken (formatted_text setting)
-RunsFormat setting before after ended = CannotFormat before.rows before.keeper_faults after.keeper_faults before.lines.clock_faults after.lines.clock_faults ended × (after.rows ≡ before.rows)
-    × (after.lines.taken ≡ before.lines.taken)
+-- a session changes no row yet
+pub record RunsSession (before after : WorldValue) (ended : Ended) : Type 0 where
+  pub ends : SessionEnds before after ended
+  pub rows : after.keeper.rows ≡ before.keeper.rows
 
--- a session changes no row yet, and format reads no line
-abbrev pub Runs : Command → Outside → Outside → Ended → Type 0
-Runs (Format place setting) before after ended = RunsFormat setting before after ended × (after.left ≡ before.left) × (after.lines.journal ≡ before.lines.journal)
-Runs (Session place options) before after ended = RunsSession before after ended × (after.rows ≡ before.rows)
+abbrev pub Does : Command → WorldValue → WorldValue → Ended → Type 0
+Does (Format place setting) before after ended = Formats setting before after ended
+Does (Session place options) before after ended = RunsSession before after ended
 
--- how the command ended, its status, and its text on standard error
-pub record EndsCommand (command : Command) (before after : Outside) (status : ℕ) : Type 0 where
+abbrev pub place_of : Command → List ℕ
+place_of (Format place setting) = place
+place_of (Session place options) = place
+
+-- a command: what it did, which device failed, and where the keeper is opened
+pub record RunsCommand (command : Command) (before after : WorldValue) (ended : Ended) : Type 0 where
+  pub does : Does command before after ended
+  pub faults : CountsFaults ended before after
+  pub keeper : UsesKeeper ended (place_of command) before.keeper after.keeper
+
+-- how the command ended: what it did apart from standard error, its status, and its text there
+pub record EndsCommand (command : Command) (before after : WorldValue) (status : ℕ) : Type 0 where
   pub ended : Ended
-  pub runs : Runs command before after ended
+  pub runs : RunsCommand command before (record after { err = before.err }) ended
   pub result : status ≡ status_of ended
-  pub says : Says before.shown after.shown (message_of ended)
+  pub says : Says before.err after.err (message_of ended)
 
--- the words are refused, or there is no memory to read them; nothing but standard error is used
-pub data RefusesWords (before after : Outside) (status : ℕ) : Type 0 where
-  Refused : (text : List ℕ) → status ≡ 2 → Says before.shown after.shown text → RefusesWords before after status
-  NoMemory : status ≡ status_of OutOfMemory → Says before.shown after.shown (message_of OutOfMemory) → RefusesWords before after status
+-- the words are refused, or there is no memory to read them
+pub data RefusesWords (words : List Text) (before after : WorldValue) (status : ℕ) : Type 0 where
+  Refused : (text : List ℕ) → IsRefusal words text → status ≡ 2 → Says before.err after.err text → RefusesWords words before after status
+  NoMemory : status ≡ status_of OutOfMemory → Says before.err after.err (message_of OutOfMemory) → RefusesWords words before after status
 
-pub record EndsUnread (before after : Outside) (status : ℕ) : Type 0 where
-  pub refuses : RefusesWords before after status
-  pub leaves : LeavesLines before after
-  pub rows : after.rows ≡ before.rows
+-- and only standard error is used
+pub record EndsUnread (words : List Text) (before after : WorldValue) (status : ℕ) : Type 0 where
+  pub refuses : RefusesWords words before after status
+  pub others : after ≡ record before { err = after.err }
 
 -- by the command that the words are, if they are one
-abbrev pub RunsWords : Option Command → Outside → Outside → ℕ → Type 0
-RunsWords None before after status = EndsUnread before after status
-RunsWords (Some command) before after status = EndsCommand command before after status
+abbrev pub RunsAsked : List Text → Option Command → WorldValue → WorldValue → ℕ → Type 0
+RunsAsked words None before after status = EndsUnread words before after status
+RunsAsked words (Some command) before after status = EndsCommand command before after status
+
+abbrev pub Runs : List Text → WorldValue → WorldValue → ℕ → Type 0
+Runs words before after status = RunsAsked words (asked words) (emptied before) after status

@@ -2,9 +2,11 @@
 use Rattle.std.specs.Prelude.{◌≡◌, ℕ, ◌+◌, ◌≤◌, ◌<◌, List, [], ◌∷◌, ◌++◌, length, take, drop, Option, IfSome, IsSomeAnd, Result, Ok, Err}
 use Rattle.std.specs.Io.KnownBytes.{prepend_known, Consumes, IsAtEnd}
 use Rattle.jv_model.specs.declared.fault.Down.{Down}
+use Rattle.jv_outside.specs.Causes.{Rose}
 use Rattle.jv_cmd.specs.declared.reader.Next.{Next}
 use Rattle.jv_cmd.specs.declared.reader.Next.TheVariants.{Text, TooLong, End}
-use Rattle.jv_cmd.specs.Texts.{texts_of, longest_text}
+use Rattle.jv_model.specs.declared.limits.TheConstants.{MAX_LINE}
+use Rattle.jv_cmd.specs.Texts.{texts_of}
 
 -- a source gave bytes, which are held after the others, and none only at its end
 pub record Fills (before after : Option (List ℕ)) (old new : List ℕ) (count : ℕ) : Type 0 where
@@ -16,18 +18,18 @@ pub record Fills (before after : Option (List ℕ)) (old new : List ℕ) (count 
 
 -- the bytes to come begin with this text
 pub record BeginsWith (before : Option (List ℕ)) (next : List ℕ) : Type 0 where
-  pub told : IfSome before (λ bytes. (more : List (List ℕ)) × (texts_of bytes ≡ next ∷ more))
+  pub known : IfSome before (λ bytes. (more : List (List ℕ)) × (texts_of bytes ≡ next ∷ more))
 
--- the first text is the front of what is held, and the later texts are those of what follows it
+-- the first text is a prefix of what is held, and the later texts are those of what follows it
 pub record CutsText (before left : Option (List ℕ)) (held : List ℕ) (count : ℕ) : Type 0 where
   pub within : count ≤ length held
-  pub short : count ≤ longest_text
-  pub told : IfSome before (λ bytes. IsSomeAnd (prepend_known (drop (count + 1) held) left) (λ rest. texts_of bytes ≡ take count held ∷ texts_of rest))
+  pub short : count ≤ MAX_LINE
+  pub known : IfSome before (λ bytes. IsSomeAnd (prepend_known (drop (count + 1) held) left) (λ rest. texts_of bytes ≡ take count held ∷ texts_of rest))
 
 -- the next text is longer than a text may be
 pub record IsOverlong (before : Option (List ℕ)) : Type 0 where
   pub next : List ℕ
-  pub long : longest_text < length next
+  pub long : MAX_LINE < length next
   pub begins : BeginsWith before next
 
 -- what comes next, of the bytes that were held or left before, where they were known
@@ -36,3 +38,8 @@ Finds before left held (Ok (Text count)) = CutsText before left held count
 Finds before left held (Ok TooLong) = IsOverlong before
 Finds before left held (Ok End) = IfSome before (λ bytes. texts_of bytes ≡ [])
 Finds before left held (Err down) = Unit {0}
+
+-- the source's count of faults is the same, and rose where it failed
+abbrev pub CountsRead : {T : Type 0} → ℕ → ℕ → Result T Down → Type 0
+CountsRead before now (Ok value) = now ≡ before
+CountsRead before now (Err down) = Rose before now

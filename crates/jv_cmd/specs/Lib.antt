@@ -5,9 +5,11 @@ pub mod Values
 pub mod Program
 pub mod Words
 pub mod Ends
+pub mod Worlds
+pub mod Faults
 pub mod Saying
 pub mod Run
-pub mod Fresh
 pub mod Opening
+pub mod Formatting
 pub mod Commands
 pub mod Steps

@@ -5,18 +5,19 @@ use Rattle.jv_model.specs.FiniteMap.{get}
 use Rattle.jv_model.specs.rows.RowGrammar.{is_setting, setting_of}
 use Rattle.jv_model.specs.rows.RowKeys.{RowMap}
 use Rattle.jv_model.specs.rows.RowPlaces.{setting_key}
-use Rattle.jv_outside.specs.Causes.{Rose}
+use Rattle.jv_outside.specs.Store.{Store}
 use Rattle.jv_cmd.specs.declared.ended.Ended.{Ended}
 use Rattle.jv_cmd.specs.declared.ended.Ended.TheVariants.{NoVolume, NewerVersion, SettingOff, KeeperFailed, OutOfMemory}
+use Rattle.jv_cmd.specs.Faults.{UsesKeeper, ended_by}
 
--- where the rows are told, that of the setting is so
+-- where the rows are known, that of the setting is so
 abbrev pub SettingRow : Option RowMap → (Option (List ℕ) → Type 0) → Type 0
-SettingRow rows Is = IfSome rows (λ told. Is (get told setting_key))
+SettingRow rows Is = IfSome rows (λ known. Is (get known setting_key))
 
 abbrev pub IsAbsent : Option (List ℕ) → Type 0
 IsAbsent stored = stored ≡ None
 
--- it is there, and off the grammar
+-- it is there, and malformed
 abbrev pub IsOff : Option (List ℕ) → Type 0
 IsOff stored = IsSomeAnd stored (λ bytes. setting_of bytes ≡ None)
 
@@ -37,11 +38,11 @@ abbrev pub known_version : ℕ
 known_version = 1
 
 -- why the setting wasn't read
-abbrev pub CannotRead : Option RowMap → ℕ → ℕ → Ended → Type 0
-CannotRead rows before now SettingOff = SettingRow rows IsOff
-CannotRead rows before now KeeperFailed = Rose before now
-CannotRead rows before now OutOfMemory = Unit {0}
-CannotRead rows before now _ = ⊥
+abbrev pub CannotRead : Option RowMap → Ended → Type 0
+CannotRead rows SettingOff = SettingRow rows IsOff
+CannotRead rows KeeperFailed = Unit {0}
+CannotRead rows OutOfMemory = Unit {0}
+CannotRead rows _ = ⊥
 
 -- what is stored is this setting, or none
 abbrev pub IsStored : Option RowMap → Option Setting → Type 0
@@ -49,18 +50,18 @@ IsStored rows None = SettingRow rows IsAbsent
 IsStored rows (Some setting) = SettingRow rows (Spells setting)
 
 -- the keeper was opened, and the setting read; the rows are the same
-pub record ReadsSetting (rows after : Option RowMap) (before now : ℕ) (result : Result (Option Setting) Ended) : Type 0 where
-  pub same : after ≡ rows
-  pub later : before ≤ now
-  pub found : IfOk result (IsStored rows)
+pub record ReadsSetting (place : List ℕ) (before after : Store) (result : Result (Option Setting) Ended) : Type 0 where
+  pub rows_are : after.rows ≡ before.rows
+  pub keeper : UsesKeeper (ended_by result) place before after
+  pub found : IfOk result (IsStored before.rows)
   pub allowed : IfOk result (λ found. IfSome found (λ setting. IsTrue (is_setting setting)))
-  pub refused : IfErr result (CannotRead rows before now)
+  pub refused : IfErr result (CannotRead before.rows)
 
 -- why there is no volume to run a session on
-abbrev pub CannotOpen : Option RowMap → ℕ → ℕ → Ended → Type 0
-CannotOpen rows before now NoVolume = SettingRow rows IsAbsent
-CannotOpen rows before now (NewerVersion version) = (known_version < version) × SettingRow rows (HasVersion version)
-CannotOpen rows before now ended = CannotRead rows before now ended
+abbrev pub CannotOpen : Option RowMap → Ended → Type 0
+CannotOpen rows NoVolume = SettingRow rows IsAbsent
+CannotOpen rows (NewerVersion version) = (known_version < version) × SettingRow rows (HasVersion version)
+CannotOpen rows ended = CannotRead rows ended
 
 -- a setting of the version that is known
 pub record IsKnown (rows : Option RowMap) (setting : Setting) : Type 0 where
@@ -68,8 +69,8 @@ pub record IsKnown (rows : Option RowMap) (setting : Setting) : Type 0 where
   pub version : setting.version ≡ known_version
 
 -- the volume's setting was read, or there is no volume to run a session on; the rows are the same
-pub record OpensVolume (rows after : Option RowMap) (before now : ℕ) (result : Result Setting Ended) : Type 0 where
-  pub same : after ≡ rows
-  pub later : before ≤ now
-  pub ok : IfOk result (IsKnown rows)
-  pub refused : IfErr result (CannotOpen rows before now)
+pub record OpensVolume (place : List ℕ) (before after : Store) (result : Result Setting Ended) : Type 0 where
+  pub rows_are : after.rows ≡ before.rows
+  pub keeper : UsesKeeper (ended_by result) place before after
+  pub ok : IfOk result (IsKnown before.rows)
+  pub refused : IfErr result (CannotOpen before.rows)

@@ -5,15 +5,20 @@ use Rattle.jv_model.specs.declared.op.Line.{Line}
 use Rattle.jv_model.specs.script.Grammar.{line_of}
 use Rattle.jv_model.specs.run.Legal.{AllAllowed}
 use Rattle.jv_model.specs.run.Past.{Past, Setup, at_start, begun_to, past, reached}
-use Rattle.jv_outside.specs.Told.{Gains, GainsFront, Passes}
+use Rattle.jv_outside.specs.Causes.{Rose}
+use Rattle.jv_outside.specs.Stream.{Gains, HasAll, IsCut}
+use Rattle.jv_outside.specs.Ticks.{Passes}
 use Rattle.jv_session.specs.Agrees.{ScheduleValue, Stands, ClockFor}
 use Rattle.jv_session.specs.BuiltHere.{built_here}
 use Rattle.jv_cmd.specs.declared.ended.Ended.{Ended}
 use Rattle.jv_cmd.specs.declared.ended.Ended.TheVariants.{OffLine, OutFailed, ClockFailed, OutOfMemory}
-use Rattle.jv_cmd.specs.Texts.{texts_of, longest_text, most_lines}
-use Rattle.jv_cmd.specs.Run.{Seen, IsTold, IsBuilt, IsNotBuilt, FreshVolume, RunsLines, session_run, up_to}
+use Rattle.jv_model.specs.declared.limits.TheConstants.{MAX_LINE, MAX_LINES}
+use Rattle.jv_cmd.specs.Texts.{texts_of}
+use Rattle.jv_cmd.specs.Worlds.{WorldValue}
+use Rattle.jv_cmd.specs.Faults.{CountsFaults}
+use Rattle.jv_cmd.specs.Run.{IsKnownClock, IsBuilt, IsNotBuilt, FreshVolume, RunsLines, session_run, up_to}
 
--- a past after so many lines of a run, with these lines to come: the schedule stands there, and this was printed
+-- a past after `done` lines of a run, with these lines to come: the schedule stands there, and this was printed
 pub record IsAt (p : Past) (run : Setup) (more : List Line) (done asks entries : ℕ) (printed : List ℕ) (s : ScheduleValue) : Type 0 where
   pub line : p.line ≡ done
   pub stands : Stands p s
@@ -23,7 +28,7 @@ pub record IsAt (p : Past) (run : Setup) (more : List Line) (done asks entries :
   pub asked : p.asked ≡ asks
   pub text : p.printed ++ p.said ≡ printed
 
--- the journal of a run so far is allowed and comes to such a past
+-- the journal of a run so far is allowed and reaches such a past
 pub record Reaches (run : Setup) (more : List Line) (done asked : ℕ) (text : List ℕ) (journal : List Act) (s : ScheduleValue) : Type 0 where
   pub allowed : AllAllowed (at_start run) journal
   pub at : IsAt (begun_to done (reached run journal)) run more done asked (length journal) text s
@@ -33,38 +38,45 @@ abbrev pub AreBetween : ℕ → ℕ → List Act → Type 0
 AreBetween low high [] = Unit {0}
 AreBetween low high (act ∷ acts) = (low ≤ act.line) × (act.line ≤ high) × AreBetween low high acts
 
--- so many lines were run, whatever lines are to come, and their text is this
-pub record Done (v : FreshVolume) (bytes left : Option (List ℕ)) (before now : Seen) (done : ℕ) (text : List ℕ) (s : ScheduleValue) : Type 0 where
+-- `done` lines were run, whatever lines are to come, and their text is this
+pub record Done (v : FreshVolume) (left : Option (List ℕ)) (before now : WorldValue) (done : ℕ) (text : List ℕ) (s : ScheduleValue) : Type 0 where
   pub texts : List (List ℕ)
   pub lines : List Line
   pub asked : ℕ
   pub count : length lines ≡ done
   pub each : map line_of texts ≡ map Some lines
-  pub few : done ≤ most_lines
-  pub short : All (λ line. length line ≤ longest_text) texts
-  pub first : IfSome bytes (λ all. IsSomeAnd left (λ rest. texts_of all ≡ texts ++ texts_of rest))
+  pub few : done ≤ MAX_LINES
+  pub short : All (λ line. length line ≤ MAX_LINE) texts
+  pub first : IfSome before.source.content (λ all. IsSomeAnd left (λ rest. texts_of all ≡ texts ++ texts_of rest))
   pub own : AreBetween 0 done now.journal
-  pub passes : Passes before.answers now.answers asked
-  pub built : (told : Option (ℕ → ℕ)) (more : List Line) (status : ℕ) → IsTold told before now → (k : ℕ) → IfSome (slice_get lines k) (IsBuilt (begun_to k (reached (session_run v told (lines ++ more) status) (up_to k now.journal))))
-  pub reaches : (told : Option (ℕ → ℕ)) (more : List Line) (status : ℕ) → IsTold told before now → Reaches (session_run v told (lines ++ more) status) more done asked text now.journal s
+  pub passes : Passes before.clock.answers now.clock.answers asked
+  pub built : (known : Option (ℕ → ℕ)) (more : List Line) (status : ℕ) → IsKnownClock known before.clock now.clock
+      → (k : ℕ) → IfSome (slice_get lines k) (IsBuilt (begun_to k (reached (session_run v known (lines ++ more) status) (up_to k now.journal))))
+  pub reaches : (known : Option (ℕ → ℕ)) (more : List Line) (status : ℕ) → IsKnownClock known before.clock now.clock
+      → Reaches (session_run v known (lines ++ more) status) more done asked text now.journal s
 
--- no count of faults fell
-pub record IsLater (before now : Seen) : Type 0 where
-  pub source : before.source_faults ≤ now.source_faults
-  pub out : before.out_faults ≤ now.out_faults
-  pub clock : before.clock_faults ≤ now.clock_faults
+-- no device has failed that lines use
+pub record AreCalm (before now : WorldValue) : Type 0 where
+  pub source : now.source.faults ≡ before.source.faults
+  pub out : now.out.faults ≡ before.out.faults
+  pub clock : now.clock.faults ≡ before.clock.faults
 
--- so many lines were run and printed
-pub record Going (v : FreshVolume) (bytes left : Option (List ℕ)) (before now : Seen) (done : ℕ) (s : ScheduleValue) : Type 0 where
+-- `done` lines were run and printed
+pub record Going (v : FreshVolume) (left : Option (List ℕ)) (before now : WorldValue) (done : ℕ) (s : ScheduleValue) : Type 0 where
   pub text : List ℕ
-  pub lines_done : Done v bytes left before now done text s
-  pub gains : Gains before.taken now.taken text
-  pub later : IsLater before now
+  pub lines_done : Done v left before now done text s
+  pub gains : Gains before.out.content now.out.content text
+  pub calm : AreCalm before now
+
+-- the run of lines ended
+pub record EndsLines (v : FreshVolume) (before after : WorldValue) (ended : Ended) : Type 0 where
+  pub runs : RunsLines v before after ended
+  pub faults : CountsFaults ended before after
 
 -- one line more was run, or the run ended
-abbrev pub Turns : FreshVolume → Option (List ℕ) → Option (List ℕ) → Seen → Seen → ℕ → ScheduleValue → Result (Unit {0}) Ended → Type 0
-Turns v bytes left before now done s (Ok unit) = Going v bytes left before now (done + 1) s
-Turns v bytes left before now done s (Err ended) = RunsLines v bytes before now ended
+abbrev pub Turns : FreshVolume → Option (List ℕ) → WorldValue → WorldValue → ℕ → ScheduleValue → Result (Unit {0}) Ended → Type 0
+Turns v left before now done s (Ok unit) = Going v left before now (done + 1) s
+Turns v left before now done s (Err ended) = EndsLines v before now ended
 
 -- a line's entries after a journal: they are allowed, and the line is done and prints the text
 pub record Goes (p : Past) (more : List Line) (number asks : ℕ) (before after : List Act) (text : List ℕ) (s : ScheduleValue) : Type 0 where
@@ -74,10 +86,11 @@ pub record Goes (p : Past) (more : List Line) (number asks : ℕ) (before after 
   pub at : IsAt (begun_to number (past p acts)) p.run more number (p.asked + asks) (length after) (p.printed ++ p.said ++ text) s
 
 -- a line was run and prints this, from wherever the schedule stood
-pub record Advances (line : Line) (number : ℕ) (answers answers' : Option (ℕ → ℕ)) (before after : List Act) (s s' : ScheduleValue) (printed : List ℕ) : Type 0 where
+pub record Advances (line : Line) (number : ℕ) (before after : WorldValue) (s s' : ScheduleValue) (printed : List ℕ) : Type 0 where
   pub asks : ℕ
-  pub passes : Passes answers answers' asks
-  pub goes : (p : Past) (more : List Line) → Stands p s → p.line + 1 ≡ number → p.rest ≡ line ∷ more → p.count ≡ length before → ClockFor p.run.clock p.asked answers answers' → Goes p more number asks before after printed s'
+  pub passes : Passes before.clock.answers after.clock.answers asks
+  pub goes : (p : Past) (more : List Line) → Stands p s → p.line + 1 ≡ number → p.rest ≡ line ∷ more → p.count ≡ length before.journal
+      → ClockFor p.run.clock p.asked before.clock.answers after.clock.answers → Goes p more number asks before.journal after.journal printed s'
 
 -- the line may be run where the schedule stands
 pub record IsBuiltHere (s : ScheduleValue) (line : Line) : Type 0 where
@@ -109,37 +122,45 @@ TextReads number text s (Err (OffLine at)) = (at ≡ number) × IsOffText text s
 TextReads number text s (Err OutOfMemory) = Unit {0}
 TextReads number text s (Err _) = ⊥
 
--- nothing has changed but counts of faults
-pub record Leaves (taken taken' : Option (List ℕ)) (answers answers' : Option (ℕ → ℕ)) (before after : List Act) : Type 0 where
-  pub out : taken' ≡ taken
-  pub clock : answers' ≡ answers
-  pub journal : after ≡ before
+-- nothing has changed but the clock's count of faults
+pub record Leaves (before after : WorldValue) : Type 0 where
+  pub out : after.out ≡ before.out
+  pub answers : after.clock.answers ≡ before.clock.answers
+  pub journal : after.journal ≡ before.journal
+
+-- nothing has changed that lines use
+pub record IsStill (before after : WorldValue) : Type 0 where
+  pub out : after.out ≡ before.out
+  pub clock : after.clock ≡ before.clock
+  pub journal : after.journal ≡ before.journal
 
 -- a line was run and printed
-pub record PrintsLine (line : Line) (number : ℕ) (taken taken' : Option (List ℕ)) (answers answers' : Option (ℕ → ℕ)) (before after : List Act) (s s' : ScheduleValue) : Type 0 where
+pub record PrintsLine (line : Line) (number : ℕ) (before after : WorldValue) (s s' : ScheduleValue) : Type 0 where
   pub printed : List ℕ
-  pub runs : Advances line number answers answers' before after s s' printed
-  pub gains : Gains taken taken' printed
+  pub runs : Advances line number before after s s' printed
+  pub writes : HasAll before.out after.out printed
+  pub clock : after.clock.faults ≡ before.clock.faults
 
--- a line was run, and a front of what it prints was printed
-pub record PrintsFront (line : Line) (number : ℕ) (taken taken' : Option (List ℕ)) (answers answers' : Option (ℕ → ℕ)) (before after : List Act) (s s' : ScheduleValue) : Type 0 where
+-- a line was run, and out failed after a proper prefix of what it prints
+pub record PrintsCut (line : Line) (number : ℕ) (before after : WorldValue) (s s' : ScheduleValue) : Type 0 where
   pub printed : List ℕ
-  pub runs : Advances line number answers answers' before after s s' printed
-  pub gains : GainsFront taken taken' printed
+  pub runs : Advances line number before after s s' printed
+  pub cut : IsCut before.out after.out printed
+  pub clock : after.clock.faults ≡ before.clock.faults
 
 -- by how the call for a line ended
-abbrev pub LineEnds : Line → ℕ → Option (List ℕ) → Option (List ℕ) → Option (ℕ → ℕ) → Option (ℕ → ℕ) → List Act → List Act → ScheduleValue → ScheduleValue → Result (Unit {0}) Ended → Type 0
-LineEnds line number taken taken' answers answers' before after s s' (Ok unit) = PrintsLine line number taken taken' answers answers' before after s s'
-LineEnds line number taken taken' answers answers' before after s s' (Err OutFailed) = PrintsFront line number taken taken' answers answers' before after s s'
-LineEnds line number taken taken' answers answers' before after s s' (Err ClockFailed) = Leaves taken taken' answers answers' before after
-LineEnds line number taken taken' answers answers' before after s s' (Err OutOfMemory) = Leaves taken taken' answers answers' before after
-LineEnds line number taken taken' answers answers' before after s s' (Err _) = ⊥
+abbrev pub LineEnds : Line → ℕ → WorldValue → WorldValue → ScheduleValue → ScheduleValue → Result (Unit {0}) Ended → Type 0
+LineEnds line number before after s s' (Ok unit) = PrintsLine line number before after s s'
+LineEnds line number before after s s' (Err OutFailed) = PrintsCut line number before after s s'
+LineEnds line number before after s s' (Err ClockFailed) = Leaves before after × Rose before.clock.faults after.clock.faults
+LineEnds line number before after s s' (Err OutOfMemory) = IsStill before after
+LineEnds line number before after s s' (Err _) = ⊥
 
 -- by how the call for a text ended
-abbrev pub TextEnds : ℕ → List ℕ → Option (List ℕ) → Option (List ℕ) → Option (ℕ → ℕ) → Option (ℕ → ℕ) → List Act → List Act → ScheduleValue → ScheduleValue → Result (Unit {0}) Ended → Type 0
-TextEnds number text taken taken' answers answers' before after s s' (Ok unit) = (line : Line) × ReadsBuilt text s line × PrintsLine line number taken taken' answers answers' before after s s'
-TextEnds number text taken taken' answers answers' before after s s' (Err OutFailed) = (line : Line) × ReadsBuilt text s line × PrintsFront line number taken taken' answers answers' before after s s'
-TextEnds number text taken taken' answers answers' before after s s' (Err (OffLine at)) = (at ≡ number) × IsOffText text s × Leaves taken taken' answers answers' before after
-TextEnds number text taken taken' answers answers' before after s s' (Err ClockFailed) = Leaves taken taken' answers answers' before after
-TextEnds number text taken taken' answers answers' before after s s' (Err OutOfMemory) = Leaves taken taken' answers answers' before after
-TextEnds number text taken taken' answers answers' before after s s' (Err _) = ⊥
+abbrev pub TextEnds : ℕ → List ℕ → WorldValue → WorldValue → ScheduleValue → ScheduleValue → Result (Unit {0}) Ended → Type 0
+TextEnds number text before after s s' (Ok unit) = (line : Line) × ReadsBuilt text s line × PrintsLine line number before after s s'
+TextEnds number text before after s s' (Err OutFailed) = (line : Line) × ReadsBuilt text s line × PrintsCut line number before after s s'
+TextEnds number text before after s s' (Err (OffLine at)) = (at ≡ number) × IsOffText text s × IsStill before after
+TextEnds number text before after s s' (Err ClockFailed) = Leaves before after × Rose before.clock.faults after.clock.faults
+TextEnds number text before after s s' (Err OutOfMemory) = IsStill before after
+TextEnds number text before after s s' (Err _) = ⊥

@@ -8,7 +8,7 @@ is_feed byte = byte == 10
 abbrev pub has_feed : List ℕ → Bool
 has_feed = list_any is_feed
 
--- the texts after one more byte in front of the first
+-- the texts where one more byte precedes the first
 abbrev pub with_first : ℕ → List (List ℕ) → List (List ℕ)
 with_first byte [] = (byte ∷ []) ∷ []
 with_first byte (text ∷ texts) = (byte ∷ text) ∷ texts
@@ -18,10 +18,3 @@ with_first byte (text ∷ texts) = (byte ∷ text) ∷ texts
 abbrev pub texts_of : List ℕ → List (List ℕ)
 texts_of [] = []
 texts_of (byte ∷ bytes) = if is_feed byte then [] ∷ texts_of bytes else with_first byte (texts_of bytes)
-
--- the most bytes of a text, and the most lines of a script
-abbrev pub longest_text : ℕ
-longest_text = 1048576
-
-abbrev pub most_lines : ℕ
-most_lines = 1048576

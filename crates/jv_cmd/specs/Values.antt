@@ -2,6 +2,7 @@
 use Rattle.std.specs.Prelude.{ℕ, ◌-◌, ◌*◌, ◌^◌, Bool, false, ◌&&◌, ◌||◌, ◌==◌, nat_lt, nat_le, if◌then◌else◌, List, [], ◌∷◌, length, take, drop, slice_get, Option, None, Some, option_and_then, codes, bytes_eq}
 use Rattle.std.specs.List.{list_any}
 use Rattle.std.specs.Option.{option_map_or}
+use Rattle.jv_model.specs.declared.limits.TheConstants.{KIB, MIB}
 use Rattle.jv_model.specs.script.Spelling.{is_numeral, value_of}
 
 -- a number: decimal digits without a leading zero, at most 19 of them
@@ -25,7 +26,7 @@ digits_of text = (if ends_with 75 text || ends_with 77 text then take (length te
 
 -- the bytes that its digits count: MiB by the suffix M, else KiB
 unfoldable pub unit_of : List ℕ → ℕ
-unit_of text = (if ends_with 77 text then 1048576 else 1024)
+unit_of text = (if ends_with 77 text then MIB else KIB)
 
 -- a power of two from 64 KiB to 16 MiB
 unfoldable pub is_block_size : ℕ → Bool

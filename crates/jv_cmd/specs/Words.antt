@@ -4,6 +4,7 @@ use Rattle.std.specs.Option.{option_map_or}
 use Rattle.clap.specs.Words.{Row, Text, fault_of, first_of, subcommand_of, subcommand_rows_of}
 use Rattle.clap.specs.declared.parser.matches.ArgMatches.{ArgMatches}
 use Rattle.clap.specs.Kinds.{Kinds}
+use Rattle.jv_model.specs.declared.limits.TheConstants.{FULL_COUNT, MAX_CAPACITY, MAX_TRASH_DAYS}
 use Rattle.jv_model.specs.declared.setting.Setting.{Setting}
 use Rattle.jv_model.specs.rows.RowGrammar.{is_setting}
 use Rattle.jv_cmd.specs.declared.words.request.Command.{Command}
@@ -15,6 +16,7 @@ use Rattle.jv_cmd.specs.declared.words.read.BadValue.{BadValue}
 use Rattle.jv_cmd.specs.declared.words.read.BadValue.TheVariants as bad
 use Rattle.jv_cmd.specs.Values.{block_size_of, number_within, place_of}
 use Rattle.jv_cmd.specs.Program.{program_app}
+use Rattle.jv_cmd.specs.Saying.{EndsInFeed}
 
 -- the second step, if the first gave a value
 infixl 10 ◌>>=◌
@@ -44,9 +46,9 @@ where_allowed setting = (if is_setting setting then Some setting else None)
 unfoldable pub setting_fields_in : List Row → Option Setting
 setting_fields_in rows = do
   block ← value_in block_size_of (codes "block-size") rows
-  capacity ← value_in (number_within 0 4294967296) (codes "capacity") rows
-  inodes ← value_in (number_within 0 4611686018427387904) (codes "inodes") rows
-  days ← value_in (number_within 0 36500) (codes "trash-days") rows
+  capacity ← value_in (number_within 0 MAX_CAPACITY) (codes "capacity") rows
+  inodes ← value_in (number_within 0 FULL_COUNT) (codes "inodes") rows
+  days ← value_in (number_within 0 MAX_TRASH_DAYS) (codes "trash-days") rows
   name ← first_of (codes "name") rows
   bucket ← first_of (codes "bucket") rows
   Some (record { version = 1; block = block; trash_days = days; capacity = capacity; inodes = inodes; hash = if is_given (codes "hash-prefix") rows then 1 else 0; name = name; bucket = bucket })
@@ -90,7 +92,7 @@ abbrev pub read_by : Kinds → Option (Text × List Row) → Option Command
 read_by [] stop = command_at stop
 read_by (k ∷ ks) stop = None
 
--- The command that the words ask for. They are refused where there is none: by `clap`, or for a value off its range.
+-- The command that the words ask for. They are refused where there is none: by `clap`, or for a value out of its range.
 unfoldable pub asked : List Text → Option Command
 asked words = read_by (fault_of program_app words) (subcommand_of program_app words)
 
@@ -112,8 +114,22 @@ Reads (Err bad.Memory) meant = Unit {0}
 -- the words of a parse: where `clap` finds no fault, the command is the one that it stopped at
 abbrev pub Parses : List Text → Result ArgMatches WordsFault → Type 0
 Parses words (Ok matches) = (fault_of program_app words ≡ []) × (subcommand_rows_of matches ≡ subcommand_of program_app words)
-Parses words (Err (Refused text)) = fault_of program_app words ≢ []
+Parses words (Err (Refused text)) = (fault_of program_app words ≢ []) × EndsInFeed (string_bytes text)
 Parses words (Err Memory) = Unit {0}
+
+-- a text for words that are refused: the program's own where `clap` finds no fault in them
+pub record IsRefusal (words : List Text) (text : Text) : Type 0 where
+  pub own : fault_of program_app words ≡ [] → text ≡ refused_text
+  pub ends : EndsInFeed text
+
+abbrev pub Refuses : List Text → WordsFault → Type 0
+Refuses words (Refused text) = IsRefusal words (string_bytes text)
+Refuses words Memory = Unit {0}
+
+-- the text of a refusal, if it has one, ends with a line feed
+abbrev pub HasFeed : WordsFault → Type 0
+HasFeed (Refused text) = EndsInFeed (string_bytes text)
+HasFeed Memory = Unit {0}
 
 -- a refusal that says nothing of the words
 abbrev pub SaysRefused : WordsFault → Type 0

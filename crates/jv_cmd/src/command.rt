@@ -1,16 +1,14 @@
-//! The top call.
-ghost use Rattle.std.specs.Prelude.{◌≡◌, [], map, string_bytes, true, false};
-ghost use Rattle.jv_cmd.specs.Commands.{outside, Runs, RunsSession, RunsWords};
-ghost use Rattle.jv_cmd.specs.Run.{seen};
-ghost use Rattle.jv_cmd.specs.Saying.{shown};
-ghost use Rattle.jv_cmd.specs.Words.{asked, IsAllowedCommand};
+ghost use Rattle.std.specs.Prelude.{◌≡◌, [], map, string_bytes};
+ghost use Rattle.jv_cmd.specs.Commands.{Runs, RunsCommand, RunsSession};
+ghost use Rattle.jv_cmd.specs.Faults.{CountsFaults, UsesKeeper};
+ghost use Rattle.jv_cmd.specs.Words.{IsAllowedCommand};
 
 use crate::ended::{Ended, report, say};
 use crate::format::run_format;
 use crate::lines::run_script;
 use crate::volume::open_volume;
 use crate::words::{Command, WordsFault, read_words};
-use crate::world::{Finish, World};
+use crate::world::{Finish, Seen, World};
 use jv_model::Text;
 use jv_outside::{Clock, Keeper, Sink, Source};
 use std::alloc::Global;
@@ -21,20 +19,19 @@ use std::alloc::Global;
 /// runs the script of the source over the volume, which is one that was just formatted, and prints an answer for each
 /// line that has one.
 ///
-/// The status is 0 where the command did its work: where every line of the source was run, or the volume is formatted.
-/// It is 2 where the words are off, 3 where the next line isn't run, 4 where there is no volume for a session, or one
-/// for `format`, or its setting's row is off or of a later version, 5 where a device failed, and 6 where memory is
-/// wanting; standard error has a text for each but the first. Nothing after the end of the run is done, and everything
-/// before it is done, printed and in the journal.
+/// The status is 0 if the command did its work: every line of the source was run, or the volume is formatted. It is 2 if
+/// the words are refused, 3 if the next line isn't run, 4 if there is no volume for a session, or one for `format`, or the
+/// row of its setting is malformed or of a later version, 5 if a device failed, and 6 if the process is out of memory.
+/// Standard error has a text for each but the first, which ends with a line feed. Nothing after the end of the run is done,
+/// and everything before it is done, printed and in the journal. A device's count of faults rises only with status 5, by
+/// that device, and standard error's own faults are passed over.
 pub fn run<S: Source, O: Sink, E: Sink, K: Keeper, C: Clock>(
     alloc: Global,
     words: &[String],
     world: World<S, O, E, K, C>,
 ) -> Finish<S, O, E, K, C>
-    ensures { RunsWords (asked (map string_bytes words.now))
-        (outside (S.left world.source) (seen (S.faults world.source) (O.taken world.out) (O.faults world.out) (C.answers world.clock) (C.faults world.clock) []) (K.rows world.keeper) (K.faults world.keeper) (shown (E.taken world.err) (E.faults world.err)))
-        (outside (S.left result.world.source) (seen (S.faults result.world.source) (O.taken result.world.out) (O.faults result.world.out) (C.answers result.world.clock) (C.faults result.world.clock) result.world.journal.acts) (K.rows result.world.keeper) (K.faults result.world.keeper) (shown (E.taken result.world.err) (E.faults result.world.err)))
-        result.status }
+    ensures { let seen = ⟦<World<S, O, E, K, C> as Seen>⟧.seen in
+        Runs (map string_bytes words.now) (seen world) (seen result.world) result.status }
 {
     let mut world = world;
     world.journal.clear();
@@ -64,10 +61,8 @@ fn run_command<S: Source, O: Sink, E: Sink, K: Keeper, C: Clock>(
 ) -> Ended
     requires allowed { IsAllowedCommand command }
     requires empty { world.old.journal.acts ≡ [] }
-    ensures runs { Runs command
-        (outside (S.left world.old.source) (seen (S.faults world.old.source) (O.taken world.old.out) (O.faults world.old.out) (C.answers world.old.clock) (C.faults world.old.clock) world.old.journal.acts) (K.rows world.old.keeper) (K.faults world.old.keeper) (shown (E.taken world.old.err) (E.faults world.old.err)))
-        (outside (S.left world.new.source) (seen (S.faults world.new.source) (O.taken world.new.out) (O.faults world.new.out) (C.answers world.new.clock) (C.faults world.new.clock) world.new.journal.acts) (K.rows world.new.keeper) (K.faults world.new.keeper) (shown (E.taken world.new.err) (E.faults world.new.err)))
-        result }
+    ensures runs { let seen = ⟦<World<S, O, E, K, C> as Seen>⟧.seen in
+        RunsCommand command (seen world.old) (seen world.new) result }
     ensures err { world.new.err ≡ world.old.err }
 {
     match command {
@@ -83,11 +78,11 @@ fn run_session<S: Source, O: Sink, E: Sink, K: Keeper, C: Clock>(
     world: &mut World<S, O, E, K, C>,
 ) -> Ended
     requires { world.old.journal.acts ≡ [] }
-    ensures runs { RunsSession
-        (outside (S.left world.old.source) (seen (S.faults world.old.source) (O.taken world.old.out) (O.faults world.old.out) (C.answers world.old.clock) (C.faults world.old.clock) world.old.journal.acts) (K.rows world.old.keeper) (K.faults world.old.keeper) (shown (E.taken world.old.err) (E.faults world.old.err)))
-        (outside (S.left world.new.source) (seen (S.faults world.new.source) (O.taken world.new.out) (O.faults world.new.out) (C.answers world.new.clock) (C.faults world.new.clock) world.new.journal.acts) (K.rows world.new.keeper) (K.faults world.new.keeper) (shown (E.taken world.new.err) (E.faults world.new.err)))
-        result }
-    ensures keeper { K.rows world.new.keeper ≡ K.rows world.old.keeper }
+    ensures runs { let seen = ⟦<World<S, O, E, K, C> as Seen>⟧.seen in
+        RunsSession (seen world.old) (seen world.new) result }
+    ensures faults { let seen = ⟦<World<S, O, E, K, C> as Seen>⟧.seen in
+        CountsFaults result (seen world.old) (seen world.new) }
+    ensures keeper { UsesKeeper result place.now (K.seen world.old.keeper) (K.seen world.new.keeper) }
     ensures err { world.new.err ≡ world.old.err }
 {
     match open_volume(alloc, &mut world.keeper, place) {

@@ -1,7 +1,7 @@
-//! How a command ends.
 ghost use Rattle.std.specs.Prelude.{◌≡◌, ◌++◌, decimal};
 ghost use Rattle.jv_cmd.specs.Ends.{status_of, message_of};
-ghost use Rattle.jv_cmd.specs.Saying.{shown, Says, SaysBy};
+ghost use Rattle.jv_cmd.specs.Saying.{Says};
+ghost use Rattle.jv_outside.specs.Stream.{WritesAll};
 
 use itoa::Buffer;
 use jv_model::Down;
@@ -20,13 +20,13 @@ pub(crate) enum Ended {
     VolumeExists,
     /// The rows are of this version, which is a later one.
     NewerVersion(u32),
-    /// The row of the setting is off its grammar.
+    /// The row of the setting is malformed.
     SettingOff,
     SourceFailed,
     OutFailed,
     ClockFailed,
     KeeperFailed,
-    /// Want of memory.
+    /// Out of memory.
     OutOfMemory,
 }
 
@@ -47,7 +47,7 @@ impl Ended {
 
 /// Says on standard error how the command ended. Takes no memory. A fault there is passed over.
 pub(crate) fn report<E: Sink>(ended: Ended, err: &mut E)
-    ensures { Says (shown (E.taken err.old) (E.faults err.old)) (shown (E.taken err.new) (E.faults err.new)) (message_of ended) }
+    ensures { Says (E.seen err.old) (E.seen err.new) (message_of ended) }
 {
     match ended {
         Ended::Whole => {}
@@ -71,20 +71,20 @@ pub(crate) fn report<E: Sink>(ended: Ended, err: &mut E)
 
 /// Writes a text to standard error. A fault there is passed over.
 pub(crate) fn say<E: Sink>(text: &[u8], err: &mut E)
-    ensures { Says (shown (E.taken err.old) (E.faults err.old)) (shown (E.taken err.new) (E.faults err.new)) text.now }
+    ensures { Says (E.seen err.old) (E.seen err.new) text.now }
 {
     let _ = write_whole(err, text);
 }
 
 /// Writes a text with a number in it to standard error. A fault there is passed over.
 fn say_number<E: Sink>(before: &[u8], number: u32, after: &[u8], err: &mut E)
-    ensures { Says (shown (E.taken err.old) (E.faults err.old)) (shown (E.taken err.new) (E.faults err.new)) (before.now ++ decimal number ++ after.now) }
+    ensures { Says (E.seen err.old) (E.seen err.new) (before.now ++ decimal number ++ after.now) }
 {
     let _ = write_number(before, number, after, err);
 }
 
 fn write_number<E: Sink>(before: &[u8], number: u32, after: &[u8], err: &mut E) -> Result<(), Down>
-    ensures { SaysBy result (shown (E.taken err.old) (E.faults err.old)) (shown (E.taken err.new) (E.faults err.new)) (before.now ++ decimal number ++ after.now) }
+    ensures { WritesAll (E.seen err.old) (E.seen err.new) result (before.now ++ decimal number ++ after.now) }
 {
     write_whole(err, before)?;
     write_whole(err, Buffer::new().format(number).as_bytes())?;

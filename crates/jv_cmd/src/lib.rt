@@ -11,8 +11,4 @@ mod words;
 mod world;
 
 pub use command::run;
-pub use format::{default_setting, fresh_rows};
-pub use world::{Finish, World};
-
-#[cfg(test)]
-mod tests;
+pub use world::{Finish, Seen, World};

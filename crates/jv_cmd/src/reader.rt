@@ -1,26 +1,22 @@
-//! Lines of a source.
 ghost use Rattle.std.specs.Prelude.{◌≡◌, ℕ, ◌+◌, ◌-◌, ◌<◌, ◌≤◌, ◌==◌, nat_le, if◌then◌else◌, [], length, take, drop, slice_range, vec_len, false, IfOk, OnOk};
 ghost use Rattle.std.specs.List.{position};
-ghost use Rattle.std.specs.Io.KnownBytes.{prepend_known, ReadConsumes};
-ghost use Rattle.jv_outside.specs.Causes.{HasCause};
+ghost use Rattle.std.specs.Io.KnownBytes.{prepend_known};
+ghost use Rattle.jv_outside.specs.Stream.{Reads};
 ghost use Rattle.jv_cmd.specs.declared.reader.Next.TheVariants.{Text, TooLong, End};
-ghost use Rattle.jv_cmd.specs.Texts.{is_feed, has_feed, longest_text};
+ghost use Rattle.jv_cmd.specs.Texts.{is_feed, has_feed};
 
-use jv_model::Down;
+use jv_model::{Down, MAX_LINE};
 use jv_outside::Source;
 use std::alloc::{AllocError, Global};
 use std::marker::Model;
 
-/// The most bytes of a line, without its line feed.
-pub(crate) const LONGEST_TEXT: usize = 1_048_576;
-
-/// Bytes that are held: the longest line, and a piece of 64 KiB after it.
-const ROOM: usize = LONGEST_TEXT + 65_536;
+/// The bytes that are held at most: the longest line, and 64 KiB after it.
+const ROOM: usize = MAX_LINE + 65_536;
 
 /// What comes next in a source.
 #[derive(Clone, Copy, Debug, PartialEq, Eq)]
 pub(crate) enum Next {
-    /// A line of so many bytes, which are held.
+    /// A line of this number of bytes, which are held.
     Text(usize),
     /// A line that is longer than a line may be.
     TooLong,
@@ -55,7 +51,7 @@ fn feed_in(bytes: &[u8]) -> Option<usize>
 }
 
 impl LineReader {
-    ghost use Rattle.jv_cmd.specs.Cutting.{Finds, Fills};
+    ghost use Rattle.jv_cmd.specs.Cutting.{Finds, Fills, CountsRead};
 
     /// A reader that holds nothing.
     pub(crate) fn new(alloc: Global) -> Result<LineReader, AllocError>
@@ -92,7 +88,7 @@ impl LineReader {
         &self.buffer.as_slice()[self.start + from..self.end]
     }
 
-    /// Lets go of a line of so many bytes and of the line feed after it.
+    /// Lets go of a line of `count` bytes and of the line feed after it.
     pub(crate) fn pass(&mut self, count: usize)
         requires { count ≤ length self.old }
         ensures { self.new ≡ drop (count + 1) self.old }
@@ -100,13 +96,13 @@ impl LineReader {
         self.start = self.end.min(self.start + count + 1);
     }
 
-    /// Takes more bytes from the source, behind those that are held, and gives their number, which is 0 only at
-    /// the end of the source.
+    /// Takes more bytes from the source, behind those that are held, and returns their number, which is 0 only at the
+    /// end of the source.
     fn fill<S: Source>(&mut self, source: &mut S) -> Result<usize, Down>
-        requires { length self.old ≤ longest_text }
-        ensures filled { IfOk result (Fills (S.left source.old) (S.left source.new) self.old self.new) }
+        requires { length self.old ≤ MAX_LINE }
+        ensures filled { IfOk result (Fills (S.seen source.old).content (S.seen source.new).content self.old self.new) }
         ensures small { OnOk result (length self.new ≤ ROOM) }
-        ensures cause { HasCause (S.faults source.old) (S.faults source.new) result }
+        ensures counts { CountsRead (S.seen source.old).faults (S.seen source.new).faults result }
     {
         let (start, end) = moved_to_front(&mut self.buffer, self.start, self.end);
         self.start = start;
@@ -116,7 +112,7 @@ impl LineReader {
         Ok(count)
     }
 
-    /// The place of the first line feed among the bytes that are held, of which so many were looked at before.
+    /// The place of the first line feed among the bytes that are held, whose first `seen` have none.
     fn feed_after(&self, seen: usize) -> Option<usize>
         requires within { seen ≤ length self.now }
         requires none_seen { has_feed (take seen self.now) ≡ false }
@@ -127,8 +123,9 @@ impl LineReader {
 
     /// Looks for the next line, and reads from the source as far as it has to.
     pub(crate) fn next<S: Source>(&mut self, source: &mut S) -> Result<Next, Down>
-        ensures finds { Finds (prepend_known self.old (S.left source.old)) (S.left source.new) self.new result }
-        ensures cause { HasCause (S.faults source.old) (S.faults source.new) result }
+        ensures finds { Finds (prepend_known self.old (S.seen source.old).content) (S.seen source.new).content
+            self.new result }
+        ensures counts { CountsRead (S.seen source.old).faults (S.seen source.new).faults result }
     {
         let mut seen = 0;
         'pieces: loop {
@@ -136,7 +133,7 @@ impl LineReader {
                 return Ok(by_length(count));
             }
             seen = self.len();
-            if seen > LONGEST_TEXT {
+            if seen > MAX_LINE {
                 return Ok(Next::TooLong);
             }
             if self.fill(source)? == 0 {
@@ -146,7 +143,7 @@ impl LineReader {
     }
 }
 
-/// Moves the bytes between two places to the front where there is no room behind them, and gives their places.
+/// Moves the bytes between two places to the front if there is no room behind them, and returns their places.
 fn moved_to_front(buffer: &mut Vec<u8>, start: usize, end: usize) -> (usize, usize)
     requires order { start ≤ end }
     requires within { end ≤ vec_len buffer.old }
@@ -154,7 +151,7 @@ fn moved_to_front(buffer: &mut Vec<u8>, start: usize, end: usize) -> (usize, usi
     ensures same { slice_range buffer.new.items result.0 result.1 ≡ slice_range buffer.old.items start end }
     ensures order { result.0 ≤ result.1 }
     ensures within { result.1 ≤ ROOM }
-    ensures room { end - start ≤ longest_text → result.1 < ROOM }
+    ensures room { end - start ≤ MAX_LINE → result.1 < ROOM }
     ensures size { vec_len buffer.new ≡ ROOM }
 {
     if end < ROOM {
@@ -169,18 +166,16 @@ fn read_behind<S: Source>(source: &mut S, buffer: &mut Vec<u8>, end: usize) -> R
     requires room { end < vec_len buffer.old }
     ensures size { vec_len buffer.new ≡ vec_len buffer.old }
     ensures front { take end buffer.new.items ≡ take end buffer.old.items }
-    ensures bound { IfOk result (λ count. count ≤ vec_len buffer.old - end) }
-    ensures bytes { ReadConsumes (S.left source.old) (S.left source.new) result (drop end buffer.new.items) }
-    ensures cause { HasCause (S.faults source.old) (S.faults source.new) result }
+    ensures reads { Reads (S.seen source.old) (S.seen source.new) result (drop end buffer.new.items) }
 {
     source.read(&mut buffer.as_mut_slice()[end..])
 }
 
 /// A line that a line feed ends.
 fn by_length(count: usize) -> Next
-    ensures { result ≡ (if nat_le count longest_text then Text count else TooLong) }
+    ensures { result ≡ (if nat_le count MAX_LINE then Text count else TooLong) }
 {
-    if count <= LONGEST_TEXT {
+    if count <= MAX_LINE {
         Next::Text(count)
     } else {
         Next::TooLong

@@ -1,8 +1,6 @@
-//! The volume that a command is run on.
-ghost use Rattle.std.specs.Prelude.{◌≡◌, ◌≤◌, IfOk, IfErr, IsTrue, IsOk};
-ghost use Rattle.jv_model.specs.rows.RowGrammar.{is_setting};
-ghost use Rattle.jv_outside.specs.Causes.{Rose};
-ghost use Rattle.jv_cmd.specs.Opening.{IsStored, CannotRead, CannotOpen, IsKnown, ReadsSetting, OpensVolume};
+ghost use Rattle.std.specs.Prelude.{◌≡◌, IfErr};
+ghost use Rattle.jv_cmd.specs.Faults.{UsesKeeper, ended_by};
+ghost use Rattle.jv_cmd.specs.Opening.{CannotRead, ReadsSetting, OpensVolume};
 
 use crate::ended::Ended;
 use jv_model::{Down, RowFault, Setting, Text};
@@ -15,9 +13,9 @@ const VERSION: u32 = 1;
 
 /// Opens the keeper at a place.
 fn attach<K: Keeper>(keeper: &mut K, place: &Text) -> Result<(), Ended>
-    ensures rows { K.rows keeper.new ≡ K.rows keeper.old }
-    ensures later { K.faults keeper.old ≤ K.faults keeper.new }
-    ensures refused { IfErr result (CannotRead (K.rows keeper.old) (K.faults keeper.old) (K.faults keeper.new)) }
+    ensures rows { (K.seen keeper.new).rows ≡ (K.seen keeper.old).rows }
+    ensures keeper { UsesKeeper (ended_by result) place.now (K.seen keeper.old) (K.seen keeper.new) }
+    ensures refused { IfErr result (CannotRead (K.seen keeper.old).rows) }
 {
     match keeper.attach(place) {
         Ok(()) => Ok(()),
@@ -32,7 +30,7 @@ pub(crate) fn stored_setting<K: Keeper>(
     keeper: &mut K,
     place: &Text,
 ) -> Result<Option<Setting>, Ended>
-    ensures { ReadsSetting (K.rows keeper.old) (K.rows keeper.new) (K.faults keeper.old) (K.faults keeper.new) result }
+    ensures { ReadsSetting place.now (K.seen keeper.old) (K.seen keeper.new) result }
 {
     attach(keeper, place)?;
     match read_setting(alloc, keeper) {
@@ -49,7 +47,7 @@ pub(crate) fn open_volume<K: Keeper>(
     keeper: &mut K,
     place: &Text,
 ) -> Result<Setting, Ended>
-    ensures { OpensVolume (K.rows keeper.old) (K.rows keeper.new) (K.faults keeper.old) (K.faults keeper.new) result }
+    ensures { OpensVolume place.now (K.seen keeper.old) (K.seen keeper.new) result }
 {
     let Some(setting) = stored_setting(alloc, keeper, place)? else {
         return Err(Ended::NoVolume);

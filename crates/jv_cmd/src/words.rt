@@ -7,6 +7,3 @@ mod values;
 
 pub(crate) use read::read_words;
 pub(crate) use request::{Command, SessionOptions, WordsFault};
-
-#[cfg(test)]
-mod tests;

@@ -1,5 +1,5 @@
-//! What a command is run over, and what comes back.
 use jv_model::Journal;
+use jv_outside::{Clock, Keeper, Sink, Source};
 
 /// The devices of a command, and its journal.
 #[derive(Drop)]
@@ -22,4 +22,18 @@ pub struct Finish<S, O, E, K, C> {
     /// The exit status.
     pub status: u8,
     pub world: World<S, O, E, K, C>,
+}
+
+/// What contracts see of a world.
+pub trait Seen {
+    ghost use Rattle.jv_cmd.specs.Worlds.{WorldValue};
+
+    ghost seen: { Self → WorldValue };
+}
+
+impl<S: Source, O: Sink, E: Sink, K: Keeper, C: Clock> Seen for World<S, O, E, K, C> {
+    ghost use Rattle.jv_cmd.specs.Worlds.{world_value};
+
+    ghost seen = { λ w. world_value (S.seen w.source) (O.seen w.out) (E.seen w.err) (K.seen w.keeper) (C.seen w.clock)
+        w.journal.acts };
 }

@@ -1,4 +1,4 @@
--- What a scan of the tree gives are the rows of the table after the key.
+-- A scan of the tree finds the rows of the table after the key.
 use Rattle.std.proofs.Common.{◌≡◌, ◌≢◌, ℕ, zero, suc, ◌-◌, ◌<◌, ◌≤◌, Bool, true, false, cond, if◌then◌else◌, ◌&&◌, ◌==◌, T, List, [], ◌∷◌, ◌++◌, length, length-append, filter, take, take_while, Option, None, Some, Result, IfOk, refl, sym, ap, subst, ◌∙◌, append_assoc, append-nil, eqb-true, ne_eqb, arith}
 use Rattle.std.proofs.lemmas.Bool.{eqb-false}
 use Rattle.std.proofs.lemmas.List.Sums.{take_while-cons}
@@ -20,7 +20,7 @@ use Rattle.jv_model.proofs.FiniteMapLaws.{get-map_of, same_map}
 use Rattle.jv_outside.specs.Rows.{is_after}
 use Rattle.jv_outside.specs.Stored.{scan_start}
 
--- ---- what a loop has found, and what the rest still gives
+-- ---- what a loop has found, and what it finds in the rest
 
 take_nothing : {A : Type 0} (n : ℕ) → take {A = A} n [] ≡ []
 take_nothing zero = refl

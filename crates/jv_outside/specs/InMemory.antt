@@ -9,7 +9,7 @@ use Rattle.jv_outside.specs.Store.{Store}
 use Rattle.jv_outside.specs.Stream.{Stream}
 use Rattle.jv_outside.specs.Ticks.{Ticks}
 
--- the bytes left, the most that a call gives, and the calls
+-- the bytes left, the most that a call reads, and the calls
 pub record SourceValue : Type 0 where
   pub left : List ℕ
   pub most : ℕ

@@ -31,22 +31,22 @@ pub record FailsToKeep (before after : Store) (down : Down) : Type 0 where
 abbrev pub IsSame : Store → Store → Type 0
 IsSame before after = IsNow before after before.rows before.opened
 
--- what it comes to to open the keeper at a place
+-- opening the keeper at a place, by the result
 abbrev pub Opens : Store → Store → Result (Unit {0}) Down → List ℕ → Type 0
 Opens before after (Ok unit) place = IsNow before after before.rows (Some place)
 Opens before after (Err down) place = FailsToKeep before after down
 
--- what it comes to to look for the bytes at a key
+-- looking for the bytes at a key, by the result
 abbrev pub Finds : Store → Store → Result (Option (List ℕ)) Down → RowKey → Type 0
 Finds before after (Ok value) key = IsSame before after × IfSome before.rows (λ rows. value ≡ get rows key)
 Finds before after (Err down) key = FailsToKeep before after down
 
--- what it comes to to look for the first `count` rows of a table after a key
+-- looking for the first `count` rows of a table after a key, by the result
 abbrev pub Scans : Store → Store → Result (List (RowKey × List ℕ)) Down → ℕ → Option RowKey → ℕ → Type 0
 Scans before after (Ok found) tab last count = IsSame before after × IfSome before.rows (λ rows. found ≡ rows_after rows tab last count)
 Scans before after (Err down) tab last count = FailsToKeep before after down
 
--- what it comes to to make changes
+-- making changes, by the result
 abbrev pub Commits : Store → Store → Result (Unit {0}) Down → List Change → Type 0
 Commits before after (Ok unit) changes = IsNow before after (option_map (applied changes) before.rows) before.opened
 Commits before after (Err down) changes = FailsToKeep before after down

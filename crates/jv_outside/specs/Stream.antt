@@ -26,7 +26,7 @@ pub record FailsToRead (before after : Stream) (down : Down) : Type 0 where
   pub content : Keeps before.content after.content
   pub cause : HasFailed before.faults after.faults down
 
--- what a call of a source comes to
+-- a call of a source, by its result
 abbrev pub Reads : Stream → Stream → Result ℕ Down → List ℕ → Type 0
 Reads before after (Ok count) into = HasRead before after count into
 Reads before after (Err down) into = FailsToRead before after down
@@ -43,7 +43,7 @@ pub record FailsToWrite (before after : Stream) (down : Down) : Type 0 where
   pub content : after.content ≡ before.content
   pub cause : HasFailed before.faults after.faults down
 
--- what a call of a sink comes to
+-- a call of a sink, by its result
 abbrev pub Writes : Stream → Stream → Result ℕ Down → List ℕ → Type 0
 Writes before after (Ok count) piece = HasWritten before after count piece
 Writes before after (Err down) piece = FailsToWrite before after down
@@ -60,7 +60,7 @@ pub record IsCut (before after : Stream) (bytes : List ℕ) : Type 0 where
   pub gains : Gains before.content after.content (take count bytes)
   pub rose : Rose before.faults after.faults
 
--- what it comes to to write all bytes
+-- a write of all bytes, by its result
 abbrev pub WritesAll : Stream → Stream → Result (Unit {0}) Down → List ℕ → Type 0
 WritesAll before after (Ok unit) bytes = HasAll before after bytes
 WritesAll before after (Err down) bytes = IsCut before after bytes

@@ -24,7 +24,7 @@ pub record FailsToAnswer (before after : Ticks) (down : Down) : Type 0 where
   pub answers : after.answers ≡ before.answers
   pub cause : HasFailed before.faults after.faults down
 
--- what a call of a clock comes to
+-- a call of a clock, by its result
 abbrev pub Answers : Ticks → Ticks → Result ℕ Down → Type 0
 Answers before after (Ok moment) = HasAnswered before after moment
 Answers before after (Err down) = FailsToAnswer before after down

@@ -78,12 +78,12 @@ impl RowStore {
     {
         self.settle()?;
         self.waiting = copied_changes(self.alloc, batch.as_slice())?;
-        // They are made now. Where memory is wanting to bring them among the rows, they wait for the next call.
+        // They are made now. If there is no memory to bring them among the rows, they wait for the next call.
         let _ = self.settle();
         Ok(())
     }
 
-    /// Brings all rows into order and makes what waits. Where memory is wanting, some of it waits still.
+    /// Brings all rows into order and makes what waits. Out of memory, some of it waits still.
     fn settle(&mut self) -> Result<(), AllocError>
         ensures same { stored self.new ≡ stored self.old }
         ensures settled { OnOk result (IsSettled self.new) }

@@ -4,7 +4,7 @@ use Rattle.std.specs.Bool.{IsTrue}
 use Rattle.std.specs.Str.{is_utf8, chars}
 use Rattle.jv_model.specs.declared.setting.Setting.{Setting}
 use Rattle.jv_model.specs.rows.RowGrammar.{is_setting}
-use Rattle.jv_cmd.specs.Fresh.{default_setting}
+use Rattle.jv_rows.specs.FreshRows.{default_setting}
 use Rattle.juicevol.proofs.keeper.Goals as goal
 
 default_allowed : is_setting default_setting ≡ true

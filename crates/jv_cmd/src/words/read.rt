@@ -1,39 +1,29 @@
-//! Words, read as a command.
-ghost use Rattle.std.specs.Prelude.{◌≡◌, ◌≤◌, ◌^◌, ◌<◌, [], IfOk, IfErr, map, string_bytes, codes};
+ghost use Rattle.std.specs.Prelude.{◌≡◌, ◌≤◌, IfOk, IfErr, map, string_bytes, codes};
 ghost use Rattle.std.specs.Option.{option_copied};
 ghost use Rattle.clap.specs.Words.{fault_of, first_of, found_of, rows_of, subcommand_rows_of};
 ghost use Rattle.jv_cmd.specs.declared.words.read.BadValue.TheVariants as bad;
 ghost use Rattle.jv_cmd.specs.Program.{program_app};
 ghost use Rattle.jv_cmd.specs.Values.{block_size_of, number_within, place_of};
-ghost use Rattle.jv_cmd.specs.Words.{Answers, Parses, Reads, SaysRefused, asked, command_at, format_in, has_text, options_in, session_in, setting_in, setting_fields_in, stored_setting_in, value_in, where_allowed};
+ghost use Rattle.jv_cmd.specs.Words.{Answers, Parses, Reads, Refuses, asked, command_at, format_in, has_text, options_in, session_in, setting_in, setting_fields_in, stored_setting_in, value_in, where_allowed};
 
 use super::program::program;
 use super::refusal::{refused, told};
 use super::request::{Command, SessionOptions, WordsFault};
 use super::values::{block_size, number_within, place};
 use clap::ArgMatches;
-use jv_model::{Setting, Text, copied};
+use jv_model::{FULL_COUNT, MAX_CAPACITY, MAX_TRASH_DAYS, Setting, Text, copied};
 use jv_rows::allows_setting;
 use std::alloc::{AllocError, Global};
 
 /// The version of the rows that are written.
 const VERSION: u32 = 1;
 
-/// The greatest capacity in GiB.
-const MAX_CAPACITY: u64 = 4_294_967_296;
-
-/// The greatest number of inodes, 2^62.
-const MAX_INODES: u64 = 4_611_686_018_427_387_904;
-
-/// The most days that removed files stay in the trash.
-const MAX_TRASH_DAYS: u64 = 36_500;
-
-/// Why matched words give no command.
+/// Why matched words are no command.
 #[derive(Clone, Copy, Debug, PartialEq, Eq)]
 pub(crate) enum BadValue {
-    /// A value is off its range.
+    /// A value is out of its range.
     Off,
-    /// Want of memory.
+    /// Out of memory.
     Memory,
 }
 
@@ -47,12 +37,11 @@ impl From<AllocError> for BadValue {
 
 /// Reads the words after the program's name.
 ///
-/// They are refused exactly where they ask for no command: where `clap` refuses them, also for a request for help, and
-/// where a value is off its range.
+/// They are refused if and only if they ask for no command: where `clap` refuses them, also for a request for help, and
+/// where a value is out of its range. The text of a refusal ends with a line feed.
 pub fn read_words(alloc: Global, words: &[String]) -> Result<Command, WordsFault>
     ensures asked { Answers (asked (map string_bytes words.now)) result }
-    // Where `clap` takes the words, the refusal has one text.
-    ensures off { fault_of program_app (map string_bytes words.now) ≡ [] → IfErr result SaysRefused }
+    ensures refusal { IfErr result (Refuses (map string_bytes words.now)) }
 {
     let matches = parse(alloc, words)?;
     match command(alloc, &matches) {
@@ -127,8 +116,8 @@ fn setting_fields(alloc: Global, values: &ArgMatches<'_>) -> Result<Setting, Bad
 {
     let block = block_in(values)?;
     let capacity = number_in(values, "capacity", 0, MAX_CAPACITY)?;
-    let inodes = number_in(values, "inodes", 0, MAX_INODES)?;
-    let trash_days = number_in(values, "trash-days", 0, MAX_TRASH_DAYS)? as u32;
+    let inodes = number_in(values, "inodes", 0, FULL_COUNT)?;
+    let trash_days = number_in(values, "trash-days", 0, u64::from(MAX_TRASH_DAYS))? as u32;
     let name = copied_in(alloc, values, "name")?;
     let bucket = copied_in(alloc, values, "bucket")?;
     Ok(Setting {

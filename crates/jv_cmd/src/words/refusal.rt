@@ -1,8 +1,8 @@
-//! What is said of words that are refused.
-ghost use Rattle.std.specs.Prelude.{◌≡◌};
+ghost use Rattle.std.specs.Prelude.{◌≡◌, IfOk, string_bytes};
 ghost use Rattle.clap.specs.Words.{kind_of};
 ghost use Rattle.clap.specs.declared.error.kind.ErrorKind.TheVariants.{OutOfMemory};
-ghost use Rattle.jv_cmd.specs.Words.{SaysRefused};
+ghost use Rattle.jv_cmd.specs.Saying.{EndsInFeed};
+ghost use Rattle.jv_cmd.specs.Words.{HasFeed, SaysRefused};
 
 use super::request::WordsFault;
 use clap::Error;
@@ -20,8 +20,10 @@ pub(crate) fn refused(alloc: Global) -> WordsFault
 }
 
 /// The refusal of words that `clap` refuses, in its own words where they are of a command that is built.
+#[tactic(auto, using(crate::proofs::AskedLaws::feed_of_own))]
 pub(crate) fn told(alloc: Global, words: &[String], error: &Error) -> WordsFault
-    ensures { kind_of error.now ≡ OutOfMemory → result ≡ WordsFault.Memory }
+    ensures memory { kind_of error.now ≡ OutOfMemory → result ≡ WordsFault.Memory }
+    ensures feed { HasFeed result }
 {
     match error.kind() {
         ErrorKind::OutOfMemory => WordsFault::Memory,
@@ -47,19 +49,26 @@ fn is_generate(word: &str) -> bool {
     word == "--generate" || word.starts_with("--generate=")
 }
 
-fn own_text(alloc: Global, error: &Error) -> WordsFault {
+fn own_text(alloc: Global, error: &Error) -> WordsFault
+    ensures { HasFeed result }
+{
     match text_of(alloc, error) {
         Ok(text) => WordsFault::Refused(text),
         Err(_) => WordsFault::Memory,
     }
 }
 
-fn text_of(alloc: Global, error: &Error) -> Result<String, AllocError> {
+/// The text of `clap` for the error, which ends with a line feed.
+fn text_of(alloc: Global, error: &Error) -> Result<String, AllocError>
+    ensures { IfOk result (λ text. EndsInFeed (string_bytes text)) }
+{
     let text = format!(in alloc; "{error}")?;
-    without_hints(alloc, text.as_str())
+    let mut kept = without_hints(alloc, text.as_str())?;
+    kept.push_str("\n")?;
+    Ok(kept)
 }
 
-/// A text of `clap` without the lines that guess at what was meant, and without the blank line above them. Where there is
+/// The lines of a text of `clap`, without those that guess at what was meant and the blank line above them. Where there is
 /// a guess the usage is one of them: it names the option that is taken for meant.
 fn without_hints(alloc: Global, text: &str) -> Result<String, AllocError> {
     let has_guess = text.lines().any(is_tip);
@@ -68,8 +77,10 @@ fn without_hints(alloc: Global, text: &str) -> Result<String, AllocError> {
     for line in text.lines() {
         let is_hint = is_tip(line) || has_guess && line.starts_with("Usage: ");
         if !is_hint && !(line.is_empty() && is_after_blank) {
+            if !kept.is_empty() {
+                kept.push_str("\n")?;
+            }
             kept.push_str(line)?;
-            kept.push_str("\n")?;
             is_after_blank = line.is_empty();
         }
     }

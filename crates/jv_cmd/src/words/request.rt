@@ -39,13 +39,13 @@ pub struct SessionOptions {
     pub cache_dir: Text,
 }
 
-/// Why words give no command.
+/// Why words are no command.
 #[derive(Debug, Drop, Error)]
 pub enum WordsFault {
-    /// The words are off, or ask for help. This is the text for standard error, with its line feed.
+    /// The words are malformed, or ask for help. This is the text for standard error, with its line feed.
     #[error("{0}")]
     Refused(String),
-    /// Want of memory.
+    /// Out of memory.
     #[error("out of memory")]
     Memory,
 }

@@ -1,13 +1,10 @@
-//! The values of a command line.
 ghost use Rattle.std.specs.Prelude.{◌≤◌, IfSome, ◌≡◌, ◌||◌, ◌==◌, if◌then◌else◌, take, ◌-◌, length, option_map};
 ghost use Rattle.std.specs.List.{list_all};
 ghost use Rattle.std.specs.Option.{option_copied};
 ghost use Rattle.jv_model.specs.script.Spelling.{is_numeral, is_decimal_digit};
 ghost use Rattle.jv_cmd.specs.Values.{number_of_digits, number_within, digits_of, unit_of, is_block_size, block_size_of, place_of};
 
-const KIB: u64 = 1_024;
-
-const MIB: u64 = 1_048_576;
+use jv_model::{KIB, MIB};
 
 /// What comes before the path in the URL of a volume.
 const SCHEME: &[u8] = b"sqlite3://";

@@ -1,13 +1,12 @@
-use Rattle.std.proofs.Common.{List, [], refl, ap, subst, string_bytes, map, Err}
+use Rattle.std.proofs.Common.{◌≡◌, ℕ, List, [], ap, sym, subst, string_bytes, map, Err}
 use Rattle.jv_model.specs.declared.act.Act.{Act}
 use Rattle.jv_cmd.specs.declared.words.request.WordsFault.{WordsFault}
-use Rattle.jv_cmd.specs.Commands.{outside}
-use Rattle.jv_cmd.specs.Ends.{message_of}
-use Rattle.jv_cmd.specs.Run.{seen}
-use Rattle.jv_cmd.specs.Saying.{shown, Says}
-use Rattle.jv_cmd.specs.Words.{Answers, asked}
+use Rattle.jv_cmd.specs.Commands.{RunsAsked}
+use Rattle.jv_cmd.specs.Saying.{Says}
+use Rattle.jv_cmd.specs.Words.{Answers, Refuses, asked}
+use Rattle.jv_cmd.specs.Worlds.{WorldValue, world_value}
 use Rattle.jv_cmd.proofs.AskedLaws.{asked_allowed}
-use Rattle.jv_cmd.proofs.CommandLaws.{RunsWords-ran, RunsWords-refused, RunsWords-unread}
+use Rattle.jv_cmd.proofs.CommandLaws.{RunsAsked-ran, RunsAsked-refused, RunsAsked-unread}
 use Rattle.jv_cmd.proofs.command.run.Goals as goal
 
 pub run_command-ended-requires-clause-allowed : goal.run_command-ended-requires-clause-allowed
@@ -15,20 +14,35 @@ run_command-ended-requires-clause-allowed g c = asked_allowed _ c.in-Ok.command 
 
 pub returns-in-Ok : goal.returns-in-Ok
 returns-in-Ok g c =
+    let words = map string_bytes c.args.words.now in
     let w = c.args.world in
     let e = c.run_command-ended.new.world in
-    let before = λ (acts : List Act). outside (g.S.Source.left w.source) (seen (g.S.Source.faults w.source) (g.O.Sink.taken w.out) (g.O.Sink.faults w.out) (g.C.Clock.answers w.clock) (g.C.Clock.faults w.clock) acts)
-    (g.K.Keeper.rows w.keeper) (g.K.Keeper.faults w.keeper) (shown (g.E.Sink.taken w.err) (g.E.Sink.faults w.err)) in
-    let after = outside (g.S.Source.left e.source) (seen (g.S.Source.faults e.source) (g.O.Sink.taken e.out) (g.O.Sink.faults e.out) (g.C.Clock.answers e.clock) (g.C.Clock.faults e.clock) e.journal.acts)
-    (g.K.Keeper.rows e.keeper) (g.K.Keeper.faults e.keeper) (shown (g.E.Sink.taken e.err) (g.E.Sink.faults e.err)) in
-    RunsWords-ran (asked (map string_bytes c.args.words.now)) c.in-Ok.command (before c.clear.new.self.acts) (before []) after c.run_command-ended.result (shown (g.E.Sink.taken c.report.new.err) (g.E.Sink.faults c.report.new.err)) c.status-status.result (ap before c.clear.ensures)
-    c.in-Ok.ensures.asked c.run_command-ended.ensures.runs c.status-status.ensures
-    (subst (λ err. Says (shown (g.E.Sink.taken err) (g.E.Sink.faults err)) (shown (g.E.Sink.taken c.report.new.err) (g.E.Sink.faults c.report.new.err)) (message_of c.run_command-ended.result)) c.run_command-ended.ensures.err c.report.ensures)
+    let before : List Act → WorldValue = λ acts. world_value (g.S.Source.seen w.source) (g.O.Sink.seen w.out) (g.E.Sink.seen w.err) (g.K.Keeper.seen w.keeper) (g.C.Clock.seen w.clock) acts in
+    let after = world_value (g.S.Source.seen e.source) (g.O.Sink.seen e.out) (g.E.Sink.seen e.err) (g.K.Keeper.seen e.keeper) (g.C.Clock.seen e.clock) e.journal.acts in
+    let err = g.E.Sink.seen c.report.new.err in
+    subst (λ acts. RunsAsked words (asked words) (before acts) (record after { err = err }) c.status-status.result) c.clear.ensures
+    (RunsAsked-ran words (asked words) c.in-Ok.command (before c.clear.new.self.acts) after err c.run_command-ended.result c.status-status.result
+    c.in-Ok.ensures.asked c.run_command-ended.ensures.runs (ap g.E.Sink.seen c.run_command-ended.ensures.err) c.status-status.ensures c.report.ensures)
 
 pub returns-in-Err-Refused : goal.returns-in-Err-Refused
 returns-in-Err-Refused g c =
-    let none = subst (λ (f : WordsFault). Answers (asked (map string_bytes c.args.words.now)) (Err f)) c.in-Err-Refused.field-0-is c.in-Err-Refused.ensures.asked in
-    RunsWords-refused _ _ _ c.as_bytes.result.now none (record { source = refl; lines = ap (seen _ _ _ _ _) c.clear.ensures }) refl c.say.ensures
+    let words = map string_bytes c.args.words.now in
+    let w = c.args.world in
+    let before : List Act → WorldValue = λ acts. world_value (g.S.Source.seen w.source) (g.O.Sink.seen w.out) (g.E.Sink.seen w.err) (g.K.Keeper.seen w.keeper) (g.C.Clock.seen w.clock) acts in
+    let err = g.E.Sink.seen c.say.new.err in
+    let none = subst (λ (f : WordsFault). Answers (asked words) (Err f)) c.in-Err-Refused.field-0-is c.in-Err-Refused.ensures.asked in
+    let same : c.as_bytes.result.now ≡ string_bytes c.in-Err-Refused.text = rw c.in-Err-Refused.field-0-is at c.as_bytes.ensures.value in
+    let refusal = subst (λ (f : WordsFault). Refuses words f) c.in-Err-Refused.field-0-is c.in-Err-Refused.ensures.refusal in
+    subst (λ acts. RunsAsked words (asked words) (before []) (record (before acts) { err = err }) 2) (sym c.clear.ensures)
+    (RunsAsked-refused words (asked words) (before []) err (string_bytes c.in-Err-Refused.text) none refusal
+    (subst (λ (text : List ℕ). Says (g.E.Sink.seen w.err) err text) same c.say.ensures))
 
 pub returns-in-Err-Memory : goal.returns-in-Err-Memory
-returns-in-Err-Memory g c = RunsWords-unread _ _ _ _ (record { source = refl; lines = ap (seen _ _ _ _ _) c.clear.ensures }) refl c.report-in-Err-Memory.ensures c.status-status-in-Err-Memory.ensures
+returns-in-Err-Memory g c =
+    let words = map string_bytes c.args.words.now in
+    let w = c.args.world in
+    let before : List Act → WorldValue = λ acts. world_value (g.S.Source.seen w.source) (g.O.Sink.seen w.out) (g.E.Sink.seen w.err) (g.K.Keeper.seen w.keeper) (g.C.Clock.seen w.clock) acts in
+    let err = g.E.Sink.seen c.report-in-Err-Memory.new.err in
+    let status = c.status-status-in-Err-Memory.result in
+    subst (λ acts. RunsAsked words (asked words) (before []) (record (before acts) { err = err }) status) (sym c.clear.ensures)
+    (RunsAsked-unread words (asked words) (before []) err status c.report-in-Err-Memory.ensures c.status-status-in-Err-Memory.ensures)

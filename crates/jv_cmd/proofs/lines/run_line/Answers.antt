@@ -1,26 +1,30 @@
-use Rattle.std.proofs.Common.{List, [], ℕ, subst}
-use Rattle.jv_outside.specs.Told.{Gains, GainsFront}
-use Rattle.jv_outside.proofs.ToldLemmas.{Gains-nil}
+use Rattle.std.proofs.Common.{List, [], ℕ, refl, ap, subst}
+use Rattle.jv_outside.specs.Stream.{HasAll, IsCut}
+use Rattle.jv_outside.specs.Ticks.{Ticks}
+use Rattle.jv_outside.proofs.StreamLaws.{Gains-nil}
 use Rattle.jv_cmd.proofs.StepLaws.{Advances-said, Advances-quiet}
 use Rattle.jv_cmd.proofs.lines.run_line.Goals as goal
 
 pub returns-in-Ok-clause-ends : goal.returns-in-Ok-clause-ends
 returns-in-Ok-clause-ends g c = record {
   printed = c.in-Said.answer;
-  runs = Advances-said (g.C.Clock.answers c.args.clock.now) (g.C.Clock.answers c.line.new.clock) c.args.line.now c.args.number c.args.journal.now.acts c.line.new.journal.acts c.args.schedule.now c.line.new.self c.in-Said.answer c.in-Said.ensures.runs c.in-Said.ensures.asked;
-  gains = subst (λ (bytes : List ℕ). Gains (g.O.Sink.taken c.args.out.now) (g.O.Sink.taken c.write_whole.new.sink) bytes) c.as_slice.ensures c.in-Ok.ensures.ok;
+  runs = Advances-said c.args.line.now c.args.number _ _ c.args.schedule.now c.line.new.self c.in-Said.answer c.in-Said.ensures.runs;
+  writes = subst (λ (bytes : List ℕ). HasAll (g.O.Sink.seen c.args.world.now.out) (g.O.Sink.seen c.write_whole.new.sink) bytes) c.as_slice.ensures c.in-Ok.ensures;
+  clock = c.in-Said.ensures.runs.calm;
 }
 
 pub returns-in-Said-clause-ends : goal.returns-in-Said-clause-ends
 returns-in-Said-clause-ends g c = record {
   printed = c.in-Said.answer;
-  runs = Advances-said (g.C.Clock.answers c.args.clock.now) (g.C.Clock.answers c.line.new.clock) c.args.line.now c.args.number c.args.journal.now.acts c.line.new.journal.acts c.args.schedule.now c.line.new.self c.in-Said.answer c.in-Said.ensures.runs c.in-Said.ensures.asked;
-  gains = subst (λ (bytes : List ℕ). GainsFront (g.O.Sink.taken c.args.out.now) (g.O.Sink.taken c.write_whole.new.sink) bytes) c.as_slice.ensures c.in-Err.ensures.err;
+  runs = Advances-said c.args.line.now c.args.number _ _ c.args.schedule.now c.line.new.self c.in-Said.answer c.in-Said.ensures.runs;
+  cut = subst (λ (bytes : List ℕ). IsCut (g.O.Sink.seen c.args.world.now.out) (g.O.Sink.seen c.write_whole.new.sink) bytes) c.as_slice.ensures c.in-Err.ensures;
+  clock = c.in-Said.ensures.runs.calm;
 }
 
 pub returns-in-Quiet-clause-ends : goal.returns-in-Quiet-clause-ends
 returns-in-Quiet-clause-ends g c = record {
   printed = [];
-  runs = Advances-quiet (g.C.Clock.answers c.args.clock.now) (g.C.Clock.answers c.line.new.clock) c.args.line.now c.args.number c.args.journal.now.acts c.line.new.journal.acts c.args.schedule.now c.line.new.self (c.line.ensures.quiet.0 c.in-Quiet.is) c.in-Quiet.ensures.runs c.in-Quiet.ensures.asked;
-  gains = Gains-nil (g.O.Sink.taken c.args.out.now);
+  runs = Advances-quiet c.args.line.now c.args.number _ _ c.args.schedule.now c.line.new.self (c.line.ensures.quiet.0 c.in-Quiet.is) c.in-Quiet.ensures.runs;
+  writes = record { gains = Gains-nil (g.O.Sink.seen c.args.world.now.out).content; calm = refl };
+  clock = ap (λ (ticks : Ticks). ticks.faults) c.in-Quiet.ensures.runs.clock;
 }

@@ -1,20 +1,25 @@
-use Rattle.std.proofs.Common.{ℕ, ◌≤◌, ◌-◌, ◌+◌, ◌≡◌, List, Option}
+use Rattle.std.proofs.Common.{ℕ, ◌≤◌, ◌-◌, ◌+◌, ◌≡◌}
 use Rattle.std.specs.Io.KnownBytes.{prepend_known}
-use Rattle.jv_cmd.specs.declared.lines.TheConstants.{MOST_LINES}
-use Rattle.jv_cmd.specs.Run.{FreshVolume, Seen, seen}
+use Rattle.jv_model.specs.declared.limits.TheConstants.{MAX_LINES}
+use Rattle.jv_cmd.specs.Run.{FreshVolume}
 use Rattle.jv_cmd.specs.Steps.{Going}
+use Rattle.jv_cmd.specs.Worlds.{WorldValue, world_value}
 use Rattle.jv_cmd.proofs.lines.run_lines.Given as goal
 
--- so many lines are done, where none was at first
+-- `done` lines are run, where none was at first
 abbrev pub invariant-lines : goal.invariant-lines
 invariant-lines g l = record {
-  few : l.done ≤ MOST_LINES;
-  goes : (v : FreshVolume) (bytes : Option (List ℕ)) (before : Seen)
-      → Going v bytes (prepend_known l.initial.reader (g.S.Source.left l.initial.world.source)) before (seen (g.S.Source.faults l.initial.world.source) (g.O.Sink.taken l.initial.world.out) (g.O.Sink.faults l.initial.world.out) (g.C.Clock.answers l.initial.world.clock) (g.C.Clock.faults l.initial.world.clock) l.initial.world.journal.acts) 0 l.initial.schedule
-      → Going v bytes (prepend_known l.reader (g.S.Source.left l.world.source)) before (seen (g.S.Source.faults l.world.source) (g.O.Sink.taken l.world.out) (g.O.Sink.faults l.world.out) (g.C.Clock.answers l.world.clock) (g.C.Clock.faults l.world.clock) l.world.journal.acts) l.done l.schedule;
+  few : l.done ≤ MAX_LINES;
+  goes : (v : FreshVolume) (before : WorldValue)
+      → Going v (prepend_known l.initial.reader (g.S.Source.seen l.initial.world.source).content) before
+      (world_value (g.S.Source.seen l.initial.world.source) (g.O.Sink.seen l.initial.world.out) (g.E.Sink.seen l.initial.world.err) (g.K.Keeper.seen l.initial.world.keeper) (g.C.Clock.seen l.initial.world.clock) l.initial.world.journal.acts)
+      0 l.initial.schedule
+      → Going v (prepend_known l.reader (g.S.Source.seen l.world.source).content) before
+      (world_value (g.S.Source.seen l.world.source) (g.O.Sink.seen l.world.out) (g.E.Sink.seen l.world.err) (g.K.Keeper.seen l.world.keeper) (g.C.Clock.seen l.world.clock) l.world.journal.acts)
+      l.done l.schedule;
   keeper : l.world.keeper ≡ l.initial.world.keeper;
   err : l.world.err ≡ l.initial.world.err;
 }
 
 abbrev pub decreases-lines : goal.decreases-lines
-decreases-lines g l = MOST_LINES + 1 - l.done
+decreases-lines g l = MAX_LINES + 1 - l.done

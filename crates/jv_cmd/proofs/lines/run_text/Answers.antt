@@ -2,4 +2,4 @@ use Rattle.jv_cmd.proofs.GoingLaws.{TextEnds-from_reads}
 use Rattle.jv_cmd.proofs.lines.run_text.Goals as goal
 
 pub returns-in-Err-clause-ends : goal.returns-in-Err-clause-ends
-returns-in-Err-clause-ends g c = TextEnds-from_reads c.args.number c.args.text.now (g.O.Sink.taken c.args.out.now) (g.C.Clock.answers c.args.clock.now) c.args.journal.now.acts c.args.schedule.now c.in-Err.ended c.in-Err.ensures
+returns-in-Err-clause-ends g c = TextEnds-from_reads c.args.number c.args.text.now _ c.args.schedule.now c.in-Err.ended c.in-Err.ensures

@@ -1,4 +1,4 @@
--- A row that is found is the next one that the rest gives.
+-- A row that is found is the next one of the rest.
 use Rattle.std.proofs.Common.{◌<◌, length, eq-eqb, ◌∙◌, arith}
 use Rattle.jv_outside.proofs.ScanLaws.{outlook-next}
 use Rattle.jv_outside.proofs.store.copied_rows.Goals as goal

@@ -11,24 +11,24 @@ pub pieces-init : goal.pieces-init
 pieces-init g c = record {
   within = omega arith;
   none_seen = refl;
-  kept = Keeps-same (prepend_known c.args.self.now (g.S.Source.left c.args.source.now));
-  later = omega arith;
+  kept = Keeps-same (prepend_known c.args.self.now (g.S.Source.seen c.args.source.now).content);
+  calm = refl;
 }
 
 pub returns-in-Some-clause-finds : goal.returns-in-Some-clause-finds
 returns-in-Some-clause-finds g c =
-    subst (λ next. Finds (prepend_known c.args.self.now (g.S.Source.left c.args.source.now)) (g.S.Source.left c.pieces.source) c.pieces.self (Ok next)) (sym c.by_length.ensures)
-    (Finds-feed _ (g.S.Source.left c.pieces.source) c.pieces.self c.in-Some.count c.pieces.invariant.kept (sym c.in-Some.ensures))
+    subst (λ next. Finds (prepend_known c.args.self.now (g.S.Source.seen c.args.source.now).content) (g.S.Source.seen c.pieces.source).content c.pieces.self (Ok next)) (sym c.by_length.ensures)
+    (Finds-feed _ (g.S.Source.seen c.pieces.source).content c.pieces.self c.in-Some.count c.pieces.invariant.kept (sym c.in-Some.ensures))
 
-pub returns-then-seen-gt-LONGEST_TEXT-clause-finds : goal.returns-then-seen-gt-LONGEST_TEXT-clause-finds
-returns-then-seen-gt-LONGEST_TEXT-clause-finds g c =
-    IsOverlong-held _ (g.S.Source.left c.pieces.source) c.pieces.self c.pieces.invariant.kept (no_feed c.pieces.self (sym c.in_default.ensures)) (omega (arith, c.len-seen.ensures.length))
+pub returns-then-seen-gt-MAX_LINE-clause-finds : goal.returns-then-seen-gt-MAX_LINE-clause-finds
+returns-then-seen-gt-MAX_LINE-clause-finds g c =
+    IsOverlong-held _ (g.S.Source.seen c.pieces.source).content c.pieces.self c.pieces.invariant.kept (no_feed c.pieces.self (sym c.in_default.ensures)) (omega (arith, c.len-seen.ensures.length))
 
 pub returns-then-branch-eq0-clause-finds : goal.returns-then-branch-eq0-clause-finds
 returns-then-branch-eq0-clause-finds g c =
-    let filled = subst (λ (n : ℕ). Fills (g.S.Source.left c.pieces.source) (g.S.Source.left c.fill.new.source) c.pieces.self c.fill.new.self n) c.if-branch-eq0.true c.in_ok-fill.ensures.filled in
-    subst (λ next. Finds (prepend_known c.args.self.now (g.S.Source.left c.args.source.now)) (g.S.Source.left c.fill.new.source) c.fill.new.self (Ok next)) (sym c.last_line.ensures)
-    (Finds-last _ (g.S.Source.left c.pieces.source) (g.S.Source.left c.fill.new.source) c.pieces.self c.fill.new.self c.len-seen.result c.pieces.invariant.kept filled (no_feed c.pieces.self (sym c.in_default.ensures)) c.len-seen.ensures.length (omega arith))
+    let filled = subst (λ (n : ℕ). Fills (g.S.Source.seen c.pieces.source).content (g.S.Source.seen c.fill.new.source).content c.pieces.self c.fill.new.self n) c.if-branch-eq0.true c.in_ok-fill.ensures.filled in
+    subst (λ next. Finds (prepend_known c.args.self.now (g.S.Source.seen c.args.source.now).content) (g.S.Source.seen c.fill.new.source).content c.fill.new.self (Ok next)) (sym c.last_line.ensures)
+    (Finds-last _ (g.S.Source.seen c.pieces.source).content (g.S.Source.seen c.fill.new.source).content c.pieces.self c.fill.new.self c.len-seen.result c.pieces.invariant.kept filled (no_feed c.pieces.self (sym c.in_default.ensures)) c.len-seen.ensures.length (omega arith))
 
 pub pieces-preserved : goal.pieces-preserved
 pieces-preserved g c =
@@ -38,6 +38,6 @@ pieces-preserved g c =
     record {
       within = omega (arith, longer, c.len-seen.ensures.length);
       none_seen = ap has_feed front ∙ no_feed c.pieces.self (sym c.in_default.ensures);
-      kept = Keeps-filled _ (g.S.Source.left c.pieces.source) (g.S.Source.left c.fill.new.source) c.pieces.self c.fill.new.self c.in_ok-fill.field-0 c.pieces.invariant.kept filled;
-      later = omega (arith, c.in_ok-fill.ensures.cause.later);
+      kept = Keeps-filled _ (g.S.Source.seen c.pieces.source).content (g.S.Source.seen c.fill.new.source).content c.pieces.self c.fill.new.self c.in_ok-fill.field-0 c.pieces.invariant.kept filled;
+      calm = c.in_ok-fill.ensures.counts ∙ c.pieces.invariant.calm;
     }

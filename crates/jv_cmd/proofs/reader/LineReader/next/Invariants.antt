@@ -9,8 +9,8 @@ abbrev pub invariant-pieces : goal.invariant-pieces
 invariant-pieces g l = record {
   within : l.seen ≤ length l.self;
   none_seen : has_feed (take l.seen l.self) ≡ false;
-  kept : Keeps (prepend_known l.initial.self (g.S.Source.left l.initial.source)) (prepend_known l.self (g.S.Source.left l.source));
-  later : g.S.Source.faults l.initial.source ≤ g.S.Source.faults l.source;
+  kept : Keeps (prepend_known l.initial.self (g.S.Source.seen l.initial.source).content) (prepend_known l.self (g.S.Source.seen l.source).content);
+  calm : (g.S.Source.seen l.source).faults ≡ (g.S.Source.seen l.initial.source).faults;
 }
 
 abbrev pub decreases-pieces : goal.decreases-pieces

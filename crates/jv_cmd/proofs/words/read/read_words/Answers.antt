@@ -1,6 +1,6 @@
 use Rattle.std.proofs.Common.{◌∙◌}
 use Rattle.std.proofs.lemmas.Result.{err_from_is_err_and}
-use Rattle.jv_cmd.proofs.AskedLaws.{asked_of, off_words, refused_words}
+use Rattle.jv_cmd.proofs.AskedLaws.{asked_of, off_words, refused_words, Refuses-own, Refuses-parsed}
 use Rattle.jv_cmd.proofs.words.read.read_words.Goals as goal
 
 pub returns-in_err-matches-clause-asked : goal.returns-in_err-matches-clause-asked
@@ -15,3 +15,11 @@ pub returns-in-Err-Off-clause-asked : goal.returns-in-Err-Off-clause-asked
 returns-in-Err-Off-clause-asked c =
     let nothing = rw c.in-Err-Off.field-0-is at c.in-Err-Off.ensures in
     off_words _ c.refused.result (asked_of _ c.in_ok-matches.matches c.in_ok-matches.ensures ∙ nothing)
+
+pub returns-in_err-matches-clause-refusal : goal.returns-in_err-matches-clause-refusal
+returns-in_err-matches-clause-refusal c =
+    let told = err_from_is_err_and c.from_residual.result c.from_residual.ensures.1 in
+    rw (told.1, told.2) (Refuses-parsed _ c.in_err-matches.field-0.0 c.in_err-matches.ensures)
+
+pub returns-in-Err-Off-clause-refusal : goal.returns-in-Err-Off-clause-refusal
+returns-in-Err-Off-clause-refusal c = Refuses-own _ c.refused.result c.refused.ensures

@@ -18,5 +18,5 @@ returns-clause-found c =
     let range = c.range-rows.ensures.between tt ∙ ap (λ s. entries_between row_cmp s Unbounded entries) start in
     let rows = ap (take_while (λ row. row.0.tab == c.args.tab)) range ∙ rows-from c.args.tab last entries c.range-rows.ensures.ordered in
     let listed = ap (filter (λ row. is_after c.args.tab last row.0)) (sym (list-map_of row_key entries c.range-rows.ensures.ordered)) in
-    let told = ap (λ m. rows_after m c.args.tab last c.args.n) (sym (stored-settled _ c.in_ok-settle.ensures.settled) ∙ c.in_ok-settle.ensures.same) in
-    if_ok_along c.copied_rows.result _ _ (ap (take c.args.n) (rows ∙ listed) ∙ told) c.copied_rows.ensures
+    let known = ap (λ m. rows_after m c.args.tab last c.args.n) (sym (stored-settled _ c.in_ok-settle.ensures.settled) ∙ c.in_ok-settle.ensures.same) in
+    if_ok_along c.copied_rows.result _ _ (ap (take c.args.n) (rows ∙ listed) ∙ known) c.copied_rows.ensures

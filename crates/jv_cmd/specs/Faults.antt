@@ -1,0 +1,54 @@
+-- Which device's count of faults rose, by how a command ended.
+use Rattle.std.specs.Prelude.{◌≡◌, ℕ, Bool, true, false, List, Option, Some, Result, Ok, Err}
+use Rattle.jv_outside.specs.Causes.{Rose}
+use Rattle.jv_outside.specs.Store.{Store}
+use Rattle.jv_cmd.specs.declared.ended.Ended.{Ended}
+use Rattle.jv_cmd.specs.declared.ended.Ended.TheVariants.{Whole, SourceFailed, OutFailed, ClockFailed, KeeperFailed, OutOfMemory}
+use Rattle.jv_cmd.specs.Worlds.{WorldValue}
+
+abbrev pub source_failed : Ended → Bool
+source_failed SourceFailed = true
+source_failed _ = false
+
+abbrev pub out_failed : Ended → Bool
+out_failed OutFailed = true
+out_failed _ = false
+
+abbrev pub clock_failed : Ended → Bool
+clock_failed ClockFailed = true
+clock_failed _ = false
+
+abbrev pub keeper_failed : Ended → Bool
+keeper_failed KeeperFailed = true
+keeper_failed _ = false
+
+-- the count rose where the device failed, and is the same otherwise
+abbrev pub CountsFault : Bool → ℕ → ℕ → Type 0
+CountsFault true before now = Rose before now
+CountsFault false before now = now ≡ before
+
+-- of the devices that a script's lines use
+pub record CountsFaults (ended : Ended) (before after : WorldValue) : Type 0 where
+  pub source : CountsFault (source_failed ended) before.source.faults after.source.faults
+  pub out : CountsFault (out_failed ended) before.out.faults after.out.faults
+  pub clock : CountsFault (clock_failed ended) before.clock.faults after.clock.faults
+
+-- the keeper was opened at a place, or it failed or memory ran out before
+pub data MayOpen (place : List ℕ) (before after : Option (List ℕ)) : Type 0 where
+  Unopened : after ≡ before → MayOpen place before after
+  OpenedThere : after ≡ Some place → MayOpen place before after
+
+abbrev pub IsOpened : Ended → List ℕ → Option (List ℕ) → Option (List ℕ) → Type 0
+IsOpened KeeperFailed place before after = MayOpen place before after
+IsOpened OutOfMemory place before after = MayOpen place before after
+IsOpened _ place before after = after ≡ Some place
+
+-- where the keeper is opened after a command at a place, and its count of faults
+pub record UsesKeeper (ended : Ended) (place : List ℕ) (before after : Store) : Type 0 where
+  pub opened : IsOpened ended place before.opened after.opened
+  pub faults : CountsFault (keeper_failed ended) before.faults after.faults
+
+-- how a part of a command ended, where it goes on after success
+abbrev pub ended_by : {T : Type 0} → Result T Ended → Ended
+ended_by (Ok value) = Whole
+ended_by (Err ended) = ended
