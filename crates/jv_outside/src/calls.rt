@@ -58,6 +58,20 @@ impl Calls {
         }
     }
 
+    /// The number of calls so far.
+    pub(crate) fn made(&self) -> u64
+        ensures { result ≡ self.now.made }
+    {
+        self.made
+    }
+
+    /// The number of calls that failed.
+    pub(crate) fn faults(&self) -> u64
+        ensures { result ≡ self.now.faults }
+    {
+        self.faults
+    }
+
     /// Counts a call, and fails where that call is to fail.
     pub(crate) fn begin(&mut self) -> Result<(), Down>
         ensures counted { self.new ≡ after_call (is_err result) self.old }

@@ -4,6 +4,7 @@
 mod batch;
 mod calls;
 mod clock;
+mod counts;
 mod keeper;
 mod law;
 mod mem_clock;

@@ -12,7 +12,7 @@ use std::marker::Model;
 #[derive(Debug, Drop)]
 pub struct MemClock {
     at: Moment,
-    calls: Calls,
+    pub(crate) calls: Calls,
 }
 
 impl Model for MemClock {

@@ -22,7 +22,7 @@ use std::marker::Model;
 pub struct MemKeeper {
     store: RowStore,
     opened: Option<Text>,
-    calls: Calls,
+    pub(crate) calls: Calls,
     alloc: Global,
 }
 

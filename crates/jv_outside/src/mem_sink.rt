@@ -14,7 +14,7 @@ use std::marker::Model;
 pub struct MemSink {
     taken: Vec<u8>,
     most: usize,
-    calls: Calls,
+    pub(crate) calls: Calls,
 }
 
 impl Model for MemSink {

@@ -60,7 +60,7 @@ fn copy_front(from: &[u8], into: &mut [u8], most: usize) -> usize
 pub struct MemSource {
     input: Input,
     most: usize,
-    calls: Calls,
+    pub(crate) calls: Calls,
 }
 
 impl Model for MemSource {
