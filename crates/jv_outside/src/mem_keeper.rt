@@ -20,8 +20,8 @@ use std::marker::Model;
 /// A keeper of the rows that it is given, some of whose calls fail. Each of its four kinds of calls counts as one.
 #[derive(Debug, Drop)]
 pub struct MemKeeper {
-    store: RowStore,
-    opened: Option<Text>,
+    pub(crate) store: RowStore,
+    pub(crate) opened: Option<Text>,
     pub(crate) calls: Calls,
     alloc: Global,
 }
