@@ -5,10 +5,11 @@ use Rattle.std.specs.Cmp.{nat_eq_equiv}
 use Rattle.std.specs.Map.{lookup, lookup_entry, remove_entry}
 use Rattle.std.specs.Option.{option_map_or}
 use Rattle.std.proofs.lemmas.Bool.{and_parts}
+use Rattle.jv_model.specs.Counts.{counted}
 use Rattle.lru.specs.LruCache.{LruCache, lru_cache, promoted, put_entries}
 use Rattle.jv_cache.specs.declared.key.BlockKey.{BlockKey}
 use Rattle.jv_cache.specs.Keys.{same_key}
-use Rattle.jv_cache.specs.Cached.{Cached, found_in, promoted_in, noted_in, one_more, cached, IsBounded, IsFirst}
+use Rattle.jv_cache.specs.Cached.{Cached, found_in, promoted_in, noted_in, cached, IsBounded, IsFirst}
 use Rattle.jv_cache.proofs.PairLaws.{entry_found, promoted_none, lookup-promoted, length-promoted, length-put}
 
 -- a block that isn't there goes nowhere
@@ -19,7 +20,7 @@ missed cache key h = ap (λ (bs : List (BlockKey × List ℕ)). let c : Cached =
 pub found-noted : (cache : Cached) (key : BlockKey) → found_in (noted_in cache key) key ≡ found_in cache key
 found-noted cache key = go (is_some (found_in cache key))
   where
-    go : (hit : Bool) → found_in (cond hit (record (promoted_in cache key) { hits = one_more cache.hits }) (record cache { misses = one_more cache.misses })) key ≡ found_in cache key
+    go : (hit : Bool) → found_in (cond hit (record (promoted_in cache key) { hits = counted cache.hits }) (record cache { misses = counted cache.misses })) key ≡ found_in cache key
     go true = lookup-promoted (same_key key) cache.blocks
     go false = refl
 

@@ -1,6 +1,7 @@
 -- What contracts see of a cache of blocks.
 use Rattle.std.specs.Prelude.{◌≡◌, ℕ, ◌+◌, ◌-◌, ◌^◌, ◌<◌, ◌≤◌, ◌==◌, min, length, slice_get, is_some, if◌then◌else◌, List, [], Option, None, Some}
 use Rattle.std.specs.Map.{lookup}
+use Rattle.jv_model.specs.Counts.{counted}
 use Rattle.lru.specs.LruCache.{LruCache, lru_cache, promoted, put_entries}
 use Rattle.jv_cache.specs.declared.key.BlockKey.{BlockKey}
 use Rattle.jv_cache.specs.Keys.{same_key}
@@ -34,10 +35,6 @@ pub record IsBounded (cache : Option (LruCache BlockKey (List ℕ))) : Type 0 wh
 abbrev pub found_in : Cached → BlockKey → Option (List ℕ)
 found_in cache key = lookup (same_key key) cache.blocks
 
--- one more; the count saturates at 2^64 - 1
-abbrev pub one_more : ℕ → ℕ
-one_more n = min (n + 1) (2 ^ 64 - 1)
-
 -- a block that is there goes first
 abbrev pub promoted_in : Cached → BlockKey → Cached
 promoted_in cache key = record cache { blocks = promoted (same_key key) cache.blocks }
@@ -45,8 +42,8 @@ promoted_in cache key = record cache { blocks = promoted (same_key key) cache.bl
 -- a find that is a hit puts the block first and counts; another one counts
 abbrev pub noted_in : Cached → BlockKey → Cached
 noted_in cache key = (if is_some (found_in cache key)
-    then record (promoted_in cache key) { hits = one_more cache.hits }
-    else record cache { misses = one_more cache.misses })
+    then record (promoted_in cache key) { hits = counted cache.hits }
+    else record cache { misses = counted cache.misses })
 
 -- a block goes first, and the least recently used one goes where there is no room for it; a cache for no block keeps none
 abbrev pub kept_in : Cached → BlockKey → List ℕ → Cached

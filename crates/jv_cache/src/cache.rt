@@ -33,7 +33,12 @@ impl BlockCache {
 
     /// An empty cache of at most `entries` blocks. It takes memory for a block only when that is kept.
     pub fn new(alloc: Global, entries: usize) -> Result<BlockCache, AllocError>
-        ensures { IfOk result (λ cache. cache ≡ record { blocks = []; entries = entries; hits = 0; misses = 0 }) }
+        ensures { IfOk result (λ cache. cache ≡ record {
+          blocks = [];
+          entries = entries;
+          hits = 0;
+          misses = 0;
+        }) }
     {
         let blocks = match NonZeroUsize::new(entries) {
             None => None,

@@ -1,6 +1,7 @@
 -- The definitions that contracts cite, by what they are about.
 pub mod FiniteMap
 pub mod Optional
+pub mod Counts
 pub mod tree
 pub mod script
 pub mod run

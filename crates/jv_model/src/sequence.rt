@@ -122,7 +122,8 @@ impl<T: Ord> Ord for Sequence<T> {
 pub fn push_in_room<T: Drop>(items: &mut Vec<T>, value: T)
     requires { 1 ≤ vec_capacity items.old - vec_len items.old }
     ensures added { items.new.items ≡ items.old.items ++ value ∷ [] }
-    ensures room { vec_capacity items.old - vec_len items.old ≤ vec_capacity items.new - vec_len items.new + 1 }
+    ensures room { vec_capacity items.old - vec_len items.old ≤ vec_capacity items.new - vec_len
+        items.new + 1 }
 {
     items.push(value).unwrap();
 }

@@ -1,6 +1,7 @@
 -- Which calls of a device in memory are to fail, and what is counted of them.
 use Rattle.std.specs.Prelude.{ℕ, ◌+◌, ◌-◌, ◌^◌, ◌==◌, min, Bool, if◌then◌else◌}
 use Rattle.std.specs.List.{list_any}
+use Rattle.jv_model.specs.Counts.{counted}
 use Rattle.jv_outside.specs.declared.calls.Fails.{Fails}
 use Rattle.jv_outside.specs.declared.calls.Fails.TheVariants.{At}
 
@@ -9,10 +10,6 @@ pub record CallsValue : Type 0 where
   pub made : ℕ
   pub fails : Fails
   pub faults : ℕ
-
--- one more, in 64 bits
-abbrev pub counted : ℕ → ℕ
-counted n = min (n + 1) (2 ^ 64 - 1)
 
 -- whether the call of that number is to fail
 abbrev pub is_to_fail : Fails → ℕ → Bool

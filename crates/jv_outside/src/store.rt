@@ -128,7 +128,8 @@ fn put(
     key: RowKey,
     bytes: Bytes,
 ) -> Result<(), (RowKey, Bytes)>
-    ensures ok { OnOk result (row_map sorted.new.entries ≡ insert (row_map sorted.old.entries) key bytes) }
+    ensures ok { OnOk result (row_map sorted.new.entries ≡ insert (row_map sorted.old.entries) key
+        bytes) }
     ensures err { OnErr result (sorted.new.entries ≡ sorted.old.entries) }
     ensures back { IfErr result (λ row. row ≡ (key, bytes)) }
 {
@@ -159,7 +160,8 @@ fn make(sorted: &mut BTreeMap<RowKey, Bytes>, change: Change) -> Result<(), Chan
 
 /// Where the rows of a table after a key begin, for the least key of the table.
 fn start<'a>(first: &'a RowKey, after: Option<&'a RowKey>) -> Bound<&'a RowKey>
-    ensures { bound_map (λ key. key.now) result ≡ scan_start first.entry.now (option_copied after.entry) }
+    ensures { bound_map (λ key. key.now) result ≡ scan_start first.entry.now
+        (option_copied after.entry) }
 {
     match after {
         Some(last) if first.cmp(last).is_le() => Bound::Excluded(last),
@@ -174,7 +176,8 @@ fn copied_rows(
     tab: u8,
     n: u32,
 ) -> Result<Rows, AllocError>
-    ensures { IfOk result (λ found. found ≡ take n (take_while (λ row. row.0.tab == tab) rows.entry)) }
+    ensures { IfOk result (λ found. found ≡ take n (take_while (λ row. row.0.tab == tab)
+        rows.entry)) }
 {
     let mut found = Sequence::new(alloc);
     for (key, bytes) in rows {

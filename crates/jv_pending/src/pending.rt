@@ -76,7 +76,8 @@ impl Pending {
         ensures err { OnErr result (self.new ≡ self.old) }
         ensures limit { length self.new.bytes ≤ self.old.limit }
         ensures rising { IsTrue (is_rising self.new.bytes) }
-        ensures others { pending_of_others inode self.new.bytes ≡ pending_of_others inode self.old.bytes }
+        ensures others { pending_of_others inode self.new.bytes ≡ pending_of_others inode
+            self.old.bytes }
         ensures nothing { bytes.now ≡ [] → IsOk result }
     {
         let held = self.held;
@@ -106,7 +107,8 @@ impl Pending {
     /// The least segment by inode and position, of that inode alone where one is given.
     pub fn first(&self, inode: Option<u64>) -> Option<SegmentAt>
         ensures least { option_map segment_at result ≡ next_segment inode self.now.bytes }
-        ensures own { IfSome result (λ at. next_segment (Some at.inode) self.now.bytes ≡ Some (segment_at at)) }
+        ensures own { IfSome result (λ at. next_segment (Some at.inode) self.now.bytes
+            ≡ Some (segment_at at)) }
         ensures some { IfSome result (λ at. 0 < at.len) }
         ensures inside { IfSome result (λ at. at.pos + at.len ≤ window_size) }
         ensures file { IfSome result (λ at. at.window < 16384) }
@@ -117,7 +119,8 @@ impl Pending {
     /// The bytes of a segment that `first` gives for its inode.
     pub fn segment(&self, at: SegmentAt) -> &[u8]
         requires { next_segment (Some at.inode) self.now.bytes ≡ Some (segment_at at) }
-        ensures bytes { result.now ≡ bytes_in_range at.inode (segment_at at).from at.len self.now.bytes }
+        ensures bytes { result.now ≡ bytes_in_range at.inode (segment_at at).from at.len
+            self.now.bytes }
         ensures len { length result.now ≡ at.len }
         ensures rising { IsTrue (is_rising self.now.bytes) }
     {
@@ -151,7 +154,9 @@ impl Pending {
 
     /// Takes all bytes of an inode out.
     pub fn clear(&mut self, inode: u64)
-        ensures others { self.new ≡ record self.old { bytes = pending_of_others inode self.old.bytes } }
+        ensures others { self.new ≡ record self.old {
+          bytes = pending_of_others inode self.old.bytes;
+        } }
         ensures none { pending_of inode self.new.bytes ≡ [] }
         ensures ends { end_of inode self.new.bytes ≡ 0 }
     {

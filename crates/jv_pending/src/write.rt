@@ -113,7 +113,8 @@ fn join_before(
     requires there { IsSome (bytes_at first runs.old.entries) }
     requires last { IsLonger first end to (length head.now) runs.old.entries last }
     requires small { length head.now + length bytes.now < 2 ^ 63 }
-    ensures ok { OnOk result (let tail = tail_of to (runs_within (place_of first + 1) (place_of end) runs.old.entries) in
+    ensures ok { OnOk result (let tail = tail_of to (runs_within (place_of first + 1) (place_of end)
+        runs.old.entries) in
         runs.new.entries ≡ with_runs ((first, head.now ++ (bytes.now ++ tail)) ∷ []) (place_of end) runs.old.entries) }
     ensures err { OnErr result (runs.new.entries ≡ runs.old.entries) }
 {
@@ -288,7 +289,8 @@ fn count_written(
     requires small { held + length bytes.now < 2 ^ 64 }
     requires some { 0 < length bytes.now }
     requires file { from + length bytes.now ≤ 1099511627776 }
-    requires touched { IsTouched first.inode from (from + length bytes.now) runs.now.entries first end }
+    requires touched { IsTouched first.inode from (from + length bytes.now) runs.now.entries first
+        end }
     ensures { result ≡ length (written first.inode from bytes.now (pending_bytes runs.now.entries)) }
 {
     let to = from + bytes.len() as u64;

@@ -174,10 +174,6 @@ pub map_ok : {T E : Type 0} (r : Result T E) (P Q : T → Type 0) → ((x : T) �
 map_ok (Ok x) P Q f h = f x h
 map_ok (Err e) P Q f h = h
 
-pub map_err : {T E : Type 0} (r : Result T E) (P Q : Type 0) → (P → Q) → OnErr r P → OnErr r Q
-map_err (Ok x) P Q f h = h
-map_err (Err e) P Q f h = f h
-
 within_table : {X : Type 0} (handles : List (Option X)) (i : ℕ) (x : X) → file_in (slice_get handles i) ≡ Some x → i < length handles
 within_table [] i x e = absurd (let f : ◌≡◌ {A = Option _} None (Some x) = e in cc)
 within_table (y ∷ ys) zero x e = omega arith

@@ -119,7 +119,8 @@ impl Schedule {
         journal: &mut Journal,
     ) -> LineEnd
         requires built { IsTrue (built_here self.old line.now) }
-        ensures runs { LineRuns line.now number (line_state (C.seen clock.old) journal.old.acts self.old)
+        ensures runs { LineRuns line.now number (line_state (C.seen clock.old) journal.old.acts
+            self.old)
             (line_state (C.seen clock.new) journal.new.acts self.new) result }
         ensures quiet { (result ≡ LineEnd.Quiet) ↔ (line.now ≡ Empty) }
     {
@@ -146,7 +147,8 @@ impl Schedule {
         journal: &mut Journal,
     ) -> LineEnd
         requires built { IsTrue (built_op self.old op.now) }
-        ensures runs { LineRuns (Do 0 op.now) number (line_state (C.seen clock.old) journal.old.acts self.old)
+        ensures runs { LineRuns (Do 0 op.now) number (line_state (C.seen clock.old) journal.old.acts
+            self.old)
             (line_state (C.seen clock.new) journal.new.acts self.new) result }
         ensures some { result ≢ LineEnd.Quiet }
     {

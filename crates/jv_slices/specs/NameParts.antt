@@ -1,10 +1,7 @@
 -- What the parts of the reader of names say.
-use Rattle.std.specs.Prelude.{◌≡◌, ◌≢◌, ℕ, Bool, ◌&&◌, nat_le, List, ◌++◌, Option, MatchOption, codes, decimal}
+use Rattle.std.specs.Prelude.{◌≡◌, ◌≢◌, List, ℕ, ◌++◌, Option, MatchOption, codes, decimal}
 use Rattle.std.specs.Borrow.{Bor}
 use Rattle.jv_model.specs.declared.slice.BlockId.{BlockId}
-
-abbrev pub is_digit : ℕ → Bool
-is_digit c = nat_le 48 c && nat_le c 57
 
 -- a block's numbers as a name ends in them
 abbrev pub numbers_of : BlockId → List ℕ

@@ -1,7 +1,8 @@
 ghost use Rattle.std.specs.Prelude.{◌≡◌, ◌↔◌, ℕ, ◌<◌, ◌≤◌, ◌-◌, ◌^◌, ◌++◌, [], ◌∷◌, true, false, List, length, slice_index, IfSome, IsSomeAnd, IsTrue, Some, codes, decimal};
 ghost use Rattle.jv_model.specs.declared.slice.BlockId.{BlockId as BlockSeen};
 ghost use Rattle.jv_model.specs.blocks.BlockNames.{IsBlock, IsBlockName, slice_folder, hashed_folder, plain_folder};
-ghost use Rattle.jv_slices.specs.NameParts.{Strips, is_digit, numbers_of};
+ghost use Rattle.jv_model.specs.script.Spelling.{is_decimal_digit};
+ghost use Rattle.jv_slices.specs.NameParts.{Strips, numbers_of};
 
 use crate::digits::upper_pair;
 use itoa::Buffer;
@@ -81,7 +82,7 @@ fn strip_plain(text: &[u8], id: u64) -> Option<&[u8]>
 /// The numbers that a name ends in, and the text before them.
 fn read_numbers(text: &[u8]) -> Option<(&[u8], BlockId)>
     ensures found { IfSome result (λ r. text.now ≡ r.0.now ++ numbers_of r.1) }
-    ensures each { (front : List ℕ) (mark : ℕ) (block : BlockSeen) → is_digit mark ≡ false →
+    ensures each { (front : List ℕ) (mark : ℕ) (block : BlockSeen) → is_decimal_digit mark ≡ false →
         block.id < 2 ^ 64 → block.index < 2 ^ 32 → block.size < 2 ^ 32 →
         text.now ≡ front ++ mark ∷ [] ++ numbers_of block →
         IsSomeAnd result (λ r. (r.0.now ≡ front ++ mark ∷ []) × (r.1 ≡ block)) }
@@ -108,7 +109,7 @@ fn read_marked(text: &[u8]) -> Option<(&[u8], u32)>
 /// The number that a text ends in, in its one spelling, and the text before its digits.
 fn read_number(text: &[u8]) -> Option<(&[u8], u64)>
     ensures found { IfSome result (λ r. text.now ≡ r.0.now ++ decimal r.1) }
-    ensures each { (front : List ℕ) (mark n : ℕ) → is_digit mark ≡ false → n < 2 ^ 64 →
+    ensures each { (front : List ℕ) (mark n : ℕ) → is_decimal_digit mark ≡ false → n < 2 ^ 64 →
         text.now ≡ front ++ mark ∷ [] ++ decimal n →
         IsSomeAnd result (λ r. (r.0.now ≡ front ++ mark ∷ []) × (r.1 ≡ n)) }
 {
@@ -121,8 +122,8 @@ fn read_number(text: &[u8]) -> Option<(&[u8], u64)>
 fn digits_start(text: &[u8]) -> usize
     ensures within { result ≤ length text.now }
     ensures digits { (k : ℕ) → result ≤ k → k < length text.now →
-        is_digit (slice_index text.now k) ≡ true }
-    ensures first { 0 < result → is_digit (slice_index text.now (result - 1)) ≡ false }
+        is_decimal_digit (slice_index text.now k) ≡ true }
+    ensures first { 0 < result → is_decimal_digit (slice_index text.now (result - 1)) ≡ false }
 {
     let mut start = text.len();
     while start > 0 && is_digit(text[start - 1]) {
@@ -132,7 +133,7 @@ fn digits_start(text: &[u8]) -> usize
 }
 
 fn is_digit(byte: u8) -> bool
-    ensures { result ≡ is_digit byte }
+    ensures { result ≡ is_decimal_digit byte }
 {
     byte >= b'0' && byte <= b'9'
 }

@@ -1,6 +1,6 @@
 use Rattle.std.proofs.Common.{◌∙◌, List, ℕ, length, drop, length-drop, ap, arith}
 use Rattle.jv_pending.specs.Runs.{joined_behind}
-use Rattle.jv_pending.proofs.Outcomes.{on_ok}
+use Rattle.jv_pending.proofs.Outcomes.{map_ok}
 use Rattle.jv_pending.proofs.RunBytesLaws.{joined_behind_room}
 use Rattle.jv_pending.proofs.run_bytes.RunBytes.write.Goals as goal
 
@@ -12,7 +12,7 @@ returns-clause-ok c =
     let same = ap length c.self.view_is in
     let h = c.requires in
     let i = c.self.invariant in
-    on_ok c.extend.result _ _
+    map_ok c.extend.result _ _
     (λ e. ap (drop room) e
     ∙ joined_behind_room room at all c.args.bytes.now c.args.more.now (omega (arith, length-drop room all))
     ∙ ap (λ (t : List ℕ). joined_behind at t c.args.bytes.now c.args.more.now) c.self.view_is)

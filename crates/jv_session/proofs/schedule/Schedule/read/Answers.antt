@@ -8,6 +8,7 @@ use Rattle.jv_model.specs.declared.op.Reply.TheVariants.{Refused}
 use Rattle.jv_model.specs.script.ReplyText.{printed_line}
 use Rattle.jv_model.specs.declared.op.Op.TheVariants.{Read}
 use Rattle.jv_model.specs.run.Client.{file_of}
+use Rattle.jv_pending.proofs.Outcomes.{map_err}
 use Rattle.jv_session.specs.declared.volume.StoredFile.{StoredFile}
 use Rattle.jv_session.specs.Stored.{IsFile}
 use Rattle.jv_session.specs.Shown.{shown_between}
@@ -18,7 +19,7 @@ use Rattle.jv_session.specs.Lines.{RunsTo}
 use Rattle.jv_session.proofs.FileLines.{AReads}
 use Rattle.jv_session.proofs.FileEnds.{segment_left, bytes_to_ask}
 use Rattle.jv_session.proofs.FlushLaws.{some_at}
-use Rattle.jv_session.proofs.AnswerLaws.{map_ok, map_err, on_err, file_of_handle, flush_memory_runs, read_within, read_runs}
+use Rattle.jv_session.proofs.AnswerLaws.{map_ok, on_err, file_of_handle, flush_memory_runs, read_within, read_runs}
 use Rattle.jv_session.proofs.schedule.Schedule.read.Goals as goal
 
 pub returns-in_err-flush-clause-err : goal.returns-in_err-flush-clause-err
