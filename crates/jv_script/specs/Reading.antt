@@ -68,7 +68,7 @@ Leaves before text after rest = record {
   no_more : length (parted 43 rest) ≤ length (parted 43 text);
 }
 
--- the first part of a text is a byte so many times, and the others are those of the rest
+-- the first part of a text is `count` times a byte, and the others are those of the rest
 pub record IsShortPart (text : List ℕ) (byte count : ℕ) (rest : List ℕ) : Type 0 where
   pub part : List ℕ
   pub bytes : option_map part_bytes (part_of part) ≡ Some (replicate count byte)

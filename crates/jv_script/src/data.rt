@@ -12,7 +12,7 @@ use crate::word_cuts::cut;
 use jv_model::{Bytes, MAX_DATA, Sequence};
 use std::alloc::{AllocError, Global};
 
-/// From so many digits on, a block at a time is quicker than pair by pair.
+/// The least number of digits that are read faster in blocks than pair by pair.
 const MANY_DIGITS: usize = 32;
 
 /// Reads the bytes of a write. Malformed text is reported as such even where memory runs out before all of it is read.

@@ -32,7 +32,7 @@ pub(crate) fn is_hex_digit(c: u8) -> bool
     decimal | upper | lower
 }
 
-// `hex::decode` tells digits apart by branches, which takes five times as long on random bytes.
+// `hex::decode` branches at each digit, which takes five times as long on random bytes.
 /// Writes the bytes of pairs of digits.
 pub(crate) fn decode_into(digits: &[u8], bytes: &mut [u8])
     requires length { length digits.now ≡ 2 * length bytes.old }

@@ -5,7 +5,7 @@ ghost use Rattle.jv_model.specs.script.Printed.{hex_digit, hex_pair};
 
 use std::alloc::AllocError;
 
-/// Up to so many bytes, one by one is quicker.
+/// The greatest number of bytes that are printed faster one by one.
 const FEW_BYTES: usize = 8;
 
 /// Prints bytes.

@@ -61,7 +61,8 @@ fn drain(letter: &[u8], rest: Option<&[u8]>) -> Option<Line>
 }
 
 fn tick(digits: &[u8], rest: Option<&[u8]>) -> Option<Line>
-    ensures { result ≡ where_last (words_left rest.entry) (option_map Tick (seconds_of digits.now)) }
+    ensures { result
+        ≡ where_last (words_left rest.entry) (option_map Tick (seconds_of digits.now)) }
 {
     let seconds = tick_seconds(digits)?;
     where_last(rest, Line::Tick(seconds))

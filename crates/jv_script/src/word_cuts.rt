@@ -7,7 +7,7 @@ ghost use Rattle.jv_script.specs.Reading.{parts_after, words_left};
 
 use memchr::memchr;
 
-/// So many places are looked at one by one.
+/// The places that are looked at one by one before `memchr` is called.
 const NEAR: usize = 16;
 
 /// The part before the first separator, and the text after that separator where there is one.
