@@ -6,7 +6,7 @@ use Rattle.jv_model.specs.declared.row.Row.{Row}
 use Rattle.jv_model.specs.declared.row.Row.TheVariants.{OfSetting, OfCounters, OfNode, OfEdge, OfList, OfSlice, OfSession, OfSustained, OfDropped, OfDead}
 use Rattle.jv_model.specs.rows.RowGrammar.{row_of, row_bytes, is_row}
 use Rattle.jv_rows.specs.declared.misread.Misread.{Misread}
-use Rattle.jv_rows.specs.Reads.{Gives, IsSpelled}
+use Rattle.jv_rows.specs.Reads.{ReadsAs, IsSpelled}
 use Rattle.jv_rows.specs.RoundTrips.{AreBytes, IsExact}
 use Rattle.jv_rows.proofs.ExactRows.{setting_exact, counters_exact, node_exact, edge_exact, slice_exact, session_exact, sustained_exact, dropped_exact, dead_exact}
 use Rattle.jv_rows.proofs.ExactLists.{list_exact}
@@ -53,7 +53,7 @@ row_spells tab bytes h =
     (either bytes _ _ _ (of_table OfDead dead_exact (λ x. refl) (λ x. refl) bytes h)
     (no_table bytes))))))))))
 
-pub row_sound : (tab : ℕ) (bytes : List ℕ) (r : Result Row Misread) → AreBytes bytes → Gives r (row_of tab bytes) → IfOk r (IsSpelled (row_of tab) row_bytes is_row bytes)
+pub row_sound : (tab : ℕ) (bytes : List ℕ) (r : Result Row Misread) → AreBytes bytes → ReadsAs r (row_of tab bytes) → IfOk r (IsSpelled (row_of tab) row_bytes is_row bytes)
 row_sound tab bytes (Ok row) h g =
     let s = row_spells tab bytes h row g in
     record { allowed = s.0; same = s.1; again = ap (row_of tab) (sym s.1) ∙ g }

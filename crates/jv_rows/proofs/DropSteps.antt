@@ -29,11 +29,11 @@ pub record IsDroppedSoFar (gone : List Rec) (due i : ℕ) (counts : ℕ → Opti
   pub same : IsSame start now
   pub added : List Change
   pub adds : changed ≡ batch ++ added
-  pub so_far : IfSome start.rows (λ told. records_dropping gone due told ≡ followed_by added None (dropping_from gone due i told))
+  pub so_far : IfSome start.rows (λ known. records_dropping gone due known ≡ followed_by added None (dropping_from gone due i known))
 
-nothing_before : (gone : List Rec) (due : ℕ) (rows : Option RowMap) → IfSome rows (λ told. records_dropping gone due told ≡ followed_by [] None (dropping_from gone due 0 told))
+nothing_before : (gone : List Rec) (due : ℕ) (rows : Option RowMap) → IfSome rows (λ known. records_dropping gone due known ≡ followed_by [] None (dropping_from gone due 0 known))
 nothing_before gone due None = tt
-nothing_before gone due (Some told) = refl
+nothing_before gone due (Some known) = refl
 
 pub none_dropped : (gone : List Rec) (due : ℕ) (counts : ℕ → Option ℕ) (start : Store) (batch : List Change) → ((id : ℕ) → counts id ≡ stored_count gone id)
     → IsDroppedSoFar gone due 0 counts start start batch batch
@@ -46,31 +46,31 @@ none_dropped gone due counts start batch h = record {
 }
 
 -- what is left begins with the slice of a record that is left
-first_dropping : (gone : List Rec) (due i n : ℕ) (told : RowMap) → IsLeft gone i n
-    → dropping_from gone due i told ≡ after_first (slice_dropping (get_or gone i none).id n due told) (dropping_from gone due (i + 1) told)
-first_dropping gone due i n told left =
-    ap (slices_dropping gone due told) left.slices
-    ∙ ap (λ (m : ℕ). after_first (slice_dropping (get_or gone i none).id m due told) (dropping_from gone due (i + 1) told)) (sym left.count)
+first_dropping : (gone : List Rec) (due i n : ℕ) (known : RowMap) → IsLeft gone i n
+    → dropping_from gone due i known ≡ after_first (slice_dropping (get_or gone i none).id n due known) (dropping_from gone due (i + 1) known)
+first_dropping gone due i n known left =
+    ap (slices_dropping gone due known) left.slices
+    ∙ ap (λ (m : ℕ). after_first (slice_dropping (get_or gone i none).id m due known) (dropping_from gone due (i + 1) known)) (sym left.count)
 
 -- with a first part that has been added
 pub first_done : (rows : Option RowMap) (gone : List Rec) (due i n : ℕ) (added more : List Change) → IsLeft gone i n
-    → IfSome rows (λ told. records_dropping gone due told ≡ followed_by added None (dropping_from gone due i told))
-    → IfSome rows (λ told. slice_dropping (get_or gone i none).id n due told ≡ stopped more None)
-    → IfSome rows (λ told. records_dropping gone due told ≡ followed_by (added ++ more) None (dropping_from gone due (i + 1) told))
+    → IfSome rows (λ known. records_dropping gone due known ≡ followed_by added None (dropping_from gone due i known))
+    → IfSome rows (λ known. slice_dropping (get_or gone i none).id n due known ≡ stopped more None)
+    → IfSome rows (λ known. records_dropping gone due known ≡ followed_by (added ++ more) None (dropping_from gone due (i + 1) known))
 first_done None gone due i n added more left so_far first = tt
-first_done (Some told) gone due i n added more left so_far first =
+first_done (Some known) gone due i n added more left so_far first =
     so_far
-    ∙ ap (followed_by added None) (first_dropping gone due i n told left ∙ ap (λ (d : Dropping). after_first d (dropping_from gone due (i + 1) told)) first)
-    ∙ ap (λ (changes : List Change). stopped changes (dropping_from gone due (i + 1) told).stop) (sym (append_assoc added more (dropping_from gone due (i + 1) told).changes))
+    ∙ ap (followed_by added None) (first_dropping gone due i n known left ∙ ap (λ (d : Dropping). after_first d (dropping_from gone due (i + 1) known)) first)
+    ∙ ap (λ (changes : List Change). stopped changes (dropping_from gone due (i + 1) known).stop) (sym (append_assoc added more (dropping_from gone due (i + 1) known).changes))
 
 -- with a first part at which it stops
 first_stopped : (rows : Option RowMap) (gone : List Rec) (due i n : ℕ) (added more : List Change) (stop : RowKey × List ℕ) → IsLeft gone i n
-    → IfSome rows (λ told. records_dropping gone due told ≡ followed_by added None (dropping_from gone due i told))
-    → IfSome rows (λ told. slice_dropping (get_or gone i none).id n due told ≡ stopped more (Some stop))
-    → IfSome rows (λ told. records_dropping gone due told ≡ stopped (added ++ more) (Some stop))
+    → IfSome rows (λ known. records_dropping gone due known ≡ followed_by added None (dropping_from gone due i known))
+    → IfSome rows (λ known. slice_dropping (get_or gone i none).id n due known ≡ stopped more (Some stop))
+    → IfSome rows (λ known. records_dropping gone due known ≡ stopped (added ++ more) (Some stop))
 first_stopped None gone due i n added more stop left so_far first = tt
-first_stopped (Some told) gone due i n added more stop left so_far first =
-    so_far ∙ ap (followed_by added None) (first_dropping gone due i n told left ∙ ap (λ (d : Dropping). after_first d (dropping_from gone due (i + 1) told)) first)
+first_stopped (Some known) gone due i n added more stop left so_far first =
+    so_far ∙ ap (followed_by added None) (first_dropping gone due i n known left ∙ ap (λ (d : Dropping). after_first d (dropping_from gone due (i + 1) known)) first)
 
 front_after : (d rest : Dropping) (front : List Change) → IsFront front d.changes → IsFront front (after_first d rest).changes
 front_after d rest front h = elim d.stop as (λ (stop : Option (RowKey × List ℕ)). IsFront front (followed_by d.changes stop rest).changes) [
@@ -80,20 +80,20 @@ front_after d rest front h = elim d.stop as (λ (stop : Option (RowKey × List �
 
 -- with the front of a first part
 first_front : (rows : Option RowMap) (gone : List Rec) (due i n : ℕ) (added more : List Change) → IsLeft gone i n
-    → IfSome rows (λ told. records_dropping gone due told ≡ followed_by added None (dropping_from gone due i told))
-    → IfSome rows (λ told. IsFront more (slice_dropping (get_or gone i none).id n due told).changes)
-    → IfSome rows (λ told. IsFront (added ++ more) (records_dropping gone due told).changes)
+    → IfSome rows (λ known. records_dropping gone due known ≡ followed_by added None (dropping_from gone due i known))
+    → IfSome rows (λ known. IsFront more (slice_dropping (get_or gone i none).id n due known).changes)
+    → IfSome rows (λ known. IsFront (added ++ more) (records_dropping gone due known).changes)
 first_front None gone due i n added more left so_far first = tt
-first_front (Some told) gone due i n added more left so_far first =
-    let rest = dropping_from gone due (i + 1) told in
-    let front : IsFront more (dropping_from gone due i told).changes = subst (λ (d : Dropping). IsFront more d.changes) (sym (first_dropping gone due i n told left)) (front_after (slice_dropping (get_or gone i none).id n due told) rest more first) in
+first_front (Some known) gone due i n added more left so_far first =
+    let rest = dropping_from gone due (i + 1) known in
+    let front : IsFront more (dropping_from gone due i known).changes = subst (λ (d : Dropping). IsFront more d.changes) (sym (first_dropping gone due i n known left)) (front_after (slice_dropping (get_or gone i none).id n due known) rest more first) in
     record {
       more = front.more;
       parts = ap (λ (d : Dropping). d.changes) so_far ∙ ap (λ (l : List Change). added ++ l) front.parts ∙ sym (append_assoc added more front.more);
     }
 
 refused_with : (e : RowFault) (rows : Option RowMap) (gone : List Rec) (due i n : ℕ) (added more : List Change) → IsLeft gone i n
-    → IfSome rows (λ told. records_dropping gone due told ≡ followed_by added None (dropping_from gone due i told))
+    → IfSome rows (λ known. records_dropping gone due known ≡ followed_by added None (dropping_from gone due i known))
     → RefusesDrops (slice_dropping (get_or gone i none).id n due) rows more e
     → RefusesDrops (records_dropping gone due) rows (added ++ more) e
 refused_with (Bad at bytes) rows gone due i n added more left so_far r = first_stopped rows gone due i n added more (at, bytes) left so_far r
@@ -121,13 +121,13 @@ passed_by gone due i id counts fewer start now batch changed h lt here e taken =
   same = h.same;
   added = h.added;
   adds = h.adds;
-  so_far = subst (λ (ids : List ℕ). IfSome start.rows (λ told. records_dropping gone due told ≡ followed_by h.added None (slices_dropping gone due told ids))) (is_not_left gone i lt (found_left gone i id counts None here h.left e)) h.so_far;
+  so_far = subst (λ (ids : List ℕ). IfSome start.rows (λ known. records_dropping gone due known ≡ followed_by h.added None (slices_dropping gone due known ids))) (is_not_left gone i lt (found_left gone i id counts None here h.left e)) h.so_far;
 }
 
 -- the changes of a slice are those of the record's slice
 at_record : (T : Dropping → Type 0) (gone : List Rec) (due i id n : ℕ) (rows : Option RowMap) → id ≡ (get_or gone i none).id
-    → IfSome rows (λ told. T (slice_dropping id n due told)) → IfSome rows (λ told. T (slice_dropping (get_or gone i none).id n due told))
-at_record T gone due i id n rows here h = subst (λ (k : ℕ). IfSome rows (λ told. T (slice_dropping k n due told))) here h
+    → IfSome rows (λ known. T (slice_dropping id n due known)) → IfSome rows (λ known. T (slice_dropping (get_or gone i none).id n due known))
+at_record T gone due i id n rows here h = subst (λ (k : ℕ). IfSome rows (λ known. T (slice_dropping k n due known))) here h
 
 pub one_dropped : (gone : List Rec) (due i id n : ℕ) (counts fewer : ℕ → Option ℕ) (start middle now : Store) (batch middle_batch changed : List Change) (r : Result (Unit {0}) RowFault)
     → IsDroppedSoFar gone due i counts start middle batch middle_batch → i < length gone → id ≡ (get_or gone i none).id → counts id ≡ Some n
@@ -136,8 +136,8 @@ pub one_dropped : (gone : List Rec) (due i id n : ℕ) (counts fewer : ℕ → O
     → IsDroppedSoFar gone due (i + 1) fewer start now batch changed
 one_dropped gone due i id n counts fewer start middle now batch middle_batch changed r h lt here e taken d was =
     let left = is_left gone i n lt (found_left gone i id counts (Some n) here h.left e) in
-    let done : IfSome middle.rows (λ told. slice_dropping id n due told ≡ stopped d.added None) =
-    subst (λ (r : Result (Unit {0}) RowFault). OnOk r (IfSome middle.rows (λ told. slice_dropping id n due told ≡ stopped d.added None))) was d.done in
+    let done : IfSome middle.rows (λ known. slice_dropping id n due known ≡ stopped d.added None) =
+    subst (λ (r : Result (Unit {0}) RowFault). OnOk r (IfSome middle.rows (λ known. slice_dropping id n due known ≡ stopped d.added None))) was d.done in
     let calm : now.faults ≡ middle.faults = subst (λ (r : Result (Unit {0}) RowFault). Counts middle.faults now.faults r) was d.counts in
     record {
       left = counts_left gone i id counts fewer lt here h.left taken;
@@ -145,7 +145,7 @@ one_dropped gone due i id n counts fewer start middle now batch middle_batch cha
       added = h.added ++ d.added;
       adds = d.adds ∙ ap (λ (l : List Change). l ++ d.added) h.adds ∙ append_assoc batch h.added d.added;
       so_far = first_done start.rows gone due i n h.added d.added left h.so_far
-          (at_record (λ x. x ≡ stopped d.added None) gone due i id n start.rows here (subst (λ (o : Option RowMap). IfSome o (λ told. slice_dropping id n due told ≡ stopped d.added None)) h.same.rows_are done));
+          (at_record (λ x. x ≡ stopped d.added None) gone due i id n start.rows here (subst (λ (o : Option RowMap). IfSome o (λ known. slice_dropping id n due known ≡ stopped d.added None)) h.same.rows_are done));
     }
 
 pub one_refused : (gone : List Rec) (due i id n : ℕ) (counts : ℕ → Option ℕ) (start middle now : Store) (batch middle_batch changed : List Change) (r : Result (Unit {0}) RowFault) (fault : RowFault)
@@ -169,12 +169,12 @@ one_refused gone due i id n counts start middle now batch middle_batch changed r
     }
 
 all_done : (rows : Option RowMap) (gone : List Rec) (due i : ℕ) (added : List Change) → length gone ≤ i
-    → IfSome rows (λ told. records_dropping gone due told ≡ followed_by added None (dropping_from gone due i told))
-    → IfSome rows (λ told. records_dropping gone due told ≡ stopped added None)
+    → IfSome rows (λ known. records_dropping gone due known ≡ followed_by added None (dropping_from gone due i known))
+    → IfSome rows (λ known. records_dropping gone due known ≡ stopped added None)
 all_done None gone due i added le so_far = tt
-all_done (Some told) gone due i added le so_far =
+all_done (Some known) gone due i added le so_far =
     so_far
-    ∙ ap (λ (rest : List Rec). followed_by added None (slices_dropping gone due told (slices_after (take i gone) rest))) (drop_all i gone le)
+    ∙ ap (λ (rest : List Rec). followed_by added None (slices_dropping gone due known (slices_after (take i gone) rest))) (drop_all i gone le)
     ∙ ap (λ (changes : List Change). stopped changes None) (append-nil added)
 
 pub all_dropped : (gone : List Rec) (due i : ℕ) (counts : ℕ → Option ℕ) (start now : Store) (batch changed : List Change)

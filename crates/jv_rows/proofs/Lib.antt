@@ -7,6 +7,6 @@ pub mod Bounds
 pub mod Sound
 pub mod AnyRow
 pub mod ScanLaws
-pub mod WorkedRows
+pub mod DropsExamples
 pub mod DropLaws
 pub mod DropSteps

@@ -5,7 +5,7 @@ use Rattle.jv_model.specs.declared.slice.Rec.{Rec}
 use Rattle.jv_model.specs.rows.RowFields.{◌>>=◌}
 use Rattle.jv_model.specs.rows.RowGrammar.{record_at, records_at}
 use Rattle.jv_rows.specs.declared.misread.Misread.{Misread}
-use Rattle.jv_rows.specs.declared.misread.Misread.TheVariants.{Off, Memory}
+use Rattle.jv_rows.specs.declared.misread.Misread.TheVariants.{Malformed, Memory}
 use Rattle.jv_rows.specs.Reads.{Misses}
 
 -- what was read before, and what is still read
@@ -28,7 +28,7 @@ pub ends : (e : Misread) (front : List Rec) (count i : ℕ) (bytes : List ℕ) (
     → with_front front (records_at (count - i) bytes) ≡ total → Misses e total
 unfolding records_at
 ends Memory front count i bytes total lt h so_far = tt
-ends Off front count i bytes total lt h so_far =
+ends Malformed front count i bytes total lt h so_far =
     let k : count - i ≡ suc (count - (i + 1)) = omega arith in
     let one : with_front front (records_at (count - i) bytes) ≡ None = rw (k, h) refl in
     sym so_far ∙ one

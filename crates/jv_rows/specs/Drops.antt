@@ -35,7 +35,7 @@ slices_after earlier (r ∷ rs) =
 abbrev pub slices_named : List Rec → List ℕ
 slices_named records = slices_after [] records
 
--- a slice loses so many records: its count is lowered, or where none is left, the slice is dead
+-- a slice loses `gone` records: its count is lowered, or where none is left, the slice is dead
 abbrev pub lowered : ℕ → ℕ → ℕ → SliceRow → List Change
 lowered id gone due slice =
     if nat_le slice.count gone
@@ -88,7 +88,7 @@ pub record AddsFront (batch changed whole : List Change) : Type 0 where
   pub adds : changed ≡ batch ++ added
   pub front : IsFront added whole
 
--- why changes were not all added: a slice's row is absent or malformed, the keeper failed, or memory ran out
+-- why changes were not all added: a slice's row is absent or malformed, the keeper failed, or out of memory
 abbrev pub RefusesDrops : (RowMap → Dropping) → Option RowMap → List Change → RowFault → Type 0
 RefusesDrops wanted rows added (Bad at bytes) = IfSome rows (λ known. wanted known ≡ stopped added (Some (at, bytes)))
 RefusesDrops wanted rows added Failed = IfSome rows (λ known. IsFront added (wanted known).changes)

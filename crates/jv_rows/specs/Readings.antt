@@ -1,4 +1,4 @@
--- What a reading of a keeper's row gives, against the grammar of its table.
+-- What a reading of a keeper's row returns, against the grammar of its table.
 use Rattle.std.specs.Prelude.{◌≡◌, ℕ, Bool, List, Option, None, Some, Result, Ok, Err, IfOk, IfErr, IfSome, IsTrue}
 use Rattle.jv_model.specs.declared.row.RowKey.{RowKey}
 use Rattle.jv_model.specs.declared.fault.RowFault.{RowFault}
@@ -23,7 +23,7 @@ abbrev pub Counts : {A : Type 0} → ℕ → ℕ → Result A RowFault → Type 
 Counts before now (Ok answer) = now ≡ before
 Counts before now (Err fault) = RowCause before now fault
 
--- why a row wasn't read: its stored bytes are malformed, the keeper failed, or memory ran out
+-- why a row wasn't read: its stored bytes are malformed, the keeper failed, or out of memory
 abbrev pub RefusesRow : {A : Type 0} → (List ℕ → Option A) → RowKey → Option RowMap → RowFault → Type 0
 RefusesRow read key rows (Bad at bytes) = (at ≡ key) × (read bytes ≡ None) × IfSome rows (λ known. get known key ≡ Some bytes)
 RefusesRow read key rows Failed = Unit {0}

@@ -1,4 +1,4 @@
--- What a reading of several rows gives.
+-- What a reading of several rows returns.
 use Rattle.std.specs.Prelude.{◌≡◌, ℕ, List, [], ◌∷◌, Option, None, Some, Result, Ok, Err, IfOk, IfErr, IfSome, IsTrue}
 use Rattle.std.specs.List.{AllByRecursion}
 use Rattle.jv_model.specs.declared.row.RowKey.{RowKey}
@@ -11,13 +11,13 @@ use Rattle.jv_outside.specs.Store.{Store}
 use Rattle.jv_outside.specs.Rows.{rows_after}
 use Rattle.jv_rows.specs.Readings.{Counts}
 
--- a row and those behind it, up to the first that is off the grammar
+-- a row and those behind it, up to the first that is malformed
 abbrev pub row_then : RowKey → List ℕ → Option Row → Result (List (RowKey × Row)) (RowKey × List ℕ) → Result (List (RowKey × Row)) (RowKey × List ℕ)
 row_then key bytes None rest = Err (key, bytes)
 row_then key bytes (Some row) (Ok rows) = Ok ((key, row) ∷ rows)
 row_then key bytes (Some row) (Err off) = Err off
 
--- each row by its table's grammar, or the first row that is off it
+-- each row by its table's grammar, or the first row that is malformed
 abbrev pub rows_read : List (RowKey × List ℕ) → Result (List (RowKey × Row)) (RowKey × List ℕ)
 rows_read [] = Ok []
 rows_read (r ∷ rs) = row_then r.0 r.1 (row_of r.0.tab r.1) (rows_read rs)
@@ -26,13 +26,13 @@ rows_read (r ∷ rs) = row_then r.0 r.1 (row_of r.0.tab r.1) (rows_read rs)
 abbrev pub AreAllowed : List (RowKey × Row) → Type 0
 AreAllowed rows = AllByRecursion (λ r. IsTrue (is_row r.1)) rows
 
--- why a row wasn't read: it is off the grammar, or memory ran out
+-- why a row wasn't read: it is malformed, or out of memory
 abbrev pub RefusesRow : RowKey → List ℕ → RowFault → Type 0
 RefusesRow key bytes (Bad at off) = (at ≡ key) × (off ≡ bytes) × (row_of key.tab bytes ≡ None)
 RefusesRow key bytes Failed = ⊥
 RefusesRow key bytes Memory = Unit {0}
 
--- why rows weren't read: the first that is off the grammar, or memory ran out
+-- why rows weren't read: the first that is malformed, or out of memory
 abbrev pub RefusesRows : List (RowKey × List ℕ) → RowFault → Type 0
 RefusesRows rows (Bad at bytes) = (row_of at.tab bytes ≡ None) × (rows_read rows ≡ Err (at, bytes))
 RefusesRows rows Failed = ⊥
@@ -43,7 +43,7 @@ RefusesScan rows tab last count (Bad at bytes) = (row_of at.tab bytes ≡ None) 
 RefusesScan rows tab last count Failed = Unit {0}
 RefusesScan rows tab last count Memory = Unit {0}
 
--- a reading of the first so many rows of a table after a key
+-- a reading of the first `count` rows of a table after a key
 pub record ScansRows (tab : ℕ) (last : Option RowKey) (count : ℕ) (before after : Store) (result : Result (List (RowKey × Row)) RowFault) : Type 0 where
   pub rows_are : after.rows ≡ before.rows
   pub opened_at : after.opened ≡ before.opened

@@ -5,12 +5,23 @@ ghost use Rattle.std.specs.Str.{is_utf8};
 ghost use Rattle.jv_model.specs.rows.RowGrammar.{is_setting, is_block, is_volume_name, is_name_byte, is_bucket, is_counters, is_node, is_of_kind, is_target, is_edge, is_list, is_slice, is_session};
 ghost use Rattle.jv_model.specs.blocks.Slices.{is_record, is_part};
 
-use jv_model::{Counters, Edge, List, Node, Rec, Session, Setting, SliceRow, WINDOW};
+use jv_model::{
+    Counters, Edge, FULL_COUNT, List, MAX_BLOCK, MAX_BUCKET, MAX_CAPACITY, MAX_PATH,
+    MAX_TRASH_DAYS, MIN_BLOCK, Node, Rec, SPACE_UNIT, Session, Setting, SliceRow, WINDOW,
+};
 use std::str::from_utf8;
 
 /// The lengths that a volume's blocks may have, in bytes: the powers of two from 64 KiB to 16 MiB.
 const BLOCK_SIZES: [u32; 9] = [
-    65_536, 131_072, 262_144, 524_288, 1_048_576, 2_097_152, 4_194_304, 8_388_608, 16_777_216,
+    MIN_BLOCK,
+    2 * MIN_BLOCK,
+    4 * MIN_BLOCK,
+    8 * MIN_BLOCK,
+    16 * MIN_BLOCK,
+    32 * MIN_BLOCK,
+    64 * MIN_BLOCK,
+    128 * MIN_BLOCK,
+    MAX_BLOCK,
 ];
 
 fn is_block_size(size: u32) -> bool
@@ -54,7 +65,7 @@ fn is_text(bytes: &[u8]) -> bool
 pub fn allows_bucket(bucket: &[u8]) -> bool
     ensures { result ≡ is_bucket bucket.now }
 {
-    1 <= bucket.len() && bucket.len() <= 1024 && is_text(bucket)
+    1 <= bucket.len() && bucket.len() <= MAX_BUCKET && is_text(bucket)
 }
 
 /// Whether a volume may have this setting, of any version from 1 on.
@@ -63,9 +74,9 @@ pub fn allows_setting(s: &Setting) -> bool
 {
     1 <= s.version
         && is_block_size(s.block)
-        && s.trash_days <= 36_500
-        && s.capacity <= 4_294_967_296
-        && s.inodes <= 4_611_686_018_427_387_904
+        && s.trash_days <= MAX_TRASH_DAYS
+        && s.capacity <= MAX_CAPACITY
+        && s.inodes <= FULL_COUNT
         && s.hash <= 1
         && allows_name(s.name.as_slice())
         && allows_bucket(s.bucket.as_slice())
@@ -88,7 +99,7 @@ fn has_no_zero(target: &[u8]) -> bool
 pub fn allows_target(target: &[u8]) -> bool
     ensures { result ≡ is_target target.now }
 {
-    1 <= target.len() && target.len() <= 4096 && has_no_zero(target)
+    1 <= target.len() && target.len() <= MAX_PATH && has_no_zero(target)
 }
 
 fn fits_kind(node: &Node) -> bool
@@ -96,7 +107,7 @@ fn fits_kind(node: &Node) -> bool
 {
     match node.kind {
         1 => node.parent == 0 && node.target.is_empty(),
-        2 => node.length == 4096 && node.target.is_empty(),
+        2 => node.length == SPACE_UNIT && node.target.is_empty(),
         3 => {
             node.parent == 0
                 && node.length == node.target.len() as u64

@@ -27,7 +27,7 @@ fn count_records(alloc: Global, records: &[Rec]) -> Result<BTreeMap<u64, u64>, A
     Ok(counts)
 }
 
-/// Takes so many records off a slice. After an error the first of its changes are added.
+/// Takes `gone` records off a slice. After an error the first of its changes are added.
 fn lower_slice(
     alloc: Global,
     batch: &mut Batch,
@@ -54,7 +54,7 @@ fn lower_slice(
     put_dead(alloc, batch, id, &dead)
 }
 
-/// Takes so many records off the slice that is stored.
+/// Takes `gone` records off the slice that is stored.
 fn drop_from_slice<K: Keeper>(
     alloc: Global,
     k: &mut K,

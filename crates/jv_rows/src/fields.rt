@@ -11,7 +11,7 @@ pub(crate) fn take_byte(bytes: &[u8]) -> Result<(u8, &[u8]), Misread>
 {
     match bytes.split_first() {
         Some((first, rest)) => Ok((*first, rest)),
-        None => Err(Misread::Off),
+        None => Err(Misread::Malformed),
     }
 }
 
@@ -20,7 +20,7 @@ pub(crate) fn take_half(bytes: &[u8]) -> Result<(u16, &[u8]), Misread>
     ensures { Takes (λ x. (x.0, x.1.now)) result (half_at bytes.now) }
 {
     if bytes.len() < 2 {
-        return Err(Misread::Off);
+        return Err(Misread::Malformed);
     }
     let (front, rest) = bytes.split_at(2);
     Ok((u16::from_be_bytes([front[0], front[1]]), rest))
@@ -31,7 +31,7 @@ pub(crate) fn take_word(bytes: &[u8]) -> Result<(u32, &[u8]), Misread>
     ensures { Takes (λ x. (x.0, x.1.now)) result (word_at bytes.now) }
 {
     if bytes.len() < 4 {
-        return Err(Misread::Off);
+        return Err(Misread::Malformed);
     }
     let (front, rest) = bytes.split_at(4);
     let number = u32::from_be_bytes([front[0], front[1], front[2], front[3]]);
@@ -43,7 +43,7 @@ pub(crate) fn take_long(bytes: &[u8]) -> Result<(u64, &[u8]), Misread>
     ensures { Takes (λ x. (x.0, x.1.now)) result (long_at bytes.now) }
 {
     if bytes.len() < 8 {
-        return Err(Misread::Off);
+        return Err(Misread::Malformed);
     }
     let (front, rest) = bytes.split_at(8);
     let number = u64::from_be_bytes([
@@ -52,12 +52,12 @@ pub(crate) fn take_long(bytes: &[u8]) -> Result<(u64, &[u8]), Misread>
     Ok((number, rest))
 }
 
-/// So many bytes, and those after them.
+/// The first `count` bytes, and those after them.
 pub(crate) fn take_front(count: usize, bytes: &[u8]) -> Result<(&[u8], &[u8]), Misread>
     ensures { Takes (λ x. (x.0.now, x.1.now)) result (front_at count bytes.now) }
 {
     if bytes.len() < count {
-        return Err(Misread::Off);
+        return Err(Misread::Malformed);
     }
     Ok(bytes.split_at(count))
 }

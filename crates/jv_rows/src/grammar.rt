@@ -1,7 +1,7 @@
 //! The grammars of the ten tables, by the types of their values.
 ghost use Rattle.std.specs.Prelude.{ℕ, List, [], Bool, true, Option, IfOk};
 ghost use Rattle.jv_model.specs.rows.RowGrammar.{is_setting, setting_bytes, setting_of, is_counters, counters_bytes, counters_of, is_node, node_bytes, node_of, is_edge, edge_bytes, edge_of, is_list, list_bytes, list_of, is_slice, slice_bytes, slice_of, is_session, session_bytes, session_of, sustained_of, dropped_bytes, dropped_of, dead_bytes, dead_of};
-ghost use Rattle.jv_rows.specs.Reads.{Gives, IsSpelled};
+ghost use Rattle.jv_rows.specs.Reads.{ReadsAs, IsSpelled};
 
 use crate::misread::Misread;
 use crate::parsing::{
@@ -24,7 +24,7 @@ pub(crate) trait Grammar: Sized + Drop {
 
     /// The value that the bytes spell.
     fn parse(alloc: Global, bytes: &[u8]) -> Result<Self, Misread>
-        ensures gives { Gives result (read_as bytes.now) }
+        ensures reads { ReadsAs result (read_as bytes.now) }
         ensures sound { IfOk result (IsSpelled read_as spelled_as is_allowed bytes.now) };
 }
 

@@ -44,6 +44,3 @@ pub use writing::{
     put_counters, put_dead, put_dropped, put_edge, put_list, put_node, put_session, put_setting,
     put_slice, put_sustained,
 };
-
-#[cfg(test)]
-mod tests;

@@ -7,9 +7,9 @@ use std::alloc::{AllocError, AllocFailed};
 /// Why bytes weren't read as a row.
 #[derive(Clone, Copy, Debug, PartialEq, Eq)]
 pub enum Misread {
-    /// The bytes are off the grammar of their table.
-    Off,
-    /// Want of memory.
+    /// The bytes are malformed: no row of their table has them.
+    Malformed,
+    /// Out of memory.
     Memory,
 }
 

@@ -2,7 +2,7 @@
 ghost use Rattle.std.specs.Prelude.{◌≡◌, length};
 ghost use Rattle.jv_model.specs.rows.RowGrammar.{setting_of, counters_of, node_of, edge_of, record_at, records_at, list_of, slice_of, session_of, sustained_of, dropped_of, dead_of};
 ghost use Rattle.jv_model.specs.rows.RowFields.{whole};
-ghost use Rattle.jv_rows.specs.Reads.{Takes, Gives};
+ghost use Rattle.jv_rows.specs.Reads.{Takes, ReadsAs};
 
 use crate::allowed::{
     allows_counters, allows_edge, allows_list, allows_node, allows_session, allows_setting,
@@ -17,10 +17,10 @@ use std::alloc::Global;
 
 /// The value, where it is allowed and no bytes are left over.
 fn settled<T: Drop>(value: T, allowed: bool, rest: &[u8]) -> Result<T, Misread>
-    ensures { Gives result (whole (λ _. allowed) value rest.now) }
+    ensures { ReadsAs result (whole (λ _. allowed) value rest.now) }
 {
     if !rest.is_empty() || !allowed {
-        return Err(Misread::Off);
+        return Err(Misread::Malformed);
     }
     Ok(value)
 }
@@ -28,7 +28,7 @@ fn settled<T: Drop>(value: T, allowed: bool, rest: &[u8]) -> Result<T, Misread>
 /// The setting that the bytes spell, of whatever version.
 #[tactic(auto, unfolding(jv_model::specs::rows::RowGrammar::setting_of))]
 pub fn parse_setting(alloc: Global, bytes: &[u8]) -> Result<Setting, Misread>
-    ensures { Gives result (setting_of bytes.now) }
+    ensures { ReadsAs result (setting_of bytes.now) }
 {
     let (version, rest) = take_word(bytes)?;
     let (block, rest) = take_word(rest)?;
@@ -57,7 +57,7 @@ pub fn parse_setting(alloc: Global, bytes: &[u8]) -> Result<Setting, Misread>
 /// The running numbers that the bytes spell.
 #[tactic(auto, unfolding(jv_model::specs::rows::RowGrammar::counters_of))]
 pub fn parse_counters(bytes: &[u8]) -> Result<Counters, Misread>
-    ensures { Gives result (counters_of bytes.now) }
+    ensures { ReadsAs result (counters_of bytes.now) }
 {
     let (inode, rest) = take_long(bytes)?;
     let (slice, rest) = take_long(rest)?;
@@ -78,7 +78,7 @@ pub fn parse_counters(bytes: &[u8]) -> Result<Counters, Misread>
 /// The node that the bytes spell.
 #[tactic(auto, unfolding(jv_model::specs::rows::RowGrammar::node_of))]
 pub fn parse_node(alloc: Global, bytes: &[u8]) -> Result<Node, Misread>
-    ensures { Gives result (node_of bytes.now) }
+    ensures { ReadsAs result (node_of bytes.now) }
 {
     let (kind, rest) = take_byte(bytes)?;
     let (mode, rest) = take_half(rest)?;
@@ -108,7 +108,7 @@ pub fn parse_node(alloc: Global, bytes: &[u8]) -> Result<Node, Misread>
 /// The entry that the bytes spell.
 #[tactic(auto, unfolding(jv_model::specs::rows::RowGrammar::edge_of))]
 pub fn parse_edge(bytes: &[u8]) -> Result<Edge, Misread>
-    ensures { Gives result (edge_of bytes.now) }
+    ensures { ReadsAs result (edge_of bytes.now) }
 {
     let (kind, rest) = take_byte(bytes)?;
     let (inode, rest) = take_long(rest)?;
@@ -139,7 +139,7 @@ fn take_record(bytes: &[u8]) -> Result<(Rec, &[u8]), Misread>
     ))
 }
 
-/// So many records at the front of bytes, and the bytes after them.
+/// The first `count` records of bytes, and the bytes after them.
 fn take_records(alloc: Global, count: usize, bytes: &[u8]) -> Result<(Vec<Rec>, &[u8]), Misread>
     ensures { Takes (λ x. (x.0.items, x.1.now)) result (records_at count bytes.now) }
 {
@@ -156,7 +156,7 @@ fn take_records(alloc: Global, count: usize, bytes: &[u8]) -> Result<(Vec<Rec>, 
 /// The list of a window that the bytes spell.
 #[tactic(auto, unfolding(jv_model::specs::rows::RowGrammar::list_of))]
 pub fn parse_list(alloc: Global, bytes: &[u8]) -> Result<List, Misread>
-    ensures { Gives result (list_of bytes.now) }
+    ensures { ReadsAs result (list_of bytes.now) }
 {
     let (records, rest) = take_records(alloc, bytes.len() / 24, bytes)?;
     let list = Sequence::from_vec(records);
@@ -167,7 +167,7 @@ pub fn parse_list(alloc: Global, bytes: &[u8]) -> Result<List, Misread>
 /// The slice that the bytes spell.
 #[tactic(auto, unfolding(jv_model::specs::rows::RowGrammar::slice_of))]
 pub fn parse_slice(bytes: &[u8]) -> Result<SliceRow, Misread>
-    ensures { Gives result (slice_of bytes.now) }
+    ensures { ReadsAs result (slice_of bytes.now) }
 {
     let (size, rest) = take_word(bytes)?;
     let (count, rest) = take_long(rest)?;
@@ -179,7 +179,7 @@ pub fn parse_slice(bytes: &[u8]) -> Result<SliceRow, Misread>
 /// The session that the bytes spell.
 #[tactic(auto, unfolding(jv_model::specs::rows::RowGrammar::session_of))]
 pub fn parse_session(bytes: &[u8]) -> Result<Session, Misread>
-    ensures { Gives result (session_of bytes.now) }
+    ensures { ReadsAs result (session_of bytes.now) }
 {
     let (client, rest) = take_byte(bytes)?;
     let (expiry, rest) = take_long(rest)?;
@@ -191,7 +191,7 @@ pub fn parse_session(bytes: &[u8]) -> Result<Session, Misread>
 /// Nothing, of which the row of a sustained file consists.
 #[tactic(auto, unfolding(jv_model::specs::rows::RowGrammar::sustained_of))]
 pub fn parse_sustained(bytes: &[u8]) -> Result<(), Misread>
-    ensures { Gives result (sustained_of bytes.now) }
+    ensures { ReadsAs result (sustained_of bytes.now) }
 {
     settled((), true, bytes)
 }
@@ -199,7 +199,7 @@ pub fn parse_sustained(bytes: &[u8]) -> Result<(), Misread>
 /// The dropped file that the bytes spell.
 #[tactic(auto, unfolding(jv_model::specs::rows::RowGrammar::dropped_of))]
 pub fn parse_dropped(bytes: &[u8]) -> Result<Dropped, Misread>
-    ensures { Gives result (dropped_of bytes.now) }
+    ensures { ReadsAs result (dropped_of bytes.now) }
 {
     let (length, rest) = take_long(bytes)?;
     settled(Dropped { length }, true, rest)
@@ -208,7 +208,7 @@ pub fn parse_dropped(bytes: &[u8]) -> Result<Dropped, Misread>
 /// The dead slice that the bytes spell.
 #[tactic(auto, unfolding(jv_model::specs::rows::RowGrammar::dead_of))]
 pub fn parse_dead(bytes: &[u8]) -> Result<Dead, Misread>
-    ensures { Gives result (dead_of bytes.now) }
+    ensures { ReadsAs result (dead_of bytes.now) }
 {
     let (size, rest) = take_word(bytes)?;
     let (due, rest) = take_long(rest)?;

@@ -1,4 +1,6 @@
-//! A keeper's rows, each read by its table's grammar.
+//! A keeper's rows, each read by its table's grammar. The readers judge the bytes of a row and not which keys rows may
+//! have: whether an entry's name, a window's number or a session's inode may stand in a key is a question of whole volumes,
+//! which `fsck` and `load` ask.
 ghost use Rattle.std.specs.Prelude.{[], true};
 ghost use Rattle.jv_model.specs.rows.RowGrammar.{is_setting, setting_bytes, setting_of, is_counters, counters_bytes, counters_of, is_node, node_bytes, node_of, is_edge, edge_bytes, edge_of, is_list, list_bytes, list_of, is_slice, slice_bytes, slice_of, is_session, session_bytes, session_of, sustained_of, dropped_bytes, dropped_of, dead_bytes, dead_of};
 ghost use Rattle.jv_model.specs.rows.RowPlaces.{setting_key, counters_key, node_key, edge_key, list_key, slice_key, session_key, sustained_key, dropped_key, dead_key};
@@ -30,12 +32,12 @@ fn read_row<K: Keeper, R: Grammar>(
     };
     match R::parse(alloc, bytes.as_slice()) {
         Ok(row) => Ok(Some(row)),
-        Err(Misread::Off) => Err(RowFault::Bad(key, bytes)),
+        Err(Misread::Malformed) => Err(RowFault::Bad(key, bytes)),
         Err(Misread::Memory) => Err(RowFault::Memory),
     }
 }
 
-/// The volume's setting, of whatever version. None exactly where there is no such row.
+/// The volume's setting, of whatever version. `None` if and only if there is no such row.
 pub fn read_setting<K: Keeper>(alloc: Global, k: &mut K) -> Result<Option<Setting>, RowFault>
     ensures { ReadsRow setting_of setting_bytes is_setting setting_key
         (K.seen k.old) (K.seen k.new) result }
@@ -44,7 +46,7 @@ pub fn read_setting<K: Keeper>(alloc: Global, k: &mut K) -> Result<Option<Settin
     read_row(alloc, k, key)
 }
 
-/// The next numbers and the running totals. None exactly where there is no such row.
+/// The next numbers and the running totals. `None` if and only if there is no such row.
 pub fn read_counters<K: Keeper>(alloc: Global, k: &mut K) -> Result<Option<Counters>, RowFault>
     ensures { ReadsRow counters_of counters_bytes is_counters counters_key
         (K.seen k.old) (K.seen k.new) result }
@@ -53,7 +55,7 @@ pub fn read_counters<K: Keeper>(alloc: Global, k: &mut K) -> Result<Option<Count
     read_row(alloc, k, key)
 }
 
-/// A node. None exactly where there is no such row.
+/// A node. `None` if and only if there is no such row.
 pub fn read_node<K: Keeper>(alloc: Global, k: &mut K, inode: u64) -> Result<Option<Node>, RowFault>
     ensures { ReadsRow node_of node_bytes is_node (node_key inode)
         (K.seen k.old) (K.seen k.new) result }
@@ -62,7 +64,7 @@ pub fn read_node<K: Keeper>(alloc: Global, k: &mut K, inode: u64) -> Result<Opti
     read_row(alloc, k, key)
 }
 
-/// An entry of a directory. None exactly where there is no such row.
+/// An entry of a directory. `None` if and only if there is no such row.
 pub fn read_edge<K: Keeper>(
     alloc: Global,
     k: &mut K,
@@ -76,7 +78,7 @@ pub fn read_edge<K: Keeper>(
     read_row(alloc, k, key)
 }
 
-/// The records of a window of a file. None exactly where there is no such row.
+/// The records of a window of a file. `None` if and only if there is no such row.
 pub fn read_list<K: Keeper>(
     alloc: Global,
     k: &mut K,
@@ -90,7 +92,7 @@ pub fn read_list<K: Keeper>(
     read_row(alloc, k, key)
 }
 
-/// A slice with its count. None exactly where there is no such row.
+/// A slice with its count. `None` if and only if there is no such row.
 pub fn read_slice<K: Keeper>(
     alloc: Global,
     k: &mut K,
@@ -103,7 +105,7 @@ pub fn read_slice<K: Keeper>(
     read_row(alloc, k, key)
 }
 
-/// A session. None exactly where there is no such row.
+/// A session. `None` if and only if there is no such row.
 pub fn read_session<K: Keeper>(
     alloc: Global,
     k: &mut K,
@@ -116,7 +118,7 @@ pub fn read_session<K: Keeper>(
     read_row(alloc, k, key)
 }
 
-/// Whether the session keeps the unlinked file. None exactly where there is no such row.
+/// Whether the session keeps the unlinked file. `None` if and only if there is no such row.
 pub fn read_sustained<K: Keeper>(
     alloc: Global,
     k: &mut K,
@@ -130,7 +132,7 @@ pub fn read_sustained<K: Keeper>(
     read_row(alloc, k, key)
 }
 
-/// A dropped file. None exactly where there is no such row.
+/// A dropped file. `None` if and only if there is no such row.
 pub fn read_dropped<K: Keeper>(
     alloc: Global,
     k: &mut K,
@@ -143,7 +145,7 @@ pub fn read_dropped<K: Keeper>(
     read_row(alloc, k, key)
 }
 
-/// A dead slice. None exactly where there is no such row.
+/// A dead slice. `None` if and only if there is no such row.
 pub fn read_dead<K: Keeper>(alloc: Global, k: &mut K, id: u64) -> Result<Option<Dead>, RowFault>
     ensures { ReadsRow dead_of dead_bytes (λ _. true) (dead_key id)
         (K.seen k.old) (K.seen k.new) result }

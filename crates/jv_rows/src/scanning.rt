@@ -2,7 +2,7 @@
 ghost use Rattle.std.specs.Prelude.{◌≡◌, Some, Ok, IfOk, IfErr, IsTrue};
 ghost use Rattle.std.specs.Option.{option_copied};
 ghost use Rattle.jv_model.specs.rows.RowGrammar.{row_of, row_bytes, is_row};
-ghost use Rattle.jv_rows.specs.Reads.{Gives, IsSpelled};
+ghost use Rattle.jv_rows.specs.Reads.{ReadsAs, IsSpelled};
 ghost use Rattle.jv_rows.specs.Scans.{rows_read, AreAllowed, RefusesRow, RefusesRows, ScansRows};
 
 use crate::misread::Misread;
@@ -17,7 +17,7 @@ use std::alloc::Global;
 /// The row that the bytes spell in the table of that number. There are no rows in tables from 10 on.
 #[tactic(auto, unfolding(jv_model::specs::rows::RowGrammar::row_of))]
 fn row_in(alloc: Global, tab: u8, bytes: &[u8]) -> Result<Row, Misread>
-    ensures { Gives result (row_of tab bytes.now) }
+    ensures { ReadsAs result (row_of tab bytes.now) }
 {
     match tab {
         0 => Ok(Row::OfSetting(parse_setting(alloc, bytes)?)),
@@ -33,13 +33,13 @@ fn row_in(alloc: Global, tab: u8, bytes: &[u8]) -> Result<Row, Misread>
         }
         8 => Ok(Row::OfDropped(parse_dropped(bytes)?)),
         9 => Ok(Row::OfDead(parse_dead(bytes)?)),
-        _ => Err(Misread::Off),
+        _ => Err(Misread::Malformed),
     }
 }
 
 /// The row that the bytes spell in the table of that number.
 pub fn parse_row(alloc: Global, tab: u8, bytes: &[u8]) -> Result<Row, Misread>
-    ensures gives { Gives result (row_of tab bytes.now) }
+    ensures reads { ReadsAs result (row_of tab bytes.now) }
     ensures sound { IfOk result (IsSpelled (row_of tab) row_bytes is_row bytes.now) }
 {
     row_in(alloc, tab, bytes)
@@ -54,12 +54,12 @@ fn typed_row(alloc: Global, key: RowKey, bytes: Bytes) -> Result<(RowKey, Row), 
 {
     match parse_row(alloc, key.tab, bytes.as_slice()) {
         Ok(row) => Ok((key, row)),
-        Err(Misread::Off) => Err(RowFault::Bad(key, bytes)),
+        Err(Misread::Malformed) => Err(RowFault::Bad(key, bytes)),
         Err(Misread::Memory) => Err(RowFault::Memory),
     }
 }
 
-/// Rows with their keys, up to the first that is off the grammar.
+/// Rows with their keys, up to the first that is malformed.
 fn typed_rows(alloc: Global, rows: Rows) -> Result<RowList, RowFault>
     ensures found { IfOk result (λ list. rows_read rows ≡ Ok list) }
     ensures allowed { IfOk result AreAllowed }
@@ -72,8 +72,8 @@ fn typed_rows(alloc: Global, rows: Rows) -> Result<RowList, RowFault>
     Ok(list)
 }
 
-/// The first `n` rows of a table after a key, or from the table's first on. The first of them that is off its
-/// grammar is Bad.
+/// The first `n` rows of a table after a key, or from the table's first on. The first of them that is
+/// malformed is Bad. Their keys are not judged, as [`crate::read_setting`] says.
 pub fn scan_rows<K: Keeper>(
     alloc: Global,
     k: &mut K,

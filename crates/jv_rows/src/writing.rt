@@ -18,10 +18,11 @@ use jv_model::{
 use jv_outside::Batch;
 use std::alloc::{AllocError, Global};
 
-/// Writes the setting. Where memory is wanting, the batch is as before.
+/// Writes the setting. Out of memory the batch is as before.
 pub fn put_setting(alloc: Global, batch: &mut Batch, setting: &Setting) -> Result<(), AllocError>
     requires { IsTrue (is_setting setting.now) }
-    ensures ok { OnOk result (batch.new ≡ batch.old ++ Put setting_key (setting_bytes setting.now) ∷ []) }
+    ensures ok { OnOk result (batch.new ≡ batch.old
+        ++ Put setting_key (setting_bytes setting.now) ∷ []) }
     ensures err { OnErr result (batch.new ≡ batch.old) }
 {
     let key = key_of_setting(alloc);
@@ -29,10 +30,11 @@ pub fn put_setting(alloc: Global, batch: &mut Batch, setting: &Setting) -> Resul
     batch.put(key, bytes)
 }
 
-/// Writes the running numbers. Where memory is wanting, the batch is as before.
+/// Writes the running numbers. Out of memory the batch is as before.
 pub fn put_counters(alloc: Global, batch: &mut Batch, counters: &Counters) -> Result<(), AllocError>
     requires { IsTrue (is_counters counters.now) }
-    ensures ok { OnOk result (batch.new ≡ batch.old ++ Put counters_key (counters_bytes counters.now) ∷ []) }
+    ensures ok { OnOk result (batch.new ≡ batch.old
+        ++ Put counters_key (counters_bytes counters.now) ∷ []) }
     ensures err { OnErr result (batch.new ≡ batch.old) }
 {
     let key = key_of_counters(alloc);
@@ -40,10 +42,11 @@ pub fn put_counters(alloc: Global, batch: &mut Batch, counters: &Counters) -> Re
     batch.put(key, bytes)
 }
 
-/// Writes a node. Where memory is wanting, the batch is as before.
+/// Writes a node. Out of memory the batch is as before.
 pub fn put_node(alloc: Global, batch: &mut Batch, inode: u64, node: &Node) -> Result<(), AllocError>
     requires { IsTrue (is_node node.now) }
-    ensures ok { OnOk result (batch.new ≡ batch.old ++ Put (node_key inode) (node_bytes node.now) ∷ []) }
+    ensures ok { OnOk result (batch.new ≡ batch.old
+        ++ Put (node_key inode) (node_bytes node.now) ∷ []) }
     ensures err { OnErr result (batch.new ≡ batch.old) }
 {
     let key = key_of_node(alloc, inode);
@@ -51,7 +54,7 @@ pub fn put_node(alloc: Global, batch: &mut Batch, inode: u64, node: &Node) -> Re
     batch.put(key, bytes)
 }
 
-/// Writes an entry of a directory. Where memory is wanting, the batch is as before.
+/// Writes an entry of a directory. Out of memory the batch is as before.
 pub fn put_edge(
     alloc: Global,
     batch: &mut Batch,
@@ -60,7 +63,8 @@ pub fn put_edge(
     edge: &Edge,
 ) -> Result<(), AllocError>
     requires { IsTrue (is_edge edge.now) }
-    ensures ok { OnOk result (batch.new ≡ batch.old ++ Put (edge_key dir name.now) (edge_bytes edge.now) ∷ []) }
+    ensures ok { OnOk result (batch.new ≡ batch.old
+        ++ Put (edge_key dir name.now) (edge_bytes edge.now) ∷ []) }
     ensures err { OnErr result (batch.new ≡ batch.old) }
 {
     let key = key_of_edge(alloc, dir, name)?;
@@ -68,7 +72,7 @@ pub fn put_edge(
     batch.put(key, bytes)
 }
 
-/// Writes the records of a window. Where memory is wanting, the batch is as before.
+/// Writes the records of a window. Out of memory the batch is as before.
 pub fn put_list(
     alloc: Global,
     batch: &mut Batch,
@@ -77,7 +81,8 @@ pub fn put_list(
     list: &List,
 ) -> Result<(), AllocError>
     requires { IsTrue (is_list list.now) }
-    ensures ok { OnOk result (batch.new ≡ batch.old ++ Put (list_key inode window) (list_bytes list.now) ∷ []) }
+    ensures ok { OnOk result (batch.new ≡ batch.old
+        ++ Put (list_key inode window) (list_bytes list.now) ∷ []) }
     ensures err { OnErr result (batch.new ≡ batch.old) }
 {
     let key = key_of_list(alloc, inode, window)?;
@@ -85,7 +90,7 @@ pub fn put_list(
     batch.put(key, bytes)
 }
 
-/// Writes a slice. Where memory is wanting, the batch is as before.
+/// Writes a slice. Out of memory the batch is as before.
 pub fn put_slice(
     alloc: Global,
     batch: &mut Batch,
@@ -93,7 +98,8 @@ pub fn put_slice(
     slice: &SliceRow,
 ) -> Result<(), AllocError>
     requires { IsTrue (is_slice slice.now) }
-    ensures ok { OnOk result (batch.new ≡ batch.old ++ Put (slice_key id) (slice_bytes slice.now) ∷ []) }
+    ensures ok { OnOk result (batch.new ≡ batch.old
+        ++ Put (slice_key id) (slice_bytes slice.now) ∷ []) }
     ensures err { OnErr result (batch.new ≡ batch.old) }
 {
     let key = key_of_slice(alloc, id);
@@ -101,7 +107,7 @@ pub fn put_slice(
     batch.put(key, bytes)
 }
 
-/// Writes a session. Where memory is wanting, the batch is as before.
+/// Writes a session. Out of memory the batch is as before.
 pub fn put_session(
     alloc: Global,
     batch: &mut Batch,
@@ -109,7 +115,8 @@ pub fn put_session(
     session: &Session,
 ) -> Result<(), AllocError>
     requires { IsTrue (is_session session.now) }
-    ensures ok { OnOk result (batch.new ≡ batch.old ++ Put (session_key sid) (session_bytes session.now) ∷ []) }
+    ensures ok { OnOk result (batch.new ≡ batch.old
+        ++ Put (session_key sid) (session_bytes session.now) ∷ []) }
     ensures err { OnErr result (batch.new ≡ batch.old) }
 {
     let key = key_of_session(alloc, sid);
@@ -117,7 +124,7 @@ pub fn put_session(
     batch.put(key, bytes)
 }
 
-/// Writes that a session keeps an unlinked file. Where memory is wanting, the batch is as before.
+/// Writes that a session keeps an unlinked file. Out of memory the batch is as before.
 pub fn put_sustained(
     alloc: Global,
     batch: &mut Batch,
@@ -132,14 +139,15 @@ pub fn put_sustained(
     batch.put(key, bytes)
 }
 
-/// Writes a dropped file. Where memory is wanting, the batch is as before.
+/// Writes a dropped file. Out of memory the batch is as before.
 pub fn put_dropped(
     alloc: Global,
     batch: &mut Batch,
     inode: u64,
     dropped: &Dropped,
 ) -> Result<(), AllocError>
-    ensures ok { OnOk result (batch.new ≡ batch.old ++ Put (dropped_key inode) (dropped_bytes dropped.now) ∷ []) }
+    ensures ok { OnOk result (batch.new ≡ batch.old
+        ++ Put (dropped_key inode) (dropped_bytes dropped.now) ∷ []) }
     ensures err { OnErr result (batch.new ≡ batch.old) }
 {
     let key = key_of_dropped(alloc, inode);
@@ -147,9 +155,10 @@ pub fn put_dropped(
     batch.put(key, bytes)
 }
 
-/// Writes a dead slice. Where memory is wanting, the batch is as before.
+/// Writes a dead slice. Out of memory the batch is as before.
 pub fn put_dead(alloc: Global, batch: &mut Batch, id: u64, dead: &Dead) -> Result<(), AllocError>
-    ensures ok { OnOk result (batch.new ≡ batch.old ++ Put (dead_key id) (dead_bytes dead.now) ∷ []) }
+    ensures ok { OnOk result (batch.new ≡ batch.old
+        ++ Put (dead_key id) (dead_bytes dead.now) ∷ []) }
     ensures err { OnErr result (batch.new ≡ batch.old) }
 {
     let key = key_of_dead(alloc, id);
