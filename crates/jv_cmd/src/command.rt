@@ -8,7 +8,7 @@ use crate::format::run_format;
 use crate::lines::run_script;
 use crate::volume::open_volume;
 use crate::words::{Command, WordsFault, read_words};
-use crate::world::{Finish, Seen, World};
+use crate::world::{Finish, Observed, World};
 use jv_model::Text;
 use jv_outside::{Clock, Keeper, Sink, Source};
 use std::alloc::Global;
@@ -30,7 +30,7 @@ pub fn run<S: Source, O: Sink, E: Sink, K: Keeper, C: Clock>(
     words: &[String],
     world: World<S, O, E, K, C>,
 ) -> Finish<S, O, E, K, C>
-    ensures { let seen = ⟦<World<S, O, E, K, C> as Seen>⟧.seen in
+    ensures { let seen = ⟦<World<S, O, E, K, C> as Observed>⟧.seen in
         Runs (map string_bytes words.now) (seen world) (seen result.world) result.status }
 {
     let mut world = world;
@@ -61,7 +61,7 @@ fn run_command<S: Source, O: Sink, E: Sink, K: Keeper, C: Clock>(
 ) -> Ended
     requires allowed { IsAllowedCommand command }
     requires empty { world.old.journal.acts ≡ [] }
-    ensures runs { let seen = ⟦<World<S, O, E, K, C> as Seen>⟧.seen in
+    ensures runs { let seen = ⟦<World<S, O, E, K, C> as Observed>⟧.seen in
         RunsCommand command (seen world.old) (seen world.new) result }
     ensures err { world.new.err ≡ world.old.err }
 {
@@ -78,9 +78,9 @@ fn run_session<S: Source, O: Sink, E: Sink, K: Keeper, C: Clock>(
     world: &mut World<S, O, E, K, C>,
 ) -> Ended
     requires { world.old.journal.acts ≡ [] }
-    ensures runs { let seen = ⟦<World<S, O, E, K, C> as Seen>⟧.seen in
+    ensures runs { let seen = ⟦<World<S, O, E, K, C> as Observed>⟧.seen in
         RunsSession (seen world.old) (seen world.new) result }
-    ensures faults { let seen = ⟦<World<S, O, E, K, C> as Seen>⟧.seen in
+    ensures faults { let seen = ⟦<World<S, O, E, K, C> as Observed>⟧.seen in
         CountsFaults result (seen world.old) (seen world.new) }
     ensures keeper { UsesKeeper result place.now (K.seen world.old.keeper) (K.seen world.new.keeper) }
     ensures err { world.new.err ≡ world.old.err }

@@ -5,7 +5,7 @@ ghost use Rattle.jv_cmd.specs.Formatting.{formatted_text, Formats, PutsVolume};
 
 use crate::ended::Ended;
 use crate::volume::stored_setting;
-use crate::world::{Seen, World};
+use crate::world::{Observed, World};
 use jv_model::{Bytes, Down, Sequence, Setting, Text};
 use jv_outside::{Clock, Keeper, Sink, Source, write_whole};
 use jv_rows::fresh_rows;
@@ -59,9 +59,9 @@ pub(crate) fn run_format<S: Source, O: Sink, E: Sink, K: Keeper, C: Clock>(
     world: &mut World<S, O, E, K, C>,
 ) -> Ended
     requires { IsTrue (is_setting setting.now) }
-    ensures formats { let seen = ⟦<World<S, O, E, K, C> as Seen>⟧.seen in
+    ensures formats { let seen = ⟦<World<S, O, E, K, C> as Observed>⟧.seen in
         Formats setting.now (seen world.old) (seen world.new) result }
-    ensures faults { let seen = ⟦<World<S, O, E, K, C> as Seen>⟧.seen in
+    ensures faults { let seen = ⟦<World<S, O, E, K, C> as Observed>⟧.seen in
         CountsFaults result (seen world.old) (seen world.new) }
     ensures keeper { UsesKeeper result place.now (K.seen world.old.keeper) (K.seen world.new.keeper) }
     ensures err { world.new.err ≡ world.old.err }

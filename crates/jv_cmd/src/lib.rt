@@ -11,4 +11,4 @@ mod words;
 mod world;
 
 pub use command::run;
-pub use world::{Finish, Seen, World};
+pub use world::{Finish, Observed, World};

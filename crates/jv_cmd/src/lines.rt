@@ -6,7 +6,7 @@ ghost use Rattle.jv_cmd.specs.Worlds.{WorldValue};
 
 use crate::ended::Ended;
 use crate::reader::{LineReader, Next};
-use crate::world::{Seen, World};
+use crate::world::{Observed, World};
 use jv_model::{DEFAULT_BUFFER, Limits, Line, MAX_LINES, Setting};
 use jv_outside::{Clock, Keeper, Sink, Source, write_whole};
 use jv_script::{BadLine, read_line};
@@ -57,7 +57,7 @@ fn run_line<S: Source, O: Sink, E: Sink, K: Keeper, C: Clock>(
     world: &mut World<S, O, E, K, C>,
 ) -> Result<(), Ended>
     requires { IsBuiltHere schedule.old line.now }
-    ensures ends { let seen = ⟦<World<S, O, E, K, C> as Seen>⟧.seen in
+    ensures ends { let seen = ⟦<World<S, O, E, K, C> as Observed>⟧.seen in
         LineEnds line.now number (seen world.old) (seen world.new) schedule.old schedule.new result }
     ensures source { world.new.source ≡ world.old.source }
     ensures keeper { world.new.keeper ≡ world.old.keeper }
@@ -82,7 +82,7 @@ fn run_text<S: Source, O: Sink, E: Sink, K: Keeper, C: Clock>(
     schedule: &mut Schedule,
     world: &mut World<S, O, E, K, C>,
 ) -> Result<(), Ended>
-    ensures ends { let seen = ⟦<World<S, O, E, K, C> as Seen>⟧.seen in
+    ensures ends { let seen = ⟦<World<S, O, E, K, C> as Observed>⟧.seen in
         TextEnds number text.now (seen world.old) (seen world.new) schedule.old schedule.new result }
     ensures source { world.new.source ≡ world.old.source }
     ensures keeper { world.new.keeper ≡ world.old.keeper }
@@ -107,7 +107,7 @@ fn turn<S: Source, O: Sink, E: Sink, K: Keeper, C: Clock>(
     world: &mut World<S, O, E, K, C>,
 ) -> Result<(), Ended>
     requires { done ≤ MAX_LINES }
-    ensures turns { let seen = ⟦<World<S, O, E, K, C> as Seen>⟧.seen in
+    ensures turns { let seen = ⟦<World<S, O, E, K, C> as Observed>⟧.seen in
         (v : FreshVolume) (before : WorldValue)
         → Going v (prepend_known reader.old (seen world.old).source.content) before (seen world.old) done schedule.old
         → Turns v (prepend_known reader.new (seen world.new).source.content) before (seen world.new) done schedule.new
@@ -138,7 +138,7 @@ fn run_lines<S: Source, O: Sink, E: Sink, K: Keeper, C: Clock>(
     schedule: &mut Schedule,
     world: &mut World<S, O, E, K, C>,
 ) -> Ended
-    ensures runs { let seen = ⟦<World<S, O, E, K, C> as Seen>⟧.seen in
+    ensures runs { let seen = ⟦<World<S, O, E, K, C> as Observed>⟧.seen in
         (v : FreshVolume) (before : WorldValue)
         → Going v (prepend_known reader.old (seen world.old).source.content) before (seen world.old) 0 schedule.old
         → EndsLines v before (seen world.new) result }
@@ -161,7 +161,7 @@ pub(crate) fn run_script<S: Source, O: Sink, E: Sink, K: Keeper, C: Clock>(
     world: &mut World<S, O, E, K, C>,
 ) -> Ended
     requires { world.old.journal.acts ≡ [] }
-    ensures runs { let seen = ⟦<World<S, O, E, K, C> as Seen>⟧.seen in
+    ensures runs { let seen = ⟦<World<S, O, E, K, C> as Observed>⟧.seen in
         (made : ℕ)
         → EndsLines (record { setting = setting; made = made }) (seen world.old) (seen world.new) result }
     ensures keeper { world.new.keeper ≡ world.old.keeper }

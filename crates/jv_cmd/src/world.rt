@@ -25,13 +25,13 @@ pub struct Finish<S, O, E, K, C> {
 }
 
 /// What contracts see of a world.
-pub trait Seen {
+pub trait Observed {
     ghost use Rattle.jv_cmd.specs.Worlds.{WorldValue};
 
     ghost seen: { Self → WorldValue };
 }
 
-impl<S: Source, O: Sink, E: Sink, K: Keeper, C: Clock> Seen for World<S, O, E, K, C> {
+impl<S: Source, O: Sink, E: Sink, K: Keeper, C: Clock> Observed for World<S, O, E, K, C> {
     ghost use Rattle.jv_cmd.specs.Worlds.{world_value};
 
     ghost seen = { λ w. world_value (S.seen w.source) (O.seen w.out) (E.seen w.err) (K.seen w.keeper) (C.seen w.clock)
