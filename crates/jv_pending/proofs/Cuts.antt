@@ -1,14 +1,8 @@
 -- Bytes in a row as runs.
-use Rattle.std.proofs.Common.{◌≡◌, ℕ, ◌+◌, ◌-◌, ◌%◌, ◌<◌, ◌≤◌, min, List, [], ◌∷◌, ◌++◌, length, take, drop, refl, sym, ap, subst, ◌∙◌, ⊎_elim, arith}
-use Rattle.std.proofs.lemmas.List.{append-nil, length-take-le, length-drop, take-append-drop, take-take}
-use Rattle.std.proofs.lemmas.List.Edits.{length-between}
-use Rattle.std.proofs.lemmas.Slice.{between_is}
-use Rattle.std.specs.List.{between}
-use Rattle.jv_model.specs.run.Pending.{PendingByte}
-use Rattle.jv_pending.specs.Runs.{Run, place, placed, first_place, Rise, Before, pending_bytes, end_place, gap, IsRun, InOrder, end_after, IsCut, BeginBy, Reaches, joined_from, joined, tail_of}
-use Rattle.jv_pending.proofs.Order.{InOrder-weaker, InOrder-append, end_after_least, end_after-append, pending_bytes-append, placed-append}
-use Rattle.jv_pending.proofs.Parts.{Rise-order}
-use Rattle.jv_pending.proofs.Joins.{gap_le, gap_tells, length_joined}
+use Rattle.std.proofs.Common.{◌≡◌, ℕ, ◌+◌, ◌-◌, ◌≤◌, List, [], ◌∷◌, length, refl, arith}
+use Rattle.std.proofs.lemmas.List.{append-nil, length-drop}
+use Rattle.jv_pending.specs.Runs.{Run, placed, end_place, IsRun, InOrder, IsCut, BeginBy, Reaches, joined_from, joined, tail_of}
+use Rattle.jv_pending.proofs.Joins.{gap_le, length_joined}
 
 -- one run is bytes in a row
 pub one_cut : (r : Run) → IsRun r → IsCut r.0.inode r.0.from r.1 (r ∷ [])

@@ -10,7 +10,7 @@ use Rattle.std.specs.BTreeMap.Range.{entries_between}
 use Rattle.std.proofs.lemmas.List.Elements.{filter-append}
 use Rattle.std.specs.Map.{lookup, remove_entry, set_value}
 use Rattle.jv_pending.specs.declared.run.RunStart.{RunStart}
-use Rattle.jv_pending.specs.Runs.{Run, start_cmp, bytes_at, place_of, start_place, Rise, Before, runs_before, runs_from, runs_within, with_runs, without_run, given_back}
+use Rattle.jv_pending.specs.Runs.{Run, start_cmp, bytes_at, place_of, start_place, Rise, runs_before, runs_from, runs_within, with_runs, without_run, given_back}
 use Rattle.jv_pending.proofs.Outcomes.{some_same}
 use Rattle.jv_pending.proofs.Parts.{before_yes, before_no, from_yes, from_no, before_none, from_all, Rise-from, whole, within_is, cut_before, cut_rest, cut_rise, with_before, with_from, with_here, with_rise, with_with}
 

@@ -1,17 +1,17 @@
 -- What a write leaves of the runs from the first one on that it touches.
-use Rattle.std.proofs.Common.{◌≡◌, ℕ, ◌+◌, ◌-◌, ◌*◌, ◌%◌, ◌/◌, ◌<◌, ◌≤◌, ltb, leb, List, [], ◌∷◌, ◌++◌, length, take, drop, unwrap_or, Some, IfSome, IsSomeAnd, refl, sym, ap, subst, ◌∙◌, ⊎_elim, arith}
+use Rattle.std.proofs.Common.{◌≡◌, ℕ, ◌+◌, ◌-◌, ◌%◌, ◌<◌, ◌≤◌, ltb, leb, List, [], ◌∷◌, ◌++◌, length, take, unwrap_or, IfSome, IsSomeAnd, refl, sym, ap, subst, ◌∙◌, ⊎_elim, arith}
 use Rattle.std.proofs.lemmas.Bool.{cases_lt, cases_eq}
-use Rattle.std.proofs.lemmas.List.{append_assoc, append-nil, drop_all, take-take}
+use Rattle.std.proofs.lemmas.List.{append_assoc, append-nil}
 use Rattle.std.proofs.lemmas.List.Elements.{filter-append}
 use Rattle.jv_model.specs.run.Pending.{PendingByte, written}
 use Rattle.jv_pending.specs.declared.run.RunStart.{RunStart}
-use Rattle.jv_pending.specs.Runs.{Run, place, place_of, placed, start_place, end_place, end_of_run, gap, bytes_at, pending_bytes, IsRun, InOrder, Rise, Before, EndBy, end_after, runs_before, runs_from, runs_within, first_of, with_runs, tail_of, joined_from, joined, BeginBy, Reaches, joined_behind, IsFirst, IsTouched, Rewrites, Starts, Writes}
+use Rattle.jv_pending.specs.Runs.{Run, place, place_of, placed, start_place, end_place, end_of_run, gap, bytes_at, pending_bytes, InOrder, Rise, Before, EndBy, end_after, runs_before, runs_from, runs_within, first_of, with_runs, tail_of, joined_from, joined, BeginBy, Reaches, joined_behind, IsFirst, IsTouched, Starts, Writes}
 use Rattle.jv_pending.proofs.Bytes.{Rises, front, back, written_is, written-append}
 use Rattle.jv_pending.proofs.Order.{EndBy-weaker, InOrder-weaker, InOrder-left, InOrder-append, end_after_by, pending_bytes-append, Rises-runs, front_runs, back_runs}
 use Rattle.jv_pending.proofs.Joins.{gap_le, gap_tells}
 use Rattle.jv_pending.proofs.Parts.{Rise-order, Rise-weaker, Rise-before, Rise-from, Before-before, before_none, from_none, from_all, from_from, before_before, before_all, within_is, whole, with_before, with_here}
 use Rattle.jv_pending.proofs.Entries.{one_rises}
-use Rattle.jv_pending.proofs.Touched.{touched, late, last_split, end_early, InOrder-from, InOrder-before}
+use Rattle.jv_pending.proofs.Touched.{touched, late, end_early, InOrder-from, InOrder-before}
 use Rattle.jv_pending.proofs.Windows.{AtFirst, at_first, rewritten, rewritten_order, one_rewrites, at_reaches, joined_here, ends_by_border, joined_border}
 
 InOrder-at : (m n : ℕ) (rs : List Run) → m ≡ n → InOrder m rs → InOrder n rs

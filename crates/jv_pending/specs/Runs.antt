@@ -4,6 +4,7 @@ use Rattle.std.specs.declared.cmp.Ordering.{Ordering}
 use Rattle.std.specs.Ordering.{nat_cmp, ordering_then}
 use Rattle.std.specs.BTreeMap.{is_at}
 use Rattle.std.specs.Map.{lookup}
+use Rattle.jv_model.specs.declared.limits.TheConstants.{FILE_END, WINDOW}
 use Rattle.jv_model.specs.run.Pending.{PendingByte, Segment, written}
 use Rattle.jv_pending.specs.declared.run.RunStart.{RunStart}
 
@@ -13,7 +14,7 @@ Run = RunStart × List ℕ
 
 -- places as numbers, in the order of the inodes and then of the positions: no position passes 2^40
 abbrev pub place : ℕ → ℕ → ℕ
-place inode position = inode * 1099511627776 + position
+place inode position = inode * FILE_END + position
 
 abbrev pub place_of : RunStart → ℕ
 place_of s = place s.inode s.from
@@ -50,13 +51,13 @@ segment_of_run r = record { inode = r.0.inode; from = r.0.from; len = length r.1
 
 -- how many positions must lie free before a run that begins here: none at the begin of a window
 abbrev pub gap : ℕ → ℕ
-gap from = if from % 67108864 == 0 then 0 else 1
+gap from = if from % WINDOW == 0 then 0 else 1
 
 -- a run has bytes, inside one window
 pub record IsRun (r : Run) : Type 0 where
   pub some : 0 < length r.1
-  pub in_window : r.0.from % 67108864 + length r.1 ≤ 67108864
-  pub in_file : end_of_run r ≤ 1099511627776
+  pub in_window : r.0.from % WINDOW + length r.1 ≤ WINDOW
+  pub in_file : end_of_run r ≤ FILE_END
 
 -- the runs rise, begin at this place or later, and don't touch in a window
 abbrev pub InOrder : ℕ → List Run → Type 0
@@ -66,7 +67,7 @@ InOrder low (r ∷ rs) = IsRun r × (low + gap r.0.from ≤ start_place r) × In
 -- the runs, some of which may have no bytes, begin at places that rise from this one on
 abbrev pub Rise : ℕ → List Run → Type 0
 Rise low [] = Unit {0}
-Rise low (r ∷ rs) = (r.0.from < 1099511627776) × (low ≤ start_place r) × Rise (start_place r + 1) rs
+Rise low (r ∷ rs) = (r.0.from < FILE_END) × (low ≤ start_place r) × Rise (start_place r + 1) rs
 
 -- all begin before a place
 abbrev pub Before : ℕ → List Run → Type 0

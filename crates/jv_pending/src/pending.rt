@@ -1,8 +1,11 @@
-//! The pending bytes of a client. They lie in memory as runs, in a map by where these begin. A call takes time logarithmic
-//! in their number: `write` that and a time linear in its bytes and those that it joins with them, `clear` and `clear_all`
-//! that for each run that they take out.
+//! The pending bytes of a client. They lie in memory as runs, in a map by where these begin.
+//!
+//! A call takes a time logarithmic in the number of runs. `write` takes one linear in its bytes more, amortized, in
+//! whatever order and across whatever borders bytes are written; bytes that join runs are moved a logarithmic number of
+//! times at most. `take` takes a time linear in its bytes, `clear` and `clear_all` one for each run that they take out.
 ghost use Rattle.std.specs.Prelude.{◌≡◌, ℕ, ◌+◌, ◌<◌, ◌≤◌, ◌↔◌, [], length, Some, OnOk, OnErr, IfSome, IsErrOf, IsOk, IsOkUnless, IsTrue};
 ghost use Rattle.std.specs.Option.{option_map};
+ghost use Rattle.jv_model.specs.declared.limits.TheConstants.{FILE_END};
 ghost use Rattle.jv_model.specs.run.Pending.{window_size, written, next_segment, bytes_in_range, without_range, pending_of, pending_of_others, end_of, is_rising};
 ghost use Rattle.jv_pending.specs.At.{segment_at};
 
@@ -47,7 +50,7 @@ impl Pending {
         }
     }
 
-    /// The greatest number of bytes.
+    /// The greatest number of bytes that there may be.
     pub fn limit(&self) -> u64
         ensures { result ≡ self.now.limit }
     {
@@ -63,10 +66,11 @@ impl Pending {
         self.held
     }
 
-    /// Sets the positions of the bytes from `from` on. They end at 2^40 at the latest. Where the bytes held and the bytes
-    /// asked for pass the limit together it answers `Full`. After an error nothing has changed.
+    /// Sets the positions of the bytes from `from` on, which end by `FILE_END`. Returns `Full` if and only if the bytes
+    /// held and the bytes asked for pass the limit together, and else fails only out of memory. On error nothing has
+    /// changed. No bytes need no memory.
     pub fn write(&mut self, inode: u64, from: u64, bytes: &Bytes) -> Result<(), PendingFault>
-        requires { from + length bytes.now ≤ 1099511627776 }
+        requires { from + length bytes.now ≤ FILE_END }
         ensures ok { OnOk result (self.new
             ≡ record self.old { bytes = written inode from bytes.now self.old.bytes }) }
         ensures full { IsErrOf result (PendingFault.Full (length self.old.bytes) (length bytes.now))
@@ -76,8 +80,8 @@ impl Pending {
         ensures err { OnErr result (self.new ≡ self.old) }
         ensures limit { length self.new.bytes ≤ self.old.limit }
         ensures rising { IsTrue (is_rising self.new.bytes) }
-        ensures others { pending_of_others inode self.new.bytes ≡ pending_of_others inode
-            self.old.bytes }
+        ensures others { pending_of_others inode self.new.bytes
+            ≡ pending_of_others inode self.old.bytes }
         ensures nothing { bytes.now ≡ [] → IsOk result }
     {
         let held = self.held;
@@ -107,8 +111,8 @@ impl Pending {
     /// The least segment by inode and position, of that inode alone where one is given.
     pub fn first(&self, inode: Option<u64>) -> Option<SegmentAt>
         ensures least { option_map segment_at result ≡ next_segment inode self.now.bytes }
-        ensures own { IfSome result (λ at. next_segment (Some at.inode) self.now.bytes
-            ≡ Some (segment_at at)) }
+        ensures own { IfSome result (λ at.
+            next_segment (Some at.inode) self.now.bytes ≡ Some (segment_at at)) }
         ensures some { IfSome result (λ at. 0 < at.len) }
         ensures inside { IfSome result (λ at. at.pos + at.len ≤ window_size) }
         ensures file { IfSome result (λ at. at.window < 16384) }
@@ -116,21 +120,22 @@ impl Pending {
         find_first(&self.runs, inode)
     }
 
-    /// The bytes of a segment that `first` gives for its inode.
+    /// The bytes of a segment that is the first one of its inode.
     pub fn segment(&self, at: SegmentAt) -> &[u8]
         requires { next_segment (Some at.inode) self.now.bytes ≡ Some (segment_at at) }
-        ensures bytes { result.now ≡ bytes_in_range at.inode (segment_at at).from at.len
-            self.now.bytes }
+        ensures bytes { result.now
+            ≡ bytes_in_range at.inode (segment_at at).from at.len self.now.bytes }
         ensures len { length result.now ≡ at.len }
         ensures rising { IsTrue (is_rising self.now.bytes) }
     {
         self.runs.get(&RunStart::of(at)).unwrap().as_slice()
     }
 
-    /// Takes the bytes of a segment out that `first` gives for its inode.
+    /// Takes out a segment that is the first one of its inode, and returns its bytes. Takes no memory.
     pub fn take(&mut self, at: SegmentAt) -> Bytes
         requires { next_segment (Some at.inode) self.old.bytes ≡ Some (segment_at at) }
-        ensures bytes { result ≡ bytes_in_range at.inode (segment_at at).from at.len self.old.bytes }
+        ensures bytes { result
+            ≡ bytes_in_range at.inode (segment_at at).from at.len self.old.bytes }
         ensures rest { self.new ≡ record self.old {
           bytes = without_range at.inode (segment_at at).from at.len self.old.bytes;
         } }
@@ -141,7 +146,7 @@ impl Pending {
         run.into_bytes()
     }
 
-    /// Takes a segment out that `first` gives for its inode.
+    /// Takes out a segment that is the first one of its inode. Takes no memory.
     pub fn remove(&mut self, at: SegmentAt)
         requires { next_segment (Some at.inode) self.old.bytes ≡ Some (segment_at at) }
         ensures rest { self.new ≡ record self.old {
@@ -152,11 +157,10 @@ impl Pending {
         drop(self.take(at));
     }
 
-    /// Takes all bytes of an inode out.
+    /// Takes all bytes of an inode out. Takes no memory.
     pub fn clear(&mut self, inode: u64)
-        ensures others { self.new ≡ record self.old {
-          bytes = pending_of_others inode self.old.bytes;
-        } }
+        ensures others { self.new
+            ≡ record self.old { bytes = pending_of_others inode self.old.bytes } }
         ensures none { pending_of inode self.new.bytes ≡ [] }
         ensures ends { end_of inode self.new.bytes ≡ 0 }
     {
@@ -165,7 +169,7 @@ impl Pending {
         }
     }
 
-    /// Takes all bytes out.
+    /// Takes all bytes out. Takes no memory.
     pub fn clear_all(&mut self)
         ensures { self.new ≡ record self.old { bytes = [] } }
     {
@@ -176,7 +180,7 @@ impl Pending {
     /// The position after the last byte of an inode, 0 where it has none.
     pub fn end_of(&self, inode: u64) -> u64
         ensures last { result ≡ end_of inode self.now.bytes }
-        ensures file { result ≤ 1099511627776 }
+        ensures file { result ≤ FILE_END }
     {
         find_end(&self.runs, inode)
     }

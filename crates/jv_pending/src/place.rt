@@ -1,5 +1,6 @@
 //! Places of runs in their map: making one, and taking its run out and putting another in.
 ghost use Rattle.std.specs.Prelude.{◌≡◌, ℕ, ◌+◌, ◌<◌, ◌≤◌, ◌^◌, [], ◌∷◌, ◌++◌, length, take, List, max, OnOk, OnErr, IfOk, Some, unwrap_or, IsSome, if◌then◌else◌};
+ghost use Rattle.jv_model.specs.declared.limits.TheConstants.{FILE_END};
 ghost use Rattle.jv_pending.specs.Runs.{place_of, bytes_at, Rise, without_run, runs_before, runs_from, with_runs, given_back};
 
 use crate::run::{RunStart, Runs, first_from};
@@ -21,7 +22,7 @@ pub(crate) struct Taken {
 /// Makes sure that a run is at a place, one with no bytes where there was none. Returns whether there was none.
 fn make_place(alloc: Global, runs: &mut Runs, start: RunStart) -> Result<bool, AllocError>
     requires rise { Rise 0 runs.old.entries }
-    requires file { start.from < 1099511627776 }
+    requires file { start.from < FILE_END }
     ensures rise { Rise 0 runs.new.entries }
     ensures there { OnOk result (bytes_at start runs.new.entries
         ≡ Some (unwrap_or (bytes_at start runs.old.entries) [])) }
@@ -45,7 +46,7 @@ fn make_place(alloc: Global, runs: &mut Runs, start: RunStart) -> Result<bool, A
 /// Puts other bytes into the run at a place, and returns those that it had. Takes no memory.
 pub(crate) fn swap_bytes(runs: &mut Runs, start: RunStart, bytes: RunBytes) -> RunBytes
     requires rise { Rise 0 runs.old.entries }
-    requires file { start.from < 1099511627776 }
+    requires file { start.from < FILE_END }
     requires there { IsSome (bytes_at start runs.old.entries) }
     ensures bytes { bytes_at start runs.old.entries ≡ Some result }
     ensures runs { runs.new.entries
@@ -63,7 +64,7 @@ pub(crate) fn take_run(
     len: usize,
 ) -> Result<Taken, AllocError>
     requires rise { Rise 0 runs.old.entries }
-    requires file { start.from < 1099511627776 }
+    requires file { start.from < FILE_END }
     requires small { len < 2 ^ 63 }
     ensures rise { Rise 0 runs.new.entries }
     ensures there { OnOk result (IsSome (bytes_at start runs.new.entries)) }
@@ -73,11 +74,9 @@ pub(crate) fn take_run(
         ≡ runs_from (place_of start + 1) runs.old.entries) }
     ensures run { IfOk result (λ taken. take taken.len taken.run
         ≡ unwrap_or (bytes_at start runs.old.entries) []) }
-    ensures len { IfOk result (λ taken. taken.len
-        ≡ length (unwrap_or (bytes_at start runs.old.entries) [])) }
+    ensures len { IfOk result (λ taken. taken.len ≡ length (unwrap_or (bytes_at start runs.old.entries) [])) }
     ensures long { IfOk result (λ taken. length taken.run ≡ max len taken.len) }
-    ensures old { IfOk result (λ taken. given_back start taken.is_new (take taken.len taken.run)
-        runs.new.entries
+    ensures old { IfOk result (λ taken. given_back start taken.is_new (take taken.len taken.run) runs.new.entries
         ≡ runs.old.entries) }
     ensures err { OnErr result (runs.new.entries ≡ runs.old.entries) }
 {
@@ -102,11 +101,10 @@ pub(crate) fn take_run(
 /// Gives a run back that was taken out of a place, with the bytes that it had. Takes no memory.
 pub(crate) fn give_back(runs: &mut Runs, start: RunStart, taken: Taken)
     requires rise { Rise 0 runs.old.entries }
-    requires file { start.from < 1099511627776 }
+    requires file { start.from < FILE_END }
     requires there { IsSome (bytes_at start runs.old.entries) }
     requires small { taken.len < 2 ^ 63 }
-    ensures { runs.new.entries ≡ given_back start taken.is_new (take taken.len taken.run)
-        runs.old.entries }
+    ensures { runs.new.entries ≡ given_back start taken.is_new (take taken.len taken.run) runs.old.entries }
 {
     if taken.is_new {
         runs.remove(&start);
@@ -120,8 +118,8 @@ pub(crate) fn give_back(runs: &mut Runs, start: RunStart, taken: Taken)
 /// Takes the runs out that begin at `first` or later, and before `end`. Takes no memory.
 fn remove_runs(runs: &mut Runs, first: RunStart, end: RunStart)
     requires rise { Rise 0 runs.old.entries }
-    requires first { first.from ≤ 1099511627776 }
-    requires end { end.from ≤ 1099511627776 }
+    requires first { first.from ≤ FILE_END }
+    requires end { end.from ≤ FILE_END }
     requires forward { place_of first ≤ place_of end }
     ensures { runs.new.entries
         ≡ runs_before (place_of first) runs.old.entries ++ runs_from (place_of end) runs.old.entries }
@@ -137,8 +135,8 @@ fn remove_runs(runs: &mut Runs, first: RunStart, end: RunStart)
 /// Puts a run into the place of those that begin from `start` on and before `end`. Takes no memory.
 pub(crate) fn put_over(runs: &mut Runs, start: RunStart, end: RunStart, bytes: RunBytes)
     requires rise { Rise 0 runs.old.entries }
-    requires start { start.from < 1099511627776 }
-    requires end { end.from ≤ 1099511627776 }
+    requires start { start.from < FILE_END }
+    requires end { end.from ≤ FILE_END }
     requires forward { place_of start < place_of end }
     requires there { IsSome (bytes_at start runs.old.entries) }
     ensures { runs.new.entries ≡ with_runs ((start, bytes) ∷ []) (place_of end) runs.old.entries }

@@ -7,11 +7,8 @@ ghost use Rattle.jv_pending.specs.Runs.{place_of, end_of_run, segment_of_run, Is
 
 use crate::run_bytes::RunBytes;
 use crate::segment::SegmentAt;
-use jv_model::WINDOW;
+use jv_model::{FILE_END, WINDOW};
 use std::collections::BTreeMap;
-
-/// The positions of a file are below this.
-pub(crate) const FILE_END: u64 = 1_099_511_627_776;
 
 /// Where a run begins. Runs go by inode, then by position.
 #[derive(Clone, Copy, Debug, Drop, PartialEq, Eq, PartialOrd, Ord)]
@@ -38,7 +35,7 @@ impl RunStart {
 
     /// The next place.
     pub(crate) fn next(self) -> RunStart
-        requires { self.from < 1099511627776 }
+        requires { self.from < FILE_END }
         ensures inode { result.inode ≡ self.inode }
         ensures from { result.from ≡ self.from + 1 }
         ensures place { place_of result ≡ place_of self + 1 }
@@ -76,9 +73,8 @@ impl RunStart {
 /// The first run that begins at a place or after it.
 pub(crate) fn first_from(runs: &Runs, start: RunStart) -> Option<(RunStart, &RunBytes)>
     requires rise { Rise 0 runs.now.entries }
-    requires file { start.from ≤ 1099511627776 }
-    ensures { option_map (λ r. (r.0, r.1.now)) result ≡ first_of (runs_from (place_of start)
-        runs.now.entries) }
+    requires file { start.from ≤ FILE_END }
+    ensures { option_map (λ r. (r.0, r.1.now)) result ≡ first_of (runs_from (place_of start) runs.now.entries) }
 {
     let (start, bytes) = runs.range(start..).next()?;
     Some((*start, bytes))
@@ -87,9 +83,8 @@ pub(crate) fn first_from(runs: &Runs, start: RunStart) -> Option<(RunStart, &Run
 /// The last run that begins before a place.
 pub(crate) fn last_before(runs: &Runs, end: RunStart) -> Option<(RunStart, &RunBytes)>
     requires rise { Rise 0 runs.now.entries }
-    requires file { end.from ≤ 1099511627776 }
-    ensures { option_map (λ r. (r.0, r.1.now)) result ≡ last_of (runs_before (place_of end)
-        runs.now.entries) }
+    requires file { end.from ≤ FILE_END }
+    ensures { option_map (λ r. (r.0, r.1.now)) result ≡ last_of (runs_before (place_of end) runs.now.entries) }
 {
     let (start, bytes) = runs.range(..end).next_back()?;
     Some((*start, bytes))
@@ -98,12 +93,11 @@ pub(crate) fn last_before(runs: &Runs, end: RunStart) -> Option<(RunStart, &RunB
 /// The number of bytes of the runs that begin at `first` or later, and before `end`.
 pub(crate) fn count_bytes(runs: &Runs, first: RunStart, end: RunStart) -> u64
     requires rise { Rise 0 runs.now.entries }
-    requires first { first.from ≤ 1099511627776 }
-    requires end { end.from ≤ 1099511627776 }
+    requires first { first.from ≤ FILE_END }
+    requires end { end.from ≤ FILE_END }
     requires forward { place_of first < place_of end }
     requires small { length (pending_bytes runs.now.entries) < 2 ^ 64 }
-    ensures { result ≡ length (pending_bytes (runs_within (place_of first) (place_of end)
-        runs.now.entries)) }
+    ensures { result ≡ length (pending_bytes (runs_within (place_of first) (place_of end) runs.now.entries)) }
 {
     let mut count = 0;
     for (_, bytes) in runs.range(first..end) {
@@ -115,8 +109,7 @@ pub(crate) fn count_bytes(runs: &Runs, first: RunStart, end: RunStart) -> u64
 /// The first run as a segment, of an inode where one is given.
 pub(crate) fn find_first(runs: &Runs, inode: Option<u64>) -> Option<SegmentAt>
     requires { InOrder 0 runs.now.entries }
-    ensures least { option_map segment_at result ≡ next_segment inode
-        (pending_bytes runs.now.entries) }
+    ensures least { option_map segment_at result ≡ next_segment inode (pending_bytes runs.now.entries) }
     ensures own { IfSome result (λ at.
         next_segment (Some at.inode) (pending_bytes runs.now.entries) ≡ Some (segment_at at)) }
     ensures some { IfSome result (λ at. 0 < at.len) }
@@ -143,7 +136,7 @@ pub(crate) fn find_first(runs: &Runs, inode: Option<u64>) -> Option<SegmentAt>
 pub(crate) fn find_end(runs: &Runs, inode: u64) -> u64
     requires { InOrder 0 runs.now.entries }
     ensures same { result ≡ end_of inode (pending_bytes runs.now.entries) }
-    ensures file { result ≤ 1099511627776 }
+    ensures file { result ≤ FILE_END }
 {
     let end = RunStart {
         inode,

@@ -1,4 +1,3 @@
-//! Segments and refusals.
 use thiserror::Error;
 
 /// Pending positions in a row, inside one window.
@@ -13,13 +12,13 @@ pub struct SegmentAt {
     pub len: u32,
 }
 
-/// Why a write wasn't taken. The pending bytes are unchanged.
+/// Why a write failed. The pending bytes are unchanged.
 #[derive(Clone, Copy, Debug, PartialEq, Eq, Error)]
 pub enum PendingFault {
     /// The bytes held and the bytes asked for pass the limit together.
     #[error("{held} bytes are pending, and {asked} more pass the limit")]
     Full { held: u64, asked: u64 },
-    /// Want of memory.
+    /// Out of memory.
     #[error("out of memory")]
     Memory,
 }

@@ -1,7 +1,13 @@
-//! Writes over runs. A write is cut where windows end, so that each part touches the runs of one window: it joins them, by
-//! moving the shorter ones into the longest.
+//! Writes over runs. A write is cut where windows end, so that each part touches the runs of one window.
+//!
+//! `write_runs` finds the first run that is touched, and `write_from` writes window by window: it asks for the memory of
+//! a window, then writes the rest, and then that window, so that nothing fails once something has changed. In the last
+//! window `write_window` joins the touched runs: `join_behind` moves the bytes behind the write into the run at its
+//! start, and `join_before` those before it into the last run, where that one is longer. So each byte is moved a
+//! logarithmic number of times at most.
 ghost use Rattle.std.specs.Prelude.{◌≡◌, ℕ, ◌+◌, ◌-◌, ◌<◌, ◌≤◌, ◌^◌, ◌%◌, [], ◌∷◌, ◌++◌, length, take, drop, List, OnOk, OnErr, IfOk, IfErr, Some, unwrap_or, IsSome, IfSome, IsSomeAnd};
 ghost use Rattle.std.specs.Option.{option_map};
+ghost use Rattle.jv_model.specs.declared.limits.TheConstants.{FILE_END};
 ghost use Rattle.jv_model.specs.run.Pending.{written};
 ghost use Rattle.jv_pending.specs.Runs.{place_of, bytes_at, gap, pending_bytes, InOrder, Rise, IsFirst, IsTouched, runs_before, runs_within, last_of, with_runs, tail_of, joined_behind, IsLonger, Starts, Writes};
 
@@ -19,10 +25,11 @@ fn free_before(from: u64) -> u64
     if from.is_multiple_of(WINDOW) { 0 } else { 1 }
 }
 
-/// Where the first run begins that a write overlaps, or touches in a window, or the write itself where it begins before.
+/// Where the first run begins that a write overlaps, or touches in a window. That is the write's own start, where no run
+/// reaches it.
 fn first_touched(runs: &Runs, inode: u64, from: u64) -> RunStart
     requires order { InOrder 0 runs.now.entries }
-    requires file { from < 1099511627776 }
+    requires file { from < FILE_END }
     ensures { IsFirst inode from runs.now.entries result }
 {
     let here = RunStart { inode, from };
@@ -38,7 +45,7 @@ fn first_touched(runs: &Runs, inode: u64, from: u64) -> RunStart
 
 /// Where the first run begins that a write to a position doesn't touch.
 fn end_touched(inode: u64, to: u64) -> RunStart
-    requires { to ≤ 1099511627776 }
+    requires { to ≤ FILE_END }
     ensures inode { result.inode ≡ inode }
     ensures from { result.from ≡ to + gap to }
 {
@@ -63,8 +70,8 @@ fn head(runs: &Runs, first: RunStart, from: u64) -> &[u8]
 /// The bytes from a position on of the last run that begins at `first` or later, and before `end`.
 fn tail(runs: &Runs, first: RunStart, end: RunStart, to: u64) -> &[u8]
     requires rise { Rise 0 runs.now.entries }
-    requires first { first.from ≤ 1099511627776 }
-    requires end { end.from ≤ 1099511627776 }
+    requires first { first.from ≤ FILE_END }
+    requires end { end.from ≤ FILE_END }
     ensures { result.now ≡ tail_of to (runs_within (place_of first) (place_of end) runs.now.entries) }
 {
     match last_before(runs, end) {
@@ -80,10 +87,10 @@ fn tail(runs: &Runs, first: RunStart, end: RunStart, to: u64) -> &[u8]
 /// The last run behind `first` and before `end`, where more than `count` of its bytes lie behind a position.
 fn longer_tail(runs: &Runs, first: RunStart, end: RunStart, to: u64, count: u64) -> Option<RunStart>
     requires rise { Rise 0 runs.now.entries }
-    requires first { first.from < 1099511627776 }
-    requires end { end.from ≤ 1099511627776 }
-    requires to { to ≤ 1099511627776 }
-    requires count { count ≤ 1099511627776 }
+    requires first { first.from < FILE_END }
+    requires end { end.from ≤ FILE_END }
+    requires to { to ≤ FILE_END }
+    requires count { count ≤ FILE_END }
     ensures { IfSome result (λ last. IsLonger first end to count runs.now.entries last) }
 {
     let (start, bytes) = last_before(runs, end)?;
@@ -95,8 +102,8 @@ fn longer_tail(runs: &Runs, first: RunStart, end: RunStart, to: u64, count: u64)
     }
 }
 
-/// Joins bytes with those before them, and with those behind them of the run at `last`, in that run. On error nothing has
-/// changed.
+/// Joins bytes with those before them, and with those behind them of the run at `last`, in that run. On error nothing
+/// has changed.
 fn join_before(
     alloc: Global,
     runs: &mut Runs,
@@ -108,14 +115,15 @@ fn join_before(
     bytes: &[u8],
 ) -> Result<(), AllocError>
     requires rise { Rise 0 runs.old.entries }
-    requires start { first.from < 1099511627776 }
-    requires end { end.from ≤ 1099511627776 }
+    requires start { first.from < FILE_END }
+    requires end { end.from ≤ FILE_END }
     requires there { IsSome (bytes_at first runs.old.entries) }
     requires last { IsLonger first end to (length head.now) runs.old.entries last }
     requires small { length head.now + length bytes.now < 2 ^ 63 }
-    ensures ok { OnOk result (let tail = tail_of to (runs_within (place_of first + 1) (place_of end)
-        runs.old.entries) in
-        runs.new.entries ≡ with_runs ((first, head.now ++ (bytes.now ++ tail)) ∷ []) (place_of end) runs.old.entries) }
+    ensures ok { OnOk result (let tail = tail_of to
+        (runs_within (place_of first + 1) (place_of end) runs.old.entries) in
+        runs.new.entries
+        ≡ with_runs ((first, head.now ++ (bytes.now ++ tail)) ∷ []) (place_of end) runs.old.entries) }
     ensures err { OnErr result (runs.new.entries ≡ runs.old.entries) }
 {
     let mut run = swap_bytes(runs, last, RunBytes::new(alloc));
@@ -131,8 +139,8 @@ fn join_before(
     }
 }
 
-/// Joins bytes with those of a run, and with those behind them of the last run before `end`, in the run. On error nothing
-/// has changed.
+/// Joins bytes with those of a run, and with those behind them of the last run before `end`, in the run. On error
+/// nothing has changed.
 fn join_behind(
     alloc: Global,
     runs: &mut Runs,
@@ -145,8 +153,8 @@ fn join_behind(
     requires rise { Rise 0 runs.old.entries }
     requires starts { first.from ≤ from }
     requires some { 0 < length bytes.now }
-    requires file { from + length bytes.now ≤ 1099511627776 }
-    requires end { end.from ≤ 1099511627776 }
+    requires file { from + length bytes.now ≤ FILE_END }
+    requires end { end.from ≤ FILE_END }
     requires forward { place_of first < place_of end }
     requires there { IsSome (bytes_at first runs.old.entries) }
     requires reaches { from - first.from ≤ length run.old }
@@ -167,7 +175,8 @@ fn join_behind(
     Ok(())
 }
 
-/// Joins bytes with those of a run, and with those behind them of the last run before `end`. On error nothing has changed.
+/// Joins bytes with those of a run, and with those behind them of the last run before `end`. On error nothing has
+/// changed.
 fn join_runs(
     alloc: Global,
     runs: &mut Runs,
@@ -180,8 +189,8 @@ fn join_runs(
     requires rise { Rise 0 runs.old.entries }
     requires starts { first.from ≤ from }
     requires some { 0 < length bytes.now }
-    requires file { from + length bytes.now ≤ 1099511627776 }
-    requires end { end.from ≤ 1099511627776 }
+    requires file { from + length bytes.now ≤ FILE_END }
+    requires end { end.from ≤ FILE_END }
     requires forward { place_of first < place_of end }
     requires there { IsSome (bytes_at first runs.old.entries) }
     requires reaches { from - first.from ≤ length run.old }
@@ -216,8 +225,8 @@ fn write_window(
     requires rise { Rise 0 runs.old.entries }
     requires starts { Starts from runs.old.entries first }
     requires some { 0 < length bytes.now }
-    requires file { from + length bytes.now ≤ 1099511627776 }
-    requires window { from % 67108864 + length bytes.now ≤ 67108864 }
+    requires file { from + length bytes.now ≤ FILE_END }
+    requires window { from % WINDOW + length bytes.now ≤ WINDOW }
     ensures rise { Rise 0 runs.new.entries }
     ensures ok { OnOk result (Writes from bytes.now first runs.old.entries runs.new.entries) }
     ensures err { OnErr result (runs.new.entries ≡ runs.old.entries) }
@@ -245,7 +254,7 @@ fn write_from(
     requires rise { Rise 0 runs.old.entries }
     requires starts { Starts from runs.old.entries first }
     requires some { 0 < length bytes.now }
-    requires file { from + length bytes.now ≤ 1099511627776 }
+    requires file { from + length bytes.now ≤ FILE_END }
     ensures rise { Rise 0 runs.new.entries }
     ensures ok { OnOk result (Writes from bytes.now first runs.old.entries runs.new.entries) }
     ensures err { OnErr result (runs.new.entries ≡ runs.old.entries) }
@@ -288,9 +297,8 @@ fn count_written(
     requires held { held ≡ length (pending_bytes runs.now.entries) }
     requires small { held + length bytes.now < 2 ^ 64 }
     requires some { 0 < length bytes.now }
-    requires file { from + length bytes.now ≤ 1099511627776 }
-    requires touched { IsTouched first.inode from (from + length bytes.now) runs.now.entries first
-        end }
+    requires file { from + length bytes.now ≤ FILE_END }
+    requires touched { IsTouched first.inode from (from + length bytes.now) runs.now.entries first end }
     ensures { result ≡ length (written first.inode from bytes.now (pending_bytes runs.now.entries)) }
 {
     let to = from + bytes.len() as u64;
@@ -300,8 +308,8 @@ fn count_written(
     others + (head + (bytes.len() as u64 + tail))
 }
 
-/// Sets the positions of the bytes, and returns the number of bytes that there are then, of `held` before. On error nothing
-/// has changed.
+/// Sets the positions of the bytes, and returns how many bytes there are then, of `held` before. On error nothing has
+/// changed.
 pub(crate) fn write_runs(
     alloc: Global,
     runs: &mut Runs,
@@ -314,7 +322,7 @@ pub(crate) fn write_runs(
     requires held { held ≡ length (pending_bytes runs.old.entries) }
     requires small { held + length bytes.now < 2 ^ 64 }
     requires some { 0 < length bytes.now }
-    requires file { from + length bytes.now ≤ 1099511627776 }
+    requires file { from + length bytes.now ≤ FILE_END }
     ensures order { InOrder 0 runs.new.entries }
     ensures ok { OnOk result (pending_bytes runs.new.entries
         ≡ written inode from bytes.now (pending_bytes runs.old.entries)) }

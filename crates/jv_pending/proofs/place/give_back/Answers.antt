@@ -1,5 +1,5 @@
-use Rattle.std.proofs.Common.{◌+◌, ◌∙◌, take, Bool, [], ◌∷◌, ap, sym}
-use Rattle.jv_pending.specs.Runs.{place_of, with_runs, given_back}
+use Rattle.std.proofs.Common.{◌∙◌, take, Bool, ap, sym}
+use Rattle.jv_pending.specs.Runs.{given_back}
 use Rattle.jv_pending.proofs.Entries.{removed}
 use Rattle.jv_pending.proofs.place.give_back.Goals as goal
 

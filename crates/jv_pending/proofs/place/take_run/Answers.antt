@@ -1,4 +1,4 @@
-use Rattle.std.proofs.Common.{◌≡◌, ◌+◌, ◌∙◌, List, ℕ, [], ◌∷◌, take, length, unwrap_or, Some, is_some, ap, sym, subst, arith}
+use Rattle.std.proofs.Common.{◌≡◌, ◌+◌, ◌∙◌, List, ℕ, [], ◌∷◌, take, is_some, ap, sym, subst, arith}
 use Rattle.std.proofs.lemmas.List.{take_all}
 use Rattle.jv_pending.specs.Runs.{place_of, bytes_at, Rise, runs_before, runs_from, given_back}
 use Rattle.jv_pending.proofs.Parts.{with_before, with_from}

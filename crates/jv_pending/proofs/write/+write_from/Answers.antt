@@ -1,11 +1,11 @@
-use Rattle.std.proofs.Common.{◌≡◌, ◌+◌, ◌-◌, ◌%◌, ◌∙◌, ◌++◌, List, ℕ, [], ◌∷◌, ◌<◌, take, drop, length, is_some, unwrap_or, refl, ◌≤◌, ap, sym, subst, arith}
+use Rattle.std.proofs.Common.{◌≡◌, ◌+◌, ◌-◌, ◌%◌, ◌∙◌, ◌++◌, List, ℕ, [], ◌∷◌, ◌<◌, take, length, is_some, refl, ◌≤◌, ap, sym, subst, arith}
 use Rattle.std.proofs.lemmas.List.{take-take, take-append-drop, drop_all, append-nil}
 use Rattle.jv_pending.specs.declared.run.RunStart.{RunStart}
-use Rattle.jv_pending.specs.Runs.{place, place_of, gap, bytes_at, Rise, Starts, Writes}
+use Rattle.jv_pending.specs.Runs.{place, gap, Rise, Starts, Writes}
 use Rattle.jv_pending.proofs.Parts.{with_rise}
 use Rattle.jv_pending.proofs.Outcomes.{some_value}
 use Rattle.jv_pending.proofs.Entries.{one_rises, there_before}
-use Rattle.jv_pending.proofs.Written.{no_gap, first_file, is_forward, reaches_here, starts_behind, border_fits, border_written}
+use Rattle.jv_pending.proofs.Written.{no_gap, reaches_here, starts_behind, border_fits, border_written}
 use Rattle.jv_pending.proofs.write.+write_from.Goals as goal
 
 pub write_from-requires : goal.write_from-requires

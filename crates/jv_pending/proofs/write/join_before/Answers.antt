@@ -1,5 +1,5 @@
-use Rattle.std.proofs.Common.{◌≡◌, ◌+◌, ◌-◌, ◌∙◌, ◌++◌, ℕ, List, [], ◌∷◌, length, drop, is_some, Some, ap, sym, subst, arith}
-use Rattle.jv_pending.specs.Runs.{Run, place_of, bytes_at, Rise, with_runs}
+use Rattle.std.proofs.Common.{◌+◌, ◌-◌, ◌∙◌, ◌++◌, ℕ, List, [], ◌∷◌, length, drop, is_some, ap, sym, subst, arith}
+use Rattle.jv_pending.specs.Runs.{place_of, bytes_at, Rise, with_runs}
 use Rattle.jv_pending.proofs.Parts.{with_with}
 use Rattle.jv_pending.proofs.Outcomes.{some_same, some_value}
 use Rattle.jv_pending.proofs.Touched.{last_file, last_there, tail_there}
