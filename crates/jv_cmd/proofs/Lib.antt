@@ -10,6 +10,6 @@ pub mod SayingLaws
 mod CommandLaws
 pub mod Apps
 pub mod AskedLaws
-pub mod Digits
+pub mod ValuesLaws
 pub mod ProgramLaws
-pub mod WorkedRows
+pub mod WordsExamples

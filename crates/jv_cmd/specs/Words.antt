@@ -5,6 +5,7 @@ use Rattle.clap.specs.Words.{Row, Text, fault_of, first_of, subcommand_of, subco
 use Rattle.clap.specs.declared.parser.matches.ArgMatches.{ArgMatches}
 use Rattle.clap.specs.Kinds.{Kinds}
 use Rattle.jv_model.specs.declared.limits.TheConstants.{FULL_COUNT, MAX_CAPACITY, MAX_TRASH_DAYS}
+use Rattle.jv_model.specs.Optional.{◌>>=◌}
 use Rattle.jv_model.specs.declared.setting.Setting.{Setting}
 use Rattle.jv_model.specs.rows.RowGrammar.{is_setting}
 use Rattle.jv_cmd.specs.declared.words.request.Command.{Command}
@@ -17,11 +18,6 @@ use Rattle.jv_cmd.specs.declared.words.read.BadValue.TheVariants as bad
 use Rattle.jv_cmd.specs.Values.{block_size_of, number_within, place_of}
 use Rattle.jv_cmd.specs.Program.{program_app}
 use Rattle.jv_cmd.specs.Saying.{EndsInFeed}
-
--- the second step, if the first gave a value
-infixl 10 ◌>>=◌
-abbrev pub ◌>>=◌ : {A B : Type 0} → Option A → (A → Option B) → Option B
-o >>= f = option_and_then f o
 
 -- the value of this name, read from its text
 abbrev pub value_in : {A : Type 0} → (Text → Option A) → Text → List Row → Option A

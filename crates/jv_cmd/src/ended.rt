@@ -84,7 +84,8 @@ fn say_number<E: Sink>(before: &[u8], number: u32, after: &[u8], err: &mut E)
 }
 
 fn write_number<E: Sink>(before: &[u8], number: u32, after: &[u8], err: &mut E) -> Result<(), Down>
-    ensures { WritesAll (E.seen err.old) (E.seen err.new) result (before.now ++ decimal number ++ after.now) }
+    ensures { WritesAll (E.seen err.old) (E.seen err.new) result (before.now ++ decimal number
+        ++ after.now) }
 {
     write_whole(err, before)?;
     write_whole(err, Buffer::new().format(number).as_bytes())?;

@@ -33,7 +33,8 @@ fn put_volume<K: Keeper, C: Clock>(
     ensures puts { PutsVolume setting.now (K.seen keeper.old) (K.seen keeper.new)
         (C.seen clock.old) (C.seen clock.new) result }
     ensures keeper { UsesKeeper (ended_by result) place.now (K.seen keeper.old) (K.seen keeper.new) }
-    ensures clock { CountsFault (clock_failed (ended_by result)) (C.seen clock.old).faults (C.seen clock.new).faults }
+    ensures clock { CountsFault (clock_failed (ended_by result)) (C.seen clock.old).faults
+        (C.seen clock.new).faults }
 {
     if stored_setting(alloc, keeper, place)?.is_some() {
         return Err(Ended::VolumeExists);

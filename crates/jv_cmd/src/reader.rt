@@ -100,7 +100,8 @@ impl LineReader {
     /// end of the source.
     fn fill<S: Source>(&mut self, source: &mut S) -> Result<usize, Down>
         requires { length self.old ≤ MAX_LINE }
-        ensures filled { IfOk result (Fills (S.seen source.old).content (S.seen source.new).content self.old self.new) }
+        ensures filled { IfOk result (Fills (S.seen source.old).content (S.seen source.new).content
+            self.old self.new) }
         ensures small { OnOk result (length self.new ≤ ROOM) }
         ensures counts { CountsRead (S.seen source.old).faults (S.seen source.new).faults result }
     {
@@ -123,7 +124,8 @@ impl LineReader {
 
     /// Looks for the next line, and reads from the source as far as it has to.
     pub(crate) fn next<S: Source>(&mut self, source: &mut S) -> Result<Next, Down>
-        ensures finds { Finds (prepend_known self.old (S.seen source.old).content) (S.seen source.new).content
+        ensures finds { Finds (prepend_known self.old (S.seen source.old).content)
+            (S.seen source.new).content
             self.new result }
         ensures counts { CountsRead (S.seen source.old).faults (S.seen source.new).faults result }
     {
@@ -148,7 +150,8 @@ fn moved_to_front(buffer: &mut Vec<u8>, start: usize, end: usize) -> (usize, usi
     requires order { start ≤ end }
     requires within { end ≤ vec_len buffer.old }
     requires size { vec_len buffer.old ≡ ROOM }
-    ensures same { slice_range buffer.new.items result.0 result.1 ≡ slice_range buffer.old.items start end }
+    ensures same { slice_range buffer.new.items result.0 result.1 ≡ slice_range buffer.old.items
+        start end }
     ensures order { result.0 ≤ result.1 }
     ensures within { result.1 ≤ ROOM }
     ensures room { end - start ≤ MAX_LINE → result.1 < ROOM }

@@ -177,14 +177,16 @@ fn copied_in(alloc: Global, values: &ArgMatches<'_>, id: &str) -> Result<Text, B
 }
 
 fn block_in(values: &ArgMatches<'_>) -> Result<u32, BadValue>
-    ensures { Reads result (value_in block_size_of (codes "block-size") (rows_of (found_of values.now))) }
+    ensures { Reads result (value_in block_size_of (codes "block-size")
+        (rows_of (found_of values.now))) }
 {
     let text = text_in(values, "block-size").ok_or(BadValue::Off)?;
     block_size(text).ok_or(BadValue::Off)
 }
 
 fn number_in(values: &ArgMatches<'_>, id: &str, least: u64, most: u64) -> Result<u64, BadValue>
-    ensures value { Reads result (value_in (number_within least most) id.now (rows_of (found_of values.now))) }
+    ensures value { Reads result (value_in (number_within least most) id.now
+        (rows_of (found_of values.now))) }
     ensures range { IfOk result (λ n. n ≤ most) }
 {
     let text = text_in(values, id).ok_or(BadValue::Off)?;

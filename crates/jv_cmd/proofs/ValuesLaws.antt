@@ -4,14 +4,9 @@ use Rattle.std.specs.List.{list_all}
 use Rattle.std.proofs.lemmas.Bool.{and_parts, cases_lt, leb-true}
 use Rattle.std.proofs.lemmas.Bool.Decides.{nat_tests}
 use Rattle.std.proofs.lemmas.Grind.{pow_more}
-use Rattle.std.proofs.lemmas.List.Sums.{fold_more}
 use Rattle.std.proofs.Math.Nat.{pow-le-pow_right}
 use Rattle.jv_model.specs.script.Spelling.{is_decimal_digit, is_numeral, value_of}
 use Rattle.jv_cmd.specs.Values.{as_block_size, is_block_size}
-
--- one digit more
-pub value_of_more : (digits : List ℕ) (i : ℕ) → i < length digits → value_of 10 (take (i + 1) digits) ≡ value_of 10 (take i digits) * 10 + (get_or digits i 0 - 48)
-value_of_more digits i below = fold_more (λ n digit. n * 10 + (digit - 48)) 0 digits i 0 below
 
 -- ten times more
 pub power_more : (n digit i : ℕ) → n < 10 ^ i → digit < 10 → n * 10 + digit < 10 ^ (i + 1)
