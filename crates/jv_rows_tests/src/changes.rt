@@ -1,0 +1,83 @@
+use jv_model::{Bytes, Dead, List, Moment, Rec, Row, RowFault, RowKey, Sequence, SliceRow, copied};
+use jv_outside::{Batch, Keeper, NeverKeeper};
+use jv_rows::{
+    allows_setting, default_setting, drop_records, fresh_rows, key_of_slice, put_dead, put_slice,
+    scan_rows,
+};
+use std::alloc::Global;
+use std::test::Fail;
+
+fn empty_keeper(alloc: Global) -> NeverKeeper {
+    NeverKeeper::new(alloc, Sequence::new(alloc))
+}
+
+#[test]
+fn a_fresh_volume_has_a_root_and_a_trash(rt: HostRuntime) -> Result<(), Fail> {
+    let alloc = rt.alloc();
+    let setting = default_setting(alloc)?;
+    assert!(rt; allows_setting(&setting));
+    let mut keeper = empty_keeper(alloc);
+    keeper.commit(&fresh_rows(alloc, &setting, Moment(1000))?)?;
+    let nodes = scan_rows(alloc, &mut keeper, 2, None, 9)?;
+    assert_eq!(rt; nodes.len(), 2);
+    for ((key, row), inode) in nodes.as_slice().iter().zip([1, 9_223_372_032_828_243_968]) {
+        assert_eq!(rt; key.a, inode);
+        assert!(rt;
+            matches!(row, Row::OfNode(node) if node.ctime == 1000),
+            "{inode}"
+        );
+    }
+    Ok(())
+}
+
+#[test]
+fn a_malformed_row_is_bad_with_its_key_and_bytes(rt: HostRuntime) -> Result<(), Fail> {
+    let alloc = rt.alloc();
+    let mut batch = Batch::new(alloc);
+    let b = Bytes::new(alloc);
+    batch.put(
+        RowKey { tab: 6, a: 7, b },
+        copied(alloc, b"\x08\0\0\0\0\0\0\0\x02")?,
+    )?;
+    let mut keeper = empty_keeper(alloc);
+    keeper.commit(&batch)?;
+    match scan_rows(alloc, &mut keeper, 6, None, 1) {
+        Err(RowFault::Bad(key, bytes)) => assert_eq!(rt; (key.a, bytes.len()), (7, 9)),
+        _ => assert!(rt; false, "client 8 is no client"),
+    }
+    Ok(())
+}
+
+/// One record of each of these slices; 0 is none.
+fn records_of(alloc: Global, slices: &[u64]) -> Result<List, Fail> {
+    let mut list = List::new(alloc);
+    for id in slices {
+        list.push(Rec {
+            pos: 0,
+            id: *id,
+            size: 5,
+            off: 0,
+            len: 1,
+        })?;
+    }
+    Ok(list)
+}
+
+#[test]
+fn a_slice_whose_last_record_goes_is_dead(rt: HostRuntime) -> Result<(), Fail> {
+    let alloc = rt.alloc();
+    let mut keeper = empty_keeper(alloc);
+    let mut stored = Batch::new(alloc);
+    put_slice(alloc, &mut stored, 2, &SliceRow { size: 5, count: 2 })?;
+    put_slice(alloc, &mut stored, 3, &SliceRow { size: 6, count: 3 })?;
+    keeper.commit(&stored)?;
+    let mut changes = Batch::new(alloc);
+    let gone = records_of(alloc, &[3, 2, 0, 3, 2])?;
+    drop_records(alloc, &mut keeper, &mut changes, &gone, 9)?;
+    let mut wanted = Batch::new(alloc);
+    put_slice(alloc, &mut wanted, 3, &SliceRow { size: 6, count: 1 })?;
+    wanted.del(key_of_slice(alloc, 2))?;
+    put_dead(alloc, &mut wanted, 2, &Dead { size: 5, due: 9 })?;
+    assert_eq!(rt; changes.as_slice(), wanted.as_slice());
+    Ok(())
+}
