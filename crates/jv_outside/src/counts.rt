@@ -1,6 +1,7 @@
 //! What a test reads of devices in memory, without a call of theirs: how often they were called, how many of the calls
-//! failed, and a keeper's rows.
+//! failed, and a keeper's place and rows.
 ghost use Rattle.std.specs.Prelude.{◌≡◌, IfOk, None};
+ghost use Rattle.std.specs.Option.{option_copied};
 ghost use Rattle.jv_outside.specs.Rows.{rows_after};
 
 use crate::mem_clock::MemClock;
@@ -71,6 +72,16 @@ impl MemKeeper {
         ensures { result ≡ self.now.calls.faults }
     {
         self.calls.faults()
+    }
+
+    /// The place where the keeper was opened last, if it was.
+    pub fn opened(&self) -> Option<&[u8]>
+        ensures { option_copied result ≡ self.now.opened }
+    {
+        match &self.opened {
+            Some(place) => Some(place.as_slice()),
+            None => None,
+        }
     }
 
     /// The rows of a table in the order of their keys. It is no call, and so never fails but out of memory.

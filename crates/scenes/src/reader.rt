@@ -1,0 +1,342 @@
+//! Reads scenes.
+use crate::device::Device;
+use crate::scene::{Further, Piece, Scene, Sweep, Words};
+use jv_model::{Bytes, LAST_MOMENT, Moment, RowKey, Sequence};
+use std::alloc::{AllocError, AllocFailed, Global};
+
+/// Why a line is no line of a scene.
+#[derive(Clone, Copy)]
+pub enum BadLine {
+    NoScene,
+    NoName,
+    NoKey,
+    NotAlone,
+    NoEnd,
+    NotNumber,
+    PastLastMoment,
+    EmptyPiece,
+    NoDevice,
+    NotDigits,
+    NotCounted,
+    NotFail,
+    NotRows,
+    NotRow,
+    NotShow,
+    NotSweep,
+    OutOfMemory,
+}
+
+impl BadLine {
+    /// The reason in words.
+    pub fn text(self) -> &'static str {
+        match self {
+            BadLine::NoScene => "no scene has begun",
+            BadLine::NoName => "the scene has no name",
+            BadLine::NoKey => "no such key word",
+            BadLine::NotAlone => "`script` stands alone on its line",
+            BadLine::NoEnd => "no line `end` follows the script",
+            BadLine::NotNumber => "not a whole number of 64 bits",
+            BadLine::PastLastMoment => "past the last moment",
+            BadLine::EmptyPiece => "no piece has 0 bytes",
+            BadLine::NoDevice => "no such device",
+            BadLine::NotDigits => "not pairs of hexadecimal digits, or `-`",
+            BadLine::NotCounted => "the form is `KEY N TEXT`",
+            BadLine::NotFail => "the form is `fail DEVICE K ..`",
+            BadLine::NotRows => "the form is `rows fresh` or `rows none`",
+            BadLine::NotRow => "the form is `row TAB A B VALUE`",
+            BadLine::NotShow => "the form is `show rows`",
+            BadLine::NotSweep => "the form is `for k FIRST..LAST DEVICE`",
+            BadLine::OutOfMemory => "out of memory",
+        }
+    }
+}
+
+impl From<AllocError> for BadLine {
+    fn from(_error: AllocError) -> BadLine {
+        BadLine::OutOfMemory
+    }
+}
+
+impl<T: Drop> From<AllocFailed<T>> for BadLine {
+    fn from(_failed: AllocFailed<T>) -> BadLine {
+        BadLine::OutOfMemory
+    }
+}
+
+/// The scenes of the lines so far.
+#[derive(Drop)]
+pub struct SceneReader {
+    alloc: Global,
+    scenes: Vec<Scene>,
+    /// Whether the lines are those of a script.
+    is_in_script: bool,
+}
+
+impl SceneReader {
+    pub fn new(alloc: Global) -> SceneReader {
+        SceneReader {
+            alloc,
+            scenes: Vec::new(alloc),
+            is_in_script: false,
+        }
+    }
+
+    /// Reads the next line.
+    pub fn line(&mut self, line: &str) -> Result<(), BadLine> {
+        if self.is_in_script {
+            return self.script_line(line);
+        }
+        if line.is_empty() || line.starts_with("#") {
+            return Ok(());
+        }
+        let (key, rest) = line.split_once(" ").unwrap_or((line, ""));
+        match key {
+            "scene" => self.begin(rest),
+            "script" => self.begin_script(rest),
+            _ => self.read_key(key, rest),
+        }
+    }
+
+    /// The scenes, after the last line.
+    pub fn end(self) -> Result<Vec<Scene>, BadLine> {
+        let SceneReader {
+            scenes,
+            is_in_script,
+            ..
+        } = self;
+        if is_in_script {
+            return Err(BadLine::NoEnd);
+        }
+        Ok(scenes)
+    }
+
+    fn read_key(&mut self, key: &str, rest: &str) -> Result<(), BadLine> {
+        match self.scenes.last_mut() {
+            Some(scene) => read_key(self.alloc, scene, key, rest),
+            None => Err(BadLine::NoScene),
+        }
+    }
+
+    fn begin(&mut self, name: &str) -> Result<(), BadLine> {
+        if name.is_empty() {
+            return Err(BadLine::NoName);
+        }
+        let name = String::from_str(self.alloc, name)?;
+        self.scenes.push(Scene::new(self.alloc, name))?;
+        Ok(())
+    }
+
+    fn begin_script(&mut self, rest: &str) -> Result<(), BadLine> {
+        if !rest.is_empty() {
+            return Err(BadLine::NotAlone);
+        }
+        if self.scenes.is_empty() {
+            return Err(BadLine::NoScene);
+        }
+        self.is_in_script = true;
+        Ok(())
+    }
+
+    fn script_line(&mut self, line: &str) -> Result<(), BadLine> {
+        if line == "end" {
+            self.is_in_script = false;
+            return Ok(());
+        }
+        match self.scenes.last_mut() {
+            Some(scene) => add_lines(self.alloc, scene, 1, line),
+            None => Err(BadLine::NoScene),
+        }
+    }
+}
+
+/// Reads a line by its key word.
+fn read_key(alloc: Global, scene: &mut Scene, key: &str, rest: &str) -> Result<(), BadLine> {
+    match key {
+        "words" => scene.words = Some(words(alloc, rest)?),
+        "word" => add_word(alloc, scene, String::from_str(alloc, rest)?)?,
+        "long" => add_word(alloc, scene, long_word(alloc, rest)?)?,
+        "clock" => scene.clock = moment(rest)?,
+        "fail" => add_fails(scene, rest)?,
+        "in_pieces_of" => scene.most = most(rest)?,
+        "rows" => scene.is_fresh = is_fresh(rest)?,
+        "row" => scene.rows.push(row(alloc, rest)?)?,
+        "lines" => {
+            let (count, text) = counted(alloc, rest)?;
+            scene.script.push(Piece::Lines(count, text))?;
+        }
+        "text" => {
+            let (count, text) = counted(alloc, rest)?;
+            scene.script.push(Piece::Text(count, text))?;
+        }
+        "bytes" => scene.script.push(Piece::Bytes(bytes(alloc, rest)?))?,
+        "show" => show(scene, rest)?,
+        "again" if rest.is_empty() => scene.further.push(Further::Again)?,
+        "again" => scene.further.push(Further::AgainBy(words(alloc, rest)?))?,
+        "try" => scene.further.push(Further::Try(words(alloc, rest)?))?,
+        "then" => scene
+            .further
+            .push(Further::TryLine(String::from_str(alloc, rest)?))?,
+        "for" => scene.sweeps.push(sweep(rest)?)?,
+        _ => return Err(BadLine::NoKey),
+    }
+    Ok(())
+}
+
+fn add_lines(alloc: Global, scene: &mut Scene, count: u32, line: &str) -> Result<(), BadLine> {
+    let text = String::from_str(alloc, line)?;
+    scene.script.push(Piece::Lines(count, text))?;
+    Ok(())
+}
+
+/// Words that one space parts, or none.
+fn words(alloc: Global, rest: &str) -> Result<Words, BadLine> {
+    let mut all = Vec::new(alloc);
+    if !rest.is_empty() {
+        for word in rest.split(' ') {
+            all.push(String::from_str(alloc, word)?)?;
+        }
+    }
+    Ok(all)
+}
+
+/// Adds a word to those of the first run.
+fn add_word(alloc: Global, scene: &mut Scene, word: String) -> Result<(), BadLine> {
+    match &mut scene.words {
+        Some(all) => all.push(word)?,
+        None => {
+            let mut all = Vec::new(alloc);
+            all.push(word)?;
+            scene.words = Some(all);
+        }
+    }
+    Ok(())
+}
+
+/// A count, and the text behind it.
+fn counted(alloc: Global, rest: &str) -> Result<(u32, String), BadLine> {
+    let Some((count, text)) = rest.split_once(" ") else {
+        return Err(BadLine::NotCounted);
+    };
+    let Ok(count) = count.parse::<u32>() else {
+        return Err(BadLine::NotCounted);
+    };
+    Ok((count, String::from_str(alloc, text)?))
+}
+
+/// A word whose last letter stands as often as the count says.
+fn long_word(alloc: Global, rest: &str) -> Result<String, BadLine> {
+    let (count, mut word) = counted(alloc, rest)?;
+    let Some(last) = word.pop() else {
+        return Err(BadLine::NotCounted);
+    };
+    for _ in 0..count {
+        word.push(last)?;
+    }
+    Ok(word)
+}
+
+fn number(text: &str) -> Result<u64, BadLine> {
+    text.parse::<u64>().map_err(|_| BadLine::NotNumber)
+}
+
+fn moment(rest: &str) -> Result<Moment, BadLine> {
+    let seconds = number(rest)?;
+    if seconds > LAST_MOMENT {
+        return Err(BadLine::PastLastMoment);
+    }
+    Ok(Moment(seconds))
+}
+
+fn most(rest: &str) -> Result<usize, BadLine> {
+    match number(rest)? {
+        0 => Err(BadLine::EmptyPiece),
+        count => Ok(count as usize),
+    }
+}
+
+fn device(name: &str) -> Result<Device, BadLine> {
+    Device::named(name).ok_or(BadLine::NoDevice)
+}
+
+/// Adds calls that fail: a device, and their numbers.
+fn add_fails(scene: &mut Scene, rest: &str) -> Result<(), BadLine> {
+    let Some((name, numbers)) = rest.split_once(" ") else {
+        return Err(BadLine::NotFail);
+    };
+    let device = device(name)?;
+    for text in numbers.split(' ') {
+        scene.fails.push((device, number(text)?))?;
+    }
+    Ok(())
+}
+
+fn is_fresh(rest: &str) -> Result<bool, BadLine> {
+    match rest {
+        "fresh" => Ok(true),
+        "none" => Ok(false),
+        _ => Err(BadLine::NotRows),
+    }
+}
+
+/// Bytes in hexadecimal digits, or `-` for none.
+fn bytes(alloc: Global, text: &str) -> Result<Vec<u8>, BadLine> {
+    if text == "-" {
+        return Ok(Vec::new(alloc));
+    }
+    match hex::decode(alloc, text) {
+        Ok(bytes) => Ok(bytes),
+        Err(hex::FromHexError::OutOfMemory) => Err(BadLine::OutOfMemory),
+        Err(_) => Err(BadLine::NotDigits),
+    }
+}
+
+/// Bytes in parts that one space parts, each in hexadecimal digits, or `-` for none.
+fn bytes_in_parts(alloc: Global, text: &str) -> Result<Vec<u8>, BadLine> {
+    let mut all = Vec::new(alloc);
+    for part in text.split(' ') {
+        all.extend_from_slice(bytes(alloc, part)?.as_slice())?;
+    }
+    Ok(all)
+}
+
+/// A row: its table, number, bytes and value.
+fn row(alloc: Global, rest: &str) -> Result<(RowKey, Bytes), BadLine> {
+    let wanted = BadLine::NotRow;
+    let (tab, rest) = rest.split_once(" ").ok_or(wanted)?;
+    let (a, rest) = rest.split_once(" ").ok_or(wanted)?;
+    let (b, value) = rest.split_once(" ").ok_or(wanted)?;
+    let Ok(tab) = tab.parse::<u8>() else {
+        return Err(wanted);
+    };
+    let a = number(a)?;
+    let b = Sequence::from_vec(bytes(alloc, b)?);
+    let value = Sequence::from_vec(bytes_in_parts(alloc, value)?);
+    Ok((RowKey { tab, a, b }, value))
+}
+
+fn show(scene: &mut Scene, rest: &str) -> Result<(), BadLine> {
+    match rest {
+        "rows" => {
+            scene.shows_rows = true;
+            Ok(())
+        }
+        _ => Err(BadLine::NotShow),
+    }
+}
+
+/// Which calls fail one after the other, as `k 1..60 keeper`.
+fn sweep(rest: &str) -> Result<Sweep, BadLine> {
+    let wanted = BadLine::NotSweep;
+    let range = rest.strip_prefix("k ").ok_or(wanted)?;
+    let (range, name) = range.split_once(" ").ok_or(wanted)?;
+    let (first, last) = range.split_once("..").ok_or(wanted)?;
+    let device = match name {
+        "each" => None,
+        _ => Some(device(name)?),
+    };
+    Ok(Sweep {
+        first: number(first)?,
+        last: number(last)?,
+        device,
+    })
+}

@@ -1,0 +1,122 @@
+//! What is printed of runs.
+use crate::device::DEVICES;
+use crate::stage::Played;
+use std::alloc::{AllocError, Global};
+use std::str;
+
+/// The most lines of a text that are printed, besides its last one.
+const MOST_LINES: usize = 30;
+
+/// Adds a line: a key word and a text.
+fn push_line(report: &mut String, key: &str, text: &str) -> Result<(), AllocError> {
+    report.push_str(key)?;
+    if !text.is_empty() {
+        report.push_str(" ")?;
+        report.push_str(text)?;
+    }
+    report.push_str("\n")
+}
+
+/// Adds the lines of a text, each behind a key word. Of many lines the first ones are printed, and the last one.
+fn push_lines(report: &mut String, key: &str, text: &str) -> Result<(), AllocError> {
+    let count = text.lines().count();
+    for (number, line) in text.lines().enumerate() {
+        if number < MOST_LINES || number.saturating_add(1) == count {
+            push_line(report, key, line)?;
+        } else if number == MOST_LINES {
+            writeln!(report, "{key}, and of {count} lines the last one:")?;
+        }
+    }
+    Ok(())
+}
+
+/// Adds what a sink gained, and whether its last line has no line feed.
+fn push_gained(
+    alloc: Global,
+    report: &mut String,
+    key: &str,
+    bytes: &[u8],
+) -> Result<(), AllocError> {
+    let Ok(text) = str::from_utf8(bytes) else {
+        let digits = hex::encode(alloc, bytes)?;
+        return writeln!(report, "{key}, not text: {digits}");
+    };
+    push_lines(report, key, text)?;
+    if text.is_empty() || text.ends_with("\n") {
+        return Ok(());
+    }
+    writeln!(report, "{key}, no line feed")
+}
+
+/// Adds how often each device was called, and failed where it did.
+fn push_counts(report: &mut String, played: &Played) -> Result<(), AllocError> {
+    report.push_str("calls")?;
+    for device in DEVICES {
+        let name = device.name();
+        let made = played.made(device);
+        write!(report, " {name} {made}")?;
+        let faults = played.faults(device);
+        if faults > 0 {
+            write!(report, " ({faults} failed)")?;
+        }
+    }
+    report.push_str("\n")
+}
+
+/// Adds what a run came to.
+pub fn push_played(alloc: Global, report: &mut String, played: &Played) -> Result<(), AllocError> {
+    let status = played.status;
+    writeln!(report, "status {status}")?;
+    push_gained(alloc, report, "out", played.out.as_slice())?;
+    push_gained(alloc, report, "err", played.err.as_slice())?;
+    let entries = played.world.journal.len();
+    writeln!(report, "entries {entries}")?;
+    push_counts(report, played)?;
+    match played.world.keeper.opened() {
+        Some(place) => push_line(
+            report,
+            "opened",
+            str::from_utf8(place).unwrap_or("not text"),
+        ),
+        None => Ok(()),
+    }
+}
+
+/// Adds one line on a run by words: its status, the words, and the first line of standard error, or else of `out`.
+pub fn push_try(report: &mut String, words: &[String], played: &Played) -> Result<(), AllocError> {
+    let status = played.status;
+    write!(report, "status {status}:")?;
+    for word in words {
+        report.push_str(" ")?;
+        report.push_str(word.as_str())?;
+    }
+    let text = said(played);
+    if let Some(first) = text.lines().next() {
+        write!(report, " -> {first}")?;
+    }
+    match text.lines().skip(1).count() {
+        0 => report.push_str("\n"),
+        more => writeln!(report, " ({more} more lines)"),
+    }
+}
+
+/// Adds one line on a run whose script ends with a line: its status, the line, and the last line of standard error, or
+/// else of `out`.
+pub fn push_then(report: &mut String, line: &str, played: &Played) -> Result<(), AllocError> {
+    let status = played.status;
+    write!(report, "status {status}: {line}")?;
+    if let Some(last) = said(played).lines().last() {
+        write!(report, " -> {last}")?;
+    }
+    report.push_str("\n")
+}
+
+/// The text of standard error, or else of `out`.
+fn said(played: &Played) -> &str {
+    let bytes = if played.err.is_empty() {
+        played.out.as_slice()
+    } else {
+        played.err.as_slice()
+    };
+    str::from_utf8(bytes).unwrap_or("not text")
+}

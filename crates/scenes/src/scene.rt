@@ -1,0 +1,155 @@
+//! Scenes as values.
+use crate::device::Device;
+use jv_model::{Bytes, Moment, RowKey, Sequence, copied};
+use jv_outside::Fails;
+use std::alloc::{AllocError, Global};
+
+/// A command's words.
+pub type Words = Vec<String>;
+
+/// A piece of a script.
+#[derive(Drop)]
+pub enum Piece {
+    /// A line, this many times.
+    Lines(u32, String),
+    /// A text without a line feed, this many times.
+    Text(u32, String),
+    Bytes(Vec<u8>),
+}
+
+/// A further run.
+#[derive(Drop)]
+pub enum Further {
+    /// On the world that the run before left, by the same words.
+    Again,
+    /// On the world that the run before left, by other words.
+    AgainBy(Words),
+    /// By words on a world of its own. One line is printed of it.
+    Try(Words),
+    /// By the scene's words on a world of its own whose script ends with this line. One line is printed of it.
+    TryLine(String),
+}
+
+/// In what a run's world is another than the scene's.
+#[derive(Clone, Copy)]
+pub enum Variant<'a> {
+    Same,
+    /// A further call of a device fails, counted from 1.
+    Fails(Device, u64),
+    /// The script has one more line.
+    Line(&'a str),
+}
+
+/// Runs in each of which one more call fails.
+#[derive(Clone, Copy)]
+pub struct Sweep {
+    /// The first call that fails, from 1.
+    pub first: u64,
+    /// The last call that fails.
+    pub last: u64,
+    /// The device whose calls fail, or each of them in turn.
+    pub device: Option<Device>,
+}
+
+impl Sweep {
+    /// Whether calls of this device fail.
+    pub fn is_of(&self, device: Device) -> bool {
+        match self.device {
+            Some(only) => only == device,
+            None => true,
+        }
+    }
+}
+
+/// What a scene begins with, and what is done on it.
+#[derive(Drop)]
+pub struct Scene {
+    pub name: String,
+    /// The words of the first run, where there is one.
+    pub words: Option<Words>,
+    pub clock: Moment,
+    /// Calls that fail, from 1.
+    pub fails: Vec<(Device, u64)>,
+    /// The most bytes that a source returns or a sink takes at a call, above 0.
+    pub most: usize,
+    /// Whether the rows of a fresh volume are there.
+    pub is_fresh: bool,
+    /// Further rows; they stand in place of fresh ones with their keys.
+    pub rows: Vec<(RowKey, Bytes)>,
+    pub script: Vec<Piece>,
+    pub shows_rows: bool,
+    pub further: Vec<Further>,
+    pub sweeps: Vec<Sweep>,
+}
+
+impl Scene {
+    /// A scene in which nothing is run yet: a fresh volume, an empty script, and devices that never fail.
+    pub fn new(alloc: Global, name: String) -> Scene {
+        Scene {
+            name,
+            words: None,
+            clock: Moment(1_000),
+            fails: Vec::new(alloc),
+            most: usize::MAX,
+            is_fresh: true,
+            rows: Vec::new(alloc),
+            script: Vec::new(alloc),
+            shows_rows: false,
+            further: Vec::new(alloc),
+            sweeps: Vec::new(alloc),
+        }
+    }
+
+    /// The words of the first run.
+    pub fn words(&self) -> &[String] {
+        match &self.words {
+            Some(words) => words.as_slice(),
+            None => &[],
+        }
+    }
+
+    /// The bytes of the script.
+    pub fn source(&self, alloc: Global, variant: Variant<'_>) -> Result<Bytes, AllocError> {
+        let mut bytes = Vec::new(alloc);
+        for piece in self.script.as_slice() {
+            match piece {
+                Piece::Lines(count, text) => extend(&mut bytes, *count, text.as_str(), b"\n")?,
+                Piece::Text(count, text) => extend(&mut bytes, *count, text.as_str(), b"")?,
+                Piece::Bytes(more) => bytes.extend_from_slice(more.as_slice())?,
+            }
+        }
+        if let Variant::Line(line) = variant {
+            extend(&mut bytes, 1, line, b"\n")?;
+        }
+        Ok(Sequence::from_vec(bytes))
+    }
+
+    /// The calls of a device that fail.
+    pub fn fails_of(
+        &self,
+        alloc: Global,
+        device: Device,
+        variant: Variant<'_>,
+    ) -> Result<Fails, AllocError> {
+        let mut numbers = Sequence::new(alloc);
+        for (failing, number) in self.fails.as_slice() {
+            if *failing == device {
+                numbers.push(*number)?;
+            }
+        }
+        match variant {
+            Variant::Fails(failing, number) if failing == device => numbers.push(number)?,
+            _ => {}
+        }
+        Ok(Fails::At(numbers))
+    }
+}
+
+/// Adds a text and what follows it, `count` times.
+fn extend(bytes: &mut Vec<u8>, count: u32, text: &str, end: &[u8]) -> Result<(), AllocError> {
+    for _ in 0..count {
+        bytes.extend_from_slice(text.as_bytes())?;
+        bytes.extend_from_slice(end)?;
+    }
+    Ok(())
+}

@@ -1,0 +1,90 @@
+//! Worlds of devices in memory, and runs over them.
+use crate::device::Device;
+use crate::rows::rows;
+use crate::scene::{Scene, Variant};
+use jv_cmd::{Finish, World, run};
+use jv_model::{Journal, Sequence};
+use jv_outside::{MemClock, MemKeeper, MemSink, MemSource};
+use std::alloc::{AllocError, Global};
+
+/// A world of devices in memory.
+pub type MemWorld = World<MemSource, MemSink, MemSink, MemKeeper, MemClock>;
+
+/// What a run came to, and the world that it left.
+#[derive(Drop)]
+pub struct Played {
+    pub status: u8,
+    /// What `out` gained.
+    pub out: Vec<u8>,
+    /// What standard error gained.
+    pub err: Vec<u8>,
+    pub world: MemWorld,
+}
+
+impl Played {
+    /// How often a device was called since the world was made.
+    pub fn made(&self, device: Device) -> u64 {
+        match device {
+            Device::Source => self.world.source.made(),
+            Device::Out => self.world.out.made(),
+            Device::Err => self.world.err.made(),
+            Device::Clock => self.world.clock.made(),
+            Device::Keeper => self.world.keeper.made(),
+        }
+    }
+
+    /// How often a device's calls failed since the world was made.
+    pub fn faults(&self, device: Device) -> u64 {
+        match device {
+            Device::Source => self.world.source.faults(),
+            Device::Out => self.world.out.faults(),
+            Device::Err => self.world.err.faults(),
+            Device::Clock => self.world.clock.faults(),
+            Device::Keeper => self.world.keeper.faults(),
+        }
+    }
+}
+
+/// The world of a scene, or a variant of it.
+pub fn world(alloc: Global, scene: &Scene, variant: Variant<'_>) -> Result<MemWorld, AllocError> {
+    let script = scene.source(alloc, variant)?;
+    let source = MemSource::new(script, scene.fails_of(alloc, Device::Source, variant)?);
+    let keeper_fails = scene.fails_of(alloc, Device::Keeper, variant)?;
+    let clock_fails = scene.fails_of(alloc, Device::Clock, variant)?;
+    Ok(World {
+        source: source.in_pieces_of(scene.most.max(1)),
+        out: sink(alloc, scene, Device::Out, variant)?,
+        err: sink(alloc, scene, Device::Err, variant)?,
+        keeper: MemKeeper::new(alloc, rows(alloc, scene)?, keeper_fails),
+        clock: MemClock::new(scene.clock, clock_fails),
+        journal: Journal::new(alloc),
+    })
+}
+
+fn sink(
+    alloc: Global,
+    scene: &Scene,
+    device: Device,
+    variant: Variant<'_>,
+) -> Result<MemSink, AllocError> {
+    let fails = scene.fails_of(alloc, device, variant)?;
+    Ok(MemSink::new(Sequence::new(alloc), fails).in_pieces_of(scene.most.max(1)))
+}
+
+/// Runs words over a world.
+pub fn play(alloc: Global, words: &[String], world: MemWorld) -> Result<Played, AllocError> {
+    let taken = world.out.taken().len();
+    let said = world.err.taken().len();
+    let Finish { status, world } = run(alloc, words, world);
+    Ok(Played {
+        status,
+        out: gained(alloc, &world.out, taken)?,
+        err: gained(alloc, &world.err, said)?,
+        world,
+    })
+}
+
+/// What a sink has taken besides the first bytes.
+fn gained(alloc: Global, sink: &MemSink, before: usize) -> Result<Vec<u8>, AllocError> {
+    sink.taken().iter().skip(before).copied().collect(alloc)
+}

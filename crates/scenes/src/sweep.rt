@@ -1,0 +1,177 @@
+//! Runs of a scene in each of which one more call fails, and the rule that each of them keeps.
+use crate::device::{DEVICES, Device};
+use crate::report::push_played;
+use crate::rows::rows_text;
+use crate::scene::{Scene, Sweep, Variant};
+use crate::stage::{Played, play, world};
+use std::alloc::{AllocError, Global};
+use std::str;
+
+/// The status of a run that a device's fault ended.
+const FAILED: u8 = 5;
+
+/// A run, what is printed of it, and the rows before it and after it.
+#[derive(Drop)]
+struct Shown {
+    played: Played,
+    text: String,
+    before: String,
+    after: String,
+}
+
+/// Runs a sweep, and adds what it came to: each run that breaks the rule, and a sum for each device.
+pub fn push_sweep(
+    alloc: Global,
+    report: &mut String,
+    scene: &Scene,
+    sweep: Sweep,
+) -> Result<(), AllocError> {
+    let base = show(alloc, scene, Variant::Same)?;
+    for device in DEVICES {
+        if sweep.is_of(device) {
+            push_device(alloc, report, scene, &base, sweep, device)?;
+        }
+    }
+    Ok(())
+}
+
+fn show(alloc: Global, scene: &Scene, variant: Variant<'_>) -> Result<Shown, AllocError> {
+    let mut world = world(alloc, scene, variant)?;
+    let before = rows_text(alloc, &mut world.keeper)?;
+    let mut played = play(alloc, scene.words(), world)?;
+    let after = rows_text(alloc, &mut played.world.keeper)?;
+    let mut text = String::new(alloc);
+    push_played(alloc, &mut text, &played)?;
+    Ok(Shown {
+        played,
+        text,
+        before,
+        after,
+    })
+}
+
+fn push_device(
+    alloc: Global,
+    report: &mut String,
+    scene: &Scene,
+    base: &Shown,
+    sweep: Sweep,
+    device: Device,
+) -> Result<(), AllocError> {
+    let Sweep { first, last, .. } = sweep;
+    let name = device.name();
+    let mut failed = 0u64;
+    let mut ended = 0u64;
+    let mut differ = 0u64;
+    let mut broken = 0u64;
+    for number in first..=last {
+        let now = show(alloc, scene, Variant::Fails(device, number))?;
+        failed = failed.saturating_add(rise(&base.played, &now.played, device));
+        ended = ended.saturating_add(u64::from(now.played.status == FAILED));
+        differ = differ.saturating_add(differing(&base.played, &now.played));
+        if let Some(why) = broken_rule(base, &now, device) {
+            writeln!(report, "broken by call {number} of {name}: {why}")?;
+            broken = broken.saturating_add(1);
+        }
+    }
+    write!(
+        report,
+        "for k {first}..{last} {name}: {failed} failed, {ended} ended with status 5, "
+    )?;
+    writeln!(report, "{differ} answers differ, {broken} break the rule")
+}
+
+/// By how much a device failed more often.
+fn rise(base: &Played, now: &Played, device: Device) -> u64 {
+    now.faults(device).saturating_sub(base.faults(device))
+}
+
+/// What of the rule a run breaks in which one more call of a device was to fail.
+fn broken_rule(base: &Shown, now: &Shown, device: Device) -> Option<&'static str> {
+    let rise = rise(&base.played, &now.played, device);
+    if now.after.as_str() != base.before.as_str() && now.after.as_str() != base.after.as_str() {
+        Some("the rows are neither those before nor those of the whole run")
+    } else if rise == 0 && now.text.as_str() != base.text.as_str() {
+        Some("no call failed, and yet it is another run")
+    } else if rise > 1 {
+        Some("more than one call failed")
+    } else if has_other_faults(&base.played, &now.played, device) {
+        Some("a call of another device failed")
+    } else if differing(&base.played, &now.played) > rise {
+        Some("more answers differ than calls failed")
+    } else {
+        broken_end(&base.played, &now.played, device, rise > 0)
+    }
+}
+
+fn has_other_faults(base: &Played, now: &Played, device: Device) -> bool {
+    for other in DEVICES {
+        if other != device && rise(base, now, other) > 0 {
+            return true;
+        }
+    }
+    false
+}
+
+/// What of the rule a run's end breaks: it is that of the run in which no further call fails, or status 5 and the
+/// device's name.
+fn broken_end(
+    base: &Played,
+    now: &Played,
+    device: Device,
+    has_failed: bool,
+) -> Option<&'static str> {
+    if now.status == FAILED && says_failed(now, device) {
+        return None;
+    }
+    if now.status != base.status {
+        Some("the status is neither that of the whole run nor 5 with the device's name")
+    } else if has_failed && is_never_passed_over(device) {
+        Some("the failed call is passed over")
+    } else if text_of(&now.out).lines().count() < text_of(&base.out).lines().count() {
+        Some("answers are missing")
+    } else if !text_of(&base.err).starts_with(text_of(&now.err)) {
+        Some("standard error has another text")
+    } else {
+        None
+    }
+}
+
+/// Whether a fault of the device ends a run.
+fn is_never_passed_over(device: Device) -> bool {
+    matches!(device, Device::Source | Device::Out | Device::Clock)
+}
+
+/// Whether standard error says that the device failed, and nothing else.
+fn says_failed(now: &Played, device: Device) -> bool {
+    let Some(rest) = text_of(&now.err).strip_prefix("juicevol: ") else {
+        return false;
+    };
+    rest.strip_suffix(" failed\n") == Some(device.name())
+}
+
+fn text_of(bytes: &Vec<u8>) -> &str {
+    str::from_utf8(bytes.as_slice()).unwrap_or("")
+}
+
+/// The number of answers that aren't those of the run in which no further call fails. The last one may be cut.
+fn differing(base: &Played, now: &Played) -> u64 {
+    let mut wanted = text_of(&base.out).split('\n');
+    let mut lines = text_of(&now.out).split('\n').peekable();
+    let mut count = 0u64;
+    while let Some(line) = lines.next() {
+        let is_last = lines.peek().is_none();
+        if !is_answer(wanted.next(), line, is_last) {
+            count = count.saturating_add(1);
+        }
+    }
+    count
+}
+
+fn is_answer(wanted: Option<&str>, line: &str, is_last: bool) -> bool {
+    match wanted {
+        Some(wanted) if is_last => wanted.starts_with(line),
+        Some(wanted) => wanted == line,
+        None => false,
+    }
+}
