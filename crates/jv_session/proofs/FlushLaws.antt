@@ -1,15 +1,13 @@
 -- A flush, one segment after another.
-use Rattle.std.proofs.Common.{◌≡◌, ℕ, zero, suc, ◌+◌, ◌-◌, ◌≤◌, ◌<◌, max, cond, ◌==◌, true, false, List, [], ◌∷◌, ◌++◌, length, slice_get, Option, None, Some, refl, sym, ap, subst, ◌∙◌, arith, append_assoc, append-nil, length-append}
+use Rattle.std.proofs.Common.{◌≡◌, ℕ, zero, suc, ◌+◌, ◌-◌, ◌≤◌, ◌<◌, max, ◌==◌, true, List, [], ◌∷◌, ◌++◌, length, slice_get, Option, None, Some, refl, sym, ap, subst, ◌∙◌, arith, append_assoc, append-nil, length-append}
 use Rattle.std.proofs.Math.ListN.{length-set}
-use Rattle.std.proofs.lemmas.Option.{same_Some}
-use Rattle.std.proofs.lemmas.Bool.Decides.{nat_tests}
 use Rattle.std.specs.Prelude.{IfSome, IsSomeAnd}
 use Rattle.jv_model.specs.declared.act.Act.{Act}
 use Rattle.jv_model.specs.declared.op.Line.{Line}
 use Rattle.jv_model.specs.declared.op.Op.{Op}
 use Rattle.jv_model.specs.run.Past.{Past}
 use Rattle.jv_model.specs.tree.Tree.{paged, sum_fits, space_limit}
-use Rattle.jv_model.specs.run.Pending.{PendingByte, Segment, first_segment, run_length, pending_of, end_of, bytes_in_range, without_range}
+use Rattle.jv_model.specs.run.Pending.{Segment, first_segment, pending_of, end_of, bytes_in_range, without_range}
 use Rattle.jv_model.specs.run.Client.{Doing}
 use Rattle.jv_session.specs.declared.volume.StoredFile.{StoredFile}
 use Rattle.jv_session.specs.Stored.{VolumeValue, Commits, IsFile, with_segment, with_commit}

@@ -1,10 +1,7 @@
 -- Pending bytes of a file that is being flushed.
-use Rattle.std.proofs.Common.{◌≡◌, ℕ, zero, suc, ◌+◌, ◌-◌, ◌%◌, ◌≤◌, ◌<◌, max, Bool, true, false, cond, not, ◌==◌, List, [], ◌∷◌, filter, length, slice_get, slice_set, Option, None, Some, refl, sym, ap, subst, ◌∙◌, ⊎_elim, arith}
-use Rattle.std.proofs.lemmas.Bool.{cases_Bool, cond-true, cond-false, cond_both, and_parts, eqb-true}
+use Rattle.std.proofs.Common.{◌≡◌, ℕ, zero, suc, ◌+◌, ◌-◌, ◌%◌, ◌≤◌, ◌<◌, max, true, ◌==◌, List, [], ◌∷◌, length, slice_get, slice_set, Option, None, Some, refl, sym, ap, ◌∙◌, ⊎_elim, arith}
 use Rattle.std.proofs.lemmas.Bool.Decides.{nat_tests}
-use Rattle.std.proofs.lemmas.Option.{same_Some}
 use Rattle.jv_model.specs.declared.setting.Setting.{Setting}
-use Rattle.jv_model.specs.run.Pending.{PendingByte, Segment, comes_before, all_after, is_rising, pending_of, pending_end, end_of, first_segment, run_length, without_range, is_in_range, stands_at, window_size}
 use Rattle.jv_model.specs.tree.Tree.{paged, sum_fits, space_limit}
 use Rattle.jv_session.specs.declared.volume.StoredFile.{StoredFile}
 use Rattle.jv_session.specs.Stored.{VolumeValue, Commits, with_segment, with_commit}
