@@ -3,9 +3,9 @@
 //! A call takes a time logarithmic in the number of runs. `write` takes one linear in its bytes more, amortized, in
 //! whatever order and across whatever borders bytes are written; bytes that join runs are moved a logarithmic number of
 //! times at most. `take` takes a time linear in its bytes, `clear` and `clear_all` one for each run that they take out.
-ghost use Rattle.std.specs.Prelude.{◌≡◌, ℕ, ◌+◌, ◌<◌, ◌≤◌, ◌↔◌, [], length, Some, OnOk, OnErr, IfSome, IsErrOf, IsOk, IsOkUnless, IsTrue};
+ghost use Rattle.std.specs.Prelude.{◌≡◌, ℕ, ◌+◌, ◌*◌, ◌<◌, ◌≤◌, ◌↔◌, [], length, Some, OnOk, OnErr, IfSome, IsErrOf, IsOk, IsOkUnless, IsTrue};
 ghost use Rattle.std.specs.Option.{option_map};
-ghost use Rattle.jv_model.specs.declared.limits.TheConstants.{FILE_END};
+ghost use Rattle.jv_model.specs.declared.limits.TheConstants.{FILE_END, WINDOW};
 ghost use Rattle.jv_model.specs.run.Pending.{window_size, written, next_segment, bytes_in_range, without_range, pending_of, pending_of_others, end_of, is_rising};
 ghost use Rattle.jv_pending.specs.At.{segment_at};
 
@@ -115,7 +115,7 @@ impl Pending {
             next_segment (Some at.inode) self.now.bytes ≡ Some (segment_at at)) }
         ensures some { IfSome result (λ at. 0 < at.len) }
         ensures inside { IfSome result (λ at. at.pos + at.len ≤ window_size) }
-        ensures file { IfSome result (λ at. at.window < 16384) }
+        ensures file { IfSome result (λ at. at.window * WINDOW < FILE_END) }
     {
         find_first(&self.runs, inode)
     }

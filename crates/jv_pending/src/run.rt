@@ -59,7 +59,7 @@ impl RunStart {
         requires { IsRun (self, bytes.now) }
         ensures same { segment_at result ≡ segment_of_run (self, bytes.now) }
         ensures inside { result.pos + result.len ≤ window_size }
-        ensures file { result.window < 16384 }
+        ensures file { result.window * WINDOW < FILE_END }
     {
         SegmentAt {
             inode: self.inode,
@@ -114,7 +114,7 @@ pub(crate) fn find_first(runs: &Runs, inode: Option<u64>) -> Option<SegmentAt>
         next_segment (Some at.inode) (pending_bytes runs.now.entries) ≡ Some (segment_at at)) }
     ensures some { IfSome result (λ at. 0 < at.len) }
     ensures inside { IfSome result (λ at. at.pos + at.len ≤ window_size) }
-    ensures file { IfSome result (λ at. at.window < 16384) }
+    ensures file { IfSome result (λ at. at.window * WINDOW < FILE_END) }
 {
     match inode {
         None => {

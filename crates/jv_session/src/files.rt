@@ -1,5 +1,5 @@
 //! Operations on open files: close, write and read, and the flush before a close and a read.
-ghost use Rattle.std.specs.Prelude.{◌≡◌, ℕ, ◌+◌, ◌≤◌, ◌<◌, ◌-◌, ◌++◌, ◌∷◌, [], length, slice_get, is_some, IsTrue, IfOk, IfSome, OnOk, OnErr, Some, None};
+ghost use Rattle.std.specs.Prelude.{◌≡◌, ℕ, ◌+◌, ◌*◌, ◌≤◌, ◌<◌, ◌-◌, ◌++◌, ◌∷◌, [], length, slice_get, is_some, IsTrue, IfOk, IfSome, OnOk, OnErr, Some, None};
 ghost use Rattle.jv_model.specs.declared.limits.TheConstants.{FILE_END};
 ghost use Rattle.jv_model.specs.declared.act.ActKind.TheVariants.{Answered};
 ghost use Rattle.jv_model.specs.declared.act.Told.TheVariants.{Fine, Looks, Refused as ToldRefused};
@@ -99,7 +99,7 @@ impl Schedule {
         requires own { at.inode ≡ inode }
         requires first { next_segment (Some inode) self.old.pending ≡ Some (segment_at at) }
         requires inside { at.pos + at.len ≤ window_size }
-        requires window { at.window < 16384 }
+        requires window { at.window * WINDOW < FILE_END }
         requires room { 1 ≤ journal.old.spare }
         ensures ok { OnOk result (FlushesSegment inode (segment_at at) turn.now.line turn.now.at
             journal.old.acts journal.new.acts self.old self.new) }
@@ -251,7 +251,7 @@ fn looks(first: u64, len: u64) -> ActKind
 /// Where a segment begins, and its length.
 fn range_of(at: SegmentAt) -> (u64, u64)
     requires inside { at.pos + at.len ≤ window_size }
-    requires window { at.window < 16384 }
+    requires window { at.window * WINDOW < FILE_END }
     ensures from { result.0 ≡ (segment_at at).from }
     ensures len { result.1 ≡ at.len }
     ensures end { result.0 + result.1 ≤ FILE_END }
