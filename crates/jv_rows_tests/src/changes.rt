@@ -1,33 +1,11 @@
-use jv_model::{Bytes, Dead, List, Moment, Rec, Row, RowFault, RowKey, Sequence, SliceRow, copied};
+use jv_model::{Bytes, Dead, List, Rec, RowFault, RowKey, Sequence, SliceRow, copied};
 use jv_outside::{Batch, Keeper, NeverKeeper};
-use jv_rows::{
-    allows_setting, default_setting, drop_records, fresh_rows, key_of_slice, put_dead, put_slice,
-    scan_rows,
-};
+use jv_rows::{drop_records, key_of_slice, put_dead, put_slice, scan_rows};
 use std::alloc::Global;
 use std::test::Fail;
 
 fn empty_keeper(alloc: Global) -> NeverKeeper {
     NeverKeeper::new(alloc, Sequence::new(alloc))
-}
-
-#[test]
-fn a_fresh_volume_has_a_root_and_a_trash(rt: HostRuntime) -> Result<(), Fail> {
-    let alloc = rt.alloc();
-    let setting = default_setting(alloc)?;
-    assert!(rt; allows_setting(&setting));
-    let mut keeper = empty_keeper(alloc);
-    keeper.commit(&fresh_rows(alloc, &setting, Moment(1000))?)?;
-    let nodes = scan_rows(alloc, &mut keeper, 2, None, 9)?;
-    assert_eq!(rt; nodes.len(), 2);
-    for ((key, row), inode) in nodes.as_slice().iter().zip([1, 9_223_372_032_828_243_968]) {
-        assert_eq!(rt; key.a, inode);
-        assert!(rt;
-            matches!(row, Row::OfNode(node) if node.ctime == 1000),
-            "{inode}"
-        );
-    }
-    Ok(())
 }
 
 #[test]

@@ -1,7 +1,6 @@
-//! That rows are written, read and dropped where there is memory, which no clause says.
+//! That calls on rows succeed where there is memory, which no clause says. The program `measure` writes and reads rows
+//! of each kind; what it doesn't call is here.
 #![tactic(auto)]
 
-#[cfg(test)]
-mod again;
 #[cfg(test)]
 mod changes;

@@ -18,6 +18,20 @@ const SPREAD: u64 = 0x9E37_79B9_7F4A_7C15;
 /// The rows of a commit.
 const BATCH: usize = 4;
 
+/// The kinds of rows.
+const KINDS: [&str; 10] = [
+    "setting",
+    "counters",
+    "node",
+    "edge",
+    "list",
+    "slice",
+    "session",
+    "sustained",
+    "dropped",
+    "dead",
+];
+
 fn setting(alloc: Global) -> Result<Row, AllocError> {
     Ok(Row::OfSetting(Setting {
         version: 1,
@@ -201,4 +215,15 @@ pub fn read(alloc: Global, kind: &str, count: u32) -> Result<Option<u64>, Down> 
         Err(RowFault::Memory) => Err(Down::Memory),
         Err(_) => Err(Down::Failed),
     }
+}
+
+/// Writes and reads rows of each kind. Returns the number of those that are there.
+pub fn read_each(alloc: Global, count: u32) -> Result<u64, Down> {
+    let mut found = 0u64;
+    for kind in KINDS {
+        if let Some(more) = read(alloc, kind, count)? {
+            found = found.saturating_add(more);
+        }
+    }
+    Ok(found)
 }

@@ -54,6 +54,7 @@ fn measured(alloc: Global, name: &str, size: u32) -> Result<Option<u64>, Down> {
         "rows-written" => rows::written(alloc, size)?,
         "rows-read" => rows::read(alloc, size)?,
         "rows-scanned" => rows::scanned(alloc, size)?,
+        "rows-of-each-kind" => kinds::read_each(alloc, size)?,
         "records" => plans::listed(alloc, size)?,
         "plan" => plans::planned(alloc, size)?,
         "pending" => writes::pending(alloc, Order::Sequential, size)?,

@@ -3,8 +3,8 @@ use crate::device::Device;
 use crate::rows::rows;
 use crate::scene::{Scene, Variant};
 use jv_cmd::{Finish, World, run};
-use jv_model::{Journal, Sequence};
-use jv_outside::{MemClock, MemKeeper, MemSink, MemSource};
+use jv_model::{Bytes, Journal, Rows, Sequence};
+use jv_outside::{Fails, MemClock, MemKeeper, MemSink, MemSource};
 use std::alloc::{AllocError, Global};
 
 /// A world of devices in memory.
@@ -45,30 +45,44 @@ impl Played {
     }
 }
 
-/// The world of a scene, or a variant of it.
-pub fn world(alloc: Global, scene: &Scene, variant: Variant<'_>) -> Result<MemWorld, AllocError> {
-    let script = scene.source(alloc, variant)?;
-    let source = MemSource::new(script, scene.fails_of(alloc, Device::Source, variant)?);
-    let keeper_fails = scene.fails_of(alloc, Device::Keeper, variant)?;
-    let clock_fails = scene.fails_of(alloc, Device::Clock, variant)?;
-    Ok(World {
-        source: source.in_pieces_of(scene.most.max(1)),
-        out: sink(alloc, scene, Device::Out, variant)?,
-        err: sink(alloc, scene, Device::Err, variant)?,
-        keeper: MemKeeper::new(alloc, rows(alloc, scene)?, keeper_fails),
-        clock: MemClock::new(scene.clock, clock_fails),
-        journal: Journal::new(alloc),
+/// Which calls of each device fail.
+#[derive(Drop)]
+struct Failing {
+    source: Fails,
+    out: Fails,
+    err: Fails,
+    clock: Fails,
+    keeper: Fails,
+}
+
+fn calls_that_fail(alloc: Global, scene: &Scene, variant: Variant<'_>) -> Result<Failing, AllocError> {
+    Ok(Failing {
+        source: scene.fails_of(alloc, Device::Source, variant)?,
+        out: scene.fails_of(alloc, Device::Out, variant)?,
+        err: scene.fails_of(alloc, Device::Err, variant)?,
+        clock: scene.fails_of(alloc, Device::Clock, variant)?,
+        keeper: scene.fails_of(alloc, Device::Keeper, variant)?,
     })
 }
 
-fn sink(
-    alloc: Global,
-    scene: &Scene,
-    device: Device,
-    variant: Variant<'_>,
-) -> Result<MemSink, AllocError> {
-    let fails = scene.fails_of(alloc, device, variant)?;
-    Ok(MemSink::new(Sequence::new(alloc), fails).in_pieces_of(scene.most.max(1)))
+/// The world of a scene, or a variant of it.
+pub fn world(alloc: Global, scene: &Scene, variant: Variant<'_>) -> Result<MemWorld, AllocError> {
+    let script = scene.source(alloc, variant)?;
+    let rows = rows(alloc, scene)?;
+    let failing = calls_that_fail(alloc, scene, variant)?;
+    Ok(made(alloc, scene, script, rows, failing))
+}
+
+fn made(alloc: Global, scene: &Scene, script: Bytes, rows: Rows, failing: Failing) -> MemWorld {
+    let most = scene.most.max(1);
+    World {
+        source: MemSource::new(script, failing.source).in_pieces_of(most),
+        out: MemSink::new(Sequence::new(alloc), failing.out).in_pieces_of(most),
+        err: MemSink::new(Sequence::new(alloc), failing.err).in_pieces_of(most),
+        keeper: MemKeeper::new(alloc, rows, failing.keeper),
+        clock: MemClock::new(scene.clock, failing.clock),
+        journal: Journal::new(alloc),
+    }
 }
 
 /// Runs words over a world.

@@ -50,6 +50,38 @@ fn show(alloc: Global, scene: &Scene, variant: Variant<'_>) -> Result<Shown, All
     })
 }
 
+/// What the runs of a sweep came to.
+#[derive(Clone, Copy)]
+struct Sum {
+    /// Calls that failed.
+    failed: u64,
+    /// Runs that ended with status 5.
+    ended: u64,
+    /// Answers that differ.
+    differ: u64,
+    /// Runs that break the rule.
+    broken: u64,
+}
+
+impl Sum {
+    const NONE: Sum = Sum {
+        failed: 0,
+        ended: 0,
+        differ: 0,
+        broken: 0,
+    };
+
+    /// With one more run.
+    fn with(self, base: &Played, now: &Played, device: Device, is_broken: bool) -> Sum {
+        Sum {
+            failed: self.failed.saturating_add(rise(base, now, device)),
+            ended: self.ended.saturating_add(u64::from(now.status == FAILED)),
+            differ: self.differ.saturating_add(differing(base, now)),
+            broken: self.broken.saturating_add(u64::from(is_broken)),
+        }
+    }
+}
+
 fn push_device(
     alloc: Global,
     report: &mut String,
@@ -58,27 +90,45 @@ fn push_device(
     sweep: Sweep,
     device: Device,
 ) -> Result<(), AllocError> {
+    let mut sum = Sum::NONE;
+    for number in sweep.first..=sweep.last {
+        let now = show(alloc, scene, Variant::Fails(device, number))?;
+        let broken = broken_rule(base, &now, device);
+        push_broken(report, number, device, broken)?;
+        sum = sum.with(&base.played, &now.played, device, broken.is_some());
+    }
+    push_sum(report, sweep, device, sum)
+}
+
+/// Adds what of the rule a run breaks, if it breaks any.
+fn push_broken(
+    report: &mut String,
+    number: u64,
+    device: Device,
+    broken: Option<&'static str>,
+) -> Result<(), AllocError> {
+    let Some(why) = broken else {
+        return Ok(());
+    };
+    let name = device.name();
+    writeln!(report, "broken by call {number} of {name}: {why}")
+}
+
+fn push_sum(report: &mut String, sweep: Sweep, device: Device, sum: Sum) -> Result<(), AllocError> {
     let Sweep { first, last, .. } = sweep;
     let name = device.name();
-    let mut failed = 0u64;
-    let mut ended = 0u64;
-    let mut differ = 0u64;
-    let mut broken = 0u64;
-    for number in first..=last {
-        let now = show(alloc, scene, Variant::Fails(device, number))?;
-        failed = failed.saturating_add(rise(&base.played, &now.played, device));
-        ended = ended.saturating_add(u64::from(now.played.status == FAILED));
-        differ = differ.saturating_add(differing(&base.played, &now.played));
-        if let Some(why) = broken_rule(base, &now, device) {
-            writeln!(report, "broken by call {number} of {name}: {why}")?;
-            broken = broken.saturating_add(1);
-        }
-    }
+    let Sum {
+        failed,
+        ended,
+        differ,
+        broken,
+    } = sum;
+    write!(report, "for k {first}..{last} {name}: {failed} failed, ")?;
     write!(
         report,
-        "for k {first}..{last} {name}: {failed} failed, {ended} ended with status 5, "
+        "{ended} ended with status 5, {differ} answers differ, "
     )?;
-    writeln!(report, "{differ} answers differ, {broken} break the rule")
+    writeln!(report, "{broken} break the rule")
 }
 
 /// By how much a device failed more often.
