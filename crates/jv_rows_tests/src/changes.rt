@@ -20,7 +20,10 @@ fn a_malformed_row_is_bad_with_its_key_and_bytes(rt: HostRuntime) -> Result<(), 
     let mut keeper = empty_keeper(alloc);
     keeper.commit(&batch)?;
     match scan_rows(alloc, &mut keeper, 6, None, 1) {
-        Err(RowFault::Bad(key, bytes)) => assert_eq!(rt; (key.a, bytes.len()), (7, 9)),
+        Err(RowFault::Bad(key, bytes)) => {
+            assert_eq!(rt; key.a, 7);
+            assert_eq!(rt; bytes.len(), 9);
+        }
         _ => assert!(rt; false, "client 8 is no client"),
     }
     Ok(())

@@ -62,9 +62,8 @@ mod sweep;
 
 use reader::{BadLine, SceneReader};
 use report::{push_played, push_then, push_try};
-use rows::rows_text;
 use scene::{Further, Scene, Variant};
-use stage::{MemWorld, play, world};
+use stage::{MemWorld, play, with_rows, world};
 use std::alloc::{AllocError, Global};
 use std::io;
 use std::process::ExitCode;
@@ -113,7 +112,8 @@ fn push_scene(alloc: Global, report: &mut String, scene: &Scene) -> Result<(), A
         left = push_further(alloc, report, scene, further, left)?;
     }
     if scene.shows_rows {
-        report.push_str(rows_text(alloc, &mut left.keeper)?.as_str())?;
+        let (text, _left) = with_rows(alloc, left)?;
+        report.push_str(text.as_str())?;
     }
     report.push_str("\n")
 }

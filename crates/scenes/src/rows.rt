@@ -28,19 +28,25 @@ fn add_fresh(alloc: Global, rows: &mut Rows) -> Result<(), AllocError> {
     Ok(())
 }
 
-/// The rows of a keeper as text, each in the form in which a scene has it.
-pub fn rows_text(alloc: Global, keeper: &mut MemKeeper) -> Result<String, AllocError> {
+/// The rows of a keeper as text, each in the form in which a scene has it, and the keeper.
+pub fn rows_text(alloc: Global, keeper: MemKeeper) -> Result<(String, MemKeeper), AllocError> {
+    let mut keeper = keeper;
     let mut text = String::new(alloc);
     for tab in 0..=u8::MAX {
         let rows = keeper.rows_in(tab)?;
-        for (key, value) in rows.as_slice() {
-            let a = key.a;
-            let b = digits(alloc, key.b.as_slice())?;
-            let value = digits(alloc, value.as_slice())?;
-            writeln!(text, "row {tab} {a} {b} {value}")?;
-        }
+        push_rows(alloc, &mut text, tab, &rows)?;
     }
-    Ok(text)
+    Ok((text, keeper))
+}
+
+fn push_rows(alloc: Global, text: &mut String, tab: u8, rows: &Rows) -> Result<(), AllocError> {
+    for (key, value) in rows.as_slice() {
+        let a = key.a;
+        let b = digits(alloc, key.b.as_slice())?;
+        let value = digits(alloc, value.as_slice())?;
+        writeln!(text, "row {tab} {a} {b} {value}")?;
+    }
+    Ok(())
 }
 
 /// Bytes in hexadecimal digits, or `-` for none.

@@ -1,6 +1,6 @@
 //! Worlds of devices in memory, and runs over them.
 use crate::device::Device;
-use crate::rows::rows;
+use crate::rows::{rows, rows_text};
 use crate::scene::{Scene, Variant};
 use jv_cmd::{Finish, World, run};
 use jv_model::{Bytes, Journal, Rows, Sequence};
@@ -55,7 +55,11 @@ struct Failing {
     keeper: Fails,
 }
 
-fn calls_that_fail(alloc: Global, scene: &Scene, variant: Variant<'_>) -> Result<Failing, AllocError> {
+fn calls_that_fail(
+    alloc: Global,
+    scene: &Scene,
+    variant: Variant<'_>,
+) -> Result<Failing, AllocError> {
     Ok(Failing {
         source: scene.fails_of(alloc, Device::Source, variant)?,
         out: scene.fails_of(alloc, Device::Out, variant)?,
@@ -83,6 +87,28 @@ fn made(alloc: Global, scene: &Scene, script: Bytes, rows: Rows, failing: Failin
         clock: MemClock::new(scene.clock, failing.clock),
         journal: Journal::new(alloc),
     }
+}
+
+/// The rows of a world's keeper as text, and the world.
+pub fn with_rows(alloc: Global, world: MemWorld) -> Result<(String, MemWorld), AllocError> {
+    let World {
+        source,
+        out,
+        err,
+        keeper,
+        clock,
+        journal,
+    } = world;
+    let (text, keeper) = rows_text(alloc, keeper)?;
+    let world = World {
+        source,
+        out,
+        err,
+        keeper,
+        clock,
+        journal,
+    };
+    Ok((text, world))
 }
 
 /// Runs words over a world.

@@ -1,9 +1,8 @@
 //! Runs of a scene in each of which one more call fails, and the rule that each of them keeps.
 use crate::device::{DEVICES, Device};
 use crate::report::push_played;
-use crate::rows::rows_text;
 use crate::scene::{Scene, Sweep, Variant};
-use crate::stage::{Played, play, world};
+use crate::stage::{Played, play, with_rows, world};
 use std::alloc::{AllocError, Global};
 use std::str;
 
@@ -12,7 +11,7 @@ const FAILED: u8 = 5;
 
 /// A run, what is printed of it, and the rows before it and after it.
 #[derive(Drop)]
-struct Shown {
+struct Run {
     played: Played,
     text: String,
     before: String,
@@ -35,14 +34,29 @@ pub fn push_sweep(
     Ok(())
 }
 
-fn show(alloc: Global, scene: &Scene, variant: Variant<'_>) -> Result<Shown, AllocError> {
-    let mut world = world(alloc, scene, variant)?;
-    let before = rows_text(alloc, &mut world.keeper)?;
-    let mut played = play(alloc, scene.words(), world)?;
-    let after = rows_text(alloc, &mut played.world.keeper)?;
+fn show(alloc: Global, scene: &Scene, variant: Variant<'_>) -> Result<Run, AllocError> {
+    let (before, world) = with_rows(alloc, world(alloc, scene, variant)?)?;
+    let played = play(alloc, scene.words(), world)?;
     let mut text = String::new(alloc);
     push_played(alloc, &mut text, &played)?;
-    Ok(Shown {
+    shown(alloc, played, text, before)
+}
+
+fn shown(alloc: Global, played: Played, text: String, before: String) -> Result<Run, AllocError> {
+    let Played {
+        status,
+        out,
+        err,
+        world,
+    } = played;
+    let (after, world) = with_rows(alloc, world)?;
+    let played = Played {
+        status,
+        out,
+        err,
+        world,
+    };
+    Ok(Run {
         played,
         text,
         before,
@@ -86,7 +100,7 @@ fn push_device(
     alloc: Global,
     report: &mut String,
     scene: &Scene,
-    base: &Shown,
+    base: &Run,
     sweep: Sweep,
     device: Device,
 ) -> Result<(), AllocError> {
@@ -137,7 +151,7 @@ fn rise(base: &Played, now: &Played, device: Device) -> u64 {
 }
 
 /// What of the rule a run breaks in which one more call of a device was to fail.
-fn broken_rule(base: &Shown, now: &Shown, device: Device) -> Option<&'static str> {
+fn broken_rule(base: &Run, now: &Run, device: Device) -> Option<&'static str> {
     let rise = rise(&base.played, &now.played, device);
     if now.after.as_str() != base.before.as_str() && now.after.as_str() != base.after.as_str() {
         Some("the rows are neither those before nor those of the whole run")
