@@ -63,7 +63,7 @@ mod sweep;
 use reader::{BadLine, SceneReader};
 use report::{push_played, push_then, push_try};
 use scene::{Further, Scene, Variant};
-use stage::{MemWorld, play, with_rows, world};
+use stage::{MemWorld, Played, play, with_rows, world};
 use std::alloc::{AllocError, Global};
 use std::io;
 use std::process::ExitCode;
@@ -126,11 +126,21 @@ fn push_first(alloc: Global, report: &mut String, scene: &Scene) -> Result<MemWo
         return Ok(world);
     }
     let played = play(alloc, scene.words(), world)?;
-    push_played(alloc, report, &played)?;
+    push_first_run(alloc, report, scene, &played)?;
+    Ok(played.world)
+}
+
+fn push_first_run(
+    alloc: Global,
+    report: &mut String,
+    scene: &Scene,
+    played: &Played,
+) -> Result<(), AllocError> {
+    push_played(alloc, report, played)?;
     for sweep in scene.sweeps.as_slice() {
         push_sweep(alloc, report, scene, *sweep)?;
     }
-    Ok(played.world)
+    Ok(())
 }
 
 /// Makes a further run, and adds what it came to. Returns the world that the last run left which was no try.
@@ -145,20 +155,38 @@ fn push_further(
         Further::Again => push_again(alloc, report, scene.words(), left),
         Further::AgainBy(words) => push_again(alloc, report, words.as_slice(), left),
         Further::Try(words) => {
-            let world = world(alloc, scene, Variant::Same)?;
-            push_try(
-                report,
-                words.as_slice(),
-                &play(alloc, words.as_slice(), world)?,
-            )?;
+            try_words(alloc, report, scene, words.as_slice())?;
             Ok(left)
         }
         Further::TryLine(line) => {
-            let world = world(alloc, scene, Variant::Line(line.as_str()))?;
-            push_then(report, line.as_str(), &play(alloc, scene.words(), world)?)?;
+            try_line(alloc, report, scene, line.as_str())?;
             Ok(left)
         }
     }
+}
+
+/// Makes a run by these words on a world of its own.
+fn try_words(
+    alloc: Global,
+    report: &mut String,
+    scene: &Scene,
+    words: &[String],
+) -> Result<(), AllocError> {
+    let world = world(alloc, scene, Variant::Same)?;
+    let played = play(alloc, words, world)?;
+    push_try(report, words, &played)
+}
+
+/// Makes a run by the scene's words on a world of its own, whose script has one more line.
+fn try_line(
+    alloc: Global,
+    report: &mut String,
+    scene: &Scene,
+    line: &str,
+) -> Result<(), AllocError> {
+    let world = world(alloc, scene, Variant::Line(line))?;
+    let played = play(alloc, scene.words(), world)?;
+    push_then(report, line, &played)
 }
 
 fn push_again(

@@ -26,9 +26,19 @@ pub fn push_sweep(
     sweep: Sweep,
 ) -> Result<(), AllocError> {
     let base = show(alloc, scene, Variant::Same)?;
+    push_devices(alloc, report, scene, &base, sweep)
+}
+
+fn push_devices(
+    alloc: Global,
+    report: &mut String,
+    scene: &Scene,
+    base: &Run,
+    sweep: Sweep,
+) -> Result<(), AllocError> {
     for device in DEVICES {
         if sweep.is_of(device) {
-            push_device(alloc, report, scene, &base, sweep, device)?;
+            push_device(alloc, report, scene, base, sweep, device)?;
         }
     }
     Ok(())
@@ -106,12 +116,36 @@ fn push_device(
 ) -> Result<(), AllocError> {
     let mut sum = Sum::NONE;
     for number in sweep.first..=sweep.last {
-        let now = show(alloc, scene, Variant::Fails(device, number))?;
-        let broken = broken_rule(base, &now, device);
-        push_broken(report, number, device, broken)?;
-        sum = sum.with(&base.played, &now.played, device, broken.is_some());
+        sum = push_run(alloc, report, scene, base, (device, number), sum)?;
     }
     push_sum(report, sweep, device, sum)
+}
+
+/// Makes the run in which a call fails. Returns the sum with it.
+fn push_run(
+    alloc: Global,
+    report: &mut String,
+    scene: &Scene,
+    base: &Run,
+    failing: (Device, u64),
+    sum: Sum,
+) -> Result<Sum, AllocError> {
+    let now = show(alloc, scene, Variant::Fails(failing.0, failing.1))?;
+    judge(report, base, &now, failing, sum)
+}
+
+/// Adds what of the rule a run breaks. Returns the sum with it.
+fn judge(
+    report: &mut String,
+    base: &Run,
+    now: &Run,
+    failing: (Device, u64),
+    sum: Sum,
+) -> Result<Sum, AllocError> {
+    let (device, number) = failing;
+    let broken = broken_rule(base, now, device);
+    push_broken(report, number, device, broken)?;
+    Ok(sum.with(&base.played, &now.played, device, broken.is_some()))
 }
 
 /// Adds what of the rule a run breaks, if it breaks any.
