@@ -1,32 +1,11 @@
-use jv_model::{Bytes, Dead, List, Rec, RowFault, RowKey, Sequence, SliceRow, copied};
+use jv_model::{Dead, List, Rec, Sequence, SliceRow};
 use jv_outside::{Batch, Keeper, NeverKeeper};
-use jv_rows::{drop_records, key_of_slice, put_dead, put_slice, scan_rows};
+use jv_rows::{drop_records, key_of_slice, put_dead, put_slice};
 use std::alloc::Global;
 use std::test::Fail;
 
 fn empty_keeper(alloc: Global) -> NeverKeeper {
     NeverKeeper::new(alloc, Sequence::new(alloc))
-}
-
-#[test]
-fn a_malformed_row_is_bad_with_its_key_and_bytes(rt: HostRuntime) -> Result<(), Fail> {
-    let alloc = rt.alloc();
-    let mut batch = Batch::new(alloc);
-    let b = Bytes::new(alloc);
-    batch.put(
-        RowKey { tab: 6, a: 7, b },
-        copied(alloc, b"\x08\0\0\0\0\0\0\0\x02")?,
-    )?;
-    let mut keeper = empty_keeper(alloc);
-    keeper.commit(&batch)?;
-    match scan_rows(alloc, &mut keeper, 6, None, 1) {
-        Err(RowFault::Bad(key, bytes)) => {
-            assert_eq!(rt; key.a, 7);
-            assert_eq!(rt; bytes.len(), 9);
-        }
-        _ => assert!(rt; false, "client 8 is no client"),
-    }
-    Ok(())
 }
 
 /// One record of each of these slices; 0 is none.
