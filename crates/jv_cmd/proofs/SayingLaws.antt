@@ -4,7 +4,7 @@ use Rattle.std.proofs.lemmas.Bool.{false≢true}
 use Rattle.std.proofs.lemmas.List.{take_at, drop_at, take-append-le}
 use Rattle.std.proofs.Math.Seq.{take-add}
 use Rattle.jv_model.specs.declared.fault.Down.{Down}
-use Rattle.jv_outside.specs.Stream.{Stream, Gains, HasAll, IsCut, WritesAll}
+use Rattle.jv_outside.specs.Stream.{Stream, Gains, HasAll, IsCut, FailsToWriteAll, WritesAll}
 use Rattle.jv_outside.proofs.StreamLaws.{Gains-trans}
 use Rattle.jv_cmd.specs.Saying.{Says, Said, Cut}
 use Rattle.jv_cmd.specs.declared.ended.Ended.{Ended}
@@ -14,7 +14,7 @@ use Rattle.jv_cmd.proofs.GoingLaws.{Rose-since}
 -- whether a call failed or not
 pub Says-written : (result : Result (Unit {0}) Down) (before after : Stream) (text : List ℕ) → WritesAll before after result text → Says before after text
 Says-written (Ok unit) before after text all = Said all
-Says-written (Err down) before after text cut = Cut cut
+Says-written (Err down) before after text fails = Cut fails.cut
 
 pub HasAll-after : (before between after : Stream) (first second : List ℕ) → HasAll before between first → HasAll between after second → HasAll before after (first ++ second)
 HasAll-after before between after first second p q = record {
@@ -47,15 +47,24 @@ IsCut-more before after first second q = record {
   rose = q.rose;
 }
 
+-- a text after a text that was written
+pub Fails-after : (before between after : Stream) (down : Down) (first second : List ℕ) → HasAll before between first → FailsToWriteAll between after down second → FailsToWriteAll before after down (first ++ second)
+Fails-after before between after down first second p q = record {
+  cut = IsCut-after before between after first second p q.cut;
+  failed = q.failed;
+}
+
+-- a text that was cut, before another
+pub Fails-more : (before after : Stream) (down : Down) (first second : List ℕ) → FailsToWriteAll before after down first → FailsToWriteAll before after down (first ++ second)
+Fails-more before after down first second q = record {
+  cut = IsCut-more before after first second q.cut;
+  failed = q.failed;
+}
+
 -- a write after another
 pub WritesAll-after : (result : Result (Unit {0}) Down) (before between after : Stream) (first second : List ℕ) → HasAll before between first → WritesAll between after result second → WritesAll before after result (first ++ second)
 WritesAll-after (Ok unit) before between after first second p all = HasAll-after before between after first second p all
-WritesAll-after (Err down) before between after first second p cut = IsCut-after before between after first second p cut
-
--- a write that failed
-pub WritesAll-cut : (result : Result (Unit {0}) Down) (before after : Stream) (text : List ℕ) → IsErr result → IsCut before after text → WritesAll before after result text
-WritesAll-cut (Ok unit) before after text refused cut = absurd (false≢true refused)
-WritesAll-cut (Err down) before after text refused cut = cut
+WritesAll-after (Err down) before between after first second p fails = Fails-after before between after down first second p fails
 
 pub Says-ended : {ended this : Ended} {before after : Stream} → ended ≡ this → Says before after (message_of this) → Says before after (message_of ended)
 Says-ended {ended} {this} {before} {after} same says = subst (λ (e : Ended). Says before after (message_of e)) (sym same) says

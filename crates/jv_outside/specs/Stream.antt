@@ -2,6 +2,7 @@
 use Rattle.std.specs.Prelude.{◌≡◌, ℕ, ◌<◌, ◌≤◌, List, ◌++◌, length, take, Option, IfSome, IsSomeAnd, Result, Ok, Err}
 use Rattle.std.specs.Io.KnownBytes.{Consumes, IsAtEnd, Keeps}
 use Rattle.jv_model.specs.declared.fault.Down.{Down}
+use Rattle.jv_model.specs.declared.fault.Down.TheVariants.{Failed}
 use Rattle.jv_outside.specs.Causes.{Rose, HasFailed}
 
 -- The bytes left of a source, or taken by a sink, where they are known; and how many calls failed. A sink's bytes may
@@ -60,7 +61,12 @@ pub record IsCut (before after : Stream) (bytes : List ℕ) : Type 0 where
   pub gains : Gains before.content after.content (take count bytes)
   pub rose : Rose before.faults after.faults
 
+-- a call failed before all these bytes were written: the error is Failed, never Memory
+pub record FailsToWriteAll (before after : Stream) (down : Down) (bytes : List ℕ) : Type 0 where
+  pub cut : IsCut before after bytes
+  pub failed : down ≡ Failed
+
 -- a write of all bytes, by its result
 abbrev pub WritesAll : Stream → Stream → Result (Unit {0}) Down → List ℕ → Type 0
 WritesAll before after (Ok unit) bytes = HasAll before after bytes
-WritesAll before after (Err down) bytes = IsCut before after bytes
+WritesAll before after (Err down) bytes = FailsToWriteAll before after down bytes

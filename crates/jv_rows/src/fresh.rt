@@ -27,7 +27,8 @@ const FRESH_COUNTERS: Counters = Counters {
 
 /// The setting of a volume named `juicefs` over memory, with default options.
 pub fn default_setting(alloc: Global) -> Result<Setting, AllocError>
-    ensures { IfOk result (λ setting. setting ≡ default_setting) }
+    ensures fields { IfOk result (λ setting. setting ≡ default_setting) }
+    ensures allowed { IfOk result (λ setting. IsTrue (is_setting setting)) }
 {
     Ok(Setting {
         version: 1,

@@ -4,8 +4,8 @@ ghost use Rattle.jv_model.specs.script.Printed.{data_text, part_text, Repeated};
 ghost use Rattle.jv_script.specs.Printing.{PrintsPart};
 
 use crate::hex_text::{hex_pair, push_digits};
-use crate::numbers::push_decimal;
 use crate::repeats::{begins_long_repeat, plain_length, repeat_length};
+use jv_slices::push_decimal;
 use std::alloc::AllocError;
 
 #[tactic(auto, unfolding(jv_model::specs::script::Printed::data_text))]

@@ -60,7 +60,8 @@ pub(crate) fn number(digits: &[u8]) -> Option<u64>
     Some(number)
 }
 
-fn is_numeral(digits: &[u8]) -> bool
+/// Whether these are decimal digits, at least one, without a leading zero: `0` itself is a numeral, `01` isn't.
+pub fn is_numeral(digits: &[u8]) -> bool
     ensures { result ≡ is_numeral digits.now }
 {
     let Some((first, rest)) = digits.split_first() else {

@@ -1,12 +1,11 @@
 //! Names, paths and targets, attributes and the names of blocks, printed.
-ghost use Rattle.std.specs.Prelude.{◌≡◌, ◌∷◌, ◌+◌, ◌/◌, ◌%◌, ◌<◌, ◌++◌, OnOk};
+ghost use Rattle.std.specs.Prelude.{◌≡◌, ◌∷◌, ◌+◌, ◌++◌, OnOk};
 ghost use Rattle.std.specs.List.{flat_map};
-ghost use Rattle.jv_model.specs.blocks.BlockNames.{upper_digit, upper_pair};
 ghost use Rattle.jv_model.specs.script.ReplyText.{is_kept_in_name, is_kept_in_path, escaped_byte, name_text, path_text, kind_letter, mode_digits, attr_words, entry_text, entries_text, uploaded_text};
 
-use crate::numbers::{push_decimal, push_number, push_numbers};
+use crate::numbers::{push_number, push_numbers};
 use jv_model::{Attr, BlockId, FileKind, Name, Setting};
-use jv_slices::block_name;
+use jv_slices::{block_name, push_decimal, upper_pair};
 use std::alloc::{AllocError, Global};
 
 #[tactic(auto, unfolding(jv_model::specs::script::ReplyText::path_text))]
@@ -36,7 +35,7 @@ fn push_escaped(text: &mut Vec<u8>, is_kept: bool, byte: u8) -> Result<(), Alloc
         return text.push(byte).map_err(AllocError::from);
     }
     text.push(b'%')?;
-    push_upper_pair(text, byte)
+    text.extend_from_slice(&upper_pair(byte))
 }
 
 fn is_kept_in_path(byte: u8) -> bool
@@ -49,21 +48,6 @@ fn is_kept_in_name(byte: u8) -> bool
     ensures { result ≡ is_kept_in_name byte }
 {
     byte.is_ascii_alphanumeric() || byte == b'.' || byte == b'_' || byte == b'-' || byte == b'~'
-}
-
-fn push_upper_pair(text: &mut Vec<u8>, byte: u8) -> Result<(), AllocError>
-    ensures { OnOk result (text.new.items ≡ text.old.items ++ upper_pair byte) }
-{
-    text.push(upper_digit(byte / 16))?;
-    text.push(upper_digit(byte % 16))?;
-    Ok(())
-}
-
-fn upper_digit(value: u8) -> u8
-    requires { value < 16 }
-    ensures { result ≡ upper_digit value }
-{
-    b"0123456789ABCDEF"[value as usize]
 }
 
 pub(crate) fn push_entries(text: &mut Vec<u8>, entries: &[(Name, u64)]) -> Result<(), AllocError>

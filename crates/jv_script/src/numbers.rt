@@ -1,9 +1,9 @@
 //! Numbers, printed.
-ghost use Rattle.std.specs.Prelude.{◌≡◌, ◌++◌, decimal, OnOk};
+ghost use Rattle.std.specs.Prelude.{◌≡◌, ◌++◌, OnOk};
 ghost use Rattle.std.specs.List.{flat_map};
 ghost use Rattle.jv_model.specs.script.Printed.{number_word};
 
-use itoa::Buffer;
+use jv_slices::push_decimal;
 use std::alloc::AllocError;
 
 /// Each number with a space before it.
@@ -21,11 +21,4 @@ pub(crate) fn push_number(text: &mut Vec<u8>, number: u64) -> Result<(), AllocEr
 {
     text.push(b' ')?;
     push_decimal(text, number)
-}
-
-pub(crate) fn push_decimal(text: &mut Vec<u8>, number: u64) -> Result<(), AllocError>
-    ensures { OnOk result (text.new.items ≡ text.old.items ++ decimal number) }
-{
-    let mut buffer = Buffer::new();
-    text.extend_from_slice(buffer.format(number).as_bytes())
 }

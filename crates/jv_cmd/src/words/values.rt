@@ -5,6 +5,7 @@ ghost use Rattle.jv_model.specs.script.Spelling.{is_numeral, is_decimal_digit};
 ghost use Rattle.jv_cmd.specs.Values.{number_of_digits, number_within, digits_of, unit_of, is_block_size, block_size_of, place_of};
 
 use jv_model::{KIB, MIB};
+use jv_script::is_numeral;
 
 /// What comes before the path in the URL of a volume.
 const SCHEME: &[u8] = b"sqlite3://";
@@ -22,21 +23,6 @@ fn number(text: &[u8]) -> Option<u64>
         number = number * 10 + u64::from(*digit - b'0');
     }
     Some(number)
-}
-
-fn is_numeral(text: &[u8]) -> bool
-    ensures { result ≡ is_numeral text.now }
-{
-    let Some((first, rest)) = text.split_first() else {
-        return false;
-    };
-    (*first != b'0' || rest.is_empty()) && all_decimal_digits(text)
-}
-
-fn all_decimal_digits(text: &[u8]) -> bool
-    ensures { result ≡ list_all is_decimal_digit text.now }
-{
-    text.iter().all(|c| c.is_ascii_digit())
 }
 
 /// A number from `least` to `most`.
