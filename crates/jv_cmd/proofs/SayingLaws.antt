@@ -1,6 +1,5 @@
 -- What was said, by one write after another.
-use Rattle.std.proofs.Common.{◌≡◌, ℕ, ◌+◌, ◌<◌, ◌≤◌, List, ◌++◌, length, take, drop, Result, Ok, Err, IsErr, sym, ap, subst, ◌∙◌, arith, length-append, refl}
-use Rattle.std.proofs.lemmas.Bool.{false≢true}
+use Rattle.std.proofs.Common.{◌≡◌, ℕ, ◌+◌, ◌<◌, ◌≤◌, List, ◌++◌, length, take, drop, Result, Ok, Err, IsErrAnd, sym, ap, subst, ◌∙◌, arith, length-append, refl}
 use Rattle.std.proofs.lemmas.List.{take_at, drop_at, take-append-le}
 use Rattle.std.proofs.Math.Seq.{take-add}
 use Rattle.jv_model.specs.declared.fault.Down.{Down}
@@ -65,6 +64,11 @@ Fails-more before after down first second q = record {
 pub WritesAll-after : (result : Result (Unit {0}) Down) (before between after : Stream) (first second : List ℕ) → HasAll before between first → WritesAll between after result second → WritesAll before after result (first ++ second)
 WritesAll-after (Ok unit) before between after first second p all = HasAll-after before between after first second p all
 WritesAll-after (Err down) before between after first second p fails = Fails-after before between after down first second p fails
+
+-- a write that failed passes its error on
+pub WritesAll-failed : (result : Result (Unit {0}) Down) (before after : Stream) (down : Down) (text : List ℕ) → IsErrAnd result (λ error. error ≡ down) → FailsToWriteAll before after down text → WritesAll before after result text
+WritesAll-failed (Ok unit) before after down text is fails = absurd is
+WritesAll-failed (Err error) before after down text is fails = subst (λ (d : Down). FailsToWriteAll before after d text) (sym is) fails
 
 pub Says-ended : {ended this : Ended} {before after : Stream} → ended ≡ this → Says before after (message_of this) → Says before after (message_of ended)
 Says-ended {ended} {this} {before} {after} same says = subst (λ (e : Ended). Says before after (message_of e)) (sym same) says

@@ -17,7 +17,7 @@ pub returns-in-Said-clause-ends : goal.returns-in-Said-clause-ends
 returns-in-Said-clause-ends g c = record {
   printed = c.in-Said.answer;
   runs = Advances-said c.args.line.now c.args.number _ _ c.args.schedule.now c.line.new.self c.in-Said.answer c.in-Said.ensures.runs;
-  cut = subst (λ (bytes : List ℕ). IsCut (g.O.Sink.seen c.args.world.now.out) (g.O.Sink.seen c.write_whole.new.sink) bytes) c.as_slice.ensures c.in-Err.ensures;
+  cut = subst (λ (bytes : List ℕ). IsCut (g.O.Sink.seen c.args.world.now.out) (g.O.Sink.seen c.write_whole.new.sink) bytes) c.as_slice.ensures c.in-Err.ensures.cut;
   clock = c.in-Said.ensures.runs.calm;
 }
 
