@@ -20,14 +20,14 @@ use Rattle.jv_model.specs.run.Client.{free_handle, file_of, file_in, with_file, 
 use Rattle.jv_model.specs.run.Past.{Past, caller, transacted}
 use Rattle.jv_model.specs.script.ReplyText.{printed_line}
 use Rattle.jv_session.specs.Agrees.{ScheduleValue, HasFiles, Stands, Ran, entry_at}
-use Rattle.jv_session.specs.Stored.{IsFile, VolumeValue, Creates, inode_named}
+use Rattle.jv_files.specs.Stored.{IsFile, FilesValue, Creates, inode_named}
 use Rattle.jv_session.specs.Lines.{Coming}
 use Rattle.jv_session.specs.BuiltHere.{refusal_here, built_op, has_form, may_answer, may_run, has_room}
 use Rattle.jv_session.proofs.Steps.{started_line}
 use Rattle.jv_session.proofs.TreeLaws.{created, create-exists, create-new, open-found, open-absent, has_files-created, few-has_room}
 use Rattle.jv_session.proofs.LineLaws.{mount_ran, tree_refused_ran, opened_ran, with_handle}
-use Rattle.jv_session.specs.declared.volume.StoredFile.{StoredFile}
-use Rattle.jv_session.specs.Shown.{shown_between}
+use Rattle.jv_files.specs.declared.files.StoredFile.{StoredFile}
+use Rattle.jv_files.specs.Shown.{shown_between}
 use Rattle.jv_session.specs.Progress.{Reaches, flushing}
 use Rattle.jv_session.specs.Flushing.{Flushed, ShowsFile}
 use Rattle.jv_session.proofs.FileLines.{write_ran, Flushes, ACloses, AReads, flush_starts}
@@ -90,7 +90,7 @@ create_exists_runs line at mode inode path s before built none there p more h =
     let is = ap (outcome p.tree) (create-exists p.tree s.volume who path mode inode a.files (in_session p more op at sid.0 s h.stands sid.1) (form_of s op built) there) in
     tree_refused_ran p more line at op s AlreadyExists before h (no_refusal p more line at op s before h none) refl is
 
-pub create_runs : (line at mode inode handle : ℕ) (path : List ℕ) (s : ScheduleValue) (volume : VolumeValue) (before : List Act) → built_op s (Create path mode) ≡ true → refusal_here s (Create path mode) ≡ None
+pub create_runs : (line at mode inode handle : ℕ) (path : List ℕ) (s : ScheduleValue) (volume : FilesValue) (before : List Act) → built_op s (Create path mode) ≡ true → refusal_here s (Create path mode) ≡ None
     → inode_named s.volume.names path ≡ None → Creates s.volume path volume → inode ≡ 2 + length s.volume.files → handle ≡ free_handle s.handles
     → (p : Past) (more : List Line) → Coming p more line at (Create path mode) s before
     → Ran p more line before (before ++ entry_at line at (Opened handle inode) ∷ entry_at line at (Answered (Fine handle inode 0 0)) ∷ []) (printed_line s.setting (FileOpened handle inode))
@@ -110,8 +110,8 @@ create_runs line at mode inode handle path s volume before built none absent mad
     ap (outcome p.tree) (create-new p.tree v who path mode a.files (in_session p more op at sid.0 s h.stands sid.1) root absent ∙ ap (λ b. cond b done (Err NoSpace)) room') in
     let files = has_files-created p.tree v who path mode volume.names a.files (few-has_room p.tree.setting v room') root absent made.names in
     let same : volume ≡ record { names = volume.names; files = v.files ++ record { length = 0; segments = [] } ∷ []; used_space = v.used_space + 4096 } =
-    ap (λ fs. let r : VolumeValue = record { names = volume.names; files = fs; used_space = volume.used_space } in r) made.files
-    ∙ ap (λ n. let r : VolumeValue = record { names = volume.names; files = v.files ++ record { length = 0; segments = [] } ∷ []; used_space = n } in r) made.space in
+    ap (λ fs. let r : FilesValue = record { names = volume.names; files = fs; used_space = volume.used_space } in r) made.files
+    ∙ ap (λ n. let r : FilesValue = record { names = volume.names; files = v.files ++ record { length = 0; segments = [] } ∷ []; used_space = n } in r) made.space in
     let longer : length volume.files ≡ length v.files + 1 = ap length made.files ∙ length-append v.files (record { length = 0; segments = [] } ∷ []) in
     subst (λ n. Ran p more line before (before ++ entry_at line at (Opened handle n) ∷ entry_at line at (Answered (Fine handle n 0 0)) ∷ []) (printed_line s.setting (FileOpened handle n)) (record (with_handle s n) { at = at; volume = volume })) (sym number)
     (opened_ran p more line at op s (created p.tree who path mode) (2 + length v.files) handle volume before h (no_refusal p more line at op s before h none) refl (λ c. refl) (λ reply. refl) is free

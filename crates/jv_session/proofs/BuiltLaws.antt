@@ -18,12 +18,12 @@ use Rattle.jv_model.specs.run.Past.{Past, caller}
 use Rattle.jv_model.specs.run.Pending.{PendingByte, end_of}
 use Rattle.jv_model.specs.tree.Tree.{Tree, full_count, paged}
 use Rattle.jv_model.specs.tree.TreeAct.{Outcome, outcome}
-use Rattle.jv_session.specs.Stored.{VolumeValue, IsFile, inode_named}
+use Rattle.jv_files.specs.Stored.{FilesValue, IsFile, inode_named}
 use Rattle.jv_session.specs.Agrees.{ScheduleValue, HasFiles, Agrees, Stands}
 use Rattle.jv_session.specs.BuiltHere.{refusal_here, has_form, has_room, space_grown, grown_fits, inode_or_zero, may_flush, may_run, may_answer, built_op, built_here}
 use Rattle.jv_session.proofs.FileLaws.{slice_get_inside}
 use Rattle.jv_session.proofs.FileLines.{open_at, inode_in-open}
-use Rattle.jv_session.proofs.SpaceLaws.{space_of-part}
+use Rattle.jv_files.proofs.SpaceLaws.{space_of-part}
 use Rattle.jv_session.proofs.SubmissionLaws.{submission-here}
 use Rattle.jv_session.proofs.TreeLaws.{and_when, created, create-exists, create-new, open-found, open-absent, flush_fits-file}
 
@@ -69,7 +69,7 @@ form-here p s _ e = refl
 subtracted : (before more less : ℕ) → less ≤ before → before + more - less + less ≡ before + more
 subtracted before more less h = omega arith
 
-flush-file : (t : Tree) (v : VolumeValue) (k : ℕ) (pending : List PendingByte) → HasFiles t v → k < length v.files
+flush-file : (t : Tree) (v : FilesValue) (k : ℕ) (pending : List PendingByte) → HasFiles t v → k < length v.files
     → grown_fits t.setting v (slice_get v.files k) (end_of (2 + k) pending) ≡ flush_fits t (2 + k) pending
 flush-file t v k pending h less =
     let file = slice_get_inside v.files k less in
@@ -78,7 +78,7 @@ flush-file t v k pending h less =
     ap (λ o. grown_fits t.setting v o stop) file.1
     ∙ sym (flush_fits-file t v k pending file.0 (space_grown v file.0 stop) h file.1 (subtracted v.used_space (paged (max (file.0).length stop)) (paged (file.0).length) part))
 
-flush-here : (t : Tree) (v : VolumeValue) (inode : ℕ) (pending : List PendingByte) → HasFiles t v → IsFile (length v.files) inode
+flush-here : (t : Tree) (v : FilesValue) (inode : ℕ) (pending : List PendingByte) → HasFiles t v → IsFile (length v.files) inode
     → grown_fits t.setting v (slice_get v.files (inode - 2)) (end_of inode pending) ≡ flush_fits t inode pending
 flush-here t v inode pending h is =
     let two : 2 + (inode - 2) ≡ inode = omega (arith, is.low) in

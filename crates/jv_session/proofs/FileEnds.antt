@@ -19,12 +19,12 @@ use Rattle.jv_model.specs.run.Client.{ModelClient, OpenFile, Doing, Reading, fil
 use Rattle.jv_model.specs.run.Past.{Past, View, reply_of, with_client, counted, or_empty, or_no_bytes, only_if, second_read, bytes_from, bytes_between, reading, part_read, seen_in, is_fresh, view_at}
 use Rattle.jv_model.specs.script.ReplyText.{printed_line}
 use Rattle.jv_model.specs.run.Legal.{IsFlushed, TakesView, Closed, ReadsFresh, is_before_step}
-use Rattle.jv_session.specs.declared.volume.StoredFile.{StoredFile}
-use Rattle.jv_session.specs.Stored.{stored_byte}
-use Rattle.jv_session.specs.Shown.{shown_between}
+use Rattle.jv_files.specs.declared.files.StoredFile.{StoredFile}
+use Rattle.jv_files.specs.Stored.{stored_byte}
+use Rattle.jv_files.specs.Shown.{shown_between}
 use Rattle.jv_session.specs.Progress.{InLine, Reaches, StepsTo, at_stage, flushing}
 use Rattle.jv_session.specs.Agrees.{ScheduleValue, Agrees, IsClient, Keeps, Ran, entry_at}
-use Rattle.jv_session.specs.Stored.{IsFile}
+use Rattle.jv_files.specs.Stored.{IsFile}
 use Rattle.jv_session.proofs.Steps.{one_step, more_steps, steps_to, stepped, started_line, begin_next-started, answered, done-answered, still_client, ran_to_answer, all_of_line-append, with_stage-doing}
 use Rattle.jv_session.proofs.HandleLaws.{map-with_file, all-with_file}
 use Rattle.jv_session.proofs.Transactions.{agrees-refused, out_of_memory}

@@ -3,9 +3,10 @@ use Rattle.std.proofs.Common.{◌≡◌, ℕ, zero, suc, ◌+◌, ◌-◌, ◌<�
 use Rattle.std.specs.Prelude.{IfSome, IsSomeAnd}
 use Rattle.jv_model.specs.tree.Tree.{Content}
 use Rattle.jv_model.specs.tree.TreeAct.{overwritten}
-use Rattle.jv_session.specs.declared.volume.StoredSegment.{StoredSegment}
-use Rattle.jv_session.specs.declared.volume.StoredFile.{StoredFile}
-use Rattle.jv_session.specs.Stored.{covers, shown_over, with_segment}
+use Rattle.jv_files.specs.declared.files.StoredSegment.{StoredSegment}
+use Rattle.jv_files.specs.declared.files.StoredFile.{StoredFile}
+use Rattle.jv_files.specs.Stored.{covers, with_segment}
+use Rattle.jv_files.proofs.PaintLaws.{shown_over-push}
 use Rattle.jv_session.specs.Agrees.{Keeps}
 
 module _ {X : Type 0} where
@@ -36,11 +37,6 @@ module _ {X : Type 0} where
   pub some_and : (o : Option X) (P : X → Type 0) → IsSomeAnd o P → (x : X) × (o ≡ Some x) × P x
   some_and None P h = absurd h
   some_and (Some x) P h = (x, refl, h)
-
-pub shown_over-push : (below : ℕ) (segments : List StoredSegment) (s : StoredSegment) (position : ℕ)
-    → shown_over below (segments ++ s ∷ []) position ≡ cond (covers s position) (slice_index s.bytes (position - s.from)) (shown_over below segments position)
-shown_over-push below [] s position = refl
-shown_over-push below (first ∷ segments) s position = shown_over-push (cond (covers first position) (slice_index first.bytes (position - first.from)) below) segments s position
 
 -- a file's bytes agree after a commit too
 pub keeps-overwritten : (file : StoredFile) (content : Content) (from : ℕ) (bytes : List ℕ) → Keeps file content → Keeps (with_segment from bytes file) (overwritten content from bytes)

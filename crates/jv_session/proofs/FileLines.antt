@@ -17,7 +17,7 @@ use Rattle.jv_model.specs.script.ReplyText.{printed_line}
 use Rattle.jv_model.specs.run.Legal.{IsFlushed, Wrote}
 use Rattle.jv_session.specs.Progress.{Reaches, flushing}
 use Rattle.jv_session.specs.Agrees.{ScheduleValue, Agrees, IsClient, Ran, entry_at}
-use Rattle.jv_session.specs.Stored.{IsFile}
+use Rattle.jv_files.specs.Stored.{IsFile}
 use Rattle.jv_session.proofs.Steps.{OpenedBy, one_step, started_line, begin_next-started, answered, done-answered, still_client, ran}
 use Rattle.jv_session.proofs.HandleLaws.{file_of-table}
 use Rattle.jv_session.proofs.Transactions.{begun_doing, in_line-started, agrees-started}

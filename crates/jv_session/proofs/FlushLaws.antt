@@ -9,15 +9,15 @@ use Rattle.jv_model.specs.run.Past.{Past}
 use Rattle.jv_model.specs.tree.Tree.{paged, sum_fits, space_limit}
 use Rattle.jv_model.specs.run.Pending.{Segment, first_segment, pending_of, end_of, bytes_in_range, without_range}
 use Rattle.jv_model.specs.run.Client.{Doing}
-use Rattle.jv_session.specs.declared.volume.StoredFile.{StoredFile}
-use Rattle.jv_session.specs.Stored.{VolumeValue, Commits, IsFile, with_segment, with_commit}
+use Rattle.jv_files.specs.declared.files.StoredFile.{StoredFile}
+use Rattle.jv_files.specs.Stored.{FilesValue, Commits, IsFile, with_segment, with_commit}
 use Rattle.jv_session.specs.BuiltHere.{may_flush, grown_fits}
 use Rattle.jv_session.specs.Agrees.{ScheduleValue, Agrees}
 use Rattle.jv_session.specs.Progress.{InLine, Reaches, flushing}
 use Rattle.jv_session.specs.Flushing.{FlushesSegment, Flushed, segment_entries}
 use Rattle.jv_session.proofs.Steps.{more_steps, all_of_line-append}
 use Rattle.jv_session.proofs.FileLaws.{some_and}
-use Rattle.jv_session.proofs.SpaceLaws.{space_of-part}
+use Rattle.jv_files.proofs.SpaceLaws.{space_of-part}
 use Rattle.jv_pending.proofs.SegmentLaws.{own_segment, first_segment-ends, end_of-without, length-without}
 use Rattle.jv_session.proofs.PendingLaws.{commit-fits}
 use Rattle.jv_session.proofs.Flushes.{MayCommit, flush_segment}
@@ -105,7 +105,7 @@ flushed_more inode line at segment before mid after s m e is_file fits some firs
             (reaches_more p more q (so ++ so_far.acts) entries line at (flushing op inode) (flushing op inode) m e r' (subst (Reaches p more r'.there entries line at (flushing op inode)) (sym ending) step));
         setting = setting ∙ so_far.setting;
         handles = ap (λ (x : ScheduleValue). x.handles) h.same ∙ so_far.handles;
-        files = ap (λ (v : VolumeValue). length v.files) commit.same ∙ length-set m.volume.files k (with_segment segment.from bytes file) ∙ so_far.files;
+        files = ap (λ (v : FilesValue). length v.files) commit.same ∙ length-set m.volume.files k (with_segment segment.from bytes file) ∙ so_far.files;
       },
       ap (λ x. grown_fits x e.volume (slice_get e.volume.files k) (end_of inode e.pending)) setting ∙ both.1,
       subst (λ ps. length ps < length m.pending) (sym left) (length-without inode m.pending (record { inode = inode; from = segment.from; len = segment.len }) first'),

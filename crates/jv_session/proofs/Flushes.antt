@@ -12,8 +12,8 @@ use Rattle.jv_model.specs.run.Pending.{first_segment, bytes_in_range, without_ra
 use Rattle.jv_model.specs.run.Client.{Doing, Flushing, left_to_flush}
 use Rattle.jv_model.specs.run.Past.{Past, with_client, spoiled, counted}
 use Rattle.jv_model.specs.run.Legal.{Commits, may_be_staged}
-use Rattle.jv_session.specs.declared.volume.StoredFile.{StoredFile}
-use Rattle.jv_session.specs.Stored.{with_segment, with_commit}
+use Rattle.jv_files.specs.declared.files.StoredFile.{StoredFile}
+use Rattle.jv_files.specs.Stored.{with_segment, with_commit}
 use Rattle.jv_session.specs.Flushing.{segment_entries}
 use Rattle.jv_session.specs.Progress.{InLine, Reaches, StepsTo, at_stage}
 use Rattle.jv_session.specs.Agrees.{ScheduleValue, Agrees, HasFiles, HasSession, entry_at}

@@ -7,8 +7,6 @@ pub mod SumLaws
 pub mod NodeLaws
 pub mod FileLaws
 pub mod TreeLaws
-pub mod SpaceLaws
-pub mod PaintLaws
 pub mod PendingLaws
 pub mod HandleLaws
 pub mod Transactions

@@ -22,11 +22,11 @@ use Rattle.jv_model.specs.script.ReplyText.{printed_line}
 use Rattle.jv_model.specs.run.Legal.{Allowed, IsRefusal}
 use Rattle.jv_model.proofs.PastLaws.{begun_to-present, advance-present}
 use Rattle.jv_model.proofs.FiniteMapLaws.{get-insert}
-use Rattle.jv_session.specs.Stored.{VolumeValue}
+use Rattle.jv_files.specs.Stored.{FilesValue}
 use Rattle.jv_session.specs.Lines.{Coming}
 use Rattle.jv_session.specs.Progress.{StepsTo}
 use Rattle.jv_session.specs.Agrees.{ScheduleValue, Agrees, HasFiles, HasSession, IsClient, Ran, entry_at}
-use Rattle.jv_session.specs.Stored.{IsFile}
+use Rattle.jv_files.specs.Stored.{IsFile}
 use Rattle.jv_session.proofs.HandleLaws.{all-with_file, map-with_file, free_from-table}
 use Rattle.jv_session.proofs.Steps.{more_steps, started_line, refused_line, begin_next-started, begin_next-refused, answered, done-answered, still_client, opened_grown, ran}
 use Rattle.jv_session.proofs.Transactions.{begun_doing, in_line-started, agrees-started, transacted_to, transact, in_line-transacted, settle, out_of_memory, agrees-refused}
@@ -201,7 +201,7 @@ same_handle : (c : ModelClient) (count : ℕ) (s : ScheduleValue) → IsClient c
 same_handle c count s h = sym (free_from-table (λ (file : OpenFile). file.inode) 1 c.handles) ∙ ap free_handle h.handles
 
 -- the client after a file was opened, where the volume has as many files or more
-client_opened : (c : ModelClient) (count inode : ℕ) (s : ScheduleValue) (volume : VolumeValue) → IsClient c count s → length s.volume.files ≤ length volume.files → IsFile (length volume.files) inode
+client_opened : (c : ModelClient) (count inode : ℕ) (s : ScheduleValue) (volume : FilesValue) → IsClient c count s → length s.volume.files ≤ length volume.files → IsFile (length volume.files) inode
     → IsClient (record c { handles = with_file (free_handle c.handles) (Some (record { inode = inode; opened = count + 1 })) c.handles; doing = None }) (count + 1 + 1) (record (with_handle s inode) { volume = volume })
 client_opened c count inode s volume h grew file =
     let handle = free_handle c.handles in
@@ -216,7 +216,7 @@ client_opened c count inode s volume h grew file =
           (λ i. opened_grown count (length s.volume.files) (length volume.files) grew (slice_get c.handles i) (h.opened i)) (omega arith, file);
     }
 
-pub opened_ran : (p : Past) (more : List Line) (line at : ℕ) (op : Op) (s : ScheduleValue) (tree : Tree) (inode handle : ℕ) (volume : VolumeValue) (before : List Act) → Coming p more line at op s before
+pub opened_ran : (p : Past) (more : List Line) (line at : ℕ) (op : Op) (s : ScheduleValue) (tree : Tree) (inode handle : ℕ) (volume : FilesValue) (before : List Act) → Coming p more line at op s before
     → submission (p.clients 0) op ≡ None → first_stage op ≡ Transacting → ((c : ModelClient) → finished op c ≡ c) → ((reply : Reply) → done_reply op (Replying reply) ≡ reply)
     → transacted (started_line p more op) 0 at op ≡ record { tree = tree; reply = FileOpened (free_handle (p.clients 0).handles) inode }
     → handle ≡ free_handle s.handles

@@ -3,8 +3,8 @@ use Rattle.std.proofs.Common.{◌≡◌, ℕ, zero, suc, ◌+◌, ◌-◌, ◌%�
 use Rattle.std.proofs.lemmas.Bool.Decides.{nat_tests}
 use Rattle.jv_model.specs.declared.setting.Setting.{Setting}
 use Rattle.jv_model.specs.tree.Tree.{paged, sum_fits, space_limit}
-use Rattle.jv_session.specs.declared.volume.StoredFile.{StoredFile}
-use Rattle.jv_session.specs.Stored.{VolumeValue, Commits, with_segment, with_commit}
+use Rattle.jv_files.specs.declared.files.StoredFile.{StoredFile}
+use Rattle.jv_files.specs.Stored.{FilesValue, Commits, with_segment, with_commit}
 use Rattle.jv_session.specs.BuiltHere.{grown_fits, space_grown}
 
 paged_grows : (a b : ℕ) → a ≤ b → paged a ≤ paged b
@@ -25,7 +25,7 @@ get_set (f ∷ files) zero old new e = refl
 get_set (f ∷ files) (suc k) old new e = get_set files k old new e
 
 -- what fits before a segment's commit fits at it and after it
-pub commit-fits : (setting : Setting) (v v' : VolumeValue) (k from stop stop' : ℕ) (bytes : List ℕ) (file : StoredFile) → slice_get v.files k ≡ Some file → paged file.length ≤ v.used_space
+pub commit-fits : (setting : Setting) (v v' : FilesValue) (k from stop stop' : ℕ) (bytes : List ℕ) (file : StoredFile) → slice_get v.files k ≡ Some file → paged file.length ≤ v.used_space
     → (c : Commits v k from bytes file v') → from + length bytes ≤ stop → stop' ≤ stop → grown_fits setting v (slice_get v.files k) stop ≡ true
     → (sum_fits (space_limit setting) v.used_space c.used ≡ true) × (grown_fits setting v' (slice_get v'.files k) stop' ≡ true)
 commit-fits setting v v' k from stop stop' bytes file there part c within fewer fits =

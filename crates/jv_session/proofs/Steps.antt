@@ -18,7 +18,7 @@ use Rattle.jv_model.specs.run.Legal.{Allowed, AllAllowed, MayStep, MayStand, OfD
 use Rattle.jv_model.proofs.PastLaws.{begun_to-present, begun_to-next, advance-present, past-append, AllAllowed-append, past-begun_to, AllAllowed-begun_to}
 use Rattle.jv_session.specs.Progress.{InLine, StepsTo, AllOfLine}
 use Rattle.jv_session.specs.Agrees.{ScheduleValue, Agrees, IsClient, Stands, Ran, entry_at}
-use Rattle.jv_session.specs.Stored.{IsFile}
+use Rattle.jv_files.specs.Stored.{IsFile}
 
 -- The line begun from p is done, and prints this.
 pub record LineDone (p : Past) (more : List Line) (q : Past) (line at : ℕ) (text : List ℕ) : Type 0 where

@@ -18,12 +18,13 @@ use Rattle.jv_model.specs.tree.TreeAct.{Caller, Outcome, create, open_file, new_
 use Rattle.jv_model.specs.tree.Walk.{is_trash}
 use Rattle.jv_model.specs.run.Built.{flush_fits, grown}
 use Rattle.jv_model.proofs.FiniteMapLaws.{get-insert}
-use Rattle.jv_session.specs.declared.volume.StoredFile.{StoredFile}
-use Rattle.jv_session.specs.Stored.{VolumeValue, inode_named, with_segment, with_commit}
+use Rattle.jv_files.specs.declared.files.StoredFile.{StoredFile}
+use Rattle.jv_files.proofs.SpaceLaws.{named_with}
+use Rattle.jv_files.specs.Stored.{FilesValue, inode_named, with_segment, with_commit}
 use Rattle.jv_session.specs.BuiltHere.{has_room}
-use Rattle.jv_session.proofs.SpaceLaws.{space_of-push, space_of-set}
+use Rattle.jv_files.proofs.SpaceLaws.{space_of-push, space_of-set}
 use Rattle.jv_session.specs.Agrees.{HasFiles, Keeps}
-use Rattle.jv_session.specs.Stored.{IsFile}
+use Rattle.jv_files.specs.Stored.{IsFile}
 use Rattle.jv_session.proofs.AttemptLaws.{require-true, goes_on, stops, both_required}
 use Rattle.jv_session.proofs.PathLaws.{root_paths, entry_of-root, inode_of-root, is_trash-plain}
 use Rattle.jv_session.proofs.SumLaws.{get-same, get-other, sum-changed, sum-added}
@@ -35,7 +36,7 @@ abbrev pub name_in : List ℕ → List ℕ
 name_in [] = []
 name_in (slash ∷ name) = name
 
-pub few-has_room : (setting : Setting) (v : VolumeValue) → has_room setting v ≡ true → 2 + length v.files < full_count
+pub few-has_room : (setting : Setting) (v : FilesValue) → has_room setting v ≡ true → 2 + length v.files < full_count
 few-has_room setting v room = ltb-true _ _ (and_parts _ _ room).0
 
 abbrev pub created : Tree → Caller → List ℕ → ℕ → Tree
@@ -47,23 +48,23 @@ record FileAt (t : Tree) (k : ℕ) (file : StoredFile) : Type 0 where
   there : content_at t (2 + k) ≡ Some content
   keeps : Keeps file content
 
-file_at : (t : Tree) (v : VolumeValue) (k : ℕ) (file : StoredFile) → HasFiles t v → slice_get v.files k ≡ Some file → FileAt t k file
+file_at : (t : Tree) (v : FilesValue) (k : ℕ) (file : StoredFile) → HasFiles t v → slice_get v.files k ≡ Some file → FileAt t k file
 file_at t v k file h there =
     let kept : IsSomeAnd (content_at t (2 + k)) (Keeps file) = subst (λ o. IfSome o (λ f. IsSomeAnd (content_at t (2 + k)) (Keeps f))) there (h.files k) in
     let all = some_and (content_at t (2 + k)) (Keeps file) kept in
     record { content = all.0; there = all.1; keeps = all.2 }
 
-file_inside : (t : Tree) (v : VolumeValue) (k : ℕ) → HasFiles t v → k < length v.files → (file : StoredFile) × FileAt t k file
+file_inside : (t : Tree) (v : FilesValue) (k : ℕ) → HasFiles t v → k < length v.files → (file : StoredFile) × FileAt t k file
 file_inside t v k h less =
     let file = slice_get_inside v.files k less in
     (file.0, file_at t v k file.0 h file.1)
 
-has_node : (t : Tree) (v : VolumeValue) (k : ℕ) → HasFiles t v → k < length v.files → is_some (node_at t (2 + k)) ≡ true
+has_node : (t : Tree) (v : FilesValue) (k : ℕ) → HasFiles t v → k < length v.files → is_some (node_at t (2 + k)) ≡ true
 has_node t v k h less =
     let file = (file_inside t v k h less).1 in
     ap is_some (file_node (node_at t (2 + k)) file.content file.there).there
 
-is_no_directory : (t : Tree) (v : VolumeValue) (inode : ℕ) → HasFiles t v → IsFile (length v.files) inode → parent_at t inode ≡ None
+is_no_directory : (t : Tree) (v : FilesValue) (inode : ℕ) → HasFiles t v → IsFile (length v.files) inode → parent_at t inode ≡ None
 is_no_directory t v inode h is =
     let two : 2 + (inode - 2) ≡ inode = omega (arith, is.low) in
     let file = (file_inside t v (inode - 2) h (omega (arith, is.low, is.high))).1 in
@@ -84,7 +85,7 @@ module _ (t : Tree) (name : List ℕ) (ok : is_name name ≡ true) (root : paren
       goes_on _ _ _ (entry_of-root t name ok root) ∙ require-true _ _ _ not_in_trash
       ∙ ap (λ o. require (not (is_some o)) AlreadyExists >>= λ _. Ok (record { dir = 1; name = name })) e
 
-pub create-exists : (t : Tree) (v : VolumeValue) (who : Caller) (path : List ℕ) (mode inode : ℕ) → HasFiles t v → is_some (get t.sessions who.sid) ≡ true
+pub create-exists : (t : Tree) (v : FilesValue) (who : Caller) (path : List ℕ) (mode inode : ℕ) → HasFiles t v → is_some (get t.sessions who.sid) ≡ true
     → is_root_path path ≡ true → inode_named v.names path ≡ Some inode → create t who path mode ≡ Err AlreadyExists
 create-exists t v who path mode inode h session root named =
     root_paths (λ q. inode_named v.names q ≡ Some inode → create t who q mode ≡ Err AlreadyExists) (λ name ok e.
@@ -101,7 +102,7 @@ and_when true b c h = h refl
 and_when false b c h = refl
 
 -- the nodes of a tree with a new file
-module _ (t : Tree) (v : VolumeValue) (who : Caller) (name : List ℕ) (mode : ℕ) (h : HasFiles t v) (low : 2 + length v.files < full_count) where
+module _ (t : Tree) (v : FilesValue) (who : Caller) (name : List ℕ) (mode : ℕ) (h : HasFiles t v) (low : 2 + length v.files < full_count) where
   top : (node : Node) × (node_at t 1 ≡ Some node) × (parent_of (Some node) ≡ Some 1)
   top = some_node (node_at t 1) 1 h.root
 
@@ -166,7 +167,7 @@ module _ (t : Tree) (v : VolumeValue) (who : Caller) (name : List ℕ) (mode : �
       ∙ ap (λ b. b && sum_fits (inode_limit t.setting) (used_inodes t) (length v.files + 1)) (sum_fits-grown (space_limit t.setting) (used_space t) (v.used_space + 4096) (omega (arith, h.space)))
       ∙ ap (λ b. nat_le (v.used_space + 4096) (space_limit t.setting) && b) (sum_fits-grown (inode_limit t.setting) (used_inodes t) (length v.files + 1) (omega (arith, h.inodes)))
 
-has_room-created : (t : Tree) (v : VolumeValue) (who : Caller) (name : List ℕ) (mode : ℕ) → HasFiles t v
+has_room-created : (t : Tree) (v : FilesValue) (who : Caller) (name : List ℕ) (mode : ℕ) → HasFiles t v
     → (nat_lt t.next_inode full_count && fits t (created t who (47 ∷ name) mode)) ≡ has_room t.setting v
 has_room-created t v who name mode h =
     ap (λ inode. nat_lt inode full_count && fits t (created t who (47 ∷ name) mode)) h.next
@@ -174,7 +175,7 @@ has_room-created t v who name mode h =
     let less = ltb-true _ _ low in
     ap (fits t) (created-is t v who name mode h less) ∙ fits-created t v who name mode h less)
 
-pub create-new : (t : Tree) (v : VolumeValue) (who : Caller) (path : List ℕ) (mode : ℕ) → HasFiles t v → is_some (get t.sessions who.sid) ≡ true
+pub create-new : (t : Tree) (v : FilesValue) (who : Caller) (path : List ℕ) (mode : ℕ) → HasFiles t v → is_some (get t.sessions who.sid) ≡ true
     → is_root_path path ≡ true → inode_named v.names path ≡ None
     → create t who path mode ≡ cond (has_room t.setting v) (Ok (record { tree = created t who path mode; reply = FileOpened who.free_handle (2 + length v.files) })) (Err NoSpace)
 create-new t v who path mode h session root absent =
@@ -187,7 +188,7 @@ create-new t v who path mode h session root absent =
     ∙ ap (λ b. cond b (Ok (done t.next_inode (created t who (47 ∷ name) mode))) (Err NoSpace)) (has_room-created t v who name mode h)
     ∙ ap (λ inode. cond (has_room t.setting v) (Ok (done inode (created t who (47 ∷ name) mode))) (Err NoSpace)) h.next) path root absent
 
-pub open-found : (t : Tree) (v : VolumeValue) (who : Caller) (path : List ℕ) (inode : ℕ) → HasFiles t v → is_some (get t.sessions who.sid) ≡ true
+pub open-found : (t : Tree) (v : FilesValue) (who : Caller) (path : List ℕ) (inode : ℕ) → HasFiles t v → is_some (get t.sessions who.sid) ≡ true
     → is_root_path path ≡ true → inode_named v.names path ≡ Some inode → open_file t who path ≡ Ok (record { tree = t; reply = FileOpened who.free_handle inode })
 open-found t v who path inode h session root named =
     root_paths (λ q. inode_named v.names q ≡ Some inode → open_file t who q ≡ Ok (record { tree = t; reply = FileOpened who.free_handle inode })) (λ name ok e.
@@ -196,23 +197,19 @@ open-found t v who path inode h session root named =
     ∙ goes_on _ _ _ (inode_of-root t name ok h.root ∙ ap (λ o. some_or o NotFound) (h.names name ∙ e))
     ∙ require-true _ _ _ (not_from_false _ (ap is_some (is_no_directory t v inode h is)))) path root named
 
-pub open-absent : (t : Tree) (v : VolumeValue) (who : Caller) (path : List ℕ) → HasFiles t v → is_some (get t.sessions who.sid) ≡ true
+pub open-absent : (t : Tree) (v : FilesValue) (who : Caller) (path : List ℕ) → HasFiles t v → is_some (get t.sessions who.sid) ≡ true
     → is_root_path path ≡ true → inode_named v.names path ≡ None → open_file t who path ≡ Err NotFound
 open-absent t v who path h session root absent =
     root_paths (λ q. inode_named v.names q ≡ None → open_file t who q ≡ Err NotFound) (λ name ok e.
     require-true _ _ _ session ∙ stops _ _ _ (inode_of-root t name ok h.root ∙ ap (λ o. some_or o NotFound) (h.names name ∙ e))) path root absent
 
 -- an inode of so many files is one of more files
-pub named_with : (n m : ℕ) (b : Bool) (o : Option ℕ) → m ≡ n + 1 → IfSome o (IsFile n) → IfSome (cond b (Some (2 + n)) o) (IsFile m)
-named_with n m true o e is = record { low = omega arith; high = omega (arith, e) }
-named_with n m false None e is = tt
-named_with n m false (Some inode) e is = record { low = is.low; high = omega (arith, e, is.high) }
 
 -- the key of an entry of the root tells names apart as paths are told apart
 root_key : (name other : List ℕ) → eq_by_cmp entry_key.cmp (record { dir = 1; name = name }) (record { dir = 1; name = other }) ≡ is_eq (slice_cmp nat_cmp (47 ∷ name) (47 ∷ other))
 root_key name other = refl
 
-module _ (t : Tree) (v : VolumeValue) (who : Caller) (name : List ℕ) (mode : ℕ) (names : List (List ℕ × ℕ)) (h : HasFiles t v) (low : 2 + length v.files < full_count)
+module _ (t : Tree) (v : FilesValue) (who : Caller) (name : List ℕ) (mode : ℕ) (names : List (List ℕ × ℕ)) (h : HasFiles t v) (low : 2 + length v.files < full_count)
     (now : (q : List ℕ) → inode_named names q ≡ cond (is_eq (slice_cmp nat_cmp q (47 ∷ name))) (Some (2 + length v.files)) (inode_named v.names q)) where
   abbrev new_files : List StoredFile
   new_files = v.files ++ record { length = 0; segments = [] } ∷ []
@@ -269,7 +266,7 @@ module _ (t : Tree) (v : VolumeValue) (who : Caller) (name : List ℕ) (mode : �
   }
 
 -- a new file without bytes
-pub has_files-created : (t : Tree) (v : VolumeValue) (who : Caller) (path : List ℕ) (mode : ℕ) (names : List (List ℕ × ℕ)) → HasFiles t v
+pub has_files-created : (t : Tree) (v : FilesValue) (who : Caller) (path : List ℕ) (mode : ℕ) (names : List (List ℕ × ℕ)) → HasFiles t v
     → 2 + length v.files < full_count → is_root_path path ≡ true → inode_named v.names path ≡ None
     → ((q : List ℕ) → inode_named names q ≡ cond (is_eq (slice_cmp nat_cmp q path)) (Some (2 + length v.files)) (inode_named v.names q))
     → HasFiles (created t who path mode) (record { names = names; files = v.files ++ record { length = 0; segments = [] } ∷ []; used_space = v.used_space + 4096 })
@@ -280,7 +277,7 @@ has_files-created t v who path mode names h low root absent now =
     (sym (created-is t v who name mode h low)) (has_files-after t v who name mode names h low is)) path root now
 
 -- a tree in which a file's bytes were replaced
-module _ (t : Tree) (v : VolumeValue) (k now : ℕ) (file : StoredFile) (used : ℕ) (new : Content) (h : HasFiles t v) (few : 2 + length v.files ≤ full_count) (there : slice_get v.files k ≡ Some file)
+module _ (t : Tree) (v : FilesValue) (k now : ℕ) (file : StoredFile) (used : ℕ) (new : Content) (h : HasFiles t v) (few : 2 + length v.files ≤ full_count) (there : slice_get v.files k ≡ Some file)
     (space : used + paged file.length ≡ v.used_space + paged new.length) where
   at_k : FileAt t k file
   at_k = file_at t v k file h there
@@ -360,7 +357,7 @@ space_from : (used before bound : ℕ) (file : StoredFile) (content : Content) �
     → used + paged file.length ≡ before + paged (max file.length bound) → used + paged file.length ≡ before + paged (max content.length bound)
 space_from used before bound file content keeps e = e ∙ ap (λ n. before + paged (max n bound)) (sym keeps.length)
 
-pub has_files-committed : (t : Tree) (v : VolumeValue) (k now from : ℕ) (bytes : List ℕ) (file : StoredFile) (used : ℕ) → HasFiles t v
+pub has_files-committed : (t : Tree) (v : FilesValue) (k now from : ℕ) (bytes : List ℕ) (file : StoredFile) (used : ℕ) → HasFiles t v
     → slice_get v.files k ≡ Some file → used + paged file.length ≡ v.used_space + paged (max file.length (from + length bytes))
     → HasFiles (committed t now (2 + k) from bytes) (with_commit v k from bytes file used)
 has_files-committed t v k now from bytes file used h there space =
@@ -394,7 +391,7 @@ pub setting-committed : (t : Tree) (now inode from : ℕ) (bytes : List ℕ) →
 setting-committed t now inode from bytes = kept-committed (λ x. x.setting) (λ x nodes. refl) t now inode from bytes
 
 -- whether a commit is within the limits is a matter of its space alone
-pub fits-committed : (t : Tree) (v : VolumeValue) (k now from : ℕ) (bytes : List ℕ) (file : StoredFile) (used : ℕ) → HasFiles t v
+pub fits-committed : (t : Tree) (v : FilesValue) (k now from : ℕ) (bytes : List ℕ) (file : StoredFile) (used : ℕ) → HasFiles t v
     → slice_get v.files k ≡ Some file → used + paged file.length ≡ v.used_space + paged (max file.length (from + length bytes))
     → fits t (committed t now (2 + k) from bytes) ≡ sum_fits (space_limit t.setting) v.used_space used
 fits-committed t v k now from bytes file used h there space =
@@ -404,7 +401,7 @@ fits-committed t v k now from bytes file used h there space =
     ap (fits t) (committed-is t (2 + k) now from bytes found.content found.there ∙ with_content-is t v k now file used new h h.few there enough)
     ∙ fits-changed t v k now file used new h h.few there enough
 
-pub flush_fits-file : (t : Tree) (v : VolumeValue) (k : ℕ) (pending : List PendingByte) (file : StoredFile) (used : ℕ) → HasFiles t v
+pub flush_fits-file : (t : Tree) (v : FilesValue) (k : ℕ) (pending : List PendingByte) (file : StoredFile) (used : ℕ) → HasFiles t v
     → slice_get v.files k ≡ Some file → used + paged file.length ≡ v.used_space + paged (max file.length (end_of (2 + k) pending))
     → flush_fits t (2 + k) pending ≡ sum_fits (space_limit t.setting) v.used_space used
 flush_fits-file t v k pending file used h there space =

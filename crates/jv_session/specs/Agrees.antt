@@ -13,8 +13,8 @@ use Rattle.jv_model.specs.run.Client.{ModelClient, OpenFile, Doing}
 use Rattle.jv_model.specs.run.Past.{Past, NoMore, begun_to, past}
 use Rattle.jv_model.specs.run.Legal.{AllAllowed}
 use Rattle.jv_model.specs.declared.limits.TheConstants.{LAST_MOMENT}
-use Rattle.jv_session.specs.declared.volume.StoredFile.{StoredFile}
-use Rattle.jv_session.specs.Stored.{VolumeValue, IsFile, inode_named, space_of, stored_byte}
+use Rattle.jv_files.specs.declared.files.StoredFile.{StoredFile}
+use Rattle.jv_files.specs.Stored.{FilesValue, IsFile, inode_named, space_of, stored_byte}
 
 -- what contracts see of a schedule: handles count from 1, and each open one has the inode of its file
 pub record ScheduleValue : Type 0 where
@@ -24,7 +24,7 @@ pub record ScheduleValue : Type 0 where
   pub session : Option ℕ
   pub handles : List (Option ℕ)
   pub pending : List PendingByte
-  pub volume : VolumeValue
+  pub volume : FilesValue
 
 -- a stored file has these bytes
 pub record Keeps (file : StoredFile) (content : Content) : Type 0 where
@@ -32,7 +32,7 @@ pub record Keeps (file : StoredFile) (content : Content) : Type 0 where
   pub bytes : (position : ℕ) → content.byte position ≡ stored_byte file.segments position
 
 -- the tree has the volume's files in its root, and no others
-pub record HasFiles (t : Tree) (v : VolumeValue) : Type 0 where
+pub record HasFiles (t : Tree) (v : FilesValue) : Type 0 where
   pub root : parent_at t root ≡ Some root
   pub names : (name : List ℕ) → get t.entries (record { dir = 1; name = name }) ≡ inode_named v.names (47 ∷ name)
   pub named : (path : List ℕ) → IfSome (inode_named v.names path) (IsFile (length v.files))

@@ -14,8 +14,8 @@ use Rattle.jv_model.specs.tree.Tree.{paged, sum_fits, space_limit, inode_limit, 
 use Rattle.jv_model.specs.run.Pending.{end_of, window_size}
 use Rattle.jv_model.specs.run.Client.{first_refusal, is_mount, needs_no_mount, names_handle, handle_in, gives_handle, write_end, file_of, open_count}
 use Rattle.jv_model.specs.run.Built.{is_built_fault, pending_limit}
-use Rattle.jv_session.specs.Stored.{VolumeValue, inode_named}
-use Rattle.jv_session.specs.declared.volume.StoredFile.{StoredFile}
+use Rattle.jv_files.specs.Stored.{FilesValue, inode_named}
+use Rattle.jv_files.specs.declared.files.StoredFile.{StoredFile}
 use Rattle.jv_session.specs.Agrees.{ScheduleValue}
 
 -- the refusal of an operation at its submission
@@ -39,14 +39,14 @@ has_form limits (Write handle offset bytes) = nat_le (offset + length bytes) win
 has_form limits _ = false
 
 -- whether one more file is within the volume's limits
-abbrev pub has_room : Setting → VolumeValue → Bool
+abbrev pub has_room : Setting → FilesValue → Bool
 has_room setting v = nat_lt (2 + length v.files) full_count && (nat_le (v.used_space + SPACE_UNIT) (space_limit setting) && nat_le (length v.files + 1) (inode_limit setting))
 
 -- the space that all files use, once this one of them reaches to a position
-abbrev pub space_grown : VolumeValue → StoredFile → ℕ → ℕ
+abbrev pub space_grown : FilesValue → StoredFile → ℕ → ℕ
 space_grown v file stop = v.used_space + paged (max file.length stop) - paged file.length
 
-abbrev pub grown_fits : Setting → VolumeValue → Option StoredFile → ℕ → Bool
+abbrev pub grown_fits : Setting → FilesValue → Option StoredFile → ℕ → Bool
 grown_fits setting v None stop = true
 grown_fits setting v (Some file) stop = sum_fits (space_limit setting) v.used_space (space_grown v file stop)
 

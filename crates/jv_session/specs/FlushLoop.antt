@@ -1,7 +1,7 @@
 -- What holds between two segments of a flush.
 use Rattle.std.specs.Prelude.{◌≡◌, true, ℕ, ◌≤◌, List, length}
 use Rattle.jv_model.specs.declared.act.Act.{Act}
-use Rattle.jv_session.specs.Stored.{IsFile}
+use Rattle.jv_files.specs.Stored.{IsFile}
 use Rattle.jv_session.specs.BuiltHere.{may_flush}
 use Rattle.jv_session.specs.Agrees.{ScheduleValue}
 use Rattle.jv_session.specs.Flushing.{Flushed}

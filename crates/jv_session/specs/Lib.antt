@@ -1,7 +1,5 @@
 -- The definitions that contracts cite.
-pub mod Stored
 pub mod Agrees
-pub mod Shown
 pub mod Lines
 pub mod Answers
 pub mod BuiltHere

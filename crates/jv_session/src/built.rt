@@ -3,13 +3,13 @@ ghost use Rattle.std.specs.Prelude.{◌≡◌, ◌+◌, ◌&&◌, nat_le, IsSome
 ghost use Rattle.jv_model.specs.run.Built.{is_built_fault, pending_limit};
 ghost use Rattle.jv_model.specs.run.Pending.{window_size};
 ghost use Rattle.jv_model.specs.run.Client.{file_of};
-ghost use Rattle.jv_session.specs.Stored.{IsFile};
+ghost use Rattle.jv_files.specs.Stored.{IsFile};
 ghost use Rattle.jv_session.specs.BuiltHere.{refusal_here, has_form, may_run, may_flush, may_answer, may_hold, built_op, has_room, inode_or_zero};
 
 use crate::handles::{named, open_count};
 use crate::root_paths::is_root_path;
 use crate::schedule::Schedule;
-use crate::volume::Volume;
+use jv_files::Files;
 use jv_model::{
     DEFAULT_BUFFER, FILE_END, FULL_COUNT, Fault, Limits, MAX_HANDLES, Op, SPACE_UNIT, Setting,
     WINDOW,
@@ -129,7 +129,7 @@ fn is_built_fault(fault: Fault) -> bool
 }
 
 /// Whether one more file is within the volume's limits.
-fn has_room(setting: &Setting, volume: &Volume) -> bool
+fn has_room(setting: &Setting, volume: &Files) -> bool
     ensures { result ≡ has_room setting.now volume.now }
 {
     let count = volume.count();

@@ -13,8 +13,8 @@ ghost use Rattle.jv_session.specs.BuiltHere.{refusal_here, built_op, may_flush};
 ghost use Rattle.jv_model.specs.run.Pending.{next_segment, pending_of, window_size, written};
 ghost use Rattle.jv_pending.specs.At.{segment_at};
 ghost use Rattle.jv_session.specs.Answers.{Answers, RunsOut};
-ghost use Rattle.jv_session.specs.Shown.{shown_between};
-ghost use Rattle.jv_session.specs.Stored.{IsFile, OfFileAt};
+ghost use Rattle.jv_files.specs.Shown.{shown_between};
+ghost use Rattle.jv_files.specs.Stored.{IsFile, OfFileAt};
 ghost use Rattle.jv_session.specs.Flushing.{Flushed, FlushesSegment, ShowsFile};
 
 use crate::handles;

@@ -9,7 +9,6 @@ mod operations;
 mod root_paths;
 mod schedule;
 mod turn;
-mod volume;
 
 pub use line_end::LineEnd;
 pub use schedule::Schedule;

@@ -10,7 +10,7 @@ ghost use Rattle.jv_model.specs.script.ReplyText.{printed_line};
 ghost use Rattle.jv_session.specs.Agrees.{entry_at};
 ghost use Rattle.jv_session.specs.BuiltHere.{refusal_here, built_op, has_room};
 ghost use Rattle.jv_session.specs.Answers.{Answers, RunsOut, RefusedByTree};
-ghost use Rattle.jv_session.specs.Stored.{inode_named};
+ghost use Rattle.jv_files.specs.Stored.{inode_named};
 
 use crate::handles;
 use crate::schedule::{Schedule, note, refusal};

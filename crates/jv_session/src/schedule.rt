@@ -16,7 +16,7 @@ ghost use Rattle.jv_session.specs.BuiltHere.{built_here, built_op};
 
 use crate::line_end::LineEnd;
 use crate::turn::Turn;
-use crate::volume::Volume;
+use jv_files::Files;
 use jv_model::{
     Act, ActKind, Bytes, DEFAULT_BUFFER, Fault, Journal, Limits, Line, Moment, Op, Reply, Setting,
     Told,
@@ -39,13 +39,13 @@ pub struct Schedule {
     /// The open files: the inode of handle `h` stands at index `h - 1`.
     pub(crate) handles: Vec<Option<u64>>,
     pub(crate) pending: Pending,
-    pub(crate) volume: Volume,
+    pub(crate) volume: Files,
 }
 
 impl Model for Schedule {
     ghost use Rattle.std.specs.Prelude.{◌≡◌, ℕ, min, slice_get, length, IfSome};
     ghost use Rattle.jv_model.specs.run.Built.{pending_limit};
-    ghost use Rattle.jv_session.specs.Stored.{IsFile};
+    ghost use Rattle.jv_files.specs.Stored.{IsFile};
     ghost use Rattle.jv_session.specs.Agrees.{ScheduleValue};
     ghost use Rattle.jv_session.specs.Held.{IsHeld};
 
@@ -93,7 +93,7 @@ impl Schedule {
             session: None,
             handles: Vec::new(alloc),
             pending: Pending::new(alloc, limits.buffer.min(DEFAULT_BUFFER)),
-            volume: Volume::new(alloc),
+            volume: Files::new(alloc),
         }
     }
 

@@ -5,7 +5,7 @@ use Rattle.jv_model.specs.declared.op.Op.TheVariants.{Close}
 use Rattle.jv_model.specs.declared.op.Reply.TheVariants.{Done}
 use Rattle.jv_model.specs.run.Client.{file_of, with_file}
 use Rattle.jv_model.specs.script.ReplyText.{printed_line}
-use Rattle.jv_session.specs.Stored.{IsFile}
+use Rattle.jv_files.specs.Stored.{IsFile}
 use Rattle.jv_session.specs.Agrees.{ScheduleValue, entry_at}
 use Rattle.jv_session.proofs.SubmissionLaws.{memory_ran}
 use Rattle.jv_session.proofs.HandleLaws.{all-with_file}

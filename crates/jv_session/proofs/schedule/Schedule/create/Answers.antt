@@ -10,7 +10,7 @@ use Rattle.jv_model.specs.declared.op.Reply.TheVariants.{Refused, FileOpened}
 use Rattle.jv_model.specs.run.Client.{free_handle, with_file}
 use Rattle.jv_model.specs.script.ReplyText.{printed_line}
 use Rattle.jv_session.specs.Agrees.{ScheduleValue, entry_at}
-use Rattle.jv_session.specs.Stored.{IsFile, VolumeValue, Creates, inode_named}
+use Rattle.jv_files.specs.Stored.{IsFile, FilesValue, Creates, inode_named}
 use Rattle.jv_session.specs.contracts.schedule.Schedule.{the_view}
 use Rattle.jv_session.proofs.SubmissionLaws.{memory_ran}
 use Rattle.jv_session.proofs.HandleLaws.{all-with_file}
@@ -81,7 +81,7 @@ returns-in_err-inode-clause-err c =
     let end : ScheduleValue = record (the_view c.self.inside) { at = t.at; handles = c.reserve-2.new.self.items; volume = c.create.new.self } in
     let ends : end ≡ record s { at = t.at } =
     ap (λ (items : List (Option ℕ)). record (the_view c.self.inside) { at = t.at; handles = items; volume = c.create.new.self }) c.reserve-2.ensures.items
-    ∙ ap (λ (v : VolumeValue). record (the_view c.self.inside) { at = t.at; volume = v }) c.in_err-inode.ensures.err
+    ∙ ap (λ (v : FilesValue). record (the_view c.self.inside) { at = t.at; volume = v }) c.in_err-inode.ensures.err
     ∙ ap (λ (w : ScheduleValue). record w { at = t.at }) c.self.view_is in
     on_err _ _ (memory_as (Create c.args.path.now c.args.mode) t.line t.at c.args.journal.now.acts c.reserve.new.self.acts s end c.reserve.ensures.same ends)
 

@@ -2,7 +2,7 @@
 use Rattle.std.proofs.Common.{◌≡◌, true, length, Some, sym, ap, subst, ◌∙◌}
 use Rattle.jv_model.specs.run.Pending.{first_segment, pending_of}
 use Rattle.jv_pending.specs.At.{segment_at}
-use Rattle.jv_session.specs.Stored.{IsFile}
+use Rattle.jv_files.specs.Stored.{IsFile}
 use Rattle.jv_session.specs.BuiltHere.{may_flush}
 use Rattle.jv_session.specs.Agrees.{ScheduleValue}
 use Rattle.jv_session.specs.Flushing.{Flushed}

@@ -3,7 +3,7 @@ use Rattle.std.proofs.Common.{◌≡◌, ◌+◌, ◌-◌, ◌*◌, [], ◌∷�
 use Rattle.std.specs.Prelude.{IfSome}
 use Rattle.jv_model.specs.declared.act.ActKind.TheVariants.{Quiet, Commit}
 use Rattle.jv_model.specs.run.Pending.{bytes_in_range, without_range, is_rising}
-use Rattle.jv_session.specs.Stored.{VolumeValue, Commits, IsFile, space_of}
+use Rattle.jv_files.specs.Stored.{FilesValue, Commits, IsFile, space_of}
 use Rattle.jv_session.specs.Agrees.{ScheduleValue, entry_at}
 use Rattle.jv_session.proofs.FlushLaws.{three_notes, at_file}
 use Rattle.jv_session.proofs.schedule.Schedule.flush_segment.Goals as goal
@@ -35,7 +35,7 @@ returns-clause-ok c =
           (subst (λ b. IfSome (slice_get inside.volume.files (inode - 2)) (λ file. Commits inside.volume (inode - 2) from b file c.commit.new.self)) bytes
           (subst (λ n. IfSome (slice_get inside.volume.files (inode - 2)) (λ file. Commits inside.volume (inode - 2) n c.segment.result.now file c.commit.new.self)) c.range_of-from.ensures.from c.in_ok-commit.ensures.ok)));
       rising = ap is_rising (sym pending) ∙ c.segment.ensures.rising;
-      counted = subst (λ (v : VolumeValue). v.used_space ≡ space_of v.files) volume c.in_ok-commit.ensures.counted;
+      counted = subst (λ (v : FilesValue). v.used_space ≡ space_of v.files) volume c.in_ok-commit.ensures.counted;
       len = ap length (sym bytes) ∙ c.segment.ensures.len;
       same = ap (λ (x : ScheduleValue). record x { pending = c.remove.new.self.bytes; volume = c.commit.new.self }) c.self.view_is
           ∙ ap (λ bs. record s { pending = bs; volume = c.commit.new.self }) left;

@@ -10,7 +10,7 @@ use Rattle.jv_model.specs.declared.op.Reply.TheVariants.{Refused, FileOpened}
 use Rattle.jv_model.specs.run.Client.{free_handle, with_file}
 use Rattle.jv_model.specs.script.ReplyText.{printed_line}
 use Rattle.jv_session.specs.Agrees.{ScheduleValue, entry_at}
-use Rattle.jv_session.specs.Stored.{IsFile, inode_named}
+use Rattle.jv_files.specs.Stored.{IsFile, inode_named}
 use Rattle.jv_session.specs.contracts.schedule.Schedule.{the_view}
 use Rattle.jv_session.proofs.SubmissionLaws.{memory_ran}
 use Rattle.jv_session.proofs.HandleLaws.{all-with_file}

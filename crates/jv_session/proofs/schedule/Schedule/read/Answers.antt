@@ -9,9 +9,9 @@ use Rattle.jv_model.specs.script.ReplyText.{printed_line}
 use Rattle.jv_model.specs.declared.op.Op.TheVariants.{Read}
 use Rattle.jv_model.specs.run.Client.{file_of}
 use Rattle.jv_pending.proofs.Outcomes.{map_err}
-use Rattle.jv_session.specs.declared.volume.StoredFile.{StoredFile}
-use Rattle.jv_session.specs.Stored.{IsFile}
-use Rattle.jv_session.specs.Shown.{shown_between}
+use Rattle.jv_files.specs.declared.files.StoredFile.{StoredFile}
+use Rattle.jv_files.specs.Stored.{IsFile}
+use Rattle.jv_files.specs.Shown.{shown_between}
 use Rattle.jv_session.specs.Flushing.{ShowsFile}
 use Rattle.jv_session.specs.Agrees.{ScheduleValue, entry_at}
 use Rattle.jv_session.specs.BuiltHere.{refusal_here, built_op}

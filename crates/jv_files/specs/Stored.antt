@@ -1,16 +1,16 @@
--- Files as a session keeps them until directories and blocks come: their names, lengths and committed segments.
+-- Files as they are kept until directories and blocks come: their names, lengths and committed segments.
 use Rattle.std.specs.Prelude.{◌≡◌, ℕ, ◌+◌, ◌-◌, ◌≤◌, ◌<◌, Bool, ◌&&◌, nat_le, nat_lt, max, if◌then◌else◌, List, [], ◌∷◌, ◌++◌, length, slice_get, slice_index, slice_set, IfSome, Option, Some}
 use Rattle.std.specs.Ordering.{nat_cmp, is_eq}
 use Rattle.std.specs.Cmp.Lexicographic.{slice_cmp}
 use Rattle.std.specs.Map.{lookup}
 use Rattle.jv_model.specs.declared.limits.TheConstants.{FILE_END, SPACE_UNIT}
 use Rattle.jv_model.specs.tree.Tree.{paged}
-use Rattle.jv_session.specs.declared.volume.StoredSegment.{StoredSegment}
-use Rattle.jv_session.specs.declared.volume.StoredFile.{StoredFile}
+use Rattle.jv_files.specs.declared.files.StoredSegment.{StoredSegment}
+use Rattle.jv_files.specs.declared.files.StoredFile.{StoredFile}
 
 -- the paths of files with their inodes, in the order of the paths; the files, whose inodes count up from 2; and the
 -- space that they use
-pub record VolumeValue : Type 0 where
+pub record FilesValue : Type 0 where
   pub names : List (List ℕ × ℕ)
   pub files : List StoredFile
   pub used_space : ℕ
@@ -45,18 +45,18 @@ with_segment from bytes file = record {
   segments = file.segments ++ record { from = from; bytes = bytes } ∷ [];
 }
 
--- the volume with a new file without bytes under a path
-pub record Creates (before : VolumeValue) (path : List ℕ) (after : VolumeValue) : Type 0 where
+-- one more file, without bytes, under a path
+pub record Creates (before : FilesValue) (path : List ℕ) (after : FilesValue) : Type 0 where
   pub names : (q : List ℕ) → inode_named after.names q ≡ (if is_eq (slice_cmp nat_cmp q path) then Some (2 + length before.files) else inode_named before.names q)
   pub files : after.files ≡ before.files ++ record { length = 0; segments = [] } ∷ []
   pub space : after.used_space ≡ before.used_space + SPACE_UNIT
 
--- the volume with bytes committed to the file at a place, whose space is then this
-abbrev pub with_commit : VolumeValue → ℕ → ℕ → List ℕ → StoredFile → ℕ → VolumeValue
+-- bytes committed to the file at a place; all files use this much space then
+abbrev pub with_commit : FilesValue → ℕ → ℕ → List ℕ → StoredFile → ℕ → FilesValue
 with_commit v k from bytes file used = record v { files = slice_set v.files k (with_segment from bytes file); used_space = used }
 
 -- what holds of the file of an inode, where there is one
-abbrev pub OfFileAt : VolumeValue → ℕ → (StoredFile → Type 0) → Type 0
+abbrev pub OfFileAt : FilesValue → ℕ → (StoredFile → Type 0) → Type 0
 OfFileAt v inode p = IfSome (slice_get v.files (inode - 2)) p
 
 -- an inode of one of so many files
@@ -64,14 +64,14 @@ pub record IsFile (count inode : ℕ) : Type 0 where
   pub low : 2 ≤ inode
   pub high : inode < 2 + count
 
--- what each volume holds to: its names are of its files, and the space is that of the files, none of which is too long
-pub record IsVolume (names : List (List ℕ × ℕ)) (files : List StoredFile) (used_space : ℕ) : Type 0 where
+-- what files hold to: their names are of them, and the space is that of the files, none of which is too long
+pub record AreFiles (names : List (List ℕ × ℕ)) (files : List StoredFile) (used_space : ℕ) : Type 0 where
   pub named : (path : List ℕ) → IfSome (inode_named names path) (IsFile (length files))
   pub space : used_space ≡ space_of files
   pub short : AllShort files
 
 -- bytes were committed to the file at a place
-pub record Commits (before : VolumeValue) (k from : ℕ) (bytes : List ℕ) (file : StoredFile) (after : VolumeValue) : Type 0 where
+pub record Commits (before : FilesValue) (k from : ℕ) (bytes : List ℕ) (file : StoredFile) (after : FilesValue) : Type 0 where
   pub used : ℕ
   pub space : used + paged file.length ≡ before.used_space + paged (max file.length (from + length bytes))
   pub same : after ≡ with_commit before k from bytes file used

@@ -6,12 +6,16 @@ use Rattle.std.proofs.lemmas.List.{get_or_append_left, get_or-append_right, get_
 use Rattle.std.proofs.lemmas.List.Edits.{get_or-between, length-between}
 use Rattle.std.specs.List.{between}
 use Rattle.jv_model.specs.run.Past.{bytes_from}
-use Rattle.jv_session.specs.declared.volume.StoredFile.{StoredFile}
-use Rattle.jv_session.specs.declared.volume.StoredSegment.{StoredSegment}
-use Rattle.jv_session.specs.Stored.{covers, shown_over, stored_byte}
-use Rattle.jv_session.specs.Shown.{shown_between}
-use Rattle.jv_session.proofs.FileLaws.{shown_over-push}
+use Rattle.jv_files.specs.declared.files.StoredFile.{StoredFile}
+use Rattle.jv_files.specs.declared.files.StoredSegment.{StoredSegment}
+use Rattle.jv_files.specs.Stored.{covers, shown_over, stored_byte}
+use Rattle.jv_files.specs.Shown.{shown_between}
 use borrow.Rule.Slice.PartMut.{put_mid}
+
+pub shown_over-push : (below : ℕ) (segments : List StoredSegment) (s : StoredSegment) (position : ℕ)
+    → shown_over below (segments ++ s ∷ []) position ≡ cond (covers s position) (slice_index s.bytes (position - s.from)) (shown_over below segments position)
+shown_over-push below [] s position = refl
+shown_over-push below (first ∷ segments) s position = shown_over-push (cond (covers first position) (slice_index first.bytes (position - first.from)) below) segments s position
 
 module _ (xs part : List ℕ) (a n : ℕ) (fits : a + n ≤ length xs) (long : length part ≡ n) where
   -- bytes before, in and after a part that was written

@@ -3,12 +3,11 @@ use Rattle.std.proofs.Common.{◌≡◌, ℕ, ◌+◌, ◌*◌, ◌<◌, ◌≤�
 use Rattle.std.specs.Prelude.{IfSome}
 use Rattle.std.specs.Ordering.{nat_cmp, is_eq}
 use Rattle.std.specs.Cmp.Lexicographic.{slice_cmp}
-use Rattle.jv_session.specs.Stored.{VolumeValue, inode_named, space_of, IsFile, IsVolume, Creates}
-use Rattle.jv_session.specs.declared.volume.StoredFile.{StoredFile}
-use Rattle.jv_session.specs.declared.volume.StoredSegment.{StoredSegment}
-use Rattle.jv_session.proofs.SpaceLaws.{space_of-push, AllShort-push, space_of-bound, tie-swapped}
-use Rattle.jv_session.proofs.TreeLaws.{named_with}
-use Rattle.jv_session.proofs.volume.Volume.create.Goals as goal
+use Rattle.jv_files.specs.Stored.{FilesValue, inode_named, space_of, IsFile, AreFiles, Creates}
+use Rattle.jv_files.specs.declared.files.StoredFile.{StoredFile}
+use Rattle.jv_files.specs.declared.files.StoredSegment.{StoredSegment}
+use Rattle.jv_files.proofs.SpaceLaws.{named_with, space_of-push, AllShort-push, space_of-bound, tie-swapped}
+use Rattle.jv_files.proofs.files.Files.create.Goals as goal
 
 -- the new name is told apart as paths are, and its inode is the next
 one_name : (before after : List (List ℕ × ℕ)) (key path : List ℕ) (n count : ℕ) → key ≡ path → n ≡ count
@@ -38,7 +37,7 @@ invariant_of-self-2 c =
     let count : c.len.result ≡ length v.files.items = c.len.ensures ∙ v.files.ok.0 in
     let key : c.in_ok-key.key ≡ c.args.path.now = c.in_ok-key.ensures ∙ c.as_slice.ensures in
     let names = one_name v.names.entries c.insert.new.self.entries c.in_ok-key.key c.args.path.now c.len.result (length v.files.items) key count c.in_ok-insert.ensures.updates.0 in
-    rw c.from.ensures (subst (λ fs. IsVolume c.insert.new.self.entries fs (v.used_space + 4096)) (sym files) (record {
+    rw c.from.ensures (subst (λ fs. AreFiles c.insert.new.self.entries fs (v.used_space + 4096)) (sym files) (record {
       named = λ q. subst (λ o. IfSome o (IsFile (length (v.files.items ++ empty ∷ [])))) (sym (names q))
           (named_with (length v.files.items) (length (v.files.items ++ empty ∷ [])) (is_eq (slice_cmp nat_cmp q c.args.path.now)) (inode_named v.names.entries q) (length-append v.files.items (empty ∷ [])) (c.self.invariant.named q));
       space = ap (λ n. n + 4096) c.self.invariant.space ∙ sym space;
@@ -55,5 +54,5 @@ returns-clause-ok c =
     let count : c.len.result ≡ length v.files.items = c.len.ensures ∙ v.files.ok.0 in
     let key : c.in_ok-key.key ≡ c.args.path.now = c.in_ok-key.ensures ∙ c.as_slice.ensures in
     let names = one_name v.names.entries c.insert.new.self.entries c.in_ok-key.key c.args.path.now c.len.result (length v.files.items) key count c.in_ok-insert.ensures.updates.0 in
-    rw c.from.ensures (subst (λ (old : VolumeValue). (2 + c.len.result ≡ 2 + length old.files) × Creates old c.args.path.now (record { names = c.insert.new.self.entries; files = c.push_in_room.new.items.items; used_space = v.used_space + 4096 })) c.self.view_is
+    rw c.from.ensures (subst (λ (old : FilesValue). (2 + c.len.result ≡ 2 + length old.files) × Creates old c.args.path.now (record { names = c.insert.new.self.entries; files = c.push_in_room.new.items.items; used_space = v.used_space + 4096 })) c.self.view_is
     (ap (λ n. 2 + n) count, record { names = names; files = files; space = refl }))

@@ -1,6 +1,6 @@
 use Rattle.std.proofs.Common.{◌≡◌, ℕ, ◌+◌, ◌-◌, ◌<◌, length, take, slice_index}
-use Rattle.jv_session.specs.Stored.{shown_over}
-use Rattle.jv_session.proofs.volume.shown.Given as goal
+use Rattle.jv_files.specs.Stored.{shown_over}
+use Rattle.jv_files.proofs.files.shown.Given as goal
 
 -- each byte is what the segments so far leave at its place
 abbrev pub invariant-loop-segment : goal.invariant-loop-segment

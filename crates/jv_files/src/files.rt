@@ -1,10 +1,10 @@
-//! The tree of a session as plain data: files in the root, each with its committed segments.
+//! Files in the root as plain data, each with its committed segments.
 ghost use Rattle.std.specs.Prelude.{◌≡◌, ℕ, ◌+◌, ◌-◌, ◌<◌, ◌≤◌, ◌^◌, [], ◌∷◌, ◌++◌, List, length, max, cond, slice_get, slice_set, slice_index, Some, None, IfOk, OnOk, OnErr, IsSome, IfSome, IsSomeAnd, if◌then◌else◌};
 ghost use Rattle.std.specs.Ordering.{nat_cmp, is_eq};
 ghost use Rattle.std.specs.Cmp.Lexicographic.{slice_cmp};
 ghost use Rattle.jv_model.specs.tree.Tree.{paged};
-ghost use Rattle.jv_session.specs.Stored.{inode_named, with_segment, space_of, covers, Creates, Commits, IsFile, OfFileAt};
-ghost use Rattle.jv_session.specs.Shown.{shown_between};
+ghost use Rattle.jv_files.specs.Stored.{inode_named, with_segment, space_of, covers, Creates, Commits, IsFile, OfFileAt};
+ghost use Rattle.jv_files.specs.Shown.{shown_between};
 
 use jv_model::{Bytes, FILE_END, Path, SPACE_UNIT, Sequence, copied, push_in_room};
 use std::alloc::{AllocError, Global};
@@ -16,32 +16,32 @@ const FIRST_INODE: u64 = 2;
 
 /// Bytes that one commit put into a file.
 #[derive(Debug, Drop)]
-pub(crate) struct StoredSegment {
+pub struct StoredSegment {
     /// The position of the first byte.
-    pub(crate) from: u64,
-    pub(crate) bytes: Bytes,
+    pub from: u64,
+    pub bytes: Bytes,
 }
 
 /// A file: its length and its commits, the latest last.
 #[derive(Debug, Drop)]
-pub(crate) struct StoredFile {
-    pub(crate) length: u64,
-    pub(crate) segments: Sequence<StoredSegment>,
+pub struct StoredFile {
+    pub length: u64,
+    pub segments: Sequence<StoredSegment>,
 }
 
 /// Files in the root by their paths, and the space that they use. Inodes count up from 2.
 #[derive(Drop)]
-pub(crate) struct Volume {
+pub struct Files {
     alloc: Global,
     names: BTreeMap<Path, u64>,
     files: Vec<StoredFile>,
     used_space: u128,
 }
 
-impl Model for Volume {
-    ghost use Rattle.jv_session.specs.Stored.{VolumeValue, IsVolume};
+impl Model for Files {
+    ghost use Rattle.jv_files.specs.Stored.{FilesValue, AreFiles};
 
-    ghost Value = { VolumeValue };
+    ghost Value = { FilesValue };
 
     ghost view = { λ v. record {
       names = v.names.entries;
@@ -49,7 +49,7 @@ impl Model for Volume {
       used_space = v.used_space;
     } };
 
-    ghost invariant = { λ v. IsVolume v.names.entries v.files.items v.used_space };
+    ghost invariant = { λ v. AreFiles v.names.entries v.files.items v.used_space };
 }
 
 /// The space of a file of that length: whole units, at least one.
@@ -60,12 +60,12 @@ fn paged(length: u64) -> u64
     SPACE_UNIT.max(length.div_ceil(SPACE_UNIT) * SPACE_UNIT)
 }
 
-impl Volume {
-    /// A volume without files. Takes no memory.
-    pub(crate) fn new(alloc: Global) -> Volume
+impl Files {
+    /// No files. Takes no memory.
+    pub fn new(alloc: Global) -> Files
         ensures { result ≡ record { names = []; files = []; used_space = 0 } }
     {
-        Volume {
+        Files {
             alloc,
             names: BTreeMap::new(alloc),
             files: Vec::new(alloc),
@@ -74,7 +74,7 @@ impl Volume {
     }
 
     /// The inode of a path.
-    pub(crate) fn find(&self, path: &Path) -> Option<u64>
+    pub fn find(&self, path: &Path) -> Option<u64>
         ensures inode { result ≡ inode_named self.now.names path.now }
         ensures file { IfSome result (IsFile (length self.now.files)) }
     {
@@ -82,7 +82,7 @@ impl Volume {
     }
 
     /// The number of files.
-    pub(crate) fn count(&self) -> u64
+    pub fn count(&self) -> u64
         ensures count { result ≡ length self.now.files }
         ensures small { result < 2 ^ 63 }
     {
@@ -90,7 +90,7 @@ impl Volume {
     }
 
     /// Makes a file without bytes, and returns its inode. On error nothing has changed.
-    pub(crate) fn create(&mut self, path: &Path) -> Result<u64, AllocError>
+    pub fn create(&mut self, path: &Path) -> Result<u64, AllocError>
         ensures ok { IfOk result (λ inode. (inode ≡ 2 + length self.old.files) × Creates self.old
             path.now self.new) }
         ensures err { OnErr result (self.new ≡ self.old) }
@@ -109,14 +109,14 @@ impl Volume {
     }
 
     /// The space that all files use.
-    pub(crate) fn used_space(&self) -> u128
+    pub fn used_space(&self) -> u128
         ensures { result ≡ self.now.used_space }
     {
         self.used_space
     }
 
     /// The space that all files use once one of them reaches at least to a position.
-    pub(crate) fn space_with(&self, inode: u64, end: u64) -> u128
+    pub fn space_with(&self, inode: u64, end: u64) -> u128
         requires file { IsFile (length self.now.files) inode }
         requires end { end ≤ FILE_END }
         ensures { IfSome (slice_get self.now.files (inode - 2)) (λ file.
@@ -127,7 +127,7 @@ impl Volume {
     }
 
     /// Puts bytes into a file. On error nothing has changed.
-    pub(crate) fn commit(&mut self, inode: u64, from: u64, bytes: &[u8]) -> Result<(), AllocError>
+    pub fn commit(&mut self, inode: u64, from: u64, bytes: &[u8]) -> Result<(), AllocError>
         requires file { IsFile (length self.old.files) inode }
         requires end { from + length bytes.now ≤ FILE_END }
         ensures ok { OnOk result (OfFileAt self.old inode (λ file.
@@ -143,7 +143,7 @@ impl Volume {
     }
 
     /// The bytes of a file from one position up to another, as far as the file goes.
-    pub(crate) fn read(&self, inode: u64, from: u64, to: u64) -> Result<Bytes, AllocError>
+    pub fn read(&self, inode: u64, from: u64, to: u64) -> Result<Bytes, AllocError>
         requires file { IsFile (length self.now.files) inode }
         requires end { to ≤ FILE_END }
         ensures { IfOk result (λ bytes.
@@ -159,7 +159,7 @@ impl Volume {
 }
 
 impl StoredFile {
-    ghost use Rattle.jv_session.specs.Stored.{with_segment};
+    ghost use Rattle.jv_files.specs.Stored.{with_segment};
 
     /// Puts bytes into the file. On error nothing has changed.
     fn add(&mut self, from: u64, bytes: Bytes) -> Result<(), AllocError>

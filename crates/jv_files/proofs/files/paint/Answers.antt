@@ -1,8 +1,8 @@
 -- What was copied is what the segment covers; the sum that saturates is past the bytes' end.
 use Rattle.std.proofs.Common.{ap, ◌∙◌, ◌-◌, List, ℕ, arith}
 use Rattle.std.specs.List.{between}
-use Rattle.jv_session.proofs.PaintLaws.{painted}
-use Rattle.jv_session.proofs.volume.paint.Goals as goal
+use Rattle.jv_files.proofs.PaintLaws.{painted}
+use Rattle.jv_files.proofs.files.paint.Goals as goal
 
 pub returns-then-low-high : goal.returns-then-low-high
 returns-then-low-high c =

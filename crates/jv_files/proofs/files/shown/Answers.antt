@@ -1,9 +1,9 @@
 -- Each segment is painted over what the ones before it left; after the last, the bytes are those shown.
 use Rattle.std.proofs.Common.{◌≡◌, ℕ, ◌+◌, ◌-◌, ◌<◌, List, length, take, slice_index, sym, ap, subst, ◌∙◌, arith}
 use Rattle.std.proofs.lemmas.List.{with_items_is}
-use Rattle.jv_session.specs.Stored.{shown_over}
-use Rattle.jv_session.proofs.PaintLaws.{over, shown_more, shown_all}
-use Rattle.jv_session.proofs.volume.shown.Goals as goal
+use Rattle.jv_files.specs.Stored.{shown_over}
+use Rattle.jv_files.proofs.PaintLaws.{over, shown_more, shown_all}
+use Rattle.jv_files.proofs.files.shown.Goals as goal
 
 pub loop-segment-preserved : goal.loop-segment-preserved
 loop-segment-preserved c =

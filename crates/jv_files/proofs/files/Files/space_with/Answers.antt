@@ -3,15 +3,15 @@ use Rattle.std.proofs.Common.{◌≡◌, ℕ, ◌+◌, ◌-◌, ◌*◌, ◌<◌
 use Rattle.std.specs.Prelude.{IfSome}
 use Rattle.std.proofs.lemmas.Option.{slice_get_read}
 use Rattle.jv_model.specs.tree.Tree.{paged}
-use Rattle.jv_session.specs.Stored.{VolumeValue, space_of}
-use Rattle.jv_session.proofs.SpaceLaws.{AllShort-at, space_of-part, space_of-bound}
-use Rattle.jv_session.proofs.volume.Volume.space_with.Goals as goal
-use Rattle.jv_session.proofs.volume.Volume.space_with.Goals.{After-index}
+use Rattle.jv_files.specs.Stored.{FilesValue, space_of}
+use Rattle.jv_files.proofs.SpaceLaws.{AllShort-at, space_of-part, space_of-bound}
+use Rattle.jv_files.proofs.files.Files.space_with.Goals as goal
+use Rattle.jv_files.proofs.files.Files.space_with.Goals.{After-index}
 
 found : (c : After-index) → slice_get c.self.inside.files.items (c.args.inode - 2) ≡ Some c.index.result.now
 found c =
     let v = c.self.inside in
-    let count : length v.files.items ≡ length c.args.self.now.files = ap (λ (w : VolumeValue). length w.files) c.self.view_is in
+    let count : length v.files.items ≡ length c.args.self.now.files = ap (λ (w : FilesValue). length w.files) c.self.view_is in
     let low : 2 ≤ c.args.inode = c.requires.file.low in
     let high : c.args.inode < 2 + length c.args.self.now.files = c.requires.file.high in
     slice_get_read v.files.items v.files.len (c.args.inode - 2) c.index.result.now v.files.ok.0 (omega (arith, v.files.ok.0)) c.index.ensures
@@ -51,5 +51,5 @@ returns c =
     let result : ℕ = v.used_space - c.from.result + c.from-2.result in
     let grown : c.from-2.result ≡ paged (max file.length c.args.end) = c.from-2.ensures ∙ c.paged-2.ensures ∙ ap paged c.max.ensures in
     let after = moved v.used_space (paged file.length) (paged (max file.length c.args.end)) c.from.result c.from-2.result (part (goal.at.returns c).After-index) (c.from.ensures ∙ c.paged.ensures) grown in
-    subst (λ (w : VolumeValue). IfSome (slice_get w.files k) (λ f. result + paged f.length ≡ w.used_space + paged (max f.length c.args.end))) c.self.view_is
+    subst (λ (w : FilesValue). IfSome (slice_get w.files k) (λ f. result + paged f.length ≡ w.used_space + paged (max f.length c.args.end))) c.self.view_is
     (subst (λ o. IfSome o (λ f. result + paged f.length ≡ v.used_space + paged (max f.length c.args.end))) (sym (found (goal.at.returns c).After-index)) after)

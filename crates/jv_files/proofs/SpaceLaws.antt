@@ -1,12 +1,13 @@
 -- The space of files, and their names.
-use Rattle.std.proofs.Common.{◌≡◌, ℕ, zero, suc, ◌+◌, ◌*◌, ◌≤◌, List, [], ◌∷◌, ◌++◌, length, slice_get, slice_set, Option, None, Some, refl, ap, subst, ◌∙◌, arith}
+use Rattle.std.proofs.Common.{cond, Bool, true, false, ◌≡◌, ℕ, zero, suc, ◌+◌, ◌*◌, ◌≤◌, List, [], ◌∷◌, ◌++◌, length, slice_get, slice_set, Option, None, Some, refl, ap, subst, ◌∙◌, arith}
 use Rattle.std.specs.declared.cmp.Ordering.{Ordering}
 use Rattle.std.specs.declared.cmp.Ordering.TheVariants.{Less, Equal, Greater}
 use Rattle.std.specs.Ordering.{nat_cmp, is_eq, ordering_reverse}
 use Rattle.std.specs.Cmp.Lexicographic.{slice_cmp, nat_list_cmp_total}
 use Rattle.jv_model.specs.tree.Tree.{paged}
-use Rattle.jv_session.specs.declared.volume.StoredFile.{StoredFile}
-use Rattle.jv_session.specs.Stored.{space_of, AllShort}
+use Rattle.jv_files.specs.declared.files.StoredFile.{StoredFile}
+use Rattle.std.specs.Prelude.{IfSome}
+use Rattle.jv_files.specs.Stored.{space_of, AllShort, IsFile}
 
 pub space_of-push : (files : List StoredFile) (file : StoredFile) → space_of (files ++ file ∷ []) ≡ space_of files + paged file.length
 space_of-push [] file = omega arith
@@ -60,3 +61,9 @@ is_eq-reverse Greater = refl
 -- names tie both ways
 pub tie-swapped : (a b : List ℕ) → is_eq (slice_cmp nat_cmp a b) ≡ is_eq (slice_cmp nat_cmp b a)
 tie-swapped a b = ap is_eq (nat_list_cmp_total.antisymm a b) ∙ is_eq-reverse (slice_cmp nat_cmp b a)
+
+-- a name is of one of the files after one more, too
+pub named_with : (n m : ℕ) (b : Bool) (o : Option ℕ) → m ≡ n + 1 → IfSome o (IsFile n) → IfSome (cond b (Some (2 + n)) o) (IsFile m)
+named_with n m true o e is = record { low = omega arith; high = omega (arith, e) }
+named_with n m false None e is = tt
+named_with n m false (Some inode) e is = record { low = is.low; high = omega (arith, e, is.high) }

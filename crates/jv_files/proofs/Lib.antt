@@ -1,0 +1,3 @@
+-- Laws about stored files.
+pub mod PaintLaws
+pub mod SpaceLaws
