@@ -5,5 +5,6 @@ pub mod Counts
 pub mod tree
 pub mod script
 pub mod run
+pub mod client
 pub mod blocks
 pub mod rows

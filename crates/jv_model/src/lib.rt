@@ -10,6 +10,7 @@ mod journal;
 mod laws;
 mod limits;
 mod op;
+mod profile;
 mod row;
 mod sequence;
 mod setting;
@@ -30,6 +31,7 @@ pub use limits::{
     MAX_PATH, MAX_TICK, MAX_TRASH_DAYS, MIB, MIN_BLOCK, ROOT, SPACE_UNIT, TRASH_ROOT, WINDOW,
 };
 pub use op::{Line, Op, Reply, Step};
+pub use profile::{Answer, Does, Flushes, Handles, Profile};
 pub use row::{
     Counters, Dead, Dropped, Edge, Finding, Findings, Node, Row, RowKey, RowList, Rows, Session,
     SliceRow,

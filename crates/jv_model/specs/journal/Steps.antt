@@ -1,0 +1,413 @@
+-- What an entry of a client's operation may be, by the state alone: the requests of the operation in their order, each with
+-- the operation's own numbers, and the answers with their causes.
+use Rattle.std.specs.Prelude.{◌≡◌, ℕ, ◌+◌, ◌-◌, ◌*◌, ◌≤◌, ◌<◌, Bool, true, false, ◌&&◌, ◌||◌, not, ◌==◌, nat_le, nat_lt, if◌then◌else◌, IsTrue, IsSomeAnd, IfSome, List, [], ◌∷◌, length, is_some, Option, None, Some}
+use Rattle.std.specs.List.{list_any}
+use Rattle.jv_model.specs.declared.limits.TheConstants.{TRASH_ROOT, FULL_COUNT, FILE_END, WINDOW}
+use Rattle.jv_model.specs.declared.act.ActKind.{ActKind}
+use Rattle.jv_model.specs.declared.act.ActKind.TheVariants.{Mounted, Meta, Opened, Look, Commit, Truncated, Copied, Compacted, Settled, Expired, Purged, Cleaned, Quiet, Miss, Crashed, Ticked, Answered}
+use Rattle.jv_model.specs.declared.act.Told.{Told}
+use Rattle.jv_model.specs.declared.act.Told.TheVariants.{Fine, Looks, Refused as ToldRefused}
+use Rattle.jv_model.specs.declared.fault.Fault.{Fault}
+use Rattle.jv_model.specs.declared.fault.Fault.TheVariants.{NoSpace, TryAgain, Stale, TimedOut, Contended, DeviceFailed, NoMemory}
+use Rattle.jv_model.specs.declared.fault.Gone.TheVariants.{Session, Node}
+use Rattle.jv_model.specs.declared.fault.Busy.TheVariants.{Misses, Lists}
+use Rattle.jv_model.specs.declared.op.Op.{Op}
+use Rattle.jv_model.specs.declared.op.Op.TheVariants as op
+use Rattle.jv_model.specs.declared.op.Reply.{Reply}
+use Rattle.jv_model.specs.declared.op.Reply.TheVariants as reply
+use Rattle.jv_model.specs.declared.profile.Answer.{Answer}
+use Rattle.jv_model.specs.declared.profile.Answer.TheVariants as answer
+use Rattle.jv_model.specs.declared.profile.Does.{Does}
+use Rattle.jv_model.specs.declared.profile.Does.TheVariants.{Answers, Mounts, Transacts, Releases, Reads, Truncates, Copies, Compacts, Cleans as DoesClean, Collects, Uploads}
+use Rattle.jv_model.specs.tree.Tree.{Tree, node_at, fits}
+use Rattle.jv_model.specs.tree.Caller.{Outcome}
+use Rattle.jv_model.specs.tree.Journaled.{committed, due_session, due_purge}
+use Rattle.jv_model.specs.run.Pending.{Segment, bytes_in_range}
+use Rattle.jv_model.specs.client.Origins.{Origin, Owed, missing_commit}
+use Rattle.jv_model.specs.client.Profile.{profile, handle_list}
+use Rattle.jv_model.specs.client.ModelClient.{ModelClient, OpenFile, View, Doing, Stage, Part, Sessions, Trash, Files, Slices, Cleaning, Compaction, Working, Reading, Missing, LookedAgain, Compacting, Cleans, Requesting, Replying, is_replying, session_of, file_of, is_among}
+use Rattle.jv_model.specs.client.Submission.{next_segment, is_flushed}
+use Rattle.jv_model.specs.journal.State.{State, Change, transacted, caller, has_session, answer_then, gift_of, Gift, NewSession, NewHandle, Nothing}
+use Rattle.jv_model.specs.journal.Reading.{Asked, asked_parts, fresh_view, part_to_look, part_of_window, shows_all, reading}
+
+-- what the run began with, as far as a tree doesn't say it
+pub record Start : Type 0 where
+  pub tree : Tree
+  pub shelved : ℕ → ℕ → List ℕ  -- by inode and position, the clients whose shelves alone have the byte's block
+  pub next_slice : ℕ
+  pub records : ℕ  -- of all lists together
+
+-- Stored numbers that the tree doesn't have may stand near their end: the next slice's, or how often a slice is named.
+abbrev pub is_crowded : Start → State → Bool
+is_crowded start s = nat_le FULL_COUNT (start.next_slice + s.count) || nat_le FULL_COUNT (start.records + s.count + FILE_END + s.copied)
+
+-- the seconds after which what was uploaded and not committed may be collected
+abbrev pub upload_life : ℕ
+upload_life = 3600
+
+-- an operation that works on its requests, after so many of the next segment
+abbrev quiets_in : Stage → ℕ
+quiets_in (Working quiets started) = quiets
+quiets_in _ = 0
+
+abbrev started_in : Stage → ℕ
+started_in (Working quiets started) = started
+started_in _ = 0
+
+abbrev is_working : Stage → Bool
+is_working (Working quiets started) = true
+is_working _ = false
+
+-- nothing is left to flush, and nothing else was asked for since
+abbrev pub is_ready : ModelClient → Doing → Bool
+is_ready c d = is_working d.stage && (quiets_in d.stage == 0) && is_flushed d.flush c.pending
+
+-- whether the operation makes a metadata transaction of its own, with an entry for it
+abbrev pub transacts : ModelClient → Doing → Bool
+transacts c d = elim d.does [
+  | Answers told ↦ false
+  | Mounts writeback ↦ true
+  | Transacts ↦ true
+  | Releases ↦ not (is_some (answer_then c d))
+  | Reads ↦ false
+  | Truncates ↦ false
+  | Copies ↦ false
+  | Compacts ↦ false
+  | DoesClean ↦ false
+  | Collects ↦ false
+  | Uploads ↦ false
+]
+
+-- the entry that a transaction makes, by its reply
+abbrev pub entry_of_gift : Gift → ActKind
+entry_of_gift (NewSession sid) = Mounted sid
+entry_of_gift (NewHandle handle inode) = Opened handle inode
+entry_of_gift Nothing = Meta
+
+-- the transaction is the tree's own
+pub record Transaction (s : State) (client now : ℕ) (c : ModelClient) (d : Doing) (kind : ActKind) : Type 0 where
+  pub ready : IsTrue (is_ready c d)
+  pub transacts : IsTrue (transacts c d)
+  pub same : kind ≡ entry_of_gift (gift_of (transacted s client now d.op).reply)
+
+-- commits
+
+abbrev may_be_staged : Bool → ℕ → ℕ → Bool
+may_be_staged true quiets staged = nat_lt staged quiets
+may_be_staged false quiets staged = staged == 0
+
+-- A commit is of the least segment that is left, after a request for its slice's number and one for each block. Its session
+-- and its file are there, it comes in time, and the volume has room.
+pub record Commits (s : State) (now : ℕ) (c : ModelClient) (d : Doing) (inode from len staged : ℕ) : Type 0 where
+  pub requests : 2 ≤ quiets_in d.stage
+  pub segment : next_segment d.flush c.pending ≡ Some (record { inode = inode; from = from; len = len })
+  pub behind : IsTrue (may_be_staged c.writeback (quiets_in d.stage) staged)
+  pub session : IsTrue (has_session s.tree c)
+  pub file : IsTrue (is_some (node_at s.tree inode))
+  pub in_time : now < started_in d.stage + upload_life
+  pub room : IsTrue (fits s.tree (committed s.tree now inode from (bytes_in_range inode from len c.pending)))
+
+-- reading
+
+-- the parts that a read asks for
+abbrev pub asked_of : Does → List Asked
+asked_of (Reads offset len) = asked_parts offset len
+asked_of _ = []
+
+-- the file that the operation's handle names
+abbrev pub file_in_use : ModelClient → Doing → Option OpenFile
+file_in_use c d = file_of c.handles (handle_of d.op)
+
+-- the reading may go on: it begins, or it didn't just miss a block
+abbrev pub may_read_on : ModelClient → Doing → Bool
+may_read_on c d = elim d.stage [
+  | Working quiets started ↦ is_ready c d
+  | Reading misses ↦ true
+  | Missing misses window owed ↦ false
+  | LookedAgain misses window owed ↦ nat_lt misses MAX_MISSES
+  | Compacting k ↦ false
+  | Cleans k ↦ false
+  | Requesting requests ↦ false
+  | Replying answer ↦ false
+]
+
+abbrev window_asked : Option Asked → Option ℕ
+window_asked None = None
+window_asked (Some asked) = Some asked.window
+
+-- the window that has to be looked at next: one without a view, or that of a missed block again
+abbrev pub window_to_look : ModelClient → Doing → OpenFile → Option ℕ
+window_to_look c d file = elim d.stage [
+  | Missing misses window owed ↦ Some window
+  | Working quiets started ↦ window_asked (part_to_look c.views (handle_of d.op) file (asked_of d.does))
+  | Reading misses ↦ window_asked (part_to_look c.views (handle_of d.op) file (asked_of d.does))
+  | LookedAgain misses window owed ↦ window_asked (part_to_look c.views (handle_of d.op) file (asked_of d.does))
+  | Compacting k ↦ None
+  | Cleans k ↦ None
+  | Requesting requests ↦ None
+  | Replying answer ↦ None
+]
+
+abbrev is_missing : Stage → Bool
+is_missing (Missing misses window owed) = true
+is_missing _ = false
+
+-- A reading looks at the window that comes next, of the file that it reads, which is there.
+pub record LooksAt (s : State) (c : ModelClient) (d : Doing) (inode window : ℕ) : Type 0 where
+  pub goes_on : IsTrue (may_read_on c d || is_missing d.stage)
+  pub file : IsSomeAnd (file_in_use c d) (λ file. (inode ≡ file.inode) × (window_to_look c d file ≡ Some window))
+  pub session : IsTrue (has_session s.tree c)
+  pub there : IsTrue (is_some (node_at s.tree inode))
+
+abbrev takes_blocks : ChangeKind → Bool
+takes_blocks Written = false
+takes_blocks Replaced = true
+takes_blocks Ended = true
+
+-- since the view was taken its file was cut, compacted or removed, and a cleaning went on after that
+abbrev pub may_be_cleaned : State → View → Bool
+may_be_cleaned s view = list_any (λ change. (change.inode == view.inode) && takes_blocks change.kind && nat_lt view.entry change.entry && nat_lt change.entry s.swept) s.changes
+
+-- why a block that a view shows may be missing: another client owes bytes of it, or it was cleaned away
+pub data MayBeGone (start : Start) (s : State) (client : ℕ) (view : View) (from to : ℕ) : Type 0 where
+  Owes : (position commit : ℕ) → from ≤ position → position < to
+      → missing_commit start.shelved s.owed client (view.origin position) ≡ Some commit → MayBeGone start s client view from to
+  MayBeCleaned : IsTrue (may_be_cleaned s view) → MayBeGone start s client view from to
+
+-- the part at a window, where the parts before it are seen in full
+abbrev pub part_in_use : ModelClient → ℕ → OpenFile → List Asked → ℕ → Option Asked
+part_in_use c handle file [] window = None
+part_in_use c handle file (asked ∷ others) window = (if asked.window == window then Some asked
+    else elim (fresh_view c.views handle file asked.window) [
+      | None ↦ None
+      | Some view ↦ (if shows_all asked view then part_in_use c handle file others window else None)
+    ])
+
+-- A block of a window that the reading is at wasn't found.
+pub record MissesBlock (start : Start) (s : State) (client : ℕ) (c : ModelClient) (d : Doing) (inode window : ℕ) : Type 0 where
+  pub goes_on : IsTrue (may_read_on c d)
+  pub file : OpenFile
+  pub opened : file_in_use c d ≡ Some file
+  pub own : inode ≡ file.inode
+  pub asked : Asked
+  pub at : part_in_use c (handle_of d.op) file (asked_of d.does) window ≡ Some asked
+  pub view : View
+  pub fresh : fresh_view c.views (handle_of d.op) file window ≡ Some view
+  pub gone : MayBeGone start s client view asked.from asked.to
+
+-- the positions of a window
+abbrev window_start : ℕ → ℕ
+window_start window = window * WINDOW
+
+-- A compaction looks at the window of its path's file first, and again after a block of it wasn't found.
+pub data CompactionLooks (s : State) (client now : ℕ) (c : ModelClient) (d : Doing) (inode window : ℕ) : Type 0 where
+  First : IsTrue (is_ready c d) → compaction_target s.tree (caller c client now d.op) d.op ≡ Ok (inode, window) → CompactionLooks s client now c d inode window
+  Again : (k : Compaction) → d.stage ≡ Compacting k → IsTrue (is_some k.missed) → IsTrue (k.view.entry == k.first) → inode ≡ k.view.inode → window ≡ k.view.window
+      → IsTrue (has_session s.tree c) → IsTrue (is_some (node_at s.tree inode)) → CompactionLooks s client now c d inode window
+
+-- a compaction that missed no block and replaced nothing goes on
+abbrev pub may_compact_on : Compaction → Bool
+may_compact_on k = not (is_some k.missed) && not k.has_replaced
+
+pub record CompactionMisses (start : Start) (s : State) (client : ℕ) (d : Doing) (inode window : ℕ) : Type 0 where
+  pub k : Compaction
+  pub stage : d.stage ≡ Compacting k
+  pub goes_on : IsTrue (may_compact_on k)
+  pub own : (inode ≡ k.view.inode) × (window ≡ k.view.window)
+  pub gone : MayBeGone start s client k.view (window_start window) (window_start (window + 1))
+
+-- one of the requests so late that what it brought may still be there, or none that brought anything
+abbrev is_in_time : ℕ → List ℕ → Bool
+is_in_time now [] = true
+is_in_time now (moment ∷ moments) = list_any (λ m. nat_lt now (m + UPLOAD_LIFE)) (moment ∷ moments)
+
+-- the list of a window is replaced over a span of it
+pub record Replaces (s : State) (now : ℕ) (c : ModelClient) (d : Doing) (inode window from to : ℕ) : Type 0 where
+  pub k : Compaction
+  pub stage : d.stage ≡ Compacting k
+  pub goes_on : IsTrue (may_compact_on k)
+  pub own : (inode ≡ k.view.inode) × (window ≡ k.view.window)
+  pub begins : window_start window ≤ from
+  pub rises : from ≤ to
+  pub ends : to ≤ window_start (window + 1)
+  pub session : IsTrue (has_session s.tree c)
+  pub there : IsTrue (is_some (node_at s.tree inode))
+  pub in_time : IsTrue (is_in_time now k.quiets)
+
+-- truncation and copy
+
+-- the entry has the numbers of the operation, and its transaction isn't refused
+pub record Changes (s : State) (client now : ℕ) (c : ModelClient) (d : Doing) (kind : ActKind) : Type 0 where
+  pub ready : IsTrue (is_ready c d)
+  pub same : changed_file s client now c d ≡ Some kind
+
+-- cleaning
+
+abbrev pub items : Cleaning → ℕ
+items k = k.sessions + k.trash + k.hours + k.files + k.slices
+
+-- how far a cleaning is, one that is about to begin too
+abbrev pub cleaning_in : ModelClient → Doing → Option Cleaning
+cleaning_in c d = elim d.stage [
+  | Cleans k ↦ Some k
+  | Working quiets started ↦ (if is_ready c d && is_cleaning d.does then Some first_cleaning else None)
+  | Reading misses ↦ None
+  | Missing misses window owed ↦ None
+  | LookedAgain misses window owed ↦ None
+  | Compacting k ↦ None
+  | Requesting requests ↦ None
+  | Replying answer ↦ None
+]
+
+-- an item of a cleaning goes, in its part
+pub record CleansItem (s : State) (c : ModelClient) (d : Doing) (part : Part) : Type 0 where
+  pub k : Cleaning
+  pub stage : cleaning_in c d ≡ Some k
+  pub at : k.part ≡ part
+  pub few : items k < MAX_ITEMS
+  pub session : IsTrue (has_session s.tree c)
+
+-- a row of a removed file, each once: the inode was given once, and is no node
+pub record DropsFile (s : State) (inode : ℕ) : Type 0 where
+  pub was : inode < s.tree.next_inode
+  pub gone : node_at s.tree inode ≡ None
+  pub once : is_among inode s.dropped ≡ false
+
+abbrev CleansRow : State → ModelClient → Doing → ℕ → ℕ → Type 0
+CleansRow s c d table key = MatchBool (table == 8) (CleansItem s c d Files × DropsFile s key) ((table ≡ 9) × CleansItem s c d Blocks)
+
+-- a request of a cleaning found nothing more in its part; blocks of slices are removed in any number
+abbrev finds_none : State → ModelClient → ℕ → Part → Bool
+finds_none s c now Sessions = not (is_some (due_session s.tree (session_of c) now))
+finds_none s c now Trash = not (is_some (due_purge s.tree now))
+finds_none s c now Files = true
+finds_none s c now Slices = true
+finds_none s c now Blocks = true
+
+-- requests that changed nothing of the tree
+
+abbrev is_refused_reply : Reply → Bool
+is_refused_reply (reply.Refused fault) = true
+is_refused_reply _ = false
+
+-- the first request after the flush
+abbrev may_begin_quietly : Start → State → ℕ → ℕ → ModelClient → Doing → Bool
+may_begin_quietly start s client now c d = elim d.does [
+  | Answers told ↦ false
+  | Mounts writeback ↦ false
+  | Transacts ↦ false
+  | Releases ↦ false
+  | Reads offset len ↦ sees_first c d (asked_parts offset len) || is_look_refused s.tree c (inode_at c (handle_of d.op))
+  | Truncates ↦ is_refused_reply (transacted s client now d.op).reply || is_crowded start s
+  | Copies ↦ is_refused_reply (transacted s client now d.op).reply || is_crowded start s
+  | Compacts ↦ is_refused_reply (transacted s client now d.op).reply
+  | DoesClean ↦ finds_none s c now Sessions || not (has_session s.tree c)
+  | Collects ↦ true
+  | Uploads ↦ true
+]
+
+abbrev pub may_be_quiet : Start → State → ℕ → ℕ → ModelClient → Doing → Stage → Bool
+may_be_quiet start s client now c d (Working quiets started) = (if is_flushed d.flush c.pending then (quiets == 0) && may_begin_quietly start s client now c d else true)
+may_be_quiet start s client now c d (Reading misses) = true
+may_be_quiet start s client now c d (Missing misses window owed) = false
+may_be_quiet start s client now c d (LookedAgain misses window owed) = nat_lt misses MAX_MISSES
+may_be_quiet start s client now c d (Compacting k) = may_compact_on k
+may_be_quiet start s client now c d (Cleans k) = nat_lt (items k) MAX_ITEMS && (finds_none s c now k.part || not (has_session s.tree c))
+may_be_quiet start s client now c d (Requesting requests) = is_collecting d.does
+may_be_quiet start s client now c d (Replying answer) = false
+
+-- the last staged block of a commit is published by an upload
+pub record Publishes (s : State) (c : ModelClient) (d : Doing) (commit : ℕ) : Type 0 where
+  pub ready : IsTrue (is_ready c d)
+  pub uploads : d.does ≡ Uploads
+  pub owed : IsTrue (list_any (λ o. o.commit == commit) s.owed)
+
+-- answers
+
+-- out of memory, or a device failed: it may come before any step
+abbrev pub is_failure : Told → Bool
+is_failure (ToldRefused NoMemory) = true
+is_failure (ToldRefused (DeviceFailed device)) = true
+is_failure _ = false
+
+-- whether an entry begins a step: each does but the answer that ends a step that was made
+abbrev pub begins_step : Doing → ActKind → Bool
+begins_step d (Answered told) = not d.moved || is_failure told
+begins_step d _ = true
+
+-- what an operation is answered, in numbers; the numbers of a reply in their order
+abbrev pub told_of : Reply → Told
+told_of (reply.Refused fault) = ToldRefused fault
+told_of reply.Done = Fine 0 0 0 0
+told_of (reply.SessionMade sid) = Fine sid 0 0 0
+told_of (reply.Found inode) = Fine inode 0 0 0
+told_of (reply.Described attr) = Fine 0 0 0 0
+told_of (reply.FileOpened handle inode) = Fine handle inode 0 0
+told_of (reply.Data bytes) = Looks 0 0 (length bytes)
+told_of (reply.Count bytes) = Fine bytes 0 0 0
+told_of (reply.Entries entries) = Fine 0 0 0 0
+told_of (reply.Usage space) = Fine space.used space.capacity space.inodes space.limit
+told_of (reply.Target target) = Fine 0 0 0 0
+told_of (reply.Compaction before after) = Fine before after 0 0
+told_of (reply.Cleanup sessions trash files slices) = Fine sessions trash files slices
+told_of (reply.Leaked count bytes) = Fine count bytes 0 0
+told_of (reply.Uploaded None) = Fine 0 0 0 0
+told_of (reply.Uploaded (Some block)) = Fine block.id block.index block.size 1
+told_of (reply.CacheStats hits misses cached pending) = Fine hits misses cached pending
+
+-- the session is gone at a transaction that wants it: all but the requests for blocks are
+abbrev asks_rows : ModelClient → Doing → Bool
+asks_rows c d = elim d.stage [
+  | Working quiets started ↦ nat_le 3 quiets
+  | Reading misses ↦ elim (file_in_use c d) [ None ↦ false | Some file ↦ is_some (window_to_look c d file) ]
+  | Missing misses window owed ↦ false
+  | LookedAgain misses window owed ↦ false
+  | Compacting k ↦ may_compact_on k
+  | Cleans k ↦ true
+  | Requesting requests ↦ is_collecting d.does
+  | Replying answer ↦ false
+]
+
+-- the inode that the refused transaction was given
+abbrev inode_in_use : ModelClient → Doing → ℕ
+inode_in_use c d = elim d.stage [
+  | Working quiets started ↦ elim (next_segment d.flush c.pending) [ None ↦ 0 | Some segment ↦ segment.inode ]
+  | Reading misses ↦ inode_at c (handle_of d.op)
+  | Missing misses window owed ↦ inode_at c (handle_of d.op)
+  | LookedAgain misses window owed ↦ 0
+  | Compacting k ↦ k.view.inode
+  | Cleans k ↦ 0
+  | Requesting requests ↦ 0
+  | Replying answer ↦ 0
+]
+
+abbrev is_gone : Tree → ℕ → Bool
+is_gone t inode = not (inode == 0) && not (is_some (node_at t inode))
+
+abbrev has_late_request : ℕ → ℕ → List ℕ → Bool
+has_late_request started now quiets = list_any (λ moment. moment == started) quiets && nat_le (started + UPLOAD_LIFE) now
+
+-- since the compaction's first look others changed the list of its file
+abbrev found_another : State → Compaction → Bool
+found_another s k = list_any (λ change. (change.inode == k.view.inode) && nat_lt k.first change.entry && (is_replaced change.kind || is_some k.missed && is_written change.kind)) s.changes
+
+-- The refusal of a request that was just made, in this same step.
+pub data IsRefusedIn (start : Start) (s : State) (client now : ℕ) (c : ModelClient) (d : Doing) (fault : Fault) : Type 0 where
+  SessionGone : IsTrue (asks_rows c d) → has_session s.tree c ≡ false → fault ≡ Stale (Session (session_of c)) → IsRefusedIn start s client now c d fault
+  InodeGone : IsTrue (asks_rows c d) → IsTrue (has_session s.tree c) → IsTrue (is_gone s.tree (inode_in_use c d)) → fault ≡ Stale (Node (inode_in_use c d))
+      → IsRefusedIn start s client now c d fault
+  CommitLate : (segment : Segment) → CommitAsked s c d segment → started_in d.stage + UPLOAD_LIFE ≤ now → fault ≡ TimedOut (started_in d.stage) now
+      → IsRefusedIn start s client now c d fault
+  CommitTooLarge : (segment : Segment) → CommitAsked s c d segment → now < started_in d.stage + UPLOAD_LIFE
+      → IsTrue (is_crowded start s || not (commit_fits s now c segment)) → fault ≡ NoSpace → IsRefusedIn start s client now c d fault
+  NumberRefused : quiets_in d.stage ≡ 1 → IsTrue (is_crowded start s) → fault ≡ NoSpace → IsRefusedIn start s client now c d fault
+  CompactionCrowded : (k : Compaction) → d.stage ≡ Compacting k → IsTrue (may_compact_on k) → IsTrue (is_crowded start s) → fault ≡ NoSpace
+      → IsRefusedIn start s client now c d fault
+  CompactionLate : (k : Compaction) → (started : ℕ) → d.stage ≡ Compacting k → IsTrue (may_compact_on k) → IsTrue (has_session s.tree c)
+      → IsTrue (has_late_request started now k.quiets) → fault ≡ TimedOut started now → IsRefusedIn start s client now c d fault
+  AnotherList : (k : Compaction) → (looked found : ℕ) → d.stage ≡ Compacting k → k.has_replaced ≡ false → IsTrue (found_another s k)
+      → IsTrue (not (is_some k.missed) || nat_lt k.first k.view.entry) → fault ≡ Contended (Lists looked found) → IsRefusedIn start s client now c d fault
+  BlockOwed : (position commit from to : ℕ) → (view : View) → (owed : List Owed) → IsMissed c d view owed from to → from ≤ position → position < to
+      → missing_commit start.shelved owed client (view.origin position) ≡ Some commit → fault ≡ TryAgain commit → IsRefusedIn start s client now c d fault
+  MissedTooOften : (window : ℕ) → (owed : List Owed) → d.stage ≡ LookedAgain MAX_MISSES window owed → fault ≡ Contended (Busy.Misses MAX_MISSES)
+      → IsRefusedIn start s client now c d fault
