@@ -6,5 +6,6 @@ pub mod tree
 pub mod script
 pub mod run
 pub mod client
+pub mod journal
 pub mod blocks
 pub mod rows

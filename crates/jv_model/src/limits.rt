@@ -85,6 +85,15 @@ pub const MAX_DATA: u64 = 8_388_608;
 /// The most open handles of a client.
 pub const MAX_HANDLES: usize = 1_024;
 
+/// The seconds after which blocks that no commit named are taken for leaked, and their commit comes too late.
+pub const UPLOAD_LIFE: u64 = 3_600;
+
+/// The most blocks that one read misses.
+pub const MAX_MISSES: u32 = 10;
+
+/// The most items that one `clean` takes.
+pub const MAX_ITEMS: u64 = 65_536;
+
 /// The bytes that may wait for their commit in a client where no option sets another number.
 pub const DEFAULT_BUFFER: u64 = 33_554_432;
 

@@ -88,7 +88,3 @@ part_to_look views handle file (asked ∷ others) = elim (fresh_view views handl
   | None ↦ Some asked
   | Some view ↦ (if shows_all asked view then part_to_look views handle file others else None)
 ]
-
--- the part of a window that a reading may be at
-abbrev pub part_of_window : List Asked → ℕ → Option Asked
-part_of_window parts window = first_that (λ asked. asked.window == window) parts

@@ -25,7 +25,9 @@ use Rattle.jv_model.specs.tree.Tree.{Tree, Content, content_at, node_at, is_sust
 use Rattle.jv_model.specs.tree.Caller.{Caller, Outcome}
 use Rattle.jv_model.specs.tree.Changes.{empty_content}
 use Rattle.jv_model.specs.tree.TreeAct.{tree_act}
-use Rattle.jv_model.specs.tree.Journaled.{committed, truncated, copied, expired, purged}
+use Rattle.jv_model.specs.tree.FileBytes.{committed, truncated, copied}
+use Rattle.jv_model.specs.tree.Sessions.{expired}
+use Rattle.jv_model.specs.tree.Trash.{purged}
 use Rattle.jv_model.specs.run.Pending.{PendingByte, written, without_range, bytes_in_range, pending_of_others}
 use Rattle.jv_model.specs.client.Origins.{Origin, Mark, Marks, Owed, first_marks, marks_committed, marks_truncated, marks_copied, marks_compacted}
 use Rattle.jv_model.specs.client.Profile.{profile, handle_list, handle_of}
@@ -164,6 +166,10 @@ after_transaction s client now d =
 
 -- requests
 
+abbrev pub is_refused : Reply → Bool
+is_refused (reply.Refused fault) = true
+is_refused _ = false
+
 -- the refusal of a transaction that its tree refuses, or that a stored number near its end does
 abbrev pub refusal_in : Reply → Reply
 refusal_in answer = elim (is_refused answer) [ true ↦ answer | false ↦ reply.Refused NoSpace ]
@@ -196,8 +202,10 @@ abbrev pub first_cleaning : Cleaning
 first_cleaning = record { part = Sessions; sessions = 0; trash = 0; hours = 0; files = 0; slices = 0 }
 
 -- the refusal of a look at a file: its session or its inode is gone
-abbrev pub look_refusal : Tree → ModelClient → ℕ → Reply
-look_refusal t c inode = (if has_session t c then reply.Refused (Stale (Node inode)) else session_gone c)
+abbrev pub look_refusal : Tree → ModelClient → ℕ → Option Reply
+look_refusal t c inode = (if not (has_session t c) then Some (session_gone c)
+    else if is_some (node_at t inode) then None
+    else Some (reply.Refused (Stale (Node inode))))
 
 abbrev sees : ModelClient → ℕ → Option OpenFile → List Asked → Bool
 sees c handle None parts = false
@@ -214,7 +222,7 @@ begun_quietly s client c now d (Answers told) = d.stage
 begun_quietly s client c now d (Mounts writeback) = d.stage
 begun_quietly s client c now d Transacts = d.stage
 begun_quietly s client c now d Releases = d.stage
-begun_quietly s client c now d (Reads offset len) = (if sees_first c d (asked_parts offset len) then Reading 0 else Replying (look_refusal s.tree c (inode_at c (handle_of d.op))))
+begun_quietly s client c now d (Reads offset len) = (if sees_first c d (asked_parts offset len) then Reading 0 else elim (look_refusal s.tree c (inode_at c (handle_of d.op))) [ None ↦ d.stage | Some answer ↦ Replying answer ])
 begun_quietly s client c now d Truncates = Replying (refusal_in (transacted s client now d.op).reply)
 begun_quietly s client c now d Copies = Replying (refusal_in (transacted s client now d.op).reply)
 begun_quietly s client c now d Compacts = Replying (refusal_in (transacted s client now d.op).reply)
@@ -235,7 +243,7 @@ quieted s client c now d (Cleans k) = cleaning_on s c k
 quieted s client c now d (Requesting requests) = Requesting (requests + 1)
 quieted s client c now d (Replying answer) = Replying answer
 
-abbrev is_cleaning : Does → Bool
+abbrev pub is_cleaning : Does → Bool
 is_cleaning DoesClean = true
 is_cleaning _ = false
 
@@ -246,7 +254,7 @@ after_quiet s client now d =
 
 -- looks
 
-abbrev or_empty : Option Content → Content
+abbrev pub or_empty : Option Content → Content
 or_empty None = empty_content
 or_empty (Some content) = content
 
@@ -277,7 +285,7 @@ abbrev pub compaction_looked : View → Stage → Stage
 compaction_looked view (Compacting k) = Compacting (record k { view = view })
 compaction_looked view _ = Compacting (record { first = view.entry; view = view; quiets = []; missed = None; has_replaced = false })
 
-abbrev is_compaction : Does → Bool
+abbrev pub is_compaction : Does → Bool
 is_compaction Compacts = true
 is_compaction _ = false
 

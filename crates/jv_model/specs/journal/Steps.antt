@@ -1,16 +1,17 @@
 -- What an entry of a client's operation may be, by the state alone: the requests of the operation in their order, each with
 -- the operation's own numbers, and the answers with their causes.
-use Rattle.std.specs.Prelude.{◌≡◌, ℕ, ◌+◌, ◌-◌, ◌*◌, ◌≤◌, ◌<◌, Bool, true, false, ◌&&◌, ◌||◌, not, ◌==◌, nat_le, nat_lt, if◌then◌else◌, IsTrue, IsSomeAnd, IfSome, List, [], ◌∷◌, length, is_some, Option, None, Some}
+use Rattle.std.specs.Prelude.{◌≡◌, ℕ, ◌+◌, ◌-◌, ◌*◌, ◌≤◌, ◌<◌, Bool, true, false, ◌&&◌, ◌||◌, not, ◌==◌, nat_le, nat_lt, if◌then◌else◌, IsTrue, MatchBool, IsSomeAnd, List, [], ◌∷◌, length, is_some, Option, None, Some, Result, Ok, Err}
 use Rattle.std.specs.List.{list_any}
-use Rattle.jv_model.specs.declared.limits.TheConstants.{TRASH_ROOT, FULL_COUNT, FILE_END, WINDOW}
+use Rattle.std.specs.Option.{option_map}
+use Rattle.jv_model.specs.declared.limits.TheConstants.{FULL_COUNT, FILE_END, WINDOW, UPLOAD_LIFE, MAX_MISSES, MAX_ITEMS}
 use Rattle.jv_model.specs.declared.act.ActKind.{ActKind}
 use Rattle.jv_model.specs.declared.act.ActKind.TheVariants.{Mounted, Meta, Opened, Look, Commit, Truncated, Copied, Compacted, Settled, Expired, Purged, Cleaned, Quiet, Miss, Crashed, Ticked, Answered}
 use Rattle.jv_model.specs.declared.act.Told.{Told}
 use Rattle.jv_model.specs.declared.act.Told.TheVariants.{Fine, Looks, Refused as ToldRefused}
 use Rattle.jv_model.specs.declared.fault.Fault.{Fault}
-use Rattle.jv_model.specs.declared.fault.Fault.TheVariants.{NoSpace, TryAgain, Stale, TimedOut, Contended, DeviceFailed, NoMemory}
+use Rattle.jv_model.specs.declared.fault.Fault.TheVariants.{Invalid, NoSpace, TryAgain, Stale, TimedOut, Contended, DeviceFailed, NoMemory}
 use Rattle.jv_model.specs.declared.fault.Gone.TheVariants.{Session, Node}
-use Rattle.jv_model.specs.declared.fault.Busy.TheVariants.{Misses, Lists}
+use Rattle.jv_model.specs.declared.fault.Busy.TheVariants.{Misses as TooManyMisses, Lists}
 use Rattle.jv_model.specs.declared.op.Op.{Op}
 use Rattle.jv_model.specs.declared.op.Op.TheVariants as op
 use Rattle.jv_model.specs.declared.op.Reply.{Reply}
@@ -20,15 +21,19 @@ use Rattle.jv_model.specs.declared.profile.Answer.TheVariants as answer
 use Rattle.jv_model.specs.declared.profile.Does.{Does}
 use Rattle.jv_model.specs.declared.profile.Does.TheVariants.{Answers, Mounts, Transacts, Releases, Reads, Truncates, Copies, Compacts, Cleans as DoesClean, Collects, Uploads}
 use Rattle.jv_model.specs.tree.Tree.{Tree, node_at, fits}
-use Rattle.jv_model.specs.tree.Caller.{Outcome}
-use Rattle.jv_model.specs.tree.Journaled.{committed, due_session, due_purge}
+use Rattle.jv_model.specs.tree.Caller.{Caller}
+use Rattle.jv_model.specs.tree.Attempt.{◌>>=◌}
+use Rattle.jv_model.specs.tree.FileBytes.{committed}
+use Rattle.jv_model.specs.tree.Reading.{compact_inode}
+use Rattle.jv_model.specs.tree.Sessions.{due_session}
+use Rattle.jv_model.specs.tree.Trash.{due_purge}
 use Rattle.jv_model.specs.run.Pending.{Segment, bytes_in_range}
 use Rattle.jv_model.specs.client.Origins.{Origin, Owed, missing_commit}
-use Rattle.jv_model.specs.client.Profile.{profile, handle_list}
-use Rattle.jv_model.specs.client.ModelClient.{ModelClient, OpenFile, View, Doing, Stage, Part, Sessions, Trash, Files, Slices, Cleaning, Compaction, Working, Reading, Missing, LookedAgain, Compacting, Cleans, Requesting, Replying, is_replying, session_of, file_of, is_among}
+use Rattle.jv_model.specs.client.Profile.{handle_of}
+use Rattle.jv_model.specs.client.ModelClient.{ModelClient, OpenFile, View, Doing, Stage, Part, Sessions, Trash, Files, Slices, Blocks, Cleaning, Compaction, Working, Reading, Missing, LookedAgain, Compacting, Cleans, Requesting, Replying, session_of, file_of, inode_at, is_among}
 use Rattle.jv_model.specs.client.Submission.{next_segment, is_flushed}
-use Rattle.jv_model.specs.journal.State.{State, Change, transacted, caller, has_session, answer_then, gift_of, Gift, NewSession, NewHandle, Nothing}
-use Rattle.jv_model.specs.journal.Reading.{Asked, asked_parts, fresh_view, part_to_look, part_of_window, shows_all, reading}
+use Rattle.jv_model.specs.journal.State.{State, ChangeKind, Written, Replaced, Ended, transacted, caller, has_session, look_refusal, sees_first, is_refused, is_cleaning, is_compaction, first_cleaning, answer_then, gift_of, Gift, NewSession, NewHandle, Nothing}
+use Rattle.jv_model.specs.journal.Reading.{Asked, asked_parts, fresh_view, part_to_look, shows_all, reading}
 
 -- what the run began with, as far as a tree doesn't say it
 pub record Start : Type 0 where
@@ -40,10 +45,6 @@ pub record Start : Type 0 where
 -- Stored numbers that the tree doesn't have may stand near their end: the next slice's, or how often a slice is named.
 abbrev pub is_crowded : Start → State → Bool
 is_crowded start s = nat_le FULL_COUNT (start.next_slice + s.count) || nat_le FULL_COUNT (start.records + s.count + FILE_END + s.copied)
-
--- the seconds after which what was uploaded and not committed may be collected
-abbrev pub upload_life : ℕ
-upload_life = 3600
 
 -- an operation that works on its requests, after so many of the next segment
 abbrev quiets_in : Stage → ℕ
@@ -69,7 +70,7 @@ transacts c d = elim d.does [
   | Mounts writeback ↦ true
   | Transacts ↦ true
   | Releases ↦ not (is_some (answer_then c d))
-  | Reads ↦ false
+  | Reads offset len ↦ false
   | Truncates ↦ false
   | Copies ↦ false
   | Compacts ↦ false
@@ -104,7 +105,7 @@ pub record Commits (s : State) (now : ℕ) (c : ModelClient) (d : Doing) (inode 
   pub behind : IsTrue (may_be_staged c.writeback (quiets_in d.stage) staged)
   pub session : IsTrue (has_session s.tree c)
   pub file : IsTrue (is_some (node_at s.tree inode))
-  pub in_time : now < started_in d.stage + upload_life
+  pub in_time : now < started_in d.stage + UPLOAD_LIFE
   pub room : IsTrue (fits s.tree (committed s.tree now inode from (bytes_in_range inode from len c.pending)))
 
 -- reading
@@ -159,6 +160,16 @@ pub record LooksAt (s : State) (c : ModelClient) (d : Doing) (inode window : ℕ
   pub session : IsTrue (has_session s.tree c)
   pub there : IsTrue (is_some (node_at s.tree inode))
 
+abbrev is_written : ChangeKind → Bool
+is_written Written = true
+is_written Replaced = false
+is_written Ended = false
+
+abbrev is_replaced : ChangeKind → Bool
+is_replaced Written = false
+is_replaced Replaced = true
+is_replaced Ended = false
+
 abbrev takes_blocks : ChangeKind → Bool
 takes_blocks Written = false
 takes_blocks Replaced = true
@@ -199,6 +210,11 @@ pub record MissesBlock (start : Start) (s : State) (client : ℕ) (c : ModelClie
 abbrev window_start : ℕ → ℕ
 window_start window = window * WINDOW
 
+-- the window that a compaction looks at first
+abbrev compaction_target : Tree → Caller → Op → Result (ℕ × ℕ) Fault
+compaction_target t who (op.Compact path window) = compact_inode t who path >>= λ inode. Ok (inode, window)
+compaction_target t who o = Err Invalid
+
 -- A compaction looks at the window of its path's file first, and again after a block of it wasn't found.
 pub data CompactionLooks (s : State) (client now : ℕ) (c : ModelClient) (d : Doing) (inode window : ℕ) : Type 0 where
   First : IsTrue (is_ready c d) → compaction_target s.tree (caller c client now d.op) d.op ≡ Ok (inode, window) → CompactionLooks s client now c d inode window
@@ -235,6 +251,15 @@ pub record Replaces (s : State) (now : ℕ) (c : ModelClient) (d : Doing) (inode
   pub in_time : IsTrue (is_in_time now k.quiets)
 
 -- truncation and copy
+
+-- the entry that an operation makes of the file that it changes, where the tree doesn't refuse it
+abbrev change_entry : ModelClient → Op → Reply → Option ActKind
+change_entry c (op.Truncate handle len) reply.Done = Some (Truncated (inode_at c handle) len)
+change_entry c (op.Copy source from target to len) (reply.Count copied) = Some (Copied (inode_at c source) from (inode_at c target) to copied)
+change_entry c o answer = None
+
+abbrev pub changed_file : State → ℕ → ℕ → ModelClient → Doing → Option ActKind
+changed_file s client now c d = change_entry c d.op (transacted s client now d.op).reply
 
 -- the entry has the numbers of the operation, and its transaction isn't refused
 pub record Changes (s : State) (client now : ℕ) (c : ModelClient) (d : Doing) (kind : ActKind) : Type 0 where
@@ -286,10 +311,6 @@ finds_none s c now Blocks = true
 
 -- requests that changed nothing of the tree
 
-abbrev is_refused_reply : Reply → Bool
-is_refused_reply (reply.Refused fault) = true
-is_refused_reply _ = false
-
 -- the first request after the flush
 abbrev may_begin_quietly : Start → State → ℕ → ℕ → ModelClient → Doing → Bool
 may_begin_quietly start s client now c d = elim d.does [
@@ -297,14 +318,18 @@ may_begin_quietly start s client now c d = elim d.does [
   | Mounts writeback ↦ false
   | Transacts ↦ false
   | Releases ↦ false
-  | Reads offset len ↦ sees_first c d (asked_parts offset len) || is_look_refused s.tree c (inode_at c (handle_of d.op))
-  | Truncates ↦ is_refused_reply (transacted s client now d.op).reply || is_crowded start s
-  | Copies ↦ is_refused_reply (transacted s client now d.op).reply || is_crowded start s
-  | Compacts ↦ is_refused_reply (transacted s client now d.op).reply
+  | Reads offset len ↦ sees_first c d (asked_parts offset len) || is_some (look_refusal s.tree c (inode_at c (handle_of d.op)))
+  | Truncates ↦ is_refused (transacted s client now d.op).reply || is_crowded start s
+  | Copies ↦ is_refused (transacted s client now d.op).reply || is_crowded start s
+  | Compacts ↦ is_refused (transacted s client now d.op).reply
   | DoesClean ↦ finds_none s c now Sessions || not (has_session s.tree c)
   | Collects ↦ true
   | Uploads ↦ true
 ]
+
+abbrev is_collecting : Does → Bool
+is_collecting Collects = true
+is_collecting _ = false
 
 abbrev pub may_be_quiet : Start → State → ℕ → ℕ → ModelClient → Doing → Stage → Bool
 may_be_quiet start s client now c d (Working quiets started) = (if is_flushed d.flush c.pending then (quiets == 0) && may_begin_quietly start s client now c d else true)
@@ -391,6 +416,25 @@ has_late_request started now quiets = list_any (λ moment. moment == started) qu
 abbrev found_another : State → Compaction → Bool
 found_another s k = list_any (λ change. (change.inode == k.view.inode) && nat_lt k.first change.entry && (is_replaced change.kind || is_some k.missed && is_written change.kind)) s.changes
 
+-- the segment whose commit was asked for: it has its number and at least one block
+pub record CommitAsked (s : State) (c : ModelClient) (d : Doing) (segment : Segment) : Type 0 where
+  pub requests : 3 ≤ quiets_in d.stage
+  pub next : next_segment d.flush c.pending ≡ Some segment
+  pub session : IsTrue (has_session s.tree c)
+  pub there : IsTrue (is_some (node_at s.tree segment.inode))
+
+abbrev commit_fits : State → ℕ → ModelClient → Segment → Bool
+commit_fits s now c segment = fits s.tree (committed s.tree now segment.inode segment.from (bytes_in_range segment.inode segment.from segment.len c.pending))
+
+-- A block was missed, and its window was looked at again just now: the view, what was owed when the block was missed, and
+-- the part of the file that is asked for.
+pub data IsMissed (c : ModelClient) (d : Doing) (view : View) (owed : List Owed) (from to : ℕ) : Type 0 where
+  InReading : (misses window : ℕ) → (file : OpenFile) → (asked : Asked) → d.stage ≡ LookedAgain misses window owed → file_in_use c d ≡ Some file
+      → part_in_use c (handle_of d.op) file (asked_of d.does) window ≡ Some asked → fresh_view c.views (handle_of d.op) file window ≡ Some view
+      → from ≡ asked.from → to ≡ asked.to → IsMissed c d view owed from to
+  InCompaction : (k : Compaction) → d.stage ≡ Compacting k → k.missed ≡ Some owed → k.first < k.view.entry → view ≡ k.view
+      → from ≡ window_start view.window → to ≡ window_start (view.window + 1) → IsMissed c d view owed from to
+
 -- The refusal of a request that was just made, in this same step.
 pub data IsRefusedIn (start : Start) (s : State) (client now : ℕ) (c : ModelClient) (d : Doing) (fault : Fault) : Type 0 where
   SessionGone : IsTrue (asks_rows c d) → has_session s.tree c ≡ false → fault ≡ Stale (Session (session_of c)) → IsRefusedIn start s client now c d fault
@@ -409,5 +453,110 @@ pub data IsRefusedIn (start : Start) (s : State) (client now : ℕ) (c : ModelCl
       → IsTrue (not (is_some k.missed) || nat_lt k.first k.view.entry) → fault ≡ Contended (Lists looked found) → IsRefusedIn start s client now c d fault
   BlockOwed : (position commit from to : ℕ) → (view : View) → (owed : List Owed) → IsMissed c d view owed from to → from ≤ position → position < to
       → missing_commit start.shelved owed client (view.origin position) ≡ Some commit → fault ≡ TryAgain commit → IsRefusedIn start s client now c d fault
-  MissedTooOften : (window : ℕ) → (owed : List Owed) → d.stage ≡ LookedAgain MAX_MISSES window owed → fault ≡ Contended (Busy.Misses MAX_MISSES)
+  MissedTooOften : (window : ℕ) → (owed : List Owed) → d.stage ≡ LookedAgain MAX_MISSES window owed → fault ≡ Contended (TooManyMisses MAX_MISSES)
       → IsRefusedIn start s client now c d fault
+
+-- A collection has listed a page and judged it, so that it may end.
+abbrev has_judged : Stage → Bool
+has_judged (Requesting requests) = nat_le 2 requests
+has_judged _ = false
+
+-- no Commit of the client is owed
+abbrev pub owes_none : State → ℕ → Bool
+owes_none s client = not (list_any (λ o. o.client == client) s.owed)
+
+-- the answer of an operation that asks no device, or not any more
+pub record AnswersAtOnce (c : ModelClient) (d : Doing) (told : Told) : Type 0 where
+  pub ready : IsTrue (is_ready c d)
+  pub first : d.moved ≡ false
+  pub same : option_map told_of (answer_then c d) ≡ Some told
+
+-- A read returns the bytes of the fresh views that it cites, and a view of each window that it needs.
+pub record ReadsFresh (c : ModelClient) (d : Doing) (told : Told) : Type 0 where
+  pub goes_on : IsTrue (may_read_on c d)
+  pub file : OpenFile
+  pub opened : file_in_use c d ≡ Some file
+  pub first : ℕ
+  pub second : ℕ
+  pub bytes : List ℕ
+  pub reads : reading c.views (handle_of d.op) file (asked_of d.does) first second ≡ Some bytes
+  pub same : told ≡ Looks first second (length bytes)
+
+abbrev is_last : Part → Bool
+is_last Sessions = false
+is_last Trash = false
+is_last Files = false
+is_last Slices = false
+is_last Blocks = true
+
+-- a cleaning ends when it found nothing more in each part, or had as many items as one may have
+pub record EndsCleaning (d : Doing) (told : Told) : Type 0 where
+  pub k : Cleaning
+  pub stage : d.stage ≡ Cleans k
+  pub over : IsTrue (is_last k.part || (items k == MAX_ITEMS))
+  pub same : told ≡ Fine k.sessions k.trash k.files k.slices
+
+-- a compaction of fewer than two records ends after its look, and another one with its replacement
+pub data EndsCompaction (d : Doing) (told : Told) : Type 0 where
+  TooShort : (k : Compaction) → (records : ℕ) → d.stage ≡ Compacting k → k.quiets ≡ [] → IsTrue (may_compact_on k) → records < 2
+      → told ≡ Fine records records 0 0 → EndsCompaction d told
+  HasReplaced : (k : Compaction) → (before after : ℕ) → d.stage ≡ Compacting k → k.has_replaced ≡ true → 2 ≤ before
+      → told ≡ Fine before after 0 0 → EndsCompaction d told
+
+-- an upload sent a block, or found none that is free to take; where no threads upload, none is staged then
+pub data EndsUpload (alone : Bool) (s : State) (client : ℕ) (c : ModelClient) (d : Doing) (told : Told) : Type 0 where
+  Sent : (id index size : ℕ) → d.stage ≡ Requesting 1 → told ≡ Fine id index size 1 → EndsUpload alone s client c d told
+  FoundNone : IsTrue (is_ready c d) → d.moved ≡ false → IsTrue (not alone || owes_none s client) → told ≡ Fine 0 0 0 0 → EndsUpload alone s client c d told
+
+-- A failure comes before a step: not once the answer is settled, or the last view shows that the read has to end.
+abbrev may_fail : Stage → Bool
+may_fail (Replying answer) = false
+may_fail (LookedAgain misses window owed) = nat_lt misses MAX_MISSES
+may_fail _ = true
+
+-- The answers of an operation, each with what it wants.
+pub data MayAnswer (start : Start) (alone : Bool) (s : State) (client now : ℕ) (c : ModelClient) (d : Doing) (told : Told) : Type 0 where
+  Fails : IsTrue (may_fail d.stage) → IsTrue (is_failure told) → MayAnswer start alone s client now c d told
+  Settles : (answer : Reply) → d.stage ≡ Replying answer → told ≡ told_of answer → MayAnswer start alone s client now c d told
+  AtOnce : AnswersAtOnce c d told → MayAnswer start alone s client now c d told
+  CountsCache : (hits misses cached : ℕ) → d.does ≡ Answers answer.CacheStats → told ≡ Fine hits misses cached (length c.pending)
+      → MayAnswer start alone s client now c d told
+  ReadsViews : ReadsFresh c d told → MayAnswer start alone s client now c d told
+  CleanedUp : EndsCleaning d told → MayAnswer start alone s client now c d told
+  HasCompacted : EndsCompaction d told → MayAnswer start alone s client now c d told
+  HasCollected : (count bytes : ℕ) → d.does ≡ Collects → IsTrue (has_judged d.stage) → told ≡ Fine count bytes 0 0 → MayAnswer start alone s client now c d told
+  HasUploaded : d.does ≡ Uploads → EndsUpload alone s client c d told → MayAnswer start alone s client now c d told
+  Refuses : (fault : Fault) → d.moved ≡ true → IsRefusedIn start s client now c d fault → told ≡ ToldRefused fault → MayAnswer start alone s client now c d told
+
+abbrev MayLook : State → ℕ → ℕ → ModelClient → Doing → ℕ → ℕ → Type 0
+MayLook s client now c d inode window = MatchBool (is_compaction d.does) (CompactionLooks s client now c d inode window) (LooksAt s c d inode window)
+
+abbrev MayMiss : Start → State → ℕ → ModelClient → Doing → ℕ → ℕ → Type 0
+MayMiss start s client c d inode window = MatchBool (is_compaction d.does) (CompactionMisses start s client d inode window) (MissesBlock start s client c d inode window)
+
+-- what an entry of the operation may be
+abbrev pub MayStep : Start → Bool → State → ℕ → ℕ → ModelClient → Doing → ActKind → Type 0
+MayStep start alone s client now c d (Mounted sid) = Transaction s client now c d (Mounted sid)
+MayStep start alone s client now c d Meta = Transaction s client now c d Meta
+MayStep start alone s client now c d (Opened handle inode) = Transaction s client now c d (Opened handle inode)
+MayStep start alone s client now c d (Look inode window) = MayLook s client now c d inode window
+MayStep start alone s client now c d (Commit inode from len staged) = Commits s now c d inode from len staged
+MayStep start alone s client now c d (Truncated inode len) = Changes s client now c d (Truncated inode len)
+MayStep start alone s client now c d (Copied source from target to len) = Changes s client now c d (Copied source from target to len)
+MayStep start alone s client now c d (Compacted inode window from to) = Replaces s now c d inode window from to
+MayStep start alone s client now c d (Settled commit) = Publishes s c d commit
+MayStep start alone s client now c d (Expired sid) = CleansItem s c d Sessions × (due_session s.tree (session_of c) now ≡ Some sid)
+MayStep start alone s client now c d (Purged inode) = CleansItem s c d Trash × (due_purge s.tree now ≡ Some inode)
+MayStep start alone s client now c d (Cleaned table key) = CleansRow s c d table key
+MayStep start alone s client now c d Quiet = IsTrue (may_be_quiet start s client now c d d.stage)
+MayStep start alone s client now c d (Miss inode window) = MayMiss start s client c d inode window
+MayStep start alone s client now c d Crashed = ⊥
+MayStep start alone s client now c d (Ticked by) = ⊥
+MayStep start alone s client now c d (Answered told) = MayAnswer start alone s client now c d told
+
+-- an entry of an operation in progress: it may stand, and begins a step or not
+pub record IsEntry (start : Start) (alone : Bool) (s : State) (client now : ℕ) (kind : ActKind) (begins : Bool) : Type 0 where
+  pub doing : Doing
+  pub busy : (s.clients client).doing ≡ Some doing
+  pub begins_is : begins_step doing kind ≡ begins
+  pub may : MayStep start alone s client now (s.clients client) doing kind
