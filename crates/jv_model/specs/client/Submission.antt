@@ -1,5 +1,5 @@
 -- How an operation begins: what refuses it before its first step, and what it will commit first.
-use Rattle.std.specs.Prelude.{ℕ, ◌+◌, Bool, true, false, ◌&&◌, ◌||◌, not, ◌==◌, nat_lt, nat_le, if◌then◌else◌, List, [], ◌∷◌, length, map, is_some, Option, None, Some}
+use Rattle.std.specs.Prelude.{ℕ, ◌+◌, Bool, true, false, ◌&&◌, ◌||◌, not, nat_lt, nat_le, if◌then◌else◌, List, [], ◌∷◌, length, map, is_some, Option, None, Some}
 use Rattle.std.specs.List.{list_any}
 use Rattle.jv_model.specs.declared.limits.TheConstants.{MAX_HANDLES, FILE_END}
 use Rattle.jv_model.specs.declared.basics.Limits.{Limits}
@@ -9,7 +9,6 @@ use Rattle.jv_model.specs.declared.op.Op.{Op}
 use Rattle.jv_model.specs.declared.profile.Does.{Does}
 use Rattle.jv_model.specs.declared.profile.Does.TheVariants.{Mounts}
 use Rattle.jv_model.specs.declared.profile.Profile.{Profile}
-use Rattle.jv_model.specs.declared.profile.Flushes.{Flushes}
 use Rattle.jv_model.specs.declared.profile.Flushes.TheVariants.{Nothing, ItsFiles, IfFull, Everything}
 use Rattle.jv_model.specs.run.Pending.{PendingByte, Segment, first_segment, pending_of}
 use Rattle.jv_model.specs.client.Profile.{profile, handle_list}

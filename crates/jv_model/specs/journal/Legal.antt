@@ -1,18 +1,18 @@
 -- When a journal is legal for one POSIX tree: every entry may stand where it stands, and every line has its entries.
-use Rattle.std.specs.Prelude.{◌≡◌, ℕ, ◌+◌, ◌≤◌, ◌<◌, min, max, Bool, true, false, ◌&&◌, ◌||◌, not, nat_le, nat_lt, ◌==◌, IsTrue, MatchBool, MatchOption, List, [], ◌∷◌, length, Option, None, Some}
+use Rattle.std.specs.Prelude.{◌≡◌, ℕ, ◌+◌, ◌≤◌, min, max, Bool, true, false, ◌&&◌, ◌||◌, not, nat_le, nat_lt, ◌==◌, IsTrue, MatchBool, MatchOption, List, [], ◌∷◌}
 use Rattle.std.specs.List.{list_any}
 use Rattle.jv_model.specs.declared.limits.TheConstants.{LAST_MOMENT}
 use Rattle.jv_model.specs.declared.act.TheConstants.{NO_CLIENT}
 use Rattle.jv_model.specs.declared.act.Act.{Act}
 use Rattle.jv_model.specs.declared.act.ActKind.{ActKind}
-use Rattle.jv_model.specs.declared.act.ActKind.TheVariants.{Mounted, Meta, Opened, Look, Commit, Truncated, Copied, Compacted, Settled, Expired, Purged, Cleaned, Quiet, Miss, Crashed, Ticked, Answered}
+use Rattle.jv_model.specs.declared.act.ActKind.TheVariants.{Settled, Quiet, Crashed, Ticked, Answered}
 use Rattle.jv_model.specs.declared.act.Told.{Told}
 use Rattle.jv_model.specs.declared.act.Told.TheVariants.{Fine, Refused as ToldRefused}
 use Rattle.jv_model.specs.declared.fault.Fault.{Fault}
 use Rattle.jv_model.specs.declared.fault.Fault.TheVariants.{NoMemory}
 use Rattle.jv_model.specs.journal.State.{State}
-use Rattle.jv_model.specs.journal.Steps.{Start, IsEntry, is_failure, owes_none}
-use Rattle.jv_model.specs.journal.Past.{Setup, Past, Due, NoMore, Refusal, MayLack, ToAnswer, OneStep, StepMade, CrashEntry, TickEntry, DrainEntries, at_start, begun_to, advance, at_end, asks_clock, begins_in, is_workers, is_busy, must_answer, is_over}
+use Rattle.jv_model.specs.journal.Steps.{IsEntry, is_failure, owes_none}
+use Rattle.jv_model.specs.journal.Past.{Setup, Past, Due, NoMore, Refusal, MayLack, ToAnswer, OneStep, StepMade, CrashEntry, TickEntry, DrainEntries, at_start, begun_to, advance, at_end, asks_clock, begins_in, is_workers, is_busy, ends_in_step, is_over}
 
 -- the moment of the clock's next answer, with the seconds that lines let pass
 abbrev clock_moment : Past → ℕ → (ℕ → ℕ) → ℕ
@@ -93,9 +93,9 @@ may_stop p = elim p.due [
   | NoMore ↦ true
   | Refusal client fault ↦ true
   | MayLack client ↦ true
-  | ToAnswer client ↦ not (must_answer (p.state.clients client))
+  | ToAnswer client ↦ not (ends_in_step (p.state.clients client))
   | OneStep client ↦ true
-  | StepMade client ↦ not (must_answer (p.state.clients client))
+  | StepMade client ↦ not (ends_in_step (p.state.clients client))
   | CrashEntry client ↦ true
   | TickEntry by ↦ true
   | DrainEntries client ↦ true

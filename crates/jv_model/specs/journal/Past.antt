@@ -1,10 +1,10 @@
 -- A run so far: its lines, what the present one may still have, what is printed, and the clock, beside the state that its
 -- entries have come to. A journal is folded over its entries; before an entry the lines up to its own are begun.
-use Rattle.std.specs.Prelude.{ℕ, zero, suc, ◌+◌, ◌-◌, ◌*◌, min, Bool, true, false, ◌&&◌, not, ◌==◌, if◌then◌else◌, List, [], ◌∷◌, ◌++◌, length, is_some, Option, None, Some, codes, decimal}
+use Rattle.std.specs.Prelude.{ℕ, zero, suc, ◌+◌, ◌-◌, Bool, true, false, ◌&&◌, not, if◌then◌else◌, List, [], ◌∷◌, ◌++◌, length, is_some, Option, None, Some, codes, decimal}
 use Rattle.jv_model.specs.declared.basics.Limits.{Limits}
 use Rattle.jv_model.specs.declared.act.Act.{Act}
 use Rattle.jv_model.specs.declared.act.ActKind.{ActKind}
-use Rattle.jv_model.specs.declared.act.ActKind.TheVariants.{Mounted, Meta, Opened, Look, Commit, Truncated, Copied, Compacted, Settled, Expired, Purged, Cleaned, Quiet, Miss, Crashed, Ticked, Answered}
+use Rattle.jv_model.specs.declared.act.ActKind.TheVariants.{Crashed, Ticked, Answered}
 use Rattle.jv_model.specs.declared.act.Told.{Told}
 use Rattle.jv_model.specs.declared.act.Told.TheVariants.{Fine, Looks, Refused as ToldRefused}
 use Rattle.jv_model.specs.declared.fault.Fault.{Fault}
@@ -18,13 +18,12 @@ use Rattle.jv_model.specs.declared.profile.Answer.{Answer}
 use Rattle.jv_model.specs.declared.profile.Answer.TheVariants as answer
 use Rattle.jv_model.specs.declared.profile.Does.{Does}
 use Rattle.jv_model.specs.declared.profile.Does.TheVariants.{Answers, Mounts, Transacts, Releases, Reads, Truncates, Copies, Compacts, Cleans as DoesClean, Collects, Uploads}
-use Rattle.jv_model.specs.tree.Tree.{Tree}
-use Rattle.jv_model.specs.client.ModelClient.{ModelClient, OpenFile, Doing, Stage, Replying, is_replying}
+use Rattle.jv_model.specs.client.ModelClient.{ModelClient, Doing, Stage, Replying}
 use Rattle.jv_model.specs.client.Submission.{submission, submitted}
 use Rattle.jv_model.specs.client.Profile.{handle_of}
-use Rattle.jv_model.specs.journal.State.{State, state_at_start, set_client, effect, reply_of_answer}
+use Rattle.jv_model.specs.journal.State.{State, state_at_start, set_client, effect}
 use Rattle.jv_model.specs.journal.Reading.{reading}
-use Rattle.jv_model.specs.journal.Steps.{Start, asked_of, file_in_use, begins_step}
+use Rattle.jv_model.specs.journal.Steps.{Start, asked_of, file_in_use, begins_step, must_answer}
 use Rattle.jv_model.specs.script.ReplyText.{printed_line}
 
 -- what a run begins with, and what it ends with
@@ -82,13 +81,13 @@ at_start run = record {
 abbrev pub with_feed : List ℕ → List ℕ
 with_feed text = text ++ 10 ∷ []
 
-abbrev must_answer_in : Option Doing → Bool
-must_answer_in None = false
-must_answer_in (Some d) = is_replying d.stage
+abbrev ends_now : Option Doing → Bool
+ends_now None = false
+ends_now (Some d) = must_answer d
 
--- the answer of the client's operation is settled, and has to come in this step
-abbrev pub must_answer : ModelClient → Bool
-must_answer c = must_answer_in c.doing
+-- the answer of the client's operation has to come in this step
+abbrev pub ends_in_step : ModelClient → Bool
+ends_in_step c = ends_now c.doing
 
 -- whether a line may end here: an operation that goes on may be left after a step, or before it began
 abbrev pub is_over : Past → Bool
@@ -98,7 +97,7 @@ is_over p = elim p.due [
   | MayLack client ↦ true
   | ToAnswer client ↦ false
   | OneStep client ↦ false
-  | StepMade client ↦ not (must_answer (p.state.clients client))
+  | StepMade client ↦ not (ends_in_step (p.state.clients client))
   | CrashEntry client ↦ false
   | TickEntry by ↦ false
   | DrainEntries client ↦ false

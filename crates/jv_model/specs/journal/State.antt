@@ -1,7 +1,6 @@
 -- What a journal has come to, and what one more entry does to it: the tree, the clients, and whose blocks are owed. It
 -- knows no lines, clock or text.
-use Rattle.std.specs.Prelude.{ℕ, ◌+◌, ◌*◌, ◌-◌, min, Bool, true, false, ◌&&◌, ◌||◌, not, ◌==◌, nat_lt, nat_le, if◌then◌else◌, List, [], ◌∷◌, ◌++◌, map, filter, length, is_some, unwrap_or, Option, None, Some}
-use Rattle.std.specs.List.{list_any}
+use Rattle.std.specs.Prelude.{ℕ, ◌+◌, Bool, true, false, ◌&&◌, not, ◌==◌, nat_lt, if◌then◌else◌, List, [], ◌∷◌, ◌++◌, map, filter, is_some, Option, None, Some}
 use Rattle.jv_model.specs.declared.limits.TheConstants.{TRASH_ROOT}
 use Rattle.jv_model.specs.declared.act.Act.{Act}
 use Rattle.jv_model.specs.declared.act.ActKind.{ActKind}
@@ -10,7 +9,6 @@ use Rattle.jv_model.specs.declared.act.Told.{Told}
 use Rattle.jv_model.specs.declared.act.Told.TheVariants.{Fine, Looks, Refused as ToldRefused}
 use Rattle.jv_model.specs.declared.fault.Fault.{Fault}
 use Rattle.jv_model.specs.declared.fault.Fault.TheVariants.{InProgress, NoSpace, Stale}
-use Rattle.jv_model.specs.declared.fault.Gone.{Gone}
 use Rattle.jv_model.specs.declared.fault.Gone.TheVariants.{Session, Node}
 use Rattle.jv_model.specs.declared.op.Op.{Op}
 use Rattle.jv_model.specs.declared.op.Op.TheVariants as op
@@ -28,10 +26,10 @@ use Rattle.jv_model.specs.tree.TreeAct.{tree_act}
 use Rattle.jv_model.specs.tree.FileBytes.{committed, truncated, copied}
 use Rattle.jv_model.specs.tree.Sessions.{expired}
 use Rattle.jv_model.specs.tree.Trash.{purged}
-use Rattle.jv_model.specs.run.Pending.{PendingByte, written, without_range, bytes_in_range, pending_of_others}
-use Rattle.jv_model.specs.client.Origins.{Origin, Mark, Marks, Owed, first_marks, marks_committed, marks_truncated, marks_copied, marks_compacted}
+use Rattle.jv_model.specs.run.Pending.{written, without_range, bytes_in_range, pending_of_others}
+use Rattle.jv_model.specs.client.Origins.{Marks, Owed, first_marks, marks_committed, marks_truncated, marks_copied, marks_compacted}
 use Rattle.jv_model.specs.client.Profile.{profile, handle_list, handle_of}
-use Rattle.jv_model.specs.client.ModelClient.{ModelClient, OpenFile, View, Doing, Stage, Part, Sessions, Trash, Files, Slices, Blocks, Cleaning, Compaction, Working, Reading, Missing, LookedAgain, Compacting, Cleans, Requesting, Replying, unmounted, session_of, with_stage, with_file, file_of, free_handle, inode_at, held_inodes, is_among, is_last_of_removed, views_without}
+use Rattle.jv_model.specs.client.ModelClient.{ModelClient, OpenFile, View, Doing, Stage, Part, Sessions, Trash, Files, Slices, Blocks, Cleaning, Working, Reading, Missing, LookedAgain, Compacting, Cleans, Requesting, Replying, unmounted, session_of, with_stage, with_file, file_of, free_handle, inode_at, held_inodes, is_last_of_removed, views_without}
 use Rattle.jv_model.specs.client.Submission.{is_flushed}
 use Rattle.jv_model.specs.journal.Reading.{Asked, asked_parts, fresh_view}
 
@@ -207,6 +205,10 @@ look_refusal t c inode = (if not (has_session t c) then Some (session_gone c)
     else if is_some (node_at t inode) then None
     else Some (reply.Refused (Stale (Node inode))))
 
+-- a look that is refused settles the answer
+abbrev refused_look : State → ModelClient → ℕ → Stage → Stage
+refused_look s c inode stage = elim (look_refusal s.tree c inode) [ None ↦ stage | Some answer ↦ Replying answer ]
+
 abbrev sees : ModelClient → ℕ → Option OpenFile → List Asked → Bool
 sees c handle None parts = false
 sees c handle (Some file) [] = false
@@ -222,7 +224,7 @@ begun_quietly s client c now d (Answers told) = d.stage
 begun_quietly s client c now d (Mounts writeback) = d.stage
 begun_quietly s client c now d Transacts = d.stage
 begun_quietly s client c now d Releases = d.stage
-begun_quietly s client c now d (Reads offset len) = (if sees_first c d (asked_parts offset len) then Reading 0 else elim (look_refusal s.tree c (inode_at c (handle_of d.op))) [ None ↦ d.stage | Some answer ↦ Replying answer ])
+begun_quietly s client c now d (Reads offset len) = (if sees_first c d (asked_parts offset len) then Reading 0 else refused_look s c (inode_at c (handle_of d.op)) d.stage)
 begun_quietly s client c now d Truncates = Replying (refusal_in (transacted s client now d.op).reply)
 begun_quietly s client c now d Copies = Replying (refusal_in (transacted s client now d.op).reply)
 begun_quietly s client c now d Compacts = Replying (refusal_in (transacted s client now d.op).reply)
@@ -236,9 +238,11 @@ quieted s client c now d (Working quiets started) = (if is_flushed d.flush c.pen
     then begun_quietly s client c now d d.does
     else flushing_on s c now quiets started)
 quieted s client c now d (Reading misses) = Reading misses
-quieted s client c now d (Missing misses window owed) = Missing misses window owed
+quieted s client c now d (Missing misses window owed) = refused_look s c (inode_at c (handle_of d.op)) (Missing misses window owed)
 quieted s client c now d (LookedAgain misses window owed) = Reading misses
-quieted s client c now d (Compacting k) = Compacting (record k { quiets = now ∷ k.quiets })
+quieted s client c now d (Compacting k) = (if is_some k.missed
+    then refused_look s c k.view.inode (Compacting k)
+    else Compacting (record k { quiets = now ∷ k.quiets }))
 quieted s client c now d (Cleans k) = cleaning_on s c k
 quieted s client c now d (Requesting requests) = Requesting (requests + 1)
 quieted s client c now d (Replying answer) = Replying answer

@@ -1,6 +1,6 @@
 -- What an entry of a client's operation may be, by the state alone: the requests of the operation in their order, each with
 -- the operation's own numbers, and the answers with their causes.
-use Rattle.std.specs.Prelude.{◌≡◌, ℕ, ◌+◌, ◌-◌, ◌*◌, ◌≤◌, ◌<◌, Bool, true, false, ◌&&◌, ◌||◌, not, ◌==◌, nat_le, nat_lt, if◌then◌else◌, IsTrue, MatchBool, IsSomeAnd, List, [], ◌∷◌, length, is_some, Option, None, Some, Result, Ok, Err}
+use Rattle.std.specs.Prelude.{◌≡◌, ℕ, ◌+◌, ◌*◌, ◌≤◌, ◌<◌, Bool, true, false, ◌&&◌, ◌||◌, not, ◌==◌, nat_le, nat_lt, if◌then◌else◌, IsTrue, MatchBool, IsSomeAnd, List, [], ◌∷◌, length, is_some, Option, None, Some, Result, Ok, Err}
 use Rattle.std.specs.List.{list_any}
 use Rattle.std.specs.Option.{option_map}
 use Rattle.jv_model.specs.declared.limits.TheConstants.{FULL_COUNT, FILE_END, WINDOW, UPLOAD_LIFE, MAX_MISSES, MAX_ITEMS}
@@ -16,7 +16,6 @@ use Rattle.jv_model.specs.declared.op.Op.{Op}
 use Rattle.jv_model.specs.declared.op.Op.TheVariants as op
 use Rattle.jv_model.specs.declared.op.Reply.{Reply}
 use Rattle.jv_model.specs.declared.op.Reply.TheVariants as reply
-use Rattle.jv_model.specs.declared.profile.Answer.{Answer}
 use Rattle.jv_model.specs.declared.profile.Answer.TheVariants as answer
 use Rattle.jv_model.specs.declared.profile.Does.{Does}
 use Rattle.jv_model.specs.declared.profile.Does.TheVariants.{Answers, Mounts, Transacts, Releases, Reads, Truncates, Copies, Compacts, Cleans as DoesClean, Collects, Uploads}
@@ -28,7 +27,7 @@ use Rattle.jv_model.specs.tree.Reading.{compact_inode}
 use Rattle.jv_model.specs.tree.Sessions.{due_session}
 use Rattle.jv_model.specs.tree.Trash.{due_purge}
 use Rattle.jv_model.specs.run.Pending.{Segment, bytes_in_range}
-use Rattle.jv_model.specs.client.Origins.{Origin, Owed, missing_commit}
+use Rattle.jv_model.specs.client.Origins.{Owed, missing_commit}
 use Rattle.jv_model.specs.client.Profile.{handle_of}
 use Rattle.jv_model.specs.client.ModelClient.{ModelClient, OpenFile, View, Doing, Stage, Part, Sessions, Trash, Files, Slices, Blocks, Cleaning, Compaction, Working, Reading, Missing, LookedAgain, Compacting, Cleans, Requesting, Replying, session_of, file_of, inode_at, is_among}
 use Rattle.jv_model.specs.client.Submission.{next_segment, is_flushed}
@@ -215,10 +214,14 @@ abbrev compaction_target : Tree → Caller → Op → Result (ℕ × ℕ) Fault
 compaction_target t who (op.Compact path window) = compact_inode t who path >>= λ inode. Ok (inode, window)
 compaction_target t who o = Err Invalid
 
+-- a block was missed, and the window wasn't looked at again yet
+abbrev pub has_to_look_again : Compaction → Bool
+has_to_look_again k = is_some k.missed && (k.view.entry == k.first)
+
 -- A compaction looks at the window of its path's file first, and again after a block of it wasn't found.
 pub data CompactionLooks (s : State) (client now : ℕ) (c : ModelClient) (d : Doing) (inode window : ℕ) : Type 0 where
   First : IsTrue (is_ready c d) → compaction_target s.tree (caller c client now d.op) d.op ≡ Ok (inode, window) → CompactionLooks s client now c d inode window
-  Again : (k : Compaction) → d.stage ≡ Compacting k → IsTrue (is_some k.missed) → IsTrue (k.view.entry == k.first) → inode ≡ k.view.inode → window ≡ k.view.window
+  Again : (k : Compaction) → d.stage ≡ Compacting k → IsTrue (has_to_look_again k) → inode ≡ k.view.inode → window ≡ k.view.window
       → IsTrue (has_session s.tree c) → IsTrue (is_some (node_at s.tree inode)) → CompactionLooks s client now c d inode window
 
 -- a compaction that missed no block and replaced nothing goes on
@@ -334,9 +337,9 @@ is_collecting _ = false
 abbrev pub may_be_quiet : Start → State → ℕ → ℕ → ModelClient → Doing → Stage → Bool
 may_be_quiet start s client now c d (Working quiets started) = (if is_flushed d.flush c.pending then (quiets == 0) && may_begin_quietly start s client now c d else true)
 may_be_quiet start s client now c d (Reading misses) = true
-may_be_quiet start s client now c d (Missing misses window owed) = false
+may_be_quiet start s client now c d (Missing misses window owed) = is_some (look_refusal s.tree c (inode_at c (handle_of d.op)))
 may_be_quiet start s client now c d (LookedAgain misses window owed) = nat_lt misses MAX_MISSES
-may_be_quiet start s client now c d (Compacting k) = may_compact_on k
+may_be_quiet start s client now c d (Compacting k) = may_compact_on k || has_to_look_again k && is_some (look_refusal s.tree c k.view.inode)
 may_be_quiet start s client now c d (Cleans k) = nat_lt (items k) MAX_ITEMS && (finds_none s c now k.part || not (has_session s.tree c))
 may_be_quiet start s client now c d (Requesting requests) = is_collecting d.does
 may_be_quiet start s client now c d (Replying answer) = false
@@ -354,6 +357,19 @@ abbrev pub is_failure : Told → Bool
 is_failure (ToldRefused NoMemory) = true
 is_failure (ToldRefused (DeviceFailed device)) = true
 is_failure _ = false
+
+-- whether the step that was made ends the operation: its answer comes in that step, and nothing else may
+abbrev pub must_answer : Doing → Bool
+must_answer d = elim d.stage [
+  | Working quiets started ↦ false
+  | Reading misses ↦ false
+  | Missing misses window owed ↦ false
+  | LookedAgain misses window owed ↦ nat_le MAX_MISSES misses
+  | Compacting k ↦ k.has_replaced || is_some k.missed && not (has_to_look_again k)
+  | Cleans k ↦ nat_le MAX_ITEMS (items k)
+  | Requesting requests ↦ not (is_collecting d.does)
+  | Replying answer ↦ true
+]
 
 -- whether an entry begins a step: each does but the answer that ends a step that was made
 abbrev pub begins_step : Doing → ActKind → Bool
@@ -508,15 +524,9 @@ pub data EndsUpload (alone : Bool) (s : State) (client : ℕ) (c : ModelClient) 
   Sent : (id index size : ℕ) → d.stage ≡ Requesting 1 → told ≡ Fine id index size 1 → EndsUpload alone s client c d told
   FoundNone : IsTrue (is_ready c d) → d.moved ≡ false → IsTrue (not alone || owes_none s client) → told ≡ Fine 0 0 0 0 → EndsUpload alone s client c d told
 
--- A failure comes before a step: not once the answer is settled, or the last view shows that the read has to end.
-abbrev may_fail : Stage → Bool
-may_fail (Replying answer) = false
-may_fail (LookedAgain misses window owed) = nat_lt misses MAX_MISSES
-may_fail _ = true
-
 -- The answers of an operation, each with what it wants.
 pub data MayAnswer (start : Start) (alone : Bool) (s : State) (client now : ℕ) (c : ModelClient) (d : Doing) (told : Told) : Type 0 where
-  Fails : IsTrue (may_fail d.stage) → IsTrue (is_failure told) → MayAnswer start alone s client now c d told
+  Fails : must_answer d ≡ false → IsTrue (is_failure told) → MayAnswer start alone s client now c d told
   Settles : (answer : Reply) → d.stage ≡ Replying answer → told ≡ told_of answer → MayAnswer start alone s client now c d told
   AtOnce : AnswersAtOnce c d told → MayAnswer start alone s client now c d told
   CountsCache : (hits misses cached : ℕ) → d.does ≡ Answers answer.CacheStats → told ≡ Fine hits misses cached (length c.pending)
