@@ -11,7 +11,7 @@ use Rattle.jv_model.specs.declared.op.Line.{Line}
 use Rattle.jv_model.specs.declared.op.Line.TheVariants.{Do}
 use Rattle.jv_model.specs.declared.op.Op.TheVariants.{Mount, Create, Open, Close, Read, Write}
 use Rattle.jv_model.specs.declared.setting.Setting.{Setting}
-use Rattle.jv_model.specs.FiniteMap.{get, insert, sum_over}
+use Rattle.jv_model.proofs.TreeComputes.{tree_computes}
 use Rattle.jv_model.specs.tree.Tree.{fresh_tree, link_count}
 use Rattle.jv_model.specs.run.Client.{ModelClient, OpenFile, Doing, Flushing, is_replying, left_to_flush, file_of, handle_in}
 use Rattle.jv_model.specs.run.Past.{Setup, Past, View, reading, or_no_bytes, at_start, begun_to, begin_next, advance, after, reached, at_end, text_of}
@@ -66,7 +66,7 @@ abbrev run : Setup
 run = record { start = fresh_tree plain_setting 1000; script = first_row; limits = record { buffer = 33554432; entries = 16; writeback = false }; uploads = 0; clock = Some (λ _. 1000); status = 0 }
 
 first_row_is_allowed : AllAllowed (at_start run) first_journal
-unfolding begun_to begin_next advance after get insert sum_over
+unfolding begun_to begin_next advance after tree_computes
 first_row_is_allowed = (
   record { line = refl; complete = refl; moment = refl; stands = (refl, record { stage = refl; same = refl }) },
   (
@@ -109,11 +109,11 @@ first_row_is_allowed = (
 )
 
 first_row_ends : IsTrue (ends_well run (at_end run first_journal))
-unfolding begun_to begin_next advance after get insert sum_over
+unfolding begun_to begin_next advance after tree_computes
 first_row_ends = refl
 
 first_row_prints : text_of run first_journal ≡ flat_map (λ line. line ++ 10 ∷ []) first_text
-unfolding begun_to begin_next advance after get insert sum_over replies_on_literals
+unfolding begun_to begin_next advance after tree_computes replies_on_literals
 first_row_prints = refl
 
 abbrev run_of : List Line → Setup
@@ -130,7 +130,7 @@ empty_journal =
     []
 
 empty_is_legal : Legal empty_run empty_journal
-unfolding begun_to begin_next advance after get insert sum_over
+unfolding begun_to begin_next advance after tree_computes
 empty_is_legal = record {
   ends = refl;
   allowed =
@@ -140,7 +140,7 @@ empty_is_legal = record {
 empty_prints : text_of empty_run empty_journal ≡ flat_map (λ line. line ++ 10 ∷ []) (
     []
     )
-unfolding begun_to begin_next advance after get insert sum_over replies_on_literals
+unfolding begun_to begin_next advance after tree_computes replies_on_literals
 empty_prints = refl
 
 -- a file that isn't there
@@ -160,7 +160,7 @@ absent_journal =
     ∷ []
 
 absent_is_legal : Legal absent_run absent_journal
-unfolding begun_to begin_next advance after get insert sum_over
+unfolding begun_to begin_next advance after tree_computes
 absent_is_legal = record {
   ends = refl;
   allowed = (
@@ -180,7 +180,7 @@ absent_prints : text_of absent_run absent_journal ≡ flat_map (λ line. line ++
     ∷ codes "err ENOENT"
     ∷ []
     )
-unfolding begun_to begin_next advance after get insert sum_over replies_on_literals
+unfolding begun_to begin_next advance after tree_computes replies_on_literals
 absent_prints = refl
 
 -- two writes that overlap, read back; a read past the end; a handle that isn't open
@@ -215,7 +215,7 @@ overlap_journal =
     ∷ []
 
 overlap_is_legal : Legal overlap_run overlap_journal
-unfolding begun_to begin_next advance after get insert sum_over
+unfolding begun_to begin_next advance after tree_computes
 overlap_is_legal = record {
   ends = refl;
   allowed = (
@@ -270,7 +270,7 @@ overlap_prints : text_of overlap_run overlap_journal ≡ flat_map (λ line. line
     ∷ codes "err EBADF"
     ∷ []
     )
-unfolding begun_to begin_next advance after get insert sum_over replies_on_literals
+unfolding begun_to begin_next advance after tree_computes replies_on_literals
 overlap_prints = refl
 
 -- answers that may not stand
@@ -285,7 +285,7 @@ closes_flushed p client c doing handle op stage (ReadsFresh h offset len first s
 
 -- the two bytes of the first row are still pending
 close_comes_early : Allowed (begun_to 4 (reached run (take 5 first_journal))) (entry 4 (Answered (Fine 0 0 0 0))) → ⊥
-unfolding begun_to begin_next advance after get insert sum_over
+unfolding begun_to begin_next advance after tree_computes
 close_comes_early h = let e = closes_flushed _ 0 _ _ 1 refl refl h.stands.1 in cc
 
 -- A run that a fault ends stops before a step. The first row's close has its answer in the step of its commit, so no
@@ -294,7 +294,7 @@ stopped_after : ℕ → Bool
 stopped_after entries = may_stop (begun_to 4 (reached run (take entries first_journal))) (begun_to 4 (reached run (take entries first_journal))).due
 
 stops_before_a_step : map stopped_after (5 ∷ 6 ∷ 7 ∷ 8 ∷ []) ≡ true ∷ true ∷ true ∷ false ∷ []
-unfolding begun_to begin_next advance after get insert sum_over stopped_after
+unfolding begun_to begin_next advance after tree_computes stopped_after
 stops_before_a_step = refl
 
 -- want of memory is told before a step
@@ -307,7 +307,7 @@ is_early p client c doing handle op stage (ReadsFresh h offset len first second 
 
 -- and not once the first row's close is committed
 memory_comes_late : Allowed (begun_to 4 (reached run (take 8 first_journal))) (entry 4 (Answered (ToldRefused NoMemory))) → ⊥
-unfolding begun_to begin_next advance after get insert sum_over
+unfolding begun_to begin_next advance after tree_computes
 memory_comes_late h = let e = is_early _ 0 _ _ 1 refl refl h.stands.1 in cc
 
 -- what a read gives by an operation's own numbers
@@ -348,7 +348,7 @@ reads p client c doing first second len s (ReadsFresh h offset n f g file bytes 
 
 -- the first row's read tells one byte for its two
 read_tells_too_few : Allowed (begun_to 6 (reached run (take 12 first_journal))) (entry 6 (Answered (Looks 12 0 1))) → ⊥
-unfolding begun_to begin_next advance after get insert sum_over
+unfolding begun_to begin_next advance after tree_computes
 read_tells_too_few h =
     let r = reads _ 0 _ _ 12 0 1 refl h.stands.1 in
     let two : 2 ≡ length r.bytes = ap (λ o. length (or_no_bytes o)) r.gives in
@@ -381,7 +381,7 @@ stale_journal =
     ∷ []
 
 stale_is_allowed : AllAllowed (at_start stale_run) stale_journal
-unfolding begun_to begin_next advance after get insert sum_over
+unfolding begun_to begin_next advance after tree_computes
 stale_is_allowed = (
   record { line = refl; complete = refl; moment = refl; stands = (refl, record { stage = refl; same = refl }) },
   (
@@ -413,10 +413,10 @@ stale_is_allowed = (
 
 -- the look at the empty file is older than the client's own commit
 read_cites_stale_look : Allowed (begun_to 5 (reached stale_run stale_journal)) (entry 5 (Answered (Looks 5 0 0))) → ⊥
-unfolding begun_to begin_next advance after get insert sum_over
+unfolding begun_to begin_next advance after tree_computes
 read_cites_stale_look h = let r = reads _ 0 _ _ 5 0 0 refl h.stands.1 in let no = r.gives in cc
 
 -- a root without entries has two links
 root_has_two_links : link_count (fresh_tree plain_setting 0) 1 ≡ 2
-unfolding get insert sum_over
+unfolding tree_computes
 root_has_two_links = refl

@@ -3,6 +3,9 @@ pub mod PrintedExamples
 pub mod GrammarExamples
 pub mod ReplyTextExamples
 pub mod FiniteMapLaws
+pub mod TreeComputes
+pub mod TreeRuns
+pub mod TreeExamples
 pub mod LegalExamples
 pub mod PastLaws
 pub mod LooksLaws

@@ -1,5 +1,5 @@
 -- Finite maps that compute in closed proofs: a list of entries whose keys strictly rise.
-use Rattle.std.specs.Prelude.{◌≡◌, ℕ, ◌+◌, not, List, [], ◌∷◌, Option, None, Some}
+use Rattle.std.specs.Prelude.{◌≡◌, ℕ, ◌+◌, Bool, true, false, not, List, [], ◌∷◌, filter, Option, None, Some}
 use Rattle.std.proofs.Common.{T}
 use Rattle.std.specs.Coded.{Coded, coded×, coded_list}
 use base.Stored.{coded_via}
@@ -34,6 +34,11 @@ abbrev pub total_over : {K X : Type 0} → (K → X → ℕ) → List (K × X) �
 total_over f [] = 0
 total_over f (e ∷ es) = f e.0 e.1 + total_over f es
 
+-- the first entry that passes a test
+abbrev pub first_passing : {K X : Type 0} → (K → X → Bool) → List (K × X) → Option (K × X)
+first_passing test [] = None
+first_passing test (e ∷ es) = elim (test e.0 e.1) [ true ↦ Some e | false ↦ first_passing test es ]
+
 module _ {K X : Type 0} {order : KeyOrder K} where
   -- the map without entries
   abbrev pub empty_map : Map order X
@@ -53,6 +58,21 @@ module _ {K X : Type 0} {order : KeyOrder K} where
     list = where_key order.cmp (λ q. not (eq_by_cmp order.cmp k q)) m.list;
     sorted = is_sorted-where_key order.cmp (λ q. not (eq_by_cmp order.cmp k q)) m.list m.sorted;
   }
+
+  -- the entries whose keys pass a test
+  unfoldable pub retain_keys : (K → Bool) → Map order X → Map order X
+  retain_keys test m = record {
+    list = where_key order.cmp test m.list;
+    sorted = is_sorted-where_key order.cmp test m.list m.sorted;
+  }
+
+  -- the first entry, in the order of keys, that passes a test
+  unfoldable pub first_where : (K → X → Bool) → Map order X → Option (K × X)
+  first_where test m = first_passing test m.list
+
+  -- the entries that pass a test, in the order of keys
+  unfoldable pub entries_where : (K → X → Bool) → Map order X → List (K × X)
+  entries_where test m = filter (λ e. test e.0 e.1) m.list
 
   -- with this value at the key, or without an entry there
   abbrev pub alter : Map order X → K → Option X → Map order X

@@ -5,5 +5,7 @@ pub mod Counts
 pub mod tree
 pub mod script
 pub mod run
+pub mod client
+pub mod journal
 pub mod blocks
 pub mod rows

@@ -10,6 +10,7 @@ mod journal;
 mod laws;
 mod limits;
 mod op;
+mod profile;
 mod row;
 mod sequence;
 mod setting;
@@ -25,11 +26,13 @@ pub use laws::{
     fresh_views_are_fresh_looks, journals_grow, parts_read_are_of_fresh_looks, views_show_the_file,
 };
 pub use limits::{
-    DEFAULT_BLOCK, DEFAULT_BUFFER, FILE_END, FULL_COUNT, GIB, KIB, LAST_MOMENT, MAX_BLOCK,
-    MAX_BLOCKS, MAX_BUCKET, MAX_CAPACITY, MAX_DATA, MAX_HANDLES, MAX_LINE, MAX_LINES, MAX_NAME,
-    MAX_PATH, MAX_TICK, MAX_TRASH_DAYS, MIB, MIN_BLOCK, ROOT, SPACE_UNIT, TRASH_ROOT, WINDOW,
+    DAY, DEFAULT_BLOCK, DEFAULT_BUFFER, DIRECTORY_LENGTH, FILE_END, FIRST_HOUR, FULL_COUNT, GIB,
+    HOUR, KIB, LAST_MOMENT, MAX_BLOCK, MAX_BLOCKS, MAX_BUCKET, MAX_CAPACITY, MAX_DATA, MAX_HANDLES, MAX_ITEMS,
+    MAX_LINE, MAX_LINES, MAX_LINKS, MAX_MISSES, MAX_NAME, MAX_PATH, MAX_SYMLINKS, MAX_TICK, MAX_TRASH_DAYS,
+    MIB, MIN_BLOCK, ROOT, SESSION_LIFE, SPACE_UNIT, TRASH_ROOT, UPLOAD_LIFE, WINDOW,
 };
 pub use op::{Line, Op, Reply, Step};
+pub use profile::{Answer, Does, Flushes, Handles, Profile};
 pub use row::{
     Counters, Dead, Dropped, Edge, Finding, Findings, Node, Row, RowKey, RowList, Rows, Session,
     SliceRow,

@@ -1,5 +1,4 @@
 //! A volume's setting, and what `stat` and `statfs` return.
-use crate::basics::Moment;
 use crate::bytes::Text;
 use crate::limits::{FULL_COUNT, GIB};
 
@@ -71,8 +70,10 @@ pub struct Attr {
     pub gid: u32,
     /// The length in bytes; 4,096 for a directory.
     pub size: u64,
-    pub mtime: Moment,
-    pub ctime: Moment,
+    /// Seconds.
+    pub mtime: u64,
+    /// Seconds.
+    pub ctime: u64,
 }
 
 /// What `statfs` returns of a volume.

@@ -93,8 +93,8 @@ pub(crate) fn push_attr(text: &mut Vec<u8>, attr: &Attr) -> Result<(), AllocErro
             u64::from(attr.uid),
             u64::from(attr.gid),
             attr.size,
-            attr.mtime.seconds(),
-            attr.ctime.seconds(),
+            attr.mtime,
+            attr.ctime,
         ],
     )
 }

@@ -1,6 +1,4 @@
-use jv_model::{
-    Attr, BlockId, Busy, Fault, FileKind, Gone, Moment, Reply, Sequence, Setting, copied,
-};
+use jv_model::{Attr, BlockId, Busy, Fault, FileKind, Gone, Reply, Sequence, Setting, copied};
 use jv_script::print_reply;
 use std::test::*;
 
@@ -25,8 +23,8 @@ fn answers_are_printed(rt: HostRuntime) -> Result<(), Fail> {
         uid: 3,
         gid: 4,
         size: 5,
-        mtime: Moment(6),
-        ctime: Moment(7),
+        mtime: 6,
+        ctime: 7,
     };
     let mut entries = Vec::new(alloc);
     entries.push((copied(alloc, b"a b/")?, 2))?;

@@ -1,6 +1,6 @@
 -- Where a journal so far leads: the lines begun, the tree and the clients reached, and the views taken. A journal is
 -- read from its first entry on, one entry at a time.
-use Rattle.std.specs.Prelude.{ℕ, zero, suc, ◌+◌, ◌-◌, ◌*◌, ◌/◌, ◌^◌, min, Bool, true, false, ◌&&◌, ◌||◌, not, ◌==◌, nat_lt, nat_le, if◌then◌else◌, List, [], ◌∷◌, ◌++◌, map, length, unwrap_or, Option, None, Some}
+use Rattle.std.specs.Prelude.{ℕ, zero, suc, ◌+◌, ◌-◌, ◌*◌, ◌/◌, min, Bool, true, false, ◌&&◌, ◌||◌, not, ◌==◌, nat_lt, nat_le, if◌then◌else◌, List, [], ◌∷◌, ◌++◌, map, length, unwrap_or, Option, None, Some}
 use Rattle.jv_model.specs.declared.limits.TheConstants.{FILE_END}
 use Rattle.jv_model.specs.declared.basics.Limits.{Limits}
 use Rattle.jv_model.specs.declared.act.Act.{Act}
@@ -134,8 +134,22 @@ with_stage stage client = elim client.doing [
   | Some doing ↦ record client { doing = Some (record doing { stage = stage }) }
 ]
 
+-- the inodes of a client's open files
+abbrev pub held_inodes : List (Option OpenFile) → List ℕ
+held_inodes [] = []
+held_inodes (None ∷ files) = held_inodes files
+held_inodes (Some file ∷ files) = file.inode ∷ held_inodes files
+
 abbrev pub caller : Past → ℕ → ModelClient → ℕ → Caller
-caller p client c now = record { client = client; sid = unwrap_or c.session 0; now = now; free_handle = free_handle c.handles }
+caller p client c now = record {
+  client = client;
+  sid = unwrap_or c.session 0;
+  now = now;
+  free_handle = free_handle c.handles;
+  held = held_inodes c.handles;
+  inode = 0;
+  other = 0;
+}
 
 -- the operation's transaction at a moment
 abbrev pub transacted : Past → ℕ → ℕ → Op → Outcome

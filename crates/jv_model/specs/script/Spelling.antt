@@ -1,5 +1,5 @@
 -- How the fields of a script's line are spelled: words, numbers, modes, digits and letters.
-use Rattle.std.specs.Prelude.{ℕ, ◌+◌, ◌-◌, ◌*◌, Bool, true, false, ◌&&◌, ◌||◌, not, ◌==◌, nat_lt, nat_le, if◌then◌else◌, List, [], ◌∷◌, length, Option, None, Some, option_and_then, fold}
+use Rattle.std.specs.Prelude.{ℕ, ◌+◌, ◌-◌, ◌*◌, Bool, true, false, ◌&&◌, ◌||◌, not, ◌==◌, nat_lt, nat_le, if◌then◌else◌, List, [], ◌∷◌, length, Option, None, Some, fold}
 use Rattle.std.specs.List.{slice_split, list_all}
 use Rattle.jv_model.specs.declared.limits.TheConstants.{MAX_DATA, MAX_NAME}
 pub use Rattle.jv_model.specs.Optional.{◌>>=◌}

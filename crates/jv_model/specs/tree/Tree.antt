@@ -1,13 +1,15 @@
 -- The tree of a file system (POSIX.1-2017, 4.6 "File Hierarchy" and 4.9 "File Times Update", and "Directory" of chapter 3):
--- nodes by inode, and one map of all entries, keyed by directory and name.
-use Rattle.std.specs.Prelude.{ℕ, ◌+◌, ◌-◌, ◌*◌, ◌/◌, max, Bool, ◌&&◌, ◌||◌, not, ◌==◌, nat_lt, nat_le, if◌then◌else◌, List, [], ◌∷◌, is_some, Option, None, Some}
+-- nodes by inode, and one map of all entries, keyed by directory and name. Sessions, and files that stay without a name
+-- while a session has them open, are JuiceFS's ("Sessions" of its internals).
+use Rattle.std.specs.Prelude.{ℕ, ◌+◌, ◌-◌, ◌*◌, ◌/◌, max, Bool, ◌&&◌, ◌||◌, not, ◌==◌, nat_lt, nat_le, if◌then◌else◌, List, []}
+use Rattle.std.specs.Prelude.{◌∷◌, is_some, Option, None, Some}
 use Rattle.std.proofs.Common.{ap}
 use Rattle.std.specs.Ordering.{nat_cmp, on}
 use Rattle.std.specs.Cmp.{on_total}
 use Rattle.std.specs.Cmp.Lexicographic.{slice_cmp, nat_list_cmp_total}
-use Rattle.jv_model.specs.declared.limits.TheConstants.{ROOT, TRASH_ROOT, FULL_COUNT, SPACE_UNIT, GIB}
+use Rattle.jv_model.specs.declared.limits.TheConstants.{ROOT, TRASH_ROOT, FULL_COUNT, MAX_LINKS, SPACE_UNIT, GIB}
 use Rattle.jv_model.specs.declared.setting.Setting.{Setting}
-use Rattle.jv_model.specs.FiniteMap.{KeyOrder, Map, number_key, text_key, empty_map, get, insert, sum_over}
+use Rattle.jv_model.specs.FiniteMap.{KeyOrder, Map, number_key, text_key, empty_map, get, insert, first_where, sum_over}
 
 -- the bytes of a file: how many, and the byte at each position, which is 0 from the length on
 pub record Content : Type 0 where
@@ -57,11 +59,30 @@ entry_key = record {
   same = λ x y e. ap key_of_bytes (text_key.same (entry_bytes x) (entry_bytes y) e);
 }
 
+-- a file without entries that a session keeps
+pub record SustainedFile : Type 0 where
+  pub sid : ℕ
+  pub inode : ℕ
+
+abbrev pub pair_numbers : SustainedFile → List ℕ
+pair_numbers pair = pair.sid ∷ pair.inode ∷ []
+
+abbrev pair_of_numbers : List ℕ → SustainedFile
+pair_of_numbers ns = record { sid = first_number ns; inode = first_number (other_numbers ns) }
+
+abbrev pub pair_key : KeyOrder SustainedFile
+pair_key = record {
+  cmp = on pair_numbers (slice_cmp nat_cmp);
+  total = on_total pair_numbers nat_list_cmp_total;
+  same = λ x y e. ap pair_of_numbers (text_key.same (pair_numbers x) (pair_numbers y) e);
+}
+
 pub record Tree : Type 0 where
   pub setting : Setting
   pub nodes : Map number_key Node
   pub entries : Map entry_key ℕ
   pub sessions : Map number_key SessionEntry
+  pub sustained : Map pair_key (Unit {0})
   pub next_inode : ℕ
   pub next_session : ℕ
 
@@ -72,6 +93,10 @@ root = ROOT
 abbrev pub trash_root : ℕ
 trash_root = TRASH_ROOT
 
+-- whether a directory is the trash or one of its hours, whose inodes follow it
+abbrev pub in_trash : ℕ → Bool
+in_trash dir = nat_le trash_root dir
+
 -- a stored number that stands here refuses to grow
 abbrev pub full_count : ℕ
 full_count = FULL_COUNT
@@ -79,13 +104,23 @@ full_count = FULL_COUNT
 abbrev pub new_node : Kind → ℕ → ℕ → Node
 new_node kind mode now = record { kind = kind; mode = mode; uid = 0; gid = 0; mtime = now; ctime = now }
 
+-- all permissions, 0777
+abbrev pub full_mode : ℕ
+full_mode = 511
+
+-- no permission to write, 0555
+abbrev pub read_only_mode : ℕ
+read_only_mode = 365
+
 -- the tree of a volume that was just formatted
 abbrev pub fresh_tree : Setting → ℕ → Tree
 fresh_tree setting now = record {
   setting = setting;
-  nodes = insert (insert empty_map root (new_node (Directory root) 511 now)) trash_root (new_node (Directory root) 365 now);
+  nodes = insert (insert empty_map root (new_node (Directory root) full_mode now))
+      trash_root (new_node (Directory root) read_only_mode now);
   entries = empty_map;
   sessions = empty_map;
+  sustained = empty_map;
   next_inode = 2;
   next_session = 1;
 }
@@ -127,7 +162,8 @@ abbrev pub sum_fits : ℕ → ℕ → ℕ → Bool
 sum_fits limit before after = nat_le after limit || nat_le after before
 
 abbrev pub fits : Tree → Tree → Bool
-fits old new = sum_fits (space_limit old.setting) (used_space old) (used_space new) && sum_fits (inode_limit old.setting) (used_inodes old) (used_inodes new)
+fits old new = sum_fits (space_limit old.setting) (used_space old) (used_space new)
+    && sum_fits (inode_limit old.setting) (used_inodes old) (used_inodes new)
 
 abbrev pub node_at : Tree → ℕ → Option Node
 node_at t inode = get t.nodes inode
@@ -151,8 +187,32 @@ parent_at t inode = parent_of (node_at t inode)
 abbrev pub is_directory : Tree → ℕ → Bool
 is_directory t inode = is_some (parent_at t inode)
 
+abbrev target_of : Option Node → Option (List ℕ)
+target_of None = None
+target_of (Some node) = elim node.kind [ File content ↦ None | Directory parent ↦ None | Symlink target ↦ Some target ]
+
+-- the target of a symlink, where the inode is one
+abbrev pub target_at : Tree → ℕ → Option (List ℕ)
+target_at t inode = target_of (node_at t inode)
+
+-- whether a directory has entries
+abbrev pub has_entries : Tree → ℕ → Bool
+has_entries t dir = is_some (first_where (λ key named. key.dir == dir) t.entries)
+
+-- the entry of an inode in the trash
+abbrev pub trash_entry : Tree → ℕ → Option (EntryKey × ℕ)
+trash_entry t inode = first_where (λ key named. (named == inode) && in_trash key.dir) t.entries
+
+-- whether a session keeps a file without entries
+abbrev pub is_sustained : Tree → ℕ → ℕ → Bool
+is_sustained t sid inode = is_some (get t.sustained (record { sid = sid; inode = inode }))
+
 abbrev entry_names : ℕ → EntryKey → ℕ → ℕ
 entry_names inode key named = (if named == inode then 1 else 0)
+
+-- the number of entries that name an inode
+abbrev pub entry_count : Tree → ℕ → ℕ
+entry_count t inode = sum_over (entry_names inode) t.entries
 
 abbrev directory_within : Tree → ℕ → EntryKey → ℕ → ℕ
 directory_within t dir key inode = (if key.dir == dir && is_directory t inode then 1 else 0)
@@ -160,4 +220,8 @@ directory_within t dir key inode = (if key.dir == dir && is_directory t inode th
 -- The link count (POSIX.1-2017, chapter 3 "Link Count"): of a directory 2 and one for each directory in it, of any other
 -- inode the number of the entries that name it.
 abbrev pub link_count : Tree → ℕ → ℕ
-link_count t inode = (if is_directory t inode then 2 + sum_over (directory_within t inode) t.entries else sum_over (entry_names inode) t.entries)
+link_count t inode = (if is_directory t inode then 2 + sum_over (directory_within t inode) t.entries else entry_count t inode)
+
+-- whether the link count of an inode can be stored
+abbrev pub links_fit : Tree → ℕ → Bool
+links_fit t inode = nat_le (link_count t inode) MAX_LINKS

@@ -1,13 +1,14 @@
 -- How a path is resolved (POSIX.1-2017, 4.13 "Pathname Resolution"). Several slashes count as one, and a slash at the
--- end is ignored. Symlinks come with the operation that makes them.
-use Rattle.std.specs.Prelude.{ℕ, Bool, true, false, ◌&&◌, ◌||◌, not, ◌==◌, nat_le, nat_eq, if◌then◌else◌, List, [], ◌∷◌, filter, length, is_some, Option, None, Some, Result, Ok, codes}
+-- end is ignored, also behind a symlink, where POSIX would follow it.
+use Rattle.std.specs.Prelude.{ℕ, zero, suc, Bool, true, false, ◌&&◌, ◌||◌, not, ◌==◌, nat_le, nat_eq, if◌then◌else◌, List, []}
+use Rattle.std.specs.Prelude.{◌∷◌, ◌++◌, filter, length, Option, None, Some, Result, Ok, Err, codes}
 use Rattle.std.specs.Cmp.Lexicographic.{pointwise}
-use Rattle.jv_model.specs.declared.limits.TheConstants.{MAX_NAME, MAX_PATH}
+use Rattle.jv_model.specs.declared.limits.TheConstants.{MAX_NAME, MAX_PATH, MAX_SYMLINKS}
 use Rattle.jv_model.specs.declared.fault.Fault.{Fault}
-use Rattle.jv_model.specs.declared.fault.Fault.TheVariants.{NotFound, NotADirectory, Invalid, NameTooLong}
+use Rattle.jv_model.specs.declared.fault.Fault.TheVariants.{NotFound, NotADirectory, Invalid, NameTooLong, SymlinkLoop}
 use Rattle.jv_model.specs.tree.Attempt.{◌>>=◌, require, some_or}
 use Rattle.jv_model.specs.FiniteMap.{get}
-use Rattle.jv_model.specs.tree.Tree.{Tree, EntryKey, root, trash_root, parent_at}
+use Rattle.jv_model.specs.tree.Tree.{Tree, EntryKey, root, trash_root, parent_at, target_at, is_directory}
 
 -- the parts of a text between separators
 abbrev pub before_part : ℕ → List (List ℕ) → List (List ℕ)
@@ -18,9 +19,14 @@ abbrev pub parts_between : ℕ → List ℕ → List (List ℕ)
 parts_between separator [] = [] ∷ []
 parts_between separator (b ∷ bs) = (if b == separator then [] ∷ parts_between separator bs else before_part b (parts_between separator bs))
 
-abbrev pub is_empty : List ℕ → Bool
+abbrev pub is_empty : {A : Type 0} → List A → Bool
 is_empty [] = true
-is_empty (b ∷ bs) = false
+is_empty (x ∷ xs) = false
+
+-- whether a path or a target begins at the root
+abbrev pub is_absolute : List ℕ → Bool
+is_absolute [] = false
+is_absolute (b ∷ bs) = b == 47
 
 -- the names of a path
 abbrev pub names_of : List ℕ → List (List ℕ)
@@ -53,17 +59,39 @@ stepped t inode name = do
   _ ← require (nat_le (length name) MAX_NAME) NameTooLong
   named_from t inode parent name
 
-abbrev pub walked : Tree → ℕ → List (List ℕ) → Result ℕ Fault
-walked t inode [] = Ok inode
-walked t inode (name ∷ names) = do
-  next ← stepped t inode name
-  walked t next names
+-- The target of a symlink that a walk goes on by: one that names are left behind, or the last one where that is followed.
+abbrev pub way_on : Tree → Bool → List (List ℕ) → ℕ → Option (List ℕ)
+way_on t follow names inode = (if follow || not (is_empty names) then target_at t inode else None)
 
--- the inode that a path leads to from the root
-abbrev pub inode_of : Tree → List ℕ → Result ℕ Fault
-inode_of t path = do
+-- a walk from a directory, which goes on at a symlink by what `again` says of a directory and names
+unfoldable pub walk_names : (ℕ → List (List ℕ) → Result ℕ Fault) → Tree → Bool → ℕ → List (List ℕ) → Result ℕ Fault
+walk_names again t follow inode [] = Ok inode
+walk_names again t follow inode (name ∷ names) = do
+  next ← stepped t inode name
+  elim (way_on t follow names next) [
+    | None ↦ walk_names again t follow next names
+    | Some target ↦ again (if is_absolute target then root else inode) (names_of target ++ names)
+  ]
+
+-- A walk that may follow so many symlinks yet. A symlink is replaced by its target, which is walked from the root where
+-- it begins with a slash, and else from the symlink's directory.
+unfoldable pub walk : ℕ → Tree → Bool → ℕ → List (List ℕ) → Result ℕ Fault
+walk zero t follow inode names = walk_names (λ at rest. Err SymlinkLoop) t follow inode names
+walk (suc left) t follow inode names = walk_names (λ at rest. walk left t follow at rest) t follow inode names
+
+-- the inode that a path leads to from the root, where a symlink that comes last is followed, or isn't
+abbrev pub inode_by : Bool → Tree → List ℕ → Result ℕ Fault
+inode_by follow t path = do
   _ ← require (nat_le (length path) MAX_PATH) NameTooLong
-  walked t root (names_of path)
+  walk MAX_SYMLINKS t follow root (names_of path)
+
+-- the inode that a path leads to
+abbrev pub inode_of : Tree → List ℕ → Result ℕ Fault
+inode_of = inode_by true
+
+-- the inode that a path leads to, which may be a symlink
+abbrev pub unfollowed_inode_of : Tree → List ℕ → Result ℕ Fault
+unfollowed_inode_of = inode_by false
 
 -- all names but the last one, and the last one
 abbrev pub all_but_last : List (List ℕ) → List (List ℕ)
@@ -76,13 +104,14 @@ last_name [] = None
 last_name (name ∷ []) = Some name
 last_name (_ ∷ other ∷ names) = last_name (other ∷ names)
 
--- the entry that a path names. A path without a last name is refused; POSIX has several answers there.
+-- The entry that a path names, whether it is there or not. A path without a last name is refused; POSIX has several
+-- answers there.
 abbrev pub entry_of : Tree → List ℕ → Result EntryKey Fault
 entry_of t path = do
   _ ← require (nat_le (length path) MAX_PATH) NameTooLong
   name ← some_or (last_name (names_of path)) Invalid
   _ ← require (not (is_dot name || is_dot_dot name)) Invalid
-  dir ← walked t root (all_but_last (names_of path))
-  _ ← require (is_some (parent_at t dir)) NotADirectory
+  dir ← walk MAX_SYMLINKS t true root (all_but_last (names_of path))
+  _ ← require (is_directory t dir) NotADirectory
   _ ← require (nat_le (length name) MAX_NAME) NameTooLong
   Ok (record { dir = dir; name = name })

@@ -1,0 +1,5 @@
+-- Clients: what an operation needs and does, and what a client keeps.
+pub mod Profile
+pub mod Origins
+pub mod ModelClient
+pub mod Submission

@@ -1,0 +1,77 @@
+-- What each operation needs before its first step, what it commits first, and what it does then: one row an operation.
+use Rattle.std.specs.Prelude.{ℕ, ◌+◌, true, false, ◌||◌, ◌==◌, nat_le, if◌then◌else◌, List, [], ◌∷◌, length}
+use Rattle.jv_model.specs.declared.limits.TheConstants.{FILE_END}
+use Rattle.jv_model.specs.declared.op.Op.{Op}
+use Rattle.jv_model.specs.declared.op.Op.TheVariants as op
+use Rattle.jv_model.specs.declared.profile.Profile.{Profile}
+use Rattle.jv_model.specs.declared.profile.Handles.{Handles}
+use Rattle.jv_model.specs.declared.profile.Handles.TheVariants as handles
+use Rattle.jv_model.specs.declared.profile.Flushes.TheVariants.{Nothing, ItsFiles, IfFull, Everything}
+use Rattle.jv_model.specs.declared.profile.Answer.TheVariants.{Done, Count, NoData, CacheStats}
+use Rattle.jv_model.specs.declared.profile.Does.{Does}
+use Rattle.jv_model.specs.declared.profile.Does.TheVariants.{Answers, Mounts, Transacts, Releases, Reads, Truncates, Copies, Compacts, Cleans, Collects, Uploads}
+
+-- one metadata transaction of a mounted client, on paths or on nothing
+abbrev pub transaction : Profile
+transaction = record { needs_mount = true; handles = handles.None; opens = false; end = 0; flushes = Nothing; does = Transacts }
+
+-- the same on the file of a handle, whose pending bytes are committed first
+abbrev pub on_file : ℕ → Does → Profile
+on_file handle does = record transaction { handles = handles.One handle; flushes = ItsFiles; does = does }
+
+-- a range of which no position lies before the end of the longest file has no byte
+abbrev pub read_does : ℕ → ℕ → Does
+read_does offset len = (if (len == 0) || nat_le FILE_END offset then Answers NoData else Reads offset len)
+
+abbrev pub profile : Op → Profile
+profile (op.Mount writeback) = record transaction { needs_mount = false; does = Mounts writeback }
+profile op.Umount = record transaction { flushes = Everything }
+profile op.Beat = transaction
+profile (op.Lookup path) = transaction
+profile (op.Stat path) = transaction
+profile (op.Lstat path) = transaction
+profile (op.Fstat handle) = on_file handle Transacts
+profile (op.Mkdir path mode) = transaction
+profile (op.Create path mode) = record transaction { opens = true }
+profile (op.Open path) = record transaction { opens = true }
+profile (op.Close handle) = on_file handle Releases
+profile (op.Flush handle) = on_file handle (Answers Done)
+profile (op.Read handle offset len) = on_file handle (read_does offset len)
+profile (op.Write handle offset bytes) = record transaction {
+  handles = handles.One handle;
+  end = offset + length bytes;
+  flushes = IfFull (length bytes);
+  does = Answers (Count (length bytes));
+}
+profile (op.Truncate handle len) = on_file handle Truncates
+profile (op.Copy source from target to len) = record transaction { handles = handles.Two source target; flushes = ItsFiles; does = Copies }
+profile (op.Readdir path) = transaction
+profile (op.Chmod path mode) = transaction
+profile (op.Chown path uid gid) = transaction
+profile (op.Utimes path mtime) = transaction
+profile op.Statfs = transaction
+profile (op.Symlink target path) = transaction
+profile (op.Readlink path) = transaction
+profile (op.Unlink path) = transaction
+profile (op.Rmdir path) = transaction
+profile (op.Link path to) = transaction
+profile (op.Rename path to how) = transaction
+profile (op.Compact path window) = record transaction { does = Compacts }
+profile op.Clean = record transaction { does = Cleans }
+profile (op.Gc delete) = record transaction { does = Collects }
+profile op.Upload = record transaction { needs_mount = false; does = Uploads }
+profile op.Stats = record transaction { does = Answers CacheStats }
+
+-- the handles in the order of the operation's words
+abbrev pub handle_list : Handles → List ℕ
+handle_list handles.None = []
+handle_list (handles.One handle) = handle ∷ []
+handle_list (handles.Two first second) = first ∷ second ∷ []
+
+-- the first handle, 0 where there is none
+abbrev first_handle : List ℕ → ℕ
+first_handle [] = 0
+first_handle (handle ∷ handles) = handle
+
+abbrev pub handle_of : Op → ℕ
+handle_of o = first_handle (handle_list (profile o).handles)
