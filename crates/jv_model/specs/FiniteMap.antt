@@ -1,5 +1,5 @@
 -- Finite maps that compute in closed proofs: a list of entries whose keys strictly rise.
-use Rattle.std.specs.Prelude.{◌≡◌, ℕ, ◌+◌, Bool, true, false, not, List, [], ◌∷◌, filter, Option, None, Some}
+use Rattle.std.specs.Prelude.{◌≡◌, ℕ, ◌+◌, Bool, true, false, not, List, [], ◌∷◌, length, filter, Option, None, Some}
 use Rattle.std.proofs.Common.{T}
 use Rattle.std.specs.Coded.{Coded, coded×, coded_list}
 use base.Stored.{coded_via}
@@ -58,6 +58,10 @@ module _ {K X : Type 0} {order : KeyOrder K} where
     list = where_key order.cmp (λ q. not (eq_by_cmp order.cmp k q)) m.list;
     sorted = is_sorted-where_key order.cmp (λ q. not (eq_by_cmp order.cmp k q)) m.list m.sorted;
   }
+
+  -- the number of entries
+  unfoldable pub key_count : Map order X → ℕ
+  key_count m = length m.list
 
   -- the entries whose keys pass a test
   unfoldable pub retain_keys : (K → Bool) → Map order X → Map order X
