@@ -91,7 +91,8 @@ module _ {K X : Type 0} {order : KeyOrder K} where
   -- maps with the same entries are the same
   pub maps_of_entries : (m n : Map order X) → m.list ≡ n.list → m ≡ n
   maps_of_entries m n e =
-      let pairs : ◌≡◌ {A = (es : List (K × X)) × T (is_sorted order.cmp es)} (m.list, m.sorted) (n.list, n.sorted) = Σ_prop_path (λ es. T_prop _) e in
+      let pairs : ◌≡◌ {A = (es : List (K × X)) × T (is_sorted order.cmp es)} (m.list, m.sorted) (n.list, n.sorted) =
+      Σ_prop_path (λ es. T_prop _) e in
       λ i. record { list = (pairs i).0; sorted = (pairs i).1 }
 
   -- a map is stored as its entries

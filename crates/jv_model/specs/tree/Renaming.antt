@@ -20,7 +20,7 @@ abbrev pub may_leave : How → EntryKey → Bool
 may_leave Exchange place = may_go place && may_be_new place
 may_leave _ place = may_go place
 
--- whether a directory is another one or lies below it, by its parents, of which as many are asked
+-- whether a directory is another one or lies below it, by at most `steps` parents
 unfoldable pub is_within : ℕ → Tree → ℕ → ℕ → Bool
 is_within zero t dir above = dir == above
 is_within (suc steps) t dir above = (dir == above) || elim (parent_at t dir) [
@@ -28,7 +28,8 @@ is_within (suc steps) t dir above = (dir == above) || elim (parent_at t dir) [
   | Some parent ↦ not (dir == root) && is_within steps t parent above
 ]
 
--- whether an inode is a directory, and a directory is that one or lies below it; a tree has no longer way up than its nodes
+-- whether an inode is a directory that another one is, or lies below; no way up to the root is longer than the number of
+-- nodes
 abbrev pub is_inside : Tree → ℕ → ℕ → Bool
 is_inside t dir inode = is_directory t inode && is_within (key_count t.nodes) t dir inode
 
