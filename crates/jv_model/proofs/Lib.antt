@@ -15,3 +15,11 @@ pub mod WriteLaws
 pub mod BlockNamesExamples
 pub mod SlicesExamples
 pub mod RowGrammarExamples
+pub mod WalkExamples
+pub mod TrashExamples
+pub mod RemovingExamples
+pub mod RenamingExamples
+pub mod SessionsExamples
+pub mod FileBytesExamples
+pub mod MakingExamples
+pub mod HourNamesExamples
