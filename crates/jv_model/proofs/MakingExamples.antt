@@ -1,18 +1,16 @@
 -- New entries: their times, and the limits of a volume.
-use Rattle.std.specs.Prelude.{◌≡◌, ℕ, false, List, [], ◌∷◌, codes}
+use Rattle.std.specs.Prelude.{◌≡◌, ℕ, ◌-◌, true, false, ◌&&◌, ◌||◌, not, List, [], ◌∷◌, Ok, Err, codes}
 use Rattle.std.proofs.Common.{refl}
 use Rattle.jv_model.specs.declared.op.Op.TheVariants as op
 use Rattle.jv_model.proofs.ReplyTextExamples.{replies_on_literals}
 use Rattle.jv_model.proofs.TreeComputes.{tree_computes}
-use Rattle.jv_model.proofs.TreeRuns.{Event, Asks, Ticks, texts, plain_start}
-use Rattle.std.specs.Prelude.{◌-◌, ◌&&◌, Err}
-use Rattle.std.proofs.Common.{ap}
+use Rattle.jv_model.proofs.TreeRuns.{Event, Asks, Ticks, texts, plain_start, RunState}
 use Rattle.jv_model.specs.declared.fault.Fault.TheVariants.{NoSpace}
-use Rattle.jv_model.specs.tree.Attempt.{◌>>=◌, require}
-use Rattle.jv_model.specs.tree.Tree.{Tree, EntryKey, full_count, links_fit}
-use Rattle.jv_model.specs.tree.Caller.{done}
+use Rattle.jv_model.specs.tree.Tree.{Tree, Directory, EntryKey, new_node, full_count, is_directory, links_fit}
+use Rattle.jv_model.specs.tree.Walk.{unfollowed_inode_of}
+use Rattle.jv_model.specs.tree.Caller.{Caller, in_session}
+use Rattle.jv_model.specs.tree.Making.{new_place, entered, mkdir, link, linked, is_trashed}
 use Rattle.jv_model.specs.tree.Renaming.{within_links}
-use Rattle.jv_model.proofs.TreeRuns.{RunState}
 
 -- a volume whose next inode and next session are the last
 abbrev almost_full : RunState
@@ -104,8 +102,27 @@ numbers_run_out : texts almost_full numbers_run_out_events ≡ numbers_run_out_t
 unfolding tree_computes replies_on_literals
 numbers_run_out = refl
 
--- A link count that can't be stored refuses a rename (and in the same way a link and a mkdir); no tree that is written
--- out here has so many entries.
-full_links_refuse : (from to : EntryKey) (after : Tree) → (links_fit after from.dir && links_fit after to.dir) ≡ false
+-- Link counts that can't be stored: no tree that is written out here has so many entries.
+
+-- a file with 2^32 - 1 names gets no other
+full_links_refuse_a_link : (t : Tree) (who : Caller) (path to : List ℕ) (inode : ℕ) (place : EntryKey)
+    → in_session t who ≡ Ok tt → unfollowed_inode_of t path ≡ Ok inode → not (is_directory t inode || is_trashed t inode) ≡ true
+    → new_place t to ≡ Ok place → links_fit (linked t who.now place inode) inode ≡ false
+    → link t who path to ≡ Err NoSpace
+unfolding link
+full_links_refuse_a_link t who path to inode place session walk may free full =
+    rw session (rw walk (rw may (rw free (rw full refl))))
+
+-- a directory with 2^32 - 3 directories gets no other, by a mkdir
+full_links_refuse_a_mkdir : (t after : Tree) (who : Caller) (path : List ℕ) (mode : ℕ) (place : EntryKey)
+    → in_session t who ≡ Ok tt → new_place t path ≡ Ok place
+    → entered t who.now place (new_node (Directory place.dir) mode who.now) ≡ Ok after → links_fit after place.dir ≡ false
+    → mkdir t who path mode ≡ Err NoSpace
+unfolding mkdir
+full_links_refuse_a_mkdir t after who path mode place session free room full =
+    rw session (rw free (rw room (rw full refl)))
+
+-- nor by a rename
+full_links_refuse_a_rename : (from to : EntryKey) (after : Tree) → (links_fit after from.dir && links_fit after to.dir) ≡ false
     → within_links from to after ≡ Err NoSpace
-full_links_refuse from to after full = ap (λ room. require room NoSpace >>= (λ _. done after)) full
+full_links_refuse_a_rename from to after full = rw full refl

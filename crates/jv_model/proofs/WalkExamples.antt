@@ -1,13 +1,11 @@
 -- Paths, symlinks and names.
-use Rattle.std.specs.Prelude.{◌≡◌, ℕ, false, List, [], ◌∷◌, ◌++◌, replicate, codes}
+use Rattle.std.specs.Prelude.{◌≡◌, ℕ, false, List, [], ◌∷◌, ◌++◌, replicate, codes, zero, suc, ◌+◌, decimal, reverse}
 use Rattle.std.proofs.Common.{refl}
 use Rattle.jv_model.specs.declared.basics.How.TheVariants.{Plain}
 use Rattle.jv_model.specs.declared.op.Op.TheVariants as op
 use Rattle.jv_model.proofs.ReplyTextExamples.{replies_on_literals}
 use Rattle.jv_model.proofs.TreeComputes.{tree_computes}
-use Rattle.jv_model.proofs.TreeRuns.{Event, Asks, texts, plain_start}
-use Rattle.std.specs.Prelude.{zero, suc, ◌+◌, decimal, reverse}
-use Rattle.jv_model.proofs.TreeRuns.{RunState, state_after}
+use Rattle.jv_model.proofs.TreeRuns.{Event, Asks, texts, plain_start, RunState, state_after}
 
 -- Slashes in a row are one, one at the end is ignored, and the root is its own parent.
 abbrev paths_have_spare_slashes_events : List Event

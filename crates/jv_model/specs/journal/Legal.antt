@@ -28,8 +28,8 @@ tick_of _ = 0
 abbrev pub IsMoment : Past → Act → Type 0
 IsMoment p act = MatchBool (is_workers p) ((p.at ≤ act.at) × (act.at ≤ LAST_MOMENT))
     (MatchBool (asks_clock p act)
-      (MatchOption p.run.clock ((p.at ≤ act.at) × (act.at ≤ LAST_MOMENT)) (λ answers. act.at ≡ clock_moment p (p.ticks + tick_of act.kind) answers))
-      (act.at ≡ p.at))
+    (MatchOption p.run.clock ((p.at ≤ act.at) × (act.at ≤ LAST_MOMENT)) (λ answers. act.at ≡ clock_moment p (p.ticks + tick_of act.kind) answers))
+    (act.at ≡ p.at))
 
 -- the one entry of a refused submission, for which memory may run out too, but not where an operation goes on
 pub data IsRefusal (busy : Bool) (fault : Fault) (kind : ActKind) : Type 0 where
