@@ -3,4 +3,5 @@ pub mod Reading
 pub mod State
 pub mod Steps
 pub mod Past
+pub mod Stepping
 pub mod Legal
