@@ -29,6 +29,14 @@ pub struct StoredFile {
     pub segments: Sequence<StoredSegment>,
 }
 
+/// What a look at a file shows: its length, and how many commits it had.
+#[derive(Clone, Copy, Debug, PartialEq, Eq)]
+pub struct Seen {
+    /// Bytes.
+    pub length: u64,
+    pub commits: usize,
+}
+
 /// Files in the root by their paths, and the space that they use. Inodes count up from 2.
 #[derive(Drop)]
 pub struct Files {

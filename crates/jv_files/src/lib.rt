@@ -3,4 +3,4 @@
 
 mod files;
 
-pub use files::{Files, StoredFile, StoredSegment};
+pub use files::{Files, Seen, StoredFile, StoredSegment};

@@ -94,7 +94,7 @@ session_of c = unwrap_or c.session 0
 
 -- handles
 
-abbrev file_in : {X : Type 0} → Option (Option X) → Option X
+abbrev pub file_in : {X : Type 0} → Option (Option X) → Option X
 file_in None = None
 file_in (Some file) = file
 

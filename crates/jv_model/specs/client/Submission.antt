@@ -9,6 +9,7 @@ use Rattle.jv_model.specs.declared.op.Op.{Op}
 use Rattle.jv_model.specs.declared.profile.Does.{Does}
 use Rattle.jv_model.specs.declared.profile.Does.TheVariants.{Mounts}
 use Rattle.jv_model.specs.declared.profile.Profile.{Profile}
+use Rattle.jv_model.specs.declared.profile.Handles.{Handles}
 use Rattle.jv_model.specs.declared.profile.Flushes.TheVariants.{Nothing, ItsFiles, IfFull, Everything}
 use Rattle.jv_model.specs.run.Pending.{PendingByte, Segment, first_segment, pending_of}
 use Rattle.jv_model.specs.client.Profile.{profile, handle_list}
@@ -23,20 +24,27 @@ abbrev pub first_refusal : List (Bool × Fault) → Option Fault
 first_refusal [] = None
 first_refusal (test ∷ tests) = (if test.0 then Some test.1 else first_refusal tests)
 
-abbrev is_closed : ModelClient → ℕ → Bool
-is_closed c handle = not (is_some (file_of c.handles handle))
+-- The refusal by what a client is: whether it is busy, whether it is mounted, whether a handle that the operation names is
+-- closed, and how many handles are open.
+abbrev pub submission_of : (busy mounted closed : Bool) → (handles : ℕ) → Profile → Option Fault
+submission_of busy mounted closed handles row = first_refusal (
+    (busy || (is_mount row.does && mounted), InProgress)
+    ∷ (row.needs_mount && not mounted, NotConnected)
+    ∷ (closed, BadHandle)
+    ∷ (row.opens && nat_le MAX_HANDLES handles, TooManyHandles)
+    ∷ (nat_lt FILE_END row.end, FileTooLarge)
+    ∷ [])
+
+abbrev pub is_closed : {X : Type 0} → List (Option X) → ℕ → Bool
+is_closed handles handle = not (is_some (file_of handles handle))
+
+-- whether a handle of these isn't open
+abbrev pub names_closed : {X : Type 0} → List (Option X) → Handles → Bool
+names_closed handles named = list_any (is_closed handles) (handle_list named)
 
 -- the refusal of an operation at its submission, before any step
 abbrev pub submission : ModelClient → Op → Option Fault
-submission c o =
-    let row = profile o in
-    first_refusal (
-    (is_some c.doing || (is_mount row.does && is_some c.session), InProgress)
-    ∷ (row.needs_mount && not (is_some c.session), NotConnected)
-    ∷ (list_any (is_closed c) (handle_list row.handles), BadHandle)
-    ∷ (row.opens && nat_le MAX_HANDLES (open_count c.handles), TooManyHandles)
-    ∷ (nat_lt FILE_END row.end, FileTooLarge)
-    ∷ [])
+submission c o = submission_of (is_some c.doing) (is_some c.session) (names_closed c.handles (profile o).handles) (open_count c.handles) (profile o)
 
 -- what is committed first, with a buffer of so many bytes
 abbrev pub flush_of : ℕ → ModelClient → Profile → Flush

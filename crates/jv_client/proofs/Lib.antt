@@ -1,0 +1,2 @@
+-- Laws about clients.
+pub mod SubmissionLaws

@@ -1,0 +1,121 @@
+-- A client in memory is refused, and flushes, as the client of the model that it stands for.
+use Rattle.std.proofs.Common.{◌≡◌, ℕ, zero, suc, ◌+◌, ◌-◌, Bool, true, false, cond, not, List, [], ◌∷◌, length, slice_get, map, Option, None, Some, refl, sym, ap, ◌∙◌}
+use Rattle.std.specs.Prelude.{is_some, ◌||◌, ◌==◌, nat_lt, if◌then◌else◌}
+use Rattle.jv_model.specs.declared.fault.Fault.{Fault}
+use Rattle.jv_model.specs.declared.op.Op.{Op}
+use Rattle.jv_model.specs.declared.profile.Profile.{Profile}
+use Rattle.jv_model.specs.declared.profile.Flushes.{Flushes}
+use Rattle.jv_model.specs.declared.profile.Flushes.TheVariants.{Nothing, ItsFiles, IfFull, Everything}
+use Rattle.jv_model.specs.declared.profile.Handles.{Handles}
+use Rattle.jv_model.specs.declared.profile.Handles.TheVariants as named
+use Rattle.jv_model.specs.run.Pending.{PendingByte}
+use Rattle.jv_model.specs.client.ModelClient.{ModelClient, OpenFile, OfFiles, OfAll, file_in, file_of, open_count, inode_in, inode_at}
+use Rattle.jv_model.specs.client.Profile.{profile, handle_list}
+use Rattle.jv_model.specs.client.Submission.{submission, submission_of, submitted, names_closed, is_closed, flush_of, by_limits}
+use Rattle.jv_client.specs.declared.doing.Flush.{Flush}
+use Rattle.jv_client.specs.declared.doing.Flush.TheVariants as flush
+use Rattle.jv_client.specs.declared.doing.Progress.TheVariants as progress
+use Rattle.jv_client.specs.declared.handles.Handle.{Handle}
+use Rattle.jv_client.specs.ClientValue.{ClientValue}
+use Rattle.jv_client.specs.Held.{SamePlace, SameTable, IsHandle, IsDoing, IsHeld, IsClient, inode_of_handle, inode_here, files_here, flush_here, begun, flush_of_code, stage_of}
+
+module _ {X Y : Type 0} (P : X → Y → Type 0) where
+  pub some-same : (x : Option X) (y : Option Y) → SamePlace P x y → is_some x ≡ is_some y
+  some-same None None h = refl
+  some-same None (Some y) h = absurd h
+  some-same (Some x) None h = absurd h
+  some-same (Some x) (Some y) h = refl
+
+  pub count-same : (xs : List (Option X)) (ys : List (Option Y)) → SameTable P xs ys → open_count xs ≡ open_count ys
+  count-same [] [] h = refl
+  count-same [] (y ∷ ys) h = absurd h
+  count-same (x ∷ xs) [] h = absurd h
+  count-same (None ∷ xs) (None ∷ ys) h = count-same xs ys h.1
+  count-same (None ∷ xs) (Some y ∷ ys) h = absurd h.0
+  count-same (Some x ∷ xs) (None ∷ ys) h = absurd h.0
+  count-same (Some x ∷ xs) (Some y ∷ ys) h = ap (λ n. 1 + n) (count-same xs ys h.1)
+
+  place-same : (xs : List (Option X)) (ys : List (Option Y)) → SameTable P xs ys → (n : ℕ) → SamePlace P (file_in (slice_get xs n)) (file_in (slice_get ys n))
+  place-same [] [] h n = tt
+  place-same [] (y ∷ ys) h n = absurd h
+  place-same (x ∷ xs) [] h n = absurd h
+  place-same (x ∷ xs) (y ∷ ys) h zero = h.0
+  place-same (x ∷ xs) (y ∷ ys) h (suc n) = place-same xs ys h.1 n
+
+  unless : (b : Bool) (x : Option X) (y : Option Y) → SamePlace P x y → SamePlace P (cond b None x) (cond b None y)
+  unless true x y h = tt
+  unless false x y h = h
+
+  -- what a handle names
+  pub file-same : (xs : List (Option X)) (ys : List (Option Y)) → SameTable P xs ys → (handle : ℕ) → SamePlace P (file_of xs handle) (file_of ys handle)
+  file-same xs ys h handle = unless (handle == 0) _ _ (place-same xs ys h (handle - 1))
+
+  closed-same : (xs : List (Option X)) (ys : List (Option Y)) → SameTable P xs ys → (handle : ℕ) → is_closed xs handle ≡ is_closed ys handle
+  closed-same xs ys h handle = ap not (some-same _ _ (file-same xs ys h handle))
+
+  -- a handle that isn't open
+  pub names_closed-same : (xs : List (Option X)) (ys : List (Option Y)) → SameTable P xs ys → (handles : Handles) → names_closed xs handles ≡ names_closed ys handles
+  names_closed-same xs ys h named.None = refl
+  names_closed-same xs ys h (named.One handle) = ap (λ b. b || false) (closed-same xs ys h handle)
+  names_closed-same xs ys h (named.Two first second) =
+      ap (λ b. b || (is_closed xs second || false)) (closed-same xs ys h first)
+      ∙ ap (λ b. is_closed ys first || (b || false)) (closed-same xs ys h second)
+
+-- the refusals are the same
+pub submission-same : (m : ModelClient) (c : ClientValue) (o : Op) → IsClient m c
+    → submission m o ≡ submission_of (is_some c.doing) (is_some c.session) (names_closed c.handles (profile o).handles) (open_count c.handles) (profile o)
+submission-same m c o h =
+    let closed = names_closed m.handles (profile o).handles in
+    let row = profile o in
+    ap (λ b. submission_of b (is_some m.session) closed (open_count m.handles) row) (some-same IsDoing m.doing c.doing h.doing)
+    ∙ ap (λ x. submission_of (is_some c.doing) (is_some x) closed (open_count m.handles) row) h.held.session
+    ∙ ap (λ b. submission_of (is_some c.doing) (is_some c.session) b (open_count m.handles) row) (names_closed-same IsHandle m.handles c.handles h.held.handles row.handles)
+    ∙ ap (λ n. submission_of (is_some c.doing) (is_some c.session) (names_closed c.handles row.handles) n row) (count-same IsHandle m.handles c.handles h.held.handles)
+
+inode-same : (file : Option OpenFile) (handle : Option Handle) → SamePlace IsHandle file handle → inode_in file ≡ inode_of_handle handle
+inode-same None None h = refl
+inode-same None (Some handle) h = absurd h
+inode-same (Some file) None h = absurd h
+inode-same (Some file) (Some handle) h = h.inode
+
+inode_at-same : (m : ModelClient) (c : ClientValue) → IsHeld m c → (handle : ℕ) → inode_at m handle ≡ inode_here c.handles handle
+inode_at-same m c h handle = inode-same _ _ (file-same IsHandle m.handles c.handles h.handles handle)
+
+files-same : (m : ModelClient) (c : ClientValue) → IsHeld m c → (handles : Handles) → OfFiles (map (inode_at m) (handle_list handles)) ≡ flush_of_code (files_here c.handles handles)
+files-same m c h named.None = refl
+files-same m c h (named.One handle) = ap (λ i. OfFiles (i ∷ [])) (inode_at-same m c h handle)
+files-same m c h (named.Two first second) =
+    ap (λ i. OfFiles (i ∷ inode_at m second ∷ [])) (inode_at-same m c h first) ∙ ap (λ i. OfFiles (inode_here c.handles first ∷ i ∷ [])) (inode_at-same m c h second)
+
+full-same : (b : Bool) → (if b then OfAll else OfFiles []) ≡ flush_of_code (if b then flush.All else flush.Nothing)
+full-same true = refl
+full-same false = refl
+
+by-flushes : (m : ModelClient) (c : ClientValue) → IsHeld m c → (row : Profile) (flushes : Flushes) → row.flushes ≡ flushes → flush_of c.limits.buffer m row ≡ flush_of_code (flush_here c row)
+by-flushes m c h row Nothing e = rw e refl
+by-flushes m c h row ItsFiles e = rw e (files-same m c h row.handles)
+by-flushes m c h row (IfFull len) e = rw e (ap (λ (bytes : List PendingByte). if nat_lt c.limits.buffer (length bytes + len) then OfAll else OfFiles []) h.pending ∙ full-same (nat_lt c.limits.buffer (length c.pending + len)))
+by-flushes m c h row Everything e = rw e refl
+
+-- what is committed first is the same
+pub flush-same : (m : ModelClient) (c : ClientValue) → IsHeld m c → (row : Profile) → flush_of c.limits.buffer m row ≡ flush_of_code (flush_here c row)
+flush-same m c h row = by-flushes m c h row row.flushes refl
+
+-- an operation that isn't refused is in progress
+pub begun-stands : (m : ModelClient) (c : ClientValue) (o : Op) → IsClient m c
+    → IsClient (submitted c.limits o m) (record c { doing = Some (begun o (by_limits c.limits (profile o).does) (flush_here c (profile o))) })
+begun-stands m c o h = record {
+  held = record { session = h.held.session; direct = h.held.direct; handles = h.held.handles; pending = h.held.pending };
+  doing = record { op = refl; does = refl; flush = flush-same m c h.held (profile o); stage = refl; moved = refl };
+}
+
+-- the refusal by a row that is the operation's
+pub refusal-by : (m : ModelClient) (c : ClientValue) (o : Op) (row : Profile) (refusal : Option Fault) → IsClient m c → row ≡ profile o
+    → refusal ≡ submission_of (is_some c.doing) (is_some c.session) (names_closed c.handles row.handles) (open_count c.handles) row
+    → refusal ≡ submission m o
+refusal-by m c o row refusal h same is =
+    is ∙ ap (λ (r : Profile). submission_of (is_some c.doing) (is_some c.session) (names_closed c.handles r.handles) (open_count c.handles) r) same ∙ sym (submission-same m c o h)
+
+-- the flush by a row that is the operation's, of the client as it stands
+pub flush-by : {v w : ClientValue} {row : Profile} {o : Op} (flush : Flush) → w ≡ v → row ≡ profile o → flush ≡ flush_here w row → flush ≡ flush_here v (profile o)
+flush-by {v} {w} {row} {o} flush seen same is = is ∙ ap (λ (r : Profile). flush_here w r) same ∙ ap (λ (c : ClientValue). flush_here c (profile o)) seen

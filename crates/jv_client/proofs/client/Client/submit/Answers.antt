@@ -1,0 +1,30 @@
+-- The client in memory and the model's are refused alike, and begin alike.
+use Rattle.std.proofs.Common.{◌≡◌, sym, ap, subst, ◌∙◌, Option, Some}
+use Rattle.jv_model.specs.client.Profile.{profile}
+use Rattle.jv_model.specs.declared.profile.Profile.{Profile}
+use Rattle.jv_model.specs.client.Submission.{submitted, by_limits}
+use Rattle.jv_client.specs.declared.doing.Doing.{Doing}
+use Rattle.jv_client.specs.ClientValue.{ClientValue}
+use Rattle.jv_client.specs.Held.{IsClient, begun, flush_here}
+use Rattle.jv_client.proofs.SubmissionLaws.{refusal-by, begun-stands, flush-by}
+use Rattle.jv_client.proofs.client.Client.submit.Goals as goal
+
+pub returns-in-Some-clause-refusal : goal.returns-in-Some-clause-refusal
+returns-in-Some-clause-refusal c m h = sym c.in-Some.is ∙ refusal-by m c.args.self.now c.args.op c.profile-row.result c.refusal.result h c.profile-row.ensures c.refusal.ensures
+
+pub returns-clause-refusal : goal.returns-clause-refusal
+returns-clause-refusal c m h = sym c.in_default.is ∙ refusal-by m c.args.self.now c.args.op c.profile-row.result c.refusal.result h c.profile-row.ensures c.refusal.ensures
+
+pub returns-clause-begun : goal.returns-clause-begun
+returns-clause-begun c m h =
+    let value : ClientValue = c.args.self.now in
+    let o = c.args.op in
+    let row : c.profile-row.result ≡ profile o = c.profile-row.ensures in
+    let seen = c.self.view_is in
+    let does = c.by_limits-does.ensures ∙ ap (λ (r : Profile). by_limits c.self.inside.limits r.does) row
+      ∙ ap (λ (v : ClientValue). by_limits v.limits (profile o).does) seen in
+    let flush = flush-by {o = o} c.flush_of-flush.result seen row c.flush_of-flush.ensures in
+    let doing = c.begun.ensures ∙ ap (λ does. begun o does c.flush_of-flush.result) does ∙ ap (begun o (by_limits value.limits (profile o).does)) flush in
+    let stands = subst (λ (d : Doing). IsClient (submitted value.limits o m) (record value { doing = Some d })) (sym doing) (begun-stands m value o h) in
+    let placed = subst (λ (d : Option Doing). IsClient (submitted value.limits o m) (record value { doing = d })) (sym c.begin.ensures) stands in
+    subst (λ (v : ClientValue). IsClient (submitted value.limits o m) (record v { doing = c.begin.new.doing })) (sym seen) placed

@@ -1,0 +1,84 @@
+//! A client: its session, its open files, what it wrote and didn't commit, and what it is doing.
+ghost use Rattle.std.specs.Prelude.{◌≡◌, ◌≤◌, is_some, None};
+ghost use Rattle.jv_model.specs.declared.limits.TheConstants.{MAX_DATA};
+ghost use Rattle.jv_client.specs.ClientValue.{fresh_client, crashed};
+
+use crate::doing::Doing;
+use crate::handles::Handle;
+use jv_model::{ClientId, DEFAULT_BUFFER, Limits};
+use jv_pending::Pending;
+use std::alloc::Global;
+use std::marker::Model;
+
+/// One of the clients of a session.
+#[derive(Drop)]
+pub struct Client {
+    pub(crate) alloc: Global,
+    pub(crate) id: ClientId,
+    pub(crate) limits: Limits,
+    pub(crate) session: Option<u64>,
+    pub(crate) handles: Vec<Option<Handle>>,
+    pub(crate) pending: Pending,
+    pub(crate) doing: Option<Doing>,
+}
+
+impl Model for Client {
+    ghost use Rattle.std.specs.Prelude.{◌≡◌, min};
+    ghost use Rattle.jv_model.specs.declared.limits.TheConstants.{DEFAULT_BUFFER};
+    ghost use Rattle.jv_client.specs.ClientValue.{ClientValue};
+
+    ghost Value = { ClientValue };
+
+    ghost view = { λ c. record {
+      id = c.id;
+      limits = c.limits;
+      session = c.session;
+      handles = c.handles.items;
+      pending = c.pending.bytes;
+      doing = c.doing;
+    } };
+
+    ghost invariant = { λ c. c.pending.limit ≡ min c.limits.buffer DEFAULT_BUFFER };
+}
+
+impl Client {
+    /// A client that isn't mounted. Its buffer has at least [`jv_model::MAX_DATA`] bytes. Takes no memory.
+    pub fn new(alloc: Global, id: ClientId, limits: Limits) -> Client
+        requires { MAX_DATA ≤ limits.buffer }
+        ensures { result ≡ fresh_client id limits }
+    {
+        Client {
+            alloc,
+            id,
+            limits,
+            session: None,
+            handles: Vec::new(alloc),
+            pending: Pending::new(alloc, limits.buffer.min(DEFAULT_BUFFER)),
+            doing: None,
+        }
+    }
+
+    /// Whether an operation is in progress.
+    pub fn busy(&self) -> bool
+        ensures { result ≡ is_some self.now.doing }
+    {
+        self.doing.is_some()
+    }
+
+    /// Ends the client without an `umount`: it drops its session, its operation, handles, views and pending bytes. Takes
+    /// no memory.
+    pub fn crash(&mut self)
+        ensures { self.new ≡ crashed self.old }
+    {
+        self.session = None;
+        self.handles.clear();
+        self.pending.clear_all();
+        forget(&mut self.doing);
+    }
+}
+
+fn forget(doing: &mut Option<Doing>)
+    ensures { doing.new ≡ None }
+{
+    *doing = None;
+}

@@ -1,0 +1,34 @@
+//! An operation in progress.
+use jv_model::{Does, Op};
+
+/// What an operation commits before it goes on.
+#[derive(Clone, Copy, Debug, PartialEq, Eq)]
+pub enum Flush {
+    Nothing,
+    /// What is pending of one file, by its inode.
+    File(u64),
+    /// What is pending of two files, by their inodes, in this order.
+    Files(u64, u64),
+    /// All that is pending.
+    All,
+}
+
+/// How far an operation is.
+#[derive(Clone, Copy, Debug, PartialEq, Eq)]
+pub enum Progress {
+    /// It made so many requests of the next segment, the second of them at the moment `started` in seconds.
+    Working { quiets: u32, started: u64 },
+    /// It made a request of a reading.
+    Reading,
+}
+
+/// An operation, and how far it is.
+#[derive(Debug, Drop)]
+pub struct Doing {
+    pub op: Op,
+    pub does: Does,
+    pub flush: Flush,
+    pub progress: Progress,
+    /// Whether the journal has an entry of it.
+    pub has_moved: bool,
+}

@@ -1,0 +1,158 @@
+//! How an operation begins.
+ghost use Rattle.std.specs.Prelude.{◌≡◌, ◌≤◌, is_some, length, OnOk, OnErr, Some, None};
+ghost use Rattle.jv_model.specs.declared.limits.TheConstants.{MAX_HANDLES, FILE_END};
+ghost use Rattle.jv_model.specs.client.ModelClient.{ModelClient, open_count};
+ghost use Rattle.jv_model.specs.client.Profile.{profile};
+ghost use Rattle.jv_model.specs.client.Submission.{submission, submission_of, submitted, names_closed, is_closed, is_mount, by_limits};
+ghost use Rattle.jv_client.specs.Held.{IsClient, begun, flush_here, full_flush, files_here, inode_here, refused_with};
+
+use crate::client::Client;
+use crate::doing::{Doing, Flush, Progress};
+use crate::handles::{Handle, named, open_count};
+use jv_model::{Does, FILE_END, Fault, Flushes, Handles, Limits, MAX_HANDLES, Op, Profile};
+
+impl Client {
+    /// Begins an operation. Refuses, with the operation handed back, by the first of these that holds: `InProgress` where
+    /// one is in progress or a mounted client mounts, `NotConnected` where the client isn't mounted, `BadHandle` where a
+    /// handle that it names isn't open, `TooManyHandles` where it would open one handle more than there may be, and
+    /// `FileTooLarge` where a write ends past the longest file. On error nothing has changed.
+    pub fn submit(&mut self, op: Op) -> Result<(), (Op, Fault)>
+        ensures refusal { (m : ModelClient) → IsClient m self.old → refused_with result ≡ submission
+            m op }
+        ensures begun { (m : ModelClient) → IsClient m self.old → OnOk result (IsClient (submitted
+            self.old.limits op m) self.new) }
+        ensures err { OnErr result (self.new ≡ self.old) }
+    {
+        let row = op.profile();
+        if let Some(fault) = self.refusal(&row) {
+            return Err((op, fault));
+        }
+        let flush = self.flush_of(&row);
+        let does = by_limits(&self.limits, row.does);
+        begin(&mut self.doing, begun(op, does, flush));
+        Ok(())
+    }
+
+    fn refusal(&self, row: &Profile) -> Option<Fault>
+        ensures { result ≡ submission_of (is_some self.now.doing) (is_some self.now.session)
+            (names_closed self.now.handles row.now.handles) (open_count self.now.handles) row.now }
+    {
+        let is_mounted = self.session.is_some();
+        if self.doing.is_some() || is_mount(row.does) && is_mounted {
+            return Some(Fault::InProgress);
+        }
+        if row.needs_mount && !is_mounted {
+            return Some(Fault::NotConnected);
+        }
+        if names_closed(&self.handles, row.handles) {
+            return Some(Fault::BadHandle);
+        }
+        if row.opens && open_count(&self.handles) >= MAX_HANDLES {
+            return Some(Fault::TooManyHandles);
+        }
+        if row.end > u128::from(FILE_END) {
+            return Some(Fault::FileTooLarge);
+        }
+        None
+    }
+
+    /// What the operation commits first.
+    fn flush_of(&self, row: &Profile) -> Flush
+        ensures { result ≡ flush_here self.now row.now }
+    {
+        match row.flushes {
+            Flushes::Nothing => Flush::Nothing,
+            Flushes::ItsFiles => files_of(&self.handles, row.handles),
+            Flushes::IfFull(len) => self.flush_if_full(len),
+            Flushes::Everything => Flush::All,
+        }
+    }
+
+    fn flush_if_full(&self, len: u64) -> Flush
+        ensures { result ≡ full_flush self.now.limits.buffer (length self.now.pending) len }
+    {
+        let wanted = u128::from(self.pending.bytes()) + u128::from(len);
+        if wanted > u128::from(self.limits.buffer) {
+            Flush::All
+        } else {
+            Flush::Nothing
+        }
+    }
+}
+
+/// An operation before its first step.
+fn begun(op: Op, does: Does, flush: Flush) -> Doing
+    ensures { result ≡ begun op does flush }
+{
+    Doing {
+        op,
+        does,
+        flush,
+        progress: Progress::Working {
+            quiets: 0,
+            started: 0,
+        },
+        has_moved: false,
+    }
+}
+
+fn begin(doing: &mut Option<Doing>, next: Doing)
+    ensures { doing.new ≡ Some next }
+{
+    *doing = Some(next);
+}
+
+fn is_mount(does: Does) -> bool
+    ensures { result ≡ is_mount does }
+{
+    matches!(does, Does::Mounts(_))
+}
+
+/// A mount is in writeback mode where all mounts of the run are.
+fn by_limits(limits: &Limits, does: Does) -> Does
+    ensures { result ≡ by_limits limits.now does }
+{
+    match does {
+        Does::Mounts(writeback) => Does::Mounts(writeback || limits.writeback),
+        other => other,
+    }
+}
+
+fn names_closed(handles: &[Option<Handle>], named_handles: Handles) -> bool
+    ensures { result ≡ names_closed handles.now named_handles }
+{
+    match named_handles {
+        Handles::None => false,
+        Handles::One(handle) => is_closed(handles, handle),
+        Handles::Two(first, second) => is_closed(handles, first) || is_closed(handles, second),
+    }
+}
+
+fn is_closed(handles: &[Option<Handle>], handle: u64) -> bool
+    ensures { result ≡ is_closed handles.now handle }
+{
+    named(handles, handle).is_none()
+}
+
+/// The files of an operation's handles.
+fn files_of(handles: &[Option<Handle>], named_handles: Handles) -> Flush
+    ensures { result ≡ files_here handles.now named_handles }
+{
+    match named_handles {
+        Handles::None => Flush::Nothing,
+        Handles::One(handle) => Flush::File(inode_at(handles, handle)),
+        Handles::Two(first, second) => {
+            Flush::Files(inode_at(handles, first), inode_at(handles, second))
+        }
+    }
+}
+
+/// The inode of a handle's file, 0 where it isn't open.
+fn inode_at(handles: &[Option<Handle>], handle: u64) -> u64
+    ensures { result ≡ inode_here handles.now handle }
+{
+    match named(handles, handle) {
+        Some(open) => open.inode,
+        None => 0,
+    }
+}
