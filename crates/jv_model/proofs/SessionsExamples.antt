@@ -1,11 +1,12 @@
 -- Sessions, and the files that they keep.
-use Rattle.std.specs.Prelude.{◌≡◌, ℕ, false, List, [], ◌∷◌, codes}
+use Rattle.std.specs.Prelude.{◌≡◌, ℕ, false, List, [], ◌∷◌, ◌++◌, codes}
 use Rattle.std.proofs.Common.{refl}
 use Rattle.jv_model.specs.declared.basics.How.TheVariants.{Plain}
 use Rattle.jv_model.specs.declared.op.Op.TheVariants as op
+use Rattle.jv_model.specs.tree.Tree.{Tree}
 use Rattle.jv_model.proofs.ReplyTextExamples.{replies_on_literals}
 use Rattle.jv_model.proofs.TreeComputes.{tree_computes}
-use Rattle.jv_model.proofs.TreeRuns.{Event, Asks, Ticks, Expires, texts, plain_start}
+use Rattle.jv_model.proofs.TreeRuns.{Event, Asks, Ticks, Expires, texts, plain_start, state_after}
 
 -- A session ends with its umount, or once its time has come and another session cleans; the files that it kept go with it.
 abbrev sessions_expire_events : List Event
@@ -96,3 +97,29 @@ sessions_come_first_texts =
 sessions_come_first : texts plain_start sessions_come_first_events ≡ sessions_come_first_texts
 unfolding tree_computes replies_on_literals
 sessions_come_first = refl
+
+-- A file that was removed while it was open leaves nothing behind, by an umount, by its close, or by a cleaning.
+abbrev begun_events : List Event
+begun_events =
+    Asks 0 (op.Mount false)
+    ∷ Asks 0 (op.Create (codes "/f") 420)
+    ∷ Asks 0 (op.Unlink (codes "/f"))
+    ∷ []
+
+abbrev tree_left : List Event → Tree
+tree_left events = (state_after plain_start (begun_events ++ events)).tree
+
+abbrev bare_tree : Tree
+bare_tree = record plain_start.tree { next_inode = 3; next_session = 2 }
+
+umounts_leave_nothing : tree_left (Asks 0 op.Umount ∷ []) ≡ bare_tree
+unfolding tree_computes
+umounts_leave_nothing = refl
+
+closes_leave_nothing : tree_left (Asks 0 (op.Close 1) ∷ Asks 0 op.Umount ∷ []) ≡ bare_tree
+unfolding tree_computes
+closes_leave_nothing = refl
+
+cleanings_leave_nothing : tree_left (Ticks 60 ∷ Expires 1 ∷ []) ≡ bare_tree
+unfolding tree_computes
+cleanings_leave_nothing = refl

@@ -19,6 +19,7 @@ last_names_go_to_the_trash_events =
     ∷ Ticks 10
     ∷ Asks 0 (op.Unlink (codes "/d/f"))
     ∷ Asks 0 (op.Stat (codes "/g"))
+    ∷ Ticks 1
     ∷ Asks 0 (op.Unlink (codes "/g"))
     ∷ Asks 0 (op.Unlink (codes "/l"))
     ∷ Asks 0 (op.Rmdir (codes "/d"))
@@ -46,17 +47,18 @@ last_names_go_to_the_trash_texts =
     ∷ codes "-"
     ∷ codes "ok"
     ∷ codes "ok 3 f 0644 1 0 0 0 1000 1010"
+    ∷ codes "-"
     ∷ codes "ok"
     ∷ codes "ok"
     ∷ codes "ok"
     ∷ codes "ok -"
     ∷ codes "ok 1-3-g:3 1-4-l:4"
-    ∷ codes "ok 9223372032866421456 d 0555 2 0 0 4096 1010 1010"
-    ∷ codes "ok 9223372032828243968 d 0555 3 0 0 4096 1010 1010"
-    ∷ codes "ok 3 f 0644 1 0 0 0 1000 1010"
+    ∷ codes "ok 9223372032866421456 d 0555 2 0 0 4096 1011 1011"
+    ∷ codes "ok 9223372032828243968 d 0555 3 0 0 4096 1011 1011"
+    ∷ codes "ok 3 f 0644 1 0 0 0 1000 1011"
     ∷ codes "ok 8192 0 2 0"
     ∷ codes "ok"
-    ∷ codes "ok 3 f 0644 0 0 0 0 1000 1010"
+    ∷ codes "ok 3 f 0644 0 0 0 0 1000 1011"
     ∷ codes "ok"
     ∷ codes "ok -"
     ∷ codes "ok"

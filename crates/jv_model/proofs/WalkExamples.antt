@@ -110,6 +110,7 @@ symlinks_are_ways_events =
     ∷ Asks 0 (op.Stat (codes "/far"))
     ∷ Asks 0 (op.Create (codes "/dir/g") 420)
     ∷ Asks 0 (op.Lookup (codes "/d/g"))
+    ∷ Asks 0 (op.Lookup (codes "/dir/g"))
     ∷ Asks 0 (op.Readdir (codes "/dir/"))
     ∷ Asks 0 (op.Lookup (codes "/far/x"))
     ∷ Asks 0 (op.Open (codes "/dangling"))
@@ -140,6 +141,7 @@ symlinks_are_ways_texts =
     ∷ codes "ok 5"
     ∷ codes "ok 3 f 0644 1 0 0 0 1000 1000"
     ∷ codes "ok 3 8"
+    ∷ codes "ok 8"
     ∷ codes "ok 8"
     ∷ codes "ok f:3 g:8 near:4"
     ∷ codes "err ENOTDIR"
