@@ -12,7 +12,6 @@ use Rattle.jv_model.specs.run.Pending.{PendingByte}
 use Rattle.jv_model.specs.client.ModelClient.{ModelClient, OpenFile, OfFiles, OfAll, file_in, file_of, open_count, inode_in, inode_at}
 use Rattle.jv_model.specs.client.Profile.{profile, handle_list}
 use Rattle.jv_model.specs.client.Submission.{submission, submission_of, submitted, names_closed, is_closed, flush_of, by_limits}
-use Rattle.jv_client.specs.declared.doing.Flush.{Flush}
 use Rattle.jv_client.specs.declared.doing.Flush.TheVariants as flush
 use Rattle.jv_client.specs.declared.doing.Progress.TheVariants as progress
 use Rattle.jv_client.specs.declared.handles.Handle.{Handle}
@@ -115,7 +114,3 @@ pub refusal-by : (m : ModelClient) (c : ClientValue) (o : Op) (row : Profile) (r
     → refusal ≡ submission m o
 refusal-by m c o row refusal h same is =
     is ∙ ap (λ (r : Profile). submission_of (is_some c.doing) (is_some c.session) (names_closed c.handles r.handles) (open_count c.handles) r) same ∙ sym (submission-same m c o h)
-
--- the flush by a row that is the operation's, of the client as it stands
-pub flush-by : {v w : ClientValue} {row : Profile} {o : Op} (flush : Flush) → w ≡ v → row ≡ profile o → flush ≡ flush_here w row → flush ≡ flush_here v (profile o)
-flush-by {v} {w} {row} {o} flush seen same is = is ∙ ap (λ (r : Profile). flush_here w r) same ∙ ap (λ (c : ClientValue). flush_here c (profile o)) seen

@@ -6,7 +6,7 @@ use Rattle.jv_model.specs.client.Submission.{submitted, by_limits}
 use Rattle.jv_client.specs.declared.doing.Doing.{Doing}
 use Rattle.jv_client.specs.ClientValue.{ClientValue}
 use Rattle.jv_client.specs.Held.{IsClient, begun, flush_here}
-use Rattle.jv_client.proofs.SubmissionLaws.{refusal-by, begun-stands, flush-by}
+use Rattle.jv_client.proofs.SubmissionLaws.{refusal-by, begun-stands}
 use Rattle.jv_client.proofs.client.Client.submit.Goals as goal
 
 pub returns-in-Some-clause-refusal : goal.returns-in-Some-clause-refusal
@@ -23,7 +23,7 @@ returns-clause-begun c m h =
     let seen = c.self.view_is in
     let does = c.by_limits-does.ensures ∙ ap (λ (r : Profile). by_limits c.self.inside.limits r.does) row
       ∙ ap (λ (v : ClientValue). by_limits v.limits (profile o).does) seen in
-    let flush = flush-by {o = o} c.flush_of-flush.result seen row c.flush_of-flush.ensures in
+    let flush = c.flush_of-flush.ensures ∙ ap (λ (r : Profile). flush_here value r) row in
     let doing = c.begun.ensures ∙ ap (λ does. begun o does c.flush_of-flush.result) does ∙ ap (begun o (by_limits value.limits (profile o).does)) flush in
     let stands = subst (λ (d : Doing). IsClient (submitted value.limits o m) (record value { doing = Some d })) (sym doing) (begun-stands m value o h) in
     let placed = subst (λ (d : Option Doing). IsClient (submitted value.limits o m) (record value { doing = d })) (sym c.begin.ensures) stands in
