@@ -5,10 +5,8 @@ use Rattle.std.proofs.lemmas.Bool.{cases_lt, cond-true, cond-false, and_right, l
 use Rattle.jv_model.specs.tree.Tree.{Content}
 use Rattle.jv_model.specs.tree.Changes.{overwritten}
 use Rattle.jv_files.specs.declared.files.StoredSegment.{StoredSegment}
-use Rattle.jv_files.specs.declared.files.StoredFile.{StoredFile}
-use Rattle.jv_files.specs.Stored.{covers, with_segment}
+use Rattle.jv_files.specs.Stored.{covers, stored_byte}
 use Rattle.jv_files.proofs.PaintLaws.{shown_over-push}
-use Rattle.jv_session.specs.Agrees.{Keeps}
 
 module _ {X : Type 0} where
   -- what holds of each element at its place holds after one more, and after a change
@@ -56,12 +54,11 @@ module _ (content : Content) (from : ℕ) (bytes : List ℕ) (position : ℕ) wh
       (λ (after : content.length ≤ position). cond-false _ _ _ (le-ltb position content.length after) ∙ sym (past after))
       (cases_lt position content.length))
 
--- a file's bytes agree after a commit too
-pub keeps-overwritten : (file : StoredFile) (content : Content) (from : ℕ) (bytes : List ℕ) → Keeps file content → Keeps (with_segment from bytes file) (overwritten content from bytes)
-keeps-overwritten file content from bytes h = record {
-  length = ap (λ n. max n (from + length bytes)) h.length;
-  bytes = λ position.
-      let s : StoredSegment = record { from = from; bytes = bytes } in
-      overwritten-byte content from bytes position ?
-      ∙ ap (λ below. cond (covers s position) (slice_index bytes (position - from)) below) (h.bytes position) ∙ sym (shown_over-push 0 file.segments s position);
-}
+-- and a file that shows these bytes shows them after one more segment
+pub overwritten-shown : (content : Content) (segments : List StoredSegment) (from : ℕ) (bytes : List ℕ) (position : ℕ) → (content.length ≤ position → content.byte position ≡ 0)
+    → content.byte position ≡ stored_byte segments position
+    → (overwritten content from bytes).byte position ≡ stored_byte (segments ++ record { from = from; bytes = bytes } ∷ []) position
+overwritten-shown content segments from bytes position past shows =
+    let s : StoredSegment = record { from = from; bytes = bytes } in
+    overwritten-byte content from bytes position past
+    ∙ ap (λ below. cond (covers s position) (slice_index bytes (position - from)) below) shows ∙ sym (shown_over-push 0 segments s position)

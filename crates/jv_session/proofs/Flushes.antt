@@ -1,8 +1,7 @@
 -- Lines that flush a file, read it or write to it.
-use Rattle.std.proofs.Common.{◌≡◌, ℕ, ◌+◌, max, true, IsTrue, List, [], ◌∷◌, map, length, slice_get, Option, Some, refl, sym, ap, subst, ◌∙◌, arith, lit≤}
+use Rattle.std.proofs.Common.{◌≡◌, ℕ, ◌+◌, max, true, List, [], ◌∷◌, map, length, slice_get, Option, Some, refl, sym, ap, subst, ◌∙◌, arith, lit≤}
 use Rattle.std.proofs.Math.ListN.{length-set}
-use Rattle.jv_model.specs.FiniteMap.{get}
-use Rattle.std.specs.Prelude.{slice_set, IfSome, is_some}
+use Rattle.std.specs.Prelude.{slice_set, is_some}
 use Rattle.jv_model.specs.declared.act.Act.{Act}
 use Rattle.jv_model.specs.declared.act.ActKind.TheVariants.{Commit, Quiet}
 use Rattle.jv_model.specs.declared.op.Line.{Line}

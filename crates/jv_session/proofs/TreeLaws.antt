@@ -9,7 +9,7 @@ use Rattle.std.proofs.lemmas.Option.{slice_get_within}
 use Rattle.jv_model.specs.declared.fault.Fault.TheVariants.{NotFound, AlreadyExists, NoSpace}
 use Rattle.jv_model.specs.declared.op.Reply.TheVariants.{FileOpened}
 use Rattle.jv_model.specs.declared.setting.Setting.{Setting}
-use Rattle.jv_model.specs.tree.Attempt.{◌>>=◌, require, some_or}
+use Rattle.jv_model.specs.tree.Attempt.{◌>>=◌, require}
 use Rattle.jv_model.specs.FiniteMap.{Map, number_key, get, insert}
 use Rattle.jv_model.specs.script.Spelling.{is_name, is_root_path}
 use Rattle.jv_model.specs.run.Pending.{PendingByte, end_of}
@@ -33,7 +33,7 @@ use Rattle.jv_session.proofs.AttemptLaws.{require-true, goes_on, stops, both_req
 use Rattle.jv_session.proofs.PathLaws.{root_paths, entry_of-root, inode_of-root, inode_of-root-absent, is_trash-plain}
 use Rattle.jv_session.proofs.SumLaws.{get-same, get-other, sum-changed, sum-added}
 use Rattle.jv_session.proofs.NodeLaws.{IsFileNode, file_node, no_parent, no_target, set_node-some, node_space-counted, node_count-counted, free_inode, sum_fits-grown, sum_fits-same}
-use Rattle.jv_session.proofs.FileLaws.{each-push, each-set, in_place, slice_get_inside, some_and, keeps-overwritten}
+use Rattle.jv_session.proofs.FileLaws.{each-push, each-set, in_place, slice_get_inside, some_and, overwritten-shown}
 
 -- the name in a path of the root
 abbrev pub name_in : List ℕ → List ℕ
@@ -379,6 +379,13 @@ space_from : (used before bound : ℕ) (file : StoredFile) (content : Content) �
     → used + paged file.length ≡ before + paged (max file.length bound) → used + paged file.length ≡ before + paged (max content.length bound)
 space_from used before bound file content keeps e = e ∙ ap (λ n. before + paged (max n bound)) (sym keeps.length)
 
+-- a file's bytes agree after a commit too
+keeps-overwritten : (file : StoredFile) (content : Content) (from : ℕ) (bytes : List ℕ) → Keeps file content → Keeps (with_segment from bytes file) (overwritten content from bytes)
+keeps-overwritten file content from bytes h = record {
+  length = ap (λ n. max n (from + length bytes)) h.length;
+  bytes = λ position. overwritten-shown content file.segments from bytes position ? (h.bytes position);
+}
+
 pub has_files-committed : (t : Tree) (v : FilesValue) (k now from : ℕ) (bytes : List ℕ) (file : StoredFile) (used : ℕ) → HasFiles t v
     → slice_get v.files k ≡ Some file → used + paged file.length ≡ v.used_space + paged (max file.length (from + length bytes))
     → HasFiles (committed t now (2 + k) from bytes) (with_commit v k from bytes file used)
@@ -412,7 +419,7 @@ next_session-committed t now inode from bytes = kept-committed (λ x. x.next_ses
 pub setting-committed : (t : Tree) (now inode from : ℕ) (bytes : List ℕ) → (committed t now inode from bytes).setting ≡ t.setting
 setting-committed t now inode from bytes = kept-committed (λ x. x.setting) (λ x nodes. refl) t now inode from bytes
 
--- and of a new file's own tree
+-- what neither nodes, entries nor the next inode change, a create doesn't
 module _ {A : Type 0} (part : Tree → A) (same : (t : Tree) (nodes : Map number_key Node) → part (record t { nodes = nodes }) ≡ part t)
     (apart : (t : Tree) (entries : Map entry_key ℕ) (next : ℕ) → part (record t { entries = entries; next_inode = next }) ≡ part t) where
   kept-created : (t : Tree) (who : Caller) (path : List ℕ) (mode : ℕ) → part (created t who path mode) ≡ part t
