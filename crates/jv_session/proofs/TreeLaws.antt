@@ -33,7 +33,7 @@ use Rattle.jv_session.proofs.AttemptLaws.{require-true, goes_on, stops, both_req
 use Rattle.jv_session.proofs.PathLaws.{root_paths, entry_of-root, inode_of-root, inode_of-root-absent, is_trash-plain}
 use Rattle.jv_session.proofs.SumLaws.{get-same, get-other, sum-changed, sum-added}
 use Rattle.jv_session.proofs.NodeLaws.{IsFileNode, file_node, no_parent, no_target, set_node-some, node_space-counted, node_count-counted, free_inode, sum_fits-grown, sum_fits-same}
-use Rattle.jv_session.proofs.FileLaws.{each-push, each-set, in_place, slice_get_inside, some_and, overwritten-shown}
+use Rattle.jv_session.proofs.FileLaws.{each-push, each-set, in_place, slice_get_inside, some_and, overwritten-past, overwritten-shown}
 
 -- the name in a path of the root
 abbrev pub name_in : List ℕ → List ℕ
@@ -259,7 +259,7 @@ module _ (t : Tree) (v : FilesValue) (who : Caller) (name : List ℕ) (mode : �
   top_parent = (top t v who name mode h low).2
 
   empty_keeps : Keeps (record { length = 0; segments = [] }) empty_content
-  empty_keeps = record { length = refl; bytes = λ position. refl }
+  empty_keeps = record { length = refl; bytes = λ position. refl; past = λ position after. refl }
 
   new_content : content_at tree_now (2 + length v.files) ≡ Some empty_content
   unfolding new_file
@@ -383,7 +383,8 @@ space_from used before bound file content keeps e = e ∙ ap (λ n. before + pag
 keeps-overwritten : (file : StoredFile) (content : Content) (from : ℕ) (bytes : List ℕ) → Keeps file content → Keeps (with_segment from bytes file) (overwritten content from bytes)
 keeps-overwritten file content from bytes h = record {
   length = ap (λ n. max n (from + length bytes)) h.length;
-  bytes = λ position. overwritten-shown content file.segments from bytes position ? (h.bytes position);
+  bytes = λ position. overwritten-shown content file.segments from bytes position (h.past position) (h.bytes position);
+  past = overwritten-past content from bytes;
 }
 
 pub has_files-committed : (t : Tree) (v : FilesValue) (k now from : ℕ) (bytes : List ℕ) (file : StoredFile) (used : ℕ) → HasFiles t v
