@@ -24,7 +24,8 @@ use Rattle.jv_files.specs.Stored.{IsFile, FilesValue, Creates, inode_named}
 use Rattle.jv_session.specs.Lines.{Coming}
 use Rattle.jv_session.specs.BuiltHere.{refusal_here, built_op, has_form, may_answer, may_run, has_room}
 use Rattle.jv_session.proofs.Steps.{started_line}
-use Rattle.jv_session.proofs.TreeLaws.{created, create-exists, create-new, open-found, open-absent, has_files-created, few-has_room}
+use Rattle.jv_session.proofs.TreeLaws.{created, create-exists, create-new, open-found, open-absent, has_files-created, setting-created, sessions-created, next_session-created, few-has_room}
+use Rattle.jv_session.proofs.Transactions.{has_session-kept}
 use Rattle.jv_session.proofs.LineLaws.{mount_ran, tree_refused_ran, opened_ran, with_handle}
 use Rattle.jv_files.specs.declared.files.StoredFile.{StoredFile}
 use Rattle.jv_files.specs.Shown.{shown_between}
@@ -115,8 +116,8 @@ create_runs line at mode inode handle path s volume before built none absent mad
     let longer : length volume.files ≡ length v.files + 1 = ap length made.files ∙ length-append v.files (record { length = 0; segments = [] } ∷ []) in
     subst (λ n. Ran p more line before (before ++ entry_at line at (Opened handle n) ∷ entry_at line at (Answered (Fine handle n 0 0)) ∷ []) (printed_line s.setting (FileOpened handle n)) (record (with_handle s n) { at = at; volume = volume })) (sym number)
     (opened_ran p more line at op s (created p.tree who path mode) (2 + length v.files) handle volume before h (no_refusal p more line at op s before h none) refl (λ c. refl) (λ reply. refl) is free
-    (subst (HasFiles (created p.tree who path mode)) (sym same) files) a.setting
-    (record { mounted = a.mounted.mounted; first = a.mounted.first })
+    (subst (HasFiles (created p.tree who path mode)) (sym same) files) (setting-created p.tree who path mode ∙ a.setting)
+    (has_session-kept p.tree (created p.tree who path mode) s.session (sessions-created p.tree who path mode) (next_session-created p.tree who path mode) a.mounted)
     (omega (arith, longer)) (record { low = omega arith; high = omega (arith, longer) }))
 
 -- open

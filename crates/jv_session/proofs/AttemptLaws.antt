@@ -15,10 +15,6 @@ goes_on r next x e = ap (λ p. p >>= next) e
 pub stops : {A B : Type 0} (r : Result A Fault) (next : A → Result B Fault) (fault : Fault) → r ≡ Err fault → (r >>= next) ≡ Err fault
 stops r next fault e = ap (λ p. p >>= next) e
 
-pub ends : {A : Type 0} (r : Result A Fault) → (r >>= Ok) ≡ r
-ends (Ok x) = refl
-ends (Err fault) = refl
-
 -- two tests with one fault are one test
 pub both_required : {A B : Type 0} (first second : Bool) (fault : Fault) (x : A) (f : A → B)
     → ((require first fault >>= λ _. require second fault >>= λ _. Ok x) >>= λ y. Ok (f y)) ≡ cond (first && second) (Ok (f x)) (Err fault)

@@ -17,7 +17,8 @@ use Rattle.jv_model.specs.FiniteMap.{get, insert}
 use Rattle.jv_model.specs.run.Past.{Past, caller}
 use Rattle.jv_model.specs.run.Pending.{PendingByte, end_of}
 use Rattle.jv_model.specs.tree.Tree.{Tree, full_count, paged}
-use Rattle.jv_model.specs.tree.TreeAct.{Outcome, outcome}
+use Rattle.jv_model.specs.tree.Caller.{Outcome, outcome}
+use Rattle.jv_model.specs.tree.Sessions.{mount}
 use Rattle.jv_files.specs.Stored.{FilesValue, IsFile, inode_named}
 use Rattle.jv_session.specs.Agrees.{ScheduleValue, HasFiles, Agrees, Stands}
 use Rattle.jv_session.specs.BuiltHere.{refusal_here, has_form, has_room, space_grown, grown_fits, inode_or_zero, may_flush, may_run, may_answer, built_op, built_here}
@@ -104,6 +105,7 @@ session-there p s sid a some =
     ap (λ o. is_some (get p.tree.sessions (unwrap_or o 0))) (a.client.session ∙ some) ∙ there
 
 mount-here : (p : Past) (s : ScheduleValue) (writeback : Bool) → Agrees p None s → s.session ≡ None → true ≡ is_built_run p 0 (Mount writeback)
+unfolding mount
 mount-here p s writeback a unmounted =
     let t = p.tree in
     let who = caller p 0 (p.clients 0) p.at in

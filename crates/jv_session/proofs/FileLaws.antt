@@ -1,13 +1,12 @@
 -- A volume's list of files, and the bytes of one.
-use Rattle.std.proofs.Common.{◌≡◌, ℕ, zero, suc, ◌+◌, ◌-◌, ◌<◌, max, cond, List, [], ◌∷◌, ◌++◌, length, slice_get, slice_set, slice_index, Option, None, Some, refl, sym, ap, ◌∙◌, arith}
-use Rattle.std.specs.Prelude.{IfSome, IsSomeAnd}
+use Rattle.std.proofs.Common.{◌≡◌, ℕ, zero, suc, ◌+◌, ◌-◌, ◌<◌, ◌≤◌, max, cond, ◌&&◌, List, [], ◌∷◌, ◌++◌, length, slice_get, slice_set, slice_index, Option, None, Some, refl, sym, ap, ◌∙◌, ⊎_elim, lt-ltb, arith}
+use Rattle.std.specs.Prelude.{nat_le, nat_lt, IfSome, IsSomeAnd}
+use Rattle.std.proofs.lemmas.Bool.{cases_lt, cond-true, cond-false, and_right, le-ltb}
 use Rattle.jv_model.specs.tree.Tree.{Content}
-use Rattle.jv_model.specs.tree.TreeAct.{overwritten}
+use Rattle.jv_model.specs.tree.Changes.{overwritten}
 use Rattle.jv_files.specs.declared.files.StoredSegment.{StoredSegment}
-use Rattle.jv_files.specs.declared.files.StoredFile.{StoredFile}
-use Rattle.jv_files.specs.Stored.{covers, with_segment}
+use Rattle.jv_files.specs.Stored.{covers, stored_byte}
 use Rattle.jv_files.proofs.PaintLaws.{shown_over-push}
-use Rattle.jv_session.specs.Agrees.{Keeps}
 
 module _ {X : Type 0} where
   -- what holds of each element at its place holds after one more, and after a change
@@ -38,11 +37,28 @@ module _ {X : Type 0} where
   some_and None P h = absurd h
   some_and (Some x) P h = (x, refl, h)
 
--- a file's bytes agree after a commit too
-pub keeps-overwritten : (file : StoredFile) (content : Content) (from : ℕ) (bytes : List ℕ) → Keeps file content → Keeps (with_segment from bytes file) (overwritten content from bytes)
-keeps-overwritten file content from bytes h = record {
-  length = ap (λ n. max n (from + length bytes)) h.length;
-  bytes = λ position.
-      let s : StoredSegment = record { from = from; bytes = bytes } in
-      ap (λ below. cond (covers s position) (slice_index bytes (position - from)) below) (h.bytes position) ∙ sym (shown_over-push 0 file.segments s position);
-}
+-- bytes put over those of a file
+module _ (content : Content) (from : ℕ) (bytes : List ℕ) (position : ℕ) where
+  -- from its length on, the file has no other byte than 0
+  pub overwritten-past : max content.length (from + length bytes) ≤ position → (overwritten content from bytes).byte position ≡ 0
+  overwritten-past past =
+      cond-false _ _ _ (and_right (nat_le from position) _ (le-ltb position (from + length bytes) (omega arith)))
+      ∙ cond-false _ _ _ (le-ltb position content.length (omega arith))
+
+  -- where it had none before, what isn't put over stays
+  pub overwritten-byte : (content.length ≤ position → content.byte position ≡ 0)
+      → (overwritten content from bytes).byte position ≡ cond (nat_le from position && nat_lt position (from + length bytes)) (slice_index bytes (position - from)) (content.byte position)
+  overwritten-byte past =
+      ap (cond (nat_le from position && nat_lt position (from + length bytes)) (slice_index bytes (position - from)))
+      (⊎_elim (λ (inside : position < content.length). cond-true _ _ _ (lt-ltb _ _ inside))
+      (λ (after : content.length ≤ position). cond-false _ _ _ (le-ltb position content.length after) ∙ sym (past after))
+      (cases_lt position content.length))
+
+-- and a file that shows these bytes shows them after one more segment
+pub overwritten-shown : (content : Content) (segments : List StoredSegment) (from : ℕ) (bytes : List ℕ) (position : ℕ) → (content.length ≤ position → content.byte position ≡ 0)
+    → content.byte position ≡ stored_byte segments position
+    → (overwritten content from bytes).byte position ≡ stored_byte (segments ++ record { from = from; bytes = bytes } ∷ []) position
+overwritten-shown content segments from bytes position past shows =
+    let s : StoredSegment = record { from = from; bytes = bytes } in
+    overwritten-byte content from bytes position past
+    ∙ ap (λ below. cond (covers s position) (slice_index bytes (position - from)) below) shows ∙ sym (shown_over-push 0 segments s position)

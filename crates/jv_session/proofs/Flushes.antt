@@ -1,8 +1,7 @@
 -- Lines that flush a file, read it or write to it.
-use Rattle.std.proofs.Common.{◌≡◌, ℕ, ◌+◌, max, true, IsTrue, List, [], ◌∷◌, map, length, slice_get, Option, Some, refl, sym, ap, subst, ◌∙◌, arith, lit≤}
+use Rattle.std.proofs.Common.{◌≡◌, ℕ, ◌+◌, max, true, List, [], ◌∷◌, map, length, slice_get, Option, Some, refl, sym, ap, subst, ◌∙◌, arith, lit≤}
 use Rattle.std.proofs.Math.ListN.{length-set}
-use Rattle.jv_model.specs.FiniteMap.{get}
-use Rattle.std.specs.Prelude.{slice_set, IfSome, is_some}
+use Rattle.std.specs.Prelude.{slice_set, is_some}
 use Rattle.jv_model.specs.declared.act.Act.{Act}
 use Rattle.jv_model.specs.declared.act.ActKind.TheVariants.{Commit, Quiet}
 use Rattle.jv_model.specs.declared.op.Line.{Line}
@@ -18,6 +17,7 @@ use Rattle.jv_session.specs.Flushing.{segment_entries}
 use Rattle.jv_session.specs.Progress.{InLine, Reaches, StepsTo, at_stage}
 use Rattle.jv_session.specs.Agrees.{ScheduleValue, Agrees, HasFiles, HasSession, entry_at}
 use Rattle.jv_session.proofs.Steps.{one_step, more_steps, steps_to, stepped, quieted, stepped-quiet, agrees-quieted, in_line-quieted, with_stage-doing, opened_later, OpenedBy}
+use Rattle.jv_session.proofs.Transactions.{has_session-kept}
 use Rattle.jv_session.proofs.TreeLaws.{has_files-committed, fits-committed, sessions-committed, next_session-committed, setting-committed}
 
 -- a quiet step of a flush
@@ -65,10 +65,8 @@ with_flushed s k from len used file = record s {
 }
 
 has_session-committed : (t : Tree) (now inode from : ℕ) (bytes : List ℕ) (session : Option ℕ) → HasSession t session → HasSession (committed t now inode from bytes) session
-has_session-committed t now inode from bytes session h = record {
-  mounted = subst (λ sessions. IfSome session (λ sid. IsTrue (is_some (get sessions sid)))) (sym (sessions-committed t now inode from bytes)) h.mounted;
-  first = λ e. next_session-committed t now inode from bytes ∙ h.first e;
-}
+has_session-committed t now inode from bytes session =
+    has_session-kept t (committed t now inode from bytes) session (sessions-committed t now inode from bytes) (next_session-committed t now inode from bytes)
 
 agrees-committed : (q : Past) (line at k from len used : ℕ) (file : StoredFile) (doing doing' : Doing) (s : ScheduleValue) → Agrees q (Some doing') s → MayCommit s doing k from len used file
     → Agrees (committed_to q (entry_at line at (Commit (2 + k) from len 0)) doing (2 + k) from len) (Some (at_stage doing (Flushing 0))) (with_flushed s k from len used file)

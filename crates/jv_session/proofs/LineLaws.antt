@@ -15,7 +15,8 @@ use Rattle.jv_model.specs.declared.op.Reply.TheVariants.{Refused, SessionMade, F
 use Rattle.jv_model.specs.tree.Attempt.{◌>>=◌, require}
 use Rattle.jv_model.specs.FiniteMap.{get, insert}
 use Rattle.jv_model.specs.tree.Tree.{Tree, full_count}
-use Rattle.jv_model.specs.tree.TreeAct.{Caller, Outcome, outcome}
+use Rattle.jv_model.specs.tree.Caller.{Caller, Outcome, outcome}
+use Rattle.jv_model.specs.tree.Sessions.{mount}
 use Rattle.jv_model.specs.run.Client.{ModelClient, OpenFile, Doing, Transacting, Replying, is_replying, first_stage, free_handle, with_file, submission}
 use Rattle.jv_model.specs.run.Past.{Past, NoMore, with_client, caller, transacted, mounts_writeback, after, counted, ended, done_reply, finished, is_no_more}
 use Rattle.jv_model.specs.script.ReplyText.{printed_line}
@@ -157,6 +158,7 @@ session-inserted t who = ap is_some (get-insert t.sessions 1 (record { client = 
 pub mount_ran : (p : Past) (more : List Line) (line at : ℕ) (s : ScheduleValue) (before : List Act) → Coming p more line at (Mount false) s before
     → submission (p.clients 0) (Mount false) ≡ None → s.session ≡ None → mounts_writeback p (Mount false) ≡ false
     → Ran p more line before (before ++ entry_at line at (Mounted 1) ∷ entry_at line at (Answered (Fine 1 0 0 0)) ∷ []) (printed_line s.setting (SessionMade 1)) (record s { at = at; session = Some 1 })
+unfolding mount
 mount_ran p more line at s before h none unmounted direct =
     let op = Mount false in
     let q = started_line p more op in

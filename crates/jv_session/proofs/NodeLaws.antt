@@ -1,10 +1,10 @@
 -- How nodes change, and what that does to the space and the inodes in use.
-use Rattle.std.proofs.Common.{◌≡◌, ℕ, zero, suc, ◌+◌, ◌≤◌, ◌<◌, Bool, true, false, cond, ◌||◌, Option, None, Some, is_some, refl, sym, ap, ◌∙◌, arith, ne_eqb, lt-ltb, le-leb, leb-true}
+use Rattle.std.proofs.Common.{◌≡◌, ℕ, zero, suc, ◌+◌, ◌≤◌, ◌<◌, Bool, true, false, cond, ◌||◌, List, Option, None, Some, is_some, refl, sym, ap, ◌∙◌, arith, ne_eqb, lt-ltb, le-leb, leb-true}
 use Rattle.std.specs.Prelude.{nat_le}
 use Rattle.std.specs.Option.{option_map}
 use Rattle.std.proofs.lemmas.Bool.{false≢true, and_from, or_right, lt-leb, not_from_false, cond-true, cond-false}
 use Rattle.jv_model.specs.FiniteMap.{insert, sum_over}
-use Rattle.jv_model.specs.tree.Tree.{Tree, Node, Kind, File, Directory, Symlink, Content, trash_root, is_counted, kind_space, node_space, node_count, sum_fits, content_of, parent_of, node_at, used_inodes}
+use Rattle.jv_model.specs.tree.Tree.{Tree, Node, Kind, File, Directory, Symlink, Content, trash_root, is_counted, kind_space, node_space, node_count, sum_fits, content_of, content_at, parent_of, target_at, node_at, used_inodes}
 use Rattle.jv_model.specs.tree.TreeAct.{set_node}
 use Rattle.jv_session.proofs.SumLaws.{sum-more, sum-least}
 
@@ -28,6 +28,12 @@ pub no_parent : (o : Option Node) (content : Content) → content_of o ≡ Some 
 no_parent o content is =
     let file = file_node o content is in
     ap parent_of file.there ∙ ap (λ kind. parent_of (Some (record (file.node) { kind = kind }))) file.kind
+
+-- nor a symlink
+pub no_target : (t : Tree) (inode : ℕ) (content : Content) → content_at t inode ≡ Some content → target_at t inode ≡ None
+no_target t inode content is =
+    let file = file_node (node_at t inode) content is in
+    rw file.there (ap (λ kind. elim kind as (λ _. Option (List ℕ)) [ File own ↦ None | Directory parent ↦ None | Symlink target ↦ Some target ]) file.kind)
 
 pub set_node-some : (t : Tree) (inode : ℕ) (change : Node → Node) (node : Node) → node_at t inode ≡ Some node
     → set_node t inode (option_map change (node_at t inode)) ≡ record t { nodes = insert t.nodes inode (change node) }

@@ -1,5 +1,6 @@
 -- Lines whose operation is one metadata transaction, and lines that are refused at their submission.
-use Rattle.std.proofs.Common.{◌≡◌, ℕ, true, ◌+◌, ◌&&◌, List, [], ◌∷◌, Option, None, Some, refl, sym, ap, ◌∙◌}
+use Rattle.std.proofs.Common.{◌≡◌, ℕ, true, ◌+◌, ◌&&◌, IsTrue, List, [], ◌∷◌, Option, None, Some, refl, sym, ap, subst, ◌∙◌}
+use Rattle.std.specs.Prelude.{IfSome, is_some}
 use Rattle.jv_model.specs.declared.act.Act.{Act}
 use Rattle.jv_model.specs.declared.act.ActKind.{ActKind}
 use Rattle.jv_model.specs.declared.act.ActKind.TheVariants.{Answered}
@@ -10,12 +11,14 @@ use Rattle.jv_model.specs.declared.op.Op.{Op}
 use Rattle.jv_model.specs.declared.op.Line.{Line}
 use Rattle.jv_model.specs.declared.op.Reply.{Reply}
 use Rattle.jv_model.specs.declared.op.Reply.TheVariants.{SessionMade, FileOpened}
-use Rattle.jv_model.specs.tree.TreeAct.{Outcome}
+use Rattle.jv_model.specs.FiniteMap.{get}
+use Rattle.jv_model.specs.tree.Tree.{Tree}
+use Rattle.jv_model.specs.tree.Caller.{Outcome}
 use Rattle.jv_model.specs.run.Client.{ModelClient, Doing, Transacting, Replying, first_stage, flush_of}
 use Rattle.jv_model.specs.run.Past.{Past, turned, with_client, transacted, replied, mounts_writeback, after_step, after_transaction, counted, told_of, is_no_more}
 use Rattle.jv_model.specs.run.Legal.{Transacts, MayStep, OutOfMemory, Settled, IsMoment, entry_of_reply, is_before_step}
 use Rattle.jv_session.specs.Progress.{InLine, StepsTo}
-use Rattle.jv_session.specs.Agrees.{ScheduleValue, Agrees, Stands, entry_at}
+use Rattle.jv_session.specs.Agrees.{ScheduleValue, Agrees, HasSession, Stands, entry_at}
 use Rattle.jv_session.proofs.Steps.{one_step, steps_to, started_line, answered, still_client}
 
 -- a line begun
@@ -95,4 +98,11 @@ agrees-refused q act fault doing s before h = record {
   mounted = h.mounted;
   busy = refl;
   client = let c = still_client None h.client in record { session = c.session; direct = c.direct; handles = c.handles; opened = c.opened; pending = c.pending };
+}
+
+-- a session is in a tree that has the sessions of the one before
+pub has_session-kept : (before after : Tree) (session : Option ℕ) → after.sessions ≡ before.sessions → after.next_session ≡ before.next_session → HasSession before session → HasSession after session
+has_session-kept before after session same next h = record {
+  mounted = subst (λ sessions. IfSome session (λ sid. IsTrue (is_some (get sessions sid)))) (sym same) h.mounted;
+  first = λ e. next ∙ h.first e;
 }

@@ -9,12 +9,16 @@ use Rattle.std.proofs.lemmas.Option.{slice_get_within}
 use Rattle.jv_model.specs.declared.fault.Fault.TheVariants.{NotFound, AlreadyExists, NoSpace}
 use Rattle.jv_model.specs.declared.op.Reply.TheVariants.{FileOpened}
 use Rattle.jv_model.specs.declared.setting.Setting.{Setting}
-use Rattle.jv_model.specs.tree.Attempt.{◌>>=◌, require, some_or}
+use Rattle.jv_model.specs.tree.Attempt.{◌>>=◌, require}
 use Rattle.jv_model.specs.FiniteMap.{Map, number_key, get, insert}
 use Rattle.jv_model.specs.script.Spelling.{is_name, is_root_path}
 use Rattle.jv_model.specs.run.Pending.{PendingByte, end_of}
-use Rattle.jv_model.specs.tree.Tree.{Tree, Node, File, Content, entry_key, new_node, paged, kind_space, node_space, node_count, fits, sum_fits, space_limit, inode_limit, full_count, trash_root, node_at, content_of, content_at, parent_of, parent_at, used_space, used_inodes}
-use Rattle.jv_model.specs.tree.TreeAct.{Caller, Outcome, create, open_file, new_place, with_node, set_node, with_content, overwritten, committed, empty_content}
+use Rattle.jv_model.specs.tree.Tree.{Tree, Node, File, Content, entry_key, new_node, paged, kind_space, node_space, node_count, fits, sum_fits, space_limit, inode_limit, full_count, trash_root, node_at, content_of, content_at, parent_of, parent_at, target_at, used_space, used_inodes}
+use Rattle.jv_model.specs.tree.Caller.{Caller, Outcome}
+use Rattle.jv_model.specs.tree.Changes.{empty_content, touched, put_node, set_node, change_node, with_content, overwritten}
+use Rattle.jv_model.specs.tree.Making.{new_place, with_next, create}
+use Rattle.jv_model.specs.tree.Reading.{file_inode, open_file}
+use Rattle.jv_model.specs.tree.FileBytes.{committed}
 use Rattle.jv_model.specs.tree.Walk.{is_trash}
 use Rattle.jv_model.specs.run.Built.{flush_fits, grown}
 use Rattle.jv_model.proofs.FiniteMapLaws.{get-insert}
@@ -26,10 +30,10 @@ use Rattle.jv_files.proofs.SpaceLaws.{space_of-push, space_of-set}
 use Rattle.jv_session.specs.Agrees.{HasFiles, Keeps}
 use Rattle.jv_files.specs.Stored.{IsFile}
 use Rattle.jv_session.proofs.AttemptLaws.{require-true, goes_on, stops, both_required}
-use Rattle.jv_session.proofs.PathLaws.{root_paths, entry_of-root, inode_of-root, is_trash-plain}
+use Rattle.jv_session.proofs.PathLaws.{root_paths, entry_of-root, inode_of-root, inode_of-root-absent, is_trash-plain}
 use Rattle.jv_session.proofs.SumLaws.{get-same, get-other, sum-changed, sum-added}
-use Rattle.jv_session.proofs.NodeLaws.{IsFileNode, file_node, no_parent, set_node-some, node_space-counted, node_count-counted, free_inode, sum_fits-grown, sum_fits-same}
-use Rattle.jv_session.proofs.FileLaws.{each-push, each-set, in_place, slice_get_inside, some_and, keeps-overwritten}
+use Rattle.jv_session.proofs.NodeLaws.{IsFileNode, file_node, no_parent, no_target, set_node-some, node_space-counted, node_count-counted, free_inode, sum_fits-grown, sum_fits-same}
+use Rattle.jv_session.proofs.FileLaws.{each-push, each-set, in_place, slice_get_inside, some_and, overwritten-past, overwritten-shown}
 
 -- the name in a path of the root
 abbrev pub name_in : List ℕ → List ℕ
@@ -40,7 +44,7 @@ pub few-has_room : (setting : Setting) (v : FilesValue) → has_room setting v �
 few-has_room setting v room = ltb-true _ _ (and_parts _ _ room).0
 
 abbrev pub created : Tree → Caller → List ℕ → ℕ → Tree
-created t who path mode = with_node t who.now (record { dir = 1; name = name_in path }) (new_node (File empty_content) mode who.now)
+created t who path mode = with_next t who.now (record { dir = 1; name = name_in path }) (new_node (File empty_content) mode who.now)
 
 -- a file of the volume in the tree
 record FileAt (t : Tree) (k : ℕ) (file : StoredFile) : Type 0 where
@@ -70,6 +74,12 @@ is_no_directory t v inode h is =
     let file = (file_inside t v (inode - 2) h (omega (arith, is.low, is.high))).1 in
     subst (λ n. parent_at t n ≡ None) two (no_parent (node_at t (2 + (inode - 2))) file.content file.there)
 
+is_no_symlink : (t : Tree) (v : FilesValue) (inode : ℕ) → HasFiles t v → IsFile (length v.files) inode → target_at t inode ≡ None
+is_no_symlink t v inode h is =
+    let two : 2 + (inode - 2) ≡ inode = omega (arith, is.low) in
+    let file = (file_inside t v (inode - 2) h (omega (arith, is.low, is.high))).1 in
+    subst (λ n. target_at t n ≡ None) two (no_target t (2 + (inode - 2)) file.content file.there)
+
 -- where a new entry of the root may stand
 module _ (t : Tree) (name : List ℕ) (ok : is_name name ≡ true) (root : parent_at t 1 ≡ Some 1) where
   not_in_trash : not (nat_le trash_root 1 || is_trash 1 name) ≡ true
@@ -87,6 +97,7 @@ module _ (t : Tree) (name : List ℕ) (ok : is_name name ≡ true) (root : paren
 
 pub create-exists : (t : Tree) (v : FilesValue) (who : Caller) (path : List ℕ) (mode inode : ℕ) → HasFiles t v → is_some (get t.sessions who.sid) ≡ true
     → is_root_path path ≡ true → inode_named v.names path ≡ Some inode → create t who path mode ≡ Err AlreadyExists
+unfolding create
 create-exists t v who path mode inode h session root named =
     root_paths (λ q. inode_named v.names q ≡ Some inode → create t who q mode ≡ Err AlreadyExists) (λ name ok e.
     require-true _ _ _ session ∙ stops _ _ _ (new_place-taken t name ok h.root inode (h.names name ∙ e))) path root named
@@ -106,17 +117,17 @@ module _ (t : Tree) (v : FilesValue) (who : Caller) (name : List ℕ) (mode : �
   top : (node : Node) × (node_at t 1 ≡ Some node) × (parent_of (Some node) ≡ Some 1)
   top = some_node (node_at t 1) 1 h.root
 
-  touched_top : Node
-  touched_top = record (top.0) { mtime = who.now; ctime = who.now }
-
   new_file : Node
   new_file = new_node (File empty_content) mode who.now
 
   nodes_before : Map number_key Node
-  nodes_before = insert t.nodes 1 touched_top
+  nodes_before = insert t.nodes (2 + length v.files) new_file
+
+  touched_top : Node
+  touched_top = touched who.now top.0
 
   nodes_after : Map number_key Node
-  nodes_after = insert nodes_before (2 + length v.files) new_file
+  nodes_after = insert nodes_before 1 touched_top
 
   abbrev after_create : Tree
   after_create = record t {
@@ -125,38 +136,38 @@ module _ (t : Tree) (v : FilesValue) (who : Caller) (name : List ℕ) (mode : �
     next_inode = 2 + length v.files + 1;
   }
 
+  top_before : get nodes_before 1 ≡ Some top.0
+  unfolding nodes_before
+  top_before = get-other t.nodes (2 + length v.files) new_file 1 (λ e. absurd (omega (arith, e))) ∙ top.1
+
   created-is : created t who (47 ∷ name) mode ≡ after_create
   unfolding touched_top nodes_before nodes_after new_file
   created-is =
-      ap (λ (touched : Tree). record t {
-        nodes = insert touched.nodes t.next_inode (new_node (File empty_content) mode who.now);
-        entries = insert t.entries (record { dir = 1; name = name }) t.next_inode;
-        next_inode = t.next_inode + 1;
-      }) (set_node-some t 1 (λ (node : Node). record node { mtime = who.now; ctime = who.now }) top.0 top.1)
-      ∙ ap (λ inode. record t {
-        nodes = insert (insert t.nodes 1 (record (top.0) { mtime = who.now; ctime = who.now })) inode (new_node (File empty_content) mode who.now);
+      ap (λ inode. record (change_node (put_node t inode new_file) 1 (touched who.now)) {
         entries = insert t.entries (record { dir = 1; name = name }) inode;
         next_inode = inode + 1;
       }) h.next
+      ∙ ap (λ (after : Tree). record after {
+        entries = insert t.entries (record { dir = 1; name = name }) (2 + length v.files);
+        next_inode = 2 + length v.files + 1;
+      }) (set_node-some (put_node t (2 + length v.files) new_file) 1 (touched who.now) top.0 top_before)
 
-  free : get nodes_before (2 + length v.files) ≡ None
-  unfolding nodes_before
-  free = get-other t.nodes 1 touched_top (2 + length v.files) (λ e. absurd (omega (arith, e)))
-      ∙ free_inode t (length v.files) (λ k less. has_node t v k h less) h.inodes (omega (arith, low))
+  free : get t.nodes (2 + length v.files) ≡ None
+  free = free_inode t (length v.files) (λ k less. has_node t v k h less) h.inodes (omega (arith, low))
 
   space-created : used_space after_create ≡ v.used_space + 4096
   unfolding nodes_before nodes_after touched_top new_file
   space-created =
-      let added = sum-added node_space nodes_before (2 + length v.files) new_file free in
-      let changed = sum-changed node_space t.nodes 1 top.0 touched_top top.1 in
+      let added = sum-added node_space t.nodes (2 + length v.files) new_file free in
+      let changed = sum-changed node_space nodes_before 1 top.0 touched_top top_before in
       let counts : node_space (2 + length v.files) new_file ≡ 4096 = node_space-counted (length v.files) new_file (omega (arith, low)) in
       omega (arith, added, changed, counts, h.space)
 
   inodes-created : used_inodes after_create ≡ length v.files + 1
   unfolding nodes_before nodes_after touched_top new_file
   inodes-created =
-      let added = sum-added node_count nodes_before (2 + length v.files) new_file free in
-      let changed = sum-changed node_count t.nodes 1 top.0 touched_top top.1 in
+      let added = sum-added node_count t.nodes (2 + length v.files) new_file free in
+      let changed = sum-changed node_count nodes_before 1 top.0 touched_top top_before in
       let counts : node_count (2 + length v.files) new_file ≡ 1 = node_count-counted (length v.files) new_file (omega (arith, low)) in
       omega (arith, added, changed, counts, h.inodes)
 
@@ -178,6 +189,7 @@ has_room-created t v who name mode h =
 pub create-new : (t : Tree) (v : FilesValue) (who : Caller) (path : List ℕ) (mode : ℕ) → HasFiles t v → is_some (get t.sessions who.sid) ≡ true
     → is_root_path path ≡ true → inode_named v.names path ≡ None
     → create t who path mode ≡ cond (has_room t.setting v) (Ok (record { tree = created t who path mode; reply = FileOpened who.free_handle (2 + length v.files) })) (Err NoSpace)
+unfolding create
 create-new t v who path mode h session root absent =
     root_paths (λ q. inode_named v.names q ≡ None
     → create t who q mode ≡ cond (has_room t.setting v) (Ok (record { tree = created t who q mode; reply = FileOpened who.free_handle (2 + length v.files) })) (Err NoSpace)) (λ name ok e.
@@ -188,22 +200,32 @@ create-new t v who path mode h session root absent =
     ∙ ap (λ b. cond b (Ok (done t.next_inode (created t who (47 ∷ name) mode))) (Err NoSpace)) (has_room-created t v who name mode h)
     ∙ ap (λ inode. cond (has_room t.setting v) (Ok (done inode (created t who (47 ∷ name) mode))) (Err NoSpace)) h.next) path root absent
 
-pub open-found : (t : Tree) (v : FilesValue) (who : Caller) (path : List ℕ) (inode : ℕ) → HasFiles t v → is_some (get t.sessions who.sid) ≡ true
-    → is_root_path path ≡ true → inode_named v.names path ≡ Some inode → open_file t who path ≡ Ok (record { tree = t; reply = FileOpened who.free_handle inode })
-open-found t v who path inode h session root named =
-    root_paths (λ q. inode_named v.names q ≡ Some inode → open_file t who q ≡ Ok (record { tree = t; reply = FileOpened who.free_handle inode })) (λ name ok e.
+-- a file of the root has an inode, which is no directory
+file_inode-found : (t : Tree) (v : FilesValue) (who : Caller) (name : List ℕ) (inode : ℕ) → HasFiles t v → is_some (get t.sessions who.sid) ≡ true
+    → is_name name ≡ true → inode_named v.names (47 ∷ name) ≡ Some inode → file_inode t who (47 ∷ name) ≡ Ok inode
+file_inode-found t v who name inode h session ok e =
     let is : IsFile (length v.files) inode = subst (λ o. IfSome o (IsFile (length v.files))) e (h.named (47 ∷ name)) in
     require-true _ _ _ session
-    ∙ goes_on _ _ _ (inode_of-root t name ok h.root ∙ ap (λ o. some_or o NotFound) (h.names name ∙ e))
-    ∙ require-true _ _ _ (not_from_false _ (ap is_some (is_no_directory t v inode h is)))) path root named
+    ∙ goes_on _ _ _ (inode_of-root t name ok h.root inode (h.names name ∙ e) (is_no_symlink t v inode h is))
+    ∙ require-true _ _ _ (not_from_false _ (ap is_some (is_no_directory t v inode h is)))
+
+file_inode-absent : (t : Tree) (v : FilesValue) (who : Caller) (name : List ℕ) → HasFiles t v → is_some (get t.sessions who.sid) ≡ true
+    → is_name name ≡ true → inode_named v.names (47 ∷ name) ≡ None → file_inode t who (47 ∷ name) ≡ Err NotFound
+file_inode-absent t v who name h session ok e =
+    require-true _ _ _ session ∙ stops _ _ _ (inode_of-root-absent t name ok h.root (h.names name ∙ e))
+
+pub open-found : (t : Tree) (v : FilesValue) (who : Caller) (path : List ℕ) (inode : ℕ) → HasFiles t v → is_some (get t.sessions who.sid) ≡ true
+    → is_root_path path ≡ true → inode_named v.names path ≡ Some inode → open_file t who path ≡ Ok (record { tree = t; reply = FileOpened who.free_handle inode })
+unfolding open_file
+open-found t v who path inode h session root named =
+    root_paths (λ q. inode_named v.names q ≡ Some inode → open_file t who q ≡ Ok (record { tree = t; reply = FileOpened who.free_handle inode }))
+    (λ name ok e. goes_on _ _ _ (file_inode-found t v who name inode h session ok e)) path root named
 
 pub open-absent : (t : Tree) (v : FilesValue) (who : Caller) (path : List ℕ) → HasFiles t v → is_some (get t.sessions who.sid) ≡ true
     → is_root_path path ≡ true → inode_named v.names path ≡ None → open_file t who path ≡ Err NotFound
+unfolding open_file
 open-absent t v who path h session root absent =
-    root_paths (λ q. inode_named v.names q ≡ None → open_file t who q ≡ Err NotFound) (λ name ok e.
-    require-true _ _ _ session ∙ stops _ _ _ (inode_of-root t name ok h.root ∙ ap (λ o. some_or o NotFound) (h.names name ∙ e))) path root absent
-
--- an inode of so many files is one of more files
+    root_paths (λ q. inode_named v.names q ≡ None → open_file t who q ≡ Err NotFound) (λ name ok e. stops _ _ _ (file_inode-absent t v who name h session ok e)) path root absent
 
 -- the key of an entry of the root tells names apart as paths are told apart
 root_key : (name other : List ℕ) → eq_by_cmp entry_key.cmp (record { dir = 1; name = name }) (record { dir = 1; name = other }) ≡ is_eq (slice_cmp nat_cmp (47 ∷ name) (47 ∷ other))
@@ -221,23 +243,23 @@ module _ (t : Tree) (v : FilesValue) (who : Caller) (name : List ℕ) (mode : �
   tree_now = after_create t v who name mode h low
 
   node_now-new : node_at tree_now (2 + length v.files) ≡ Some (new_file t v who name mode h low)
-  unfolding nodes_after
-  node_now-new = get-same _ _ _
+  unfolding nodes_after nodes_before
+  node_now-new = get-other _ _ _ (2 + length v.files) (λ e. absurd (omega (arith, e))) ∙ get-same _ _ _
 
   node_now-other : (inode : ℕ) → (inode ≡ 2 + length v.files → ⊥) → (inode ≡ 1 → ⊥) → node_at tree_now inode ≡ node_at t inode
   unfolding nodes_after nodes_before
-  node_now-other inode apart below = get-other _ _ _ inode apart ∙ get-other _ _ _ inode below
+  node_now-other inode apart below = get-other _ _ _ inode below ∙ get-other _ _ _ inode apart
 
   node_now-top : node_at tree_now 1 ≡ Some (touched_top t v who name mode h low)
-  unfolding nodes_after nodes_before
-  node_now-top = get-other _ _ _ 1 (λ e. absurd (omega (arith, e))) ∙ get-same _ _ _
+  unfolding nodes_after
+  node_now-top = get-same _ _ _
 
   top_parent : parent_of (Some (touched_top t v who name mode h low)) ≡ Some 1
   unfolding touched_top
   top_parent = (top t v who name mode h low).2
 
   empty_keeps : Keeps (record { length = 0; segments = [] }) empty_content
-  empty_keeps = record { length = refl; bytes = λ position. refl }
+  empty_keeps = record { length = refl; bytes = λ position. refl; past = λ position after. refl }
 
   new_content : content_at tree_now (2 + length v.files) ≡ Some empty_content
   unfolding new_file
@@ -357,6 +379,14 @@ space_from : (used before bound : ℕ) (file : StoredFile) (content : Content) �
     → used + paged file.length ≡ before + paged (max file.length bound) → used + paged file.length ≡ before + paged (max content.length bound)
 space_from used before bound file content keeps e = e ∙ ap (λ n. before + paged (max n bound)) (sym keeps.length)
 
+-- a file's bytes agree after a commit too
+keeps-overwritten : (file : StoredFile) (content : Content) (from : ℕ) (bytes : List ℕ) → Keeps file content → Keeps (with_segment from bytes file) (overwritten content from bytes)
+keeps-overwritten file content from bytes h = record {
+  length = ap (λ n. max n (from + length bytes)) h.length;
+  bytes = λ position. overwritten-shown content file.segments from bytes position (h.past position) (h.bytes position);
+  past = overwritten-past content from bytes;
+}
+
 pub has_files-committed : (t : Tree) (v : FilesValue) (k now from : ℕ) (bytes : List ℕ) (file : StoredFile) (used : ℕ) → HasFiles t v
     → slice_get v.files k ≡ Some file → used + paged file.length ≡ v.used_space + paged (max file.length (from + length bytes))
     → HasFiles (committed t now (2 + k) from bytes) (with_commit v k from bytes file used)
@@ -389,6 +419,22 @@ next_session-committed t now inode from bytes = kept-committed (λ x. x.next_ses
 
 pub setting-committed : (t : Tree) (now inode from : ℕ) (bytes : List ℕ) → (committed t now inode from bytes).setting ≡ t.setting
 setting-committed t now inode from bytes = kept-committed (λ x. x.setting) (λ x nodes. refl) t now inode from bytes
+
+-- what neither nodes, entries nor the next inode change, a create doesn't
+module _ {A : Type 0} (part : Tree → A) (same : (t : Tree) (nodes : Map number_key Node) → part (record t { nodes = nodes }) ≡ part t)
+    (apart : (t : Tree) (entries : Map entry_key ℕ) (next : ℕ) → part (record t { entries = entries; next_inode = next }) ≡ part t) where
+  kept-created : (t : Tree) (who : Caller) (path : List ℕ) (mode : ℕ) → part (created t who path mode) ≡ part t
+  kept-created t who path mode =
+      apart _ _ _ ∙ kept-set_node part same (put_node t t.next_inode (new_node (File empty_content) mode who.now)) 1 _ ∙ same t _
+
+pub setting-created : (t : Tree) (who : Caller) (path : List ℕ) (mode : ℕ) → (created t who path mode).setting ≡ t.setting
+setting-created t who path mode = kept-created (λ x. x.setting) (λ x nodes. refl) (λ x entries next. refl) t who path mode
+
+pub sessions-created : (t : Tree) (who : Caller) (path : List ℕ) (mode : ℕ) → (created t who path mode).sessions ≡ t.sessions
+sessions-created t who path mode = kept-created (λ x. x.sessions) (λ x nodes. refl) (λ x entries next. refl) t who path mode
+
+pub next_session-created : (t : Tree) (who : Caller) (path : List ℕ) (mode : ℕ) → (created t who path mode).next_session ≡ t.next_session
+next_session-created t who path mode = kept-created (λ x. x.next_session) (λ x nodes. refl) (λ x entries next. refl) t who path mode
 
 -- whether a commit is within the limits is a matter of its space alone
 pub fits-committed : (t : Tree) (v : FilesValue) (k now from : ℕ) (bytes : List ℕ) (file : StoredFile) (used : ℕ) → HasFiles t v

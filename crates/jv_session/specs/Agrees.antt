@@ -26,10 +26,11 @@ pub record ScheduleValue : Type 0 where
   pub pending : List PendingByte
   pub volume : FilesValue
 
--- a stored file has these bytes
+-- a stored file has these bytes, and none from its length on
 pub record Keeps (file : StoredFile) (content : Content) : Type 0 where
   pub length : content.length ≡ file.length
   pub bytes : (position : ℕ) → content.byte position ≡ stored_byte file.segments position
+  pub past : (position : ℕ) → content.length ≤ position → content.byte position ≡ 0
 
 -- the tree has the volume's files in its root, and no others
 pub record HasFiles (t : Tree) (v : FilesValue) : Type 0 where
