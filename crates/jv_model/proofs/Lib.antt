@@ -7,6 +7,14 @@ pub mod TreeComputes
 pub mod TreeRuns
 pub mod TreeExamples
 pub mod LegalExamples
+pub mod JournalRuns
+pub mod CloseToOpenExamples
+pub mod CrashExamples
+pub mod LateCommitExamples
+pub mod WritebackExamples
+pub mod CompactionExamples
+pub mod CleaningExamples
+pub mod TreeJournalExamples
 pub mod PastLaws
 pub mod LooksLaws
 pub mod GrowthLaws
