@@ -146,7 +146,7 @@ compaction_is_legal = record {
       ∴ record { line = refl; complete = refl; moment = refl; stands = record { own = refl; may = record { doing = _; busy = refl; begins_is = refl; may = refl } } }
       ∴ record { line = refl; complete = refl; moment = refl; stands = record { own = refl; may = record { doing = _; busy = refl; begins_is = refl; may = refl } } }
       ∴ record { line = refl; complete = refl; moment = refl; stands = record { own = refl; may = record { doing = _; busy = refl; begins_is = refl; may = refl } } }
-      ∴ record { line = refl; complete = refl; moment = refl; stands = record { own = refl; may = record { doing = _; busy = refl; begins_is = refl; may = record { k = _; stage = refl; goes_on = refl; own = (refl, refl); begins = lit≤ tt; rises = lit≤ tt; ends = lit≤ tt; session = refl; there = refl; in_time = refl } } } }
+      ∴ record { line = refl; complete = refl; moment = refl; stands = record { own = refl; may = record { doing = _; busy = refl; begins_is = refl; may = record { k = _; stage = refl; goes_on = refl; own = (refl, refl); rises = lit≤ tt; ends = lit≤ tt; session = refl; there = refl; in_time = refl } } } }
       ∴ record { line = refl; complete = refl; moment = refl; stands = record { own = refl; may = record { doing = _; busy = refl; begins_is = refl; may = HasCompacted (HasReplaced _ 5 2 refl refl (lit≤ tt) refl) } } }
       ∴ record { line = refl; complete = refl; moment = refl; stands = record { own = refl; may = record { doing = _; busy = refl; begins_is = refl; may = record { goes_on = refl; file = (refl, refl); session = refl; there = refl } } } }
       ∴ record { line = refl; complete = refl; moment = refl; stands = record { own = refl; may = record { doing = _; busy = refl; begins_is = refl; may = refl } } }
@@ -336,3 +336,91 @@ contended_compaction_prints : text_of contended_compaction_run contended_compact
     )
 unfolding journals_compute replies_on_literals
 contended_compaction_prints = refl
+
+-- A compaction of the second window of a file: its span is counted from the start of the window.
+abbrev later_window_run : Setup
+later_window_run = run_of (
+    Do 0 (Mount false)
+    ∷ Do 0 (Create (codes "/f") 420)
+    ∷ Do 0 (Write 1 67108864 (97 ∷ []))
+    ∷ Do 0 (Flush 1)
+    ∷ Do 0 (Write 1 67108865 (98 ∷ []))
+    ∷ Do 0 (Flush 1)
+    ∷ Do 0 (Compact (codes "/f") 1)
+    ∷ Do 0 (Read 1 67108864 4)
+    ∷ []
+    )
+
+abbrev later_window_journal : List Act
+later_window_journal =
+    entry 1 0 (Mounted 1)
+    ∷ entry 1 0 (Answered (Fine 1 0 0 0))
+    ∷ entry 2 0 (Opened 1 2)
+    ∷ entry 2 0 (Answered (Fine 1 2 0 0))
+    ∷ entry 3 0 (Answered (Fine 1 0 0 0))
+    ∷ entry 4 0 Quiet
+    ∷ entry 4 0 Quiet
+    ∷ entry 4 0 (Commit 2 67108864 1 0)
+    ∷ entry 4 0 (Answered (Fine 0 0 0 0))
+    ∷ entry 5 0 (Answered (Fine 1 0 0 0))
+    ∷ entry 6 0 Quiet
+    ∷ entry 6 0 Quiet
+    ∷ entry 6 0 (Commit 2 67108865 1 0)
+    ∷ entry 6 0 (Answered (Fine 0 0 0 0))
+    ∷ entry 7 0 (Look 2 1)
+    ∷ entry 7 0 Quiet
+    ∷ entry 7 0 Quiet
+    ∷ entry 7 0 Quiet
+    ∷ entry 7 0 Quiet
+    ∷ entry 7 0 (Compacted 2 1 0 2)
+    ∷ entry 7 0 (Answered (Fine 2 1 0 0))
+    ∷ entry 8 0 (Look 2 1)
+    ∷ entry 8 0 Quiet
+    ∷ entry 8 0 (Answered (Looks 22 0 2))
+    ∷ []
+
+later_window_is_legal : Legal later_window_run later_window_journal
+unfolding journals_compute
+later_window_is_legal = record {
+  ends = refl;
+  allowed =
+      record { line = refl; complete = refl; moment = refl; stands = record { own = refl; may = record { doing = _; busy = refl; begins_is = refl; may = record { ready = refl; transacts = refl; same = refl } } } }
+      ∴ record { line = refl; complete = refl; moment = refl; stands = record { own = refl; may = record { doing = _; busy = refl; begins_is = refl; may = Settles _ refl refl } } }
+      ∴ record { line = refl; complete = refl; moment = refl; stands = record { own = refl; may = record { doing = _; busy = refl; begins_is = refl; may = record { ready = refl; transacts = refl; same = refl } } } }
+      ∴ record { line = refl; complete = refl; moment = refl; stands = record { own = refl; may = record { doing = _; busy = refl; begins_is = refl; may = Settles _ refl refl } } }
+      ∴ record { line = refl; complete = refl; moment = refl; stands = record { own = refl; may = record { doing = _; busy = refl; begins_is = refl; may = AtOnce (record { ready = refl; first = refl; same = refl }) } } }
+      ∴ record { line = refl; complete = refl; moment = refl; stands = record { own = refl; may = record { doing = _; busy = refl; begins_is = refl; may = refl } } }
+      ∴ record { line = refl; complete = refl; moment = refl; stands = record { own = refl; may = record { doing = _; busy = refl; begins_is = refl; may = refl } } }
+      ∴ record { line = refl; complete = refl; moment = refl; stands = record { own = refl; may = record { doing = _; busy = refl; begins_is = refl; may = record { requests = lit≤ tt; segment = refl; behind = refl; session = refl; file = refl; in_time = lit< tt; room = refl } } } }
+      ∴ record { line = refl; complete = refl; moment = refl; stands = record { own = refl; may = record { doing = _; busy = refl; begins_is = refl; may = Settles _ refl refl } } }
+      ∴ record { line = refl; complete = refl; moment = refl; stands = record { own = refl; may = record { doing = _; busy = refl; begins_is = refl; may = AtOnce (record { ready = refl; first = refl; same = refl }) } } }
+      ∴ record { line = refl; complete = refl; moment = refl; stands = record { own = refl; may = record { doing = _; busy = refl; begins_is = refl; may = refl } } }
+      ∴ record { line = refl; complete = refl; moment = refl; stands = record { own = refl; may = record { doing = _; busy = refl; begins_is = refl; may = refl } } }
+      ∴ record { line = refl; complete = refl; moment = refl; stands = record { own = refl; may = record { doing = _; busy = refl; begins_is = refl; may = record { requests = lit≤ tt; segment = refl; behind = refl; session = refl; file = refl; in_time = lit< tt; room = refl } } } }
+      ∴ record { line = refl; complete = refl; moment = refl; stands = record { own = refl; may = record { doing = _; busy = refl; begins_is = refl; may = Settles _ refl refl } } }
+      ∴ record { line = refl; complete = refl; moment = refl; stands = record { own = refl; may = record { doing = _; busy = refl; begins_is = refl; may = First refl refl } } }
+      ∴ record { line = refl; complete = refl; moment = refl; stands = record { own = refl; may = record { doing = _; busy = refl; begins_is = refl; may = refl } } }
+      ∴ record { line = refl; complete = refl; moment = refl; stands = record { own = refl; may = record { doing = _; busy = refl; begins_is = refl; may = refl } } }
+      ∴ record { line = refl; complete = refl; moment = refl; stands = record { own = refl; may = record { doing = _; busy = refl; begins_is = refl; may = refl } } }
+      ∴ record { line = refl; complete = refl; moment = refl; stands = record { own = refl; may = record { doing = _; busy = refl; begins_is = refl; may = refl } } }
+      ∴ record { line = refl; complete = refl; moment = refl; stands = record { own = refl; may = record { doing = _; busy = refl; begins_is = refl; may = record { k = _; stage = refl; goes_on = refl; own = (refl, refl); rises = lit≤ tt; ends = lit≤ tt; session = refl; there = refl; in_time = refl } } } }
+      ∴ record { line = refl; complete = refl; moment = refl; stands = record { own = refl; may = record { doing = _; busy = refl; begins_is = refl; may = HasCompacted (HasReplaced _ 2 1 refl refl (lit≤ tt) refl) } } }
+      ∴ record { line = refl; complete = refl; moment = refl; stands = record { own = refl; may = record { doing = _; busy = refl; begins_is = refl; may = record { goes_on = refl; file = (refl, refl); session = refl; there = refl } } } }
+      ∴ record { line = refl; complete = refl; moment = refl; stands = record { own = refl; may = record { doing = _; busy = refl; begins_is = refl; may = refl } } }
+      ∴ record { line = refl; complete = refl; moment = refl; stands = record { own = refl; may = record { doing = _; busy = refl; begins_is = refl; may = ReadsViews (record { goes_on = refl; file = _; opened = refl; first = 22; second = 0; bytes = _; reads = refl; same = refl }) } } }
+      ∴ tt;
+}
+
+later_window_prints : text_of later_window_run later_window_journal ≡ printed (
+    codes "ok 1"
+    ∷ codes "ok 1 2"
+    ∷ codes "ok 1"
+    ∷ codes "ok"
+    ∷ codes "ok 1"
+    ∷ codes "ok"
+    ∷ codes "ok 2 1"
+    ∷ codes "ok 6162"
+    ∷ []
+    )
+unfolding journals_compute replies_on_literals
+later_window_prints = refl

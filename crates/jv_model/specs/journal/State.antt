@@ -31,7 +31,7 @@ use Rattle.jv_model.specs.client.Origins.{Marks, Owed, first_marks, marks_commit
 use Rattle.jv_model.specs.client.Profile.{profile, handle_list, handle_of}
 use Rattle.jv_model.specs.client.ModelClient.{ModelClient, OpenFile, View, Doing, Stage, Part, Sessions, Trash, Files, Slices, Blocks, Cleaning, Working, Reading, Missing, LookedAgain, Compacting, Cleans, Requesting, Replying, unmounted, session_of, with_stage, with_file, file_of, free_handle, inode_at, held_inodes, is_last_of_removed, views_without}
 use Rattle.jv_model.specs.client.Submission.{is_flushed}
-use Rattle.jv_model.specs.journal.Reading.{Asked, asked_parts, fresh_view}
+use Rattle.jv_model.specs.journal.Reading.{Asked, window_start, asked_parts, fresh_view}
 
 -- what an entry did to a file, by whomever
 pub data ChangeKind : Type 0 where
@@ -380,9 +380,9 @@ abbrev replaced : Stage → Stage
 replaced (Compacting k) = Compacting (record k { has_replaced = true })
 replaced stage = stage
 
-abbrev pub after_compaction : State → ℕ → ℕ → ℕ → ℕ → Doing → State
-after_compaction s client inode from to d = set_client (record s {
-  marks = marks_compacted (next_entry s) (last_look d.stage) inode from to s.marks;
+abbrev pub after_compaction : State → ℕ → ℕ → ℕ → ℕ → ℕ → Doing → State
+after_compaction s client inode window from to d = set_client (record s {
+  marks = marks_compacted (next_entry s) (last_look d.stage) inode (window_start window + from) (window_start window + to) s.marks;
   changes = changed_at (next_entry s) Replaced inode ∷ s.changes;
 }) client (with_stage (replaced d.stage) (s.clients client))
 
@@ -489,7 +489,7 @@ after_step s act d (Look inode window) = after_look s act.client inode window d
 after_step s act d (Commit inode from len staged) = after_commit s act.client act.at inode from len staged d
 after_step s act d (Truncated inode len) = after_truncation s act.client act.at inode len d
 after_step s act d (Copied source from target to len) = after_copy s act.client act.at source from target to len d
-after_step s act d (Compacted inode window from to) = after_compaction s act.client inode from to d
+after_step s act d (Compacted inode window from to) = after_compaction s act.client inode window from to d
 after_step s act d (Settled commit) = set_client (settled commit s) act.client (with_stage (quieted s act.client (s.clients act.client) act.at d d.stage) (s.clients act.client))
 after_step s act d (Expired sid) = after_expiry s act.client sid d
 after_step s act d (Purged inode) = after_purge s act.client inode d

@@ -32,7 +32,7 @@ use Rattle.jv_model.specs.client.Profile.{handle_of}
 use Rattle.jv_model.specs.client.ModelClient.{ModelClient, OpenFile, View, Doing, Stage, Part, Sessions, Trash, Files, Slices, Blocks, Cleaning, Compaction, Working, Reading, Missing, LookedAgain, Compacting, Cleans, Requesting, Replying, session_of, file_of, inode_at, is_among}
 use Rattle.jv_model.specs.client.Submission.{next_segment, is_flushed}
 use Rattle.jv_model.specs.journal.State.{State, ChangeKind, Written, Replaced, Ended, transacted, caller, has_session, look_refusal, sees_first, is_refused, is_cleaning, is_compaction, first_cleaning, answer_then, gift_of, Gift, NewSession, NewHandle, Nothing}
-use Rattle.jv_model.specs.journal.Reading.{Asked, asked_parts, fresh_view, part_to_look, shows_all, reading}
+use Rattle.jv_model.specs.journal.Reading.{Asked, window_start, asked_parts, fresh_view, part_to_look, shows_all, reading}
 
 -- what the run began with, as far as a tree doesn't say it
 pub record Start : Type 0 where
@@ -205,10 +205,6 @@ pub record MissesBlock (start : Start) (s : State) (client : ℕ) (c : ModelClie
   pub fresh : fresh_view c.views (handle_of d.op) file window ≡ Some view
   pub gone : MayBeGone start s client view asked.from asked.to
 
--- the positions of a window
-abbrev window_start : ℕ → ℕ
-window_start window = window * WINDOW
-
 -- the window that a compaction looks at first
 abbrev compaction_target : Tree → Caller → Op → Result (ℕ × ℕ) Fault
 compaction_target t who (op.Compact path window) = compact_inode t who path >>= λ inode. Ok (inode, window)
@@ -240,15 +236,14 @@ abbrev is_in_time : ℕ → List ℕ → Bool
 is_in_time now [] = true
 is_in_time now (moment ∷ moments) = list_any (λ m. nat_lt now (m + UPLOAD_LIFE)) (moment ∷ moments)
 
--- the list of a window is replaced over a span of it
+-- the list of a window is replaced over a span of it, whose positions are counted from the window's start
 pub record Replaces (s : State) (now : ℕ) (c : ModelClient) (d : Doing) (inode window from to : ℕ) : Type 0 where
   pub k : Compaction
   pub stage : d.stage ≡ Compacting k
   pub goes_on : IsTrue (may_compact_on k)
   pub own : (inode ≡ k.view.inode) × (window ≡ k.view.window)
-  pub begins : window_start window ≤ from
   pub rises : from ≤ to
-  pub ends : to ≤ window_start (window + 1)
+  pub ends : to ≤ WINDOW
   pub session : IsTrue (has_session s.tree c)
   pub there : IsTrue (is_some (node_at s.tree inode))
   pub in_time : IsTrue (is_in_time now k.quiets)
