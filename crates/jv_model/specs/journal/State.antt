@@ -1,6 +1,6 @@
 -- What a journal has come to, and what one more entry does to it: the tree, the clients, and whose blocks are owed. It
 -- knows no lines, clock or text.
-use Rattle.std.specs.Prelude.{ℕ, ◌+◌, Bool, true, false, ◌&&◌, not, ◌==◌, nat_lt, if◌then◌else◌, List, [], ◌∷◌, ◌++◌, map, filter, is_some, Option, None, Some}
+use Rattle.std.specs.Prelude.{ℕ, ◌+◌, Bool, true, false, ◌&&◌, ◌||◌, not, ◌==◌, nat_lt, if◌then◌else◌, List, [], ◌∷◌, ◌++◌, map, filter, is_some, Option, None, Some}
 use Rattle.jv_model.specs.declared.limits.TheConstants.{TRASH_ROOT}
 use Rattle.jv_model.specs.declared.act.Act.{Act}
 use Rattle.jv_model.specs.declared.act.ActKind.{ActKind}
@@ -192,9 +192,25 @@ next_part Files = Slices
 next_part Slices = Blocks
 next_part Blocks = Blocks
 
--- a request of a cleaning that found nothing more in its part, or worked on slices
+abbrev pub is_last : Part → Bool
+is_last Sessions = false
+is_last Trash = false
+is_last Files = false
+is_last Slices = false
+is_last Blocks = true
+
+-- A request of a cleaning that found nothing more in its part, or a slice, or that removed a block, which wants no session.
 abbrev pub cleaning_on : State → ModelClient → Cleaning → Stage
-cleaning_on s c k = (if has_session s.tree c then Cleans (record k { part = next_part k.part }) else Replying (session_gone c))
+cleaning_on s c k = (if has_session s.tree c || is_last k.part then Cleans (record k { part = next_part k.part }) else Replying (session_gone c))
+
+abbrev pub is_collecting : Does → Bool
+is_collecting Collects = true
+is_collecting _ = false
+
+-- A request of a collection or an upload. The second one of a collection judges the names that the first one listed, in a
+-- transaction that wants the session.
+abbrev pub requesting_on : State → ModelClient → Does → ℕ → Stage
+requesting_on s c does requests = (if is_collecting does && (requests == 1) && not (has_session s.tree c) then Replying (session_gone c) else Requesting (requests + 1))
 
 abbrev pub first_cleaning : Cleaning
 first_cleaning = record { part = Sessions; sessions = 0; trash = 0; hours = 0; files = 0; slices = 0 }
@@ -244,7 +260,7 @@ quieted s client c now d (Compacting k) = (if is_some k.missed
     then refused_look s c k.view.inode (Compacting k)
     else Compacting (record k { quiets = now ∷ k.quiets }))
 quieted s client c now d (Cleans k) = cleaning_on s c k
-quieted s client c now d (Requesting requests) = Requesting (requests + 1)
+quieted s client c now d (Requesting requests) = requesting_on s c d.does requests
 quieted s client c now d (Replying answer) = Replying answer
 
 abbrev pub is_cleaning : Does → Bool
@@ -411,7 +427,7 @@ abbrev pub after_cleaning : State → ℕ → ℕ → ℕ → Doing → State
 after_cleaning s client table key d =
     let k = cleaning_of d.stage in
     after_item (record s { dropped = (if table == 8 then key ∷ s.dropped else s.dropped) }) client
-    (if table == 8 then record k { files = k.files + 1 } else record k { slices = k.slices + 1 })
+    (if table == 8 then record k { files = k.files + 1 } else record k { part = Slices; slices = k.slices + 1 })
 
 abbrev pub settled : ℕ → State → State
 settled commit s = record s { owed = filter (λ o. not (o.commit == commit)) s.owed }

@@ -31,7 +31,7 @@ use Rattle.jv_model.specs.client.Origins.{Owed, missing_commit}
 use Rattle.jv_model.specs.client.Profile.{handle_of}
 use Rattle.jv_model.specs.client.ModelClient.{ModelClient, OpenFile, View, Doing, Stage, Part, Sessions, Trash, Files, Slices, Blocks, Cleaning, Compaction, Working, Reading, Missing, LookedAgain, Compacting, Cleans, Requesting, Replying, session_of, file_of, inode_at, is_among}
 use Rattle.jv_model.specs.client.Submission.{next_segment, is_flushed}
-use Rattle.jv_model.specs.journal.State.{State, ChangeKind, Written, Replaced, Ended, transacted, caller, has_session, look_refusal, sees_first, is_refused, is_cleaning, is_compaction, first_cleaning, answer_then, gift_of, Gift, NewSession, NewHandle, Nothing}
+use Rattle.jv_model.specs.journal.State.{State, ChangeKind, Written, Replaced, Ended, transacted, caller, has_session, look_refusal, sees_first, is_refused, is_cleaning, is_compaction, is_last, is_collecting, first_cleaning, answer_then, gift_of, Gift, NewSession, NewHandle, Nothing}
 use Rattle.jv_model.specs.journal.Reading.{Asked, window_start, asked_parts, fresh_view, part_to_look, shows_all, reading}
 
 -- what the run began with, as far as a tree doesn't say it
@@ -325,10 +325,6 @@ may_begin_quietly start s client now c d = elim d.does [
   | Uploads ↦ true
 ]
 
-abbrev is_collecting : Does → Bool
-is_collecting Collects = true
-is_collecting _ = false
-
 abbrev pub may_be_quiet : Start → State → ℕ → ℕ → ModelClient → Doing → Stage → Bool
 may_be_quiet start s client now c d (Working quiets started) = (if is_flushed d.flush c.pending then (quiets == 0) && may_begin_quietly start s client now c d else true)
 may_be_quiet start s client now c d (Reading misses) = true
@@ -493,17 +489,11 @@ pub record ReadsFresh (c : ModelClient) (d : Doing) (told : Told) : Type 0 where
   pub reads : reading c.views (handle_of d.op) file (asked_of d.does) first second ≡ Some bytes
   pub same : told ≡ Looks first second (length bytes)
 
-abbrev is_last : Part → Bool
-is_last Sessions = false
-is_last Trash = false
-is_last Files = false
-is_last Slices = false
-is_last Blocks = true
-
 -- a cleaning ends when it found nothing more in each part, or had as many items as one may have
-pub record EndsCleaning (d : Doing) (told : Told) : Type 0 where
+pub record EndsCleaning (s : State) (c : ModelClient) (d : Doing) (told : Told) : Type 0 where
   pub k : Cleaning
   pub stage : d.stage ≡ Cleans k
+  pub session : IsTrue (has_session s.tree c)
   pub over : IsTrue (is_last k.part || (items k == MAX_ITEMS))
   pub same : told ≡ Fine k.sessions k.trash k.files k.slices
 
@@ -527,7 +517,7 @@ pub data MayAnswer (start : Start) (alone : Bool) (s : State) (client now : ℕ)
   CountsCache : (hits misses cached : ℕ) → d.does ≡ Answers answer.CacheStats → told ≡ Fine hits misses cached (length c.pending)
       → MayAnswer start alone s client now c d told
   ReadsViews : ReadsFresh c d told → MayAnswer start alone s client now c d told
-  CleanedUp : EndsCleaning d told → MayAnswer start alone s client now c d told
+  CleanedUp : EndsCleaning s c d told → MayAnswer start alone s client now c d told
   HasCompacted : EndsCompaction d told → MayAnswer start alone s client now c d told
   HasCollected : (count bytes : ℕ) → d.does ≡ Collects → IsTrue (has_judged d.stage) → told ≡ Fine count bytes 0 0 → MayAnswer start alone s client now c d told
   HasUploaded : d.does ≡ Uploads → EndsUpload alone s client c d told → MayAnswer start alone s client now c d told
