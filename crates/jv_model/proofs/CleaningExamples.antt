@@ -1,17 +1,17 @@
 -- Whole journals in which something is cleaned up, with what they print.
 use Rattle.std.proofs.Common.{◌≡◌, ◌+◌, false, List, [], ◌∷◌, ◌++◌, replicate, refl, codes, lit≤, lit<}
 use Rattle.jv_model.specs.declared.act.Act.{Act}
-use Rattle.jv_model.specs.declared.act.ActKind.TheVariants.{Mounted, Meta, Opened, Look, Commit, Compacted, Purged, Cleaned, Quiet, Miss, Ticked, Answered}
+use Rattle.jv_model.specs.declared.act.ActKind.TheVariants.{Mounted, Meta, Opened, Look, Commit, Compacted, Expired, Purged, Cleaned, Quiet, Miss, Ticked, Answered}
 use Rattle.jv_model.specs.declared.act.Told.TheVariants.{Fine, Looks, Refused as ToldRefused}
-use Rattle.jv_model.specs.declared.fault.Fault.TheVariants.{NotFound, NotPermitted, Stale}
-use Rattle.jv_model.specs.declared.fault.Gone.TheVariants.{Node}
+use Rattle.jv_model.specs.declared.fault.Fault.TheVariants.{NotFound, NotPermitted, Stale, NotConnected}
+use Rattle.jv_model.specs.declared.fault.Gone.TheVariants.{Session, Node}
 use Rattle.jv_model.specs.declared.basics.How.TheVariants.{Plain}
 use Rattle.jv_model.specs.declared.op.Line.TheVariants.{Do, Begin, Step, Run, Tick}
-use Rattle.jv_model.specs.declared.op.Op.TheVariants.{Mount, Lookup, Stat, Mkdir, Create, Open, Close, Flush, Read, Write, Readdir, Unlink, Rename, Compact, Clean}
+use Rattle.jv_model.specs.declared.op.Op.TheVariants.{Mount, Lookup, Stat, Mkdir, Create, Open, Close, Flush, Read, Write, Readdir, Unlink, Rename, Compact, Clean, Gc}
 use Rattle.jv_model.specs.declared.setting.Setting.{Setting}
-use Rattle.jv_model.specs.journal.Steps.{Settles, AtOnce, ReadsViews, CleanedUp, HasCompacted, First, MayBeCleaned, HasReplaced}
+use Rattle.jv_model.specs.journal.Steps.{Settles, AtOnce, ReadsViews, CleanedUp, HasCompacted, First, MayBeCleaned, HasReplaced, SessionGone, Refuses as IsRefusedBy}
 use Rattle.jv_model.specs.journal.Past.{Setup, text_of}
-use Rattle.jv_model.specs.journal.Legal.{Legal}
+use Rattle.jv_model.specs.journal.Legal.{Legal, Refuses}
 use Rattle.jv_model.proofs.ReplyTextExamples.{replies_on_literals}
 use Rattle.jv_model.proofs.JournalRuns.{plain_setting, run_of, run_on, entry, entry_at, printed, journals_compute, ◌∴◌}
 
@@ -140,7 +140,7 @@ cleaned_block_is_legal = record {
       ∴ record { line = refl; complete = refl; moment = refl; stands = record { own = refl; may = record { doing = _; busy = refl; begins_is = refl; may = refl } } }
       ∴ record { line = refl; complete = refl; moment = refl; stands = record { own = refl; may = record { doing = _; busy = refl; begins_is = refl; may = (refl, record { k = _; stage = refl; at = refl; few = lit< tt; session = refl }) } } }
       ∴ record { line = refl; complete = refl; moment = refl; stands = record { own = refl; may = record { doing = _; busy = refl; begins_is = refl; may = refl } } }
-      ∴ record { line = refl; complete = refl; moment = refl; stands = record { own = refl; may = record { doing = _; busy = refl; begins_is = refl; may = CleanedUp (record { k = _; stage = refl; over = refl; same = refl }) } } }
+      ∴ record { line = refl; complete = refl; moment = refl; stands = record { own = refl; may = record { doing = _; busy = refl; begins_is = refl; may = CleanedUp (record { k = _; stage = refl; session = refl; over = refl; same = refl }) } } }
       ∴ record { line = refl; complete = refl; moment = refl; stands = record { own = refl; may = record { doing = _; busy = refl; begins_is = refl; may = record { goes_on = refl; file = _; opened = refl; own = refl; asked = _; at = refl; view = _; fresh = refl; gone = MayBeCleaned refl } } } }
       ∴ record { line = refl; complete = refl; moment = refl; stands = record { own = refl; may = record { doing = _; busy = refl; begins_is = refl; may = record { goes_on = refl; file = (refl, refl); session = refl; there = refl } } } }
       ∴ record { line = refl; complete = refl; moment = refl; stands = record { own = refl; may = record { doing = _; busy = refl; begins_is = refl; may = refl } } }
@@ -291,7 +291,7 @@ sustained_is_legal = record {
       ∴ record { line = refl; complete = refl; moment = refl; stands = record { own = refl; may = record { doing = _; busy = refl; begins_is = refl; may = refl } } }
       ∴ record { line = refl; complete = refl; moment = refl; stands = record { own = refl; may = record { doing = _; busy = refl; begins_is = refl; may = (refl, record { k = _; stage = refl; at = refl; few = lit< tt; session = refl }) } } }
       ∴ record { line = refl; complete = refl; moment = refl; stands = record { own = refl; may = record { doing = _; busy = refl; begins_is = refl; may = refl } } }
-      ∴ record { line = refl; complete = refl; moment = refl; stands = record { own = refl; may = record { doing = _; busy = refl; begins_is = refl; may = CleanedUp (record { k = _; stage = refl; over = refl; same = refl }) } } }
+      ∴ record { line = refl; complete = refl; moment = refl; stands = record { own = refl; may = record { doing = _; busy = refl; begins_is = refl; may = CleanedUp (record { k = _; stage = refl; session = refl; over = refl; same = refl }) } } }
       ∴ tt;
 }
 
@@ -316,6 +316,195 @@ sustained_prints : text_of sustained_run sustained_journal ≡ printed (
     )
 unfolding journals_compute replies_on_literals
 sustained_prints = refl
+
+-- The session of a client that cleans up is expired by another one, between a slice that it found and the removal of its
+-- block: the removal wants no session, and what comes after it is refused.
+abbrev expired_cleaner_run : Setup
+expired_cleaner_run = run_of (
+    Do 0 (Mount false)
+    ∷ Do 1 (Mount false)
+    ∷ Do 0 (Create (codes "/f") 420)
+    ∷ Do 0 (Write 1 0 (104 ∷ 105 ∷ []))
+    ∷ Do 0 (Close 1)
+    ∷ Do 0 (Unlink (codes "/f"))
+    ∷ Begin 0 Clean
+    ∷ Step 0
+    ∷ Step 0
+    ∷ Step 0
+    ∷ Step 0
+    ∷ Step 0
+    ∷ Tick 60
+    ∷ Do 1 Clean
+    ∷ Step 0
+    ∷ Step 0
+    ∷ Do 0 (Stat (codes "/"))
+    ∷ []
+    )
+
+abbrev expired_cleaner_journal : List Act
+expired_cleaner_journal =
+    entry 1 0 (Mounted 1)
+    ∷ entry 1 0 (Answered (Fine 1 0 0 0))
+    ∷ entry 2 1 (Mounted 2)
+    ∷ entry 2 1 (Answered (Fine 2 0 0 0))
+    ∷ entry 3 0 (Opened 1 2)
+    ∷ entry 3 0 (Answered (Fine 1 2 0 0))
+    ∷ entry 4 0 (Answered (Fine 2 0 0 0))
+    ∷ entry 5 0 Quiet
+    ∷ entry 5 0 Quiet
+    ∷ entry 5 0 (Commit 2 0 2 0)
+    ∷ entry 5 0 (Answered (Fine 0 0 0 0))
+    ∷ entry 6 0 Meta
+    ∷ entry 6 0 (Answered (Fine 0 0 0 0))
+    ∷ entry 8 0 Quiet
+    ∷ entry 9 0 Quiet
+    ∷ entry 10 0 (Cleaned 8 2)
+    ∷ entry 11 0 Quiet
+    ∷ entry 12 0 Quiet
+    ∷ entry_at 1060 13 255 (Ticked 60)
+    ∷ entry_at 1060 14 1 (Expired 1)
+    ∷ entry_at 1060 14 1 Quiet
+    ∷ entry_at 1060 14 1 Quiet
+    ∷ entry_at 1060 14 1 Quiet
+    ∷ entry_at 1060 14 1 Quiet
+    ∷ entry_at 1060 14 1 Quiet
+    ∷ entry_at 1060 14 1 (Cleaned 9 1)
+    ∷ entry_at 1060 14 1 Quiet
+    ∷ entry_at 1060 14 1 (Answered (Fine 1 0 0 1))
+    ∷ entry_at 1060 15 0 Quiet
+    ∷ entry_at 1060 16 0 Quiet
+    ∷ entry_at 1060 16 0 (Answered (ToldRefused (Stale (Session 1))))
+    ∷ entry_at 1060 17 0 (Answered (ToldRefused NotConnected))
+    ∷ []
+
+expired_cleaner_is_legal : Legal expired_cleaner_run expired_cleaner_journal
+unfolding journals_compute
+expired_cleaner_is_legal = record {
+  ends = refl;
+  allowed =
+      record { line = refl; complete = refl; moment = refl; stands = record { own = refl; may = record { doing = _; busy = refl; begins_is = refl; may = record { ready = refl; transacts = refl; same = refl } } } }
+      ∴ record { line = refl; complete = refl; moment = refl; stands = record { own = refl; may = record { doing = _; busy = refl; begins_is = refl; may = Settles _ refl refl } } }
+      ∴ record { line = refl; complete = refl; moment = refl; stands = record { own = refl; may = record { doing = _; busy = refl; begins_is = refl; may = record { ready = refl; transacts = refl; same = refl } } } }
+      ∴ record { line = refl; complete = refl; moment = refl; stands = record { own = refl; may = record { doing = _; busy = refl; begins_is = refl; may = Settles _ refl refl } } }
+      ∴ record { line = refl; complete = refl; moment = refl; stands = record { own = refl; may = record { doing = _; busy = refl; begins_is = refl; may = record { ready = refl; transacts = refl; same = refl } } } }
+      ∴ record { line = refl; complete = refl; moment = refl; stands = record { own = refl; may = record { doing = _; busy = refl; begins_is = refl; may = Settles _ refl refl } } }
+      ∴ record { line = refl; complete = refl; moment = refl; stands = record { own = refl; may = record { doing = _; busy = refl; begins_is = refl; may = AtOnce (record { ready = refl; first = refl; same = refl }) } } }
+      ∴ record { line = refl; complete = refl; moment = refl; stands = record { own = refl; may = record { doing = _; busy = refl; begins_is = refl; may = refl } } }
+      ∴ record { line = refl; complete = refl; moment = refl; stands = record { own = refl; may = record { doing = _; busy = refl; begins_is = refl; may = refl } } }
+      ∴ record { line = refl; complete = refl; moment = refl; stands = record { own = refl; may = record { doing = _; busy = refl; begins_is = refl; may = record { requests = lit≤ tt; segment = refl; behind = refl; session = refl; file = refl; in_time = lit< tt; room = refl } } } }
+      ∴ record { line = refl; complete = refl; moment = refl; stands = record { own = refl; may = record { doing = _; busy = refl; begins_is = refl; may = Settles _ refl refl } } }
+      ∴ record { line = refl; complete = refl; moment = refl; stands = record { own = refl; may = record { doing = _; busy = refl; begins_is = refl; may = record { ready = refl; transacts = refl; same = refl } } } }
+      ∴ record { line = refl; complete = refl; moment = refl; stands = record { own = refl; may = record { doing = _; busy = refl; begins_is = refl; may = Settles _ refl refl } } }
+      ∴ record { line = refl; complete = refl; moment = refl; stands = record { own = refl; may = record { doing = _; busy = refl; begins_is = refl; may = refl } } }
+      ∴ record { line = refl; complete = refl; moment = refl; stands = record { own = refl; may = record { doing = _; busy = refl; begins_is = refl; may = refl } } }
+      ∴ record { line = refl; complete = refl; moment = refl; stands = record { own = refl; may = record { doing = _; busy = refl; begins_is = refl; may = (record { k = _; stage = refl; at = refl; few = lit< tt; session = refl }, record { was = lit< tt; gone = refl; once = refl }) } } }
+      ∴ record { line = refl; complete = refl; moment = refl; stands = record { own = refl; may = record { doing = _; busy = refl; begins_is = refl; may = refl } } }
+      ∴ record { line = refl; complete = refl; moment = refl; stands = record { own = refl; may = record { doing = _; busy = refl; begins_is = refl; may = refl } } }
+      ∴ record { line = refl; complete = refl; moment = refl; stands = (refl, refl) }
+      ∴ record { line = refl; complete = refl; moment = refl; stands = record { own = refl; may = record { doing = _; busy = refl; begins_is = refl; may = (record { k = _; stage = refl; at = refl; few = lit< tt; session = refl }, refl) } } }
+      ∴ record { line = refl; complete = refl; moment = refl; stands = record { own = refl; may = record { doing = _; busy = refl; begins_is = refl; may = refl } } }
+      ∴ record { line = refl; complete = refl; moment = refl; stands = record { own = refl; may = record { doing = _; busy = refl; begins_is = refl; may = refl } } }
+      ∴ record { line = refl; complete = refl; moment = refl; stands = record { own = refl; may = record { doing = _; busy = refl; begins_is = refl; may = refl } } }
+      ∴ record { line = refl; complete = refl; moment = refl; stands = record { own = refl; may = record { doing = _; busy = refl; begins_is = refl; may = refl } } }
+      ∴ record { line = refl; complete = refl; moment = refl; stands = record { own = refl; may = record { doing = _; busy = refl; begins_is = refl; may = refl } } }
+      ∴ record { line = refl; complete = refl; moment = refl; stands = record { own = refl; may = record { doing = _; busy = refl; begins_is = refl; may = (refl, record { k = _; stage = refl; at = refl; few = lit< tt; session = refl }) } } }
+      ∴ record { line = refl; complete = refl; moment = refl; stands = record { own = refl; may = record { doing = _; busy = refl; begins_is = refl; may = refl } } }
+      ∴ record { line = refl; complete = refl; moment = refl; stands = record { own = refl; may = record { doing = _; busy = refl; begins_is = refl; may = CleanedUp (record { k = _; stage = refl; session = refl; over = refl; same = refl }) } } }
+      ∴ record { line = refl; complete = refl; moment = refl; stands = record { own = refl; may = record { doing = _; busy = refl; begins_is = refl; may = refl } } }
+      ∴ record { line = refl; complete = refl; moment = refl; stands = record { own = refl; may = record { doing = _; busy = refl; begins_is = refl; may = refl } } }
+      ∴ record { line = refl; complete = refl; moment = refl; stands = record { own = refl; may = record { doing = _; busy = refl; begins_is = refl; may = IsRefusedBy _ refl (SessionGone refl refl refl) refl } } }
+      ∴ record { line = refl; complete = refl; moment = refl; stands = (refl, Refuses refl) }
+      ∴ tt;
+}
+
+expired_cleaner_prints : text_of expired_cleaner_run expired_cleaner_journal ≡ printed (
+    codes "ok 1"
+    ∷ codes "ok 2"
+    ∷ codes "ok 1 2"
+    ∷ codes "ok 2"
+    ∷ codes "ok"
+    ∷ codes "ok"
+    ∷ codes "begun"
+    ∷ codes "more"
+    ∷ codes "more"
+    ∷ codes "more"
+    ∷ codes "more"
+    ∷ codes "more"
+    ∷ codes "now 1060"
+    ∷ codes "ok 1 0 0 1"
+    ∷ codes "more"
+    ∷ codes "err ESTALE session 1"
+    ∷ codes "err ENOTCONN"
+    ∷ []
+    )
+unfolding journals_compute replies_on_literals
+expired_cleaner_prints = refl
+
+-- The session of a client that collects is expired by another one: what was listed isn't judged.
+abbrev expired_collector_run : Setup
+expired_collector_run = run_of (
+    Do 0 (Mount false)
+    ∷ Do 1 (Mount false)
+    ∷ Begin 0 (Gc false)
+    ∷ Step 0
+    ∷ Tick 60
+    ∷ Do 1 Clean
+    ∷ Step 0
+    ∷ []
+    )
+
+abbrev expired_collector_journal : List Act
+expired_collector_journal =
+    entry 1 0 (Mounted 1)
+    ∷ entry 1 0 (Answered (Fine 1 0 0 0))
+    ∷ entry 2 1 (Mounted 2)
+    ∷ entry 2 1 (Answered (Fine 2 0 0 0))
+    ∷ entry 4 0 Quiet
+    ∷ entry_at 1060 5 255 (Ticked 60)
+    ∷ entry_at 1060 6 1 (Expired 1)
+    ∷ entry_at 1060 6 1 Quiet
+    ∷ entry_at 1060 6 1 Quiet
+    ∷ entry_at 1060 6 1 Quiet
+    ∷ entry_at 1060 6 1 Quiet
+    ∷ entry_at 1060 6 1 (Answered (Fine 1 0 0 0))
+    ∷ entry_at 1060 7 0 Quiet
+    ∷ entry_at 1060 7 0 (Answered (ToldRefused (Stale (Session 1))))
+    ∷ []
+
+expired_collector_is_legal : Legal expired_collector_run expired_collector_journal
+unfolding journals_compute
+expired_collector_is_legal = record {
+  ends = refl;
+  allowed =
+      record { line = refl; complete = refl; moment = refl; stands = record { own = refl; may = record { doing = _; busy = refl; begins_is = refl; may = record { ready = refl; transacts = refl; same = refl } } } }
+      ∴ record { line = refl; complete = refl; moment = refl; stands = record { own = refl; may = record { doing = _; busy = refl; begins_is = refl; may = Settles _ refl refl } } }
+      ∴ record { line = refl; complete = refl; moment = refl; stands = record { own = refl; may = record { doing = _; busy = refl; begins_is = refl; may = record { ready = refl; transacts = refl; same = refl } } } }
+      ∴ record { line = refl; complete = refl; moment = refl; stands = record { own = refl; may = record { doing = _; busy = refl; begins_is = refl; may = Settles _ refl refl } } }
+      ∴ record { line = refl; complete = refl; moment = refl; stands = record { own = refl; may = record { doing = _; busy = refl; begins_is = refl; may = refl } } }
+      ∴ record { line = refl; complete = refl; moment = refl; stands = (refl, refl) }
+      ∴ record { line = refl; complete = refl; moment = refl; stands = record { own = refl; may = record { doing = _; busy = refl; begins_is = refl; may = (record { k = _; stage = refl; at = refl; few = lit< tt; session = refl }, refl) } } }
+      ∴ record { line = refl; complete = refl; moment = refl; stands = record { own = refl; may = record { doing = _; busy = refl; begins_is = refl; may = refl } } }
+      ∴ record { line = refl; complete = refl; moment = refl; stands = record { own = refl; may = record { doing = _; busy = refl; begins_is = refl; may = refl } } }
+      ∴ record { line = refl; complete = refl; moment = refl; stands = record { own = refl; may = record { doing = _; busy = refl; begins_is = refl; may = refl } } }
+      ∴ record { line = refl; complete = refl; moment = refl; stands = record { own = refl; may = record { doing = _; busy = refl; begins_is = refl; may = refl } } }
+      ∴ record { line = refl; complete = refl; moment = refl; stands = record { own = refl; may = record { doing = _; busy = refl; begins_is = refl; may = CleanedUp (record { k = _; stage = refl; session = refl; over = refl; same = refl }) } } }
+      ∴ record { line = refl; complete = refl; moment = refl; stands = record { own = refl; may = record { doing = _; busy = refl; begins_is = refl; may = refl } } }
+      ∴ record { line = refl; complete = refl; moment = refl; stands = record { own = refl; may = record { doing = _; busy = refl; begins_is = refl; may = Settles _ refl refl } } }
+      ∴ tt;
+}
+
+expired_collector_prints : text_of expired_collector_run expired_collector_journal ≡ printed (
+    codes "ok 1"
+    ∷ codes "ok 2"
+    ∷ codes "begun"
+    ∷ codes "more"
+    ∷ codes "now 1060"
+    ∷ codes "ok 1 0 0 0"
+    ∷ codes "err ESTALE session 1"
+    ∷ []
+    )
+unfolding journals_compute replies_on_literals
+expired_collector_prints = refl
 
 -- The trash: names in it, what may be done there, and when it is due.
 abbrev trash_run : Setup
@@ -417,7 +606,7 @@ trash_is_legal = record {
       ∴ record { line = refl; complete = refl; moment = refl; stands = record { own = refl; may = record { doing = _; busy = refl; begins_is = refl; may = refl } } }
       ∴ record { line = refl; complete = refl; moment = refl; stands = record { own = refl; may = record { doing = _; busy = refl; begins_is = refl; may = refl } } }
       ∴ record { line = refl; complete = refl; moment = refl; stands = record { own = refl; may = record { doing = _; busy = refl; begins_is = refl; may = refl } } }
-      ∴ record { line = refl; complete = refl; moment = refl; stands = record { own = refl; may = record { doing = _; busy = refl; begins_is = refl; may = CleanedUp (record { k = _; stage = refl; over = refl; same = refl }) } } }
+      ∴ record { line = refl; complete = refl; moment = refl; stands = record { own = refl; may = record { doing = _; busy = refl; begins_is = refl; may = CleanedUp (record { k = _; stage = refl; session = refl; over = refl; same = refl }) } } }
       ∴ record { line = refl; complete = refl; moment = refl; stands = (refl, refl) }
       ∴ record { line = refl; complete = refl; moment = refl; stands = record { own = refl; may = record { doing = _; busy = refl; begins_is = refl; may = refl } } }
       ∴ record { line = refl; complete = refl; moment = refl; stands = record { own = refl; may = record { doing = _; busy = refl; begins_is = refl; may = (record { k = _; stage = refl; at = refl; few = lit< tt; session = refl }, refl) } } }
@@ -426,7 +615,7 @@ trash_is_legal = record {
       ∴ record { line = refl; complete = refl; moment = refl; stands = record { own = refl; may = record { doing = _; busy = refl; begins_is = refl; may = (record { k = _; stage = refl; at = refl; few = lit< tt; session = refl }, record { was = lit< tt; gone = refl; once = refl }) } } }
       ∴ record { line = refl; complete = refl; moment = refl; stands = record { own = refl; may = record { doing = _; busy = refl; begins_is = refl; may = refl } } }
       ∴ record { line = refl; complete = refl; moment = refl; stands = record { own = refl; may = record { doing = _; busy = refl; begins_is = refl; may = refl } } }
-      ∴ record { line = refl; complete = refl; moment = refl; stands = record { own = refl; may = record { doing = _; busy = refl; begins_is = refl; may = CleanedUp (record { k = _; stage = refl; over = refl; same = refl }) } } }
+      ∴ record { line = refl; complete = refl; moment = refl; stands = record { own = refl; may = record { doing = _; busy = refl; begins_is = refl; may = CleanedUp (record { k = _; stage = refl; session = refl; over = refl; same = refl }) } } }
       ∴ tt;
 }
 

@@ -87,7 +87,7 @@ crash_is_legal = record {
       ∴ record { line = refl; complete = refl; moment = refl; stands = record { own = refl; may = record { doing = _; busy = refl; begins_is = refl; may = refl } } }
       ∴ record { line = refl; complete = refl; moment = refl; stands = record { own = refl; may = record { doing = _; busy = refl; begins_is = refl; may = refl } } }
       ∴ record { line = refl; complete = refl; moment = refl; stands = record { own = refl; may = record { doing = _; busy = refl; begins_is = refl; may = refl } } }
-      ∴ record { line = refl; complete = refl; moment = refl; stands = record { own = refl; may = record { doing = _; busy = refl; begins_is = refl; may = CleanedUp (record { k = _; stage = refl; over = refl; same = refl }) } } }
+      ∴ record { line = refl; complete = refl; moment = refl; stands = record { own = refl; may = record { doing = _; busy = refl; begins_is = refl; may = CleanedUp (record { k = _; stage = refl; session = refl; over = refl; same = refl }) } } }
       ∴ record { line = refl; complete = refl; moment = refl; stands = record { own = refl; may = record { doing = _; busy = refl; begins_is = refl; may = record { ready = refl; transacts = refl; same = refl } } } }
       ∴ record { line = refl; complete = refl; moment = refl; stands = record { own = refl; may = record { doing = _; busy = refl; begins_is = refl; may = Settles _ refl refl } } }
       ∴ tt;
