@@ -15,6 +15,8 @@ pub mod WritebackExamples
 pub mod CompactionExamples
 pub mod CleaningExamples
 pub mod TreeJournalExamples
+pub mod RefusalLaws
+pub mod RefusedJournals
 pub mod PastLaws
 pub mod LooksLaws
 pub mod GrowthLaws
