@@ -1,5 +1,5 @@
 -- Whole journals in which something is cleaned up, with what they print.
-use Rattle.std.proofs.Common.{◌≡◌, ◌+◌, false, List, [], ◌∷◌, ◌++◌, replicate, refl, codes, lit≤, lit<}
+use Rattle.std.proofs.Common.{◌≡◌, false, List, [], ◌∷◌, ◌++◌, replicate, refl, codes, lit≤, lit<}
 use Rattle.jv_model.specs.declared.act.Act.{Act}
 use Rattle.jv_model.specs.declared.act.ActKind.TheVariants.{Mounted, Meta, Opened, Look, Commit, Compacted, Expired, Purged, Cleaned, Quiet, Miss, Ticked, Answered}
 use Rattle.jv_model.specs.declared.act.Told.TheVariants.{Fine, Looks, Refused as ToldRefused}

@@ -17,6 +17,10 @@ pub mod CleaningExamples
 pub mod TreeJournalExamples
 pub mod RefusalLaws
 pub mod RefusedJournals
+pub mod RefusedReads
+pub mod RefusedSteps
+pub mod RefusedCommits
+pub mod RefusedCleanings
 pub mod PastLaws
 pub mod LooksLaws
 pub mod GrowthLaws

@@ -1,5 +1,5 @@
 -- Journals that no POSIX tree allows, by the first entry that may not stand.
-use Rattle.std.proofs.Common.{◌≡◌, ◌+◌, ℕ, false, List, [], ◌∷◌, ◌++◌, take, refl, ap, codes, arith, lit≤, lit<}
+use Rattle.std.proofs.Common.{◌≡◌, ℕ, false, List, [], ◌∷◌, ◌++◌, take, refl, ap, codes, arith, lit≤, lit<}
 use Rattle.jv_model.specs.declared.act.Act.{Act}
 use Rattle.jv_model.specs.declared.act.ActKind.TheVariants.{Mounted, Meta, Opened, Commit, Quiet, Answered}
 use Rattle.jv_model.specs.declared.act.Told.{Told}
@@ -9,7 +9,7 @@ use Rattle.jv_model.specs.declared.op.Op.TheVariants.{Mount, Stat, Create, Flush
 use Rattle.jv_model.specs.journal.Steps.{Settles, AtOnce}
 use Rattle.jv_model.specs.journal.Past.{Setup, at_start}
 use Rattle.jv_model.specs.journal.Legal.{AllAllowed}
-use Rattle.jv_model.proofs.RefusalLaws.{entry_is_allowed, same_some, own_step, fine_at_once}
+use Rattle.jv_model.proofs.RefusalLaws.{entry_is_allowed, same_some, own_step, fine_at_once, never}
 use Rattle.jv_model.proofs.JournalRuns.{run_of, entry, entry_at, journals_compute, ◌∴◌}
 
 abbrev first_number : Told → ℕ
@@ -70,21 +70,21 @@ two_transactions : (more : List Act) → AllAllowed (at_start simple_run) (take 
 unfolding journals_compute
 two_transactions more all =
     let h = entry_is_allowed (at_start simple_run) (take 10 simple_journal) (entry 5 0 Meta) more all in
-    let step = own_step h.stands.may refl in let no = step.ready in cc
+    let step = own_step h.stands.may refl in never step.ready
 
 -- a flush that leaves bytes pending
 flush_does_nothing : (more : List Act) → AllAllowed (at_start simple_run) (take 5 simple_journal ++ entry 4 0 (Answered (Fine 0 0 0 0)) ∷ more) → ⊥
 unfolding journals_compute
 flush_does_nothing more all =
     let h = entry_is_allowed (at_start simple_run) (take 5 simple_journal) (entry 4 0 (Answered (Fine 0 0 0 0))) more all in
-    let step = own_step h.stands.may refl in let at_once = fine_at_once refl refl step in let no = at_once.ready in cc
+    let step = own_step h.stands.may refl in let at_once = fine_at_once refl refl step in never at_once.ready
 
 -- a flush that brought its blocks and commits nothing
 flush_ends_early : (more : List Act) → AllAllowed (at_start simple_run) (take 7 simple_journal ++ entry 4 0 (Answered (Fine 0 0 0 0)) ∷ more) → ⊥
 unfolding journals_compute
 flush_ends_early more all =
     let h = entry_is_allowed (at_start simple_run) (take 7 simple_journal) (entry 4 0 (Answered (Fine 0 0 0 0))) more all in
-    let step = own_step h.stands.may refl in let at_once = fine_at_once refl refl step in let no = at_once.ready in cc
+    let step = own_step h.stands.may refl in let at_once = fine_at_once refl refl step in never at_once.ready
 
 -- a commit without a block
 commit_without_block : (more : List Act) → AllAllowed (at_start simple_run) (take 6 simple_journal ++ entry 4 0 (Commit 2 0 2 0) ∷ more) → ⊥
@@ -105,7 +105,7 @@ commit_kept_back : (more : List Act) → AllAllowed (at_start simple_run) (take 
 unfolding journals_compute
 commit_kept_back more all =
     let h = entry_is_allowed (at_start simple_run) (take 7 simple_journal) (entry 4 0 (Commit 2 0 2 1)) more all in
-    let step = own_step h.stands.may refl in let no = step.behind in cc
+    let step = own_step h.stands.may refl in never step.behind
 
 -- a write that is answered with another number of bytes
 write_counts_more : (more : List Act) → AllAllowed (at_start simple_run) (take 4 simple_journal ++ entry 3 0 (Answered (Fine 3 0 0 0)) ∷ more) → ⊥
@@ -119,7 +119,7 @@ next_line_begins_early : (more : List Act) → AllAllowed (at_start simple_run) 
 unfolding journals_compute
 next_line_begins_early more all =
     let h = entry_is_allowed (at_start simple_run) (take 6 simple_journal) (entry 5 0 Meta) more all in
-    let no = h.complete in cc
+    never h.complete
 
 -- a moment that isn't the clock's
 another_moment : (more : List Act) → AllAllowed (at_start simple_run) (take 5 simple_journal ++ entry_at 1001 4 0 Quiet ∷ more) → ⊥
