@@ -1,15 +1,15 @@
 -- Whole journals in which something is cleaned up, with what they print.
-use Rattle.std.proofs.Common.{◌≡◌, false, List, [], ◌∷◌, ◌++◌, replicate, refl, codes, lit≤, lit<}
+use Rattle.std.proofs.Common.{◌≡◌, true, false, List, [], ◌∷◌, ◌++◌, replicate, refl, codes, lit≤, lit<}
 use Rattle.jv_model.specs.declared.act.Act.{Act}
-use Rattle.jv_model.specs.declared.act.ActKind.TheVariants.{Mounted, Meta, Opened, Look, Commit, Compacted, Expired, Purged, Cleaned, Quiet, Miss, Ticked, Answered}
+use Rattle.jv_model.specs.declared.act.ActKind.TheVariants.{Mounted, Meta, Opened, Look, Commit, Copied, Compacted, Expired, Purged, Cleaned, Quiet, Miss, Ticked, Answered}
 use Rattle.jv_model.specs.declared.act.Told.TheVariants.{Fine, Looks, Refused as ToldRefused}
 use Rattle.jv_model.specs.declared.fault.Fault.TheVariants.{NotFound, NotPermitted, Stale, NotConnected}
 use Rattle.jv_model.specs.declared.fault.Gone.TheVariants.{Session, Node}
 use Rattle.jv_model.specs.declared.basics.How.TheVariants.{Plain}
 use Rattle.jv_model.specs.declared.op.Line.TheVariants.{Do, Begin, Step, Run, Tick}
-use Rattle.jv_model.specs.declared.op.Op.TheVariants.{Mount, Lookup, Stat, Mkdir, Create, Open, Close, Flush, Read, Write, Readdir, Unlink, Rename, Compact, Clean, Gc}
+use Rattle.jv_model.specs.declared.op.Op.TheVariants.{Mount, Lookup, Stat, Mkdir, Create, Open, Close, Flush, Read, Write, Copy, Readdir, Unlink, Rename, Compact, Clean, Gc}
 use Rattle.jv_model.specs.declared.setting.Setting.{Setting}
-use Rattle.jv_model.specs.journal.Steps.{Settles, AtOnce, ReadsViews, CleanedUp, HasCompacted, First, MayBeCleaned, HasReplaced, SessionGone, Refuses as IsRefusedBy}
+use Rattle.jv_model.specs.journal.Steps.{Settles, AtOnce, ReadsViews, CleanedUp, HasCompacted, HasCollected, First, MayBeCleaned, HasReplaced, SessionGone, Refuses as IsRefusedBy}
 use Rattle.jv_model.specs.journal.Past.{Setup, text_of}
 use Rattle.jv_model.specs.journal.Legal.{Legal, Refuses}
 use Rattle.jv_model.proofs.ReplyTextExamples.{replies_on_literals}
@@ -316,6 +316,114 @@ sustained_prints : text_of sustained_run sustained_journal ≡ printed (
     )
 unfolding journals_compute replies_on_literals
 sustained_prints = refl
+
+-- A copied file keeps its bytes when the other one is removed and cleaned up.
+abbrev copied_run : Setup
+copied_run = run_of (
+    Do 0 (Mount false)
+    ∷ Do 0 (Create (codes "/a") 420)
+    ∷ Do 0 (Write 1 0 (replicate 7 97))
+    ∷ Do 0 (Flush 1)
+    ∷ Do 0 (Create (codes "/b") 420)
+    ∷ Do 0 (Copy 1 0 2 0 70000)
+    ∷ Do 0 (Close 1)
+    ∷ Do 0 (Unlink (codes "/a"))
+    ∷ Do 0 Clean
+    ∷ Tick 3600
+    ∷ Do 0 (Gc true)
+    ∷ Do 0 (Read 2 0 3)
+    ∷ []
+    )
+
+abbrev copied_journal : List Act
+copied_journal =
+    entry 1 0 (Mounted 1)
+    ∷ entry 1 0 (Answered (Fine 1 0 0 0))
+    ∷ entry 2 0 (Opened 1 2)
+    ∷ entry 2 0 (Answered (Fine 1 2 0 0))
+    ∷ entry 3 0 (Answered (Fine 7 0 0 0))
+    ∷ entry 4 0 Quiet
+    ∷ entry 4 0 Quiet
+    ∷ entry 4 0 Quiet
+    ∷ entry 4 0 (Commit 2 0 7 0)
+    ∷ entry 4 0 (Answered (Fine 0 0 0 0))
+    ∷ entry 5 0 (Opened 2 3)
+    ∷ entry 5 0 (Answered (Fine 2 3 0 0))
+    ∷ entry 6 0 (Copied 2 0 3 0 7)
+    ∷ entry 6 0 (Answered (Fine 7 0 0 0))
+    ∷ entry 7 0 (Answered (Fine 0 0 0 0))
+    ∷ entry 8 0 Meta
+    ∷ entry 8 0 (Answered (Fine 0 0 0 0))
+    ∷ entry 9 0 Quiet
+    ∷ entry 9 0 Quiet
+    ∷ entry 9 0 (Cleaned 8 2)
+    ∷ entry 9 0 Quiet
+    ∷ entry 9 0 Quiet
+    ∷ entry 9 0 (Answered (Fine 0 0 1 0))
+    ∷ entry_at 4600 10 255 (Ticked 3600)
+    ∷ entry_at 4600 11 0 Quiet
+    ∷ entry_at 4600 11 0 Quiet
+    ∷ entry_at 4600 11 0 (Answered (Fine 0 0 0 0))
+    ∷ entry_at 4600 12 0 (Look 3 0)
+    ∷ entry_at 4600 12 0 Quiet
+    ∷ entry_at 4600 12 0 (Answered (Looks 28 0 3))
+    ∷ []
+
+copied_is_legal : Legal copied_run copied_journal
+unfolding journals_compute
+copied_is_legal = record {
+  ends = refl;
+  allowed =
+      record { line = refl; complete = refl; moment = refl; stands = record { own = refl; may = record { doing = _; busy = refl; begins_is = refl; may = record { ready = refl; transacts = refl; same = refl } } } }
+      ∴ record { line = refl; complete = refl; moment = refl; stands = record { own = refl; may = record { doing = _; busy = refl; begins_is = refl; may = Settles _ refl refl } } }
+      ∴ record { line = refl; complete = refl; moment = refl; stands = record { own = refl; may = record { doing = _; busy = refl; begins_is = refl; may = record { ready = refl; transacts = refl; same = refl } } } }
+      ∴ record { line = refl; complete = refl; moment = refl; stands = record { own = refl; may = record { doing = _; busy = refl; begins_is = refl; may = Settles _ refl refl } } }
+      ∴ record { line = refl; complete = refl; moment = refl; stands = record { own = refl; may = record { doing = _; busy = refl; begins_is = refl; may = AtOnce (record { ready = refl; first = refl; same = refl }) } } }
+      ∴ record { line = refl; complete = refl; moment = refl; stands = record { own = refl; may = record { doing = _; busy = refl; begins_is = refl; may = refl } } }
+      ∴ record { line = refl; complete = refl; moment = refl; stands = record { own = refl; may = record { doing = _; busy = refl; begins_is = refl; may = refl } } }
+      ∴ record { line = refl; complete = refl; moment = refl; stands = record { own = refl; may = record { doing = _; busy = refl; begins_is = refl; may = refl } } }
+      ∴ record { line = refl; complete = refl; moment = refl; stands = record { own = refl; may = record { doing = _; busy = refl; begins_is = refl; may = record { requests = lit≤ tt; segment = refl; behind = refl; session = refl; file = refl; in_time = lit< tt; room = refl } } } }
+      ∴ record { line = refl; complete = refl; moment = refl; stands = record { own = refl; may = record { doing = _; busy = refl; begins_is = refl; may = Settles _ refl refl } } }
+      ∴ record { line = refl; complete = refl; moment = refl; stands = record { own = refl; may = record { doing = _; busy = refl; begins_is = refl; may = record { ready = refl; transacts = refl; same = refl } } } }
+      ∴ record { line = refl; complete = refl; moment = refl; stands = record { own = refl; may = record { doing = _; busy = refl; begins_is = refl; may = Settles _ refl refl } } }
+      ∴ record { line = refl; complete = refl; moment = refl; stands = record { own = refl; may = record { doing = _; busy = refl; begins_is = refl; may = record { ready = refl; same = refl } } } }
+      ∴ record { line = refl; complete = refl; moment = refl; stands = record { own = refl; may = record { doing = _; busy = refl; begins_is = refl; may = Settles _ refl refl } } }
+      ∴ record { line = refl; complete = refl; moment = refl; stands = record { own = refl; may = record { doing = _; busy = refl; begins_is = refl; may = AtOnce (record { ready = refl; first = refl; same = refl }) } } }
+      ∴ record { line = refl; complete = refl; moment = refl; stands = record { own = refl; may = record { doing = _; busy = refl; begins_is = refl; may = record { ready = refl; transacts = refl; same = refl } } } }
+      ∴ record { line = refl; complete = refl; moment = refl; stands = record { own = refl; may = record { doing = _; busy = refl; begins_is = refl; may = Settles _ refl refl } } }
+      ∴ record { line = refl; complete = refl; moment = refl; stands = record { own = refl; may = record { doing = _; busy = refl; begins_is = refl; may = refl } } }
+      ∴ record { line = refl; complete = refl; moment = refl; stands = record { own = refl; may = record { doing = _; busy = refl; begins_is = refl; may = refl } } }
+      ∴ record { line = refl; complete = refl; moment = refl; stands = record { own = refl; may = record { doing = _; busy = refl; begins_is = refl; may = (record { k = _; stage = refl; at = refl; few = lit< tt; session = refl }, record { was = lit< tt; gone = refl; once = refl }) } } }
+      ∴ record { line = refl; complete = refl; moment = refl; stands = record { own = refl; may = record { doing = _; busy = refl; begins_is = refl; may = refl } } }
+      ∴ record { line = refl; complete = refl; moment = refl; stands = record { own = refl; may = record { doing = _; busy = refl; begins_is = refl; may = refl } } }
+      ∴ record { line = refl; complete = refl; moment = refl; stands = record { own = refl; may = record { doing = _; busy = refl; begins_is = refl; may = CleanedUp (record { k = _; stage = refl; session = refl; over = refl; same = refl }) } } }
+      ∴ record { line = refl; complete = refl; moment = refl; stands = (refl, refl) }
+      ∴ record { line = refl; complete = refl; moment = refl; stands = record { own = refl; may = record { doing = _; busy = refl; begins_is = refl; may = refl } } }
+      ∴ record { line = refl; complete = refl; moment = refl; stands = record { own = refl; may = record { doing = _; busy = refl; begins_is = refl; may = refl } } }
+      ∴ record { line = refl; complete = refl; moment = refl; stands = record { own = refl; may = record { doing = _; busy = refl; begins_is = refl; may = HasCollected 0 0 refl refl refl } } }
+      ∴ record { line = refl; complete = refl; moment = refl; stands = record { own = refl; may = record { doing = _; busy = refl; begins_is = refl; may = record { goes_on = refl; file = (refl, refl); session = refl; there = refl } } } }
+      ∴ record { line = refl; complete = refl; moment = refl; stands = record { own = refl; may = record { doing = _; busy = refl; begins_is = refl; may = refl } } }
+      ∴ record { line = refl; complete = refl; moment = refl; stands = record { own = refl; may = record { doing = _; busy = refl; begins_is = refl; may = ReadsViews (record { goes_on = refl; file = _; opened = refl; first = 28; second = 0; bytes = _; reads = refl; same = refl }) } } }
+      ∴ tt;
+}
+
+copied_prints : text_of copied_run copied_journal ≡ printed (
+    codes "ok 1"
+    ∷ codes "ok 1 2"
+    ∷ codes "ok 7"
+    ∷ codes "ok"
+    ∷ codes "ok 2 3"
+    ∷ codes "ok 7"
+    ∷ codes "ok"
+    ∷ codes "ok"
+    ∷ codes "ok 0 0 1 0"
+    ∷ codes "now 4600"
+    ∷ codes "ok 0 0"
+    ∷ codes "ok 616161"
+    ∷ []
+    )
+unfolding journals_compute replies_on_literals
+copied_prints = refl
 
 -- The session of a client that cleans up is expired by another one, between a slice that it found and the removal of its
 -- block: the removal wants no session, and what comes after it is refused.

@@ -3,9 +3,9 @@ use Rattle.std.proofs.Common.{◌≡◌, false, List, [], ◌∷◌, replicate, 
 use Rattle.jv_model.specs.declared.act.Act.{Act}
 use Rattle.jv_model.specs.declared.act.ActKind.TheVariants.{Mounted, Meta, Opened, Look, Commit, Truncated, Quiet, Answered}
 use Rattle.jv_model.specs.declared.act.Told.TheVariants.{Fine, Looks, Refused as ToldRefused}
-use Rattle.jv_model.specs.declared.fault.Fault.TheVariants.{BadHandle, FileTooLarge}
+use Rattle.jv_model.specs.declared.fault.Fault.TheVariants.{BadHandle, FileTooLarge, NotConnected}
 use Rattle.jv_model.specs.declared.op.Line.TheVariants.{Do}
-use Rattle.jv_model.specs.declared.op.Op.TheVariants.{Mount, Fstat, Create, Open, Close, Flush, Read, Write, Truncate, Stats}
+use Rattle.jv_model.specs.declared.op.Op.TheVariants.{Mount, Umount, Stat, Fstat, Create, Open, Close, Flush, Read, Write, Truncate, Stats}
 use Rattle.jv_model.specs.journal.Steps.{Settles, AtOnce, CountsCache, ReadsViews}
 use Rattle.jv_model.specs.journal.Past.{Setup, text_of}
 use Rattle.jv_model.specs.journal.Legal.{Legal, Refuses}
@@ -446,3 +446,113 @@ truncations_prints : text_of truncations_run truncations_journal ≡ printed (
     )
 unfolding journals_compute replies_on_literals
 truncations_prints = refl
+
+-- A buffer of four bytes: a write that would pass it commits all that is pending first, and an unmount commits the rest.
+abbrev full_buffer_run : Setup
+full_buffer_run = record (run_of (
+    Do 0 (Mount false)
+    ∷ Do 0 (Create (codes "/f") 420)
+    ∷ Do 0 (Create (codes "/g") 420)
+    ∷ Do 0 (Write 2 0 (97 ∷ 98 ∷ 99 ∷ []))
+    ∷ Do 0 (Write 1 0 (100 ∷ []))
+    ∷ Do 0 (Write 1 9 (101 ∷ []))
+    ∷ Do 0 (Write 2 3 (102 ∷ 103 ∷ 104 ∷ 105 ∷ 106 ∷ []))
+    ∷ Do 0 Umount
+    ∷ Do 0 (Fstat 1)
+    ∷ Do 0 (Mount false)
+    ∷ Do 0 (Stat (codes "/f"))
+    ∷ Do 0 (Stat (codes "/g"))
+    ∷ []
+    )) { limits = record { buffer = 4; entries = 16; writeback = false } }
+
+abbrev full_buffer_journal : List Act
+full_buffer_journal =
+    entry 1 0 (Mounted 1)
+    ∷ entry 1 0 (Answered (Fine 1 0 0 0))
+    ∷ entry 2 0 (Opened 1 2)
+    ∷ entry 2 0 (Answered (Fine 1 2 0 0))
+    ∷ entry 3 0 (Opened 2 3)
+    ∷ entry 3 0 (Answered (Fine 2 3 0 0))
+    ∷ entry 4 0 (Answered (Fine 3 0 0 0))
+    ∷ entry 5 0 (Answered (Fine 1 0 0 0))
+    ∷ entry 6 0 Quiet
+    ∷ entry 6 0 Quiet
+    ∷ entry 6 0 (Commit 2 0 1 0)
+    ∷ entry 6 0 Quiet
+    ∷ entry 6 0 Quiet
+    ∷ entry 6 0 (Commit 3 0 3 0)
+    ∷ entry 6 0 (Answered (Fine 1 0 0 0))
+    ∷ entry 7 0 Quiet
+    ∷ entry 7 0 Quiet
+    ∷ entry 7 0 (Commit 2 9 1 0)
+    ∷ entry 7 0 (Answered (Fine 5 0 0 0))
+    ∷ entry 8 0 Quiet
+    ∷ entry 8 0 Quiet
+    ∷ entry 8 0 (Commit 3 3 5 0)
+    ∷ entry 8 0 Meta
+    ∷ entry 8 0 (Answered (Fine 0 0 0 0))
+    ∷ entry 9 0 (Answered (ToldRefused NotConnected))
+    ∷ entry 10 0 (Mounted 2)
+    ∷ entry 10 0 (Answered (Fine 2 0 0 0))
+    ∷ entry 11 0 Meta
+    ∷ entry 11 0 (Answered (Fine 0 0 0 0))
+    ∷ entry 12 0 Meta
+    ∷ entry 12 0 (Answered (Fine 0 0 0 0))
+    ∷ []
+
+full_buffer_is_legal : Legal full_buffer_run full_buffer_journal
+unfolding journals_compute
+full_buffer_is_legal = record {
+  ends = refl;
+  allowed =
+      record { line = refl; complete = refl; moment = refl; stands = record { own = refl; may = record { doing = _; busy = refl; begins_is = refl; may = record { ready = refl; transacts = refl; same = refl } } } }
+      ∴ record { line = refl; complete = refl; moment = refl; stands = record { own = refl; may = record { doing = _; busy = refl; begins_is = refl; may = Settles _ refl refl } } }
+      ∴ record { line = refl; complete = refl; moment = refl; stands = record { own = refl; may = record { doing = _; busy = refl; begins_is = refl; may = record { ready = refl; transacts = refl; same = refl } } } }
+      ∴ record { line = refl; complete = refl; moment = refl; stands = record { own = refl; may = record { doing = _; busy = refl; begins_is = refl; may = Settles _ refl refl } } }
+      ∴ record { line = refl; complete = refl; moment = refl; stands = record { own = refl; may = record { doing = _; busy = refl; begins_is = refl; may = record { ready = refl; transacts = refl; same = refl } } } }
+      ∴ record { line = refl; complete = refl; moment = refl; stands = record { own = refl; may = record { doing = _; busy = refl; begins_is = refl; may = Settles _ refl refl } } }
+      ∴ record { line = refl; complete = refl; moment = refl; stands = record { own = refl; may = record { doing = _; busy = refl; begins_is = refl; may = AtOnce (record { ready = refl; first = refl; same = refl }) } } }
+      ∴ record { line = refl; complete = refl; moment = refl; stands = record { own = refl; may = record { doing = _; busy = refl; begins_is = refl; may = AtOnce (record { ready = refl; first = refl; same = refl }) } } }
+      ∴ record { line = refl; complete = refl; moment = refl; stands = record { own = refl; may = record { doing = _; busy = refl; begins_is = refl; may = refl } } }
+      ∴ record { line = refl; complete = refl; moment = refl; stands = record { own = refl; may = record { doing = _; busy = refl; begins_is = refl; may = refl } } }
+      ∴ record { line = refl; complete = refl; moment = refl; stands = record { own = refl; may = record { doing = _; busy = refl; begins_is = refl; may = record { requests = lit≤ tt; segment = refl; behind = refl; session = refl; file = refl; in_time = lit< tt; room = refl } } } }
+      ∴ record { line = refl; complete = refl; moment = refl; stands = record { own = refl; may = record { doing = _; busy = refl; begins_is = refl; may = refl } } }
+      ∴ record { line = refl; complete = refl; moment = refl; stands = record { own = refl; may = record { doing = _; busy = refl; begins_is = refl; may = refl } } }
+      ∴ record { line = refl; complete = refl; moment = refl; stands = record { own = refl; may = record { doing = _; busy = refl; begins_is = refl; may = record { requests = lit≤ tt; segment = refl; behind = refl; session = refl; file = refl; in_time = lit< tt; room = refl } } } }
+      ∴ record { line = refl; complete = refl; moment = refl; stands = record { own = refl; may = record { doing = _; busy = refl; begins_is = refl; may = Settles _ refl refl } } }
+      ∴ record { line = refl; complete = refl; moment = refl; stands = record { own = refl; may = record { doing = _; busy = refl; begins_is = refl; may = refl } } }
+      ∴ record { line = refl; complete = refl; moment = refl; stands = record { own = refl; may = record { doing = _; busy = refl; begins_is = refl; may = refl } } }
+      ∴ record { line = refl; complete = refl; moment = refl; stands = record { own = refl; may = record { doing = _; busy = refl; begins_is = refl; may = record { requests = lit≤ tt; segment = refl; behind = refl; session = refl; file = refl; in_time = lit< tt; room = refl } } } }
+      ∴ record { line = refl; complete = refl; moment = refl; stands = record { own = refl; may = record { doing = _; busy = refl; begins_is = refl; may = Settles _ refl refl } } }
+      ∴ record { line = refl; complete = refl; moment = refl; stands = record { own = refl; may = record { doing = _; busy = refl; begins_is = refl; may = refl } } }
+      ∴ record { line = refl; complete = refl; moment = refl; stands = record { own = refl; may = record { doing = _; busy = refl; begins_is = refl; may = refl } } }
+      ∴ record { line = refl; complete = refl; moment = refl; stands = record { own = refl; may = record { doing = _; busy = refl; begins_is = refl; may = record { requests = lit≤ tt; segment = refl; behind = refl; session = refl; file = refl; in_time = lit< tt; room = refl } } } }
+      ∴ record { line = refl; complete = refl; moment = refl; stands = record { own = refl; may = record { doing = _; busy = refl; begins_is = refl; may = record { ready = refl; transacts = refl; same = refl } } } }
+      ∴ record { line = refl; complete = refl; moment = refl; stands = record { own = refl; may = record { doing = _; busy = refl; begins_is = refl; may = Settles _ refl refl } } }
+      ∴ record { line = refl; complete = refl; moment = refl; stands = (refl, Refuses refl) }
+      ∴ record { line = refl; complete = refl; moment = refl; stands = record { own = refl; may = record { doing = _; busy = refl; begins_is = refl; may = record { ready = refl; transacts = refl; same = refl } } } }
+      ∴ record { line = refl; complete = refl; moment = refl; stands = record { own = refl; may = record { doing = _; busy = refl; begins_is = refl; may = Settles _ refl refl } } }
+      ∴ record { line = refl; complete = refl; moment = refl; stands = record { own = refl; may = record { doing = _; busy = refl; begins_is = refl; may = record { ready = refl; transacts = refl; same = refl } } } }
+      ∴ record { line = refl; complete = refl; moment = refl; stands = record { own = refl; may = record { doing = _; busy = refl; begins_is = refl; may = Settles _ refl refl } } }
+      ∴ record { line = refl; complete = refl; moment = refl; stands = record { own = refl; may = record { doing = _; busy = refl; begins_is = refl; may = record { ready = refl; transacts = refl; same = refl } } } }
+      ∴ record { line = refl; complete = refl; moment = refl; stands = record { own = refl; may = record { doing = _; busy = refl; begins_is = refl; may = Settles _ refl refl } } }
+      ∴ tt;
+}
+
+full_buffer_prints : text_of full_buffer_run full_buffer_journal ≡ printed (
+    codes "ok 1"
+    ∷ codes "ok 1 2"
+    ∷ codes "ok 2 3"
+    ∷ codes "ok 3"
+    ∷ codes "ok 1"
+    ∷ codes "ok 1"
+    ∷ codes "ok 5"
+    ∷ codes "ok"
+    ∷ codes "err ENOTCONN"
+    ∷ codes "ok 2"
+    ∷ codes "ok 2 f 0644 1 0 0 10 1000 1000"
+    ∷ codes "ok 3 f 0644 1 0 0 8 1000 1000"
+    ∷ []
+    )
+unfolding journals_compute replies_on_literals
+full_buffer_prints = refl
