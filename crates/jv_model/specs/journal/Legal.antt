@@ -15,10 +15,10 @@ use Rattle.jv_model.specs.journal.Steps.{IsEntry, is_failure, owes_none}
 use Rattle.jv_model.specs.journal.Past.{Setup, Past, Due, NoMore, Refusal, MayLack, ToAnswer, OneStep, StepMade, CrashEntry, TickEntry, DrainEntries, at_start, begun_to, advance, at_end, asks_clock, begins_in, is_workers, is_busy, ends_in_step, is_over}
 
 -- the moment of the clock's next answer, with the seconds that lines let pass
-abbrev clock_moment : Past → ℕ → (ℕ → ℕ) → ℕ
+abbrev pub clock_moment : Past → ℕ → (ℕ → ℕ) → ℕ
 clock_moment p ticks answers = min LAST_MOMENT (max p.at (answers p.asked + ticks))
 
-abbrev tick_of : ActKind → ℕ
+abbrev pub tick_of : ActKind → ℕ
 tick_of (Ticked by) = by
 tick_of _ = 0
 

@@ -13,6 +13,10 @@ bytes_from byte from (suc n) = byte from ∷ bytes_from byte (from + 1) n
 abbrev pub bytes_between : Content → ℕ → ℕ → List ℕ
 bytes_between content from to = bytes_from content.byte from (min to content.length - from)
 
+-- the first position of a window
+abbrev pub window_start : ℕ → ℕ
+window_start window = window * WINDOW
+
 -- the part of a range that lies in one window
 pub record Asked : Type 0 where
   pub window : ℕ

@@ -1,6 +1,6 @@
 -- What a journal has come to, and what one more entry does to it: the tree, the clients, and whose blocks are owed. It
 -- knows no lines, clock or text.
-use Rattle.std.specs.Prelude.{ℕ, ◌+◌, Bool, true, false, ◌&&◌, not, ◌==◌, nat_lt, if◌then◌else◌, List, [], ◌∷◌, ◌++◌, map, filter, is_some, Option, None, Some}
+use Rattle.std.specs.Prelude.{ℕ, ◌+◌, Bool, true, false, ◌&&◌, ◌||◌, not, ◌==◌, nat_lt, if◌then◌else◌, List, [], ◌∷◌, ◌++◌, map, filter, is_some, Option, None, Some}
 use Rattle.jv_model.specs.declared.limits.TheConstants.{TRASH_ROOT}
 use Rattle.jv_model.specs.declared.act.Act.{Act}
 use Rattle.jv_model.specs.declared.act.ActKind.{ActKind}
@@ -31,7 +31,7 @@ use Rattle.jv_model.specs.client.Origins.{Marks, Owed, first_marks, marks_commit
 use Rattle.jv_model.specs.client.Profile.{profile, handle_list, handle_of}
 use Rattle.jv_model.specs.client.ModelClient.{ModelClient, OpenFile, View, Doing, Stage, Part, Sessions, Trash, Files, Slices, Blocks, Cleaning, Working, Reading, Missing, LookedAgain, Compacting, Cleans, Requesting, Replying, unmounted, session_of, with_stage, with_file, file_of, free_handle, inode_at, held_inodes, is_last_of_removed, views_without}
 use Rattle.jv_model.specs.client.Submission.{is_flushed}
-use Rattle.jv_model.specs.journal.Reading.{Asked, asked_parts, fresh_view}
+use Rattle.jv_model.specs.journal.Reading.{Asked, window_start, asked_parts, fresh_view}
 
 -- what an entry did to a file, by whomever
 pub data ChangeKind : Type 0 where
@@ -192,9 +192,25 @@ next_part Files = Slices
 next_part Slices = Blocks
 next_part Blocks = Blocks
 
--- a request of a cleaning that found nothing more in its part, or worked on slices
+abbrev pub is_last : Part → Bool
+is_last Sessions = false
+is_last Trash = false
+is_last Files = false
+is_last Slices = false
+is_last Blocks = true
+
+-- A request of a cleaning that found nothing more in its part, or a slice, or that removed a block, which wants no session.
 abbrev pub cleaning_on : State → ModelClient → Cleaning → Stage
-cleaning_on s c k = (if has_session s.tree c then Cleans (record k { part = next_part k.part }) else Replying (session_gone c))
+cleaning_on s c k = (if has_session s.tree c || is_last k.part then Cleans (record k { part = next_part k.part }) else Replying (session_gone c))
+
+abbrev pub is_collecting : Does → Bool
+is_collecting Collects = true
+is_collecting _ = false
+
+-- A request of a collection or an upload. The second one of a collection judges the names that the first one listed, in a
+-- transaction that wants the session.
+abbrev pub requesting_on : State → ModelClient → Does → ℕ → Stage
+requesting_on s c does requests = (if is_collecting does && (requests == 1) && not (has_session s.tree c) then Replying (session_gone c) else Requesting (requests + 1))
 
 abbrev pub first_cleaning : Cleaning
 first_cleaning = record { part = Sessions; sessions = 0; trash = 0; hours = 0; files = 0; slices = 0 }
@@ -244,7 +260,7 @@ quieted s client c now d (Compacting k) = (if is_some k.missed
     then refused_look s c k.view.inode (Compacting k)
     else Compacting (record k { quiets = now ∷ k.quiets }))
 quieted s client c now d (Cleans k) = cleaning_on s c k
-quieted s client c now d (Requesting requests) = Requesting (requests + 1)
+quieted s client c now d (Requesting requests) = requesting_on s c d.does requests
 quieted s client c now d (Replying answer) = Replying answer
 
 abbrev pub is_cleaning : Does → Bool
@@ -380,9 +396,9 @@ abbrev replaced : Stage → Stage
 replaced (Compacting k) = Compacting (record k { has_replaced = true })
 replaced stage = stage
 
-abbrev pub after_compaction : State → ℕ → ℕ → ℕ → ℕ → Doing → State
-after_compaction s client inode from to d = set_client (record s {
-  marks = marks_compacted (next_entry s) (last_look d.stage) inode from to s.marks;
+abbrev pub after_compaction : State → ℕ → ℕ → ℕ → ℕ → ℕ → Doing → State
+after_compaction s client inode window from to d = set_client (record s {
+  marks = marks_compacted (next_entry s) (last_look d.stage) inode (window_start window + from) (window_start window + to) s.marks;
   changes = changed_at (next_entry s) Replaced inode ∷ s.changes;
 }) client (with_stage (replaced d.stage) (s.clients client))
 
@@ -410,9 +426,8 @@ after_purge s client inode d =
 abbrev pub after_cleaning : State → ℕ → ℕ → ℕ → Doing → State
 after_cleaning s client table key d =
     let k = cleaning_of d.stage in
-    (if table == 8
-    then after_item (record s { dropped = key ∷ s.dropped }) client (record k { files = k.files + 1 })
-    else after_item s client (record k { slices = k.slices + 1 }))
+    after_item (record s { dropped = (if table == 8 then key ∷ s.dropped else s.dropped) }) client
+    (if table == 8 then record k { files = k.files + 1 } else record k { part = Slices; slices = k.slices + 1 })
 
 abbrev pub settled : ℕ → State → State
 settled commit s = record s { owed = filter (λ o. not (o.commit == commit)) s.owed }
@@ -490,7 +505,7 @@ after_step s act d (Look inode window) = after_look s act.client inode window d
 after_step s act d (Commit inode from len staged) = after_commit s act.client act.at inode from len staged d
 after_step s act d (Truncated inode len) = after_truncation s act.client act.at inode len d
 after_step s act d (Copied source from target to len) = after_copy s act.client act.at source from target to len d
-after_step s act d (Compacted inode window from to) = after_compaction s act.client inode from to d
+after_step s act d (Compacted inode window from to) = after_compaction s act.client inode window from to d
 after_step s act d (Settled commit) = set_client (settled commit s) act.client (with_stage (quieted s act.client (s.clients act.client) act.at d d.stage) (s.clients act.client))
 after_step s act d (Expired sid) = after_expiry s act.client sid d
 after_step s act d (Purged inode) = after_purge s act.client inode d
@@ -506,7 +521,7 @@ abbrev pub after_other : State → ActKind → State
 after_other s (Settled commit) = settled commit s
 after_other s _ = s
 
-abbrev of_doing : State → Act → Option Doing → State
+abbrev pub of_doing : State → Act → Option Doing → State
 of_doing s act None = after_other s act.kind
 of_doing s act (Some d) = after_step s act d act.kind
 

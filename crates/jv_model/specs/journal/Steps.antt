@@ -1,6 +1,6 @@
 -- What an entry of a client's operation may be, by the state alone: the requests of the operation in their order, each with
 -- the operation's own numbers, and the answers with their causes.
-use Rattle.std.specs.Prelude.{◌≡◌, ℕ, ◌+◌, ◌*◌, ◌≤◌, ◌<◌, Bool, true, false, ◌&&◌, ◌||◌, not, ◌==◌, nat_le, nat_lt, if◌then◌else◌, IsTrue, MatchBool, IsSomeAnd, List, [], ◌∷◌, length, is_some, Option, None, Some, Result, Ok, Err}
+use Rattle.std.specs.Prelude.{◌≡◌, ℕ, ◌+◌, ◌≤◌, ◌<◌, Bool, true, false, ◌&&◌, ◌||◌, not, ◌==◌, nat_le, nat_lt, if◌then◌else◌, IsTrue, MatchBool, IsSomeAnd, List, [], ◌∷◌, length, is_some, Option, None, Some, Result, Ok, Err}
 use Rattle.std.specs.List.{list_any}
 use Rattle.std.specs.Option.{option_map}
 use Rattle.jv_model.specs.declared.limits.TheConstants.{FULL_COUNT, FILE_END, WINDOW, UPLOAD_LIFE, MAX_MISSES, MAX_ITEMS}
@@ -31,8 +31,8 @@ use Rattle.jv_model.specs.client.Origins.{Owed, missing_commit}
 use Rattle.jv_model.specs.client.Profile.{handle_of}
 use Rattle.jv_model.specs.client.ModelClient.{ModelClient, OpenFile, View, Doing, Stage, Part, Sessions, Trash, Files, Slices, Blocks, Cleaning, Compaction, Working, Reading, Missing, LookedAgain, Compacting, Cleans, Requesting, Replying, session_of, file_of, inode_at, is_among}
 use Rattle.jv_model.specs.client.Submission.{next_segment, is_flushed}
-use Rattle.jv_model.specs.journal.State.{State, ChangeKind, Written, Replaced, Ended, transacted, caller, has_session, look_refusal, sees_first, is_refused, is_cleaning, is_compaction, first_cleaning, answer_then, gift_of, Gift, NewSession, NewHandle, Nothing}
-use Rattle.jv_model.specs.journal.Reading.{Asked, asked_parts, fresh_view, part_to_look, shows_all, reading}
+use Rattle.jv_model.specs.journal.State.{State, ChangeKind, Written, Replaced, Ended, transacted, caller, has_session, look_refusal, sees_first, is_refused, is_cleaning, is_compaction, is_last, is_collecting, first_cleaning, answer_then, gift_of, Gift, NewSession, NewHandle, Nothing}
+use Rattle.jv_model.specs.journal.Reading.{Asked, window_start, asked_parts, fresh_view, part_to_look, shows_all, reading}
 
 -- what the run began with, as far as a tree doesn't say it
 pub record Start : Type 0 where
@@ -205,10 +205,6 @@ pub record MissesBlock (start : Start) (s : State) (client : ℕ) (c : ModelClie
   pub fresh : fresh_view c.views (handle_of d.op) file window ≡ Some view
   pub gone : MayBeGone start s client view asked.from asked.to
 
--- the positions of a window
-abbrev window_start : ℕ → ℕ
-window_start window = window * WINDOW
-
 -- the window that a compaction looks at first
 abbrev compaction_target : Tree → Caller → Op → Result (ℕ × ℕ) Fault
 compaction_target t who (op.Compact path window) = compact_inode t who path >>= λ inode. Ok (inode, window)
@@ -240,15 +236,14 @@ abbrev is_in_time : ℕ → List ℕ → Bool
 is_in_time now [] = true
 is_in_time now (moment ∷ moments) = list_any (λ m. nat_lt now (m + UPLOAD_LIFE)) (moment ∷ moments)
 
--- the list of a window is replaced over a span of it
+-- the list of a window is replaced over a span of it, whose positions are counted from the window's start
 pub record Replaces (s : State) (now : ℕ) (c : ModelClient) (d : Doing) (inode window from to : ℕ) : Type 0 where
   pub k : Compaction
   pub stage : d.stage ≡ Compacting k
   pub goes_on : IsTrue (may_compact_on k)
   pub own : (inode ≡ k.view.inode) × (window ≡ k.view.window)
-  pub begins : window_start window ≤ from
   pub rises : from ≤ to
-  pub ends : to ≤ window_start (window + 1)
+  pub ends : to ≤ WINDOW
   pub session : IsTrue (has_session s.tree c)
   pub there : IsTrue (is_some (node_at s.tree inode))
   pub in_time : IsTrue (is_in_time now k.quiets)
@@ -329,10 +324,6 @@ may_begin_quietly start s client now c d = elim d.does [
   | Collects ↦ true
   | Uploads ↦ true
 ]
-
-abbrev is_collecting : Does → Bool
-is_collecting Collects = true
-is_collecting _ = false
 
 abbrev pub may_be_quiet : Start → State → ℕ → ℕ → ModelClient → Doing → Stage → Bool
 may_be_quiet start s client now c d (Working quiets started) = (if is_flushed d.flush c.pending then (quiets == 0) && may_begin_quietly start s client now c d else true)
@@ -498,17 +489,11 @@ pub record ReadsFresh (c : ModelClient) (d : Doing) (told : Told) : Type 0 where
   pub reads : reading c.views (handle_of d.op) file (asked_of d.does) first second ≡ Some bytes
   pub same : told ≡ Looks first second (length bytes)
 
-abbrev is_last : Part → Bool
-is_last Sessions = false
-is_last Trash = false
-is_last Files = false
-is_last Slices = false
-is_last Blocks = true
-
 -- a cleaning ends when it found nothing more in each part, or had as many items as one may have
-pub record EndsCleaning (d : Doing) (told : Told) : Type 0 where
+pub record EndsCleaning (s : State) (c : ModelClient) (d : Doing) (told : Told) : Type 0 where
   pub k : Cleaning
   pub stage : d.stage ≡ Cleans k
+  pub session : IsTrue (has_session s.tree c)
   pub over : IsTrue (is_last k.part || (items k == MAX_ITEMS))
   pub same : told ≡ Fine k.sessions k.trash k.files k.slices
 
@@ -532,7 +517,7 @@ pub data MayAnswer (start : Start) (alone : Bool) (s : State) (client now : ℕ)
   CountsCache : (hits misses cached : ℕ) → d.does ≡ Answers answer.CacheStats → told ≡ Fine hits misses cached (length c.pending)
       → MayAnswer start alone s client now c d told
   ReadsViews : ReadsFresh c d told → MayAnswer start alone s client now c d told
-  CleanedUp : EndsCleaning d told → MayAnswer start alone s client now c d told
+  CleanedUp : EndsCleaning s c d told → MayAnswer start alone s client now c d told
   HasCompacted : EndsCompaction d told → MayAnswer start alone s client now c d told
   HasCollected : (count bytes : ℕ) → d.does ≡ Collects → IsTrue (has_judged d.stage) → told ≡ Fine count bytes 0 0 → MayAnswer start alone s client now c d told
   HasUploaded : d.does ≡ Uploads → EndsUpload alone s client c d told → MayAnswer start alone s client now c d told
