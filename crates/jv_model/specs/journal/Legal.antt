@@ -15,10 +15,10 @@ use Rattle.jv_model.specs.journal.Steps.{IsEntry, is_failure, owes_none}
 use Rattle.jv_model.specs.journal.Past.{Setup, Past, Due, NoMore, Refusal, MayLack, ToAnswer, OneStep, StepMade, CrashEntry, TickEntry, DrainEntries, at_start, begun_to, advance, at_end, asks_clock, begins_in, is_workers, is_busy, ends_in_step, is_over}
 
 -- the moment of the clock's next answer, with the seconds that lines let pass
-abbrev clock_moment : Past → ℕ → (ℕ → ℕ) → ℕ
+abbrev pub clock_moment : Past → ℕ → (ℕ → ℕ) → ℕ
 clock_moment p ticks answers = min LAST_MOMENT (max p.at (answers p.asked + ticks))
 
-abbrev tick_of : ActKind → ℕ
+abbrev pub tick_of : ActKind → ℕ
 tick_of (Ticked by) = by
 tick_of _ = 0
 
@@ -28,8 +28,8 @@ tick_of _ = 0
 abbrev pub IsMoment : Past → Act → Type 0
 IsMoment p act = MatchBool (is_workers p) ((p.at ≤ act.at) × (act.at ≤ LAST_MOMENT))
     (MatchBool (asks_clock p act)
-      (MatchOption p.run.clock ((p.at ≤ act.at) × (act.at ≤ LAST_MOMENT)) (λ answers. act.at ≡ clock_moment p (p.ticks + tick_of act.kind) answers))
-      (act.at ≡ p.at))
+    (MatchOption p.run.clock ((p.at ≤ act.at) × (act.at ≤ LAST_MOMENT)) (λ answers. act.at ≡ clock_moment p (p.ticks + tick_of act.kind) answers))
+    (act.at ≡ p.at))
 
 -- the one entry of a refused submission, for which memory may run out too, but not where an operation goes on
 pub data IsRefusal (busy : Bool) (fault : Fault) (kind : ActKind) : Type 0 where

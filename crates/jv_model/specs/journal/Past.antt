@@ -104,7 +104,7 @@ is_over p = elim p.due [
 ]
 
 -- an operation submitted by a line: refused, or in progress
-abbrev begun_by_due : Due → Past → ℕ → Op → Option Fault → Past
+abbrev pub begun_by_due : Due → Past → ℕ → Op → Option Fault → Past
 begun_by_due due p client o (Some fault) = record p { due = Refusal client fault; said = [] }
 begun_by_due due p client o None = record p { due = due; state = set_client p.state client (submitted p.run.limits o (p.state.clients client)) }
 
@@ -114,7 +114,7 @@ is_busy p client = is_some (p.state.clients client).doing
 abbrev idle_text : List ℕ
 idle_text = with_feed (codes "idle")
 
-abbrev or_idle : Past → ℕ → Due → Past
+abbrev pub or_idle : Past → ℕ → Due → Past
 or_idle p client due = (if is_busy p client then record p { due = due } else record p { due = NoMore; said = idle_text })
 
 abbrev pub begun : Past → Line → Past
@@ -251,7 +251,7 @@ says_more (OneStep client) said = more_text
 says_more _ said = said
 
 -- what an entry of the present line makes of the line: the state is still the one before it
-abbrev lined : Past → Act → ActKind → Past
+abbrev pub lined : Past → Act → ActKind → Past
 lined p act (Answered told) = answered p (line_reply p told)
 lined p act Crashed = record p { due = NoMore; said = with_feed (codes "crashed") }
 lined p act (Ticked by) = record p { due = NoMore; said = with_feed (codes "now " ++ decimal act.at); ticks = p.ticks + by }
@@ -283,7 +283,7 @@ abbrev pub is_workers : Past → Bool
 is_workers p = p.run.by_worker (p.state.count + 1)
 
 -- an entry of an uploading thread belongs to no line
-abbrev of_line : Past → Act → Past
+abbrev pub of_line : Past → Act → Past
 of_line p act = (if is_workers p then p else record (lined p act act.kind) { asked = (if asks_clock p act then p.asked + 1 else p.asked) })
 
 -- where it leads with one more entry, whose line is begun

@@ -297,8 +297,8 @@ abbrev pub after_look : State → ℕ → ℕ → ℕ → Doing → State
 after_look s client inode window d =
     let c = s.clients client in
     set_client s client (if is_compaction d.does
-      then with_stage (compaction_looked (view_now s 0 inode window) d.stage) c
-      else with_stage (looked d.stage) (record c { views = view_now s (handle_of d.op) inode window ∷ c.views }))
+    then with_stage (compaction_looked (view_now s 0 inode window) d.stage) c
+    else with_stage (looked d.stage) (record c { views = view_now s (handle_of d.op) inode window ∷ c.views }))
 
 -- a block that a window shows wasn't found
 abbrev pub missed : ℕ → List Owed → Stage → Stage
@@ -382,9 +382,9 @@ replaced stage = stage
 
 abbrev pub after_compaction : State → ℕ → ℕ → ℕ → ℕ → Doing → State
 after_compaction s client inode from to d = set_client (record s {
-    marks = marks_compacted (next_entry s) (last_look d.stage) inode from to s.marks;
-    changes = changed_at (next_entry s) Replaced inode ∷ s.changes;
-  }) client (with_stage (replaced d.stage) (s.clients client))
+  marks = marks_compacted (next_entry s) (last_look d.stage) inode from to s.marks;
+  changes = changed_at (next_entry s) Replaced inode ∷ s.changes;
+}) client (with_stage (replaced d.stage) (s.clients client))
 
 -- cleaning and settling
 
@@ -410,9 +410,8 @@ after_purge s client inode d =
 abbrev pub after_cleaning : State → ℕ → ℕ → ℕ → Doing → State
 after_cleaning s client table key d =
     let k = cleaning_of d.stage in
-    (if table == 8
-      then after_item (record s { dropped = key ∷ s.dropped }) client (record k { files = k.files + 1 })
-      else after_item s client (record k { slices = k.slices + 1 }))
+    after_item (record s { dropped = (if table == 8 then key ∷ s.dropped else s.dropped) }) client
+    (if table == 8 then record k { files = k.files + 1 } else record k { slices = k.slices + 1 })
 
 abbrev pub settled : ℕ → State → State
 settled commit s = record s { owed = filter (λ o. not (o.commit == commit)) s.owed }
@@ -506,7 +505,7 @@ abbrev pub after_other : State → ActKind → State
 after_other s (Settled commit) = settled commit s
 after_other s _ = s
 
-abbrev of_doing : State → Act → Option Doing → State
+abbrev pub of_doing : State → Act → Option Doing → State
 of_doing s act None = after_other s act.kind
 of_doing s act (Some d) = after_step s act d act.kind
 
