@@ -15,3 +15,4 @@ pub mod WriteLaws
 pub mod BlockNamesExamples
 pub mod SlicesExamples
 pub mod RowGrammarExamples
+pub mod JournalGrowthLaws

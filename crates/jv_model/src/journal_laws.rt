@@ -1,0 +1,27 @@
+//! What holds of every journal that is legal so far. Each law is a function that does nothing.
+ghost use Rattle.jv_model.specs.journal.Laws.{JournalsGrow, EarlierTextStays, FollowsClock, OthersStay, EntriesAreCounted};
+
+/// A journal is legal so far if and only if each part of it is, from where the entries before it lead.
+pub fn journals_grow()
+    ensures { JournalsGrow }
+{}
+
+/// What the lines up to a number print stays, whatever later lines do.
+pub fn earlier_text_stays()
+    ensures { EarlierTextStays }
+{}
+
+/// Lines and moments never fall, and no moment is past the last one.
+pub fn follows_clock()
+    ensures { FollowsClock }
+{}
+
+/// An entry changes nothing of another client.
+pub fn others_stay()
+    ensures { OthersStay }
+{}
+
+/// The entries of a journal are counted.
+pub fn entries_are_counted()
+    ensures { EntriesAreCounted }
+{}
