@@ -16,3 +16,5 @@ pub mod BlockNamesExamples
 pub mod SlicesExamples
 pub mod RowGrammarExamples
 pub mod JournalGrowthLaws
+pub mod JournalStates
+pub mod JournalOwedLaws

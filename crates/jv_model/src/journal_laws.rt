@@ -1,5 +1,5 @@
 //! What holds of every journal that is legal so far. Each law is a function that does nothing.
-ghost use Rattle.jv_model.specs.journal.Laws.{JournalsGrow, EarlierTextStays, FollowsClock, OthersStay, EntriesAreCounted};
+ghost use Rattle.jv_model.specs.journal.Laws.{SettlesOwed, OwedCommits, JournalsGrow, EarlierTextStays, FollowsClock, OthersStay, EntriesAreCounted};
 
 /// A journal is legal so far if and only if each part of it is, from where the entries before it lead.
 pub fn journals_grow()
@@ -24,4 +24,14 @@ pub fn others_stay()
 /// The entries of a journal are counted.
 pub fn entries_are_counted()
     ensures { EntriesAreCounted }
+{}
+
+/// The commits that count as owed are those that left blocks staged and that no later entry settled.
+pub fn owed_commits()
+    ensures { OwedCommits }
+{}
+
+/// A publish settles an owed commit, and so at most one settles it.
+pub fn settles_owed()
+    ensures { SettlesOwed }
 {}

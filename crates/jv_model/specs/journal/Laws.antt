@@ -1,8 +1,11 @@
 -- What holds of every journal that is legal so far, in terms of its entries' numbers and lines.
-use Rattle.std.specs.Prelude.{◌≡◌, ℕ, ◌≤◌, ◌<◌, IfSome, ◌↔◌, List, ◌++◌, length}
-use Rattle.std.specs.List.{AllByRecursion}
+use Rattle.std.specs.Prelude.{◌≡◌, ℕ, ◌≤◌, ◌<◌, Bool, false, ◌&&◌, not, ◌==◌, IsTrue, IsSomeAnd, IfSome, ◌↔◌, List, [], ◌∷◌, ◌++◌, length}
+use Rattle.std.specs.List.{AllByRecursion, list_any}
 use Rattle.jv_model.specs.declared.limits.TheConstants.{LAST_MOMENT}
 use Rattle.jv_model.specs.declared.act.Act.{Act}
+use Rattle.jv_model.specs.declared.act.ActKind.{ActKind}
+use Rattle.jv_model.specs.declared.act.ActKind.TheVariants.{Commit, Settled}
+use Rattle.jv_model.specs.client.Origins.{Owed}
 use Rattle.jv_model.specs.journal.State.{State, effect}
 use Rattle.jv_model.specs.journal.Past.{Setup, Past, at_start, begun_to, reached}
 use Rattle.jv_model.specs.journal.Legal.{AllAllowed}
@@ -43,3 +46,38 @@ OthersStay = (s : State) (act : Act) (client : ℕ) → (client ≡ act.client �
 -- entries are counted
 abbrev pub EntriesAreCounted : Type 0
 EntriesAreCounted = (run : Setup) (journal : List Act) → (reached run journal).state.count ≡ length journal
+
+-- owed commits
+
+-- whether an entry is a commit that left blocks staged
+abbrev pub leaves_staged : ActKind → Bool
+leaves_staged (Commit inode from len staged) = not (staged == 0)
+leaves_staged _ = false
+
+-- whether an entry says that the last staged block of a commit was published
+abbrev pub settles : ℕ → ActKind → Bool
+settles commit (Settled settled) = settled == commit
+settles commit _ = false
+
+-- A client owes a commit at the end of a journal: it left blocks staged, and nothing settled it since.
+pub record IsOwed (journal : List Act) (client commit : ℕ) : Type 0 where
+  pub made : IsSomeAnd (entry_at journal commit) (λ act. (act.client ≡ client) × IsTrue (leaves_staged act.kind))
+  pub unsettled : (later : ℕ) → commit < later → IfSome (entry_at journal later) (λ act. settles commit act.kind ≡ false)
+
+abbrev pub is_owed_by : ℕ → ℕ → List Owed → Bool
+is_owed_by client commit owed = list_any (λ o. (o.commit == commit) && (o.client == client)) owed
+
+-- what counts as owed is what the entries say
+abbrev pub OwedCommits : Type 0
+OwedCommits = (run : Setup) (journal : List Act) → AllAllowed (at_start run) journal
+    → (client commit : ℕ) → IsTrue (is_owed_by client commit (reached run journal).state.owed) ↔ IsOwed journal client commit
+
+-- a commit that some client owes
+pub record IsOwedBySome (journal : List Act) (commit : ℕ) : Type 0 where
+  pub client : ℕ
+  pub owed : IsOwed journal client commit
+
+-- only what is owed is settled, and so at most once
+abbrev pub SettlesOwed : Type 0
+SettlesOwed = (run : Setup) (journal : List Act) (act : Act) → AllAllowed (at_start run) (journal ++ act ∷ [])
+    → (commit : ℕ) → act.kind ≡ Settled commit → IsOwedBySome journal commit
