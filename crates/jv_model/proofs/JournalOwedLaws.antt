@@ -257,8 +257,9 @@ module _ (pre : List Act) (e : Act) (s : State) (owed : List Owed) (o : Owing pr
     | inr high ↦ (let n = within_longer pre e client commit r in let at : commit ≡ length pre + 1 = omega (arith, n, high.1) in shows_last client commit a at (newly pre e client commit r at))
   ]
 
-owing_enters : (run : Setup) (pre : List Act) (p : Past) (act : Act) → p.run ≡ run → Allowed p act → Owing pre p.state → Owing (pre ++ act ∷ []) (effect p.state act)
-owing_enters run pre p act e may o =
+owing_enters : (run : Setup) (pre : List Act) (act : Act) → Allowed (begun_to act.line (reached run pre)) act → Owing pre (begun_to act.line (reached run pre)).state → Owing (pre ++ act ∷ []) (effect (begun_to act.line (reached run pre)).state act)
+owing_enters run pre act may o =
+    let p = begun_to act.line (reached run pre) in
     let a = owed_entry p act may in
     record {
       count = ap (λ n. n + 1) o.count ∙ sym (length-append pre (act ∷ []));

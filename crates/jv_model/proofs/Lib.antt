@@ -18,3 +18,5 @@ pub mod RowGrammarExamples
 pub mod JournalGrowthLaws
 pub mod JournalStates
 pub mod JournalOwedLaws
+pub mod JournalLooksLaws
+pub mod JournalDoingLaws

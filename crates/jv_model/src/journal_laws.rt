@@ -1,5 +1,5 @@
 //! What holds of every journal that is legal so far. Each law is a function that does nothing.
-ghost use Rattle.jv_model.specs.journal.Laws.{SettlesOwed, OwedCommits, JournalsGrow, EarlierTextStays, FollowsClock, OthersStay, EntriesAreCounted};
+ghost use Rattle.jv_model.specs.journal.Laws.{FreshViewsAreFreshLooks, SettlesOwed, OwedCommits, JournalsGrow, EarlierTextStays, FollowsClock, OthersStay, EntriesAreCounted};
 
 /// A journal is legal so far if and only if each part of it is, from where the entries before it lead.
 pub fn journals_grow()
@@ -34,4 +34,10 @@ pub fn owed_commits()
 /// A publish settles an owed commit, and so at most one settles it.
 pub fn settles_owed()
     ensures { SettlesOwed }
+{}
+
+/// A view that counts as fresh is of a look that the client took at that window of the file, after it had opened the
+/// file, and since which it has not changed the file. It has the file's bytes as they were just after the look.
+pub fn fresh_views_are_fresh_looks()
+    ensures { FreshViewsAreFreshLooks }
 {}

@@ -1,15 +1,23 @@
 -- What holds of every journal that is legal so far, in terms of its entries' numbers and lines.
-use Rattle.std.specs.Prelude.{◌≡◌, ℕ, ◌≤◌, ◌<◌, Bool, false, ◌&&◌, not, ◌==◌, IsTrue, IsSomeAnd, IfSome, ◌↔◌, List, [], ◌∷◌, ◌++◌, length}
+use Rattle.std.specs.Prelude.{◌≡◌, ℕ, zero, suc, ◌+◌, ◌-◌, ◌≤◌, ◌<◌, Bool, true, false, ◌&&◌, ◌||◌, not, ◌==◌, nat_lt, nat_le, if◌then◌else◌, IsTrue, IsSomeAnd, IfSome, ◌↔◌, ◌⊎◌, List, [], ◌∷◌, ◌++◌, length, take, filter, map, slice_get, Option, None, Some}
 use Rattle.std.specs.List.{AllByRecursion, list_any}
 use Rattle.jv_model.specs.declared.limits.TheConstants.{LAST_MOMENT}
 use Rattle.jv_model.specs.declared.act.Act.{Act}
 use Rattle.jv_model.specs.declared.act.ActKind.{ActKind}
-use Rattle.jv_model.specs.declared.act.ActKind.TheVariants.{Commit, Settled}
+use Rattle.jv_model.specs.declared.act.ActKind.TheVariants.{Commit, Settled, Answered}
 use Rattle.jv_model.specs.client.Origins.{Owed}
-use Rattle.jv_model.specs.journal.State.{State, effect}
+use Rattle.jv_model.specs.tree.Tree.{content_at}
+use Rattle.jv_model.specs.declared.act.TheConstants.{NO_CLIENT}
+use Rattle.jv_model.specs.declared.act.Told.TheVariants.{Fine, Looks}
+use Rattle.jv_model.specs.declared.op.Op.{Op}
+use Rattle.jv_model.specs.declared.op.Op.TheVariants as op
+use Rattle.jv_model.specs.run.Pending.{pending_of}
+use Rattle.jv_model.specs.client.ModelClient.{ModelClient, OpenFile, View, Doing, inode_at}
+use Rattle.jv_model.specs.journal.State.{State, effect, or_empty}
+use Rattle.jv_model.specs.journal.Reading.{fresh_view}
 use Rattle.jv_model.specs.journal.Past.{Setup, Past, at_start, begun_to, reached}
 use Rattle.jv_model.specs.journal.Legal.{AllAllowed}
-use Rattle.jv_model.specs.journal.Looks.{entry_at}
+use Rattle.jv_model.specs.journal.Looks.{entry_at, IsFreshLook}
 
 -- growth
 
@@ -81,3 +89,45 @@ pub record IsOwedBySome (journal : List Act) (commit : ℕ) : Type 0 where
 abbrev pub SettlesOwed : Type 0
 SettlesOwed = (run : Setup) (journal : List Act) (act : Act) → AllAllowed (at_start run) (journal ++ act ∷ [])
     → (commit : ℕ) → act.kind ≡ Settled commit → IsOwedBySome journal commit
+
+-- fresh looks
+
+-- A view was taken by a fresh look, and has the file's bytes as they were just after it.
+pub record HasSeen (run : Setup) (journal : List Act) (client : ℕ) (file : OpenFile) (window : ℕ) (view : View) : Type 0 where
+  pub fresh : IsFreshLook journal client file window view.entry
+  pub bytes : view.content ≡ or_empty (content_at (reached run (take view.entry journal)).state.tree file.inode)
+
+-- the views that count as fresh, on any later line too, are those of fresh looks
+abbrev pub FreshViewsAreFreshLooks : Type 0
+FreshViewsAreFreshLooks = (run : Setup) (journal : List Act) → AllAllowed (at_start run) journal
+    → (line client handle : ℕ) (file : OpenFile) (window : ℕ) (view : View)
+    → fresh_view ((begun_to line (reached run journal)).state.clients client).views handle file window ≡ Some view → HasSeen run journal client file window view
+
+-- pending bytes
+
+-- whether an entry answers that an operation is done
+abbrev pub is_fine_answer : ActKind → Bool
+is_fine_answer (Answered (Fine a b c d)) = true
+is_fine_answer (Answered (Looks first second len)) = true
+is_fine_answer _ = false
+
+-- the handles whose files an operation commits before it is answered
+abbrev pub flushed_handles : Op → List ℕ
+flushed_handles (op.Fstat handle) = handle ∷ []
+flushed_handles (op.Close handle) = handle ∷ []
+flushed_handles (op.Flush handle) = handle ∷ []
+flushed_handles (op.Read handle offset len) = handle ∷ []
+flushed_handles (op.Truncate handle len) = handle ∷ []
+flushed_handles (op.Copy source from target to len) = source ∷ target ∷ []
+flushed_handles _ = []
+
+-- Nothing that an operation has to commit is pending.
+pub record HasCommitted (c : ModelClient) (o : Op) : Type 0 where
+  pub files : AllByRecursion (λ handle. pending_of (inode_at c handle) c.pending ≡ []) (flushed_handles o)
+  pub all : o ≡ op.Umount → c.pending ≡ []
+
+-- An operation is done only where nothing that it has to commit is pending.
+abbrev pub NothingPending : Type 0
+NothingPending = (run : Setup) (journal : List Act) (act : Act) → AllAllowed (at_start run) (journal ++ act ∷ [])
+    → (act.client ≡ NO_CLIENT → ⊥) → (d : Doing) → ((begun_to act.line (reached run journal)).state.clients act.client).doing ≡ Some d
+    → IsTrue (is_fine_answer act.kind) → HasCommitted ((begun_to act.line (reached run journal)).state.clients act.client) d.op
