@@ -1,8 +1,7 @@
 -- What an operation in progress has committed, and what is pending where it is answered.
-use Rattle.std.proofs.Common.{◌≡◌, ℕ, zero, suc, ◌+◌, ◌-◌, ◌≤◌, ◌<◌, ◌⊎◌, Bool, true, false, ◌&&◌, ◌||◌, not, ◌==◌, nat_lt, nat_le, if◌then◌else◌, IsTrue, IsSomeAnd, IfSome, MatchBool, inl, inr, List, [], ◌∷◌, ◌++◌, length, map, filter, is_some, Option, None, Some, Result, Ok, Err, refl, sym, ap, subst, ◌∙◌, arith}
-use Rattle.std.specs.List.{list_any}
-use Rattle.std.specs.Option.{option_map}
-use Rattle.std.proofs.lemmas.Bool.Decides.{nat_tests, leb_tells, eqb_tells}
+use Rattle.std.proofs.Common.{◌≡◌, ℕ, ◌+◌, ◌-◌, Bool, true, false, ◌&&◌, ◌||◌, not, ◌==◌, nat_le, if◌then◌else◌, IsTrue, MatchBool, inl, inr, List, [], ◌∷◌, ◌++◌, map, is_some, min, Option, None, Some, Result, Ok, Err, refl, sym, ap, subst, ◌∙◌}
+use Rattle.std.specs.List.{AllByRecursion}
+use Rattle.std.proofs.lemmas.Bool.Decides.{eqb_tells}
 use Rattle.jv_model.specs.declared.act.TheConstants.{NO_CLIENT}
 use Rattle.jv_model.specs.declared.act.Act.{Act}
 use Rattle.jv_model.specs.declared.act.ActKind.{ActKind}
@@ -11,34 +10,38 @@ use Rattle.jv_model.specs.declared.act.Told.{Told}
 use Rattle.jv_model.specs.declared.act.Told.TheVariants.{Fine, Looks, Refused as ToldRefused}
 use Rattle.jv_model.specs.declared.basics.Limits.{Limits}
 use Rattle.jv_model.specs.declared.fault.Fault.{Fault}
+use Rattle.jv_model.specs.declared.fault.Fault.TheVariants.{NoSpace, Invalid, FileTooLarge, Stale}
+use Rattle.jv_model.specs.declared.fault.Gone.TheVariants.{Node}
+use Rattle.jv_model.specs.declared.limits.TheConstants.{FILE_END}
 use Rattle.jv_model.specs.declared.op.Op.{Op}
 use Rattle.jv_model.specs.declared.op.Op.TheVariants as op
 use Rattle.jv_model.specs.declared.op.Reply.{Reply}
 use Rattle.jv_model.specs.declared.op.Reply.TheVariants as reply
-use Rattle.jv_model.specs.declared.profile.Answer.{Answer}
+use Rattle.jv_model.specs.declared.profile.Profile.{Profile}
 use Rattle.jv_model.specs.declared.profile.Answer.TheVariants as answer
 use Rattle.jv_model.specs.declared.profile.Does.{Does}
 use Rattle.jv_model.specs.declared.profile.Does.TheVariants.{Answers, Mounts, Transacts, Releases, Reads, Truncates, Copies, Compacts, Cleans as DoesClean, Collects, Uploads}
-use Rattle.jv_model.specs.declared.profile.Flushes.TheVariants.{Nothing as FlushesNothing, ItsFiles, Everything}
-use Rattle.jv_model.specs.tree.Tree.{Tree}
-use Rattle.jv_model.specs.tree.Caller.{Caller, Outcome, outcome}
-use Rattle.jv_model.specs.tree.Attempt.{◌>>=◌}
+use Rattle.jv_model.specs.declared.profile.Flushes.TheVariants.{ItsFiles, Everything}
+use Rattle.jv_model.specs.tree.Tree.{Tree, Node as TreeNode, Content, node_at, fits}
+use Rattle.jv_model.specs.tree.Caller.{Caller, Outcome, outcome, answered, done, in_session}
+use Rattle.jv_model.specs.tree.Attempt.{◌>>=◌, require, some_or}
 use Rattle.jv_model.specs.tree.TreeAct.{tree_act}
-use Rattle.jv_model.specs.tree.Reading.{fstat}
-use Rattle.jv_model.specs.tree.Sessions.{release}
-use Rattle.jv_model.specs.tree.FileBytes.{truncate, copy, copy_bytes}
+use Rattle.jv_model.specs.tree.Reading.{fstat, attr_of}
+use Rattle.jv_model.specs.tree.Sessions.{release, released}
+use Rattle.jv_model.specs.tree.FileBytes.{truncate, truncated, copy, copied, copy_bytes, open_content, overlap}
 use Rattle.jv_model.specs.run.Pending.{PendingByte, Segment, first_segment, pending_of, without_range}
-use Rattle.jv_model.specs.client.Profile.{profile, handle_list, read_does}
-use Rattle.jv_model.specs.client.ModelClient.{ModelClient, OpenFile, View, Doing, Flush, OfFiles, OfAll, Stage, Cleaning, Compaction, Working, Reading, Missing, LookedAgain, Compacting, Cleans, Requesting, Replying, unmounted, with_stage, with_file, file_of, inode_in, inode_at, views_without}
-use Rattle.jv_model.specs.client.Submission.{submission, submitted, flush_of, by_limits, segment_of_files, next_segment, is_flushed}
-use Rattle.jv_model.specs.journal.State.{State, Gift, NewSession, NewHandle, Nothing, state_at_start, with_client, set_client, given, replied, transacted, newly_sustained, next_entry, gift_of, after_transaction, is_refused, refusal_in, look_refusal, refused_look, has_session, session_gone, quieted, begun_quietly, flushing_on, cleaning_on, looked, compaction_looked, missed, committed_stage, answer_then, reply_of_answer, replaced, finished, refused_as, after_told, answered_client, is_of_another, after_step, after_other, of_doing, changed, effect, view_now, is_compaction, is_cleaning, sees_first, first_cleaning}
+use Rattle.jv_model.specs.client.Origins.{Owed}
+use Rattle.jv_model.specs.client.Profile.{profile, handle_list, handle_of}
+use Rattle.jv_model.specs.client.ModelClient.{ModelClient, OpenFile, View, Doing, OfFiles, OfAll, Stage, Cleaning, Sessions, Trash, Files, Blocks, Part, Working, Reading, Missing, LookedAgain, Compacting, Cleans, Requesting, Replying, unmounted, with_stage, file_of, inode_in, inode_at, views_without}
+use Rattle.jv_model.specs.client.Submission.{submission, submitted, flush_of, by_limits, segment_of_files, is_flushed}
+use Rattle.jv_model.specs.journal.State.{State, Gift, NewSession, NewHandle, Nothing, with_client, set_client, given, replied, transacted, newly_sustained, next_entry, gift_of, after_transaction, is_refused, refusal_in, look_refusal, has_session, quieted, begun_quietly, flushing_on, cleaning_on, looked, compaction_looked, missed, committed_stage, answer_then, reply_of_answer, replaced, after_told, answered_client, is_of_another, after_step, of_doing, changed, effect, view_now, is_compaction, sees_first, first_cleaning}
 use Rattle.jv_model.specs.journal.Reading.{asked_parts}
-use Rattle.jv_model.specs.journal.Steps.{Start, is_ready, transacts, Transaction, Commits, LooksAt, may_read_on, is_missing, CompactionLooks, First, Again, CompactionMisses, MissesBlock, Replaces, Changes, changed_file, change_entry, cleaning_in, CleansItem, MayLook, MayMiss, MayStep, MayAnswer, Fails, Settles, AtOnce, CountsCache, ReadsViews, CleanedUp, HasCompacted, HasCollected, HasUploaded, Refuses, EndsCompaction, TooShort, HasReplaced, EndsUpload, Sent, FoundNone, told_of, is_failure, has_judged}
+use Rattle.jv_model.specs.journal.Steps.{Start, is_ready, transacts, Transaction, LooksAt, may_read_on, is_missing, CompactionLooks, First, Again, CompactionMisses, MissesBlock, change_entry, cleaning_in, CleansItem, DropsFile, MayStep, MayAnswer, Fails, Settles, AtOnce, CountsCache, ReadsViews, CleanedUp, HasCompacted, HasCollected, HasUploaded, Refuses, EndsCompaction, TooShort, HasReplaced, EndsUpload, Sent, FoundNone, told_of, is_failure, has_judged}
 use Rattle.jv_model.specs.journal.Past.{Setup, Past, at_start, begun_to, reached}
-use Rattle.jv_model.specs.journal.Legal.{Allowed, AllAllowed, IsRefusal, Refuses as RefusesSubmission, LacksMemory as RefusalLacks}
-use Rattle.jv_model.specs.journal.Laws.{NothingPending, flushed_handles, is_fine_answer}
-use Rattle.jv_model.proofs.JournalGrowthLaws.{AllAllowed-parts, own_client, other_client, others_kept, begun_frame}
-use Rattle.jv_model.proofs.JournalStates.{Entry, Steps, RefusedSubmission, LacksMemory, Crashes, Publishes, OfDrain, Ticks, entry_of, holds, holds_on, run_reached}
+use Rattle.jv_model.specs.journal.Legal.{Allowed, AllAllowed, Refuses as RefusesSubmission, LacksMemory as RefusalLacks}
+use Rattle.jv_model.specs.journal.Laws.{NothingPending, HasCommitted, flushed_handles, is_fine_answer}
+use Rattle.jv_model.proofs.JournalGrowthLaws.{AllAllowed-parts, own_client, others_kept}
+use Rattle.jv_model.proofs.JournalStates.{Entry, Steps, RefusedSubmission, LacksMemory, Crashes, Publishes, OfDrain, Ticks, entry_of, holds_on}
 
 -- tests
 
@@ -60,16 +63,16 @@ or_left false h = absurd (cc)
 
 -- a stage, with what its operation does, and whether all that had to be committed is
 
-abbrev IsFineReply : Does → Reply → Type 0
+abbrev pub IsFineReply : Does → Reply → Type 0
 IsFineReply (Answers told) r = reply_of_answer told ≡ Some r
 IsFineReply (Reads offset len) r = ⊥
 IsFineReply _ r = Unit {0}
 
-data IsSettled (does : Does) (flushed : Bool) (r : Reply) : Type 0 where
+pub data IsSettled (does : Does) (flushed : Bool) (r : Reply) : Type 0 where
   IsRefusedReply : IsTrue (is_refused r) → IsSettled does flushed r
   IsDoneReply : IsTrue flushed → IsFineReply does r → IsSettled does flushed r
 
-abbrev StageOk : Does → Bool → Stage → Type 0
+abbrev pub StageOk : Does → Bool → Stage → Type 0
 StageOk does flushed (Working quiets started) = Unit {0}
 StageOk does flushed (Replying r) = IsSettled does flushed r
 StageOk does flushed _ = IsTrue flushed
@@ -114,18 +117,18 @@ look_refused : (t : Tree) (c : ModelClient) (inode : ℕ) (r : Reply) → look_r
 look_refused t c inode r e = refused_if _ _ _ _ r e
 
 module _ (does : Does) (flushed : Bool) where
-  abbrev Ok : Stage → Type 0
-  Ok stage = StageOk does flushed stage
+  abbrev Good : Stage → Type 0
+  Good stage = StageOk does flushed stage
 
-  ok_refused : (stage : Stage) (o : Option Reply) → ((r : Reply) → o ≡ Some r → IsTrue (is_refused r)) → Ok stage → Ok (elim o [ None ↦ stage | Some answer ↦ Replying answer ])
+  ok_refused : (stage : Stage) (o : Option Reply) → ((r : Reply) → o ≡ Some r → IsTrue (is_refused r)) → Good stage → Good (elim o [ None ↦ stage | Some answer ↦ Replying answer ])
   ok_refused stage None f h = h
   ok_refused stage (Some r) f h = IsRefusedReply (f r refl)
 
-  ok_if : (b : Bool) (x y : Stage) → Ok x → Ok y → Ok (if b then x else y)
+  ok_if : (b : Bool) (x y : Stage) → Good x → Good y → Good (if b then x else y)
   ok_if true x y h g = h
   ok_if false x y h g = g
 
-  ok_looked : (stage : Stage) → (IsTrue flushed) → Ok stage → Ok (looked stage)
+  ok_looked : (stage : Stage) → (IsTrue flushed) → Good stage → Good (looked stage)
   ok_looked (Working quiets started) f h = f
   ok_looked (Reading misses) f h = f
   ok_looked (Missing misses window owed) f h = f
@@ -135,11 +138,11 @@ module _ (does : Does) (flushed : Bool) where
   ok_looked (Requesting requests) f h = f
   ok_looked (Replying r) f h = h
 
-  ok_compaction : (view : View) (stage : Stage) → IsTrue flushed → Ok (compaction_looked view stage)
+  ok_compaction : (view : View) (stage : Stage) → IsTrue flushed → Good (compaction_looked view stage)
   ok_compaction view (Compacting k) f = f
   ok_compaction view _ f = f
 
-  ok_missed : (window : ℕ) (owed : _) (stage : Stage) → IsTrue flushed → Ok stage → Ok (missed window owed stage)
+  ok_missed : (window : ℕ) (owed : List Owed) (stage : Stage) → IsTrue flushed → Good stage → Good (missed window owed stage)
   ok_missed window owed (Working quiets started) f h = f
   ok_missed window owed (Reading misses) f h = f
   ok_missed window owed (Missing misses at before) f h = f
@@ -149,7 +152,7 @@ module _ (does : Does) (flushed : Bool) where
   ok_missed window owed (Requesting requests) f h = f
   ok_missed window owed (Replying r) f h = h
 
-  ok_replaced : (stage : Stage) → Ok stage → Ok (replaced stage)
+  ok_replaced : (stage : Stage) → Good stage → Good (replaced stage)
   ok_replaced (Compacting k) h = h
   ok_replaced (Working quiets started) h = h
   ok_replaced (Reading misses) h = h
@@ -251,7 +254,7 @@ module _ (s : State) (client now : ℕ) (start : Start) (c : ModelClient) (d : D
   miss_flushed inode window true h = stage_flushed c d (Compacting h.k) ok h.stage
   miss_flushed inode window false h = reading_flushed c d d.stage ok (or_more _ _ h.goes_on)
 
-  item_flushed : (part : _) → CleansItem s c d part → IsTrue (is_flushed d.flush c.pending)
+  item_flushed : (part : Part) → CleansItem s c d part → IsTrue (is_flushed d.flush c.pending)
   item_flushed part h = cleaning_flushed c d d.stage h.k ok h.stage
 
   row_flushed : (table key : ℕ) (b : Bool) → MatchBool b (CleansItem s c d Files × DropsFile s key) ((table ≡ 9) × CleansItem s c d Blocks) → IsTrue (is_flushed d.flush c.pending)
@@ -282,19 +285,41 @@ giftless_then t (Err fault) next h = refl
 
 giftless_fstat : (t : Tree) (who : Caller) → IsGiftless t (fstat t who)
 unfolding fstat
-giftless_fstat t who = giftless_then t _ _ (λ _. giftless_then t _ _ (λ node. refl))
+giftless_fstat t who = giftless_then {A = Unit {0}} t (in_session t who) (λ _. some_or (node_at t who.inode) (Stale (Node who.inode)) >>= (λ node. answered t (reply.Described (attr_of t who.inode node))))
+    (λ _. giftless_then {A = TreeNode} t (some_or (node_at t who.inode) (Stale (Node who.inode))) (λ node. answered t (reply.Described (attr_of t who.inode node))) (λ node. refl))
 
 giftless_release : (t : Tree) (who : Caller) → IsGiftless t (release t who)
 unfolding release
-giftless_release t who = giftless_then t _ _ (λ _. refl)
+giftless_release t who = giftless_then {A = Unit {0}} t (in_session t who) (λ _. done (released t who.sid who.inode)) (λ _. refl)
 
 giftless_truncate : (t : Tree) (who : Caller) (len : ℕ) → IsGiftless t (truncate t who len)
 unfolding truncate
-giftless_truncate t who len = giftless_then t _ _ (λ _. giftless_then t _ _ (λ _. giftless_then t _ _ (λ _. giftless_then t _ _ (λ _. refl))))
+giftless_truncate t who len =
+    let tree = truncated t who.now who.inode len in
+    let last : Unit {0} → Result Outcome Fault = λ _. done tree in
+    let third : Unit {0} → Result Outcome Fault = λ _. require (fits t tree) NoSpace >>= last in
+    let second : Content → Result Outcome Fault = λ _. require (nat_le len FILE_END) FileTooLarge >>= third in
+    let first : Unit {0} → Result Outcome Fault = λ _. open_content t who.inode >>= second in
+    giftless_then {A = Unit {0}} t (in_session t who) first (λ _. giftless_then {A = Content} t (open_content t who.inode) second (λ _. giftless_then {A = Unit {0}} t (require (nat_le len FILE_END) FileTooLarge) third
+    (λ _. giftless_then {A = Unit {0}} t (require (fits t tree) NoSpace) last (λ _. refl))))
+
+giftless_copy_bytes : (t : Tree) (who : Caller) (from to len : ℕ) → IsGiftless t (copy_bytes t who from to len)
+giftless_copy_bytes t who from to len =
+    let tree = copied t who.now who.inode from who.other to len in
+    let last : Unit {0} → Result Outcome Fault = λ _. answered tree (reply.Count len) in
+    let third : Unit {0} → Result Outcome Fault = λ _. require (fits t tree) NoSpace >>= last in
+    let second : Unit {0} → Result Outcome Fault = λ _. require (nat_le (to + len) FILE_END) FileTooLarge >>= third in
+    giftless_then {A = Unit {0}} t (require (not ((who.inode == who.other) && overlap from to len)) Invalid) second (λ _. giftless_then {A = Unit {0}} t (require (nat_le (to + len) FILE_END) FileTooLarge) third
+    (λ _. giftless_then {A = Unit {0}} t (require (fits t tree) NoSpace) last (λ _. refl)))
 
 giftless_copy : (t : Tree) (who : Caller) (from to len : ℕ) → IsGiftless t (copy t who from to len)
 unfolding copy
-giftless_copy t who from to len = giftless_then t _ _ (λ _. giftless_then t _ _ (λ source. giftless_then t _ _ (λ _. giftless_then t _ _ (λ _. giftless_then t _ _ (λ _. giftless_then t _ _ (λ _. refl))))))
+giftless_copy t who from to len =
+    let third : Content → Content → Result Outcome Fault = λ source _. copy_bytes t who from to (min len (source.length - from)) in
+    let second : Content → Result Outcome Fault = λ source. open_content t who.other >>= third source in
+    let first : Unit {0} → Result Outcome Fault = λ _. open_content t who.inode >>= second in
+    giftless_then {A = Unit {0}} t (in_session t who) first (λ _. giftless_then {A = Content} t (open_content t who.inode) second (λ source. giftless_then {A = Content} t (open_content t who.other) (third source)
+    (λ _. giftless_copy_bytes t who from to (min len (source.length - from)))))
 
 -- an operation that commits the files of its handles opens none
 giftless : (t : Tree) (who : Caller) (o : Op) → (profile o).flushes ≡ ItsFiles → gift_of (tree_act t who o).reply ≡ Nothing
@@ -412,10 +437,238 @@ module _ (limits : Limits) (start : Start) (alone : Bool) (s : State) (act : Act
   own_step (Compacted inode window from to) may = own_stage _ (ok_replaced d.does (is_flushed d.flush c.pending) d.stage h.stage)
   own_step (Settled commit) may = own_stage _ (ok_quieted s act.client c act.at d d.stage h.stage h.stage)
   own_step (Expired sid) may = own_stage (Cleans _) (item_flushed s act.client act.at start c d h.stage Sessions may.0)
-  own_step (Purged inode) may = own_stage _ (ok_if d.does (is_flushed d.flush c.pending) _ _ _ (item_flushed s act.client act.at start c d h.stage Trash may.0) (item_flushed s act.client act.at start c d h.stage Trash may.0))
+  own_step (Purged inode) may = own_stage (Cleans _) (item_flushed s act.client act.at start c d h.stage Trash may.0)
   own_step (Cleaned table key) may = own_stage (Cleans _) (row_flushed s act.client act.at start c d h.stage table key (table == 8) may)
   own_step Quiet may = own_stage _ (ok_quieted s act.client c act.at d d.stage h.stage h.stage)
   own_step (Miss inode window) may = own_stage _ (ok_missed d.does (is_flushed d.flush c.pending) window s.owed d.stage (miss_flushed s act.client act.at start c d h.stage inode window (is_compaction d.does) may) h.stage)
   own_step Crashed may = absurd may
   own_step (Ticked by) may = absurd may
   own_step (Answered told) may = subst (SoundIf limits c.handles c.pending) (sym busy) h
+
+-- answers
+
+sound_told : (limits : Limits) (o : Op) (told : Told) (c : ModelClient) → SoundClient limits (after_told o told c)
+sound_told limits o (Fine a b e f) c = tt
+sound_told limits o (Looks first second len) c = tt
+sound_told limits o (ToldRefused fault) c = tt
+
+sound_either : (limits : Limits) (b : Bool) (c d : ModelClient) → SoundClient limits c → SoundClient limits d → SoundClient limits (if b then c else d)
+sound_either limits true c d h g = h
+sound_either limits false c d h g = g
+
+sound_answered_if : (limits : Limits) (c : ModelClient) (told : Told) (o : Option Doing) → SoundClient limits c → SoundClient limits (elim o as (λ _. ModelClient) [ None ↦ c | Some d ↦ (if is_of_another d.stage told then c else after_told d.op told c) ])
+sound_answered_if limits c told None h = h
+sound_answered_if limits c told (Some d) h = sound_either limits (is_of_another d.stage told) c (after_told d.op told c) h (sound_told limits d.op told c)
+
+sound_answered : (limits : Limits) (c : ModelClient) (told : Told) → SoundClient limits c → SoundClient limits (answered_client told c)
+sound_answered limits c told h = sound_answered_if limits c told c.doing h
+
+-- an entry of a client
+
+abbrev of_kind : Act → ActKind → Act
+of_kind act kind = record act { kind = kind }
+
+sound_doing : (limits : Limits) (start : Start) (alone : Bool) (s : State) (act : Act) (o : Option Doing) → (s.clients act.client).doing ≡ o → SoundClient limits (s.clients act.client) → (d : Doing) → o ≡ Some d
+    → MayStep start alone s act.client act.at (s.clients act.client) d act.kind → SoundClient limits ((of_doing s act o).clients act.client)
+sound_doing limits start alone s act None e h d is may = absurd (cc)
+sound_doing limits start alone s act (Some x) e h d is may =
+    let same : d ≡ x = cc in
+    own_step limits start alone s act x e (subst (SoundIf limits (s.clients act.client).handles (s.clients act.client).pending) e h) act.kind
+    (subst (λ y. MayStep start alone s act.client act.at (s.clients act.client) y act.kind) same may)
+
+sound_changed : (limits : Limits) (start : Start) (alone : Bool) (s : State) (act : Act) (kind : ActKind) (d : Doing) → SoundClient limits (s.clients act.client) → (s.clients act.client).doing ≡ Some d
+    → MayStep start alone s act.client act.at (s.clients act.client) d kind → SoundClient limits ((changed s (of_kind act kind) kind).clients act.client)
+sound_changed limits start alone s act Crashed d h e may = absurd may
+sound_changed limits start alone s act (Answered told) d h e may = own_sound limits s.clients act.client _ (sound_answered limits (s.clients act.client) told h)
+sound_changed limits start alone s act kind d h e may = sound_doing limits start alone s (of_kind act kind) (s.clients act.client).doing refl h d e may
+
+sound_told_entry : (limits : Limits) (s : State) (act : Act) (told : Told) (kind : ActKind) → kind ≡ Answered told → SoundClient limits (s.clients act.client) → SoundClient limits ((effect s (of_kind act kind)).clients act.client)
+sound_told_entry limits s act told kind e h = subst (λ k. SoundClient limits ((effect s (of_kind act k)).clients act.client)) (sym e) (own_sound limits s.clients act.client (answered_client told (s.clients act.client)) (sound_answered limits (s.clients act.client) told h))
+
+sound_crash : (limits : Limits) (s : State) (act : Act) (kind : ActKind) → kind ≡ Crashed → SoundClient limits ((effect s (of_kind act kind)).clients act.client)
+sound_crash limits s act kind e = subst (λ k. SoundClient limits ((effect s (of_kind act k)).clients act.client)) (sym e) (own_sound limits s.clients act.client unmounted tt)
+
+sound_own : (limits : Limits) (p : Past) (act : Act) → Entry p act → (act.client ≡ NO_CLIENT → ⊥) → SoundClient limits (p.state.clients act.client) → SoundClient limits ((effect p.state act).clients act.client)
+sound_own limits p act (Steps d e may) some h = sound_changed limits p.run.start (p.run.uploads == 0) p.state act act.kind d h e may
+sound_own limits p act (RefusedSubmission fault e (RefusesSubmission k)) some h = sound_told_entry limits p.state act _ act.kind k h
+sound_own limits p act (RefusedSubmission fault e (RefusalLacks b k)) some h = sound_told_entry limits p.state act _ act.kind k h
+sound_own limits p act (LacksMemory e k) some h = sound_told_entry limits p.state act _ act.kind k h
+sound_own limits p act (Crashes e k) some h = sound_crash limits p.state act act.kind k
+sound_own limits p act (Publishes e k) some h = absurd (some e)
+sound_own limits p act (OfDrain client e due k) some h = absurd (some e)
+sound_own limits p act (Ticks by e k) some h = absurd (some e)
+
+sound_enters : (run : Setup) (pre : List Act) (act : Act) → Allowed (begun_to act.line (reached run pre)) act → AllSound run.limits (begun_to act.line (reached run pre)).state.clients → AllSound run.limits (effect (begun_to act.line (reached run pre)).state act).clients
+sound_enters run pre act may all c some =
+    let p = begun_to act.line (reached run pre) in
+    elim (eqb_tells c act.client) [
+      | inl own ↦ subst (λ q. SoundClient run.limits ((effect p.state act).clients q)) (sym own.1) (sound_own run.limits p act (entry_of p act may) (λ e. some (own.1 ∙ e)) (all act.client (λ e. some (own.1 ∙ e))))
+      | inr other ↦ subst (SoundClient run.limits) (sym (others_kept p.state act c other.1)) (all c some)
+    ]
+
+-- lines
+
+flushes_files : (buffer : ℕ) (c : ModelClient) (row : Profile) → row.flushes ≡ ItsFiles → flush_of buffer c row ≡ OfFiles (map (inode_at c) (handle_list row.handles))
+flushes_files buffer c row e = ap (λ f. flush_of buffer c (record row { flushes = f })) e
+
+flushes_all : (buffer : ℕ) (c : ModelClient) (row : Profile) → row.flushes ≡ Everything → flush_of buffer c row ≡ OfAll
+flushes_all buffer c row e = ap (λ f. flush_of buffer c (record row { flushes = f })) e
+
+sound_submitted : (limits : Limits) (o : Op) (c : ModelClient) → SoundClient limits (submitted limits o c)
+sound_submitted limits o c = record {
+  does = refl;
+  files = λ e. flushes_files limits.buffer c (profile o) e;
+  all = λ e. flushes_all limits.buffer c (profile o) e;
+  stage = tt;
+}
+
+sound_submits : (run : Setup) (pre : List Act) (s : State) (client : ℕ) (o : Op) → submission (s.clients client) o ≡ None → AllSound run.limits s.clients → AllSound run.limits (set_client s client (submitted run.limits o (s.clients client))).clients
+sound_submits run pre s client o none all c some = elim (eqb_tells c client) [
+  | inl same ↦ subst (λ b. SoundClient run.limits (if b then submitted run.limits o (s.clients client) else s.clients c)) (sym same.0) (sound_submitted run.limits o (s.clients client))
+  | inr other ↦ subst (λ b. SoundClient run.limits (if b then submitted run.limits o (s.clients client) else s.clients c)) (sym other.0) (all c some)
+]
+
+pub sound : (run : Setup) (journal : List Act) → AllAllowed (at_start run) journal → (line : ℕ) → AllSound run.limits (begun_to line (reached run journal)).state.clients
+sound run journal may line = holds_on run (λ pre s. AllSound run.limits s.clients) (sound_submits run) (sound_enters run) (λ c some. tt) journal may line
+
+-- what is committed where an operation is done
+
+cache_read : (limits : Limits) (b : Bool) (offset len : ℕ) → by_limits limits (if b then Answers answer.NoData else Reads offset len) ≡ Answers answer.CacheStats → ⊥
+cache_read limits true offset len e = cc
+cache_read limits false offset len e = cc
+
+-- what answers with the numbers of the cache has nothing to commit
+record CommitsNothing (o : Op) : Type 0 where
+  files : (profile o).flushes ≡ ItsFiles → ⊥
+  all : (profile o).flushes ≡ Everything → ⊥
+
+cache_commits_nothing : (limits : Limits) (o : Op) → by_limits limits (profile o).does ≡ Answers answer.CacheStats → CommitsNothing o
+cache_commits_nothing limits op.Stats e = record { files = λ h. cc; all = λ h. cc }
+cache_commits_nothing limits (op.Read handle offset len) e = absurd (cache_read limits _ offset len e)
+cache_commits_nothing limits _ e = absurd (cc)
+
+data HasFlushed (c : ModelClient) (d : Doing) : Type 0 where
+  Flushed : IsTrue (is_flushed d.flush c.pending) → HasFlushed c d
+  NothingNamed : CommitsNothing d.op → HasFlushed c d
+
+fine_not_failure : (told : Told) → IsTrue (is_fine_answer (Answered told)) → IsTrue (is_failure told) → ⊥
+fine_not_failure (Fine a b c d) fine h = cc
+fine_not_failure (Looks first second len) fine h = cc
+fine_not_failure (ToldRefused fault) fine h = cc
+
+fine_not_refused : (told : Told) (r : Reply) → IsTrue (is_fine_answer (Answered told)) → told ≡ told_of r → IsTrue (is_refused r) → ⊥
+fine_not_refused told (reply.Refused fault) fine e h = let no : IsTrue (is_fine_answer (Answered (ToldRefused fault))) = subst (λ t. IsTrue (is_fine_answer (Answered t))) e fine in cc
+fine_not_refused told _ fine e h = cc
+
+settled_flushed : (does : Does) (flushed : Bool) (r : Reply) (told : Told) → IsTrue (is_fine_answer (Answered told)) → told ≡ told_of r → IsSettled does flushed r → IsTrue flushed
+settled_flushed does flushed r told fine e (IsRefusedReply h) = absurd (fine_not_refused told r fine e h)
+settled_flushed does flushed r told fine e (IsDoneReply f h) = f
+
+judged_flushed : (does : Does) (flushed : Bool) (stage : Stage) → StageOk does flushed stage → IsTrue (has_judged stage) → IsTrue flushed
+judged_flushed does flushed (Requesting requests) ok h = ok
+judged_flushed does flushed _ ok h = absurd (cc)
+
+module _ (limits : Limits) (start : Start) (alone : Bool) (s : State) (client now : ℕ) (c : ModelClient) (d : Doing) (told : Told) (fine : IsTrue (is_fine_answer (Answered told))) (h : Sound limits c.handles c.pending d) where
+  compacted_flushed : EndsCompaction d told → HasFlushed c d
+  compacted_flushed (TooShort k records e q may few same) = Flushed (stage_flushed c d (Compacting k) h.stage e)
+  compacted_flushed (HasReplaced k before after e r few same) = Flushed (stage_flushed c d (Compacting k) h.stage e)
+
+  uploaded_flushed : EndsUpload alone s client c d told → HasFlushed c d
+  uploaded_flushed (Sent id index size e same) = Flushed (stage_flushed c d (Requesting 1) h.stage e)
+  uploaded_flushed (FoundNone ready m o same) = Flushed (ready_flushed c d ready)
+
+  answer_flushed : MayAnswer start alone s client now c d told → HasFlushed c d
+  answer_flushed (Fails m f) = absurd (fine_not_failure told fine f)
+  answer_flushed (Settles r e same) = Flushed (settled_flushed d.does (is_flushed d.flush c.pending) r told fine same (stage_flushed c d (Replying r) h.stage e))
+  answer_flushed (AtOnce a) = Flushed (ready_flushed c d a.ready)
+  answer_flushed (CountsCache hits misses cached e same) = NothingNamed (cache_commits_nothing limits d.op (sym h.does ∙ e))
+  answer_flushed (ReadsViews r) = Flushed (reading_flushed c d d.stage h.stage (or_more _ _ r.goes_on))
+  answer_flushed (CleanedUp e) = Flushed (stage_flushed c d (Cleans e.k) h.stage e.stage)
+  answer_flushed (HasCompacted e) = compacted_flushed e
+  answer_flushed (HasCollected count bytes e j same) = Flushed (judged_flushed d.does (is_flushed d.flush c.pending) d.stage h.stage j)
+  answer_flushed (HasUploaded e u) = uploaded_flushed u
+  answer_flushed (Refuses fault m r same) = let no : IsTrue (is_fine_answer (Answered (ToldRefused fault))) = subst (λ t. IsTrue (is_fine_answer (Answered t))) same fine in absurd (cc)
+
+-- nothing left to commit is nothing pending
+
+no_segment : (pending : List PendingByte) → first_segment pending ≡ None → pending ≡ []
+no_segment [] e = refl
+no_segment (b ∷ bs) e = absurd (cc)
+
+abbrev first_or : Option Segment → Option Segment → Option Segment
+first_or o rest = elim o [ None ↦ rest | Some segment ↦ Some segment ]
+
+record BothNone (o rest : Option Segment) : Type 0 where
+  first : o ≡ None
+  others : rest ≡ None
+
+both_none : (o rest : Option Segment) → IsTrue (not (is_some (first_or o rest))) → BothNone o rest
+both_none None None h = record { first = refl; others = refl }
+both_none None (Some x) h = absurd (cc)
+both_none (Some x) rest h = absurd (cc)
+
+abbrev NonePending : List PendingByte → List ℕ → Type 0
+NonePending pending inodes = AllByRecursion (λ inode. pending_of inode pending ≡ []) inodes
+
+not_some : (o : Option Segment) → o ≡ None → IsTrue (not (is_some o))
+not_some o e = subst (λ x. IsTrue (not (is_some x))) (sym e) refl
+
+none_pending : (inodes : List ℕ) (pending : List PendingByte) → IsTrue (not (is_some (segment_of_files inodes pending))) → NonePending pending inodes
+none_pending [] pending h = tt
+none_pending (inode ∷ inodes) pending h =
+    let b = both_none (first_segment (pending_of inode pending)) (segment_of_files inodes pending) h in
+    (no_segment (pending_of inode pending) b.first, none_pending inodes pending (not_some (segment_of_files inodes pending) b.others))
+
+none_some : (o : Option Segment) → IsTrue (not (is_some o)) → o ≡ None
+none_some None h = refl
+none_some (Some x) h = absurd (cc)
+
+-- the files that an operation commits are those of its handles
+
+abbrev CommittedFiles : ModelClient → List ℕ → Type 0
+CommittedFiles c handles = AllByRecursion (λ handle. pending_of (inode_at c handle) c.pending ≡ []) handles
+
+its_files : (c : ModelClient) (o : Op) → ((profile o).flushes ≡ ItsFiles → NonePending c.pending (map (inode_at c) (handle_list (profile o).handles))) → CommittedFiles c (flushed_handles o)
+its_files c (op.Fstat handle) h = let all = h refl in (all.0, tt)
+its_files c (op.Close handle) h = let all = h refl in (all.0, tt)
+its_files c (op.Flush handle) h = let all = h refl in (all.0, tt)
+its_files c (op.Read handle offset len) h = let all = h refl in (all.0, tt)
+its_files c (op.Truncate handle len) h = let all = h refl in (all.0, tt)
+its_files c (op.Copy source from target to len) h = let all = h refl in (all.0, (all.1.0, tt))
+its_files c _ h = tt
+
+committed_all : (limits : Limits) (c : ModelClient) (d : Doing) → Sound limits c.handles c.pending d → HasFlushed c d → HasCommitted c d.op
+committed_all limits c d h (NothingNamed n) = record { files = its_files c d.op (λ its. absurd (n.files its)); all = λ e. absurd (n.all (ap (λ o. (profile o).flushes) e)) }
+committed_all limits c d h (Flushed f) = record {
+  files = its_files c d.op (λ its. none_pending (map (inode_at c) (handle_list (profile d.op).handles)) c.pending (subst (λ flush. IsTrue (is_flushed flush c.pending)) (h.files its) f));
+  all = λ e. no_segment c.pending (none_some (first_segment c.pending) (subst (λ flush. IsTrue (is_flushed flush c.pending)) (h.all (ap (λ o. (profile o).flushes) e)) f));
+}
+
+-- the entry that says so
+
+fine_step : (limits : Limits) (start : Start) (alone : Bool) (s : State) (client now : ℕ) (c : ModelClient) (d : Doing) (kind : ActKind) → IsTrue (is_fine_answer kind) → Sound limits c.handles c.pending d → MayStep start alone s client now c d kind → HasCommitted c d.op
+fine_step limits start alone s client now c d (Answered told) fine h may = committed_all limits c d h (answer_flushed limits start alone s client now c d told fine h may)
+fine_step limits start alone s client now c d _ fine h may = absurd (cc)
+
+not_fine : (told : Told) (kind : ActKind) → IsTrue (is_fine_answer kind) → kind ≡ Answered told → is_fine_answer (Answered told) ≡ false → ⊥
+not_fine told kind fine e off = let same = ap is_fine_answer e in cc
+
+pub fine_committed : (limits : Limits) (p : Past) (act : Act) → Entry p act → (act.client ≡ NO_CLIENT → ⊥) → (d : Doing) → (p.state.clients act.client).doing ≡ Some d → IsTrue (is_fine_answer act.kind)
+    → SoundClient limits (p.state.clients act.client) → HasCommitted (p.state.clients act.client) d.op
+fine_committed limits p act (Steps x e may) some d busy fine h =
+    let same : x ≡ d = cc in
+    fine_step limits p.run.start (p.run.uploads == 0) p.state act.client act.at (p.state.clients act.client) d act.kind fine (subst (SoundIf limits (p.state.clients act.client).handles (p.state.clients act.client).pending) busy h)
+    (subst (λ y. MayStep p.run.start (p.run.uploads == 0) p.state act.client act.at (p.state.clients act.client) y act.kind) same may)
+fine_committed limits p act (RefusedSubmission fault e (RefusesSubmission k)) some d busy fine h = absurd (not_fine _ act.kind fine k refl)
+fine_committed limits p act (RefusedSubmission fault e (RefusalLacks b k)) some d busy fine h = absurd (not_fine _ act.kind fine k refl)
+fine_committed limits p act (LacksMemory e k) some d busy fine h = absurd (not_fine _ act.kind fine k refl)
+fine_committed limits p act (Crashes e k) some d busy fine h = let no = ap is_fine_answer k in absurd (cc)
+fine_committed limits p act (Publishes e k) some d busy fine h = absurd (some e)
+fine_committed limits p act (OfDrain client e due k) some d busy fine h = absurd (some e)
+fine_committed limits p act (Ticks by e k) some d busy fine h = absurd (some e)
+
+pub nothing_pending : NothingPending
+nothing_pending run journal act may some d busy fine =
+    let parts = AllAllowed-parts (at_start run) journal (act ∷ []) may in
+    let b = begun_to act.line (reached run journal) in
+    fine_committed run.limits b act (entry_of b act parts.1.0) some d busy fine (sound run journal parts.0 act.line act.client some)

@@ -1,32 +1,30 @@
 -- What clients' views are, by the numbers of the journal's entries.
-use Rattle.std.proofs.Common.{◌≡◌, ℕ, zero, suc, ◌+◌, ◌-◌, ◌≤◌, ◌<◌, Bool, true, false, ◌&&◌, ◌||◌, not, ◌==◌, nat_lt, nat_le, if◌then◌else◌, IsTrue, IsSomeAnd, IfSome, MatchBool, inl, inr, List, [], ◌∷◌, ◌++◌, length, take, filter, Option, None, Some, refl, sym, ap, subst, ◌∙◌, arith, length-append}
+use Rattle.std.proofs.Common.{◌≡◌, ℕ, ◌+◌, ◌≤◌, ◌<◌, Bool, true, false, not, ◌==◌, if◌then◌else◌, IsTrue, IsSomeAnd, IfSome, inl, inr, List, [], ◌∷◌, ◌++◌, length, take, Option, None, Some, refl, sym, ap, subst, ◌∙◌, arith, length-append}
 use Rattle.std.specs.List.{AllByRecursion}
 use Rattle.std.proofs.lemmas.List.{take-append-le, take_all}
 use Rattle.std.proofs.lemmas.Bool.Decides.{nat_tests, leb_tells, eqb_tells}
-use Rattle.jv_model.specs.declared.act.TheConstants.{NO_CLIENT}
 use Rattle.jv_model.specs.declared.act.Act.{Act}
 use Rattle.jv_model.specs.declared.act.ActKind.{ActKind}
 use Rattle.jv_model.specs.declared.act.ActKind.TheVariants.{Mounted, Meta, Opened, Look, Commit, Truncated, Copied, Compacted, Settled, Expired, Purged, Cleaned, Quiet, Miss, Crashed, Ticked, Answered}
 use Rattle.jv_model.specs.declared.act.Told.{Told}
 use Rattle.jv_model.specs.declared.act.Told.TheVariants.{Fine, Looks, Refused as ToldRefused}
 use Rattle.jv_model.specs.declared.fault.Fault.{Fault}
-use Rattle.jv_model.specs.declared.fault.Fault.TheVariants.{InProgress, Stale}
+use Rattle.jv_model.specs.declared.fault.Fault.TheVariants.{Stale}
 use Rattle.jv_model.specs.declared.fault.Gone.TheVariants.{Session, Node}
 use Rattle.jv_model.specs.declared.op.Op.{Op}
 use Rattle.jv_model.specs.declared.op.Op.TheVariants as op
 use Rattle.jv_model.specs.declared.profile.Does.{Does}
 use Rattle.jv_model.specs.tree.Tree.{Tree, Content, content_at}
-use Rattle.jv_model.specs.run.Pending.{PendingByte, pending_of_others}
 use Rattle.jv_model.specs.client.ModelClient.{ModelClient, OpenFile, View, Doing, Stage, Replying, unmounted, with_stage, views_without}
 use Rattle.jv_model.specs.client.Submission.{submission, submitted}
 use Rattle.jv_model.specs.journal.State.{State, transacted, newly_sustained, next_entry, gift_of, after_transaction, Gift, NewSession, NewHandle, Nothing, state_at_start, with_client, set_client, given, replied, finished, refused_as, after_told, answered_client, is_of_another, after_step, after_other, of_doing, changed, effect, view_now, or_empty, is_compaction}
-use Rattle.jv_model.specs.journal.Reading.{Asked, bytes_between, first_that, is_fresh, fresh_view, cited_view, part_read}
+use Rattle.jv_model.specs.journal.Reading.{first_that, is_fresh}
 use Rattle.jv_model.specs.journal.Past.{Setup, Past, at_start, begun_to, reached}
 use Rattle.jv_model.specs.journal.Legal.{Allowed, AllAllowed}
-use Rattle.jv_model.specs.journal.Looks.{IsFreshLook, entry_at, changes_file}
+use Rattle.jv_model.specs.journal.Looks.{entry_at, changes_file}
 use Rattle.jv_model.specs.journal.Laws.{FreshViewsAreFreshLooks, HasSeen}
-use Rattle.jv_model.proofs.JournalGrowthLaws.{own_client, other_client, others_kept}
-use Rattle.jv_model.proofs.JournalStates.{Entry, entry_of, entry_before, entry_last, entry_past, entry_within, holds, holds_on, state-more}
+use Rattle.jv_model.proofs.JournalGrowthLaws.{own_client, others_kept}
+use Rattle.jv_model.proofs.JournalStates.{entry_of, entry_before, entry_last, entry_past, entry_within, holds_on, state-more}
 use Rattle.jv_model.proofs.JournalOwedLaws.{is_of_operation, has_operation}
 
 -- what a client keeps where its stage changes
@@ -71,8 +69,8 @@ eqb_is : (a b : ℕ) → (a == b) ≡ true → a ≡ b
 eqb_is a b h = grind (arith, nat_tests)
 
 looked_after : (s : State) (client inode window handle : ℕ) (compacts : Bool) (first other : Stage) → ViewsAfter s client (Look inode window) (with_client s.clients client (if compacts
-      then with_stage first (s.clients client)
-      else with_stage other (record (s.clients client) { views = view_now s handle inode window ∷ (s.clients client).views })) client).views
+    then with_stage first (s.clients client)
+    else with_stage other (record (s.clients client) { views = view_now s handle inode window ∷ (s.clients client).views })) client).views
 looked_after s client inode window handle true first other = Spared (λ _. refl) (own_views s.clients client _ _ (stage_views first (s.clients client)))
 looked_after s client inode window handle false first other = Taken handle inode window refl (own_views s.clients client _ _ (stage_views other _))
 
@@ -240,13 +238,13 @@ module _ (run : Setup) (pre : List Act) (s : State) (act : Act) (count : s.count
   own_shown views (Dropped e) all = subst (AllShown run (pre ++ act ∷ []) act.client) (sym e) tt
   own_shown views (Spoiled inode only e) all = subst (AllShown run (pre ++ act ∷ []) act.client) (sym e) (all_off run pre act act.client inode (s.clients act.client).views only all)
   own_shown views (Taken handle inode window k e) all = subst (AllShown run (pre ++ act ∷ []) act.client) (sym e) (
-      record {
-        looked = subst (λ o. IsSomeAnd o (IsLook act.client inode window)) (sym (ap (λ n. entry_at (pre ++ act ∷ []) (n + 1)) count ∙ entry_last pre act)) (refl, k);
-        unchanged = λ later h. subst (λ o. IfSome o (LeavesFile act.client inode)) (sym (entry_past (pre ++ act ∷ []) later (let l = length-append pre (act ∷ []) in omega (arith, l, h, count)))) tt;
-        content = ap (λ t. or_empty (content_at t inode)) (tree inode window k ∙ sym (tree_last run pre act) ∙ ap (λ n. tree_after run (pre ++ act ∷ []) (n + 1)) (sym count));
-      },
-      all_later run pre act act.client (s.clients act.client).views all (λ same file. ap (changes_file file) k),
-    )
+    record {
+      looked = subst (λ o. IsSomeAnd o (IsLook act.client inode window)) (sym (ap (λ n. entry_at (pre ++ act ∷ []) (n + 1)) count ∙ entry_last pre act)) (refl, k);
+      unchanged = λ later h. subst (λ o. IfSome o (LeavesFile act.client inode)) (sym (entry_past (pre ++ act ∷ []) later (let l = length-append pre (act ∷ []) in omega (arith, l, h, count)))) tt;
+      content = ap (λ t. or_empty (content_at t inode)) (tree inode window k ∙ sym (tree_last run pre act) ∙ ap (λ n. tree_after run (pre ++ act ∷ []) (n + 1)) (sym count));
+    },
+    all_later run pre act act.client (s.clients act.client).views all (λ same file. ap (changes_file file) k),
+  )
 
 either_tree : (b : Bool) (s : State) (client : ℕ) (c d : ModelClient) → (set_client s client (if b then c else d)).tree ≡ s.tree
 either_tree b s client c d = refl

@@ -1,5 +1,5 @@
 //! What holds of every journal that is legal so far. Each law is a function that does nothing.
-ghost use Rattle.jv_model.specs.journal.Laws.{FreshViewsAreFreshLooks, SettlesOwed, OwedCommits, JournalsGrow, EarlierTextStays, FollowsClock, OthersStay, EntriesAreCounted};
+ghost use Rattle.jv_model.specs.journal.Laws.{NothingPending, FreshViewsAreFreshLooks, SettlesOwed, OwedCommits, JournalsGrow, EarlierTextStays, FollowsClock, OthersStay, EntriesAreCounted};
 
 /// A journal is legal so far if and only if each part of it is, from where the entries before it lead.
 pub fn journals_grow()
@@ -40,4 +40,10 @@ pub fn settles_owed()
 /// file, and since which it has not changed the file. It has the file's bytes as they were just after the look.
 pub fn fresh_views_are_fresh_looks()
     ensures { FreshViewsAreFreshLooks }
+{}
+
+/// A close, flush, fstat, read, truncate or copy is done only where no byte of its files is pending at the client, and
+/// an umount only where none is.
+pub fn nothing_pending()
+    ensures { NothingPending }
 {}
