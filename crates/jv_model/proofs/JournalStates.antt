@@ -111,8 +111,7 @@ state-more run pre e = ap (λ (p : Past). p.state) (reached-more run pre e) ∙ 
 -- what begun lines and further entries keep
 
 module _ (run : Setup) (P : List Act → State → Type 0)
-    (submits : (pre : List Act) (s : State) (client : ℕ) (o : Op) → submission (s.clients client) o ≡ None → P pre s → P pre (set_client s client (submitted run.limits o (s.clients client))))
-    (enters : (pre : List Act) (act : Act) → Allowed (begun_to act.line (reached run pre)) act → P pre (begun_to act.line (reached run pre)).state → P (pre ++ act ∷ []) (effect (begun_to act.line (reached run pre)).state act)) where
+    (submits : (pre : List Act) (s : State) (client : ℕ) (o : Op) → submission (s.clients client) o ≡ None → P pre s → P pre (set_client s client (submitted run.limits o (s.clients client)))) where
   submits_at : (pre : List Act) (setup : Setup) (s : State) (client : ℕ) (o : Op) → setup ≡ run → submission (s.clients client) o ≡ None → P pre s → P pre (set_client s client (submitted setup.limits o (s.clients client)))
   submits_at pre setup s client o e none h = subst (λ (r : Setup). P pre (set_client s client (submitted r.limits o (s.clients client)))) (sym e) (submits pre s client o none h)
 
@@ -154,18 +153,19 @@ module _ (run : Setup) (P : List Act → State → Type 0)
   unfolding begun_to
   keeps_begun_to pre n p e h = keeps_begun_by pre (n - p.line) p e h
 
-  pub holds_entry : (pre : List Act) (act : Act) → Allowed (begun_to act.line (reached run pre)) act → P pre (reached run pre).state → P (pre ++ act ∷ []) (reached run (pre ++ act ∷ [])).state
-  holds_entry pre act may h = subst (P (pre ++ act ∷ [])) (sym (state-more run pre act)) (enters pre act may (keeps_begun_to pre act.line (reached run pre) (run_reached run pre) h))
+  module _ (enters : (pre : List Act) (act : Act) → Allowed (begun_to act.line (reached run pre)) act → P pre (begun_to act.line (reached run pre)).state → P (pre ++ act ∷ []) (effect (begun_to act.line (reached run pre)).state act)) where
+    pub holds_entry : (pre : List Act) (act : Act) → Allowed (begun_to act.line (reached run pre)) act → P pre (reached run pre).state → P (pre ++ act ∷ []) (reached run (pre ++ act ∷ [])).state
+    holds_entry pre act may h = subst (P (pre ++ act ∷ [])) (sym (state-more run pre act)) (enters pre act may (keeps_begun_to pre act.line (reached run pre) (run_reached run pre) h))
 
-  holds_more : (pre acts : List Act) → P pre (reached run pre).state → AllAllowed (reached run pre) acts → P (pre ++ acts) (reached run (pre ++ acts)).state
-  holds_more pre [] h may = subst (λ l. P l (reached run l).state) (sym (append-nil pre)) h
-  holds_more pre (act ∷ acts) h may =
-      subst (λ l. P l (reached run l).state) (append_assoc pre (act ∷ []) acts)
-      (holds_more (pre ++ act ∷ []) acts (holds_entry pre act may.0 h) (subst (λ p. AllAllowed p acts) (sym (reached-more run pre act)) may.1))
+    holds_more : (pre acts : List Act) → P pre (reached run pre).state → AllAllowed (reached run pre) acts → P (pre ++ acts) (reached run (pre ++ acts)).state
+    holds_more pre [] h may = subst (λ l. P l (reached run l).state) (sym (append-nil pre)) h
+    holds_more pre (act ∷ acts) h may =
+        subst (λ l. P l (reached run l).state) (append_assoc pre (act ∷ []) acts)
+        (holds_more (pre ++ act ∷ []) acts (holds_entry pre act may.0 h) (subst (λ p. AllAllowed p acts) (sym (reached-more run pre act)) may.1))
 
-  pub holds : P [] (state_at_start run.start.tree) → (journal : List Act) → AllAllowed (at_start run) journal → P journal (reached run journal).state
-  holds h journal may = holds_more [] journal h may
+    pub holds : P [] (state_at_start run.start.tree) → (journal : List Act) → AllAllowed (at_start run) journal → P journal (reached run journal).state
+    holds h journal may = holds_more [] journal h may
 
-  -- where the lines up to a number are begun
-  pub holds_on : P [] (state_at_start run.start.tree) → (journal : List Act) → AllAllowed (at_start run) journal → (line : ℕ) → P journal (begun_to line (reached run journal)).state
-  holds_on h journal may line = keeps_begun_to journal line (reached run journal) (run_reached run journal) (holds h journal may)
+    -- where the lines up to a number are begun
+    pub holds_on : P [] (state_at_start run.start.tree) → (journal : List Act) → AllAllowed (at_start run) journal → (line : ℕ) → P journal (begun_to line (reached run journal)).state
+    holds_on h journal may line = keeps_begun_to journal line (reached run journal) (run_reached run journal) (holds h journal may)

@@ -20,3 +20,4 @@ pub mod JournalStates
 pub mod JournalOwedLaws
 pub mod JournalLooksLaws
 pub mod JournalDoingLaws
+pub mod JournalCloseLaws

@@ -1,5 +1,5 @@
 //! What holds of every journal that is legal so far. Each law is a function that does nothing.
-ghost use Rattle.jv_model.specs.journal.Laws.{NothingPending, FreshViewsAreFreshLooks, SettlesOwed, OwedCommits, JournalsGrow, EarlierTextStays, FollowsClock, OthersStay, EntriesAreCounted};
+ghost use Rattle.jv_model.specs.journal.Laws.{ClosesCommitWrites, NothingPending, FreshViewsAreFreshLooks, SettlesOwed, OwedCommits, JournalsGrow, EarlierTextStays, FollowsClock, OthersStay, EntriesAreCounted};
 
 /// A journal is legal so far if and only if each part of it is, from where the entries before it lead.
 pub fn journals_grow()
@@ -46,4 +46,10 @@ pub fn fresh_views_are_fresh_looks()
 /// an umount only where none is.
 pub fn nothing_pending()
     ensures { NothingPending }
+{}
+
+/// Between a write that is done and a close of the file that is done, by one client, stands its commit to each
+/// position that was written, unless the client crashed meanwhile, or was answered that its session or the file is gone.
+pub fn closes_commit_writes()
+    ensures { ClosesCommitWrites }
 {}

@@ -1,14 +1,16 @@
 -- What holds of every journal that is legal so far, in terms of its entries' numbers and lines.
-use Rattle.std.specs.Prelude.{◌≡◌, ℕ, ◌≤◌, ◌<◌, Bool, true, false, ◌&&◌, not, ◌==◌, IsTrue, IsSomeAnd, IfSome, ◌↔◌, List, [], ◌∷◌, ◌++◌, length, take, Some}
+use Rattle.std.specs.Prelude.{◌≡◌, ℕ, ◌+◌, ◌≤◌, ◌<◌, Bool, true, false, ◌&&◌, not, ◌==◌, nat_lt, nat_le, IsTrue, IsSomeAnd, IfSome, ◌↔◌, ◌⊎◌, List, [], ◌∷◌, ◌++◌, length, take, Some}
 use Rattle.std.specs.List.{AllByRecursion, list_any}
 use Rattle.jv_model.specs.declared.limits.TheConstants.{LAST_MOMENT}
 use Rattle.jv_model.specs.declared.act.Act.{Act}
 use Rattle.jv_model.specs.declared.act.ActKind.{ActKind}
-use Rattle.jv_model.specs.declared.act.ActKind.TheVariants.{Commit, Settled, Answered}
+use Rattle.jv_model.specs.declared.act.ActKind.TheVariants.{Commit, Settled, Crashed, Answered}
 use Rattle.jv_model.specs.client.Origins.{Owed}
 use Rattle.jv_model.specs.tree.Tree.{content_at}
 use Rattle.jv_model.specs.declared.act.TheConstants.{NO_CLIENT}
-use Rattle.jv_model.specs.declared.act.Told.TheVariants.{Fine, Looks}
+use Rattle.jv_model.specs.declared.act.Told.TheVariants.{Fine, Looks, Refused as ToldRefused}
+use Rattle.jv_model.specs.declared.fault.Fault.TheVariants.{Stale}
+use Rattle.jv_model.specs.declared.fault.Gone.TheVariants.{Session, Node}
 use Rattle.jv_model.specs.declared.op.Op.{Op}
 use Rattle.jv_model.specs.declared.op.Op.TheVariants as op
 use Rattle.jv_model.specs.run.Pending.{pending_of}
@@ -131,3 +133,51 @@ abbrev pub NothingPending : Type 0
 NothingPending = (run : Setup) (journal : List Act) (act : Act) → AllAllowed (at_start run) (journal ++ act ∷ [])
     → (act.client ≡ NO_CLIENT → ⊥) → (d : Doing) → ((begun_to act.line (reached run journal)).state.clients act.client).doing ≡ Some d
     → IsTrue (is_fine_answer act.kind) → HasCommitted ((begun_to act.line (reached run journal)).state.clients act.client) d.op
+
+-- close-to-open
+
+-- an entry answers that a client's write is done, which wrote to a position of a file
+pub record AnswersWrite (p : Past) (act : Act) (inode position : ℕ) : Type 0 where
+  pub doing : Doing
+  pub in_progress : (p.state.clients act.client).doing ≡ Some doing
+  pub handle : ℕ
+  pub offset : ℕ
+  pub bytes : List ℕ
+  pub writes : doing.op ≡ op.Write handle offset bytes
+  pub of_file : inode_at (p.state.clients act.client) handle ≡ inode
+  pub low : offset ≤ position
+  pub high : position < offset + length bytes
+  pub done : IsTrue (is_fine_answer act.kind)
+
+-- an entry answers that a client's close of a handle is done
+pub record AnswersClose (p : Past) (act : Act) (handle : ℕ) : Type 0 where
+  pub doing : Doing
+  pub in_progress : (p.state.clients act.client).doing ≡ Some doing
+  pub closes : doing.op ≡ op.Close handle
+  pub done : IsTrue (is_fine_answer act.kind)
+
+abbrev pub commits_position : ℕ → ℕ → ActKind → Bool
+commits_position inode position (Commit file from len staged) = (file == inode) && nat_le from position && nat_lt position (from + len)
+commits_position inode position _ = false
+
+-- A client crashes, or is answered that its session or the file is gone.
+abbrev pub loses_pending : ℕ → ActKind → Bool
+loses_pending inode Crashed = true
+loses_pending inode (Answered (ToldRefused (Stale (Session sid)))) = true
+loses_pending inode (Answered (ToldRefused (Stale (Node gone)))) = gone == inode
+loses_pending inode _ = false
+
+-- the client's commit to a position of a file, or what loses its pending bytes of the file
+pub record ResolvesWrite (client inode position : ℕ) (act : Act) : Type 0 where
+  pub own : act.client ≡ client
+  pub resolves : IsTrue (commits_position inode position act.kind) ⊎ IsTrue (loses_pending inode act.kind)
+
+-- Between a write that is done and a close of the file that is done, by one client, stands its commit to each position
+-- that was written, unless the client crashed meanwhile, or was answered that its session or the file is gone.
+abbrev pub ClosesCommitWrites : Type 0
+ClosesCommitWrites = (run : Setup) (before between : List Act) (write close : Act)
+    → AllAllowed (at_start run) ((before ++ write ∷ between) ++ close ∷ []) → close.client ≡ write.client → (write.client ≡ NO_CLIENT → ⊥)
+    → (handle inode position : ℕ) → AnswersWrite (begun_to write.line (reached run before)) write inode position
+    → AnswersClose (begun_to close.line (reached run (before ++ write ∷ between))) close handle
+    → inode_at ((begun_to close.line (reached run (before ++ write ∷ between))).state.clients close.client) handle ≡ inode
+    → (number : ℕ) × IsSomeAnd (entry_at between number) (ResolvesWrite write.client inode position)
