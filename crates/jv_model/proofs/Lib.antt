@@ -37,3 +37,9 @@ pub mod SessionsExamples
 pub mod FileBytesExamples
 pub mod MakingExamples
 pub mod HourNamesExamples
+pub mod JournalGrowthLaws
+pub mod JournalStates
+pub mod JournalOwedLaws
+pub mod JournalLooksLaws
+pub mod JournalDoingLaws
+pub mod JournalCloseLaws

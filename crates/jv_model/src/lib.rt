@@ -7,6 +7,7 @@ mod basics;
 mod bytes;
 mod fault;
 mod journal;
+pub mod journal_laws;
 mod laws;
 mod limits;
 mod op;

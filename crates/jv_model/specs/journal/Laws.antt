@@ -1,0 +1,183 @@
+-- What holds of every journal that is legal so far, in terms of its entries' numbers and lines.
+use Rattle.std.specs.Prelude.{◌≡◌, ℕ, ◌+◌, ◌≤◌, ◌<◌, Bool, true, false, ◌&&◌, not, ◌==◌, nat_lt, nat_le, IsTrue, IsSomeAnd, IfSome, ◌↔◌, ◌⊎◌, List, [], ◌∷◌, ◌++◌, length, take, Some}
+use Rattle.std.specs.List.{AllByRecursion, list_any}
+use Rattle.jv_model.specs.declared.limits.TheConstants.{LAST_MOMENT}
+use Rattle.jv_model.specs.declared.act.Act.{Act}
+use Rattle.jv_model.specs.declared.act.ActKind.{ActKind}
+use Rattle.jv_model.specs.declared.act.ActKind.TheVariants.{Commit, Settled, Crashed, Answered}
+use Rattle.jv_model.specs.client.Origins.{Owed}
+use Rattle.jv_model.specs.tree.Tree.{content_at}
+use Rattle.jv_model.specs.declared.act.TheConstants.{NO_CLIENT}
+use Rattle.jv_model.specs.declared.act.Told.TheVariants.{Fine, Looks, Refused as ToldRefused}
+use Rattle.jv_model.specs.declared.fault.Fault.TheVariants.{Stale}
+use Rattle.jv_model.specs.declared.fault.Gone.TheVariants.{Session, Node}
+use Rattle.jv_model.specs.declared.op.Op.{Op}
+use Rattle.jv_model.specs.declared.op.Op.TheVariants as op
+use Rattle.jv_model.specs.run.Pending.{pending_of}
+use Rattle.jv_model.specs.client.ModelClient.{ModelClient, OpenFile, View, Doing, inode_at}
+use Rattle.jv_model.specs.journal.State.{State, effect, or_empty}
+use Rattle.jv_model.specs.journal.Reading.{fresh_view}
+use Rattle.jv_model.specs.journal.Past.{Setup, Past, at_start, begun_to, reached}
+use Rattle.jv_model.specs.journal.Legal.{AllAllowed}
+use Rattle.jv_model.specs.journal.Looks.{entry_at, IsFreshLook}
+
+-- growth
+
+-- a longer journal is legal so far exactly where its first part is, and the rest may follow it
+abbrev pub JournalsGrow : Type 0
+JournalsGrow = (run : Setup) (journal more : List Act)
+    → AllAllowed (at_start run) (journal ++ more) ↔ (AllAllowed (at_start run) journal × AllAllowed (reached run journal) more)
+
+-- what the lines up to this number print, by a journal so far
+abbrev pub text_to : ℕ → Past → List ℕ
+text_to line p = (begun_to line p).printed ++ (begun_to line p).said
+
+-- entries of later lines change nothing of what the lines up to a number print
+abbrev pub EarlierTextStays : Type 0
+EarlierTextStays = (run : Setup) (journal more : List Act) (line last : ℕ)
+    → AllByRecursion (λ act. act.line ≤ line) journal → AllByRecursion (λ act. line < act.line) more → line ≤ last
+    → (rest : List ℕ) × (text_to line (reached run journal) ++ rest ≡ text_to last (reached run (journal ++ more)))
+
+-- from an entry on, lines and moments don't fall, and no moment is past the last one
+pub record Follows (earlier later : Act) : Type 0 where
+  pub line : earlier.line ≤ later.line
+  pub moment : earlier.at ≤ later.at
+  pub last : later.at ≤ LAST_MOMENT
+
+-- lines and moments never fall
+abbrev pub FollowsClock : Type 0
+FollowsClock = (run : Setup) (journal : List Act) → AllAllowed (at_start run) journal
+    → (earlier later : ℕ) → earlier ≤ later → IfSome (entry_at journal earlier) (λ a. IfSome (entry_at journal later) (λ b. Follows a b))
+
+-- an entry of one client changes nothing of another
+abbrev pub OthersStay : Type 0
+OthersStay = (s : State) (act : Act) (client : ℕ) → (client ≡ act.client → ⊥) → (effect s act).clients client ≡ s.clients client
+
+-- entries are counted
+abbrev pub EntriesAreCounted : Type 0
+EntriesAreCounted = (run : Setup) (journal : List Act) → (reached run journal).state.count ≡ length journal
+
+-- owed commits
+
+-- whether an entry is a commit that left blocks staged
+abbrev pub leaves_staged : ActKind → Bool
+leaves_staged (Commit inode from len staged) = not (staged == 0)
+leaves_staged _ = false
+
+-- whether an entry says that the last staged block of a commit was published
+abbrev pub settles : ℕ → ActKind → Bool
+settles commit (Settled settled) = settled == commit
+settles commit _ = false
+
+-- A client owes a commit at the end of a journal: it left blocks staged, and nothing settled it since.
+pub record IsOwed (journal : List Act) (client commit : ℕ) : Type 0 where
+  pub made : IsSomeAnd (entry_at journal commit) (λ act. (act.client ≡ client) × IsTrue (leaves_staged act.kind))
+  pub unsettled : (later : ℕ) → commit < later → IfSome (entry_at journal later) (λ act. settles commit act.kind ≡ false)
+
+abbrev pub is_owed_by : ℕ → ℕ → List Owed → Bool
+is_owed_by client commit owed = list_any (λ o. (o.commit == commit) && (o.client == client)) owed
+
+-- what counts as owed is what the entries say
+abbrev pub OwedCommits : Type 0
+OwedCommits = (run : Setup) (journal : List Act) → AllAllowed (at_start run) journal
+    → (client commit : ℕ) → IsTrue (is_owed_by client commit (reached run journal).state.owed) ↔ IsOwed journal client commit
+
+-- a commit that some client owes
+pub record IsOwedBySome (journal : List Act) (commit : ℕ) : Type 0 where
+  pub client : ℕ
+  pub owed : IsOwed journal client commit
+
+-- only what is owed is settled, and so at most once
+abbrev pub SettlesOwed : Type 0
+SettlesOwed = (run : Setup) (journal : List Act) (act : Act) → AllAllowed (at_start run) (journal ++ act ∷ [])
+    → (commit : ℕ) → act.kind ≡ Settled commit → IsOwedBySome journal commit
+
+-- fresh looks
+
+-- A view was taken by a fresh look, and has the file's bytes as they were just after it.
+pub record HasSeen (run : Setup) (journal : List Act) (client : ℕ) (file : OpenFile) (window : ℕ) (view : View) : Type 0 where
+  pub fresh : IsFreshLook journal client file window view.entry
+  pub bytes : view.content ≡ or_empty (content_at (reached run (take view.entry journal)).state.tree file.inode)
+
+-- the views that count as fresh, on any later line too, are those of fresh looks
+abbrev pub FreshViewsAreFreshLooks : Type 0
+FreshViewsAreFreshLooks = (run : Setup) (journal : List Act) → AllAllowed (at_start run) journal
+    → (line client handle : ℕ) (file : OpenFile) (window : ℕ) (view : View)
+    → fresh_view ((begun_to line (reached run journal)).state.clients client).views handle file window ≡ Some view → HasSeen run journal client file window view
+
+-- pending bytes
+
+-- whether an entry answers that an operation is done
+abbrev pub is_fine_answer : ActKind → Bool
+is_fine_answer (Answered (Fine a b c d)) = true
+is_fine_answer (Answered (Looks first second len)) = true
+is_fine_answer _ = false
+
+-- the handles whose files an operation commits before it is answered
+abbrev pub flushed_handles : Op → List ℕ
+flushed_handles (op.Fstat handle) = handle ∷ []
+flushed_handles (op.Close handle) = handle ∷ []
+flushed_handles (op.Flush handle) = handle ∷ []
+flushed_handles (op.Read handle offset len) = handle ∷ []
+flushed_handles (op.Truncate handle len) = handle ∷ []
+flushed_handles (op.Copy source from target to len) = source ∷ target ∷ []
+flushed_handles _ = []
+
+-- Nothing that an operation has to commit is pending.
+pub record HasCommitted (c : ModelClient) (o : Op) : Type 0 where
+  pub files : AllByRecursion (λ handle. pending_of (inode_at c handle) c.pending ≡ []) (flushed_handles o)
+  pub all : o ≡ op.Umount → c.pending ≡ []
+
+-- An operation is done only where nothing that it has to commit is pending.
+abbrev pub NothingPending : Type 0
+NothingPending = (run : Setup) (journal : List Act) (act : Act) → AllAllowed (at_start run) (journal ++ act ∷ [])
+    → (act.client ≡ NO_CLIENT → ⊥) → (d : Doing) → ((begun_to act.line (reached run journal)).state.clients act.client).doing ≡ Some d
+    → IsTrue (is_fine_answer act.kind) → HasCommitted ((begun_to act.line (reached run journal)).state.clients act.client) d.op
+
+-- close-to-open
+
+-- an entry answers that a client's write is done, which wrote to a position of a file
+pub record AnswersWrite (p : Past) (act : Act) (inode position : ℕ) : Type 0 where
+  pub doing : Doing
+  pub in_progress : (p.state.clients act.client).doing ≡ Some doing
+  pub handle : ℕ
+  pub offset : ℕ
+  pub bytes : List ℕ
+  pub writes : doing.op ≡ op.Write handle offset bytes
+  pub of_file : inode_at (p.state.clients act.client) handle ≡ inode
+  pub low : offset ≤ position
+  pub high : position < offset + length bytes
+  pub done : IsTrue (is_fine_answer act.kind)
+
+-- an entry answers that a client's close of a handle is done
+pub record AnswersClose (p : Past) (act : Act) (handle : ℕ) : Type 0 where
+  pub doing : Doing
+  pub in_progress : (p.state.clients act.client).doing ≡ Some doing
+  pub closes : doing.op ≡ op.Close handle
+  pub done : IsTrue (is_fine_answer act.kind)
+
+abbrev pub commits_position : ℕ → ℕ → ActKind → Bool
+commits_position inode position (Commit file from len staged) = (file == inode) && nat_le from position && nat_lt position (from + len)
+commits_position inode position _ = false
+
+-- A client crashes, or is answered that its session or the file is gone.
+abbrev pub loses_pending : ℕ → ActKind → Bool
+loses_pending inode Crashed = true
+loses_pending inode (Answered (ToldRefused (Stale (Session sid)))) = true
+loses_pending inode (Answered (ToldRefused (Stale (Node gone)))) = gone == inode
+loses_pending inode _ = false
+
+-- the client's commit to a position of a file, or what loses its pending bytes of the file
+pub record ResolvesWrite (client inode position : ℕ) (act : Act) : Type 0 where
+  pub own : act.client ≡ client
+  pub resolves : IsTrue (commits_position inode position act.kind) ⊎ IsTrue (loses_pending inode act.kind)
+
+-- Between a write that is done and a close of the file that is done, by one client, stands its commit to each position
+-- that was written, unless the client crashed meanwhile, or was answered that its session or the file is gone.
+abbrev pub ClosesCommitWrites : Type 0
+ClosesCommitWrites = (run : Setup) (before between : List Act) (write close : Act)
+    → AllAllowed (at_start run) ((before ++ write ∷ between) ++ close ∷ []) → close.client ≡ write.client → (write.client ≡ NO_CLIENT → ⊥)
+    → (handle inode position : ℕ) → AnswersWrite (begun_to write.line (reached run before)) write inode position
+    → AnswersClose (begun_to close.line (reached run (before ++ write ∷ between))) close handle
+    → inode_at ((begun_to close.line (reached run (before ++ write ∷ between))).state.clients close.client) handle ≡ inode
+    → (number : ℕ) × IsSomeAnd (entry_at between number) (ResolvesWrite write.client inode position)
