@@ -34,7 +34,7 @@ use Rattle.jv_model.specs.client.Origins.{Owed}
 use Rattle.jv_model.specs.client.Profile.{profile, handle_list, handle_of}
 use Rattle.jv_model.specs.client.ModelClient.{ModelClient, OpenFile, View, Doing, OfFiles, OfAll, Stage, Cleaning, Sessions, Trash, Files, Blocks, Part, Working, Reading, Missing, LookedAgain, Compacting, Cleans, Requesting, Replying, unmounted, with_stage, file_of, inode_in, inode_at, views_without}
 use Rattle.jv_model.specs.client.Submission.{submission, submitted, flush_of, by_limits, segment_of_files, is_flushed}
-use Rattle.jv_model.specs.journal.State.{State, Gift, NewSession, NewHandle, Nothing, with_client, set_client, given, replied, transacted, newly_sustained, next_entry, gift_of, after_transaction, is_refused, refusal_in, look_refusal, has_session, quieted, begun_quietly, flushing_on, cleaning_on, looked, compaction_looked, missed, committed_stage, answer_then, reply_of_answer, replaced, after_told, answered_client, is_of_another, after_step, of_doing, changed, effect, view_now, is_compaction, sees_first, first_cleaning}
+use Rattle.jv_model.specs.journal.State.{is_last, is_collecting, requesting_on, State, Gift, NewSession, NewHandle, Nothing, with_client, set_client, given, replied, transacted, newly_sustained, next_entry, gift_of, after_transaction, is_refused, refusal_in, look_refusal, has_session, quieted, begun_quietly, flushing_on, cleaning_on, looked, compaction_looked, missed, committed_stage, answer_then, reply_of_answer, replaced, after_told, answered_client, is_of_another, after_step, of_doing, changed, effect, view_now, is_compaction, sees_first, first_cleaning}
 use Rattle.jv_model.specs.journal.Reading.{asked_parts}
 use Rattle.jv_model.specs.journal.Steps.{Start, is_ready, transacts, Transaction, LooksAt, may_read_on, is_missing, CompactionLooks, First, Again, CompactionMisses, MissesBlock, change_entry, cleaning_in, CleansItem, DropsFile, MayStep, MayAnswer, Fails, Settles, AtOnce, CountsCache, ReadsViews, CleanedUp, HasCompacted, HasCollected, HasUploaded, Refuses, EndsCompaction, TooShort, HasReplaced, EndsUpload, Sent, FoundNone, told_of, is_failure, has_judged}
 use Rattle.jv_model.specs.journal.Past.{Setup, Past, at_start, begun_to, reached}
@@ -171,7 +171,7 @@ module _ (s : State) (client : ℕ) (c : ModelClient) (now : ℕ) (d : Doing) wh
   F = is_flushed d.flush c.pending
 
   ok_cleaning : (k : Cleaning) → IsTrue F → StageOk d.does F (cleaning_on s c k)
-  ok_cleaning k f = ok_if d.does F (has_session s.tree c) _ _ f (IsRefusedReply refl)
+  ok_cleaning k f = ok_if d.does F (has_session s.tree c || is_last k.part) _ _ f (IsRefusedReply refl)
 
   ok_tree_refusal : StageOk d.does F (Replying (refusal_in (transacted s client now d.op).reply))
   ok_tree_refusal = IsRefusedReply (refusal_refused (transacted s client now d.op).reply (is_refused (transacted s client now d.op).reply) refl)
@@ -203,7 +203,7 @@ module _ (s : State) (client : ℕ) (c : ModelClient) (now : ℕ) (d : Doing) wh
   ok_quieted (LookedAgain misses window owed) all h = h
   ok_quieted (Compacting k) all h = ok_if d.does F (is_some k.missed) _ _ (ok_refused d.does F (Compacting k) _ (look_refused s.tree c _) h) h
   ok_quieted (Cleans k) all h = ok_cleaning k h
-  ok_quieted (Requesting requests) all h = h
+  ok_quieted (Requesting requests) all h = ok_if d.does F (is_collecting d.does && (requests == 1) && not (has_session s.tree c)) _ _ (IsRefusedReply refl) h
   ok_quieted (Replying answer) all h = h
 
 -- what an entry of an operation wants committed
