@@ -337,7 +337,7 @@ files_of handles d = (profile d.op).flushes ≡ ItsFiles → d.flush ≡ OfFiles
 handles_given : (entry : ℕ) (does : Does) (gift : Gift) (c : ModelClient) → gift ≡ Nothing → (given entry does gift c).handles ≡ c.handles
 handles_given entry does gift c e = ap (λ g. (given entry does g c).handles) e
 
-doing_given : (entry : ℕ) (does : Does) (gift : Gift) (c : ModelClient) → (given entry does gift c).doing ≡ c.doing
+pub doing_given : (entry : ℕ) (does : Does) (gift : Gift) (c : ModelClient) → (given entry does gift c).doing ≡ c.doing
 doing_given entry does (NewSession sid) c = refl
 doing_given entry does (NewHandle handle inode) c = refl
 doing_given entry does Nothing c = refl

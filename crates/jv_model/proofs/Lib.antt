@@ -21,3 +21,4 @@ pub mod JournalOwedLaws
 pub mod JournalLooksLaws
 pub mod JournalDoingLaws
 pub mod JournalCloseLaws
+pub mod JournalAnswerLaws

@@ -4,7 +4,7 @@ use Rattle.std.specs.List.{AllByRecursion, list_any}
 use Rattle.jv_model.specs.declared.limits.TheConstants.{LAST_MOMENT}
 use Rattle.jv_model.specs.declared.act.Act.{Act}
 use Rattle.jv_model.specs.declared.act.ActKind.{ActKind}
-use Rattle.jv_model.specs.declared.act.ActKind.TheVariants.{Commit, Settled, Crashed, Answered}
+use Rattle.jv_model.specs.declared.act.ActKind.TheVariants.{Mounted, Meta, Opened, Commit, Settled, Crashed, Answered}
 use Rattle.jv_model.specs.client.Origins.{Owed}
 use Rattle.jv_model.specs.tree.Tree.{content_at}
 use Rattle.jv_model.specs.declared.act.TheConstants.{NO_CLIENT}
@@ -15,9 +15,11 @@ use Rattle.jv_model.specs.declared.op.Op.{Op}
 use Rattle.jv_model.specs.declared.op.Op.TheVariants as op
 use Rattle.jv_model.specs.run.Pending.{pending_of}
 use Rattle.jv_model.specs.client.ModelClient.{ModelClient, OpenFile, View, Doing, inode_at}
-use Rattle.jv_model.specs.journal.State.{State, effect, or_empty}
+use Rattle.jv_model.specs.journal.State.{State, effect, or_empty, transacted}
+use Rattle.jv_model.specs.journal.Steps.{told_of}
+use Rattle.jv_model.specs.declared.op.Reply.{Reply}
 use Rattle.jv_model.specs.journal.Reading.{fresh_view}
-use Rattle.jv_model.specs.journal.Past.{Setup, Past, at_start, begun_to, reached}
+use Rattle.jv_model.specs.journal.Past.{Setup, Past, at_start, begun_to, reached, line_reply}
 use Rattle.jv_model.specs.journal.Legal.{AllAllowed}
 use Rattle.jv_model.specs.journal.Looks.{entry_at, IsFreshLook}
 
@@ -181,3 +183,25 @@ ClosesCommitWrites = (run : Setup) (before between : List Act) (write close : Ac
     → AnswersClose (begun_to close.line (reached run (before ++ write ∷ between))) close handle
     → inode_at ((begun_to close.line (reached run (before ++ write ∷ between))).state.clients close.client) handle ≡ inode
     → (number : ℕ) × IsSomeAnd (entry_at between number) (ResolvesWrite write.client inode position)
+
+-- answers
+
+-- whether an entry is an operation's metadata transaction
+abbrev pub is_transaction : ActKind → Bool
+is_transaction (Mounted sid) = true
+is_transaction Meta = true
+is_transaction (Opened handle inode) = true
+is_transaction _ = false
+
+-- an entry answers with a reply's numbers, and the line prints that reply
+pub record AnswersAsTree (p : Past) (act : Act) (tree_reply : Reply) : Type 0 where
+  pub kind : act.kind ≡ Answered (told_of tree_reply)
+  pub reply : line_reply p (told_of tree_reply) ≡ tree_reply
+
+-- The next entry of the client after its operation's transaction answers it, with the tree's reply to the operation on
+-- the state before the transaction.
+abbrev pub AnswersModel : Type 0
+AnswersModel = (run : Setup) (before between : List Act) (act answer : Act) → AllAllowed (at_start run) ((before ++ act ∷ between) ++ answer ∷ [])
+    → (act.client ≡ NO_CLIENT → ⊥) → IsTrue (is_transaction act.kind) → AllByRecursion (λ e. e.client ≡ act.client → ⊥) between → answer.client ≡ act.client
+    → (d : Doing) → ((begun_to act.line (reached run before)).state.clients act.client).doing ≡ Some d
+    → AnswersAsTree (begun_to answer.line (reached run (before ++ act ∷ between))) answer (transacted (begun_to act.line (reached run before)).state act.client act.at d.op).reply

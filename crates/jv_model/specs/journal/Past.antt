@@ -204,7 +204,7 @@ settled_reply _ = None
 abbrev pub reply_of : ModelClient → Doing → Told → Reply
 reply_of c doing told = elim (settled_reply doing.stage) [ None ↦ told_reply c doing told | Some settled ↦ settled ]
 
-abbrev refusal_reply : Told → Reply
+abbrev pub refusal_reply : Told → Reply
 refusal_reply (ToldRefused fault) = reply.Refused fault
 refusal_reply (Fine a b c d) = reply.Done
 refusal_reply (Looks first second len) = reply.Done
@@ -235,7 +235,7 @@ abbrev more_text : List ℕ
 more_text = with_feed (codes "more")
 
 -- what a request leaves due
-abbrev requested : Due → Due
+abbrev pub requested : Due → Due
 requested NoMore = NoMore
 requested (Refusal client fault) = Refusal client fault
 requested (MayLack client) = MayLack client
