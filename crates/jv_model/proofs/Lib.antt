@@ -22,3 +22,4 @@ pub mod JournalLooksLaws
 pub mod JournalDoingLaws
 pub mod JournalCloseLaws
 pub mod JournalAnswerLaws
+pub mod JournalReadLaws
