@@ -45,11 +45,11 @@ use Rattle.jv_model.proofs.JournalStates.{Entry, Steps, RefusedSubmission, Lacks
 
 -- tests
 
-and_first : (a b : Bool) → IsTrue (a && b) → IsTrue a
+pub and_first : (a b : Bool) → IsTrue (a && b) → IsTrue a
 and_first true b h = refl
 and_first false b h = absurd (cc)
 
-and_second : (a b : Bool) → IsTrue (a && b) → IsTrue b
+pub and_second : (a b : Bool) → IsTrue (a && b) → IsTrue b
 and_second true b h = h
 and_second false b h = absurd (cc)
 
@@ -84,11 +84,11 @@ pub record Sound (limits : Limits) (handles : List (Option OpenFile)) (pending :
   pub all : (profile d.op).flushes ≡ Everything → d.flush ≡ OfAll
   pub stage : StageOk d.does (is_flushed d.flush pending) d.stage
 
-abbrev SoundIf : Limits → List (Option OpenFile) → List PendingByte → Option Doing → Type 0
+abbrev pub SoundIf : Limits → List (Option OpenFile) → List PendingByte → Option Doing → Type 0
 SoundIf limits handles pending None = Unit {0}
 SoundIf limits handles pending (Some d) = Sound limits handles pending d
 
-abbrev SoundClient : Limits → ModelClient → Type 0
+abbrev pub SoundClient : Limits → ModelClient → Type 0
 SoundClient limits c = SoundIf limits c.handles c.pending c.doing
 
 abbrev staged : Stage → Doing → Doing
@@ -238,7 +238,7 @@ cleaning_flushed c d (Cleans k') k ok e = ok
 cleaning_flushed c d (Requesting requests) k ok e = ok
 cleaning_flushed c d (Replying r) k ok e = absurd (cc)
 
-stage_flushed : (c : ModelClient) (d : Doing) (stage : Stage) → StageOk d.does (is_flushed d.flush c.pending) d.stage → d.stage ≡ stage → StageOk d.does (is_flushed d.flush c.pending) stage
+pub stage_flushed : (c : ModelClient) (d : Doing) (stage : Stage) → StageOk d.does (is_flushed d.flush c.pending) d.stage → d.stage ≡ stage → StageOk d.does (is_flushed d.flush c.pending) stage
 stage_flushed c d stage ok e = subst (StageOk d.does (is_flushed d.flush c.pending)) e ok
 
 module _ (s : State) (client now : ℕ) (start : Start) (c : ModelClient) (d : Doing) (ok : StageOk d.does (is_flushed d.flush c.pending) d.stage) where
@@ -337,7 +337,7 @@ files_of handles d = (profile d.op).flushes ≡ ItsFiles → d.flush ≡ OfFiles
 handles_given : (entry : ℕ) (does : Does) (gift : Gift) (c : ModelClient) → gift ≡ Nothing → (given entry does gift c).handles ≡ c.handles
 handles_given entry does gift c e = ap (λ g. (given entry does g c).handles) e
 
-doing_given : (entry : ℕ) (does : Does) (gift : Gift) (c : ModelClient) → (given entry does gift c).doing ≡ c.doing
+pub doing_given : (entry : ℕ) (does : Does) (gift : Gift) (c : ModelClient) → (given entry does gift c).doing ≡ c.doing
 doing_given entry does (NewSession sid) c = refl
 doing_given entry does (NewHandle handle inode) c = refl
 doing_given entry does Nothing c = refl
@@ -533,7 +533,7 @@ sound run journal may line = holds_on run (λ pre s. AllSound run.limits s.clien
 
 -- what is committed where an operation is done
 
-cache_read : (limits : Limits) (b : Bool) (offset len : ℕ) → by_limits limits (if b then Answers answer.NoData else Reads offset len) ≡ Answers answer.CacheStats → ⊥
+pub cache_read : (limits : Limits) (b : Bool) (offset len : ℕ) → by_limits limits (if b then Answers answer.NoData else Reads offset len) ≡ Answers answer.CacheStats → ⊥
 cache_read limits true offset len e = cc
 cache_read limits false offset len e = cc
 
@@ -556,7 +556,7 @@ fine_not_failure (Fine a b c d) fine h = cc
 fine_not_failure (Looks first second len) fine h = cc
 fine_not_failure (ToldRefused fault) fine h = cc
 
-fine_not_refused : (told : Told) (r : Reply) → IsTrue (is_fine_answer (Answered told)) → told ≡ told_of r → IsTrue (is_refused r) → ⊥
+pub fine_not_refused : (told : Told) (r : Reply) → IsTrue (is_fine_answer (Answered told)) → told ≡ told_of r → IsTrue (is_refused r) → ⊥
 fine_not_refused told (reply.Refused fault) fine e h = let no : IsTrue (is_fine_answer (Answered (ToldRefused fault))) = subst (λ t. IsTrue (is_fine_answer (Answered t))) e fine in cc
 fine_not_refused told _ fine e h = cc
 

@@ -1,5 +1,5 @@
 -- How a journal so far, its clock and the text that it prints grow.
-use Rattle.std.proofs.Common.{◌≡◌, ℕ, zero, suc, ◌+◌, ◌-◌, ◌≤◌, ◌<◌, Bool, true, false, if◌then◌else◌, IfSome, MatchBool, MatchOption, inl, inr, List, [], ◌∷◌, ◌++◌, length, slice_get, Option, None, Some, refl, sym, ap, subst, ◌∙◌, arith, append_assoc}
+use Rattle.std.proofs.Common.{◌≡◌, ℕ, zero, suc, ◌+◌, ◌-◌, ◌≤◌, ◌<◌, Bool, true, false, if◌then◌else◌, IfSome, MatchBool, MatchOption, inl, inr, List, [], ◌∷◌, ◌++◌, length, slice_get, Option, None, Some, refl, sym, ap, subst, ◌∙◌, arith, append_assoc, ◌&&◌}
 use Rattle.std.specs.List.{AllByRecursion}
 use Rattle.std.proofs.lemmas.List.{append-nil}
 use Rattle.std.proofs.lemmas.Bool.Decides.{leb_tells, eqb_tells}
@@ -14,7 +14,7 @@ use Rattle.jv_model.specs.declared.op.Line.TheVariants.{Empty, Do, Begin, Step, 
 use Rattle.jv_model.specs.client.ModelClient.{ModelClient, Doing}
 use Rattle.jv_model.specs.client.Submission.{submission}
 use Rattle.jv_model.specs.journal.State.{State, with_client, after_step, of_doing, changed, effect}
-use Rattle.jv_model.specs.journal.Past.{Past, Due, at_start, begun, begun_by, begun_by_due, begun_to, begin_from, begin_next, turned, is_busy, is_workers, lined, asks_clock, after, advance, past, reached}
+use Rattle.jv_model.specs.journal.Past.{Past, Due, at_start, begun, begun_by, begun_by_due, begun_to, begin_from, begin_next, turned, is_busy, is_workers, lined, asks_clock, after, advance, past, reached, is_over}
 use Rattle.jv_model.specs.journal.Legal.{Allowed, AllAllowed, IsMoment, clock_moment, tick_of}
 use Rattle.jv_model.specs.journal.Laws.{JournalsGrow, EarlierTextStays, FollowsClock, Follows, OthersStay, EntriesAreCounted, text_to}
 
@@ -56,12 +56,13 @@ pub record Turned (p q : Past) : Type 0 where
   pub run : q.run ≡ p.run
   pub line : q.line ≡ p.line + 1
   pub printed : q.printed ≡ p.printed ++ p.said
+  pub complete : q.complete ≡ (p.complete && is_over p)
   pub at : q.at ≡ p.at
   pub count : q.state.count ≡ p.state.count
 
 turned_begin_from : (rest : List Line) (p : Past) → Turned p (begin_from rest p)
-turned_begin_from [] p = record { run = refl; line = refl; printed = refl; at = refl; count = refl }
-turned_begin_from (line ∷ rest) p = let f = frame_begun (turned p rest) line in record { run = f.run; line = f.line; printed = f.printed; at = f.at; count = f.count }
+turned_begin_from [] p = record { run = refl; line = refl; printed = refl; complete = refl; at = refl; count = refl }
+turned_begin_from (line ∷ rest) p = let f = frame_begun (turned p rest) line in record { run = f.run; line = f.line; printed = f.printed; complete = f.complete; at = f.at; count = f.count }
 
 pub turned_begin_next : (p : Past) → Turned p (begin_next p)
 unfolding begin_next

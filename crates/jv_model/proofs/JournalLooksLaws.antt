@@ -170,19 +170,19 @@ views_entry p act h = views_changed p.state act act.kind (has_operation p act (e
 
 -- what a view is
 
-abbrev tree_after : Setup → List Act → ℕ → Tree
+abbrev pub tree_after : Setup → List Act → ℕ → Tree
 tree_after run journal n = (reached run (take n journal)).state.tree
 
-abbrev IsLook : ℕ → ℕ → ℕ → Act → Type 0
+abbrev pub IsLook : ℕ → ℕ → ℕ → Act → Type 0
 IsLook client inode window act = (act.client ≡ client) × (act.kind ≡ Look inode window)
 
-abbrev LeavesFile : ℕ → ℕ → Act → Type 0
+abbrev pub LeavesFile : ℕ → ℕ → Act → Type 0
 LeavesFile client inode act = act.client ≡ client → changes_file inode act.kind ≡ false
 
-record IsShown (run : Setup) (pre : List Act) (client : ℕ) (view : View) : Type 0 where
-  looked : IsSomeAnd (entry_at pre view.entry) (IsLook client view.inode view.window)
-  unchanged : (later : ℕ) → view.entry < later → IfSome (entry_at pre later) (LeavesFile client view.inode)
-  content : view.content ≡ or_empty (content_at (tree_after run pre view.entry) view.inode)
+pub record IsShown (run : Setup) (pre : List Act) (client : ℕ) (view : View) : Type 0 where
+  pub looked : IsSomeAnd (entry_at pre view.entry) (IsLook client view.inode view.window)
+  pub unchanged : (later : ℕ) → view.entry < later → IfSome (entry_at pre later) (LeavesFile client view.inode)
+  pub content : view.content ≡ or_empty (content_at (tree_after run pre view.entry) view.inode)
 
 trees_same : (run : Setup) (pre : List Act) (e : Act) (n : ℕ) → n ≤ length pre → tree_after run (pre ++ e ∷ []) n ≡ tree_after run pre n
 trees_same run pre e n h = ap (λ acts. (reached run acts).state.tree) (take-append-le n pre (e ∷ []) h)
@@ -206,7 +206,7 @@ shown_later run pre e client view r g =
       content = r.content ∙ sym (ap (λ t. or_empty (content_at t view.inode)) (trees_same run pre e view.entry low));
     }
 
-abbrev AllShown : Setup → List Act → ℕ → List View → Type 0
+abbrev pub AllShown : Setup → List Act → ℕ → List View → Type 0
 AllShown run pre client views = AllByRecursion (IsShown run pre client) views
 
 all_later : (run : Setup) (pre : List Act) (e : Act) (client : ℕ) (views : List View) → AllShown run pre client views → (e.client ≡ client → (inode : ℕ) → changes_file inode e.kind ≡ false) → AllShown run (pre ++ e ∷ []) client views
@@ -228,9 +228,9 @@ all_off run pre e client inode (view ∷ views) only h = off_branch run pre e cl
 
 -- all views of all clients
 
-record Shown (run : Setup) (pre : List Act) (s : State) : Type 0 where
-  count : s.count ≡ length pre
-  clients : (c : ℕ) → AllShown run pre c (s.clients c).views
+pub record Shown (run : Setup) (pre : List Act) (s : State) : Type 0 where
+  pub count : s.count ≡ length pre
+  pub clients : (c : ℕ) → AllShown run pre c (s.clients c).views
 
 module _ (run : Setup) (pre : List Act) (s : State) (act : Act) (count : s.count ≡ length pre) (tree : (inode window : ℕ) → act.kind ≡ Look inode window → s.tree ≡ (reached run (pre ++ act ∷ [])).state.tree) where
   own_shown : (views : List View) → ViewsAfter s act.client act.kind views → AllShown run pre act.client (s.clients act.client).views → AllShown run (pre ++ act ∷ []) act.client views
@@ -283,7 +283,7 @@ shown_submits run pre s client o none h = record { count = h.count; clients = sh
 shown_start : (run : Setup) → Shown run [] (state_at_start run.start.tree)
 shown_start run = record { count = refl; clients = λ c. tt }
 
-shown : (run : Setup) (journal : List Act) → AllAllowed (at_start run) journal → (line : ℕ) → Shown run journal (begun_to line (reached run journal)).state
+pub shown : (run : Setup) (journal : List Act) → AllAllowed (at_start run) journal → (line : ℕ) → Shown run journal (begun_to line (reached run journal)).state
 shown run journal may line = holds_on run (Shown run) (shown_submits run) (shown_enters run) (shown_start run) journal may line
 
 -- what is found among the views
@@ -292,7 +292,7 @@ first_branch : (test : View → Bool) (x v : View) (rest : Option View) (b : Boo
 first_branch test x v rest true t P h g e = let same : x ≡ v = cc in (subst P same h, ap test (sym same) ∙ t)
 first_branch test x v rest false t P h g e = g e
 
-first_found : (test : View → Bool) (views : List View) (v : View) (P : View → Type 0) → AllByRecursion P views → first_that test views ≡ Some v → P v × IsTrue (test v)
+pub first_found : (test : View → Bool) (views : List View) (v : View) (P : View → Type 0) → AllByRecursion P views → first_that test views ≡ Some v → P v × IsTrue (test v)
 first_found test [] v P all e = absurd (cc)
 first_found test (x ∷ xs) v P all e = first_branch test x v (first_that test xs) (test x) refl P all.0 (first_found test xs v P all.1) e
 
@@ -307,7 +307,7 @@ fresh_is_of handle file window v h = record { inode = grind (arith, nat_tests); 
 abbrev seen_in : Setup → List Act → ℕ → ℕ → Content
 seen_in run journal look inode = or_empty (content_at (reached run (take look journal)).state.tree inode)
 
-view_seen : (run : Setup) (journal : List Act) (client handle : ℕ) (file : OpenFile) (window : ℕ) (v : View) → IsShown run journal client v → IsTrue (is_fresh handle file window v) → HasSeen run journal client file window v
+pub view_seen : (run : Setup) (journal : List Act) (client handle : ℕ) (file : OpenFile) (window : ℕ) (v : View) → IsShown run journal client v → IsTrue (is_fresh handle file window v) → HasSeen run journal client file window v
 view_seen run journal client handle file window v r h =
     let of = fresh_is_of handle file window v h in
     record {

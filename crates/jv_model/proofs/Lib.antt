@@ -43,3 +43,5 @@ pub mod JournalOwedLaws
 pub mod JournalLooksLaws
 pub mod JournalDoingLaws
 pub mod JournalCloseLaws
+pub mod JournalAnswerLaws
+pub mod JournalReadLaws

@@ -1,5 +1,5 @@
 //! What holds of every journal that is legal so far. Each law is a function that does nothing.
-ghost use Rattle.jv_model.specs.journal.Laws.{ClosesCommitWrites, NothingPending, FreshViewsAreFreshLooks, SettlesOwed, OwedCommits, JournalsGrow, EarlierTextStays, FollowsClock, OthersStay, EntriesAreCounted};
+ghost use Rattle.jv_model.specs.journal.Laws.{ReadsAreOfFreshLooks, AnswersModel, ClosesCommitWrites, NothingPending, FreshViewsAreFreshLooks, SettlesOwed, OwedCommits, JournalsGrow, EarlierTextStays, FollowsClock, OthersStay, EntriesAreCounted};
 
 /// A journal is legal so far if and only if each part of it is, from where the entries before it lead.
 pub fn journals_grow()
@@ -52,4 +52,15 @@ pub fn nothing_pending()
 /// position that was written, unless the client crashed meanwhile, or was answered that its session or the file is gone.
 pub fn closes_commit_writes()
     ensures { ClosesCommitWrites }
+{}
+
+/// After its metadata transaction an operation is answered, and with the tree's own reply on the state before the
+/// transaction.
+pub fn answers_model()
+    ensures { AnswersModel }
+{}
+
+/// A read returns the file's bytes as they were just after the fresh looks that it cites.
+pub fn reads_are_of_fresh_looks()
+    ensures { ReadsAreOfFreshLooks }
 {}

@@ -1,10 +1,10 @@
 -- What holds of every journal that is legal so far, in terms of its entries' numbers and lines.
-use Rattle.std.specs.Prelude.{◌≡◌, ℕ, ◌+◌, ◌≤◌, ◌<◌, Bool, true, false, ◌&&◌, not, ◌==◌, nat_lt, nat_le, IsTrue, IsSomeAnd, IfSome, ◌↔◌, ◌⊎◌, List, [], ◌∷◌, ◌++◌, length, take, Some}
+use Rattle.std.specs.Prelude.{◌≡◌, ℕ, ◌+◌, ◌-◌, ◌≤◌, ◌<◌, Bool, true, false, ◌&&◌, not, ◌==◌, nat_lt, nat_le, IsTrue, IsSomeAnd, IfSome, ◌↔◌, ◌⊎◌, List, [], ◌∷◌, ◌++◌, length, take, Option, Some}
 use Rattle.std.specs.List.{AllByRecursion, list_any}
 use Rattle.jv_model.specs.declared.limits.TheConstants.{LAST_MOMENT}
 use Rattle.jv_model.specs.declared.act.Act.{Act}
 use Rattle.jv_model.specs.declared.act.ActKind.{ActKind}
-use Rattle.jv_model.specs.declared.act.ActKind.TheVariants.{Commit, Settled, Crashed, Answered}
+use Rattle.jv_model.specs.declared.act.ActKind.TheVariants.{Mounted, Meta, Opened, Commit, Settled, Crashed, Answered}
 use Rattle.jv_model.specs.client.Origins.{Owed}
 use Rattle.jv_model.specs.tree.Tree.{content_at}
 use Rattle.jv_model.specs.declared.act.TheConstants.{NO_CLIENT}
@@ -14,10 +14,13 @@ use Rattle.jv_model.specs.declared.fault.Gone.TheVariants.{Session, Node}
 use Rattle.jv_model.specs.declared.op.Op.{Op}
 use Rattle.jv_model.specs.declared.op.Op.TheVariants as op
 use Rattle.jv_model.specs.run.Pending.{pending_of}
-use Rattle.jv_model.specs.client.ModelClient.{ModelClient, OpenFile, View, Doing, inode_at}
-use Rattle.jv_model.specs.journal.State.{State, effect, or_empty}
-use Rattle.jv_model.specs.journal.Reading.{fresh_view}
-use Rattle.jv_model.specs.journal.Past.{Setup, Past, at_start, begun_to, reached}
+use Rattle.jv_model.specs.client.ModelClient.{ModelClient, OpenFile, View, Doing, file_of, inode_at}
+use Rattle.jv_model.specs.journal.State.{State, effect, or_empty, transacted}
+use Rattle.jv_model.specs.journal.Steps.{told_of}
+use Rattle.jv_model.specs.declared.op.Reply.{Reply}
+use Rattle.jv_model.specs.journal.Reading.{Asked, asked_parts, bytes_between, fresh_view, is_full}
+use Rattle.jv_model.specs.declared.op.Reply.TheVariants.{Data}
+use Rattle.jv_model.specs.journal.Past.{Setup, Past, at_start, begun_to, reached, line_reply, reply_of}
 use Rattle.jv_model.specs.journal.Legal.{AllAllowed}
 use Rattle.jv_model.specs.journal.Looks.{entry_at, IsFreshLook}
 
@@ -181,3 +184,56 @@ ClosesCommitWrites = (run : Setup) (before between : List Act) (write close : Ac
     → AnswersClose (begun_to close.line (reached run (before ++ write ∷ between))) close handle
     → inode_at ((begun_to close.line (reached run (before ++ write ∷ between))).state.clients close.client) handle ≡ inode
     → (number : ℕ) × IsSomeAnd (entry_at between number) (ResolvesWrite write.client inode position)
+
+-- answers
+
+-- whether an entry is an operation's metadata transaction
+abbrev pub is_transaction : ActKind → Bool
+is_transaction (Mounted sid) = true
+is_transaction Meta = true
+is_transaction (Opened handle inode) = true
+is_transaction _ = false
+
+-- an entry answers with a reply's numbers, and the line prints that reply
+pub record AnswersAsTree (p : Past) (act : Act) (tree_reply : Reply) : Type 0 where
+  pub kind : act.kind ≡ Answered (told_of tree_reply)
+  pub reply : line_reply p (told_of tree_reply) ≡ tree_reply
+
+-- The next entry of the client after its operation's transaction answers it, with the tree's reply to the operation on
+-- the state before the transaction.
+abbrev pub AnswersModel : Type 0
+AnswersModel = (run : Setup) (before between : List Act) (act answer : Act) → AllAllowed (at_start run) ((before ++ act ∷ between) ++ answer ∷ [])
+    → (act.client ≡ NO_CLIENT → ⊥) → IsTrue (is_transaction act.kind) → AllByRecursion (λ e. e.client ≡ act.client → ⊥) between → answer.client ≡ act.client
+    → (d : Doing) → ((begun_to act.line (reached run before)).state.clients act.client).doing ≡ Some d
+    → AnswersAsTree (begun_to answer.line (reached run (before ++ act ∷ between))) answer (transacted (begun_to act.line (reached run before)).state act.client act.at d.op).reply
+
+-- reads
+
+-- bytes of a part of a file are those that it had just after a fresh look at its window
+pub record AreSeen (run : Setup) (journal : List Act) (client : ℕ) (file : OpenFile) (look : ℕ) (asked : Asked) (bytes : List ℕ) : Type 0 where
+  pub fresh : IsFreshLook journal client file asked.window look
+  pub same : bytes ≡ bytes_between (or_empty (content_at (reached run (take look journal)).state.tree file.inode)) asked.from asked.to
+
+-- Bytes of the parts of a range, one part for each window, by the looks cited for them, 0 for a window that wasn't read:
+-- the second window is read where the first one gave all that was asked of it.
+pub data AreRead (run : Setup) (journal : List Act) (client : ℕ) (opened : Option OpenFile) (parts : List Asked) (first second : ℕ) (bytes : List ℕ) : Type 0 where
+  NoPart : parts ≡ [] → first ≡ 0 → second ≡ 0 → bytes ≡ [] → AreRead run journal client opened parts first second bytes
+  OnePart : (file : OpenFile) (asked : Asked) (others : List Asked) → opened ≡ Some file → parts ≡ asked ∷ others → AreSeen run journal client file first asked bytes → second ≡ 0
+      → (others ≡ []) ⊎ (is_full asked bytes ≡ false) → AreRead run journal client opened parts first second bytes
+  TwoParts : (file : OpenFile) (asked other : Asked) (others : List Asked) (some more : List ℕ) → opened ≡ Some file → parts ≡ asked ∷ other ∷ others
+      → AreSeen run journal client file first asked some → length some ≡ asked.to - asked.from → AreSeen run journal client file second other more → bytes ≡ some ++ more
+      → AreRead run journal client opened parts first second bytes
+
+-- a read that is answered with two looks and a number returns so many bytes, which are those of the looks
+pub record Returns (run : Setup) (journal : List Act) (client : ℕ) (c : ModelClient) (d : Doing) (handle offset len first second number : ℕ) : Type 0 where
+  pub bytes : List ℕ
+  pub reply : reply_of c d (Looks first second number) ≡ Data bytes
+  pub count : number ≡ length bytes
+  pub read : AreRead run journal client (file_of c.handles handle) (asked_parts offset len) first second bytes
+
+-- a read returns the file's bytes as they were just after the fresh looks that it cites
+abbrev pub ReadsAreOfFreshLooks : Type 0
+ReadsAreOfFreshLooks = (run : Setup) (journal : List Act) (act : Act) → AllAllowed (at_start run) (journal ++ act ∷ []) → (act.client ≡ NO_CLIENT → ⊥)
+    → (d : Doing) → ((begun_to act.line (reached run journal)).state.clients act.client).doing ≡ Some d
+    → (handle offset len : ℕ) → d.op ≡ op.Read handle offset len → (first second number : ℕ) → act.kind ≡ Answered (Looks first second number)
+    → Returns run journal act.client ((begun_to act.line (reached run journal)).state.clients act.client) d handle offset len first second number
