@@ -1,5 +1,5 @@
 //! What holds of every journal that is legal so far. Each law is a function that does nothing.
-ghost use Rattle.jv_model.specs.journal.Laws.{EndedLinesHaveEntries, LinesHaveEntries, ReadsAreOfFreshLooks, AnswersModel, ClosesCommitWrites, NothingPending, FreshViewsAreFreshLooks, SettlesOwed, OwedCommits, JournalsGrow, EarlierTextStays, FollowsClock, OthersStay, EntriesAreCounted};
+ghost use Rattle.jv_model.specs.journal.Laws.{DrainsSettleAll, EndedLinesHaveEntries, LinesHaveEntries, ReadsAreOfFreshLooks, AnswersModel, ClosesCommitWrites, NothingPending, FreshViewsAreFreshLooks, SettlesOwed, OwedCommits, JournalsGrow, EarlierTextStays, FollowsClock, OthersStay, EntriesAreCounted};
 
 /// A journal is legal so far if and only if each part of it is, from where the entries before it lead.
 pub fn journals_grow()
@@ -73,4 +73,9 @@ pub fn lines_have_entries()
 /// Where no line may be cut off, each line of the script has its entries at the end of the run.
 pub fn ended_lines_have_entries()
     ensures { EndedLinesHaveEntries }
+{}
+
+/// A `drain` is done only where its client owes no commit.
+pub fn drains_settle_all()
+    ensures { DrainsSettleAll }
 {}

@@ -1,5 +1,5 @@
 -- What holds of every journal that is legal so far, in terms of its entries' numbers and lines.
-use Rattle.std.specs.Prelude.{◌≡◌, ℕ, zero, suc, ◌+◌, ◌-◌, ◌≤◌, ◌<◌, Bool, true, false, ◌&&◌, not, ◌==◌, nat_lt, nat_le, if◌then◌else◌, IsTrue, IsSomeAnd, IfSome, ◌↔◌, ◌⊎◌, List, [], ◌∷◌, ◌++◌, length, take, slice_get, Option, None, Some}
+use Rattle.std.specs.Prelude.{◌≡◌, ℕ, zero, suc, ◌+◌, ◌-◌, ◌≤◌, ◌<◌, Bool, true, false, ◌&&◌, ◌||◌, not, ◌==◌, nat_lt, nat_le, if◌then◌else◌, IsTrue, IsSomeAnd, IfSome, ◌↔◌, ◌⊎◌, List, [], ◌∷◌, ◌++◌, length, take, filter, map, slice_get, Option, None, Some}
 use Rattle.std.specs.List.{AllByRecursion, list_any}
 use Rattle.jv_model.specs.declared.limits.TheConstants.{LAST_MOMENT}
 use Rattle.jv_model.specs.declared.act.Act.{Act}
@@ -20,7 +20,7 @@ use Rattle.jv_model.specs.journal.Steps.{told_of}
 use Rattle.jv_model.specs.declared.op.Reply.{Reply}
 use Rattle.jv_model.specs.journal.Reading.{Asked, asked_parts, bytes_between, fresh_view, is_full}
 use Rattle.jv_model.specs.declared.op.Reply.TheVariants.{Data}
-use Rattle.jv_model.specs.journal.Past.{Setup, Past, at_start, begun_to, reached, line_reply, reply_of}
+use Rattle.jv_model.specs.journal.Past.{Setup, Past, at_start, begun_to, reached, line_reply, reply_of, DrainEntries}
 use Rattle.jv_model.specs.journal.Legal.{AllAllowed, Legal, may_be_cut}
 use Rattle.jv_model.specs.declared.act.Told.{Told}
 use Rattle.jv_model.specs.declared.fault.Fault.{Fault}
@@ -98,6 +98,12 @@ pub record IsOwedBySome (journal : List Act) (commit : ℕ) : Type 0 where
 abbrev pub SettlesOwed : Type 0
 SettlesOwed = (run : Setup) (journal : List Act) (act : Act) → AllAllowed (at_start run) (journal ++ act ∷ [])
     → (commit : ℕ) → act.kind ≡ Settled commit → IsOwedBySome journal commit
+
+-- a `drain` is done only where the client owes no commit
+abbrev pub DrainsSettleAll : Type 0
+DrainsSettleAll = (run : Setup) (journal : List Act) (act : Act) → AllAllowed (at_start run) (journal ++ act ∷ [])
+    → (client : ℕ) → (begun_to act.line (reached run journal)).due ≡ DrainEntries client → (a b c d : ℕ) → act.kind ≡ Answered (Fine a b c d)
+    → (commit : ℕ) → IsOwed journal client commit → ⊥
 
 -- fresh looks
 
