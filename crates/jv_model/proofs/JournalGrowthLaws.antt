@@ -25,32 +25,33 @@ pub record Frame (p q : Past) : Type 0 where
   pub line : q.line ≡ p.line
   pub printed : q.printed ≡ p.printed
   pub complete : q.complete ≡ p.complete
+  pub lines : q.rest ≡ p.rest
   pub at : q.at ≡ p.at
   pub count : q.state.count ≡ p.state.count
 
 frame_self : (p : Past) → Frame p p
-frame_self p = record { run = refl; line = refl; printed = refl; complete = refl; at = refl; count = refl }
+frame_self p = record { run = refl; line = refl; printed = refl; complete = refl; lines = refl; at = refl; count = refl }
 
 frame_due : (due : Due) (p : Past) (client : ℕ) (o : Op) (fault : Option Fault) → Frame p (begun_by_due due p client o fault)
-frame_due due p client o None = record { run = refl; line = refl; printed = refl; complete = refl; at = refl; count = refl }
-frame_due due p client o (Some fault) = record { run = refl; line = refl; printed = refl; complete = refl; at = refl; count = refl }
+frame_due due p client o None = record { run = refl; line = refl; printed = refl; complete = refl; lines = refl; at = refl; count = refl }
+frame_due due p client o (Some fault) = record { run = refl; line = refl; printed = refl; complete = refl; lines = refl; at = refl; count = refl }
 
 frame_idle : (p : Past) (due idle : Due) (said : List ℕ) (busy : Bool) → Frame p (if busy then record p { due = due } else record p { due = idle; said = said })
-frame_idle p due idle said true = record { run = refl; line = refl; printed = refl; complete = refl; at = refl; count = refl }
-frame_idle p due idle said false = record { run = refl; line = refl; printed = refl; complete = refl; at = refl; count = refl }
+frame_idle p due idle said true = record { run = refl; line = refl; printed = refl; complete = refl; lines = refl; at = refl; count = refl }
+frame_idle p due idle said false = record { run = refl; line = refl; printed = refl; complete = refl; lines = refl; at = refl; count = refl }
 
 frame_said : (p q : Past) (said : List ℕ) → Frame (record p { said = said }) q → Frame p q
-frame_said p q said f = record { run = f.run; line = f.line; printed = f.printed; complete = f.complete; at = f.at; count = f.count }
+frame_said p q said f = record { run = f.run; line = f.line; printed = f.printed; complete = f.complete; lines = f.lines; at = f.at; count = f.count }
 
-frame_begun : (p : Past) (line : Line) → Frame p (begun p line)
-frame_begun p Empty = record { run = refl; line = refl; printed = refl; complete = refl; at = refl; count = refl }
+pub frame_begun : (p : Past) (line : Line) → Frame p (begun p line)
+frame_begun p Empty = record { run = refl; line = refl; printed = refl; complete = refl; lines = refl; at = refl; count = refl }
 frame_begun p (Do client o) = frame_due _ p client o (submission (p.state.clients client) o)
-frame_begun p (Begin client o) = let f = frame_due _ (record p { said = _ }) client o (submission (p.state.clients client) o) in record { run = f.run; line = f.line; printed = f.printed; complete = f.complete; at = f.at; count = f.count }
+frame_begun p (Begin client o) = let f = frame_due _ (record p { said = _ }) client o (submission (p.state.clients client) o) in record { run = f.run; line = f.line; printed = f.printed; complete = f.complete; lines = f.lines; at = f.at; count = f.count }
 frame_begun p (Step client) = frame_idle p _ _ _ (is_busy p client)
 frame_begun p (Run client) = frame_idle p _ _ _ (is_busy p client)
-frame_begun p (Crash client) = record { run = refl; line = refl; printed = refl; complete = refl; at = refl; count = refl }
-frame_begun p (Drain client) = record { run = refl; line = refl; printed = refl; complete = refl; at = refl; count = refl }
-frame_begun p (Tick by) = record { run = refl; line = refl; printed = refl; complete = refl; at = refl; count = refl }
+frame_begun p (Crash client) = record { run = refl; line = refl; printed = refl; complete = refl; lines = refl; at = refl; count = refl }
+frame_begun p (Drain client) = record { run = refl; line = refl; printed = refl; complete = refl; lines = refl; at = refl; count = refl }
+frame_begun p (Tick by) = record { run = refl; line = refl; printed = refl; complete = refl; lines = refl; at = refl; count = refl }
 
 pub record Turned (p q : Past) : Type 0 where
   pub run : q.run ≡ p.run
@@ -148,6 +149,7 @@ pub record Entered (p : Past) (act : Act) (q : Past) : Type 0 where
   pub line : q.line ≡ p.line
   pub printed : q.printed ≡ p.printed
   pub complete : q.complete ≡ p.complete
+  pub lines : q.rest ≡ p.rest
   pub at : q.at ≡ act.at
   pub state : q.state ≡ effect p.state act
 
@@ -156,20 +158,21 @@ record SameText (p q : Past) : Type 0 where
   line : q.line ≡ p.line
   printed : q.printed ≡ p.printed
   complete : q.complete ≡ p.complete
+  lines : q.rest ≡ p.rest
 
 text_lined : (p : Past) (act : Act) (kind : ActKind) → SameText p (lined p act kind)
-text_lined p act (Answered told) = record { run = refl; line = refl; printed = refl; complete = refl }
-text_lined p act Crashed = record { run = refl; line = refl; printed = refl; complete = refl }
-text_lined p act (Ticked by) = record { run = refl; line = refl; printed = refl; complete = refl }
-text_lined p act _ = record { run = refl; line = refl; printed = refl; complete = refl }
+text_lined p act (Answered told) = record { run = refl; line = refl; printed = refl; complete = refl; lines = refl }
+text_lined p act Crashed = record { run = refl; line = refl; printed = refl; complete = refl; lines = refl }
+text_lined p act (Ticked by) = record { run = refl; line = refl; printed = refl; complete = refl; lines = refl }
+text_lined p act _ = record { run = refl; line = refl; printed = refl; complete = refl; lines = refl }
 
 text_of_line : (p q : Past) (asked : ℕ) (worker : Bool) → SameText p q → SameText p (if worker then p else record q { asked = asked })
-text_of_line p q asked true s = record { run = refl; line = refl; printed = refl; complete = refl }
-text_of_line p q asked false s = record { run = s.run; line = s.line; printed = s.printed; complete = s.complete }
+text_of_line p q asked true s = record { run = refl; line = refl; printed = refl; complete = refl; lines = refl }
+text_of_line p q asked false s = record { run = s.run; line = s.line; printed = s.printed; complete = s.complete; lines = s.lines }
 
 pub entered : (p : Past) (act : Act) → Entered p act (after p act)
 unfolding after
-entered p act = let s = text_of_line p (lined p act act.kind) _ (is_workers p) (text_lined p act act.kind) in record { run = s.run; line = s.line; printed = s.printed; complete = s.complete; at = refl; state = refl }
+entered p act = let s = text_of_line p (lined p act act.kind) _ (is_workers p) (text_lined p act act.kind) in record { run = s.run; line = s.line; printed = s.printed; complete = s.complete; lines = s.lines; at = refl; state = refl }
 
 pub advanced : (p : Past) (act : Act) → Entered (begun_to act.line p) act (advance p act)
 unfolding advance

@@ -1,5 +1,5 @@
 -- Owed commits by the journal's entries, and what cleaning and settling name.
-use Rattle.std.proofs.Common.{◌≡◌, ℕ, ◌+◌, ◌≤◌, ◌⊎◌, Bool, true, false, ◌&&◌, ◌||◌, not, ◌==◌, if◌then◌else◌, IsTrue, IsSomeAnd, IfSome, inl, inr, List, [], ◌∷◌, ◌++◌, length, filter, Option, None, Some, refl, sym, ap, subst, ◌∙◌, arith, length-append}
+use Rattle.std.proofs.Common.{◌≡◌, ℕ, ◌+◌, ◌≤◌, ◌⊎◌, Bool, true, false, ◌&&◌, ◌||◌, not, ◌==◌, if◌then◌else◌, IsTrue, IsSomeAnd, IfSome, inl, inr, List, [], ◌∷◌, ◌++◌, length, filter, Option, None, Some, refl, sym, ap, subst, ◌∙◌, arith, length-append, MatchBool}
 use Rattle.std.specs.List.{list_any}
 use Rattle.std.proofs.lemmas.Bool.Decides.{nat_tests, leb_tells, eqb_tells}
 use Rattle.jv_model.specs.declared.act.Act.{Act}
@@ -13,10 +13,10 @@ use Rattle.jv_model.specs.client.Origins.{Owed}
 use Rattle.jv_model.specs.client.Submission.{submission, submitted}
 use Rattle.jv_model.specs.journal.State.{State, state_at_start, set_client, after_step, after_other, of_doing, changed, effect}
 use Rattle.jv_model.specs.journal.Steps.{MayStep, is_failure, owes_none}
-use Rattle.jv_model.specs.journal.Past.{Setup, Past, at_start, begun_to, reached}
-use Rattle.jv_model.specs.journal.Legal.{Allowed, AllAllowed, IsPublish, IsRefusal, Refuses, LacksMemory as RefusalLacks, Drains, Sends, Ends, Fails}
+use Rattle.jv_model.specs.journal.Past.{Setup, Past, DrainEntries, at_start, begun_to, is_workers, reached}
+use Rattle.jv_model.specs.journal.Legal.{Allowed, AllAllowed, OfLine, OfWorker, IsPublish, IsRefusal, Refuses, LacksMemory as RefusalLacks, Drains, Sends, Ends, Fails}
 use Rattle.jv_model.specs.journal.Looks.{entry_at}
-use Rattle.jv_model.specs.journal.Laws.{IsOwed, OwedCommits, SettlesOwed, leaves_staged, settles, is_owed_by}
+use Rattle.jv_model.specs.journal.Laws.{IsOwed, OwedCommits, SettlesOwed, DrainsSettleAll, leaves_staged, settles, is_owed_by}
 use Rattle.jv_model.proofs.JournalGrowthLaws.{AllAllowed-parts}
 use Rattle.jv_model.proofs.JournalStates.{Entry, Steps, RefusedSubmission, LacksMemory, Crashes, Publishes, OfDrain, Ticks, entry_of, entry_before, entry_last, entry_past, entry_within, none_entered, holds, holds_on}
 
@@ -339,3 +339,22 @@ drain_ends s client kind a b c d k (Fails told h e) =
     let same : Fine a b c d ≡ told = cc in
     let f : IsTrue (is_failure (Fine a b c d)) = subst (λ t. IsTrue (is_failure t)) (sym same) h in
     absurd (cc)
+
+-- who answers that nothing is owed
+
+drain_at : (p : Past) (act : Act) (client a b c d : ℕ) (worker : Bool) → p.due ≡ DrainEntries client → act.kind ≡ Answered (Fine a b c d) → MatchBool worker (OfWorker p act) (OfLine p act p.due) → IsTrue (owes_none p.state client)
+drain_at p act client a b c d true due k h = absurd (subst (IsPublish p.state) k h.2)
+drain_at p act client a b c d false due k h = let t : OfLine p act (DrainEntries client) = subst (OfLine p act) due h in drain_ends p.state client act.kind a b c d k t.1
+
+none_is_owed : (run : Setup) (journal : List Act) → AllAllowed (at_start run) journal → (line client commit : ℕ) → IsTrue (owes_none (begun_to line (reached run journal)).state client) → IsOwed journal client commit → ⊥
+none_is_owed run journal may line client commit none owed =
+    let o = owing_on run journal may line in
+    let there = o.shows client commit owed in
+    let off = none_owed client commit (begun_to line (reached run journal)).state.owed none in
+    cc
+
+pub drained : DrainsSettleAll
+drained run journal act may client due a b c d k commit owed =
+    let parts = AllAllowed-parts (at_start run) journal (act ∷ []) may in
+    let p = begun_to act.line (reached run journal) in
+    none_is_owed run journal parts.0 act.line client commit (drain_at p act client a b c d (is_workers p) due k parts.1.0.stands) owed

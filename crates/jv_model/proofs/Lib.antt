@@ -45,3 +45,4 @@ pub mod JournalDoingLaws
 pub mod JournalCloseLaws
 pub mod JournalAnswerLaws
 pub mod JournalReadLaws
+pub mod JournalLineLaws

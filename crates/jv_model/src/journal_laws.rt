@@ -1,5 +1,5 @@
 //! What holds of every journal that is legal so far. Each law is a function that does nothing.
-ghost use Rattle.jv_model.specs.journal.Laws.{ReadsAreOfFreshLooks, AnswersModel, ClosesCommitWrites, NothingPending, FreshViewsAreFreshLooks, SettlesOwed, OwedCommits, JournalsGrow, EarlierTextStays, FollowsClock, OthersStay, EntriesAreCounted};
+ghost use Rattle.jv_model.specs.journal.Laws.{DrainsSettleAll, EndedLinesHaveEntries, LinesHaveEntries, ReadsAreOfFreshLooks, AnswersModel, ClosesCommitWrites, NothingPending, FreshViewsAreFreshLooks, SettlesOwed, OwedCommits, JournalsGrow, EarlierTextStays, FollowsClock, OthersStay, EntriesAreCounted};
 
 /// A journal is legal so far if and only if each part of it is, from where the entries before it lead.
 pub fn journals_grow()
@@ -63,4 +63,19 @@ pub fn answers_model()
 /// A read returns the file's bytes as they were just after the fresh looks that it cites.
 pub fn reads_are_of_fresh_looks()
     ensures { ReadsAreOfFreshLooks }
+{}
+
+/// Where an entry stands on a later line, each line before has its entries, and no other.
+pub fn lines_have_entries()
+    ensures { LinesHaveEntries }
+{}
+
+/// Where no line may be cut off, each line of the script has its entries at the end of the run.
+pub fn ended_lines_have_entries()
+    ensures { EndedLinesHaveEntries }
+{}
+
+/// A `drain` is done only where its client owes no commit.
+pub fn drains_settle_all()
+    ensures { DrainsSettleAll }
 {}

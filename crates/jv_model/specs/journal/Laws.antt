@@ -1,10 +1,10 @@
 -- What holds of every journal that is legal so far, in terms of its entries' numbers and lines.
-use Rattle.std.specs.Prelude.{◌≡◌, ℕ, ◌+◌, ◌-◌, ◌≤◌, ◌<◌, Bool, true, false, ◌&&◌, not, ◌==◌, nat_lt, nat_le, IsTrue, IsSomeAnd, IfSome, ◌↔◌, ◌⊎◌, List, [], ◌∷◌, ◌++◌, length, take, Option, Some}
+use Rattle.std.specs.Prelude.{◌≡◌, ℕ, zero, suc, ◌+◌, ◌-◌, ◌≤◌, ◌<◌, Bool, true, false, ◌&&◌, ◌||◌, not, ◌==◌, nat_lt, nat_le, if◌then◌else◌, IsTrue, IsSomeAnd, IfSome, ◌↔◌, ◌⊎◌, List, [], ◌∷◌, ◌++◌, length, take, filter, map, slice_get, Option, None, Some}
 use Rattle.std.specs.List.{AllByRecursion, list_any}
 use Rattle.jv_model.specs.declared.limits.TheConstants.{LAST_MOMENT}
 use Rattle.jv_model.specs.declared.act.Act.{Act}
 use Rattle.jv_model.specs.declared.act.ActKind.{ActKind}
-use Rattle.jv_model.specs.declared.act.ActKind.TheVariants.{Mounted, Meta, Opened, Commit, Settled, Crashed, Answered}
+use Rattle.jv_model.specs.declared.act.ActKind.TheVariants.{Mounted, Meta, Opened, Commit, Settled, Crashed, Ticked, Answered}
 use Rattle.jv_model.specs.client.Origins.{Owed}
 use Rattle.jv_model.specs.tree.Tree.{content_at}
 use Rattle.jv_model.specs.declared.act.TheConstants.{NO_CLIENT}
@@ -20,8 +20,12 @@ use Rattle.jv_model.specs.journal.Steps.{told_of}
 use Rattle.jv_model.specs.declared.op.Reply.{Reply}
 use Rattle.jv_model.specs.journal.Reading.{Asked, asked_parts, bytes_between, fresh_view, is_full}
 use Rattle.jv_model.specs.declared.op.Reply.TheVariants.{Data}
-use Rattle.jv_model.specs.journal.Past.{Setup, Past, at_start, begun_to, reached, line_reply, reply_of}
-use Rattle.jv_model.specs.journal.Legal.{AllAllowed}
+use Rattle.jv_model.specs.journal.Past.{Setup, Past, at_start, begun_to, reached, line_reply, reply_of, DrainEntries}
+use Rattle.jv_model.specs.journal.Legal.{AllAllowed, Legal, may_be_cut}
+use Rattle.jv_model.specs.declared.act.Told.{Told}
+use Rattle.jv_model.specs.declared.fault.Fault.{Fault}
+use Rattle.jv_model.specs.declared.op.Line.{Line}
+use Rattle.jv_model.specs.declared.op.Line.TheVariants.{Empty, Do, Begin, Step, Run, Crash, Drain, Tick}
 use Rattle.jv_model.specs.journal.Looks.{entry_at, IsFreshLook}
 
 -- growth
@@ -94,6 +98,12 @@ pub record IsOwedBySome (journal : List Act) (commit : ℕ) : Type 0 where
 abbrev pub SettlesOwed : Type 0
 SettlesOwed = (run : Setup) (journal : List Act) (act : Act) → AllAllowed (at_start run) (journal ++ act ∷ [])
     → (commit : ℕ) → act.kind ≡ Settled commit → IsOwedBySome journal commit
+
+-- a `drain` is done only where the client owes no commit
+abbrev pub DrainsSettleAll : Type 0
+DrainsSettleAll = (run : Setup) (journal : List Act) (act : Act) → AllAllowed (at_start run) (journal ++ act ∷ [])
+    → (client : ℕ) → (begun_to act.line (reached run journal)).due ≡ DrainEntries client → (a b c d : ℕ) → act.kind ≡ Answered (Fine a b c d)
+    → (commit : ℕ) → IsOwed journal client commit → ⊥
 
 -- fresh looks
 
@@ -237,3 +247,57 @@ ReadsAreOfFreshLooks = (run : Setup) (journal : List Act) (act : Act) → AllAll
     → (d : Doing) → ((begun_to act.line (reached run journal)).state.clients act.client).doing ≡ Some d
     → (handle offset len : ℕ) → d.op ≡ op.Read handle offset len → (first second number : ℕ) → act.kind ≡ Answered (Looks first second number)
     → Returns run journal act.client ((begun_to act.line (reached run journal)).state.clients act.client) d handle offset len first second number
+
+-- lines
+
+abbrev pub is_answer : ActKind → Bool
+is_answer (Answered told) = true
+is_answer _ = false
+
+-- the line with a number, the first one being 1
+abbrev pub line_at : List Line → ℕ → Option Line
+line_at script zero = None
+line_at script (suc index) = slice_get script index
+
+-- what the entries of a line do, but for those of uploading threads, in a journal whose first entry has this number
+abbrev pub kinds_on : (ℕ → Bool) → ℕ → ℕ → List Act → List ActKind
+kinds_on by_worker line number [] = []
+kinds_on by_worker line number (act ∷ acts) = (if (act.line == line) && not (by_worker number) then act.kind ∷ kinds_on by_worker line (number + 1) acts else kinds_on by_worker line (number + 1) acts)
+
+-- the last one answers, and no other
+pub record EndsAnswered (kinds : List ActKind) : Type 0 where
+  pub before : List ActKind
+  pub told : Told
+  pub whole : kinds ≡ before ++ Answered told ∷ []
+  pub only : AllByRecursion (λ kind. is_answer kind ≡ false) before
+
+pub record IsRefusedOnly (kinds : List ActKind) : Type 0 where
+  pub fault : Fault
+  pub same : kinds ≡ Answered (ToldRefused fault) ∷ []
+
+-- the entries of one step, or none where nothing is in progress
+pub data IsOneStep (kinds : List ActKind) : Type 0 where
+  Idle : kinds ≡ [] → IsOneStep kinds
+  OneEntry : (kind : ActKind) → kinds ≡ kind ∷ [] → IsOneStep kinds
+  AndAnswer : (kind : ActKind) (told : Told) → kinds ≡ kind ∷ Answered told ∷ [] → IsOneStep kinds
+
+-- The entries that a line has: a refused operation has its answer alone, and one that was begun none.
+abbrev pub FitsLine : Line → List ActKind → Type 0
+FitsLine Empty kinds = kinds ≡ []
+FitsLine (Do client o) kinds = EndsAnswered kinds
+FitsLine (Begin client o) kinds = (kinds ≡ []) ⊎ IsRefusedOnly kinds
+FitsLine (Step client) kinds = IsOneStep kinds
+FitsLine (Run client) kinds = (kinds ≡ []) ⊎ EndsAnswered kinds
+FitsLine (Crash client) kinds = kinds ≡ Crashed ∷ []
+FitsLine (Drain client) kinds = EndsAnswered kinds
+FitsLine (Tick by) kinds = kinds ≡ Ticked by ∷ []
+
+-- where an entry stands on a later line, each line before has its entries
+abbrev pub LinesHaveEntries : Type 0
+LinesHaveEntries = (run : Setup) (journal : List Act) (act : Act) → AllAllowed (at_start run) (journal ++ act ∷ [])
+    → (line : ℕ) → line < act.line → IfSome (line_at run.script line) (λ l. FitsLine l (kinds_on run.by_worker line 1 journal))
+
+-- where no line may be cut off, each line has its entries at the end
+abbrev pub EndedLinesHaveEntries : Type 0
+EndedLinesHaveEntries = (run : Setup) (journal : List Act) → Legal run journal → may_be_cut run.status ≡ false
+    → (line : ℕ) → IfSome (line_at run.script line) (λ l. FitsLine l (kinds_on run.by_worker line 1 journal))
