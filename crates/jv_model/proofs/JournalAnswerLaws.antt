@@ -129,8 +129,8 @@ first_false true b e = absurd (cc)
 first_false false b e = refl
 
 incomplete_by : (n : ℕ) (p : Past) → is_over p ≡ false → (begun_by (suc n) p).complete ≡ false
-incomplete_by zero p e = (turned_begin_next p).complete ∙ both_false p.complete (is_over p) e
-incomplete_by (suc n) p e = (turned_begin_next (begun_by (suc n) p)).complete ∙ first_false (begun_by (suc n) p).complete (is_over (begun_by (suc n) p)) (incomplete_by n p e)
+incomplete_by zero p e = (turned_begin_next p).complete (both_false p.complete (is_over p) e)
+incomplete_by (suc n) p e = (turned_begin_next (begun_by (suc n) p)).complete (first_false (begun_by (suc n) p).complete (is_over (begun_by (suc n) p)) (incomplete_by n p e))
 
 incomplete_next : (k : ℕ) (p : Past) → 0 < k → is_over p ≡ false → (begun_by k p).complete ≡ false
 incomplete_next zero p h e = absurd (omega arith)

@@ -365,7 +365,7 @@ module _ (run : Setup) where
         count = h.count;
         lines = rest_next run.script p.line [] r.after_it;
         later = λ n high. h.later n (omega arith);
-        earlier = λ c n low. up_to pre p h c n (omega arith);
+        earlier = λ c n low. absurd (let no : false ≡ true = c in cc);
         present = no_line _ _ (line_next run.script p.line None r.none_there);
       }
   lined_from pre p (line ∷ lines) e h =
