@@ -6,10 +6,6 @@ pub const ROOT: u64 = 1;
 /// The inode of the trash, which no entry names; the directories of its hours follow it.
 pub const TRASH_ROOT: u64 = 9_223_372_032_828_243_968;
 
-/// The inode of the directory of the first hour of 1970, which would have the trash's own by its hour: one past that of
-/// the last hour that the clock has.
-pub const FIRST_HOUR: u64 = 9_223_372_032_866_421_456;
-
 /// The last moment of the clock, in seconds since the start of 1970.
 pub const LAST_MOMENT: u64 = 137_438_953_471;
 
@@ -52,14 +48,11 @@ pub const MAX_PATH: usize = 4_096;
 /// The most symlinks that are followed in one path (`SYMLOOP_MAX`).
 pub const MAX_SYMLINKS: u32 = 40;
 
-/// The seconds of an hour.
-pub const HOUR: u64 = 3_600;
+/// The most blocks that one read misses.
+pub const MAX_MISSES: u32 = 10;
 
-/// The seconds of a day.
-pub const DAY: u64 = 86_400;
-
-/// The seconds after which a session that shows no sign of life may be expired.
-pub const SESSION_LIFE: u64 = 60;
+/// The most items that one `clean` takes.
+pub const MAX_ITEMS: u64 = 65_536;
 
 /// The longest text in bytes that says where the objects lie.
 pub const MAX_BUCKET: usize = 1_024;
@@ -84,15 +77,6 @@ pub const MAX_DATA: u64 = 8_388_608;
 
 /// The most open handles of a client.
 pub const MAX_HANDLES: usize = 1_024;
-
-/// The seconds after which blocks that no commit named are taken for leaked, and their commit comes too late.
-pub const UPLOAD_LIFE: u64 = 3_600;
-
-/// The most blocks that one read misses.
-pub const MAX_MISSES: u32 = 10;
-
-/// The most items that one `clean` takes.
-pub const MAX_ITEMS: u64 = 65_536;
 
 /// The bytes that may wait for their commit in a client where no option sets another number.
 pub const DEFAULT_BUFFER: u64 = 33_554_432;

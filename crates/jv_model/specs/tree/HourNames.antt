@@ -1,6 +1,6 @@
 -- The names of hours, `YYYY-MM-DD-HH` in UTC by the Gregorian calendar.
 use Rattle.std.specs.Prelude.{ℕ, ◌+◌, ◌-◌, ◌*◌, ◌/◌, ◌%◌, nat_lt, if◌then◌else◌, List, [], ◌∷◌, ◌++◌}
-use Rattle.jv_model.specs.declared.limits.TheConstants.{HOUR, DAY}
+use Rattle.jv_model.specs.declared.lifetimes.TheConstants.{HOUR, DAY}
 
 -- The calendar repeats after 400 years. Here its years begin on the first of March, so that a leap day ends its year,
 -- and its eras of 400 years on the first of March of a year that 400 divides.

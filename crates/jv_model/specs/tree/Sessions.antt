@@ -2,7 +2,7 @@
 -- that expired is ended by a cleaning. A session keeps files without entries that its client has open.
 use Rattle.std.specs.Prelude.{ℕ, ◌+◌, true, false, ◌&&◌, not, ◌==◌, nat_lt, nat_le, Option, Result}
 use Rattle.std.specs.Option.{option_map}
-use Rattle.jv_model.specs.declared.limits.TheConstants.{SESSION_LIFE}
+use Rattle.jv_model.specs.declared.lifetimes.TheConstants.{SESSION_LIFE}
 use Rattle.jv_model.specs.declared.fault.Fault.{Fault}
 use Rattle.jv_model.specs.declared.fault.Fault.TheVariants.{NoSpace, Stale}
 use Rattle.jv_model.specs.declared.fault.Gone.TheVariants.{Session}

@@ -2,7 +2,8 @@
 -- volume's days. The names there, and the inodes of hours, are this project's own.
 use Rattle.std.specs.Prelude.{ℕ, ◌+◌, ◌-◌, ◌*◌, Bool, ◌&&◌, ◌==◌, nat_le, if◌then◌else◌, List, ◌∷◌, ◌++◌, take, Option, None, Some, decimal}
 use Rattle.std.specs.Option.{option_map}
-use Rattle.jv_model.specs.declared.limits.TheConstants.{MAX_NAME, HOUR, DAY, FIRST_HOUR}
+use Rattle.jv_model.specs.declared.limits.TheConstants.{MAX_NAME}
+use Rattle.jv_model.specs.declared.lifetimes.TheConstants.{HOUR, DAY, FIRST_HOUR}
 use Rattle.jv_model.specs.declared.setting.Setting.{Setting}
 use Rattle.jv_model.specs.FiniteMap.{remove, first_where}
 use Rattle.jv_model.specs.tree.Tree.{Tree, Directory, EntryKey, new_node, read_only_mode, trash_root, node_at, trash_entry}

@@ -3,7 +3,8 @@
 use Rattle.std.specs.Prelude.{ℕ, zero, suc, Bool, true, false, ◌&&◌, ◌||◌, not, ◌==◌, nat_le, nat_eq, if◌then◌else◌, List, []}
 use Rattle.std.specs.Prelude.{◌∷◌, ◌++◌, filter, length, Option, None, Some, Result, Ok, Err, codes}
 use Rattle.std.specs.Cmp.Lexicographic.{pointwise}
-use Rattle.jv_model.specs.declared.limits.TheConstants.{MAX_NAME, MAX_PATH, MAX_SYMLINKS}
+use Rattle.jv_model.specs.declared.limits.TheConstants.{MAX_NAME, MAX_PATH}
+use Rattle.jv_model.specs.declared.limits.TheConstants.{MAX_SYMLINKS}
 use Rattle.jv_model.specs.declared.fault.Fault.{Fault}
 use Rattle.jv_model.specs.declared.fault.Fault.TheVariants.{NotFound, NotADirectory, Invalid, NameTooLong, SymlinkLoop}
 use Rattle.jv_model.specs.tree.Attempt.{◌>>=◌, require, some_or}

@@ -1,0 +1,25 @@
+-- Closed examples of the definitions: scripts with what they do and print, and journals that are legal or not.
+pub mod TreeRuns
+pub mod TreeExamples
+pub mod WalkExamples
+pub mod TrashExamples
+pub mod RemovingExamples
+pub mod RenamingExamples
+pub mod SessionsExamples
+pub mod FileBytesExamples
+pub mod MakingExamples
+pub mod HourNamesExamples
+pub mod JournalRuns
+pub mod CloseToOpenExamples
+pub mod CrashExamples
+pub mod LateCommitExamples
+pub mod WritebackExamples
+pub mod CompactionExamples
+pub mod CleaningExamples
+pub mod TreeJournalExamples
+pub mod RefusedJournals
+pub mod RefusedReads
+pub mod RefusedCommits
+pub mod RefusedSteps
+pub mod RefusedCleanings
+pub mod RefusalLaws

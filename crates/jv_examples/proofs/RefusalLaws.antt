@@ -1,0 +1,255 @@
+-- What an entry wants, in the form in which closed examples of journals that may not be use it.
+use Rattle.std.proofs.Common.{◌≡◌, ◌≤◌, ◌+◌, ℕ, Bool, true, false, IsTrue, Option, None, Some, List, [], ◌∷◌, ◌++◌, length, refl, sym, arith, ap, ◌∙◌, subst}
+use Rattle.std.specs.Option.{option_map}
+use Rattle.jv_model.specs.declared.lifetimes.TheConstants.{UPLOAD_LIFE}
+use Rattle.jv_model.specs.declared.act.Act.{Act}
+use Rattle.jv_model.specs.declared.act.ActKind.{ActKind}
+use Rattle.jv_model.specs.declared.act.Told.{Told}
+use Rattle.jv_model.specs.declared.act.Told.TheVariants.{Fine, Looks, Refused as ToldRefused}
+use Rattle.jv_model.specs.declared.fault.Fault.{Fault}
+use Rattle.jv_model.specs.declared.fault.Fault.TheVariants.{TryAgain, TimedOut, NoMemory}
+use Rattle.jv_model.specs.declared.op.Op.{Op}
+use Rattle.jv_model.specs.declared.op.Reply.{Reply}
+use Rattle.jv_model.specs.declared.profile.Answer.TheVariants.{CacheStats}
+use Rattle.jv_model.specs.declared.profile.Does.{Does}
+use Rattle.jv_model.specs.declared.profile.Does.TheVariants.{Answers, Collects, Uploads}
+use Rattle.jv_model.specs.client.ModelClient.{ModelClient, Doing, OpenFile, View, Flush, Stage, Working, LookedAgain, Compacting, Replying, is_replying}
+use Rattle.jv_model.specs.client.Origins.{Origin, Start as AtStart, Zero, Committed, Made, missing_commit}
+use Rattle.jv_model.specs.client.Profile.{handle_of}
+use Rattle.jv_model.specs.journal.Reading.{fresh_view, reading}
+use Rattle.jv_model.specs.journal.State.{State, answer_then}
+use Rattle.jv_model.specs.journal.Steps.{Start, IsEntry, MayStep, MayAnswer, Fails, Settles, AtOnce, CountsCache, ReadsViews, CleanedUp, HasCompacted, TooShort, HasReplaced, HasCollected, HasUploaded, Sent, FoundNone, Refuses}
+use Rattle.jv_model.specs.journal.Steps.{IsRefusedIn, SessionGone, InodeGone, CommitLate, CommitTooLarge, NumberRefused, CompactionCrowded, CompactionLate, AnotherList, BlockOwed, MissedTooOften, InReading, InCompaction}
+use Rattle.jv_model.specs.journal.Steps.{AnswersAtOnce, ReadsFresh, MayBeGone, Owes, MayBeCleaned, MissesBlock, may_be_cleaned, asked_of, file_in_use, begins_step, told_of, is_failure}
+use Rattle.jv_model.specs.journal.Past.{Past, begun_to, advance, past}
+use Rattle.jv_model.specs.journal.Legal.{Allowed, AllAllowed}
+
+pub never : false ≡ true → ⊥
+never e = absurd (cc)
+
+-- each entry of a journal may stand where it stands
+pub entry_is_allowed : (p : Past) (acts : List Act) (act : Act) (more : List Act) → AllAllowed p (acts ++ act ∷ more) → Allowed (begun_to act.line (past p acts)) act
+entry_is_allowed p [] act more all = all.0
+entry_is_allowed p (before ∷ acts) act more all = entry_is_allowed (advance p before) acts act more all.1
+
+abbrev or_else : {X : Type 0} → X → Option X → X
+or_else other None = other
+or_else other (Some x) = x
+
+pub same_some : {X : Type 0} {x y : X} → ◌≡◌ {A = Option X} (Some x) (Some y) → x ≡ y
+same_some {x = x} e = ap (or_else x) e
+
+-- an entry of the operation that is known to be in progress
+pub own_step : {start : Start} {alone : Bool} {s : State} {client now : ℕ} {kind : ActKind} {begins : Bool} {d : Doing}
+    → IsEntry start alone s client now kind begins → (s.clients client).doing ≡ Some d → MayStep start alone s client now (s.clients client) d kind
+own_step {start} {alone} {s} {client} {now} {kind} h busy = subst (λ x. MayStep start alone s client now (s.clients client) x kind) (same_some (sym h.busy ∙ busy)) h.may
+
+pub own_begins : {start : Start} {alone : Bool} {s : State} {client now : ℕ} {kind : ActKind} {begins : Bool} {d : Doing}
+    → IsEntry start alone s client now kind begins → (s.clients client).doing ≡ Some d → begins_step d kind ≡ begins
+own_begins {kind = kind} h busy = ap (λ x. begins_step x kind) (same_some (sym busy ∙ h.busy)) ∙ h.begins_is
+
+abbrev is_at_work : Stage → Bool
+is_at_work (Working quiets started) = true
+is_at_work _ = false
+
+-- operations that are answered in numbers which aren't those of the tree
+abbrev has_own_numbers : Does → Bool
+has_own_numbers (Answers CacheStats) = true
+has_own_numbers Collects = true
+has_own_numbers Uploads = true
+has_own_numbers _ = false
+
+-- an operation at work that is done is answered by what it answers at once
+pub fine_at_once : {start : Start} {alone : Bool} {s : State} {client now : ℕ} {c : ModelClient} {d : Doing} {m n k l : ℕ}
+    → is_at_work d.stage ≡ true → has_own_numbers d.does ≡ false → MayAnswer start alone s client now c d (Fine m n k l) → AnswersAtOnce c d (Fine m n k l)
+fine_at_once work own (Fails must fails) = absurd (cc)
+fine_at_once work own (Settles answer stage e) = let no = sym work ∙ ap is_at_work stage in absurd (cc)
+fine_at_once work own (AtOnce h) = h
+fine_at_once work own (CountsCache hits misses cached does e) = let no = sym own ∙ ap has_own_numbers does in absurd (cc)
+fine_at_once work own (ReadsViews h) = let no = h.same in absurd (cc)
+fine_at_once work own (CleanedUp h) = let no = sym work ∙ ap is_at_work h.stage in absurd (cc)
+fine_at_once work own (HasCompacted (TooShort k records stage quiets on few e)) = let no = sym work ∙ ap is_at_work stage in absurd (cc)
+fine_at_once work own (HasCompacted (HasReplaced k before after stage replaced two e)) = let no = sym work ∙ ap is_at_work stage in absurd (cc)
+fine_at_once work own (HasCollected count bytes does judged e) = let no = sym own ∙ ap has_own_numbers does in absurd (cc)
+fine_at_once work own (HasUploaded does h) = let no = sym own ∙ ap has_own_numbers does in absurd (cc)
+fine_at_once work own (Refuses fault moved h e) = absurd (cc)
+
+-- a read that isn't refused is answered by fresh views
+pub looks_are_read : {start : Start} {alone : Bool} {s : State} {client now : ℕ} {c : ModelClient} {d : Doing} {first second len : ℕ}
+    → is_replying d.stage ≡ false → answer_then c d ≡ None → MayAnswer start alone s client now c d (Looks first second len) → ReadsFresh c d (Looks first second len)
+looks_are_read unsettled none (Fails must fails) = absurd (cc)
+looks_are_read unsettled none (Settles answer stage e) = let no = sym unsettled ∙ ap is_replying stage in absurd (cc)
+looks_are_read unsettled none (AtOnce h) = let no = sym (ap (option_map told_of) none) ∙ h.same in absurd (cc)
+looks_are_read unsettled none (CountsCache hits misses cached does e) = absurd (cc)
+looks_are_read unsettled none (ReadsViews h) = h
+looks_are_read unsettled none (CleanedUp h) = let no = h.same in absurd (cc)
+looks_are_read unsettled none (HasCompacted (TooShort k records stage quiets on few e)) = absurd (cc)
+looks_are_read unsettled none (HasCompacted (HasReplaced k before after stage replaced two e)) = absurd (cc)
+looks_are_read unsettled none (HasCollected count bytes does judged e) = absurd (cc)
+looks_are_read unsettled none (HasUploaded does (Sent id index size stage e)) = absurd (cc)
+looks_are_read unsettled none (HasUploaded does (FoundNone ready first none_owed e)) = absurd (cc)
+looks_are_read unsettled none (Refuses fault moved h e) = absurd (cc)
+
+abbrev is_refusal : Option Told → Bool
+is_refusal (Some (ToldRefused fault)) = true
+is_refusal _ = false
+
+abbrev fault_of : Told → Fault
+fault_of (ToldRefused fault) = fault
+fault_of _ = NoMemory
+
+-- a refusal that isn't settled has its cause in the request that was just made
+pub refused_by_cause : {start : Start} {alone : Bool} {s : State} {client now : ℕ} {c : ModelClient} {d : Doing} {fault : Fault}
+    → is_failure (ToldRefused fault) ≡ false → is_replying d.stage ≡ false → is_refusal (option_map told_of (answer_then c d)) ≡ false
+    → MayAnswer start alone s client now c d (ToldRefused fault) → IsRefusedIn start s client now c d fault
+refused_by_cause plain unsettled done (Fails must fails) = let no = sym plain ∙ fails in absurd (cc)
+refused_by_cause plain unsettled done (Settles answer stage e) = let no = sym unsettled ∙ ap is_replying stage in absurd (cc)
+refused_by_cause plain unsettled done (AtOnce h) = let no = sym done ∙ ap is_refusal h.same in absurd (cc)
+refused_by_cause plain unsettled done (CountsCache hits misses cached does e) = absurd (cc)
+refused_by_cause plain unsettled done (ReadsViews h) = let no = h.same in absurd (cc)
+refused_by_cause plain unsettled done (CleanedUp h) = let no = h.same in absurd (cc)
+refused_by_cause plain unsettled done (HasCompacted (TooShort k records stage quiets on few e)) = absurd (cc)
+refused_by_cause plain unsettled done (HasCompacted (HasReplaced k before after stage replaced two e)) = absurd (cc)
+refused_by_cause plain unsettled done (HasCollected count bytes does judged e) = absurd (cc)
+refused_by_cause plain unsettled done (HasUploaded does (Sent id index size stage e)) = absurd (cc)
+refused_by_cause plain unsettled done (HasUploaded does (FoundNone ready first none_owed e)) = absurd (cc)
+refused_by_cause {start} {alone} {s} {client} {now} {c} {d} plain unsettled done (Refuses fault moved h e) = subst (λ x. IsRefusedIn start s client now c d x) (sym (ap fault_of e)) h
+
+abbrev may_have_looked : Stage → Bool
+may_have_looked (LookedAgain misses window owed) = true
+may_have_looked (Compacting k) = true
+may_have_looked _ = false
+
+-- a block that is still to come is told of after another look alone
+pub try_again_after_look : {start : Start} {s : State} {client now : ℕ} {c : ModelClient} {d : Doing} {commit : ℕ}
+    → may_have_looked d.stage ≡ false → IsRefusedIn start s client now c d (TryAgain commit) → ⊥
+try_again_after_look unlooked (SessionGone asks gone e) = absurd (cc)
+try_again_after_look unlooked (InodeGone asks here gone e) = absurd (cc)
+try_again_after_look unlooked (CommitLate segment asked late e) = absurd (cc)
+try_again_after_look unlooked (CommitTooLarge segment asked early large e) = absurd (cc)
+try_again_after_look unlooked (NumberRefused first crowded e) = absurd (cc)
+try_again_after_look unlooked (CompactionCrowded k stage on crowded e) = absurd (cc)
+try_again_after_look unlooked (CompactionLate k started stage on here late e) = absurd (cc)
+try_again_after_look unlooked (AnotherList k looked found stage unchanged other again e) = absurd (cc)
+try_again_after_look unlooked (BlockOwed position number from to view owed (InReading misses window file asked stage file_is part fresh first last) begins ends commit e) = let yes = sym unlooked ∙ ap may_have_looked stage in absurd (cc)
+try_again_after_look unlooked (BlockOwed position number from to view owed (InCompaction k stage missed later view_is first last) begins ends commit e) = let yes = sym unlooked ∙ ap may_have_looked stage in absurd (cc)
+try_again_after_look unlooked (MissedTooOften window owed stage e) = absurd (cc)
+
+abbrev is_compacting : Stage → Bool
+is_compacting (Compacting k) = true
+is_compacting _ = false
+
+-- a flush is refused for the time that it took only after that time
+pub timed_out_late : {start : Start} {s : State} {client now : ℕ} {c : ModelClient} {o : Op} {does : Does} {flush : Flush} {moved : Bool} {quiets started m n : ℕ}
+    → IsRefusedIn start s client now c (record { op = o; does = does; flush = flush; stage = Working quiets started; moved = moved }) (TimedOut m n) → started + UPLOAD_LIFE ≤ now
+timed_out_late (SessionGone asks gone e) = absurd (cc)
+timed_out_late (InodeGone asks here gone e) = absurd (cc)
+timed_out_late (CommitLate segment asked late e) = late
+timed_out_late (CommitTooLarge segment asked early large e) = absurd (cc)
+timed_out_late (NumberRefused first crowded e) = absurd (cc)
+timed_out_late (CompactionCrowded k stage on crowded e) = absurd (cc)
+timed_out_late (CompactionLate k first stage on here late e) = let no = ap is_compacting stage in absurd (cc)
+timed_out_late (AnotherList k looked found stage unchanged other again e) = absurd (cc)
+timed_out_late (BlockOwed position number from to view owed missed begins ends commit e) = absurd (cc)
+timed_out_late (MissedTooOften window owed stage e) = absurd (cc)
+
+abbrev reading_of : ModelClient → Doing → Option OpenFile → ℕ → ℕ → Option (List ℕ)
+reading_of c d None first second = None
+reading_of c d (Some file) first second = reading c.views (handle_of d.op) file (asked_of d.does) first second
+
+-- what a read returns that cites these looks
+pub record Returns (c : ModelClient) (d : Doing) (first second len : ℕ) : Type 0 where
+  pub bytes : List ℕ
+  pub gives : reading_of c d (file_in_use c d) first second ≡ Some bytes
+  pub counts : len ≡ length bytes
+
+abbrev first_look : Told → ℕ
+first_look (Looks first second len) = first
+first_look _ = 0
+
+abbrev second_look : Told → ℕ
+second_look (Looks first second len) = second
+second_look _ = 0
+
+abbrev byte_count : Told → ℕ
+byte_count (Looks first second len) = len
+byte_count _ = 0
+
+pub read_returns : {start : Start} {alone : Bool} {s : State} {client now : ℕ} {c : ModelClient} {d : Doing} {first second len : ℕ}
+    → is_replying d.stage ≡ false → answer_then c d ≡ None → MayAnswer start alone s client now c d (Looks first second len) → Returns c d first second len
+read_returns {c = c} {d = d} {first} {second} unsettled none answer =
+    let h = looks_are_read unsettled none answer in
+    record {
+      bytes = h.bytes;
+      gives = ap (λ file. reading_of c d file first second) h.opened
+          ∙ ap (λ told. reading c.views (handle_of d.op) h.file (asked_of d.does) (first_look told) (second_look told)) h.same
+          ∙ h.reads;
+      counts = ap byte_count h.same;
+    }
+
+-- where nothing was owed, a block is missing only because it was cleaned away
+no_bytes_missing : (client : ℕ) (origin : Origin) → missing_commit (λ inode position. []) [] client origin ≡ None
+no_bytes_missing client (AtStart inode position) = refl
+no_bytes_missing client Zero = refl
+no_bytes_missing client (Committed entry) = refl
+no_bytes_missing client Made = refl
+
+pub gone_by_cleaning : {start : Start} {s : State} {client : ℕ} {view : View} {from to : ℕ} → start.shelved ≡ (λ inode position. []) → s.owed ≡ []
+    → MayBeGone start s client view from to → IsTrue (may_be_cleaned s view)
+gone_by_cleaning {start} {s} {client} {view} shelved owed (Owes position commit begins ends missing) =
+    let none : missing_commit start.shelved s.owed client (view.origin position) ≡ None
+    = ap (λ shelves. missing_commit shelves s.owed client (view.origin position)) shelved
+    ∙ ap (λ others. missing_commit (λ inode at. []) others client (view.origin position)) owed
+    ∙ no_bytes_missing client (view.origin position) in
+    let never = sym none ∙ missing in
+    absurd (cc)
+gone_by_cleaning shelved owed (MayBeCleaned cleaned) = cleaned
+
+abbrev view_of : ModelClient → Doing → ℕ → Option OpenFile → Option View
+view_of c d window None = None
+view_of c d window (Some file) = fresh_view c.views (handle_of d.op) file window
+
+-- a missed block is one that the view in use shows
+pub missed_by_view : {start : Start} {s : State} {client : ℕ} {c : ModelClient} {d : Doing} {inode window : ℕ} {view : View}
+    → (h : MissesBlock start s client c d inode window) → view_of c d window (file_in_use c d) ≡ Some view → MayBeGone start s client view h.asked.from h.asked.to
+missed_by_view {start} {s} {client} {c} {d} {inode} {window} h e =
+    subst (λ view. MayBeGone start s client view h.asked.from h.asked.to) (same_some (sym h.fresh ∙ sym (ap (view_of c d window) h.opened) ∙ e)) h.gone
+
+abbrev is_stats : Does → Bool
+is_stats (Answers CacheStats) = true
+is_stats _ = false
+
+-- once the answer is settled, no request was made that might be refused
+pub settled_not_refused : {start : Start} {s : State} {client now : ℕ} {c : ModelClient} {o : Op} {does : Does} {flush : Flush} {moved : Bool} {answer : Reply} {fault : Fault}
+    → IsRefusedIn start s client now c (record { op = o; does = does; flush = flush; stage = Replying answer; moved = moved }) fault → ⊥
+settled_not_refused (SessionGone asks gone e) = absurd (cc)
+settled_not_refused (InodeGone asks here gone e) = absurd (cc)
+settled_not_refused (CommitLate segment asked late e) = let few = asked.requests in absurd (omega (arith, few))
+settled_not_refused (CommitTooLarge segment asked early large e) = let few = asked.requests in absurd (omega (arith, few))
+settled_not_refused (NumberRefused first crowded e) = absurd (omega (arith, first))
+settled_not_refused (CompactionCrowded k stage on crowded e) = let never = ap is_replying stage in absurd (cc)
+settled_not_refused (CompactionLate k first stage on here late e) = let never = ap is_replying stage in absurd (cc)
+settled_not_refused (AnotherList k looked found stage unchanged other again e) = let never = ap is_replying stage in absurd (cc)
+settled_not_refused (BlockOwed position number from to view owed (InReading misses window file asked stage file_is part fresh first last) begins ends commit e) = let never = ap is_replying stage in absurd (cc)
+settled_not_refused (BlockOwed position number from to view owed (InCompaction k stage missed later view_is first last) begins ends commit e) = let never = ap is_replying stage in absurd (cc)
+settled_not_refused (MissedTooOften window owed stage e) = let never = ap is_replying stage in absurd (cc)
+
+abbrev reply_in : Reply → Stage → Reply
+reply_in other (Replying answer) = answer
+reply_in other _ = other
+
+-- a settled answer is the one that is told
+pub settled_is_told : {start : Start} {alone : Bool} {s : State} {client now : ℕ} {c : ModelClient} {o : Op} {does : Does} {flush : Flush} {moved : Bool} {answer : Reply} {told : Told}
+    → is_stats does ≡ false → MayAnswer start alone s client now c (record { op = o; does = does; flush = flush; stage = Replying answer; moved = moved }) told → told ≡ told_of answer
+settled_is_told other (Fails must fails) = absurd (cc)
+settled_is_told {answer = answer} other (Settles reply stage e) = e ∙ ap told_of (ap (reply_in answer) (sym stage))
+settled_is_told other (AtOnce h) = let never = h.ready in absurd (cc)
+settled_is_told other (CountsCache hits misses cached does e) = let never = sym other ∙ ap is_stats does in absurd (cc)
+settled_is_told other (ReadsViews h) = let never = h.goes_on in absurd (cc)
+settled_is_told other (CleanedUp h) = let never = ap is_replying h.stage in absurd (cc)
+settled_is_told other (HasCompacted (TooShort k records stage quiets on few e)) = let never = ap is_replying stage in absurd (cc)
+settled_is_told other (HasCompacted (HasReplaced k before after stage replaced two e)) = let never = ap is_replying stage in absurd (cc)
+settled_is_told other (HasCollected count bytes does judged e) = absurd (cc)
+settled_is_told other (HasUploaded does (Sent id index size stage e)) = let never = ap is_replying stage in absurd (cc)
+settled_is_told other (HasUploaded does (FoundNone ready first none_owed e)) = absurd (cc)
+settled_is_told other (Refuses fault moved h e) = absurd (settled_not_refused h)

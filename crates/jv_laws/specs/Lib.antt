@@ -1,0 +1,2 @@
+-- What the laws say.
+pub mod Laws

@@ -1,0 +1,11 @@
+//! What holds of every journal that is legal so far, in terms of its entries' numbers and lines.
+#![tactic(auto)]
+
+mod journal;
+
+pub use journal::{
+    answers_model, closes_commit_writes, drains_settle_all, earlier_text_stays,
+    ended_lines_have_entries, entries_are_counted, follows_clock, fresh_views_are_fresh_looks,
+    journals_grow, lines_have_entries, nothing_pending, others_stay, owed_commits,
+    reads_are_of_fresh_looks, settles_owed,
+};
