@@ -24,3 +24,4 @@ pub mod JournalCloseLaws
 pub mod JournalAnswerLaws
 pub mod JournalReadLaws
 pub mod JournalLineLaws
+pub mod JournalCleaningLaws
