@@ -10,7 +10,7 @@ use Rattle.jv_model.specs.tree.Tree.{Tree, content_at, node_at}
 use Rattle.jv_model.specs.FiniteMap.{get}
 use Rattle.jv_model.specs.declared.act.TheConstants.{NO_CLIENT}
 use Rattle.jv_model.specs.declared.act.Told.TheVariants.{Fine, Looks, Refused as ToldRefused}
-use Rattle.jv_model.specs.declared.fault.Fault.TheVariants.{Stale}
+use Rattle.jv_model.specs.declared.fault.Fault.TheVariants.{Stale, NoMemory}
 use Rattle.jv_model.specs.declared.fault.Gone.TheVariants.{Session, Node}
 use Rattle.jv_model.specs.declared.op.Op.{Op}
 use Rattle.jv_model.specs.declared.op.Op.TheVariants as op
@@ -21,7 +21,7 @@ use Rattle.jv_model.specs.journal.Steps.{told_of}
 use Rattle.jv_model.specs.declared.op.Reply.{Reply}
 use Rattle.jv_model.specs.journal.Reading.{Asked, asked_parts, bytes_between, fresh_view, is_full}
 use Rattle.jv_model.specs.declared.op.Reply.TheVariants.{Data}
-use Rattle.jv_model.specs.journal.Past.{Setup, Past, at_start, begun_to, reached, line_reply, reply_of, DrainEntries}
+use Rattle.jv_model.specs.journal.Past.{Setup, Past, Refusal, at_start, begun_to, reached, line_reply, reply_of, DrainEntries}
 use Rattle.jv_model.specs.journal.Legal.{AllAllowed, Legal, may_be_cut}
 use Rattle.jv_model.specs.declared.act.Told.{Told}
 use Rattle.jv_model.specs.declared.fault.Fault.{Fault}
@@ -302,6 +302,19 @@ LinesHaveEntries = (run : Setup) (journal : List Act) (act : Act) → AllAllowed
 abbrev pub EndedLinesHaveEntries : Type 0
 EndedLinesHaveEntries = (run : Setup) (journal : List Act) → Legal run journal → may_be_cut run.status ≡ false
     → (line : ℕ) → IfSome (line_at run.script line) (λ l. FitsLine l (kinds_on run.by_worker line 1 journal))
+
+-- an entry refuses an operation's submission, and a later one is on a later line
+pub record RefusesAlone (client : ℕ) (fault : Fault) (act later : Act) : Type 0 where
+  pub own : act.client ≡ client
+  pub refused : (act.kind ≡ Answered (ToldRefused fault)) ⊎ (act.kind ≡ Answered (ToldRefused NoMemory))
+  pub alone : act.line < later.line
+
+-- Where the line of an entry submits an operation that is refused, the entry says so, and no other follows on the line.
+-- Entries of uploading threads are left out.
+abbrev pub RefusedLinesHaveOneEntry : Type 0
+RefusedLinesHaveOneEntry = (run : Setup) (before between : List Act) (act later : Act) → AllAllowed (at_start run) ((before ++ act ∷ between) ++ later ∷ [])
+    → (client : ℕ) (fault : Fault) → (begun_to act.line (reached run before)).due ≡ Refusal client fault
+    → run.by_worker (1 + length before) ≡ false → run.by_worker (1 + length (before ++ act ∷ between)) ≡ false → RefusesAlone client fault act later
 
 -- cleaning
 
