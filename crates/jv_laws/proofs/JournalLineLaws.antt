@@ -19,9 +19,9 @@ use Rattle.jv_model.specs.client.Submission.{submission}
 use Rattle.jv_model.specs.journal.State.{State}
 use Rattle.jv_model.specs.journal.Steps.{Start, MayStep, begins_step}
 use Rattle.jv_model.specs.journal.Past.{Setup, Past, Due, NoMore, Refusal, MayLack, ToAnswer, OneStep, StepMade, CrashEntry, TickEntry, DrainEntries, at_start, at_end, begun, begun_by, begun_by_due, begun_to, begin_from, begin_next, turned, is_busy, is_over, is_workers, lined, requested, after, advance, past, reached}
-use Rattle.jv_model.specs.journal.Legal.{Allowed, AllAllowed, Refuses, LacksMemory, IsPublish, Drains, Sends, Ends, Fails, OfClient, OfLine, OfWorker, may_be_cut, may_stop}
-use Rattle.jv_laws.specs.Laws.{LinesHaveEntries, EndedLinesHaveEntries, FitsLine, EndsAnswered, IsOneStep, Idle, OneEntry, AndAnswer, is_answer, kinds_on, line_at}
-use Rattle.jv_laws.proofs.JournalGrowthLaws.{AllAllowed-parts, frame_begun, line-begun_to, begun_to-begun, entered}
+use Rattle.jv_model.specs.journal.Legal.{IsRefusal, Allowed, AllAllowed, Refuses, LacksMemory, IsPublish, Drains, Sends, Ends, Fails, OfClient, OfLine, OfWorker, may_be_cut, may_stop}
+use Rattle.jv_laws.specs.Laws.{LinesHaveEntries, EndedLinesHaveEntries, RefusedLinesHaveOneEntry, FitsLine, EndsAnswered, IsOneStep, Idle, OneEntry, AndAnswer, is_answer, kinds_on, line_at}
+use Rattle.jv_laws.proofs.JournalGrowthLaws.{AllAllowed-parts, past-append, frame_begun, line-begun_to, begun_to-begun, line_allowed, entered, advanced}
 
 -- entries so far of a line, by what it may still have
 
@@ -478,3 +478,98 @@ ended_lines run journal legal uncut line =
       | inl low ↦ up_to run journal p h (over_uncut p.complete (is_over p) (may_be_cut run.status) (may_stop p) legal.ends uncut) line low.1
       | inr high ↦ no_line _ _ (line_past_end run.script line (let r = line_reaches (length run.script) (reached run journal) in omega (arith, r, high.1)))
     ]
+
+-- a submission that is refused has one entry
+
+data IsDone (line : ℕ) (p : Past) : Type 0 where
+  AtEnd : p.due ≡ NoMore → p.line ≡ line → IsDone line p
+  Later : line < p.line → IsDone line p
+
+due_at_worker : (p : Past) (act : Act) → is_workers p ≡ true → (after p act).due ≡ p.due
+unfolding after
+due_at_worker p act e = due_of (is_workers p) p (lined p act act.kind) _ ∙ ap (λ b. if b then p.due else (lined p act act.kind).due) e
+
+due_at_own : (p : Past) (act : Act) → is_workers p ≡ false → (after p act).due ≡ (lined p act act.kind).due
+unfolding after
+due_at_own p act e = due_of (is_workers p) p (lined p act act.kind) _ ∙ ap (λ b. if b then p.due else (lined p act act.kind).due) e
+
+worker_where_done : (p : Past) (act : Act) (worker : Bool) → p.due ≡ NoMore → MatchBool worker (OfWorker p act) (OfLine p act p.due) → worker ≡ true
+worker_where_done p act true e h = refl
+worker_where_done p act false e h = absurd (subst (OfLine p act) e h)
+
+line_of_advance : (p : Past) (act : Act) → Allowed (begun_to act.line p) act → (advance p act).line ≡ act.line
+line_of_advance p act may = (advanced p act).line ∙ may.line
+
+done_here : (p : Past) (act : Act) → p.due ≡ NoMore → p.line ≡ act.line → Allowed p act → IsDone p.line (advance p act)
+unfolding advance
+done_here p act e at may =
+    let same : begun_to act.line p ≡ p = begun_to-begun act.line p (omega (arith, at)) in
+    subst (λ q. IsDone p.line (after q act)) (sym same) (AtEnd (due_at_worker p act (worker_where_done p act (is_workers p) e may.stands) ∙ e) (entered p act).line)
+
+done_next : (line : ℕ) (p : Past) (act : Act) → IsDone line p → Allowed (begun_to act.line p) act → IsDone line (advance p act)
+done_next line p act (Later high) may = let l = line_allowed p act may in let e = line_of_advance p act may in Later (omega (arith, l, e, high))
+done_next line p act (AtEnd e at) may =
+    let l = line_allowed p act may in
+    elim (leb_tells act.line p.line) [
+      | inl low ↦ (
+          let here : p.line ≡ act.line = omega (arith, l, low.1) in
+          let same : begun_to act.line p ≡ p = begun_to-begun act.line p low.1 in
+          subst (λ n. IsDone n (advance p act)) at (done_here p act e here (subst (λ q. Allowed q act) same may)))
+      | inr high ↦ (let to = line_of_advance p act may in Later (omega (arith, at, to, high.1)))
+    ]
+
+done_past : (line : ℕ) (p : Past) (acts : List Act) → IsDone line p → AllAllowed p acts → IsDone line (past p acts)
+done_past line p [] h may = h
+done_past line p (act ∷ acts) h may = done_past line (advance p act) acts (done_next line p act h may.0) may.1
+
+done_then : (line : ℕ) (p : Past) (act : Act) → IsDone line p → Allowed (begun_to act.line p) act → is_workers (begun_to act.line p) ≡ false → line < act.line
+done_then line p act (Later high) may own = let l = line_allowed p act may in omega (arith, l, high)
+done_then line p act (AtEnd e at) may own =
+    let l = line_allowed p act may in
+    elim (leb_tells act.line p.line) [
+      | inl low ↦ (
+          let same : begun_to act.line p ≡ p = begun_to-begun act.line p low.1 in
+          let here : Allowed p act = subst (λ q. Allowed q act) same may in
+          let worker = worker_where_done p act (is_workers p) e here.stands in
+          let not_worker : is_workers p ≡ false = subst (λ q. is_workers q ≡ false) same own in
+          absurd (cc))
+      | inr high ↦ omega (arith, at, high.1)
+    ]
+
+refusal_told : (busy : Bool) (fault : Fault) (kind : ActKind) → IsRefusal busy fault kind → is_answer kind ≡ true
+refusal_told busy fault kind (Refuses k) = ap is_answer k
+refusal_told busy fault kind (LacksMemory b k) = ap is_answer k
+
+refusal_kind : (busy : Bool) (fault : Fault) (kind : ActKind) → IsRefusal busy fault kind → (kind ≡ Answered (ToldRefused fault)) ⊎ (kind ≡ Answered (ToldRefused NoMemory))
+refusal_kind busy fault kind (Refuses k) = inl k
+refusal_kind busy fault kind (LacksMemory b k) = inr k
+
+own_of_refusal : (p : Past) (act : Act) (client : ℕ) (fault : Fault) (worker : Bool) → worker ≡ false → p.due ≡ Refusal client fault → MatchBool worker (OfWorker p act) (OfLine p act p.due) → (act.client ≡ client) × IsRefusal (is_busy p client) fault act.kind
+own_of_refusal p act client fault true w e h = absurd (cc)
+own_of_refusal p act client fault false w e h = subst (OfLine p act) e h
+
+refusal_ends : (p : Past) (act : Act) (client : ℕ) (fault : Fault) → is_workers p ≡ false → p.due ≡ Refusal client fault → Allowed p act → IsDone act.line (after p act)
+refusal_ends p act client fault own e may =
+    let r = own_of_refusal p act client fault (is_workers p) own e may.stands in
+    AtEnd (due_at_own p act own ∙ due_of_answer p act act.kind (refusal_told _ fault act.kind r.1)) ((entered p act).line ∙ may.line)
+
+done_advance : (line : ℕ) (p : Past) (act : Act) → IsDone line (after (begun_to act.line p) act) → IsDone line (advance p act)
+unfolding advance
+done_advance line p act h = h
+
+workers_at : (run : Setup) (pre : List Act) (line : ℕ) → AllAllowed (at_start run) pre → is_workers (begun_to line (reached run pre)) ≡ run.by_worker (1 + length pre)
+workers_at run pre line may = is_by_worker run pre (begun_to line (reached run pre)) (lined_to run pre line (reached run pre) (all_lined run pre may))
+
+pub refused_once : RefusedLinesHaveOneEntry
+refused_once run before acts act later h client fault due own own_later =
+    let whole = AllAllowed-parts (at_start run) (before ++ act ∷ acts) (later ∷ []) h in
+    let parts = AllAllowed-parts (at_start run) before (act ∷ acts) whole.0 in
+    let p = begun_to act.line (reached run before) in
+    let r = own_of_refusal p act client fault (is_workers p) (workers_at run before act.line parts.0 ∙ own) due parts.1.0.stands in
+    let first = done_advance act.line (reached run before) act (refusal_ends p act client fault (workers_at run before act.line parts.0 ∙ own) due parts.1.0) in
+    let end = subst (IsDone act.line) (sym (past-append (at_start run) before (act ∷ acts))) (done_past act.line (advance (reached run before) act) acts first parts.1.1) in
+    record {
+      own = r.0;
+      refused = refusal_kind _ fault act.kind r.1;
+      alone = done_then act.line (reached run (before ++ act ∷ acts)) later end whole.1.0 (workers_at run (before ++ act ∷ acts) later.line whole.0 ∙ own_later);
+    }

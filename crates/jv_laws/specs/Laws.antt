@@ -1,26 +1,27 @@
 -- What holds of every journal that is legal so far, in terms of its entries' numbers and lines.
-use Rattle.std.specs.Prelude.{◌≡◌, ℕ, zero, suc, ◌+◌, ◌-◌, ◌≤◌, ◌<◌, Bool, true, false, ◌&&◌, ◌||◌, not, ◌==◌, nat_lt, nat_le, if◌then◌else◌, IsTrue, IsSomeAnd, IfSome, ◌↔◌, ◌⊎◌, List, [], ◌∷◌, ◌++◌, length, take, filter, map, slice_get, Option, None, Some}
+use Rattle.std.specs.Prelude.{◌≡◌, ℕ, zero, suc, ◌+◌, ◌-◌, ◌≤◌, ◌<◌, Bool, true, false, ◌&&◌, not, ◌==◌, nat_lt, nat_le, if◌then◌else◌, IsTrue, IsSomeAnd, IfSome, ◌↔◌, ◌⊎◌, List, [], ◌∷◌, ◌++◌, length, take, slice_get, Option, None, Some}
 use Rattle.std.specs.List.{AllByRecursion, list_any}
 use Rattle.jv_model.specs.declared.limits.TheConstants.{LAST_MOMENT}
 use Rattle.jv_model.specs.declared.act.Act.{Act}
 use Rattle.jv_model.specs.declared.act.ActKind.{ActKind}
-use Rattle.jv_model.specs.declared.act.ActKind.TheVariants.{Mounted, Meta, Opened, Commit, Settled, Crashed, Ticked, Answered}
+use Rattle.jv_model.specs.declared.act.ActKind.TheVariants.{Mounted, Meta, Opened, Commit, Settled, Expired, Cleaned, Crashed, Ticked, Answered}
 use Rattle.jv_model.specs.client.Origins.{Owed}
-use Rattle.jv_model.specs.tree.Tree.{content_at}
+use Rattle.jv_model.specs.tree.Tree.{Tree, content_at, node_at}
+use Rattle.jv_model.specs.FiniteMap.{get}
 use Rattle.jv_model.specs.declared.act.TheConstants.{NO_CLIENT}
 use Rattle.jv_model.specs.declared.act.Told.TheVariants.{Fine, Looks, Refused as ToldRefused}
-use Rattle.jv_model.specs.declared.fault.Fault.TheVariants.{Stale}
+use Rattle.jv_model.specs.declared.fault.Fault.TheVariants.{Stale, NoMemory}
 use Rattle.jv_model.specs.declared.fault.Gone.TheVariants.{Session, Node}
 use Rattle.jv_model.specs.declared.op.Op.{Op}
 use Rattle.jv_model.specs.declared.op.Op.TheVariants as op
 use Rattle.jv_model.specs.run.Pending.{pending_of}
-use Rattle.jv_model.specs.client.ModelClient.{ModelClient, OpenFile, View, Doing, file_of, inode_at}
+use Rattle.jv_model.specs.client.ModelClient.{ModelClient, OpenFile, View, Doing, file_of, inode_at, session_of}
 use Rattle.jv_model.specs.journal.State.{State, effect, or_empty, transacted}
 use Rattle.jv_model.specs.journal.Steps.{told_of}
 use Rattle.jv_model.specs.declared.op.Reply.{Reply}
 use Rattle.jv_model.specs.journal.Reading.{Asked, asked_parts, bytes_between, fresh_view, is_full}
 use Rattle.jv_model.specs.declared.op.Reply.TheVariants.{Data}
-use Rattle.jv_model.specs.journal.Past.{Setup, Past, at_start, begun_to, reached, line_reply, reply_of, DrainEntries}
+use Rattle.jv_model.specs.journal.Past.{Setup, Past, Refusal, at_start, begun_to, reached, line_reply, reply_of, DrainEntries}
 use Rattle.jv_model.specs.journal.Legal.{AllAllowed, Legal, may_be_cut}
 use Rattle.jv_model.specs.declared.act.Told.{Told}
 use Rattle.jv_model.specs.declared.fault.Fault.{Fault}
@@ -301,3 +302,39 @@ LinesHaveEntries = (run : Setup) (journal : List Act) (act : Act) → AllAllowed
 abbrev pub EndedLinesHaveEntries : Type 0
 EndedLinesHaveEntries = (run : Setup) (journal : List Act) → Legal run journal → may_be_cut run.status ≡ false
     → (line : ℕ) → IfSome (line_at run.script line) (λ l. FitsLine l (kinds_on run.by_worker line 1 journal))
+
+-- an entry refuses an operation's submission, and a later one is on a later line
+pub record RefusesAlone (client : ℕ) (fault : Fault) (act later : Act) : Type 0 where
+  pub own : act.client ≡ client
+  pub refused : (act.kind ≡ Answered (ToldRefused fault)) ⊎ (act.kind ≡ Answered (ToldRefused NoMemory))
+  pub alone : act.line < later.line
+
+-- Where the line of an entry submits an operation that is refused, the entry says so, and no other follows on the line.
+-- Entries of uploading threads are left out.
+abbrev pub RefusedLinesHaveOneEntry : Type 0
+RefusedLinesHaveOneEntry = (run : Setup) (before between : List Act) (act later : Act) → AllAllowed (at_start run) ((before ++ act ∷ between) ++ later ∷ [])
+    → (client : ℕ) (fault : Fault) → (begun_to act.line (reached run before)).due ≡ Refusal client fault
+    → run.by_worker (1 + length before) ≡ false → run.by_worker (1 + length (before ++ act ∷ between)) ≡ false → RefusesAlone client fault act later
+
+-- cleaning
+
+-- a session other than the cleaner's, whose time has come
+pub record IsExpired (t : Tree) (cleaner now sid : ℕ) : Type 0 where
+  pub other : sid ≡ cleaner → ⊥
+  pub entry : IsSomeAnd (get t.sessions sid) (λ s. s.expiry ≤ now)
+
+-- a cleaning ends only sessions whose time has come, and not its own
+abbrev pub ExpiresOnlyGone : Type 0
+ExpiresOnlyGone = (run : Setup) (journal : List Act) (act : Act) → AllAllowed (at_start run) (journal ++ act ∷ []) → (sid : ℕ) → act.kind ≡ Expired sid
+    → IsExpired (begun_to act.line (reached run journal)).state.tree (session_of ((begun_to act.line (reached run journal)).state.clients act.client)) act.at sid
+
+-- an inode that was given, is no node any more, and whose rows weren't cleaned before
+pub record IsGone (journal : List Act) (t : Tree) (inode : ℕ) : Type 0 where
+  pub was : inode < t.next_inode
+  pub gone : node_at t inode ≡ None
+  pub once : (number : ℕ) → IfSome (entry_at journal number) (λ act. act.kind ≡ Cleaned 8 inode → ⊥)
+
+-- a cleaning drops only rows of removed files, those of each once
+abbrev pub DropsOnlyGone : Type 0
+DropsOnlyGone = (run : Setup) (journal : List Act) (act : Act) → AllAllowed (at_start run) (journal ++ act ∷ []) → (inode : ℕ) → act.kind ≡ Cleaned 8 inode
+    → IsGone journal (begun_to act.line (reached run journal)).state.tree inode

@@ -1,5 +1,5 @@
 //! What holds of every journal that is legal so far. Each law is a function that does nothing.
-ghost use Rattle.jv_laws.specs.Laws.{DrainsSettleAll, EndedLinesHaveEntries, LinesHaveEntries, ReadsAreOfFreshLooks, AnswersModel, ClosesCommitWrites, NothingPending, FreshViewsAreFreshLooks, SettlesOwed, OwedCommits, JournalsGrow, EarlierTextStays, FollowsClock, OthersStay, EntriesAreCounted};
+ghost use Rattle.jv_laws.specs.Laws.{RefusedLinesHaveOneEntry, DropsOnlyGone, ExpiresOnlyGone, DrainsSettleAll, EndedLinesHaveEntries, LinesHaveEntries, ReadsAreOfFreshLooks, AnswersModel, ClosesCommitWrites, NothingPending, FreshViewsAreFreshLooks, SettlesOwed, OwedCommits, JournalsGrow, EarlierTextStays, FollowsClock, OthersStay, EntriesAreCounted};
 
 /// A journal is legal so far if and only if each part of it is, from where the entries before it lead.
 pub fn journals_grow()
@@ -78,4 +78,19 @@ pub fn ended_lines_have_entries()
 /// A `drain` is done only where its client owes no commit.
 pub fn drains_settle_all()
     ensures { DrainsSettleAll }
+{}
+
+/// A cleaning ends only sessions whose time has come, and not the cleaner's own.
+pub fn expires_only_gone()
+    ensures { ExpiresOnlyGone }
+{}
+
+/// A cleaning drops only rows of removed files, those of each once.
+pub fn drops_only_gone()
+    ensures { DropsOnlyGone }
+{}
+
+/// A line whose operation is refused at its submission has that answer alone.
+pub fn refused_lines_have_one_entry()
+    ensures { RefusedLinesHaveOneEntry }
 {}

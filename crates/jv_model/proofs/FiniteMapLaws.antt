@@ -5,7 +5,7 @@ use Rattle.std.specs.declared.cmp.Ordering.TheVariants.{Less, Equal, Greater}
 use Rattle.std.specs.Ordering.{eq_by_cmp, is_eq, is_lt}
 use Rattle.std.specs.Cmp.{alike_right, eq_by_cmp_equiv}
 use Rattle.std.specs.FinMap.Entries.{put, find, where_key, below_all, is_sorted, find-put, find-where_key, same_entries, by_order}
-use Rattle.jv_model.specs.FiniteMap.{KeyOrder, Map, empty_map, get, insert, remove, retain_keys, alter, map_of, maps_of_entries, sum_over, total_over}
+use Rattle.jv_model.specs.FiniteMap.{KeyOrder, Map, empty_map, first_passing, first_where, get, insert, remove, retain_keys, alter, map_of, maps_of_entries, sum_over, total_over}
 
 -- what an entry adds to a sum
 abbrev pub share : {K X : Type 0} → (K → X → ℕ) → K → Option X → ℕ
@@ -126,3 +126,39 @@ module _ {K X : Type 0} (order : KeyOrder K) (f : K → X → ℕ) where
   pub sum-remove : (m : Map order X) (k : K) → sum_over f (remove m k) + share f k (get m k) ≡ sum_over f m
   unfolding sum_over remove get
   sum-remove m k = total-without k m.list m.sorted
+
+-- the first entry that passes a test
+
+pub record IsFound {K X : Type 0} {order : KeyOrder K} (test : K → X → Bool) (m : Map order X) (key : K) (value : X) : Type 0 where
+  pub there : get m key ≡ Some value
+  pub passes : test key value ≡ true
+
+record FoundIn {K X : Type 0} (order : KeyOrder K) (test : K → X → Bool) (es : List (K × X)) (key : K) (value : X) : Type 0 where
+  there : find order.cmp key es ≡ Some value
+  passes : test key value ≡ true
+
+module _ {K X : Type 0} (order : KeyOrder K) (test : K → X → Bool) where
+  find-self_below : (x : K) (es : List (K × X)) → T (below_all order.cmp x es) → find order.cmp x es ≡ None
+  find-self_below x [] h = refl
+  find-self_below x (e ∷ es) h = ap (λ o. cond (is_eq o) (Some e.1) (find order.cmp x es)) (less_is _ (first_of_both _ _ h)) ∙ find-self_below x es (second_of_both _ _ h)
+
+  found_later : (e : K × X) (es : List (K × X)) (k : K) (x : X) (o : Ordering) → order.cmp k e.0 ≡ o → find order.cmp k es ≡ Some x → T (below_all order.cmp e.0 es) → cond (is_eq o) (Some e.1) (find order.cmp k es) ≡ Some x
+  found_later e es k x Less p h below = h
+  found_later e es k x Greater p h below = h
+  found_later e es k x Equal p h below = let none : find order.cmp k es ≡ None = ap (λ q. find order.cmp q es) (order.same k e.0 p) ∙ find-self_below e.0 es below in absurd (cc)
+
+  found_here : (e : K × X) (es : List (K × X)) → find order.cmp e.0 (e ∷ es) ≡ Some e.1
+  found_here e es = ap (λ b. cond b (Some e.1) (find order.cmp e.0 es)) ((eq_by_cmp_equiv order.total).refl e.0)
+
+  found_branch : (e : K × X) (es : List (K × X)) (found : K × X) (b : Bool) → test e.0 e.1 ≡ b → T (below_all order.cmp e.0 es) → (first_passing test es ≡ Some found → FoundIn order test es found.0 found.1)
+      → (elim b as (λ _. Option (K × X)) [ true ↦ Some e | false ↦ first_passing test es ]) ≡ Some found → FoundIn order test (e ∷ es) found.0 found.1
+  found_branch e es found true t below rest h = let same : e ≡ found = cc in subst (λ (p : K × X). FoundIn order test (e ∷ es) p.0 p.1) same (record { there = found_here e es; passes = t })
+  found_branch e es found false t below rest h = let r = rest h in record { there = found_later e es found.0 found.1 (order.cmp found.0 e.0) refl r.there below; passes = r.passes }
+
+  found_in : (es : List (K × X)) (found : K × X) → T (is_sorted order.cmp es) → first_passing test es ≡ Some found → FoundIn order test es found.0 found.1
+  found_in [] found sorted h = absurd (cc)
+  found_in (e ∷ es) found sorted h = found_branch e es found (test e.0 e.1) refl (first_of_both _ _ sorted) (found_in es found (second_of_both _ _ sorted)) h
+
+  pub first_where-found : (m : Map order X) (found : K × X) → first_where test m ≡ Some found → IsFound test m found.0 found.1
+  unfolding first_where get
+  first_where-found m found h = let r = found_in m.list found m.sorted h in record { there = r.there; passes = r.passes }
