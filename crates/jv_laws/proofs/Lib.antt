@@ -1,10 +1,11 @@
 -- Laws of the journal.
-pub mod JournalGrowthLaws
-pub mod JournalStates
-pub mod JournalOwedLaws
-pub mod JournalLooksLaws
-pub mod JournalDoingLaws
-pub mod JournalCloseLaws
 pub mod JournalAnswerLaws
-pub mod JournalReadLaws
+pub mod JournalCleaningLaws
+pub mod JournalCloseLaws
+pub mod JournalDoingLaws
+pub mod JournalGrowthLaws
 pub mod JournalLineLaws
+pub mod JournalLooksLaws
+pub mod JournalOwedLaws
+pub mod JournalReadLaws
+pub mod JournalStates
