@@ -13,13 +13,14 @@ use Rattle.jv_model.specs.journal.Legal.{Legal, Sends, Ends}
 use Rattle.jv_model.proofs.ReplyTextExamples.{replies_on_literals}
 use Rattle.jv_examples.proofs.JournalRuns.{run_of, entry, printed, journals_compute, ◌∴◌}
 
--- Blocks that a client keeps are missing for others until it uploads them.
+-- Blocks that a client keeps are missing for others until it uploads them. A journal knows no sizes of blocks: here they
+-- are small.
 abbrev writeback_run : Setup
 writeback_run = run_of (
     Do 0 (Mount true)
     ∷ Do 1 (Mount false)
     ∷ Do 0 (Create (codes "/w") 420)
-    ∷ Do 0 (Write 1 0 (replicate 70000 97))
+    ∷ Do 0 (Write 1 0 (replicate 700 97))
     ∷ Do 0 (Close 1)
     ∷ Do 1 (Open (codes "/w"))
     ∷ Do 1 (Read 1 0 4)
@@ -40,11 +41,11 @@ writeback_journal =
     ∷ entry 2 1 (Answered (Fine 2 0 0 0))
     ∷ entry 3 0 (Opened 1 2)
     ∷ entry 3 0 (Answered (Fine 1 2 0 0))
-    ∷ entry 4 0 (Answered (Fine 70000 0 0 0))
+    ∷ entry 4 0 (Answered (Fine 700 0 0 0))
     ∷ entry 5 0 Quiet
     ∷ entry 5 0 Quiet
     ∷ entry 5 0 Quiet
-    ∷ entry 5 0 (Commit 2 0 70000 2)
+    ∷ entry 5 0 (Commit 2 0 700 2)
     ∷ entry 5 0 (Answered (Fine 0 0 0 0))
     ∷ entry 6 1 (Opened 1 2)
     ∷ entry 6 1 (Answered (Fine 1 2 0 0))
@@ -58,9 +59,9 @@ writeback_journal =
     ∷ entry 9 0 Quiet
     ∷ entry 9 0 (Answered (Looks 21 0 4))
     ∷ entry 10 0 Quiet
-    ∷ entry 10 0 (Answered (Fine 1 0 65536 1))
+    ∷ entry 10 0 (Answered (Fine 1 0 400 1))
     ∷ entry 11 0 (Settled 11)
-    ∷ entry 11 0 (Answered (Fine 1 1 4464 1))
+    ∷ entry 11 0 (Answered (Fine 1 1 300 1))
     ∷ entry 12 0 (Answered (Fine 0 0 0 0))
     ∷ entry 13 1 Quiet
     ∷ entry 13 1 (Answered (Looks 17 0 4))
@@ -95,9 +96,9 @@ writeback_is_legal = record {
       ∴ record { line = refl; complete = refl; moment = refl; stands = record { own = refl; may = record { doing = _; busy = refl; begins_is = refl; may = refl } } }
       ∴ record { line = refl; complete = refl; moment = refl; stands = record { own = refl; may = record { doing = _; busy = refl; begins_is = refl; may = ReadsViews (record { goes_on = refl; file = _; opened = refl; first = 21; second = 0; bytes = _; reads = refl; same = refl }) } } }
       ∴ record { line = refl; complete = refl; moment = refl; stands = record { own = refl; may = record { doing = _; busy = refl; begins_is = refl; may = refl } } }
-      ∴ record { line = refl; complete = refl; moment = refl; stands = record { own = refl; may = record { doing = _; busy = refl; begins_is = refl; may = HasUploaded refl (Sent 1 0 65536 refl refl) } } }
+      ∴ record { line = refl; complete = refl; moment = refl; stands = record { own = refl; may = record { doing = _; busy = refl; begins_is = refl; may = HasUploaded refl (Sent 1 0 400 refl refl) } } }
       ∴ record { line = refl; complete = refl; moment = refl; stands = record { own = refl; may = record { doing = _; busy = refl; begins_is = refl; may = record { ready = refl; uploads = refl; owed = refl } } } }
-      ∴ record { line = refl; complete = refl; moment = refl; stands = record { own = refl; may = record { doing = _; busy = refl; begins_is = refl; may = HasUploaded refl (Sent 1 1 4464 refl refl) } } }
+      ∴ record { line = refl; complete = refl; moment = refl; stands = record { own = refl; may = record { doing = _; busy = refl; begins_is = refl; may = HasUploaded refl (Sent 1 1 300 refl refl) } } }
       ∴ record { line = refl; complete = refl; moment = refl; stands = record { own = refl; may = record { doing = _; busy = refl; begins_is = refl; may = HasUploaded refl (FoundNone refl refl refl refl) } } }
       ∴ record { line = refl; complete = refl; moment = refl; stands = record { own = refl; may = record { doing = _; busy = refl; begins_is = refl; may = refl } } }
       ∴ record { line = refl; complete = refl; moment = refl; stands = record { own = refl; may = record { doing = _; busy = refl; begins_is = refl; may = ReadsViews (record { goes_on = refl; file = _; opened = refl; first = 17; second = 0; bytes = _; reads = refl; same = refl }) } } }
@@ -108,14 +109,14 @@ writeback_prints : text_of writeback_run writeback_journal ≡ printed (
     codes "ok 1"
     ∷ codes "ok 2"
     ∷ codes "ok 1 2"
-    ∷ codes "ok 70000"
+    ∷ codes "ok 700"
     ∷ codes "ok"
     ∷ codes "ok 1 2"
     ∷ codes "err EAGAIN 11"
     ∷ codes "ok 1 2"
     ∷ codes "ok 61x4"
-    ∷ codes "ok test/chunks/0/0/1_0_65536"
-    ∷ codes "ok test/chunks/0/0/1_1_4464"
+    ∷ codes "ok test/chunks/0/0/1_0_400"
+    ∷ codes "ok test/chunks/0/0/1_1_300"
     ∷ codes "ok -"
     ∷ codes "ok 61x4"
     ∷ []
