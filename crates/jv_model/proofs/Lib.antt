@@ -25,3 +25,4 @@ pub mod JournalAnswerLaws
 pub mod JournalReadLaws
 pub mod JournalLineLaws
 pub mod JournalCleaningLaws
+pub mod JournalStageLaws
