@@ -30,16 +30,16 @@ use Rattle.jv_model.proofs.JournalGrowthLaws.{AllAllowed-parts, own_client, othe
 use Rattle.jv_model.proofs.JournalDoingLaws.{doing_given, Sound, SoundIf, sound}
 use Rattle.jv_model.proofs.JournalStates.{Entry, Steps, RefusedSubmission, LacksMemory, Crashes, Publishes, OfDrain, Ticks, entry_of, holds_on}
 
-abbrev is_reading : Does → Bool
+abbrev pub is_reading : Does → Bool
 is_reading (Reads offset len) = true
 is_reading _ = false
 
-abbrev requests_alone : Does → Bool
+abbrev pub requests_alone : Does → Bool
 requests_alone Collects = true
 requests_alone Uploads = true
 requests_alone _ = false
 
-abbrev stage_fits : Does → Stage → Bool
+abbrev pub stage_fits : Does → Stage → Bool
 stage_fits does (Working quiets started) = true
 stage_fits does (Reading misses) = is_reading does
 stage_fits does (Missing misses window owed) = is_reading does
@@ -49,11 +49,11 @@ stage_fits does (Cleans k) = is_cleaning does
 stage_fits does (Requesting requests) = requests_alone does
 stage_fits does (Replying r) = true
 
-abbrev FitsIf : Option Doing → Type 0
+abbrev pub FitsIf : Option Doing → Type 0
 FitsIf None = Unit {0}
 FitsIf (Some d) = IsTrue (stage_fits d.does d.stage)
 
-abbrev FitsClient : ModelClient → Type 0
+abbrev pub FitsClient : ModelClient → Type 0
 FitsClient c = FitsIf c.doing
 
 fit_staged : (stage : Stage) (c : ModelClient) (d : Doing) (o : Option Doing) → o ≡ Some d → IsTrue (stage_fits d.does stage)
@@ -239,7 +239,7 @@ module _ (start : Start) (alone : Bool) (s : State) (act : Act) (d : Doing) (bus
 
 -- answers
 
-abbrev AllFit : (ℕ → ModelClient) → Type 0
+abbrev pub AllFit : (ℕ → ModelClient) → Type 0
 AllFit clients = (c : ℕ) → (c ≡ NO_CLIENT → ⊥) → FitsClient (clients c)
 
 fit_of_told : (o : Op) (told : Told) (c : ModelClient) → FitsClient (after_told o told c)
@@ -307,7 +307,7 @@ fit_submits run pre s client o none all c some = elim (eqb_tells c client) [
   | inr other ↦ subst (λ b. FitsClient (if b then submitted run.limits o (s.clients client) else s.clients c)) (sym other.0) (all c some)
 ]
 
-all_fit : (run : Setup) (journal : List Act) → AllAllowed (at_start run) journal → (line : ℕ) → AllFit (begun_to line (reached run journal)).state.clients
+pub all_fit : (run : Setup) (journal : List Act) → AllAllowed (at_start run) journal → (line : ℕ) → AllFit (begun_to line (reached run journal)).state.clients
 all_fit run journal may line = holds_on run (λ pre s. AllFit s.clients) (fit_submits run) (fit_of_enters run) (λ c some. tt) journal may line
 
 -- an entry that cleans is of a cleaning

@@ -249,6 +249,19 @@ ReadsAreOfFreshLooks = (run : Setup) (journal : List Act) (act : Act) → AllAll
     → (handle offset len : ℕ) → d.op ≡ op.Read handle offset len → (first second number : ℕ) → act.kind ≡ Answered (Looks first second number)
     → Returns run journal act.client ((begun_to act.line (reached run journal)).state.clients act.client) d handle offset len first second number
 
+-- an entry answers with two looks and a number
+pub record CitesLooks (answer : ActKind) : Type 0 where
+  pub first : ℕ
+  pub second : ℕ
+  pub number : ℕ
+  pub kind : answer ≡ Answered (Looks first second number)
+
+-- a read that is done is answered with its looks
+abbrev pub ReadsCiteLooks : Type 0
+ReadsCiteLooks = (run : Setup) (journal : List Act) (act : Act) → AllAllowed (at_start run) (journal ++ act ∷ []) → (act.client ≡ NO_CLIENT → ⊥)
+    → (d : Doing) → ((begun_to act.line (reached run journal)).state.clients act.client).doing ≡ Some d
+    → (handle offset len : ℕ) → d.op ≡ op.Read handle offset len → IsTrue (is_fine_answer act.kind) → CitesLooks act.kind
+
 -- lines
 
 abbrev pub is_answer : ActKind → Bool
