@@ -8,7 +8,7 @@ use Rattle.jv_model.specs.declared.act.Act.{Act}
 use Rattle.jv_model.specs.declared.act.ActKind.{ActKind}
 use Rattle.jv_model.specs.declared.act.ActKind.TheVariants.{Answered}
 use Rattle.jv_model.specs.declared.act.Told.{Told}
-use Rattle.jv_model.specs.declared.act.Told.TheVariants.{Looks}
+use Rattle.jv_model.specs.declared.act.Told.TheVariants.{Looks, Fine, Refused as ToldRefused}
 use Rattle.jv_model.specs.declared.basics.Limits.{Limits}
 use Rattle.jv_model.specs.declared.op.Op.{Op}
 use Rattle.jv_model.specs.declared.op.Op.TheVariants as op
@@ -16,18 +16,19 @@ use Rattle.jv_model.specs.declared.op.Reply.{Reply}
 use Rattle.jv_model.specs.declared.op.Reply.TheVariants as reply
 use Rattle.jv_model.specs.declared.profile.Answer.TheVariants as answer
 use Rattle.jv_model.specs.declared.profile.Does.{Does}
-use Rattle.jv_model.specs.declared.profile.Does.TheVariants.{Answers, Reads}
+use Rattle.jv_model.specs.declared.profile.Does.TheVariants.{Answers, Reads, Collects, Uploads}
 use Rattle.jv_model.specs.tree.Tree.{content_at}
 use Rattle.jv_model.specs.client.Profile.{profile, handle_of}
-use Rattle.jv_model.specs.client.ModelClient.{ModelClient, OpenFile, View, Doing, Stage, Replying, file_of}
+use Rattle.jv_model.specs.client.ModelClient.{ModelClient, OpenFile, View, Doing, Stage, Replying, file_of, Cleans, Compacting}
 use Rattle.jv_model.specs.client.Submission.{by_limits, is_flushed}
-use Rattle.jv_model.specs.journal.State.{State, or_empty, answer_then, reply_of_answer}
+use Rattle.jv_model.specs.journal.State.{State, or_empty, answer_then, reply_of_answer, is_cleaning, is_compaction}
 use Rattle.jv_model.specs.journal.Reading.{Asked, asked_parts, bytes_between, is_fresh, cited_view, part_read, is_full, only_if, joined, read_on, reading}
-use Rattle.jv_model.specs.journal.Steps.{Start, MayStep, MayAnswer, Fails, Settles, AtOnce, CountsCache, ReadsViews, CleanedUp, HasCompacted, HasCollected, HasUploaded, Refuses, TooShort, HasReplaced, Sent, FoundNone, asked_of, file_in_use, may_read_on, is_ready, ReadsFresh, told_of}
+use Rattle.jv_model.specs.journal.Steps.{Start, MayStep, MayAnswer, Fails, Settles, AtOnce, CountsCache, ReadsViews, CleanedUp, HasCompacted, HasCollected, HasUploaded, Refuses, TooShort, HasReplaced, Sent, FoundNone, asked_of, file_in_use, may_read_on, is_ready, ReadsFresh, told_of, is_failure}
 use Rattle.jv_model.specs.journal.Past.{Setup, Past, at_start, begun_to, reached, reply_of, settled_reply, told_reply, or_no_bytes}
 use Rattle.jv_model.specs.journal.Legal.{Refuses as RefusesSubmission, LacksMemory as RefusalLacks}
 use Rattle.jv_model.specs.journal.Looks.{IsFreshLook}
-use Rattle.jv_laws.specs.Laws.{ReadsAreOfFreshLooks, AreSeen, AreRead, NoPart, OnePart, TwoParts, Returns}
+use Rattle.jv_laws.specs.Laws.{ReadsAreOfFreshLooks, AreSeen, AreRead, NoPart, OnePart, TwoParts, Returns, ReadsCiteLooks, CitesLooks, is_fine_answer}
+use Rattle.jv_laws.proofs.JournalStageLaws.{stage_fits, FitsIf, FitsClient, all_fit}
 use Rattle.jv_laws.proofs.JournalGrowthLaws.{AllAllowed-parts}
 use Rattle.jv_laws.proofs.JournalStates.{Entry, Steps, RefusedSubmission, LacksMemory, Crashes, Publishes, OfDrain, Ticks, entry_of}
 use Rattle.jv_laws.proofs.JournalLooksLaws.{IsShown, AllShown, shown, view_seen, first_found}
@@ -237,3 +238,95 @@ reads_seen run journal act may some d busy handle offset len reads first second 
     let parts = AllAllowed-parts (at_start run) journal (act ∷ []) may in
     let b = begun_to act.line (reached run journal) in
     entry_read run journal b act some d busy ((shown run journal parts.0 act.line).clients act.client) (sound run journal parts.0 act.line act.client some) handle offset len reads first second count k (entry_of b act parts.1.0)
+
+-- a read that is done cites looks
+
+cited : (first second number : ℕ) (t : Told) → t ≡ Looks first second number → CitesLooks (Answered t)
+cited first second number t e = record { first = first; second = second; number = number; kind = ap Answered e }
+
+not_done : (told : Told) → IsTrue (is_fine_answer (Answered told)) → IsTrue (is_failure told) → ⊥
+not_done (Fine a b c d) fine h = cc
+not_done (Looks first second len) fine h = cc
+not_done (ToldRefused fault) fine h = cc
+
+module _ (limits : Limits) (start : Start) (alone : Bool) (s : State) (client now : ℕ) (c : ModelClient) (d : Doing) (h : Sound limits c.handles c.pending d) (fits : IsTrue (stage_fits d.does d.stage)) (offset len : ℕ) (told : Told) (fine : IsTrue (is_fine_answer (Answered told))) where
+  no_stage : DoesRead offset len d.does → (stage : Stage) → d.stage ≡ stage → ((does : Does) → IsTrue (stage_fits does stage) → DoesRead offset len does → ⊥) → ⊥
+  no_stage does stage e off = off d.does (subst (λ st. IsTrue (stage_fits d.does st)) e fits) does
+
+  not_cleaning : (does : Does) → IsTrue (is_cleaning does) → DoesRead offset len does → ⊥
+  not_cleaning does f (ReadsNothing none e) = let g = subst (λ x. IsTrue (is_cleaning x)) e f in cc
+  not_cleaning does f (ReadsRange e) = let g = subst (λ x. IsTrue (is_cleaning x)) e f in cc
+
+  not_compacting : (does : Does) → IsTrue (is_compaction does) → DoesRead offset len does → ⊥
+  not_compacting does f (ReadsNothing none e) = let g = subst (λ x. IsTrue (is_compaction x)) e f in cc
+  not_compacting does f (ReadsRange e) = let g = subst (λ x. IsTrue (is_compaction x)) e f in cc
+
+  not_collecting : d.does ≡ Collects → DoesRead offset len d.does → ⊥
+  not_collecting e (ReadsNothing none f) = cc
+  not_collecting e (ReadsRange f) = cc
+
+  not_uploading : d.does ≡ Uploads → DoesRead offset len d.does → ⊥
+  not_uploading e (ReadsNothing none f) = cc
+  not_uploading e (ReadsRange f) = cc
+
+  not_counting : d.does ≡ Answers answer.CacheStats → DoesRead offset len d.does → ⊥
+  not_counting e (ReadsNothing none f) = cc
+  not_counting e (ReadsRange f) = cc
+
+  settled_cites : (r : Reply) → DoesRead offset len d.does → told ≡ told_of r → IsSettled d.does (is_flushed d.flush c.pending) r → CitesLooks (Answered told)
+  settled_cites r does e (IsRefusedReply x) = absurd (fine_not_refused told r fine e x)
+  settled_cites r (ReadsRange does) e (IsDoneReply f g) = let never : IsFineReply (Reads offset len) r = subst (λ x. IsFineReply x r) does g in absurd never
+  settled_cites r (ReadsNothing none does) e (IsDoneReply f g) =
+      let same : reply_of_answer answer.NoData ≡ Some r = subst (λ x. IsFineReply x r) does g in
+      let data_none : r ≡ reply.Data [] = cc in
+      cited 0 0 0 told (e ∙ ap told_of data_none)
+
+  at_once_cites : DoesRead offset len d.does → option_map told_of (answer_then c d) ≡ Some told → CitesLooks (Answered told)
+  at_once_cites (ReadsRange does) same =
+      let never : ◌≡◌ {A = Option Told} None (Some told) = subst (λ x. option_map told_of (answer_then c (record d { does = x })) ≡ Some told) does same in
+      absurd (cc)
+  at_once_cites (ReadsNothing none does) same =
+      let nothing : ◌≡◌ {A = Option Told} (Some (Looks 0 0 0)) (Some told) = subst (λ x. option_map told_of (answer_then c (record d { does = x })) ≡ Some told) does same in
+      cited 0 0 0 told (cc)
+
+  answer_cites : DoesRead offset len d.does → MayAnswer start alone s client now c d told → CitesLooks (Answered told)
+  answer_cites does (Fails m f) = absurd (not_done told fine f)
+  answer_cites does (Settles r e same) = settled_cites r does same (stage_flushed c d (Replying r) h.stage e)
+  answer_cites does (AtOnce a) = at_once_cites does a.same
+  answer_cites does (CountsCache hits misses cached e same) = absurd (not_counting e does)
+  answer_cites does (ReadsViews r) = cited r.first r.second (length r.bytes) told r.same
+  answer_cites does (CleanedUp e) = absurd (no_stage does (Cleans e.k) e.stage not_cleaning)
+  answer_cites does (HasCompacted (TooShort k records e q m few same)) = absurd (no_stage does (Compacting k) e not_compacting)
+  answer_cites does (HasCompacted (HasReplaced k before after e m few same)) = absurd (no_stage does (Compacting k) e not_compacting)
+  answer_cites does (HasCollected number bytes e j same) = absurd (not_collecting e does)
+  answer_cites does (HasUploaded e u) = absurd (not_uploading e does)
+  answer_cites does (Refuses fault m r same) = let off : IsTrue (is_fine_answer (Answered (ToldRefused fault))) = subst (λ t. IsTrue (is_fine_answer (Answered t))) same fine in absurd (cc)
+
+step_cites : (limits : Limits) (start : Start) (alone : Bool) (s : State) (client now : ℕ) (c : ModelClient) (d : Doing) → Sound limits c.handles c.pending d → IsTrue (stage_fits d.does d.stage) → (offset len : ℕ) → DoesRead offset len d.does
+    → (kind : ActKind) → IsTrue (is_fine_answer kind) → MayStep start alone s client now c d kind → CitesLooks kind
+step_cites limits start alone s client now c d h fits offset len does (Answered told) fine may = answer_cites limits start alone s client now c d h fits offset len told fine does may
+step_cites limits start alone s client now c d h fits offset len does _ fine may = absurd (cc)
+
+fine_not : (told : Told) (kind : ActKind) → IsTrue (is_fine_answer kind) → kind ≡ Answered told → is_fine_answer (Answered told) ≡ false → ⊥
+fine_not told kind fine e off = let same = ap is_fine_answer e in cc
+
+entry_cites : (run : Setup) (p : Past) (act : Act) → Entry p act → (act.client ≡ NO_CLIENT → ⊥) → (d : Doing) → (p.state.clients act.client).doing ≡ Some d → (handle offset len : ℕ) → d.op ≡ op.Read handle offset len → IsTrue (is_fine_answer act.kind)
+    → SoundClient run.limits (p.state.clients act.client) → FitsClient (p.state.clients act.client) → CitesLooks act.kind
+entry_cites run p act (Steps x e may) some d busy handle offset len reads fine ok fits =
+    let same : x ≡ d = cc in
+    let h = subst (SoundIf run.limits (p.state.clients act.client).handles (p.state.clients act.client).pending) busy ok in
+    step_cites run.limits p.run.start (p.run.uploads == 0) p.state act.client act.at (p.state.clients act.client) d h (subst FitsIf busy fits) offset len (does_read run.limits d.op handle offset len d.does h.does reads) act.kind fine
+    (subst (λ y. MayStep p.run.start (p.run.uploads == 0) p.state act.client act.at (p.state.clients act.client) y act.kind) same may)
+entry_cites run p act (RefusedSubmission fault e (RefusesSubmission k)) some d busy handle offset len reads fine ok fits = absurd (fine_not _ act.kind fine k refl)
+entry_cites run p act (RefusedSubmission fault e (RefusalLacks b k)) some d busy handle offset len reads fine ok fits = absurd (fine_not _ act.kind fine k refl)
+entry_cites run p act (LacksMemory e k) some d busy handle offset len reads fine ok fits = absurd (fine_not _ act.kind fine k refl)
+entry_cites run p act (Crashes e k) some d busy handle offset len reads fine ok fits = let off = ap is_fine_answer k in absurd (cc)
+entry_cites run p act (Publishes e k) some d busy handle offset len reads fine ok fits = absurd (some e)
+entry_cites run p act (OfDrain client e due k) some d busy handle offset len reads fine ok fits = absurd (some e)
+entry_cites run p act (Ticks by e k) some d busy handle offset len reads fine ok fits = absurd (some e)
+
+pub reads_cite : ReadsCiteLooks
+reads_cite run journal act may some d busy handle offset len reads fine =
+    let parts = AllAllowed-parts (at_start run) journal (act ∷ []) may in
+    let b = begun_to act.line (reached run journal) in
+    entry_cites run b act (entry_of b act parts.1.0) some d busy handle offset len reads fine (sound run journal parts.0 act.line act.client some) (all_fit run journal parts.0 act.line act.client some)

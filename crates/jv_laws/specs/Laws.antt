@@ -4,7 +4,7 @@ use Rattle.std.specs.List.{AllByRecursion, list_any}
 use Rattle.jv_model.specs.declared.limits.TheConstants.{LAST_MOMENT}
 use Rattle.jv_model.specs.declared.act.Act.{Act}
 use Rattle.jv_model.specs.declared.act.ActKind.{ActKind}
-use Rattle.jv_model.specs.declared.act.ActKind.TheVariants.{Mounted, Meta, Opened, Commit, Settled, Expired, Cleaned, Crashed, Ticked, Answered}
+use Rattle.jv_model.specs.declared.act.ActKind.TheVariants.{Mounted, Meta, Opened, Commit, Settled, Expired, Purged, Cleaned, Crashed, Ticked, Answered}
 use Rattle.jv_model.specs.client.Origins.{Owed}
 use Rattle.jv_model.specs.tree.Tree.{Tree, content_at, node_at}
 use Rattle.jv_model.specs.FiniteMap.{get}
@@ -249,6 +249,19 @@ ReadsAreOfFreshLooks = (run : Setup) (journal : List Act) (act : Act) → AllAll
     → (handle offset len : ℕ) → d.op ≡ op.Read handle offset len → (first second number : ℕ) → act.kind ≡ Answered (Looks first second number)
     → Returns run journal act.client ((begun_to act.line (reached run journal)).state.clients act.client) d handle offset len first second number
 
+-- an entry answers with two looks and a number
+pub record CitesLooks (answer : ActKind) : Type 0 where
+  pub first : ℕ
+  pub second : ℕ
+  pub number : ℕ
+  pub kind : answer ≡ Answered (Looks first second number)
+
+-- a read that is done is answered with its looks
+abbrev pub ReadsCiteLooks : Type 0
+ReadsCiteLooks = (run : Setup) (journal : List Act) (act : Act) → AllAllowed (at_start run) (journal ++ act ∷ []) → (act.client ≡ NO_CLIENT → ⊥)
+    → (d : Doing) → ((begun_to act.line (reached run journal)).state.clients act.client).doing ≡ Some d
+    → (handle offset len : ℕ) → d.op ≡ op.Read handle offset len → IsTrue (is_fine_answer act.kind) → CitesLooks act.kind
+
 -- lines
 
 abbrev pub is_answer : ActKind → Bool
@@ -338,3 +351,15 @@ pub record IsGone (journal : List Act) (t : Tree) (inode : ℕ) : Type 0 where
 abbrev pub DropsOnlyGone : Type 0
 DropsOnlyGone = (run : Setup) (journal : List Act) (act : Act) → AllAllowed (at_start run) (journal ++ act ∷ []) → (inode : ℕ) → act.kind ≡ Cleaned 8 inode
     → IsGone journal (begun_to act.line (reached run journal)).state.tree inode
+
+-- whether an entry is a cleaning's
+abbrev pub cleans : ActKind → Bool
+cleans (Expired sid) = true
+cleans (Purged inode) = true
+cleans (Cleaned table key) = true
+cleans _ = false
+
+-- only a cleaning cleans
+abbrev pub CleansOnlyInClean : Type 0
+CleansOnlyInClean = (run : Setup) (journal : List Act) (act : Act) → AllAllowed (at_start run) (journal ++ act ∷ []) → (act.client ≡ NO_CLIENT → ⊥) → IsTrue (cleans act.kind)
+    → (d : Doing) → ((begun_to act.line (reached run journal)).state.clients act.client).doing ≡ Some d → d.op ≡ op.Clean

@@ -1,5 +1,5 @@
 //! What holds of every journal that is legal so far. Each law is a function that does nothing.
-ghost use Rattle.jv_laws.specs.Laws.{RefusedLinesHaveOneEntry, DropsOnlyGone, ExpiresOnlyGone, DrainsSettleAll, EndedLinesHaveEntries, LinesHaveEntries, ReadsAreOfFreshLooks, AnswersModel, ClosesCommitWrites, NothingPending, FreshViewsAreFreshLooks, SettlesOwed, OwedCommits, JournalsGrow, EarlierTextStays, FollowsClock, OthersStay, EntriesAreCounted};
+ghost use Rattle.jv_laws.specs.Laws.{ReadsCiteLooks, CleansOnlyInClean, RefusedLinesHaveOneEntry, DropsOnlyGone, ExpiresOnlyGone, DrainsSettleAll, EndedLinesHaveEntries, LinesHaveEntries, ReadsAreOfFreshLooks, AnswersModel, ClosesCommitWrites, NothingPending, FreshViewsAreFreshLooks, SettlesOwed, OwedCommits, JournalsGrow, EarlierTextStays, FollowsClock, OthersStay, EntriesAreCounted};
 
 /// A journal is legal so far if and only if each part of it is, from where the entries before it lead.
 pub fn journals_grow()
@@ -93,4 +93,14 @@ pub fn drops_only_gone()
 /// A line whose operation is refused at its submission has that answer alone.
 pub fn refused_lines_have_one_entry()
     ensures { RefusedLinesHaveOneEntry }
+{}
+
+/// Only a `clean` ends sessions, purges and drops rows.
+pub fn cleans_only_in_clean()
+    ensures { CleansOnlyInClean }
+{}
+
+/// A read that is done is answered with the looks that it cites.
+pub fn reads_cite_looks()
+    ensures { ReadsCiteLooks }
 {}
