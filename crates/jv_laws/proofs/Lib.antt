@@ -8,4 +8,5 @@ pub mod JournalLineLaws
 pub mod JournalLooksLaws
 pub mod JournalOwedLaws
 pub mod JournalReadLaws
+pub mod JournalStageLaws
 pub mod JournalStates
