@@ -26,3 +26,11 @@ pub mod JournalReadLaws
 pub mod JournalLineLaws
 pub mod JournalCleaningLaws
 pub mod JournalStageLaws
+pub mod WalkExamples
+pub mod TrashExamples
+pub mod RemovingExamples
+pub mod RenamingExamples
+pub mod SessionsExamples
+pub mod FileBytesExamples
+pub mod MakingExamples
+pub mod HourNamesExamples

@@ -4,5 +4,6 @@ pub mod Looks
 pub mod State
 pub mod Steps
 pub mod Past
+pub mod Stepping
 pub mod Legal
 pub mod Laws
