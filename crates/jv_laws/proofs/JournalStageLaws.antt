@@ -20,7 +20,7 @@ use Rattle.jv_model.specs.client.Origins.{Owed}
 use Rattle.jv_model.specs.client.Profile.{profile, handle_of}
 use Rattle.jv_model.specs.client.ModelClient.{ModelClient, OpenFile, View, Doing, Stage, Cleaning, Files, Blocks, Working, Reading, Missing, LookedAgain, Compacting, Cleans, Requesting, Replying, unmounted, with_stage, views_without}
 use Rattle.jv_model.specs.client.Submission.{submission, submitted, by_limits, is_flushed}
-use Rattle.jv_model.specs.journal.State.{State, with_client, set_client, given, replied, transacted, newly_sustained, next_entry, gift_of, after_transaction, has_session, quieted, begun_quietly, flushing_on, looked, compaction_looked, missed, committed_stage, answer_then, replaced, after_told, answered_client, is_of_another, after_step, of_doing, changed, effect, view_now, is_compaction, is_cleaning, sees_first, first_cleaning}
+use Rattle.jv_model.specs.journal.State.{first_cleaning, is_last, is_collecting, requesting_on, State, with_client, set_client, given, replied, transacted, newly_sustained, next_entry, gift_of, after_transaction, has_session, quieted, begun_quietly, flushing_on, looked, compaction_looked, missed, committed_stage, answer_then, replaced, after_told, answered_client, is_of_another, after_step, of_doing, changed, effect, view_now, is_compaction, is_cleaning, sees_first, first_cleaning}
 use Rattle.jv_model.specs.journal.Reading.{Asked, asked_parts}
 use Rattle.jv_model.specs.journal.Steps.{Start, asked_of, file_in_use, window_to_look, part_in_use, LooksAt, CompactionLooks, CompactionMisses, MissesBlock, cleaning_in, CleansItem, DropsFile, MayStep}
 use Rattle.jv_model.specs.journal.Past.{Setup, Past, at_start, begun_to, reached}
@@ -134,7 +134,7 @@ module _ (s : State) (client : ℕ) (c : ModelClient) (now : ℕ) (d : Doing) (h
   fit_begun Truncates e = refl
   fit_begun Copies e = refl
   fit_begun Compacts e = refl
-  fit_begun DoesClean e = fit_if d.does (has_session s.tree c) _ _ (ap is_cleaning e) refl
+  fit_begun DoesClean e = fit_if d.does (has_session s.tree c || is_last first_cleaning.part) _ _ (ap is_cleaning e) refl
   fit_begun Collects e = ap requests_alone e
   fit_begun Uploads e = ap requests_alone e
 
@@ -147,8 +147,8 @@ module _ (s : State) (client : ℕ) (c : ModelClient) (now : ℕ) (d : Doing) (h
   fit_quieted (Missing misses window owed) g = fit_refused d.does (Missing misses window owed) _ g
   fit_quieted (LookedAgain misses window owed) g = g
   fit_quieted (Compacting k) g = fit_if d.does (is_some k.missed) _ _ (fit_refused d.does (Compacting k) _ g) g
-  fit_quieted (Cleans k) g = fit_if d.does (has_session s.tree c) _ _ g refl
-  fit_quieted (Requesting requests) g = g
+  fit_quieted (Cleans k) g = fit_if d.does (has_session s.tree c || is_last k.part) _ _ g refl
+  fit_quieted (Requesting requests) g = fit_if d.does (is_collecting d.does && (requests == 1) && not (has_session s.tree c)) _ _ refl g
   fit_quieted (Replying answer) g = refl
 
 -- what an entry says of its operation

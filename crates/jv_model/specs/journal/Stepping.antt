@@ -6,10 +6,9 @@ use Rattle.jv_model.specs.declared.act.ActKind.{ActKind}
 use Rattle.jv_model.specs.declared.act.ActKind.TheVariants.{Answered}
 use Rattle.jv_model.specs.declared.act.Told.{Told}
 use Rattle.jv_model.specs.declared.op.Reply.{Reply}
-use Rattle.jv_model.specs.declared.op.Reply.TheVariants as reply
 use Rattle.jv_model.specs.declared.op.Step.{Step}
 use Rattle.jv_model.specs.declared.op.Step.TheVariants.{More, Done}
-use Rattle.jv_model.specs.client.ModelClient.{ModelClient, Doing}
+use Rattle.jv_model.specs.client.ModelClient.{ModelClient}
 use Rattle.jv_model.specs.journal.State.{State, effect}
 use Rattle.jv_model.specs.journal.Steps.{Start, IsEntry}
 use Rattle.jv_model.specs.journal.Past.{ends_in_step, reply_of}
