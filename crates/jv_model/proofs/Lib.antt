@@ -21,6 +21,7 @@ pub mod RefusedReads
 pub mod RefusedSteps
 pub mod RefusedCommits
 pub mod RefusedCleanings
+pub mod RefusedChanges
 pub mod PastLaws
 pub mod LooksLaws
 pub mod GrowthLaws
