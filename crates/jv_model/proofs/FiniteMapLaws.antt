@@ -1,11 +1,11 @@
 -- What a finite map answers after a change.
-use Rattle.std.proofs.Common.{◌≡◌, ℕ, ◌+◌, Bool, true, false, cond, not, T, ◌&&◌, List, [], ◌∷◌, Option, None, Some, refl, sym, ap, ◌∙◌, arith}
+use Rattle.std.proofs.Common.{◌≡◌, ℕ, ◌+◌, Bool, true, false, cond, not, T, ◌&&◌, List, [], ◌∷◌, Option, None, Some, refl, sym, ap, subst, ◌∙◌, arith}
 use Rattle.std.specs.declared.cmp.Ordering.{Ordering}
 use Rattle.std.specs.declared.cmp.Ordering.TheVariants.{Less, Equal, Greater}
 use Rattle.std.specs.Ordering.{eq_by_cmp, is_eq, is_lt}
 use Rattle.std.specs.Cmp.{alike_right, eq_by_cmp_equiv}
-use Rattle.std.specs.FinMap.Entries.{put, find, below_all, is_sorted, find-put, find-where_key, same_entries, by_order}
-use Rattle.jv_model.specs.FiniteMap.{KeyOrder, Map, empty_map, get, insert, remove, alter, map_of, maps_of_entries, sum_over, total_over}
+use Rattle.std.specs.FinMap.Entries.{put, find, where_key, below_all, is_sorted, find-put, find-where_key, same_entries, by_order}
+use Rattle.jv_model.specs.FiniteMap.{KeyOrder, Map, empty_map, first_passing, first_where, get, insert, remove, retain_keys, alter, map_of, maps_of_entries, sum_over, total_over}
 
 -- what an entry adds to a sum
 abbrev pub share : {K X : Type 0} → (K → X → ℕ) → K → Option X → ℕ
@@ -40,6 +40,10 @@ module _ {K X : Type 0} {order : KeyOrder K} where
   get-remove m k q =
       find-where_key order.cmp (λ x. not (eq_by_cmp order.cmp k x)) q (λ x t. ap (λ r. not (is_eq r)) (sym (alike_right order.total q x k t))) m.list
       ∙ turned (eq_by_cmp order.cmp k q) _ _ ∙ ap (λ b. cond b None (get m q)) ((eq_by_cmp_equiv order.total).symm k q)
+
+  pub get-retain_keys : (m : Map order X) (test : K → Bool) (q : K) → get (retain_keys test m) q ≡ cond (test q) (get m q) None
+  unfolding get retain_keys
+  get-retain_keys m test q = find-where_key order.cmp test q (λ x t. ap test (sym (order.same q x t))) m.list
 
   pub get-alter : (m : Map order X) (k : K) (v : Option X) (q : K) → get (alter m k v) q ≡ cond (eq_by_cmp order.cmp q k) v (get m q)
   get-alter m k None q = get-remove m k q
@@ -89,3 +93,72 @@ module _ {K X : Type 0} (order : KeyOrder K) (f : K → X → ℕ) where
   pub sum-insert : (m : Map order X) (k : K) (v : X) → sum_over f (insert m k v) + share f k (get m k) ≡ sum_over f m + f k v
   unfolding sum_over insert get
   sum-insert m k v = total-put k v m.list m.sorted
+
+  find-below_all : (k : K) (es : List (K × X)) → T (below_all order.cmp k es) → find order.cmp k es ≡ None
+  find-below_all k [] h = refl
+  find-below_all k (e ∷ es) h =
+      ap (λ o. cond (is_eq o) (Some e.1) (find order.cmp k es)) (less_is _ (first_of_both _ _ h)) ∙ find-below_all k es (second_of_both _ _ h)
+
+  equal_is : (o : Ordering) → is_eq o ≡ true → o ≡ Equal
+  equal_is Less p = absurd (cc)
+  equal_is Equal p = refl
+  equal_is Greater p = absurd (cc)
+
+  -- the entries without a key
+  abbrev without : K → List (K × X) → List (K × X)
+  without k es = where_key order.cmp (λ q. not (eq_by_cmp order.cmp k q)) es
+
+  total-without_at : (k : K) (e : K × X) (es : List (K × X)) (b : Bool) → eq_by_cmp order.cmp k e.0 ≡ b → T (below_all order.cmp e.0 es)
+      → total_over f (without k es) + share f k (find order.cmp k es) ≡ total_over f es
+      → total_over f (cond (not b) (e ∷ without k es) (without k es)) + share f k (cond b (Some e.1) (find order.cmp k es)) ≡ f e.0 e.1 + total_over f es
+  total-without_at k e es true p below rest =
+      let same : k ≡ e.0 = order.same k e.0 (equal_is _ p) in
+      let absent : share f k (find order.cmp k es) ≡ 0 = ap (share f k) (find-below_all k es (subst (λ q. T (below_all order.cmp q es)) (sym same) below)) in
+      let one : f k e.1 ≡ f e.0 e.1 = ap (λ q. f q e.1) same in
+      omega (arith, absent, one, rest)
+  total-without_at k e es false p below rest = omega (arith, rest)
+
+  total-without : (k : K) (es : List (K × X)) → T (is_sorted order.cmp es) → total_over f (without k es) + share f k (find order.cmp k es) ≡ total_over f es
+  total-without k [] h = refl
+  total-without k (e ∷ es) h =
+      total-without_at k e es (eq_by_cmp order.cmp k e.0) refl (first_of_both _ _ h) (total-without k es (second_of_both _ _ h))
+
+  pub sum-remove : (m : Map order X) (k : K) → sum_over f (remove m k) + share f k (get m k) ≡ sum_over f m
+  unfolding sum_over remove get
+  sum-remove m k = total-without k m.list m.sorted
+
+-- the first entry that passes a test
+
+pub record IsFound {K X : Type 0} {order : KeyOrder K} (test : K → X → Bool) (m : Map order X) (key : K) (value : X) : Type 0 where
+  pub there : get m key ≡ Some value
+  pub passes : test key value ≡ true
+
+record FoundIn {K X : Type 0} (order : KeyOrder K) (test : K → X → Bool) (es : List (K × X)) (key : K) (value : X) : Type 0 where
+  there : find order.cmp key es ≡ Some value
+  passes : test key value ≡ true
+
+module _ {K X : Type 0} (order : KeyOrder K) (test : K → X → Bool) where
+  find-self_below : (x : K) (es : List (K × X)) → T (below_all order.cmp x es) → find order.cmp x es ≡ None
+  find-self_below x [] h = refl
+  find-self_below x (e ∷ es) h = ap (λ o. cond (is_eq o) (Some e.1) (find order.cmp x es)) (less_is _ (first_of_both _ _ h)) ∙ find-self_below x es (second_of_both _ _ h)
+
+  found_later : (e : K × X) (es : List (K × X)) (k : K) (x : X) (o : Ordering) → order.cmp k e.0 ≡ o → find order.cmp k es ≡ Some x → T (below_all order.cmp e.0 es) → cond (is_eq o) (Some e.1) (find order.cmp k es) ≡ Some x
+  found_later e es k x Less p h below = h
+  found_later e es k x Greater p h below = h
+  found_later e es k x Equal p h below = let none : find order.cmp k es ≡ None = ap (λ q. find order.cmp q es) (order.same k e.0 p) ∙ find-self_below e.0 es below in absurd (cc)
+
+  found_here : (e : K × X) (es : List (K × X)) → find order.cmp e.0 (e ∷ es) ≡ Some e.1
+  found_here e es = ap (λ b. cond b (Some e.1) (find order.cmp e.0 es)) ((eq_by_cmp_equiv order.total).refl e.0)
+
+  found_branch : (e : K × X) (es : List (K × X)) (found : K × X) (b : Bool) → test e.0 e.1 ≡ b → T (below_all order.cmp e.0 es) → (first_passing test es ≡ Some found → FoundIn order test es found.0 found.1)
+      → (elim b as (λ _. Option (K × X)) [ true ↦ Some e | false ↦ first_passing test es ]) ≡ Some found → FoundIn order test (e ∷ es) found.0 found.1
+  found_branch e es found true t below rest h = let same : e ≡ found = cc in subst (λ (p : K × X). FoundIn order test (e ∷ es) p.0 p.1) same (record { there = found_here e es; passes = t })
+  found_branch e es found false t below rest h = let r = rest h in record { there = found_later e es found.0 found.1 (order.cmp found.0 e.0) refl r.there below; passes = r.passes }
+
+  found_in : (es : List (K × X)) (found : K × X) → T (is_sorted order.cmp es) → first_passing test es ≡ Some found → FoundIn order test es found.0 found.1
+  found_in [] found sorted h = absurd (cc)
+  found_in (e ∷ es) found sorted h = found_branch e es found (test e.0 e.1) refl (first_of_both _ _ sorted) (found_in es found (second_of_both _ _ sorted)) h
+
+  pub first_where-found : (m : Map order X) (found : K × X) → first_where test m ≡ Some found → IsFound test m found.0 found.1
+  unfolding first_where get
+  first_where-found m found h = let r = found_in m.list found m.sorted h in record { there = r.there; passes = r.passes }

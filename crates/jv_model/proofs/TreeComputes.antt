@@ -1,7 +1,7 @@
 -- What a proof on trees that are written out has to open, so that operations compute on them.
 use Rattle.std.specs.Prelude.{⊤}
 use Rattle.std.specs.Fmt.{digits}
-use Rattle.jv_model.specs.FiniteMap.{get, insert, remove, retain_keys, first_where, entries_where, sum_over}
+use Rattle.jv_model.specs.FiniteMap.{get, insert, remove, retain_keys, first_where, entries_where, key_count, sum_over}
 use Rattle.jv_model.specs.tree.Walk.{walk_names, walk}
 use Rattle.jv_model.specs.tree.HourNames.{hour_name}
 use Rattle.jv_model.specs.tree.Trash.{with_hour, trash_name}
@@ -14,7 +14,7 @@ use Rattle.jv_model.specs.tree.FileBytes.{truncate, copy}
 
 -- on an `unfolding` line: computes on finite maps that are written out
 unfoldable pub maps_compute : ⊤
-unfolding get insert remove retain_keys first_where entries_where sum_over
+unfolding get insert remove retain_keys first_where entries_where key_count sum_over
 maps_compute = tt
 
 -- computes the names of the trash

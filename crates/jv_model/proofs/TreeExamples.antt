@@ -5,7 +5,7 @@ use Rattle.jv_model.specs.declared.basics.How.TheVariants.{Plain, NoReplace, Exc
 use Rattle.jv_model.specs.declared.op.Op.TheVariants as op
 use Rattle.jv_model.proofs.ReplyTextExamples.{replies_on_literals}
 use Rattle.jv_model.proofs.TreeComputes.{tree_computes}
-use Rattle.jv_model.proofs.TreeRuns.{Event, Asks, Ticks, Purges, texts, start_of, plain_setting}
+use Rattle.jv_model.proofs.TreeRuns.{Event, Asks, Ticks, Expires, Purges, texts, start_of, plain_setting, plain_start, trash_start}
 
 -- Directories, links and symlinks, each with what is refused of them.
 abbrev paths_are_walked_events : List Event
@@ -72,7 +72,7 @@ paths_are_walked_texts =
     ∷ codes "err ENAMETOOLONG"
     ∷ []
 
-paths_are_walked : texts (start_of plain_setting 1000) paths_are_walked_events ≡ paths_are_walked_texts
+paths_are_walked : texts plain_start paths_are_walked_events ≡ paths_are_walked_texts
 unfolding tree_computes replies_on_literals
 paths_are_walked = refl
 
@@ -103,7 +103,7 @@ dots_follow_symlinks_texts =
     ∷ codes "ok 12288 0 3 0"
     ∷ []
 
-dots_follow_symlinks : texts (start_of plain_setting 1000) dots_follow_symlinks_events ≡ dots_follow_symlinks_texts
+dots_follow_symlinks : texts plain_start dots_follow_symlinks_events ≡ dots_follow_symlinks_texts
 unfolding tree_computes replies_on_literals
 dots_follow_symlinks = refl
 
@@ -200,7 +200,7 @@ open_files_stay_texts =
     ∷ codes "ok"
     ∷ []
 
-open_files_stay : texts (start_of plain_setting 1000) open_files_stay_events ≡ open_files_stay_texts
+open_files_stay : texts plain_start open_files_stay_events ≡ open_files_stay_texts
 unfolding tree_computes replies_on_literals
 open_files_stay = refl
 
@@ -264,3 +264,70 @@ trash_keeps_a_day_texts =
 trash_keeps_a_day : texts (start_of (record plain_setting { trash_days = 1 }) 1709251199) trash_keeps_a_day_events ≡ trash_keeps_a_day_texts
 unfolding tree_computes replies_on_literals
 trash_keeps_a_day = refl
+
+-- Four clients on a volume with trash: a file is moved and removed while another client has it open.
+abbrev a_day_of_use_events : List Event
+a_day_of_use_events =
+    Asks 0 (op.Mount false)
+    ∷ Asks 1 (op.Mount false)
+    ∷ Asks 2 (op.Mount false)
+    ∷ Asks 3 (op.Mount false)
+    ∷ Asks 0 (op.Mkdir (codes "/home") 493)
+    ∷ Asks 0 (op.Mkdir (codes "/home/docs") 493)
+    ∷ Asks 0 (op.Create (codes "/home/big") 420)
+    ∷ Asks 0 (op.Write 1 0 (97 ∷ 97 ∷ []))
+    ∷ Asks 0 (op.Close 1)
+    ∷ Ticks 28800
+    ∷ Asks 0 op.Beat
+    ∷ Asks 1 op.Beat
+    ∷ Asks 2 op.Beat
+    ∷ Asks 3 op.Beat
+    ∷ Asks 1 (op.Open (codes "/home/big"))
+    ∷ Asks 1 (op.Read 1 0 4)
+    ∷ Asks 2 (op.Rename (codes "/home/big") (codes "/home/docs/big") Plain)
+    ∷ Asks 3 (op.Unlink (codes "/home/docs/big"))
+    ∷ Asks 3 (op.Readdir (codes "/.trash/1970-01-01-08"))
+    ∷ Asks 1 (op.Read 1 0 4)
+    ∷ Expires 0
+    ∷ Purges
+    ∷ Asks 1 (op.Close 1)
+    ∷ Asks 0 op.Umount
+    ∷ Asks 1 op.Umount
+    ∷ Asks 2 op.Umount
+    ∷ Asks 3 op.Umount
+    ∷ []
+
+abbrev a_day_of_use_texts : List (List ℕ)
+a_day_of_use_texts =
+    codes "ok 1"
+    ∷ codes "ok 2"
+    ∷ codes "ok 3"
+    ∷ codes "ok 4"
+    ∷ codes "ok 2"
+    ∷ codes "ok 3"
+    ∷ codes "ok 1 4"
+    ∷ codes "ok 2"
+    ∷ codes "ok"
+    ∷ codes "-"
+    ∷ codes "ok"
+    ∷ codes "ok"
+    ∷ codes "ok"
+    ∷ codes "ok"
+    ∷ codes "ok 1 4"
+    ∷ codes "ok 6161"
+    ∷ codes "ok"
+    ∷ codes "ok"
+    ∷ codes "ok 3-4-big:4"
+    ∷ codes "ok 6161"
+    ∷ codes "none"
+    ∷ codes "none"
+    ∷ codes "ok"
+    ∷ codes "ok"
+    ∷ codes "ok"
+    ∷ codes "ok"
+    ∷ codes "ok"
+    ∷ []
+
+a_day_of_use : texts trash_start a_day_of_use_events ≡ a_day_of_use_texts
+unfolding tree_computes replies_on_literals
+a_day_of_use = refl

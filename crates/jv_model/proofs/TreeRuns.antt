@@ -148,3 +148,10 @@ plain_setting = record {
 
 abbrev pub start_of : Setting → ℕ → RunState
 start_of setting now = record { tree = fresh_tree setting now; now = now; clients = λ _. record { sid = 0; files = [] } }
+
+abbrev pub plain_start : RunState
+plain_start = start_of plain_setting 1000
+
+-- a volume whose trash keeps files for a day
+abbrev pub trash_start : RunState
+trash_start = start_of (record plain_setting { trash_days = 1 }) 1000

@@ -1,5 +1,5 @@
 -- Finite maps that compute in closed proofs: a list of entries whose keys strictly rise.
-use Rattle.std.specs.Prelude.{◌≡◌, ℕ, ◌+◌, Bool, true, false, not, List, [], ◌∷◌, filter, Option, None, Some}
+use Rattle.std.specs.Prelude.{◌≡◌, ℕ, ◌+◌, Bool, true, false, not, List, [], ◌∷◌, length, filter, Option, None, Some}
 use Rattle.std.proofs.Common.{T}
 use Rattle.std.specs.Coded.{Coded, coded×, coded_list}
 use base.Stored.{coded_via}
@@ -59,6 +59,10 @@ module _ {K X : Type 0} {order : KeyOrder K} where
     sorted = is_sorted-where_key order.cmp (λ q. not (eq_by_cmp order.cmp k q)) m.list m.sorted;
   }
 
+  -- the number of entries
+  unfoldable pub key_count : Map order X → ℕ
+  key_count m = length m.list
+
   -- the entries whose keys pass a test
   unfoldable pub retain_keys : (K → Bool) → Map order X → Map order X
   retain_keys test m = record {
@@ -87,7 +91,8 @@ module _ {K X : Type 0} {order : KeyOrder K} where
   -- maps with the same entries are the same
   pub maps_of_entries : (m n : Map order X) → m.list ≡ n.list → m ≡ n
   maps_of_entries m n e =
-      let pairs : ◌≡◌ {A = (es : List (K × X)) × T (is_sorted order.cmp es)} (m.list, m.sorted) (n.list, n.sorted) = Σ_prop_path (λ es. T_prop _) e in
+      let pairs : ◌≡◌ {A = (es : List (K × X)) × T (is_sorted order.cmp es)} (m.list, m.sorted) (n.list, n.sorted) =
+      Σ_prop_path (λ es. T_prop _) e in
       λ i. record { list = (pairs i).0; sorted = (pairs i).1 }
 
   -- a map is stored as its entries

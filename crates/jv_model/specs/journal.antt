@@ -1,6 +1,9 @@
 -- The journal: what it has come to, what may stand in it, what it prints, and when it is legal.
 pub mod Reading
+pub mod Looks
 pub mod State
 pub mod Steps
 pub mod Past
+pub mod Stepping
 pub mod Legal
+pub mod Laws

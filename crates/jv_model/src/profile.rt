@@ -1,4 +1,9 @@
 //! What a client has to know of an operation before its first step.
+ghost use Rattle.std.specs.Prelude.{◌≡◌};
+ghost use Rattle.jv_model.specs.client.Profile.{profile, on_file, read_does, write_profile};
+
+use crate::limits::FILE_END;
+use crate::op::Op;
 
 /// The handles that an operation names, in the order of its words.
 #[derive(Clone, Copy, Debug, PartialEq, Eq)]
@@ -65,4 +70,129 @@ pub struct Profile {
     pub end: u128,
     pub flushes: Flushes,
     pub does: Does,
+}
+
+/// One metadata transaction of a mounted client, on paths or on nothing.
+const TRANSACTION: Profile = Profile {
+    needs_mount: true,
+    handles: Handles::None,
+    opens: false,
+    end: 0,
+    flushes: Flushes::Nothing,
+    does: Does::Transacts,
+};
+
+impl Op {
+    /// What the operation needs before its first step, what it commits first, and what it does then.
+    pub fn profile(&self) -> Profile
+        ensures { result ≡ profile self.now }
+    {
+        match self {
+            Op::Mount { writeback } => Profile {
+                needs_mount: false,
+                does: Does::Mounts(*writeback),
+                ..TRANSACTION
+            },
+            Op::Umount => Profile {
+                flushes: Flushes::Everything,
+                ..TRANSACTION
+            },
+            Op::Fstat { handle } => on_file(*handle, Does::Transacts),
+            Op::Create { .. } | Op::Open { .. } => Profile {
+                opens: true,
+                ..TRANSACTION
+            },
+            Op::Close { handle } => on_file(*handle, Does::Releases),
+            Op::Flush { handle } => on_file(*handle, Does::Answers(Answer::Done)),
+            Op::Read {
+                handle,
+                offset,
+                len,
+            } => on_file(*handle, read_does(*offset, *len)),
+            Op::Write {
+                handle,
+                offset,
+                bytes,
+            } => write_profile(*handle, *offset, bytes.len() as u64),
+            Op::Truncate { handle, .. } => on_file(*handle, Does::Truncates),
+            Op::Copy { source, target, .. } => Profile {
+                handles: Handles::Two(*source, *target),
+                flushes: Flushes::ItsFiles,
+                does: Does::Copies,
+                ..TRANSACTION
+            },
+            Op::Compact { .. } => Profile {
+                does: Does::Compacts,
+                ..TRANSACTION
+            },
+            Op::Clean => Profile {
+                does: Does::Cleans,
+                ..TRANSACTION
+            },
+            Op::Gc { .. } => Profile {
+                does: Does::Collects,
+                ..TRANSACTION
+            },
+            Op::Upload => Profile {
+                needs_mount: false,
+                does: Does::Uploads,
+                ..TRANSACTION
+            },
+            Op::Stats => Profile {
+                does: Does::Answers(Answer::CacheStats),
+                ..TRANSACTION
+            },
+            Op::Beat
+            | Op::Lookup { .. }
+            | Op::Stat { .. }
+            | Op::Lstat { .. }
+            | Op::Mkdir { .. }
+            | Op::Readdir { .. }
+            | Op::Chmod { .. }
+            | Op::Chown { .. }
+            | Op::Utimes { .. }
+            | Op::Statfs
+            | Op::Symlink { .. }
+            | Op::Readlink { .. }
+            | Op::Unlink { .. }
+            | Op::Rmdir { .. }
+            | Op::Link { .. }
+            | Op::Rename { .. } => TRANSACTION,
+        }
+    }
+}
+
+/// An operation on the file of a handle, whose pending bytes are committed first.
+fn on_file(handle: u64, does: Does) -> Profile
+    ensures { result ≡ on_file handle does }
+{
+    Profile {
+        handles: Handles::One(handle),
+        flushes: Flushes::ItsFiles,
+        does,
+        ..TRANSACTION
+    }
+}
+
+/// A range of which no position lies before the end of the longest file has no byte.
+fn read_does(offset: u64, len: u32) -> Does
+    ensures { result ≡ read_does offset len }
+{
+    if len == 0 || offset >= FILE_END {
+        Does::Answers(Answer::NoData)
+    } else {
+        Does::Reads(offset, len)
+    }
+}
+
+fn write_profile(handle: u64, offset: u64, len: u64) -> Profile
+    ensures { result ≡ write_profile handle offset len }
+{
+    Profile {
+        handles: Handles::One(handle),
+        end: u128::from(offset) + u128::from(len),
+        flushes: Flushes::IfFull(len),
+        does: Does::Answers(Answer::Count(len)),
+        ..TRANSACTION
+    }
 }

@@ -23,6 +23,15 @@ on_file handle does = record transaction { handles = handles.One handle; flushes
 abbrev pub read_does : ℕ → ℕ → Does
 read_does offset len = (if (len == 0) || nat_le FILE_END offset then Answers NoData else Reads offset len)
 
+-- a number of bytes from an offset on
+abbrev pub write_profile : ℕ → ℕ → ℕ → Profile
+write_profile handle offset len = record transaction {
+  handles = handles.One handle;
+  end = offset + len;
+  flushes = IfFull len;
+  does = Answers (Count len);
+}
+
 abbrev pub profile : Op → Profile
 profile (op.Mount writeback) = record transaction { needs_mount = false; does = Mounts writeback }
 profile op.Umount = record transaction { flushes = Everything }
@@ -37,12 +46,7 @@ profile (op.Open path) = record transaction { opens = true }
 profile (op.Close handle) = on_file handle Releases
 profile (op.Flush handle) = on_file handle (Answers Done)
 profile (op.Read handle offset len) = on_file handle (read_does offset len)
-profile (op.Write handle offset bytes) = record transaction {
-  handles = handles.One handle;
-  end = offset + length bytes;
-  flushes = IfFull (length bytes);
-  does = Answers (Count (length bytes));
-}
+profile (op.Write handle offset bytes) = write_profile handle offset (length bytes)
 profile (op.Truncate handle len) = on_file handle Truncates
 profile (op.Copy source from target to len) = record transaction { handles = handles.Two source target; flushes = ItsFiles; does = Copies }
 profile (op.Readdir path) = transaction

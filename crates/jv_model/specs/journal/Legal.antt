@@ -40,7 +40,7 @@ abbrev is_owed : State → ℕ → Bool
 is_owed s commit = list_any (λ o. o.commit == commit) s.owed
 
 -- a publish: the last staged block of a commit, or another
-abbrev IsPublish : State → ActKind → Type 0
+abbrev pub IsPublish : State → ActKind → Type 0
 IsPublish s (Settled commit) = IsTrue (is_owed s commit)
 IsPublish s Quiet = Unit {0}
 IsPublish s _ = ⊥
@@ -69,7 +69,7 @@ OfLine p act (TickEntry by) = (act.client ≡ NO_CLIENT) × (act.kind ≡ Ticked
 OfLine p act (DrainEntries client) = (act.client ≡ NO_CLIENT) × Drains p.state client act.kind
 
 -- an entry of an uploading thread, of which there are some, on a line of the script
-abbrev OfWorker : Past → Act → Type 0
+abbrev pub OfWorker : Past → Act → Type 0
 OfWorker p act = IsTrue (nat_lt 0 p.run.uploads) × (act.client ≡ NO_CLIENT) × IsPublish p.state act.kind × IsTrue (nat_le p.line (length p.run.script))
 
 -- an entry may stand, its line being the present one

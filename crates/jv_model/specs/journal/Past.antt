@@ -156,7 +156,7 @@ begun_to line p = begun_by (line - p.line) p
 
 -- answers
 
-abbrev or_no_bytes : Option (List ℕ) → List ℕ
+abbrev pub or_no_bytes : Option (List ℕ) → List ℕ
 or_no_bytes None = []
 or_no_bytes (Some bytes) = bytes
 
@@ -191,12 +191,12 @@ fine_reply DoesClean a b c d = reply.Cleanup a b c d
 fine_reply Collects a b c d = reply.Leaked a b
 fine_reply Uploads a b c d = reply.Uploaded (uploaded_of a b c d)
 
-abbrev told_reply : ModelClient → Doing → Told → Reply
+abbrev pub told_reply : ModelClient → Doing → Told → Reply
 told_reply c doing (Fine a b e f) = fine_reply doing.does a b e f
 told_reply c doing (Looks first second len) = reply.Data (read_in c doing first second)
 told_reply c doing (ToldRefused fault) = reply.Refused fault
 
-abbrev settled_reply : Stage → Option Reply
+abbrev pub settled_reply : Stage → Option Reply
 settled_reply (Replying r) = Some r
 settled_reply _ = None
 
@@ -204,7 +204,7 @@ settled_reply _ = None
 abbrev pub reply_of : ModelClient → Doing → Told → Reply
 reply_of c doing told = elim (settled_reply doing.stage) [ None ↦ told_reply c doing told | Some settled ↦ settled ]
 
-abbrev refusal_reply : Told → Reply
+abbrev pub refusal_reply : Told → Reply
 refusal_reply (ToldRefused fault) = reply.Refused fault
 refusal_reply (Fine a b c d) = reply.Done
 refusal_reply (Looks first second len) = reply.Done
@@ -235,7 +235,7 @@ abbrev more_text : List ℕ
 more_text = with_feed (codes "more")
 
 -- what a request leaves due
-abbrev requested : Due → Due
+abbrev pub requested : Due → Due
 requested NoMore = NoMore
 requested (Refusal client fault) = Refusal client fault
 requested (MayLack client) = MayLack client

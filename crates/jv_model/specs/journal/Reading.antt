@@ -61,16 +61,16 @@ part_read views handle file entry asked = elim (cited_view views handle file ask
 abbrev pub is_full : Asked → List ℕ → Bool
 is_full asked bytes = length bytes == asked.to - asked.from
 
-abbrev only_if : Bool → List ℕ → Option (List ℕ)
+abbrev pub only_if : Bool → List ℕ → Option (List ℕ)
 only_if true bytes = Some bytes
 only_if false bytes = None
 
-abbrev joined : List ℕ → Option (List ℕ) → Option (List ℕ)
+abbrev pub joined : List ℕ → Option (List ℕ) → Option (List ℕ)
 joined bytes None = None
 joined bytes (Some more) = Some (bytes ++ more)
 
 -- the second window is read only where the first one gave all that was asked of it
-abbrev read_on : List View → ℕ → OpenFile → ℕ → Asked → List Asked → Option (List ℕ) → Option (List ℕ)
+abbrev pub read_on : List View → ℕ → OpenFile → ℕ → Asked → List Asked → Option (List ℕ) → Option (List ℕ)
 read_on views handle file second asked others None = None
 read_on views handle file second asked [] (Some bytes) = only_if (second == 0) bytes
 read_on views handle file second asked (other ∷ others) (Some bytes) = (if is_full asked bytes then joined bytes (part_read views handle file second other) else only_if (second == 0) bytes)

@@ -222,7 +222,7 @@ look_refusal t c inode = (if not (has_session t c) then Some (session_gone c)
     else Some (reply.Refused (Stale (Node inode))))
 
 -- a look that is refused settles the answer
-abbrev refused_look : State → ModelClient → ℕ → Stage → Stage
+abbrev pub refused_look : State → ModelClient → ℕ → Stage → Stage
 refused_look s c inode stage = elim (look_refusal s.tree c inode) [ None ↦ stage | Some answer ↦ Replying answer ]
 
 abbrev sees : ModelClient → ℕ → Option OpenFile → List Asked → Bool
@@ -392,7 +392,7 @@ abbrev last_look : Stage → ℕ
 last_look (Compacting k) = k.view.entry
 last_look _ = 0
 
-abbrev replaced : Stage → Stage
+abbrev pub replaced : Stage → Stage
 replaced (Compacting k) = Compacting (record k { has_replaced = true })
 replaced stage = stage
 

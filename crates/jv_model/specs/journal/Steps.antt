@@ -46,7 +46,7 @@ abbrev pub is_crowded : Start → State → Bool
 is_crowded start s = nat_le FULL_COUNT (start.next_slice + s.count) || nat_le FULL_COUNT (start.records + s.count + FILE_END + s.copied)
 
 -- an operation that works on its requests, after so many of the next segment
-abbrev quiets_in : Stage → ℕ
+abbrev pub quiets_in : Stage → ℕ
 quiets_in (Working quiets started) = quiets
 quiets_in _ = 0
 
@@ -54,7 +54,7 @@ abbrev started_in : Stage → ℕ
 started_in (Working quiets started) = started
 started_in _ = 0
 
-abbrev is_working : Stage → Bool
+abbrev pub is_working : Stage → Bool
 is_working (Working quiets started) = true
 is_working _ = false
 
@@ -148,7 +148,7 @@ window_to_look c d file = elim d.stage [
   | Replying answer ↦ None
 ]
 
-abbrev is_missing : Stage → Bool
+abbrev pub is_missing : Stage → Bool
 is_missing (Missing misses window owed) = true
 is_missing _ = false
 
@@ -251,7 +251,7 @@ pub record Replaces (s : State) (now : ℕ) (c : ModelClient) (d : Doing) (inode
 -- truncation and copy
 
 -- the entry that an operation makes of the file that it changes, where the tree doesn't refuse it
-abbrev change_entry : ModelClient → Op → Reply → Option ActKind
+abbrev pub change_entry : ModelClient → Op → Reply → Option ActKind
 change_entry c (op.Truncate handle len) reply.Done = Some (Truncated (inode_at c handle) len)
 change_entry c (op.Copy source from target to len) (reply.Count copied) = Some (Copied (inode_at c source) from (inode_at c target) to copied)
 change_entry c o answer = None
@@ -296,7 +296,7 @@ pub record DropsFile (s : State) (inode : ℕ) : Type 0 where
   pub gone : node_at s.tree inode ≡ None
   pub once : is_among inode s.dropped ≡ false
 
-abbrev CleansRow : State → ModelClient → Doing → ℕ → ℕ → Type 0
+abbrev pub CleansRow : State → ModelClient → Doing → ℕ → ℕ → Type 0
 CleansRow s c d table key = MatchBool (table == 8) (CleansItem s c d Files × DropsFile s key) ((table ≡ 9) × CleansItem s c d Blocks)
 
 -- a request of a cleaning found nothing more in its part; blocks of slices are removed in any number
@@ -464,7 +464,7 @@ pub data IsRefusedIn (start : Start) (s : State) (client now : ℕ) (c : ModelCl
       → IsRefusedIn start s client now c d fault
 
 -- A collection has listed a page and judged it, so that it may end.
-abbrev has_judged : Stage → Bool
+abbrev pub has_judged : Stage → Bool
 has_judged (Requesting requests) = nat_le 2 requests
 has_judged _ = false
 
@@ -523,10 +523,10 @@ pub data MayAnswer (start : Start) (alone : Bool) (s : State) (client now : ℕ)
   HasUploaded : d.does ≡ Uploads → EndsUpload alone s client c d told → MayAnswer start alone s client now c d told
   Refuses : (fault : Fault) → d.moved ≡ true → IsRefusedIn start s client now c d fault → told ≡ ToldRefused fault → MayAnswer start alone s client now c d told
 
-abbrev MayLook : State → ℕ → ℕ → ModelClient → Doing → ℕ → ℕ → Type 0
+abbrev pub MayLook : State → ℕ → ℕ → ModelClient → Doing → ℕ → ℕ → Type 0
 MayLook s client now c d inode window = MatchBool (is_compaction d.does) (CompactionLooks s client now c d inode window) (LooksAt s c d inode window)
 
-abbrev MayMiss : Start → State → ℕ → ModelClient → Doing → ℕ → ℕ → Type 0
+abbrev pub MayMiss : Start → State → ℕ → ModelClient → Doing → ℕ → ℕ → Type 0
 MayMiss start s client c d inode window = MatchBool (is_compaction d.does) (CompactionMisses start s client d inode window) (MissesBlock start s client c d inode window)
 
 -- what an entry of the operation may be

@@ -59,7 +59,7 @@ copy_bytes t who from to len = do
   _ ← require (fits t (copied t who.now who.inode from who.other to len)) NoSpace
   answered (copied t who.now who.inode from who.other to len) (Count len)
 
--- a copy of at most so many bytes, as far as the source goes
+-- a copy of at most `len` bytes, as far as the source goes
 unfoldable pub copy : Tree → Caller → ℕ → ℕ → ℕ → Result Outcome Fault
 copy t who from to len = do
   _ ← in_session t who

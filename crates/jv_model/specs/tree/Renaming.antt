@@ -1,12 +1,12 @@
 -- Entries renamed, by POSIX.1-2017's "renameat" and Linux's "renameat2" with RENAME_NOREPLACE and RENAME_EXCHANGE.
-use Rattle.std.specs.Prelude.{ℕ, zero, suc, Bool, true, false, ◌&&◌, ◌||◌, not, ◌==◌, List, length, is_some, Option, None, Some, Result}
+use Rattle.std.specs.Prelude.{ℕ, zero, suc, Bool, true, false, ◌&&◌, ◌||◌, not, ◌==◌, List, is_some, Option, None, Some, Result}
 use Rattle.jv_model.specs.declared.basics.How.{How}
 use Rattle.jv_model.specs.declared.basics.How.TheVariants.{Plain, NoReplace, Exchange}
 use Rattle.jv_model.specs.declared.fault.Fault.{Fault}
 use Rattle.jv_model.specs.declared.fault.Fault.TheVariants.{NotFound, AlreadyExists, NotADirectory, IsADirectory}
 use Rattle.jv_model.specs.declared.fault.Fault.TheVariants.{DirectoryNotEmpty, Invalid, NoSpace, NotPermitted}
 use Rattle.jv_model.specs.tree.Attempt.{◌>>=◌, require, some_or}
-use Rattle.jv_model.specs.FiniteMap.{get}
+use Rattle.jv_model.specs.FiniteMap.{get, key_count}
 use Rattle.jv_model.specs.tree.Tree.{Tree, Node, Kind, File, Directory, Symlink, EntryKey, root, parent_at, is_directory}
 use Rattle.jv_model.specs.tree.Tree.{has_entries, links_fit}
 use Rattle.jv_model.specs.tree.Changes.{status_changed, change_node, put_entry, take_entry}
@@ -20,7 +20,7 @@ abbrev pub may_leave : How → EntryKey → Bool
 may_leave Exchange place = may_go place && may_be_new place
 may_leave _ place = may_go place
 
--- whether a directory is another one or lies below it, by its parents, of which as many are asked
+-- whether a directory is another one or lies below it, by at most `steps` parents
 unfoldable pub is_within : ℕ → Tree → ℕ → ℕ → Bool
 is_within zero t dir above = dir == above
 is_within (suc steps) t dir above = (dir == above) || elim (parent_at t dir) [
@@ -28,9 +28,10 @@ is_within (suc steps) t dir above = (dir == above) || elim (parent_at t dir) [
   | Some parent ↦ not (dir == root) && is_within steps t parent above
 ]
 
--- whether an inode is a directory, and a directory is that one or lies below it; a tree has no longer way up than its nodes
+-- whether an inode is a directory that another one is, or lies below; no way up to the root is longer than the number of
+-- nodes
 abbrev pub is_inside : Tree → ℕ → ℕ → Bool
-is_inside t dir inode = is_directory t inode && is_within (length t.nodes.list) t dir inode
+is_inside t dir inode = is_directory t inode && is_within (key_count t.nodes) t dir inode
 
 -- a directory has another parent now
 abbrev pub kind_under : ℕ → Kind → Kind

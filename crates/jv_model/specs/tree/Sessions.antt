@@ -4,30 +4,37 @@ use Rattle.std.specs.Prelude.{ℕ, ◌+◌, true, false, ◌&&◌, not, ◌==◌
 use Rattle.std.specs.Option.{option_map}
 use Rattle.jv_model.specs.declared.limits.TheConstants.{SESSION_LIFE}
 use Rattle.jv_model.specs.declared.fault.Fault.{Fault}
-use Rattle.jv_model.specs.declared.fault.Fault.TheVariants.{NoSpace}
+use Rattle.jv_model.specs.declared.fault.Fault.TheVariants.{NoSpace, Stale}
+use Rattle.jv_model.specs.declared.fault.Gone.TheVariants.{Session}
 use Rattle.jv_model.specs.declared.op.Reply.TheVariants.{SessionMade}
-use Rattle.jv_model.specs.tree.Attempt.{◌>>=◌, require}
-use Rattle.jv_model.specs.FiniteMap.{insert, remove, retain_keys, first_where}
+use Rattle.jv_model.specs.tree.Attempt.{◌>>=◌, require, some_or}
+use Rattle.jv_model.specs.FiniteMap.{get, insert, remove, retain_keys, first_where}
 use Rattle.jv_model.specs.tree.Tree.{Tree, SessionEntry, full_count, is_sustained}
 use Rattle.jv_model.specs.tree.Changes.{drop_node}
 use Rattle.jv_model.specs.tree.Caller.{Caller, Outcome, answered, done, in_session}
 
--- a session of a client that showed a sign of life
-abbrev pub live_session : Caller → SessionEntry
-live_session who = record { client = who.client; expiry = who.now + SESSION_LIFE }
-
-abbrev pub with_session : Tree → Caller → ℕ → Tree
-with_session t who sid = record t { sessions = insert t.sessions sid (live_session who) }
+-- the tree with the next session, which is the caller's
+abbrev pub with_session : Tree → Caller → Tree
+with_session t who = record t {
+  sessions = insert t.sessions t.next_session (record { client = who.client; expiry = who.now + SESSION_LIFE });
+  next_session = t.next_session + 1;
+}
 
 unfoldable pub mount : Tree → Caller → Result Outcome Fault
 mount t who = do
   _ ← require (nat_lt t.next_session full_count) NoSpace
-  answered (record (with_session t who t.next_session) { next_session = t.next_session + 1 }) (SessionMade t.next_session)
+  answered (with_session t who) (SessionMade t.next_session)
+
+-- the tree with a session that showed a sign of life
+abbrev pub kept_alive : Tree → Caller → SessionEntry → Tree
+kept_alive t who session = record t {
+  sessions = insert t.sessions who.sid (record session { expiry = who.now + SESSION_LIFE });
+}
 
 unfoldable pub beat : Tree → Caller → Result Outcome Fault
 beat t who = do
-  _ ← in_session t who
-  done (with_session t who who.sid)
+  session ← some_or (get t.sessions who.sid) (Stale (Session who.sid))
+  done (kept_alive t who session)
 
 -- the tree without a session and the files that it kept
 abbrev pub without_session : Tree → ℕ → Tree

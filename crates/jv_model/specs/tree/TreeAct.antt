@@ -11,7 +11,8 @@ use Rattle.jv_model.specs.tree.FileBytes.{truncate, copy}
 pub use Rattle.jv_model.specs.tree.Changes.{empty_content, overwritten, with_content, set_node, touch}
 pub use Rattle.jv_model.specs.tree.Caller.{Caller, Outcome, outcome, in_session}
 pub use Rattle.jv_model.specs.tree.Reading.{open_file}
-pub use Rattle.jv_model.specs.tree.Making.{new_place, entered, mkdir, create, symlink, link}
+pub use Rattle.jv_model.specs.tree.Making.{new_place, create}
+use Rattle.jv_model.specs.tree.Making.{mkdir, symlink, link}
 pub use Rattle.jv_model.specs.tree.Sessions.{mount}
 pub use Rattle.jv_model.specs.tree.FileBytes.{committed}
 

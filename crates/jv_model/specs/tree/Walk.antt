@@ -73,7 +73,7 @@ walk_names again t follow inode (name ∷ names) = do
     | Some target ↦ again (if is_absolute target then root else inode) (names_of target ++ names)
   ]
 
--- A walk that may follow so many symlinks yet. A symlink is replaced by its target, which is walked from the root where
+-- A walk that may still follow `left` symlinks. A symlink is replaced by its target, which is walked from the root where
 -- it begins with a slash, and else from the symlink's directory.
 unfoldable pub walk : ℕ → Tree → Bool → ℕ → List (List ℕ) → Result ℕ Fault
 walk zero t follow inode names = walk_names (λ at rest. Err SymlinkLoop) t follow inode names
