@@ -117,7 +117,7 @@ entry_past_the_last_line : (more : List Act) → AllAllowed (at_start steps_run)
 unfolding journals_compute
 entry_past_the_last_line more all =
     let h = entry_is_allowed (at_start steps_run) (take 11 steps_journal) (entry 9 0 Quiet) more all in
-    never h.complete
+    h.stands
 
 -- A run that ended well has all entries of its lines, and one that a fault ended may lack entries from some step on.
 abbrev ends_after : ℕ → ℕ → List Line → Bool

@@ -184,11 +184,11 @@ drained_is_legal = record {
       ∴ record { line = refl; complete = refl; moment = refl; stands = record { own = refl; may = record { doing = _; busy = refl; begins_is = refl; may = refl } } }
       ∴ record { line = refl; complete = refl; moment = refl; stands = record { own = refl; may = record { doing = _; busy = refl; begins_is = refl; may = refl } } }
       ∴ record { line = refl; complete = refl; moment = refl; stands = record { own = refl; may = record { doing = _; busy = refl; begins_is = refl; may = record { requests = lit≤ tt; segment = refl; behind = refl; session = refl; file = refl; in_time = lit< tt; room = refl } } } }
-      ∴ record { line = refl; complete = refl; moment = (lit≤ tt, lit≤ tt); stands = (refl, refl, tt) }
+      ∴ record { line = refl; complete = refl; moment = (lit≤ tt, lit≤ tt); stands = (refl, refl, tt, refl) }
       ∴ record { line = refl; complete = refl; moment = refl; stands = record { own = refl; may = record { doing = _; busy = refl; begins_is = refl; may = Settles _ refl refl } } }
-      ∴ record { line = refl; complete = refl; moment = (lit≤ tt, lit≤ tt); stands = (refl, refl, tt) }
+      ∴ record { line = refl; complete = refl; moment = (lit≤ tt, lit≤ tt); stands = (refl, refl, tt, refl) }
       ∴ record { line = refl; complete = refl; moment = refl; stands = (refl, Sends tt) }
-      ∴ record { line = refl; complete = refl; moment = (lit≤ tt, lit≤ tt); stands = (refl, refl, refl) }
+      ∴ record { line = refl; complete = refl; moment = (lit≤ tt, lit≤ tt); stands = (refl, refl, refl, refl) }
       ∴ record { line = refl; complete = refl; moment = refl; stands = (refl, Ends refl refl) }
       ∴ record { line = refl; complete = refl; moment = refl; stands = record { own = refl; may = record { doing = _; busy = refl; begins_is = refl; may = record { ready = refl; transacts = refl; same = refl } } } }
       ∴ record { line = refl; complete = refl; moment = refl; stands = record { own = refl; may = record { doing = _; busy = refl; begins_is = refl; may = Settles _ refl refl } } }

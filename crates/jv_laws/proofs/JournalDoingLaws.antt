@@ -34,14 +34,14 @@ use Rattle.jv_model.specs.client.Origins.{Owed}
 use Rattle.jv_model.specs.client.Profile.{profile, handle_list, handle_of}
 use Rattle.jv_model.specs.client.ModelClient.{ModelClient, OpenFile, View, Doing, OfFiles, OfAll, Stage, Cleaning, Sessions, Trash, Files, Blocks, Part, Working, Reading, Missing, LookedAgain, Compacting, Cleans, Requesting, Replying, unmounted, with_stage, file_of, inode_in, inode_at, views_without}
 use Rattle.jv_model.specs.client.Submission.{submission, submitted, flush_of, by_limits, segment_of_files, is_flushed}
-use Rattle.jv_model.specs.journal.State.{is_last, is_collecting, requesting_on, State, Gift, NewSession, NewHandle, Nothing, with_client, set_client, given, replied, transacted, newly_sustained, next_entry, gift_of, after_transaction, is_refused, refusal_in, look_refusal, has_session, quieted, begun_quietly, flushing_on, cleaning_on, looked, compaction_looked, missed, committed_stage, answer_then, reply_of_answer, replaced, after_told, answered_client, is_of_another, after_step, of_doing, changed, effect, view_now, is_compaction, sees_first, first_cleaning}
+use Rattle.jv_model.specs.journal.State.{is_last, is_collecting, State, Gift, NewSession, NewHandle, Nothing, with_client, set_client, given, replied, transacted, newly_sustained, next_entry, gift_of, after_transaction, is_refused, refusal_in, look_refusal, has_session, quieted, begun_quietly, flushing_on, cleaning_on, looked, compaction_looked, missed, committed_stage, answer_then, reply_of_answer, replaced, after_told, answered_client, is_of_another, after_step, of_doing, changed, effect, view_now, is_compaction, sees_first, first_cleaning}
 use Rattle.jv_model.specs.journal.Reading.{asked_parts}
 use Rattle.jv_model.specs.journal.Steps.{Start, is_ready, transacts, Transaction, LooksAt, may_read_on, is_missing, CompactionLooks, First, Again, CompactionMisses, MissesBlock, change_entry, cleaning_in, CleansItem, DropsFile, MayStep, MayAnswer, Fails, Settles, AtOnce, CountsCache, ReadsViews, CleanedUp, HasCompacted, HasCollected, HasUploaded, Refuses, EndsCompaction, TooShort, HasReplaced, EndsUpload, Sent, FoundNone, told_of, is_failure, has_judged}
 use Rattle.jv_model.specs.journal.Past.{Setup, Past, at_start, begun_to, reached}
 use Rattle.jv_model.specs.journal.Legal.{Allowed, AllAllowed, Refuses as RefusesSubmission, LacksMemory as RefusalLacks}
-use Rattle.jv_laws.specs.Laws.{NothingPending, HasCommitted, flushed_handles, is_fine_answer}
-use Rattle.jv_laws.proofs.JournalGrowthLaws.{AllAllowed-parts, own_client, others_kept}
-use Rattle.jv_laws.proofs.JournalStates.{Entry, Steps, RefusedSubmission, LacksMemory, Crashes, Publishes, OfDrain, Ticks, entry_of, holds_on}
+use Rattle.jv_model.specs.journal.Laws.{NothingPending, HasCommitted, flushed_handles, is_fine_answer}
+use Rattle.jv_model.proofs.JournalGrowthLaws.{AllAllowed-parts, own_client, others_kept}
+use Rattle.jv_model.proofs.JournalStates.{Entry, Steps, RefusedSubmission, LacksMemory, Crashes, Publishes, OfDrain, Ticks, entry_of, holds_on}
 
 -- tests
 

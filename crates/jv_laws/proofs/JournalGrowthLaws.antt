@@ -16,7 +16,7 @@ use Rattle.jv_model.specs.client.Submission.{submission}
 use Rattle.jv_model.specs.journal.State.{State, with_client, after_step, of_doing, changed, effect}
 use Rattle.jv_model.specs.journal.Past.{Past, Due, at_start, begun, begun_by, begun_by_due, begun_to, begin_from, begin_next, turned, is_busy, is_workers, lined, asks_clock, after, advance, past, reached, is_over}
 use Rattle.jv_model.specs.journal.Legal.{Allowed, AllAllowed, IsMoment, clock_moment, tick_of}
-use Rattle.jv_laws.specs.Laws.{JournalsGrow, EarlierTextStays, FollowsClock, Follows, OthersStay, EntriesAreCounted, text_to}
+use Rattle.jv_model.specs.journal.Laws.{JournalsGrow, EarlierTextStays, FollowsClock, Follows, OthersStay, EntriesAreCounted, text_to}
 
 -- what a line that begins leaves
 
@@ -57,13 +57,13 @@ pub record Turned (p q : Past) : Type 0 where
   pub run : q.run ≡ p.run
   pub line : q.line ≡ p.line + 1
   pub printed : q.printed ≡ p.printed ++ p.said
-  pub complete : (p.complete && is_over p) ≡ false → q.complete ≡ false
+  pub complete : q.complete ≡ (p.complete && is_over p)
   pub at : q.at ≡ p.at
   pub count : q.state.count ≡ p.state.count
 
 turned_begin_from : (rest : List Line) (p : Past) → Turned p (begin_from rest p)
-turned_begin_from [] p = record { run = refl; line = refl; printed = refl; complete = λ e. refl; at = refl; count = refl }
-turned_begin_from (line ∷ rest) p = let f = frame_begun (turned p rest) line in record { run = f.run; line = f.line; printed = f.printed; complete = λ e. f.complete ∙ e; at = f.at; count = f.count }
+turned_begin_from [] p = record { run = refl; line = refl; printed = refl; complete = refl; at = refl; count = refl }
+turned_begin_from (line ∷ rest) p = let f = frame_begun (turned p rest) line in record { run = f.run; line = f.line; printed = f.printed; complete = f.complete; at = f.at; count = f.count }
 
 pub turned_begin_next : (p : Past) → Turned p (begin_next p)
 unfolding begin_next

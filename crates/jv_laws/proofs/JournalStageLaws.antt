@@ -1,5 +1,5 @@
 -- What an operation's stage says of the operation.
-use Rattle.std.proofs.Common.{◌≡◌, ℕ, ◌+◌, Bool, true, false, ◌&&◌, ◌==◌, if◌then◌else◌, IsTrue, IsSomeAnd, MatchBool, inl, inr, List, [], ◌∷◌, ◌++◌, is_some, Option, None, Some, refl, sym, ap, subst, ◌∙◌}
+use Rattle.std.proofs.Common.{◌≡◌, ℕ, ◌+◌, Bool, true, false, ◌&&◌, ◌==◌, if◌then◌else◌, IsTrue, IsSomeAnd, MatchBool, inl, inr, List, [], ◌∷◌, ◌++◌, is_some, Option, None, Some, refl, sym, ap, subst, ◌∙◌, ◌||◌, not}
 use Rattle.std.proofs.lemmas.Bool.Decides.{eqb_tells}
 use Rattle.jv_model.specs.declared.act.TheConstants.{NO_CLIENT}
 use Rattle.jv_model.specs.declared.act.Act.{Act}
@@ -18,17 +18,17 @@ use Rattle.jv_model.specs.declared.profile.Does.TheVariants.{Answers, Mounts, Tr
 use Rattle.jv_model.specs.run.Pending.{without_range}
 use Rattle.jv_model.specs.client.Origins.{Owed}
 use Rattle.jv_model.specs.client.Profile.{profile, handle_of}
-use Rattle.jv_model.specs.client.ModelClient.{ModelClient, OpenFile, View, Doing, Stage, Cleaning, Files, Blocks, Working, Reading, Missing, LookedAgain, Compacting, Cleans, Requesting, Replying, unmounted, with_stage, views_without}
+use Rattle.jv_model.specs.client.ModelClient.{ModelClient, OpenFile, View, Doing, Stage, Cleaning, Files, Blocks, Working, Reading, Missing, LookedAgain, Compacting, Cleans, Requesting, Replying, unmounted, with_stage, views_without, Sessions}
 use Rattle.jv_model.specs.client.Submission.{submission, submitted, by_limits, is_flushed}
-use Rattle.jv_model.specs.journal.State.{first_cleaning, is_last, is_collecting, requesting_on, State, with_client, set_client, given, replied, transacted, newly_sustained, next_entry, gift_of, after_transaction, has_session, quieted, begun_quietly, flushing_on, looked, compaction_looked, missed, committed_stage, answer_then, replaced, after_told, answered_client, is_of_another, after_step, of_doing, changed, effect, view_now, is_compaction, is_cleaning, sees_first, first_cleaning}
+use Rattle.jv_model.specs.journal.State.{is_last, is_collecting, State, with_client, set_client, given, replied, transacted, newly_sustained, next_entry, gift_of, after_transaction, has_session, quieted, begun_quietly, flushing_on, looked, compaction_looked, missed, committed_stage, answer_then, replaced, after_told, answered_client, is_of_another, after_step, of_doing, changed, effect, view_now, is_compaction, is_cleaning, sees_first, first_cleaning}
 use Rattle.jv_model.specs.journal.Reading.{Asked, asked_parts}
 use Rattle.jv_model.specs.journal.Steps.{Start, asked_of, file_in_use, window_to_look, part_in_use, LooksAt, CompactionLooks, CompactionMisses, MissesBlock, cleaning_in, CleansItem, DropsFile, MayStep}
 use Rattle.jv_model.specs.journal.Past.{Setup, Past, at_start, begun_to, reached}
 use Rattle.jv_model.specs.journal.Legal.{Allowed, AllAllowed, Refuses as RefusesSubmission, LacksMemory as RefusalLacks}
-use Rattle.jv_laws.specs.Laws.{CleansOnlyInClean, cleans}
-use Rattle.jv_laws.proofs.JournalGrowthLaws.{AllAllowed-parts, own_client, others_kept}
-use Rattle.jv_laws.proofs.JournalDoingLaws.{doing_given, Sound, SoundIf, sound}
-use Rattle.jv_laws.proofs.JournalStates.{Entry, Steps, RefusedSubmission, LacksMemory, Crashes, Publishes, OfDrain, Ticks, entry_of, holds_on}
+use Rattle.jv_model.specs.journal.Laws.{CleansOnlyInClean, cleans}
+use Rattle.jv_model.proofs.JournalGrowthLaws.{AllAllowed-parts, own_client, others_kept}
+use Rattle.jv_model.proofs.JournalDoingLaws.{doing_given, Sound, SoundIf, sound}
+use Rattle.jv_model.proofs.JournalStates.{Entry, Steps, RefusedSubmission, LacksMemory, Crashes, Publishes, OfDrain, Ticks, entry_of, holds_on}
 
 abbrev pub is_reading : Does → Bool
 is_reading (Reads offset len) = true
@@ -134,7 +134,7 @@ module _ (s : State) (client : ℕ) (c : ModelClient) (now : ℕ) (d : Doing) (h
   fit_begun Truncates e = refl
   fit_begun Copies e = refl
   fit_begun Compacts e = refl
-  fit_begun DoesClean e = fit_if d.does (has_session s.tree c || is_last first_cleaning.part) _ _ (ap is_cleaning e) refl
+  fit_begun DoesClean e = fit_if d.does (has_session s.tree c || is_last Sessions) _ _ (ap is_cleaning e) refl
   fit_begun Collects e = ap requests_alone e
   fit_begun Uploads e = ap requests_alone e
 

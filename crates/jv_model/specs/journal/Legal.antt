@@ -1,5 +1,5 @@
 -- When a journal is legal for one POSIX tree: every entry may stand where it stands, and every line has its entries.
-use Rattle.std.specs.Prelude.{◌≡◌, ℕ, ◌+◌, ◌≤◌, min, max, Bool, true, false, ◌&&◌, ◌||◌, not, nat_le, nat_lt, ◌==◌, IsTrue, MatchBool, MatchOption, List, [], ◌∷◌}
+use Rattle.std.specs.Prelude.{◌≡◌, ℕ, ◌+◌, ◌≤◌, min, max, Bool, true, false, ◌&&◌, ◌||◌, not, nat_le, nat_lt, ◌==◌, IsTrue, MatchBool, MatchOption, List, [], ◌∷◌, length}
 use Rattle.std.specs.List.{list_any}
 use Rattle.jv_model.specs.declared.limits.TheConstants.{LAST_MOMENT}
 use Rattle.jv_model.specs.declared.act.TheConstants.{NO_CLIENT}
@@ -68,9 +68,9 @@ OfLine p act (CrashEntry client) = (act.client ≡ client) × (act.kind ≡ Cras
 OfLine p act (TickEntry by) = (act.client ≡ NO_CLIENT) × (act.kind ≡ Ticked by)
 OfLine p act (DrainEntries client) = (act.client ≡ NO_CLIENT) × Drains p.state client act.kind
 
--- an entry of an uploading thread, of which there are some
+-- an entry of an uploading thread, of which there are some, on a line of the script
 abbrev pub OfWorker : Past → Act → Type 0
-OfWorker p act = IsTrue (nat_lt 0 p.run.uploads) × (act.client ≡ NO_CLIENT) × IsPublish p.state act.kind
+OfWorker p act = IsTrue (nat_lt 0 p.run.uploads) × (act.client ≡ NO_CLIENT) × IsPublish p.state act.kind × IsTrue (nat_le p.line (length p.run.script))
 
 -- an entry may stand, its line being the present one
 pub record Allowed (p : Past) (act : Act) : Type 0 where

@@ -136,9 +136,9 @@ turned p rest = record p {
   printed = p.printed ++ p.said;
 }
 
--- past the last line there is none, and no entry may stand, of an uploading thread neither
+-- past the last line there is none, and no entry may stand
 abbrev pub begin_from : List Line → Past → Past
-begin_from [] p = record (turned p []) { due = NoMore; complete = false }
+begin_from [] p = record (turned p []) { due = NoMore }
 begin_from (line ∷ rest) p = begun (turned p rest) line
 
 -- the next line begun
