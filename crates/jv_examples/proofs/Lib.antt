@@ -9,6 +9,7 @@ pub mod JournalRuns
 pub mod LateCommitExamples
 pub mod MakingExamples
 pub mod RefusalLaws
+pub mod RefusedChanges
 pub mod RefusedCleanings
 pub mod RefusedCommits
 pub mod RefusedJournals

@@ -16,9 +16,9 @@ use Rattle.jv_model.specs.journal.State.{State, given, replied, transacted, newl
 use Rattle.jv_model.specs.journal.Steps.{Start, transacts, Transaction, LooksAt, CompactionLooks, First, Again, CompactionMisses, MissesBlock, CleansItem, DropsFile, MayStep, MayAnswer, Fails, Settles, AtOnce, CountsCache, ReadsViews, CleanedUp, HasCompacted, HasCollected, HasUploaded, Refuses, TooShort, HasReplaced, Sent, FoundNone, IsRefusedIn, SessionGone, InodeGone, CommitLate, CommitTooLarge, NumberRefused, CompactionCrowded, CompactionLate, AnotherList, BlockOwed, MissedTooOften, InReading, InCompaction, begins_step, must_answer, told_of}
 use Rattle.jv_model.specs.journal.Past.{Past, Due, NoMore, Refusal, MayLack, ToAnswer, OneStep, StepMade, CrashEntry, TickEntry, DrainEntries, at_start, begun_by, begun_to, is_over, requested, lined, is_workers, after, advance, past, reached, line_reply, reply_of, refusal_reply}
 use Rattle.jv_model.specs.journal.Legal.{Allowed, AllAllowed, Refuses as RefusesSubmission, LacksMemory as RefusalLacks, OfClient, OfLine, OfWorker}
-use Rattle.jv_model.specs.journal.Laws.{AnswersModel, AnswersAsTree, is_transaction}
-use Rattle.jv_model.proofs.JournalGrowthLaws.{AllAllowed-parts, past-append, own_client, others_kept, turned_begin_next, begun_to-begun}
-use Rattle.jv_model.proofs.JournalDoingLaws.{doing_given}
+use Rattle.jv_laws.specs.Laws.{AnswersModel, AnswersAsTree, is_transaction}
+use Rattle.jv_laws.proofs.JournalGrowthLaws.{AllAllowed-parts, past-append, own_client, others_kept, turned_begin_next, begun_to-begun}
+use Rattle.jv_laws.proofs.JournalDoingLaws.{doing_given}
 
 -- an operation whose answer is settled
 

@@ -15,11 +15,11 @@ use Rattle.jv_model.specs.journal.Steps.{MayStep, DropsFile}
 use Rattle.jv_model.specs.journal.Past.{Setup, Past, at_start, begun_to, reached}
 use Rattle.jv_model.specs.journal.Legal.{Allowed, AllAllowed, IsPublish, Refuses, LacksMemory as RefusalLacks, Sends, Ends, Fails}
 use Rattle.jv_model.specs.journal.Looks.{entry_at}
-use Rattle.jv_model.specs.journal.Laws.{ExpiresOnlyGone, IsExpired, DropsOnlyGone}
+use Rattle.jv_laws.specs.Laws.{ExpiresOnlyGone, IsExpired, DropsOnlyGone}
 use Rattle.jv_model.proofs.FiniteMapLaws.{first_where-found}
-use Rattle.jv_model.proofs.JournalGrowthLaws.{AllAllowed-parts}
-use Rattle.jv_model.proofs.JournalStates.{Entry, Steps, RefusedSubmission, LacksMemory, Crashes, Publishes, OfDrain, Ticks, entry_of, entry_before, entry_last, entry_within, none_entered, holds_on}
-use Rattle.jv_model.proofs.JournalOwedLaws.{is_of_operation, has_operation}
+use Rattle.jv_laws.proofs.JournalGrowthLaws.{AllAllowed-parts}
+use Rattle.jv_laws.proofs.JournalStates.{Entry, Steps, RefusedSubmission, LacksMemory, Crashes, Publishes, OfDrain, Ticks, entry_of, entry_before, entry_last, entry_within, none_entered, holds_on}
+use Rattle.jv_laws.proofs.JournalOwedLaws.{is_of_operation, has_operation}
 
 -- sessions
 

@@ -23,11 +23,11 @@ use Rattle.jv_model.specs.journal.State.{State, with_client, set_client, committ
 use Rattle.jv_model.specs.journal.Past.{Setup, Past, at_start, begun_to, reached}
 use Rattle.jv_model.specs.journal.Legal.{Allowed, AllAllowed}
 use Rattle.jv_model.specs.journal.Looks.{entry_at}
-use Rattle.jv_model.specs.journal.Laws.{AnswersWrite, ClosesCommitWrites, ResolvesWrite, commits_position, loses_pending, is_fine_answer, HasCommitted}
-use Rattle.jv_model.proofs.JournalGrowthLaws.{AllAllowed-append, AllAllowed-parts, own_client, others_kept}
-use Rattle.jv_model.proofs.JournalStates.{entry_of, keeps_begun_to, reached-more, state-more, run_reached}
-use Rattle.jv_model.proofs.JournalLooksLaws.{stage_files, transaction_files}
-use Rattle.jv_model.proofs.JournalDoingLaws.{sound, fine_committed, nothing_pending}
+use Rattle.jv_laws.specs.Laws.{AnswersWrite, ClosesCommitWrites, ResolvesWrite, commits_position, loses_pending, is_fine_answer, HasCommitted}
+use Rattle.jv_laws.proofs.JournalGrowthLaws.{AllAllowed-append, AllAllowed-parts, own_client, others_kept}
+use Rattle.jv_laws.proofs.JournalStates.{entry_of, keeps_begun_to, reached-more, state-more, run_reached}
+use Rattle.jv_laws.proofs.JournalLooksLaws.{stage_files, transaction_files}
+use Rattle.jv_laws.proofs.JournalDoingLaws.{sound, fine_committed, nothing_pending}
 
 -- whether a byte is pending at a place
 abbrev has_place : ℕ → ℕ → List PendingByte → Bool

@@ -39,9 +39,9 @@ use Rattle.jv_model.specs.journal.Reading.{asked_parts}
 use Rattle.jv_model.specs.journal.Steps.{Start, is_ready, transacts, Transaction, LooksAt, may_read_on, is_missing, CompactionLooks, First, Again, CompactionMisses, MissesBlock, change_entry, cleaning_in, CleansItem, DropsFile, MayStep, MayAnswer, Fails, Settles, AtOnce, CountsCache, ReadsViews, CleanedUp, HasCompacted, HasCollected, HasUploaded, Refuses, EndsCompaction, TooShort, HasReplaced, EndsUpload, Sent, FoundNone, told_of, is_failure, has_judged}
 use Rattle.jv_model.specs.journal.Past.{Setup, Past, at_start, begun_to, reached}
 use Rattle.jv_model.specs.journal.Legal.{Allowed, AllAllowed, Refuses as RefusesSubmission, LacksMemory as RefusalLacks}
-use Rattle.jv_model.specs.journal.Laws.{NothingPending, HasCommitted, flushed_handles, is_fine_answer}
-use Rattle.jv_model.proofs.JournalGrowthLaws.{AllAllowed-parts, own_client, others_kept}
-use Rattle.jv_model.proofs.JournalStates.{Entry, Steps, RefusedSubmission, LacksMemory, Crashes, Publishes, OfDrain, Ticks, entry_of, holds_on}
+use Rattle.jv_laws.specs.Laws.{NothingPending, HasCommitted, flushed_handles, is_fine_answer}
+use Rattle.jv_laws.proofs.JournalGrowthLaws.{AllAllowed-parts, own_client, others_kept}
+use Rattle.jv_laws.proofs.JournalStates.{Entry, Steps, RefusedSubmission, LacksMemory, Crashes, Publishes, OfDrain, Ticks, entry_of, holds_on}
 
 -- tests
 

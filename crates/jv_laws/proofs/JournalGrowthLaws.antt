@@ -16,7 +16,7 @@ use Rattle.jv_model.specs.client.Submission.{submission}
 use Rattle.jv_model.specs.journal.State.{State, with_client, after_step, of_doing, changed, effect}
 use Rattle.jv_model.specs.journal.Past.{Past, Due, at_start, begun, begun_by, begun_by_due, begun_to, begin_from, begin_next, turned, is_busy, is_workers, lined, asks_clock, after, advance, past, reached, is_over}
 use Rattle.jv_model.specs.journal.Legal.{Allowed, AllAllowed, IsMoment, clock_moment, tick_of}
-use Rattle.jv_model.specs.journal.Laws.{JournalsGrow, EarlierTextStays, FollowsClock, Follows, OthersStay, EntriesAreCounted, text_to}
+use Rattle.jv_laws.specs.Laws.{JournalsGrow, EarlierTextStays, FollowsClock, Follows, OthersStay, EntriesAreCounted, text_to}
 
 -- what a line that begins leaves
 

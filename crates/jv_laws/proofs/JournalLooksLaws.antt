@@ -22,10 +22,10 @@ use Rattle.jv_model.specs.journal.Reading.{first_that, is_fresh}
 use Rattle.jv_model.specs.journal.Past.{Setup, Past, at_start, begun_to, reached}
 use Rattle.jv_model.specs.journal.Legal.{Allowed, AllAllowed}
 use Rattle.jv_model.specs.journal.Looks.{entry_at, changes_file}
-use Rattle.jv_model.specs.journal.Laws.{FreshViewsAreFreshLooks, HasSeen}
-use Rattle.jv_model.proofs.JournalGrowthLaws.{own_client, others_kept}
-use Rattle.jv_model.proofs.JournalStates.{entry_of, entry_before, entry_last, entry_past, entry_within, holds_on, state-more}
-use Rattle.jv_model.proofs.JournalOwedLaws.{is_of_operation, has_operation}
+use Rattle.jv_laws.specs.Laws.{FreshViewsAreFreshLooks, HasSeen}
+use Rattle.jv_laws.proofs.JournalGrowthLaws.{own_client, others_kept}
+use Rattle.jv_laws.proofs.JournalStates.{entry_of, entry_before, entry_last, entry_past, entry_within, holds_on, state-more}
+use Rattle.jv_laws.proofs.JournalOwedLaws.{is_of_operation, has_operation}
 
 -- what a client keeps where its stage changes
 

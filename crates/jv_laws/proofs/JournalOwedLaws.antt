@@ -16,9 +16,9 @@ use Rattle.jv_model.specs.journal.Steps.{MayStep, is_failure, owes_none}
 use Rattle.jv_model.specs.journal.Past.{Setup, Past, DrainEntries, at_start, begun_to, is_workers, reached}
 use Rattle.jv_model.specs.journal.Legal.{Allowed, AllAllowed, OfLine, OfWorker, IsPublish, IsRefusal, Refuses, LacksMemory as RefusalLacks, Drains, Sends, Ends, Fails}
 use Rattle.jv_model.specs.journal.Looks.{entry_at}
-use Rattle.jv_model.specs.journal.Laws.{IsOwed, OwedCommits, SettlesOwed, DrainsSettleAll, leaves_staged, settles, is_owed_by}
-use Rattle.jv_model.proofs.JournalGrowthLaws.{AllAllowed-parts}
-use Rattle.jv_model.proofs.JournalStates.{Entry, Steps, RefusedSubmission, LacksMemory, Crashes, Publishes, OfDrain, Ticks, entry_of, entry_before, entry_last, entry_past, entry_within, none_entered, holds, holds_on}
+use Rattle.jv_laws.specs.Laws.{IsOwed, OwedCommits, SettlesOwed, DrainsSettleAll, leaves_staged, settles, is_owed_by}
+use Rattle.jv_laws.proofs.JournalGrowthLaws.{AllAllowed-parts}
+use Rattle.jv_laws.proofs.JournalStates.{Entry, Steps, RefusedSubmission, LacksMemory, Crashes, Publishes, OfDrain, Ticks, entry_of, entry_before, entry_last, entry_past, entry_within, none_entered, holds, holds_on}
 
 -- what an entry does to what is owed
 pub data OwedAfter (s : State) (client : ℕ) (kind : ActKind) (owed : List Owed) : Type 0 where

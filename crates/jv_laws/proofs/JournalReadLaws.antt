@@ -27,12 +27,12 @@ use Rattle.jv_model.specs.journal.Steps.{Start, MayStep, MayAnswer, Fails, Settl
 use Rattle.jv_model.specs.journal.Past.{Setup, Past, at_start, begun_to, reached, reply_of, settled_reply, told_reply, or_no_bytes}
 use Rattle.jv_model.specs.journal.Legal.{Refuses as RefusesSubmission, LacksMemory as RefusalLacks}
 use Rattle.jv_model.specs.journal.Looks.{IsFreshLook}
-use Rattle.jv_model.specs.journal.Laws.{ReadsAreOfFreshLooks, AreSeen, AreRead, NoPart, OnePart, TwoParts, Returns, ReadsCiteLooks, CitesLooks, is_fine_answer}
-use Rattle.jv_model.proofs.JournalStageLaws.{stage_fits, FitsIf, FitsClient, all_fit}
-use Rattle.jv_model.proofs.JournalGrowthLaws.{AllAllowed-parts}
-use Rattle.jv_model.proofs.JournalStates.{Entry, Steps, RefusedSubmission, LacksMemory, Crashes, Publishes, OfDrain, Ticks, entry_of}
-use Rattle.jv_model.proofs.JournalLooksLaws.{IsShown, AllShown, shown, view_seen, first_found}
-use Rattle.jv_model.proofs.JournalDoingLaws.{Sound, SoundIf, SoundClient, IsSettled, IsRefusedReply, IsDoneReply, IsFineReply, sound, and_first, and_second, fine_not_refused, stage_flushed}
+use Rattle.jv_laws.specs.Laws.{ReadsAreOfFreshLooks, AreSeen, AreRead, NoPart, OnePart, TwoParts, Returns, ReadsCiteLooks, CitesLooks, is_fine_answer}
+use Rattle.jv_laws.proofs.JournalStageLaws.{stage_fits, FitsIf, FitsClient, all_fit}
+use Rattle.jv_laws.proofs.JournalGrowthLaws.{AllAllowed-parts}
+use Rattle.jv_laws.proofs.JournalStates.{Entry, Steps, RefusedSubmission, LacksMemory, Crashes, Publishes, OfDrain, Ticks, entry_of}
+use Rattle.jv_laws.proofs.JournalLooksLaws.{IsShown, AllShown, shown, view_seen, first_found}
+use Rattle.jv_laws.proofs.JournalDoingLaws.{Sound, SoundIf, SoundClient, IsSettled, IsRefusedReply, IsDoneReply, IsFineReply, sound, and_first, and_second, fine_not_refused, stage_flushed}
 
 -- parts
 

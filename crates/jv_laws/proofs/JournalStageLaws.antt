@@ -25,10 +25,10 @@ use Rattle.jv_model.specs.journal.Reading.{Asked, asked_parts}
 use Rattle.jv_model.specs.journal.Steps.{Start, asked_of, file_in_use, window_to_look, part_in_use, LooksAt, CompactionLooks, CompactionMisses, MissesBlock, cleaning_in, CleansItem, DropsFile, MayStep}
 use Rattle.jv_model.specs.journal.Past.{Setup, Past, at_start, begun_to, reached}
 use Rattle.jv_model.specs.journal.Legal.{Allowed, AllAllowed, Refuses as RefusesSubmission, LacksMemory as RefusalLacks}
-use Rattle.jv_model.specs.journal.Laws.{CleansOnlyInClean, cleans}
-use Rattle.jv_model.proofs.JournalGrowthLaws.{AllAllowed-parts, own_client, others_kept}
-use Rattle.jv_model.proofs.JournalDoingLaws.{doing_given, Sound, SoundIf, sound}
-use Rattle.jv_model.proofs.JournalStates.{Entry, Steps, RefusedSubmission, LacksMemory, Crashes, Publishes, OfDrain, Ticks, entry_of, holds_on}
+use Rattle.jv_laws.specs.Laws.{CleansOnlyInClean, cleans}
+use Rattle.jv_laws.proofs.JournalGrowthLaws.{AllAllowed-parts, own_client, others_kept}
+use Rattle.jv_laws.proofs.JournalDoingLaws.{doing_given, Sound, SoundIf, sound}
+use Rattle.jv_laws.proofs.JournalStates.{Entry, Steps, RefusedSubmission, LacksMemory, Crashes, Publishes, OfDrain, Ticks, entry_of, holds_on}
 
 abbrev pub is_reading : Does → Bool
 is_reading (Reads offset len) = true

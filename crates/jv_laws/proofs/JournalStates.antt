@@ -18,7 +18,7 @@ use Rattle.jv_model.specs.journal.Steps.{MayStep, IsEntry}
 use Rattle.jv_model.specs.journal.Past.{Setup, Past, Due, NoMore, Refusal, MayLack, ToAnswer, OneStep, StepMade, CrashEntry, TickEntry, DrainEntries, at_start, begun, begun_by, begun_by_due, begun_to, begin_from, begin_next, turned, is_busy, is_workers, advance, past, reached}
 use Rattle.jv_model.specs.journal.Legal.{Allowed, AllAllowed, IsRefusal, IsPublish, Drains, OfClient, OfLine, OfWorker}
 use Rattle.jv_model.specs.journal.Looks.{entry_at}
-use Rattle.jv_model.proofs.JournalGrowthLaws.{past-append, advanced, begun_frame, turned_begin_next}
+use Rattle.jv_laws.proofs.JournalGrowthLaws.{past-append, advanced, begun_frame, turned_begin_next}
 
 -- entries by their numbers
 

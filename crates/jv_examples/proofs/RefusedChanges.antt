@@ -11,8 +11,8 @@ use Rattle.jv_model.specs.journal.Steps.{owes_none, Settles, AtOnce, HasCompacte
 use Rattle.jv_model.specs.journal.State.{State}
 use Rattle.jv_model.specs.journal.Past.{Setup, at_start}
 use Rattle.jv_model.specs.journal.Legal.{AllAllowed, Sends, Ends, Drains, Fails as IsFailed}
-use Rattle.jv_model.proofs.RefusalLaws.{entry_is_allowed, same_some, own_step, never}
-use Rattle.jv_model.proofs.JournalRuns.{run_of, entry, journals_compute, ◌∴◌}
+use Rattle.jv_examples.proofs.RefusalLaws.{entry_is_allowed, same_some, own_step, never}
+use Rattle.jv_examples.proofs.JournalRuns.{run_of, entry, journals_compute, ◌∴◌}
 
 abbrev told_in : ActKind → Told
 told_in (Answered told) = told
