@@ -1,7 +1,9 @@
 //! Writes over runs. A write is cut where windows end, so that each part touches the runs of one window.
 //!
-//! `write_runs` finds the first run that is touched, and `write_from` writes window by window: it asks for the memory of
-//! a window, then writes the rest, and then that window, so that nothing fails once something has changed. In the last
+//! `write_runs` writes at once into a run that is the only one touched, as where each write begins at the end of the last.
+//!
+//! Else it finds the first run that is touched, and `write_from` writes window by window: it asks for the memory of a
+//! window, then writes the rest, and then that window, so that nothing fails once something has changed. In the last
 //! window `write_window` joins the touched runs: `join_behind` moves the bytes behind the write into the run at its
 //! start, and `join_before` those before it into the last run, where that one is longer. So each byte is moved a
 //! logarithmic number of times at most.
@@ -59,11 +61,14 @@ fn end_touched(inode: u64, to: u64) -> RunStart
 fn head(runs: &Runs, first: RunStart, from: u64) -> &[u8]
     ensures { result.now ≡ take (from - first.from) (unwrap_or (bytes_at first runs.now.entries) []) }
 {
+    let count = from.saturating_sub(first.from) as usize;
+    if count == 0 {
+        return &[];
+    }
     let Some(bytes) = runs.get(&first) else {
         return &[];
     };
     let bytes = bytes.as_slice();
-    let count = from.saturating_sub(first.from) as usize;
     &bytes[..count.min(bytes.len())]
 }
 
@@ -372,7 +377,7 @@ pub(crate) fn write_runs(
     ensures count { IfOk result (λ n. n ≡ length (pending_bytes runs.new.entries)) }
     ensures err { OnErr result (runs.new.entries ≡ runs.old.entries) }
 {
-    // Most writes go on where the last one ended: they need no more than to find that run and to write into it.
+    // Most writes begin where the last one ended, and no more than that run has to be found for them.
     if let Some(only) = only_touched(runs, inode, from, bytes.len()) {
         return Ok(held + write_into(runs, only, from, bytes)?);
     }
