@@ -322,13 +322,12 @@ fn only_touched(runs: &Runs, inode: u64, from: u64, count: usize) -> Option<RunS
     ensures inode { IfSome result (λ first. first.inode ≡ inode) }
     ensures only { IfSome result (λ first. IsOnly from count runs.now.entries first) }
 {
+    if from % WINDOW + count as u64 > WINDOW {
+        return None;
+    }
     let end = end_touched(inode, from + count as u64);
     let (start, bytes) = last_before(runs, end)?;
-    if start.inode == inode
-        && start.from <= from
-        && from < start.end(bytes) + free_before(from)
-        && from % WINDOW + count as u64 <= WINDOW
-    {
+    if start.inode == inode && start.from <= from && from < start.end(bytes) + free_before(from) {
         Some(start)
     } else {
         None

@@ -23,8 +23,8 @@ overflow_add-end c =
     let g = c.free_before.ensures in
     omega (arith, (gap_le c.args.from).0)
 
-pub returns-then-from-count-le-WINDOW-clause-only : goal.returns-then-from-count-le-WINDOW-clause-only
-returns-then-from-count-le-WINDOW-clause-only c =
+pub returns-then-from-end-clause-only : goal.returns-then-from-end-clause-only
+returns-then-from-end-clause-only c =
     let start = c.in_ok-start.start in
     let end = c.end_touched-end in
     let same = c.if-start-inode.true in
@@ -35,4 +35,4 @@ returns-then-from-count-le-WINDOW-clause-only c =
     let t = c.if-from-end.true in
     let high : place_of end.result ≡ place start.inode (c.args.from + c.args.count + gap (c.args.from + c.args.count)) = omega arith in
     only_it (place_of end.result) c.args.runs.now.entries (start, c.in_ok-start.bytes.now) c.requires.order c.in_ok-start.ensures
-    c.args.from c.args.count high c.requires.some c.requires.file c.if-start-from.true (omega arith) c.if-from-count-le-WINDOW.true
+    c.args.from c.args.count high c.requires.some c.requires.file c.if-start-from.true (omega arith) c.if-from-count-gt-WINDOW.false
