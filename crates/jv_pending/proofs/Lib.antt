@@ -9,6 +9,7 @@ pub mod Touched
 pub mod Cuts
 pub mod Windows
 pub mod Written
+pub mod Only
 pub mod Outcomes
 pub mod Segments
 pub mod SegmentLaws

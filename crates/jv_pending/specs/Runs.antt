@@ -1,5 +1,5 @@
 -- Runs: how the pending bytes lie in memory.
-use Rattle.std.specs.Prelude.{◌≡◌, ℕ, ◌+◌, ◌-◌, ◌*◌, ◌%◌, ◌<◌, ◌≤◌, ◌==◌, nat_lt, nat_le, if◌then◌else◌, Bool, List, [], ◌∷◌, ◌++◌, length, take, drop, min, filter, Option, None, Some, IfSome, IsSomeAnd}
+use Rattle.std.specs.Prelude.{◌≡◌, ℕ, ◌+◌, ◌-◌, ◌*◌, ◌%◌, ◌<◌, ◌≤◌, ◌==◌, nat_lt, nat_le, if◌then◌else◌, Bool, List, [], ◌∷◌, ◌++◌, length, take, drop, min, filter, Option, None, Some, IsSome, IfSome, IsSomeAnd}
 use Rattle.std.specs.declared.cmp.Ordering.{Ordering}
 use Rattle.std.specs.Ordering.{nat_cmp, ordering_then}
 use Rattle.std.specs.BTreeMap.{is_at}
@@ -193,6 +193,13 @@ pub record IsLonger (first end : RunStart) (to count : ℕ) (runs : List Run) (l
 pub record Starts (from : ℕ) (runs : List Run) (first : RunStart) : Type 0 where
   pub order : InOrder (place_of first - gap first.from) (runs_from (place_of first) runs)
   pub touches : IsFirst first.inode from (runs_from (place_of first) runs) first
+
+-- the run at `first` is the only one that a write of `count` bytes overlaps or touches, and the write stays in one window
+pub record IsOnly (from count : ℕ) (runs : List Run) (first : RunStart) : Type 0 where
+  pub is_first : IsFirst first.inode from runs first
+  pub there : IsSome (bytes_at first runs)
+  pub alone : runs_within (place_of first + 1) (place first.inode (from + count + gap (from + count))) runs ≡ []
+  pub in_window : from % WINDOW + count ≤ WINDOW
 
 -- the runs from `first` on are those with the bytes written, and the runs before it stay
 pub record Writes (from : ℕ) (bytes : List ℕ) (first : RunStart) (old new : List Run) : Type 0 where

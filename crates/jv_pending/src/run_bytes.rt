@@ -69,6 +69,18 @@ impl RunBytes {
         extend(&mut self.all, self.first + at, bytes, more)
     }
 
+    /// Sets the bytes from an index on, and returns how many bytes there are more. On error nothing has changed.
+    pub(crate) fn grow(&mut self, at: usize, bytes: &[u8]) -> Result<usize, AllocError>
+        requires { at ≤ length self.old }
+        ensures ok { OnOk result (self.new ≡ joined_behind at self.old bytes.now []) }
+        ensures more { IfOk result (λ more. length self.old + more ≡ length self.new) }
+        ensures err { OnErr result (self.new ≡ self.old) }
+    {
+        let count = self.len();
+        self.write(at, bytes, &[])?;
+        Ok(self.len() - count)
+    }
+
     /// Puts `head` and `bytes` in the place of the first `cut` bytes. On error nothing has changed.
     pub(crate) fn write_before(
         &mut self,

@@ -1,7 +1,9 @@
 //! Writes over runs. A write is cut where windows end, so that each part touches the runs of one window.
 //!
-//! `write_runs` finds the first run that is touched, and `write_from` writes window by window: it asks for the memory of
-//! a window, then writes the rest, and then that window, so that nothing fails once something has changed. In the last
+//! `write_runs` writes at once into a run that is the only one touched, as where each write begins at the end of the last.
+//!
+//! Else it finds the first run that is touched, and `write_from` writes window by window: it asks for the memory of a
+//! window, then writes the rest, and then that window, so that nothing fails once something has changed. In the last
 //! window `write_window` joins the touched runs: `join_behind` moves the bytes behind the write into the run at its
 //! start, and `join_before` those before it into the last run, where that one is longer. So each byte is moved a
 //! logarithmic number of times at most.
@@ -9,7 +11,7 @@ ghost use Rattle.std.specs.Prelude.{◌≡◌, ℕ, ◌+◌, ◌-◌, ◌<◌, �
 ghost use Rattle.std.specs.Option.{option_map};
 ghost use Rattle.jv_model.specs.declared.limits.TheConstants.{FILE_END};
 ghost use Rattle.jv_model.specs.run.Pending.{written};
-ghost use Rattle.jv_pending.specs.Runs.{place_of, bytes_at, gap, pending_bytes, InOrder, Rise, IsFirst, IsTouched, runs_before, runs_within, last_of, with_runs, tail_of, joined_behind, IsLonger, Starts, Writes};
+ghost use Rattle.jv_pending.specs.Runs.{place_of, bytes_at, gap, pending_bytes, InOrder, Rise, IsFirst, IsTouched, runs_before, runs_within, last_of, with_runs, tail_of, joined_behind, IsLonger, IsOnly, Starts, Writes};
 
 use crate::place::{give_back, put_over, swap_bytes, take_run};
 use crate::run::{RunStart, Runs, count_bytes, last_before};
@@ -59,11 +61,14 @@ fn end_touched(inode: u64, to: u64) -> RunStart
 fn head(runs: &Runs, first: RunStart, from: u64) -> &[u8]
     ensures { result.now ≡ take (from - first.from) (unwrap_or (bytes_at first runs.now.entries) []) }
 {
+    let count = from.saturating_sub(first.from) as usize;
+    if count == 0 {
+        return &[];
+    }
     let Some(bytes) = runs.get(&first) else {
         return &[];
     };
     let bytes = bytes.as_slice();
-    let count = from.saturating_sub(first.from) as usize;
     &bytes[..count.min(bytes.len())]
 }
 
@@ -308,6 +313,48 @@ fn count_written(
     others + (head + (bytes.len() as u64 + tail))
 }
 
+/// Where the run begins that a write of `count` bytes lengthens or overwrites, where it touches no other and stays in one
+/// window.
+fn only_touched(runs: &Runs, inode: u64, from: u64, count: usize) -> Option<RunStart>
+    requires order { InOrder 0 runs.now.entries }
+    requires some { 0 < count }
+    requires file { from + count ≤ FILE_END }
+    ensures inode { IfSome result (λ first. first.inode ≡ inode) }
+    ensures only { IfSome result (λ first. IsOnly from count runs.now.entries first) }
+{
+    if from % WINDOW + count as u64 > WINDOW {
+        return None;
+    }
+    let end = end_touched(inode, from + count as u64);
+    let (start, bytes) = last_before(runs, end)?;
+    if start.inode == inode && start.from <= from && from < start.end(bytes) + free_before(from) {
+        Some(start)
+    } else {
+        None
+    }
+}
+
+/// Writes bytes into the only run that they touch, and returns how many bytes there are more. On error nothing has
+/// changed.
+fn write_into(runs: &mut Runs, first: RunStart, from: u64, bytes: &[u8]) -> Result<u64, AllocError>
+    requires order { InOrder 0 runs.old.entries }
+    requires some { 0 < length bytes.now }
+    requires file { from + length bytes.now ≤ FILE_END }
+    requires only { IsOnly from (length bytes.now) runs.old.entries first }
+    ensures order { OnOk result (InOrder 0 runs.new.entries) }
+    ensures ok { OnOk result (pending_bytes runs.new.entries
+        ≡ written first.inode from bytes.now (pending_bytes runs.old.entries)) }
+    ensures more { IfOk result (λ more. length (pending_bytes runs.old.entries) + more
+        ≡ length (pending_bytes runs.new.entries)) }
+    ensures err { OnErr result (runs.new.entries ≡ runs.old.entries) }
+{
+    let at = (from - first.from) as usize;
+    match runs.get_mut(&first).unwrap().grow(at, bytes) {
+        Ok(more) => Ok(more as u64),
+        Err(refused) => Err(refused),
+    }
+}
+
 /// Sets the positions of the bytes, and returns how many bytes there are then, of `held` before. On error nothing has
 /// changed.
 pub(crate) fn write_runs(
@@ -329,6 +376,10 @@ pub(crate) fn write_runs(
     ensures count { IfOk result (λ n. n ≡ length (pending_bytes runs.new.entries)) }
     ensures err { OnErr result (runs.new.entries ≡ runs.old.entries) }
 {
+    // Most writes begin where the last one ended, and no more than that run has to be found for them.
+    if let Some(only) = only_touched(runs, inode, from, bytes.len()) {
+        return Ok(held + write_into(runs, only, from, bytes)?);
+    }
     let first = first_touched(runs, inode, from);
     let end = end_touched(inode, from + bytes.len() as u64);
     let count = count_written(runs, first, end, held, from, bytes);

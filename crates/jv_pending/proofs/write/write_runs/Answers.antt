@@ -1,10 +1,20 @@
 use Rattle.std.proofs.Common.{◌+◌, ◌∙◌, length, ap, sym, subst, arith}
 use Rattle.jv_model.specs.run.Pending.{written}
 use Rattle.jv_pending.specs.Runs.{pending_bytes, IsFirst}
+use Rattle.jv_pending.proofs.Bytes.{written_length}
 use Rattle.jv_pending.proofs.Parts.{Rise-order}
 use Rattle.jv_pending.proofs.Touched.{touched}
 use Rattle.jv_pending.proofs.Written.{starts, all_order, all_written}
 use Rattle.jv_pending.proofs.write.write_runs.Goals as goal
+
+pub overflow_add-result : goal.overflow_add-result
+overflow_add-result c =
+    let held = c.requires.held in
+    let small = c.requires.small in
+    let e = c.in_ok-write_into.ensures in
+    let more = e.more in
+    let now = ap length e.ok in
+    omega (arith, written_length c.in-Some.only.inode c.args.from c.args.bytes.now (pending_bytes c.args.runs.now.entries))
 
 pub count_written-count-requires-clause-touched : goal.count_written-count-requires-clause-touched
 count_written-count-requires-clause-touched c =
