@@ -22,7 +22,7 @@ returns-clause-begun c m h =
     let row : c.profile-row.result ≡ profile o = c.profile-row.ensures in
     let seen = c.self.view_is in
     let does = c.by_limits-does.ensures ∙ ap (λ (r : Profile). by_limits c.self.inside.limits r.does) row
-      ∙ ap (λ (v : ClientValue). by_limits v.limits (profile o).does) seen in
+    ∙ ap (λ (v : ClientValue). by_limits v.limits (profile o).does) seen in
     let flush = c.flush_of-flush.ensures ∙ ap (λ (r : Profile). flush_here value r) row in
     let doing = c.begun.ensures ∙ ap (λ does. begun o does c.flush_of-flush.result) does ∙ ap (begun o (by_limits value.limits (profile o).does)) flush in
     let stands = subst (λ (d : Doing). IsClient (submitted value.limits o m) (record value { doing = Some d })) (sym doing) (begun-stands m value o h) in
