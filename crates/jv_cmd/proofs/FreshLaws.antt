@@ -4,7 +4,8 @@ use Rattle.jv_model.specs.declared.op.Line.{Line}
 use Rattle.jv_model.specs.FiniteMap.{get, insert, sum_over}
 use Rattle.jv_model.specs.tree.Tree.{fresh_tree}
 use Rattle.jv_model.specs.run.Past.{at_start}
-use Rattle.jv_session.specs.Agrees.{HasFiles, IsClient, Stands}
+use Rattle.jv_session.specs.Agrees.{IsClient, Stands}
+use Rattle.jv_files.specs.Holds.{HasFiles}
 use Rattle.jv_session.specs.Lines.{fresh_schedule}
 use Rattle.jv_model.specs.run.Client.{unmounted}
 use Rattle.jv_cmd.specs.Run.{FreshVolume, session_limits, session_run}

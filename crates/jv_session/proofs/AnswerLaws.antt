@@ -19,12 +19,14 @@ use Rattle.jv_model.specs.run.Pending.{written, pending_of, window_size}
 use Rattle.jv_model.specs.run.Client.{free_handle, file_of, file_in, with_file, submission}
 use Rattle.jv_model.specs.run.Past.{Past, caller, transacted}
 use Rattle.jv_model.specs.script.ReplyText.{printed_line}
-use Rattle.jv_session.specs.Agrees.{ScheduleValue, HasFiles, Stands, Ran, entry_at}
+use Rattle.jv_session.specs.Agrees.{ScheduleValue, Stands, Ran, entry_at}
+use Rattle.jv_files.specs.Holds.{HasFiles}
 use Rattle.jv_files.specs.Stored.{IsFile, FilesValue, Creates, inode_named}
 use Rattle.jv_session.specs.Lines.{Coming}
-use Rattle.jv_session.specs.BuiltHere.{refusal_here, built_op, has_form, may_answer, may_run, has_room}
+use Rattle.jv_session.specs.BuiltHere.{refusal_here, built_op, has_form, may_answer, may_run}
+use Rattle.jv_files.specs.Holds.{has_room}
 use Rattle.jv_session.proofs.Steps.{started_line}
-use Rattle.jv_session.proofs.TreeLaws.{created, create-exists, create-new, open-found, open-absent, has_files-created, setting-created, sessions-created, next_session-created, few-has_room}
+use Rattle.jv_files.proofs.TreeLaws.{created, create-exists, create-new, open-found, open-absent, has_files-created, setting-created, sessions-created, next_session-created, few-has_room}
 use Rattle.jv_session.proofs.Transactions.{has_session-kept}
 use Rattle.jv_session.proofs.LineLaws.{mount_ran, tree_refused_ran, opened_ran, with_handle}
 use Rattle.jv_files.specs.declared.files.StoredFile.{StoredFile}

@@ -20,13 +20,15 @@ use Rattle.jv_model.specs.tree.Tree.{Tree, full_count, paged}
 use Rattle.jv_model.specs.tree.Caller.{Outcome, outcome}
 use Rattle.jv_model.specs.tree.Sessions.{mount}
 use Rattle.jv_files.specs.Stored.{FilesValue, IsFile, inode_named}
-use Rattle.jv_session.specs.Agrees.{ScheduleValue, HasFiles, Agrees, Stands}
-use Rattle.jv_session.specs.BuiltHere.{refusal_here, has_form, has_room, space_grown, grown_fits, inode_or_zero, may_flush, may_run, may_answer, built_op, built_here}
-use Rattle.jv_session.proofs.FileLaws.{slice_get_inside}
+use Rattle.jv_session.specs.Agrees.{ScheduleValue, Agrees, Stands}
+use Rattle.jv_files.specs.Holds.{HasFiles}
+use Rattle.jv_session.specs.BuiltHere.{refusal_here, has_form, space_grown, grown_fits, inode_or_zero, may_flush, may_run, may_answer, built_op, built_here}
+use Rattle.jv_files.specs.Holds.{has_room}
+use Rattle.jv_files.proofs.FileLaws.{slice_get_inside}
 use Rattle.jv_session.proofs.FileLines.{open_at, inode_in-open}
 use Rattle.jv_files.proofs.SpaceLaws.{space_of-part}
 use Rattle.jv_session.proofs.SubmissionLaws.{submission-here}
-use Rattle.jv_session.proofs.TreeLaws.{and_when, created, create-exists, create-new, open-found, open-absent, flush_fits-file}
+use Rattle.jv_files.proofs.TreeLaws.{and_when, created, create-exists, create-new, open-found, open-absent, flush_fits-file}
 
 -- refusals
 

@@ -23,7 +23,8 @@ use Rattle.jv_files.specs.declared.files.StoredFile.{StoredFile}
 use Rattle.jv_files.specs.Stored.{stored_byte}
 use Rattle.jv_files.specs.Shown.{shown_between}
 use Rattle.jv_session.specs.Progress.{InLine, Reaches, StepsTo, at_stage, flushing}
-use Rattle.jv_session.specs.Agrees.{ScheduleValue, Agrees, IsClient, Keeps, Ran, entry_at}
+use Rattle.jv_session.specs.Agrees.{ScheduleValue, Agrees, IsClient, Ran, entry_at}
+use Rattle.jv_files.specs.Holds.{Keeps}
 use Rattle.jv_files.specs.Stored.{IsFile}
 use Rattle.jv_session.proofs.Steps.{one_step, more_steps, steps_to, stepped, started_line, begin_next-started, answered, done-answered, still_client, ran_to_answer, all_of_line-append, with_stage-doing}
 use Rattle.jv_session.proofs.HandleLaws.{map-with_file, all-with_file}

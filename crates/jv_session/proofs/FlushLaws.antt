@@ -16,7 +16,7 @@ use Rattle.jv_session.specs.Agrees.{ScheduleValue, Agrees}
 use Rattle.jv_session.specs.Progress.{InLine, Reaches, flushing}
 use Rattle.jv_session.specs.Flushing.{FlushesSegment, Flushed, segment_entries}
 use Rattle.jv_session.proofs.Steps.{more_steps, all_of_line-append}
-use Rattle.jv_session.proofs.FileLaws.{some_and}
+use Rattle.jv_files.proofs.FileLaws.{some_and}
 use Rattle.jv_files.proofs.SpaceLaws.{space_of-part}
 use Rattle.jv_pending.proofs.SegmentLaws.{own_segment, first_segment-ends, end_of-without, length-without}
 use Rattle.jv_session.proofs.PendingLaws.{commit-fits}

@@ -15,10 +15,11 @@ use Rattle.jv_files.specs.declared.files.StoredFile.{StoredFile}
 use Rattle.jv_files.specs.Stored.{with_segment, with_commit}
 use Rattle.jv_session.specs.Flushing.{segment_entries}
 use Rattle.jv_session.specs.Progress.{InLine, Reaches, StepsTo, at_stage}
-use Rattle.jv_session.specs.Agrees.{ScheduleValue, Agrees, HasFiles, HasSession, entry_at}
+use Rattle.jv_session.specs.Agrees.{ScheduleValue, Agrees, HasSession, entry_at}
+use Rattle.jv_files.specs.Holds.{HasFiles}
 use Rattle.jv_session.proofs.Steps.{one_step, more_steps, steps_to, stepped, quieted, stepped-quiet, agrees-quieted, in_line-quieted, with_stage-doing, opened_later, OpenedBy}
 use Rattle.jv_session.proofs.Transactions.{has_session-kept}
-use Rattle.jv_session.proofs.TreeLaws.{has_files-committed, fits-committed, sessions-committed, next_session-committed, setting-committed}
+use Rattle.jv_files.proofs.TreeLaws.{has_files-committed, fits-committed, sessions-committed, next_session-committed, setting-committed}
 
 -- a quiet step of a flush
 quiet : (p : Past) (more : List Line) (q : Past) (line at quiets : ℕ) (doing : Doing) (s : ScheduleValue) → InLine p more q line at

@@ -1,12 +1,6 @@
 -- Laws about the definitions.
 pub mod Steps
 pub mod MomentLaws
-pub mod AttemptLaws
-pub mod PathLaws
-pub mod SumLaws
-pub mod NodeLaws
-pub mod FileLaws
-pub mod TreeLaws
 pub mod PendingLaws
 pub mod HandleLaws
 pub mod Transactions

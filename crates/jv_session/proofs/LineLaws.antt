@@ -26,7 +26,8 @@ use Rattle.jv_model.proofs.FiniteMapLaws.{get-insert}
 use Rattle.jv_files.specs.Stored.{FilesValue}
 use Rattle.jv_session.specs.Lines.{Coming}
 use Rattle.jv_session.specs.Progress.{StepsTo}
-use Rattle.jv_session.specs.Agrees.{ScheduleValue, Agrees, HasFiles, HasSession, IsClient, Ran, entry_at}
+use Rattle.jv_session.specs.Agrees.{ScheduleValue, Agrees, HasSession, IsClient, Ran, entry_at}
+use Rattle.jv_files.specs.Holds.{HasFiles}
 use Rattle.jv_files.specs.Stored.{IsFile}
 use Rattle.jv_session.proofs.HandleLaws.{all-with_file, map-with_file, free_from-table}
 use Rattle.jv_session.proofs.Steps.{more_steps, started_line, refused_line, begin_next-started, begin_next-refused, answered, done-answered, still_client, opened_grown, ran}

@@ -13,8 +13,8 @@ use Rattle.jv_model.specs.run.Client.{ModelClient, OpenFile, Doing}
 use Rattle.jv_model.specs.run.Past.{Past, NoMore, begun_to, past}
 use Rattle.jv_model.specs.run.Legal.{AllAllowed}
 use Rattle.jv_model.specs.declared.limits.TheConstants.{LAST_MOMENT}
-use Rattle.jv_files.specs.declared.files.StoredFile.{StoredFile}
-use Rattle.jv_files.specs.Stored.{FilesValue, IsFile, inode_named, space_of, stored_byte}
+use Rattle.jv_files.specs.Stored.{FilesValue, IsFile}
+use Rattle.jv_files.specs.Holds.{HasFiles}
 
 -- what contracts see of a schedule: handles count from 1, and each open one has the inode of its file
 pub record ScheduleValue : Type 0 where
@@ -25,24 +25,6 @@ pub record ScheduleValue : Type 0 where
   pub handles : List (Option ℕ)
   pub pending : List PendingByte
   pub volume : FilesValue
-
--- a stored file has these bytes, and none from its length on
-pub record Keeps (file : StoredFile) (content : Content) : Type 0 where
-  pub length : content.length ≡ file.length
-  pub bytes : (position : ℕ) → content.byte position ≡ stored_byte file.segments position
-  pub past : (position : ℕ) → content.length ≤ position → content.byte position ≡ 0
-
--- the tree has the volume's files in its root, and no others
-pub record HasFiles (t : Tree) (v : FilesValue) : Type 0 where
-  pub root : parent_at t root ≡ Some root
-  pub names : (name : List ℕ) → get t.entries (record { dir = 1; name = name }) ≡ inode_named v.names (47 ∷ name)
-  pub named : (path : List ℕ) → IfSome (inode_named v.names path) (IsFile (length v.files))
-  pub next : t.next_inode ≡ 2 + length v.files
-  pub few : 2 + length v.files ≤ full_count
-  pub files : (k : ℕ) → IfSome (slice_get v.files k) (λ file. IsSomeAnd (content_at t (2 + k)) (Keeps file))
-  pub space : used_space t ≡ v.used_space
-  pub counted : v.used_space ≡ space_of v.files
-  pub inodes : used_inodes t ≡ length v.files
 
 -- the session is the first, and is in the tree
 pub record HasSession (t : Tree) (session : Option ℕ) : Type 0 where

@@ -15,6 +15,7 @@ use Rattle.jv_model.specs.run.Pending.{end_of, window_size}
 use Rattle.jv_model.specs.run.Client.{first_refusal, is_mount, needs_no_mount, names_handle, handle_in, gives_handle, write_end, file_of, open_count}
 use Rattle.jv_model.specs.run.Built.{is_built_fault, pending_limit}
 use Rattle.jv_files.specs.Stored.{FilesValue, inode_named}
+use Rattle.jv_files.specs.Holds.{has_room}
 use Rattle.jv_files.specs.declared.files.StoredFile.{StoredFile}
 use Rattle.jv_session.specs.Agrees.{ScheduleValue}
 
@@ -37,10 +38,6 @@ has_form limits (Close handle) = true
 has_form limits (Read handle offset len) = nat_le (offset + len) window_size
 has_form limits (Write handle offset bytes) = nat_le (offset + length bytes) window_size
 has_form limits _ = false
-
--- whether one more file is within the volume's limits
-abbrev pub has_room : Setting → FilesValue → Bool
-has_room setting v = nat_lt (2 + length v.files) full_count && (nat_le (v.used_space + SPACE_UNIT) (space_limit setting) && nat_le (length v.files + 1) (inode_limit setting))
 
 -- the space that all files use, once this one of them reaches to a position
 abbrev pub space_grown : FilesValue → StoredFile → ℕ → ℕ

@@ -4,7 +4,8 @@ ghost use Rattle.jv_model.specs.run.Built.{is_built_fault, pending_limit};
 ghost use Rattle.jv_model.specs.run.Pending.{window_size};
 ghost use Rattle.jv_model.specs.run.Client.{file_of};
 ghost use Rattle.jv_files.specs.Stored.{IsFile};
-ghost use Rattle.jv_session.specs.BuiltHere.{refusal_here, has_form, may_run, may_flush, may_answer, may_hold, built_op, has_room, inode_or_zero};
+ghost use Rattle.jv_session.specs.BuiltHere.{refusal_here, has_form, may_run, may_flush, may_answer, may_hold, built_op, inode_or_zero};
+ghost use Rattle.jv_files.specs.Holds.{has_room};
 
 use crate::handles::{named, open_count};
 use crate::root_paths::is_root_path;

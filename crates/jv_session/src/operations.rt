@@ -8,7 +8,8 @@ ghost use Rattle.jv_model.specs.declared.op.Reply.TheVariants.{Refused};
 ghost use Rattle.jv_model.specs.script.Spelling.{is_root_path};
 ghost use Rattle.jv_model.specs.script.ReplyText.{printed_line};
 ghost use Rattle.jv_session.specs.Agrees.{entry_at};
-ghost use Rattle.jv_session.specs.BuiltHere.{refusal_here, built_op, has_room};
+ghost use Rattle.jv_session.specs.BuiltHere.{refusal_here, built_op};
+ghost use Rattle.jv_files.specs.Holds.{has_room};
 ghost use Rattle.jv_session.specs.Answers.{Answers, RunsOut, RefusedByTree};
 ghost use Rattle.jv_files.specs.Stored.{inode_named};
 

@@ -9,7 +9,7 @@ use Rattle.jv_model.specs.tree.Attempt.{◌>>=◌, require, some_or}
 use Rattle.jv_model.specs.FiniteMap.{get}
 use Rattle.jv_model.specs.script.Spelling.{is_letter_or_digit, is_name, is_root_path}
 use Rattle.jv_model.specs.tree.Tree.{Tree, EntryKey, parent_at, target_at, is_directory}
-use Rattle.jv_session.proofs.AttemptLaws.{require-true, some_or-some, goes_on, stops}
+use Rattle.jv_files.proofs.AttemptLaws.{require-true, some_or-some, goes_on, stops}
 use Rattle.jv_model.specs.tree.Walk.{before_part, is_empty, parts_between, names_of, is_text, is_dot, is_dot_dot, is_trash, is_absolute, named_from, stepped, way_on, walk_names, walk, inode_of, all_but_last, last_name, entry_of}
 
 plain_is_not : (b c : ℕ) → is_letter_or_digit b ≡ true → is_letter_or_digit c ≡ false → (b == c) ≡ false

@@ -25,15 +25,15 @@ use Rattle.jv_model.proofs.FiniteMapLaws.{get-insert}
 use Rattle.jv_files.specs.declared.files.StoredFile.{StoredFile}
 use Rattle.jv_files.proofs.SpaceLaws.{named_with}
 use Rattle.jv_files.specs.Stored.{FilesValue, inode_named, with_segment, with_commit}
-use Rattle.jv_session.specs.BuiltHere.{has_room}
+use Rattle.jv_files.specs.Holds.{has_room}
 use Rattle.jv_files.proofs.SpaceLaws.{space_of-push, space_of-set}
-use Rattle.jv_session.specs.Agrees.{HasFiles, Keeps}
+use Rattle.jv_files.specs.Holds.{HasFiles, Keeps}
 use Rattle.jv_files.specs.Stored.{IsFile}
-use Rattle.jv_session.proofs.AttemptLaws.{require-true, goes_on, stops, both_required}
-use Rattle.jv_session.proofs.PathLaws.{root_paths, entry_of-root, inode_of-root, inode_of-root-absent, is_trash-plain}
-use Rattle.jv_session.proofs.SumLaws.{get-same, get-other, sum-changed, sum-added}
-use Rattle.jv_session.proofs.NodeLaws.{IsFileNode, file_node, no_parent, no_target, set_node-some, node_space-counted, node_count-counted, free_inode, sum_fits-grown, sum_fits-same}
-use Rattle.jv_session.proofs.FileLaws.{each-push, each-set, in_place, slice_get_inside, some_and, overwritten-past, overwritten-shown}
+use Rattle.jv_files.proofs.AttemptLaws.{require-true, goes_on, stops, both_required}
+use Rattle.jv_files.proofs.PathLaws.{root_paths, entry_of-root, inode_of-root, inode_of-root-absent, is_trash-plain}
+use Rattle.jv_files.proofs.SumLaws.{get-same, get-other, sum-changed, sum-added}
+use Rattle.jv_files.proofs.NodeLaws.{IsFileNode, file_node, no_parent, no_target, set_node-some, node_space-counted, node_count-counted, free_inode, sum_fits-grown, sum_fits-same}
+use Rattle.jv_files.proofs.FileLaws.{each-push, each-set, in_place, slice_get_inside, some_and, overwritten-past, overwritten-shown}
 
 -- the name in a path of the root
 abbrev pub name_in : List ℕ → List ℕ

@@ -6,7 +6,7 @@ use Rattle.std.proofs.lemmas.Bool.{false≢true, and_from, or_right, lt-leb, not
 use Rattle.jv_model.specs.FiniteMap.{insert, sum_over}
 use Rattle.jv_model.specs.tree.Tree.{Tree, Node, Kind, File, Directory, Symlink, Content, trash_root, is_counted, kind_space, node_space, node_count, sum_fits, content_of, content_at, parent_of, target_at, node_at, used_inodes}
 use Rattle.jv_model.specs.tree.TreeAct.{set_node}
-use Rattle.jv_session.proofs.SumLaws.{sum-more, sum-least}
+use Rattle.jv_files.proofs.SumLaws.{sum-more, sum-least}
 
 -- a node with these bytes
 pub record IsFileNode (o : Option Node) (content : Content) : Type 0 where
