@@ -4,7 +4,7 @@ ghost use Rattle.std.specs.Ordering.{nat_cmp, is_eq};
 ghost use Rattle.std.specs.Cmp.Lexicographic.{slice_cmp};
 ghost use Rattle.jv_model.specs.tree.Tree.{paged};
 ghost use Rattle.jv_files.specs.Stored.{inode_named, with_segment, space_of, covers, Creates, Commits, IsFile, OfFileAt};
-ghost use Rattle.jv_files.specs.Shown.{shown_between};
+ghost use Rattle.jv_files.specs.Shown.{shown_between, as_seen};
 
 use jv_model::{Bytes, FILE_END, Path, SPACE_UNIT, Sequence, copied, push_in_room};
 use std::alloc::{AllocError, Global};
@@ -157,12 +157,34 @@ impl Files {
         ensures { IfOk result (λ bytes.
             OfFileAt self.now inode (λ file. bytes ≡ shown_between file from to)) }
     {
-        shown(
-            self.alloc,
-            &self.files[(inode - FIRST_INODE) as usize],
-            from,
-            to,
-        )
+        let file = &self.files[(inode - FIRST_INODE) as usize];
+        shown(self.alloc, file.length, file.segments.as_slice(), from, to)
+    }
+
+    /// What a look at a file shows now.
+    pub fn look(&self, inode: u64) -> Seen
+        requires { IsFile (length self.now.files) inode }
+        ensures { OfFileAt self.now inode (λ file. (result.length ≡ file.length) × (result.commits
+            ≡ length file.segments)) }
+    {
+        let file = &self.files[(inode - FIRST_INODE) as usize];
+        Seen {
+            length: file.length,
+            commits: file.segments.len(),
+        }
+    }
+
+    /// The bytes of a file as a look saw it, from one position up to another, as far as the file went then.
+    pub fn read_seen(&self, inode: u64, seen: Seen, from: u64, to: u64) -> Result<Bytes, AllocError>
+        requires file { IsFile (length self.now.files) inode }
+        requires end { to ≤ FILE_END }
+        ensures { IfOk result (λ bytes.
+            OfFileAt self.now inode (λ file. bytes ≡ shown_between (as_seen seen file) from to)) }
+    {
+        let file = &self.files[(inode - FIRST_INODE) as usize];
+        let commits = seen.commits.min(file.segments.len());
+        let segments = &file.segments.as_slice()[..commits];
+        shown(self.alloc, seen.length, segments, from, to)
     }
 }
 
@@ -198,16 +220,22 @@ fn add_segment(
     file.add(from, bytes)
 }
 
-/// The bytes of a file from one position up to another, as far as the file goes: each segment is
-/// painted over those before it.
-fn shown(alloc: Global, file: &StoredFile, from: u64, to: u64) -> Result<Bytes, AllocError>
+/// The bytes of a file of this length from one position up to another, as far as the file goes: each segment is painted
+/// over those before it.
+fn shown(
+    alloc: Global,
+    length: u64,
+    segments: &[StoredSegment],
+    from: u64,
+    to: u64,
+) -> Result<Bytes, AllocError>
     requires { to ≤ FILE_END }
-    ensures { IfOk result (λ bytes. bytes ≡ shown_between file.now from to) }
+    ensures { IfOk result (λ bytes. bytes ≡ shown_between (record { length = length; segments = segments.now }) from to) }
 {
-    let end = to.min(file.length);
+    let end = to.min(length);
     let start = from.min(end);
     let mut bytes = vec![in alloc; 0; (end - start) as usize]?;
-    for segment in file.segments.as_slice() {
+    for segment in segments {
         paint(&mut bytes, start, segment);
     }
     Ok(Sequence::from_vec(bytes))

@@ -6,4 +6,4 @@ use Rattle.jv_files.proofs.files.shown.Given as goal
 abbrev pub invariant-loop-segment : goal.invariant-loop-segment
 invariant-loop-segment l =
     (length l.bytes.items ≡ l.end - l.start)
-    × ((k : ℕ) → k < length l.bytes.items → slice_index l.bytes.items k ≡ shown_over 0 (take l.segment-index l.segment-items) (l.start + k))
+    × ((k : ℕ) → k < length l.bytes.items → slice_index l.bytes.items k ≡ shown_over 0 (take l.segment-index l.segments) (l.start + k))
