@@ -230,7 +230,8 @@ fn shown(
     to: u64,
 ) -> Result<Bytes, AllocError>
     requires { to ≤ FILE_END }
-    ensures { IfOk result (λ bytes. bytes ≡ shown_between (record { length = length; segments = segments.now }) from to) }
+    ensures { IfOk result (λ bytes.
+        bytes ≡ shown_between (record { length = length; segments = segments.now }) from to) }
 {
     let end = to.min(length);
     let start = from.min(end);

@@ -1,6 +1,6 @@
 //! What a client has to know of an operation before its first step.
 ghost use Rattle.std.specs.Prelude.{◌≡◌};
-ghost use Rattle.jv_model.specs.client.Profile.{profile, on_file, read_does, write_profile};
+ghost use Rattle.jv_model.specs.client.Profile.{profile, mounted, unmounted, flushing_all, opening, on_file, on_files, read_does, write_profile};
 
 use crate::limits::FILE_END;
 use crate::op::Op;
@@ -88,20 +88,10 @@ impl Op {
         ensures { result ≡ profile self.now }
     {
         match self {
-            Op::Mount { writeback } => Profile {
-                needs_mount: false,
-                does: Does::Mounts(*writeback),
-                ..TRANSACTION
-            },
-            Op::Umount => Profile {
-                flushes: Flushes::Everything,
-                ..TRANSACTION
-            },
+            Op::Mount { writeback } => unmounted(Does::Mounts(*writeback)),
+            Op::Umount => flushing_all(),
             Op::Fstat { handle } => on_file(*handle, Does::Transacts),
-            Op::Create { .. } | Op::Open { .. } => Profile {
-                opens: true,
-                ..TRANSACTION
-            },
+            Op::Create { .. } | Op::Open { .. } => opening(),
             Op::Close { handle } => on_file(*handle, Does::Releases),
             Op::Flush { handle } => on_file(*handle, Does::Answers(Answer::Done)),
             Op::Read {
@@ -115,33 +105,12 @@ impl Op {
                 bytes,
             } => write_profile(*handle, *offset, bytes.len() as u64),
             Op::Truncate { handle, .. } => on_file(*handle, Does::Truncates),
-            Op::Copy { source, target, .. } => Profile {
-                handles: Handles::Two(*source, *target),
-                flushes: Flushes::ItsFiles,
-                does: Does::Copies,
-                ..TRANSACTION
-            },
-            Op::Compact { .. } => Profile {
-                does: Does::Compacts,
-                ..TRANSACTION
-            },
-            Op::Clean => Profile {
-                does: Does::Cleans,
-                ..TRANSACTION
-            },
-            Op::Gc { .. } => Profile {
-                does: Does::Collects,
-                ..TRANSACTION
-            },
-            Op::Upload => Profile {
-                needs_mount: false,
-                does: Does::Uploads,
-                ..TRANSACTION
-            },
-            Op::Stats => Profile {
-                does: Does::Answers(Answer::CacheStats),
-                ..TRANSACTION
-            },
+            Op::Copy { source, target, .. } => on_files(*source, *target),
+            Op::Compact { .. } => mounted(Does::Compacts),
+            Op::Clean => mounted(Does::Cleans),
+            Op::Gc { .. } => mounted(Does::Collects),
+            Op::Upload => unmounted(Does::Uploads),
+            Op::Stats => mounted(Does::Answers(Answer::CacheStats)),
             Op::Beat
             | Op::Lookup { .. }
             | Op::Stat { .. }
@@ -159,6 +128,59 @@ impl Op {
             | Op::Link { .. }
             | Op::Rename { .. } => TRANSACTION,
         }
+    }
+}
+
+/// An operation of a mounted client.
+fn mounted(does: Does) -> Profile
+    ensures { result ≡ mounted does }
+{
+    Profile {
+        does,
+        ..TRANSACTION
+    }
+}
+
+/// An operation of any client, mounted or not.
+fn unmounted(does: Does) -> Profile
+    ensures { result ≡ unmounted does }
+{
+    Profile {
+        needs_mount: false,
+        does,
+        ..TRANSACTION
+    }
+}
+
+/// A transaction that commits all that is pending first.
+fn flushing_all() -> Profile
+    ensures { result ≡ flushing_all }
+{
+    Profile {
+        flushes: Flushes::Everything,
+        ..TRANSACTION
+    }
+}
+
+/// A transaction that opens a handle.
+fn opening() -> Profile
+    ensures { result ≡ opening }
+{
+    Profile {
+        opens: true,
+        ..TRANSACTION
+    }
+}
+
+/// A copy from the file of one handle to that of another.
+fn on_files(source: u64, target: u64) -> Profile
+    ensures { result ≡ on_files source target }
+{
+    Profile {
+        handles: Handles::Two(source, target),
+        flushes: Flushes::ItsFiles,
+        does: Does::Copies,
+        ..TRANSACTION
     }
 }
 

@@ -15,7 +15,25 @@ use Rattle.jv_model.specs.declared.profile.Does.TheVariants.{Answers, Mounts, Tr
 abbrev pub transaction : Profile
 transaction = record { needs_mount = true; handles = handles.None; opens = false; end = 0; flushes = Nothing; does = Transacts }
 
--- the same on the file of a handle, whose pending bytes are committed first
+-- another operation of a mounted client, and one of any client
+abbrev pub mounted : Does → Profile
+mounted does = record transaction { does = does }
+
+abbrev pub unmounted : Does → Profile
+unmounted does = record transaction { needs_mount = false; does = does }
+
+-- a transaction that commits all that is pending first, and one that opens a handle
+abbrev pub flushing_all : Profile
+flushing_all = record transaction { flushes = Everything }
+
+abbrev pub opening : Profile
+opening = record transaction { opens = true }
+
+-- a copy between the files of two handles
+abbrev pub on_files : ℕ → ℕ → Profile
+on_files source target = record transaction { handles = handles.Two source target; flushes = ItsFiles; does = Copies }
+
+-- a step on the file of a handle, whose pending bytes are committed first
 abbrev pub on_file : ℕ → Does → Profile
 on_file handle does = record transaction { handles = handles.One handle; flushes = ItsFiles; does = does }
 
@@ -33,22 +51,22 @@ write_profile handle offset len = record transaction {
 }
 
 abbrev pub profile : Op → Profile
-profile (op.Mount writeback) = record transaction { needs_mount = false; does = Mounts writeback }
-profile op.Umount = record transaction { flushes = Everything }
+profile (op.Mount writeback) = unmounted (Mounts writeback)
+profile op.Umount = flushing_all
 profile op.Beat = transaction
 profile (op.Lookup path) = transaction
 profile (op.Stat path) = transaction
 profile (op.Lstat path) = transaction
 profile (op.Fstat handle) = on_file handle Transacts
 profile (op.Mkdir path mode) = transaction
-profile (op.Create path mode) = record transaction { opens = true }
-profile (op.Open path) = record transaction { opens = true }
+profile (op.Create path mode) = opening
+profile (op.Open path) = opening
 profile (op.Close handle) = on_file handle Releases
 profile (op.Flush handle) = on_file handle (Answers Done)
 profile (op.Read handle offset len) = on_file handle (read_does offset len)
 profile (op.Write handle offset bytes) = write_profile handle offset (length bytes)
 profile (op.Truncate handle len) = on_file handle Truncates
-profile (op.Copy source from target to len) = record transaction { handles = handles.Two source target; flushes = ItsFiles; does = Copies }
+profile (op.Copy source from target to len) = on_files source target
 profile (op.Readdir path) = transaction
 profile (op.Chmod path mode) = transaction
 profile (op.Chown path uid gid) = transaction
@@ -60,11 +78,11 @@ profile (op.Unlink path) = transaction
 profile (op.Rmdir path) = transaction
 profile (op.Link path to) = transaction
 profile (op.Rename path to how) = transaction
-profile (op.Compact path window) = record transaction { does = Compacts }
-profile op.Clean = record transaction { does = Cleans }
-profile (op.Gc delete) = record transaction { does = Collects }
-profile op.Upload = record transaction { needs_mount = false; does = Uploads }
-profile op.Stats = record transaction { does = Answers CacheStats }
+profile (op.Compact path window) = mounted Compacts
+profile op.Clean = mounted Cleans
+profile (op.Gc delete) = mounted Collects
+profile op.Upload = unmounted Uploads
+profile op.Stats = mounted (Answers CacheStats)
 
 -- the handles in the order of the operation's words
 abbrev pub handle_list : Handles → List ℕ

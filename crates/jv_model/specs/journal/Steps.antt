@@ -233,7 +233,7 @@ pub record CompactionMisses (start : Start) (s : State) (client : ℕ) (d : Doin
   pub own : (inode ≡ k.view.inode) × (window ≡ k.view.window)
   pub gone : MayBeGone start s client k.view (window_start window) (window_start (window + 1))
 
--- one of the requests so late that what it brought may still be there, or none that brought anything
+-- a request is so recent that what it brought can't have been collected, or there was none
 abbrev is_in_time : ℕ → List ℕ → Bool
 is_in_time now [] = true
 is_in_time now (moment ∷ moments) = list_any (λ m. nat_lt now (m + UPLOAD_LIFE)) (moment ∷ moments)
