@@ -8,7 +8,7 @@ use Rattle.jv_model.specs.declared.profile.Flushes.{Flushes}
 use Rattle.jv_model.specs.declared.profile.Flushes.TheVariants.{Nothing, ItsFiles, IfFull, Everything}
 use Rattle.jv_model.specs.declared.profile.Handles.{Handles}
 use Rattle.jv_model.specs.declared.profile.Handles.TheVariants as named
-use Rattle.jv_model.specs.run.Pending.{PendingByte}
+use Rattle.jv_model.specs.client.Pending.{PendingByte}
 use Rattle.jv_model.specs.client.ModelClient.{ModelClient, OpenFile, OfFiles, OfAll, file_in, file_of, open_count, inode_in, inode_at}
 use Rattle.jv_model.specs.client.Profile.{profile, handle_list}
 use Rattle.jv_model.specs.client.Submission.{submission, submission_of, submitted, names_closed, is_closed, flush_of, by_limits}

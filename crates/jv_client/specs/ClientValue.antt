@@ -1,7 +1,7 @@
 -- What contracts see of a client.
 use Rattle.std.specs.Prelude.{ℕ, List, [], Option, None}
 use Rattle.jv_model.specs.declared.basics.Limits.{Limits}
-use Rattle.jv_model.specs.run.Pending.{PendingByte}
+use Rattle.jv_model.specs.client.Pending.{PendingByte}
 use Rattle.jv_client.specs.declared.doing.Doing.{Doing}
 use Rattle.jv_client.specs.declared.handles.Handle.{Handle}
 

@@ -1,5 +1,6 @@
 -- When a client in memory stands for one of the model.
-use Rattle.std.specs.Prelude.{◌≡◌, ℕ, false, ◌+◌, nat_lt, if◌then◌else◌, List, [], ◌∷◌, length, Option, None, Some, Result, Ok, Err}
+use Rattle.std.specs.Prelude.{◌≡◌, ℕ, false, ◌+◌, ◌-◌, ◌≤◌, nat_lt, if◌then◌else◌, List, [], ◌∷◌, length, slice_get, Option, None, Some, Result, Ok, Err, IfSome, IsSomeAnd}
+use Rattle.std.specs.List.{AllByRecursion}
 use Rattle.jv_model.specs.declared.fault.Fault.{Fault}
 use Rattle.jv_model.specs.declared.op.Op.{Op}
 use Rattle.jv_model.specs.declared.profile.Does.{Does}
@@ -7,14 +8,20 @@ use Rattle.jv_model.specs.declared.profile.Profile.{Profile}
 use Rattle.jv_model.specs.declared.profile.Flushes.TheVariants.{Nothing, ItsFiles, IfFull, Everything}
 use Rattle.jv_model.specs.declared.profile.Handles.{Handles}
 use Rattle.jv_model.specs.declared.profile.Handles.TheVariants as named
-use Rattle.jv_model.specs.client.ModelClient.{ModelClient, OpenFile, Doing as ModelDoing, Flush as ModelFlush, OfFiles, OfAll, Stage, Working, Reading, file_of}
+use Rattle.jv_model.specs.client.ModelClient.{ModelClient, OpenFile, View as ModelView, Doing as ModelDoing, Flush as ModelFlush, OfFiles, OfAll, Stage, Working, Reading, file_of}
+use Rattle.jv_model.specs.journal.Reading.{fresh_view}
+use Rattle.jv_files.specs.declared.files.StoredFile.{StoredFile}
+use Rattle.jv_files.specs.Holds.{Keeps}
+use Rattle.jv_files.specs.Shown.{as_seen}
 use Rattle.jv_client.specs.declared.doing.Doing.{Doing}
 use Rattle.jv_client.specs.declared.doing.Flush.{Flush}
 use Rattle.jv_client.specs.declared.doing.Flush.TheVariants as flush
 use Rattle.jv_client.specs.declared.doing.Progress.{Progress}
 use Rattle.jv_client.specs.declared.doing.Progress.TheVariants as progress
 use Rattle.jv_client.specs.declared.handles.Handle.{Handle}
+use Rattle.jv_client.specs.declared.handles.View.{View}
 use Rattle.jv_client.specs.ClientValue.{ClientValue}
+use Rattle.jv_client.specs.StoreValue.{StoreValue, IsSession}
 
 abbrev pub SamePlace : {X Y : Type 0} → (X → Y → Type 0) → Option X → Option Y → Type 0
 SamePlace P None None = Unit {0}
@@ -22,17 +29,29 @@ SamePlace P None (Some y) = ⊥
 SamePlace P (Some x) None = ⊥
 SamePlace P (Some x) (Some y) = P x y
 
--- two tables have the same places in use, and what stands there is related
-abbrev pub SameTable : {X Y : Type 0} → (X → Y → Type 0) → List (Option X) → List (Option Y) → Type 0
-SameTable P [] [] = Unit {0}
-SameTable P [] (y ∷ ys) = ⊥
-SameTable P (x ∷ xs) [] = ⊥
-SameTable P (x ∷ xs) (y ∷ ys) = SamePlace P x y × SameTable P xs ys
+-- two tables, whose places are numbered from a number on, have the same places in use, and what stands there is related
+abbrev pub SameTable : {X Y : Type 0} → (ℕ → X → Y → Type 0) → ℕ → List (Option X) → List (Option Y) → Type 0
+SameTable P number [] [] = Unit {0}
+SameTable P number [] (y ∷ ys) = ⊥
+SameTable P number (x ∷ xs) [] = ⊥
+SameTable P number (x ∷ xs) (y ∷ ys) = SamePlace (P number) x y × SameTable P (number + 1) xs ys
 
--- an open file of the model is the one of a handle
-pub record IsHandle (file : OpenFile) (handle : Handle) : Type 0 where
+-- a file as a look saw it has these bytes; it has gone on since
+pub record ShowsContent (view : View) (content : ModelView) (file : StoredFile) : Type 0 where
+  pub seen : view.seen.commits ≤ length file.segments
+  pub keeps : Keeps (as_seen view.seen file) content.content
+
+-- a view of the model is the one that a handle on this inode keeps
+pub record IsView (store : StoreValue) (inode : ℕ) (m : ModelView) (view : View) : Type 0 where
+  pub entry : m.entry ≡ view.entry
+  pub shows : IsSomeAnd (slice_get store.files.files (inode - 2)) (ShowsContent view m)
+
+-- an open file of the model is the one of a handle, opened by now, with the fresh view of its first window
+pub record IsHandle (views : List ModelView) (count : ℕ) (store : StoreValue) (number : ℕ) (file : OpenFile) (handle : Handle) : Type 0 where
   pub inode : file.inode ≡ handle.inode
   pub opened : file.opened ≡ handle.opened
+  pub before : file.opened ≤ count
+  pub view : SamePlace (IsView store handle.inode) (fresh_view views number file 0) handle.view
 
 -- what is committed first
 abbrev pub flush_of_code : Flush → ModelFlush
@@ -41,11 +60,14 @@ flush_of_code (flush.File inode) = OfFiles (inode ∷ [])
 flush_of_code (flush.Files first second) = OfFiles (first ∷ second ∷ [])
 flush_of_code flush.All = OfAll
 
--- a client without its operation
-pub record IsHeld (m : ModelClient) (c : ClientValue) : Type 0 where
+-- a client without its operation, after so many entries
+pub record IsHeld (m : ModelClient) (count : ℕ) (store : StoreValue) (c : ClientValue) : Type 0 where
   pub session : m.session ≡ c.session
+  pub mounted : IfSome c.session (IsSession store)
   pub direct : m.writeback ≡ false
-  pub handles : SameTable IsHandle m.handles c.handles
+  pub none_removed : m.sustained ≡ []
+  pub handles : SameTable (IsHandle m.views count store) 1 m.handles c.handles
+  pub views : AllByRecursion (λ (view : ModelView). view.entry ≤ count) m.views
   pub pending : m.pending ≡ c.pending
 
 -- the inode of a handle's file, 0 where it isn't open
@@ -90,9 +112,9 @@ pub record IsDoing (m : ModelDoing) (d : Doing) : Type 0 where
   pub stage : m.stage ≡ stage_of d.progress
   pub moved : m.moved ≡ d.has_moved
 
--- a client of the model is the one in memory
-pub record IsClient (m : ModelClient) (c : ClientValue) : Type 0 where
-  pub held : IsHeld m c
+-- a client of the model is the one in memory, after so many entries
+pub record IsClient (m : ModelClient) (count : ℕ) (store : StoreValue) (c : ClientValue) : Type 0 where
+  pub held : IsHeld m count store c
   pub doing : SamePlace IsDoing m.doing c.doing
 
 -- the refusal of a call that begins an operation

@@ -77,7 +77,8 @@ impl Client {
     }
 }
 
-fn forget(doing: &mut Option<Doing>)
+/// The operation is no more.
+pub(crate) fn forget(doing: &mut Option<Doing>)
     ensures { doing.new ≡ None }
 {
     *doing = None;

@@ -1,8 +1,10 @@
 //! The open files of a client: the handle numbered `h` stands at index `h - 1`.
-ghost use Rattle.std.specs.Prelude.{◌≡◌, ◌+◌, ◌<◌, ◌≤◌, ◌^◌, None, is_some, length};
-ghost use Rattle.jv_model.specs.client.ModelClient.{file_of, free_handle, open_count};
+ghost use Rattle.std.specs.Prelude.{◌≡◌, ◌+◌, ◌-◌, ◌<◌, ◌≤◌, ◌^◌, None, Some, IsSome, is_some, length, map, vec_len, vec_capacity};
+ghost use Rattle.jv_model.specs.client.ModelClient.{file_of, free_handle, open_count, with_file};
+ghost use Rattle.jv_client.specs.UnderWay.{seen_by, unseen};
 
 use jv_files::Seen;
+use jv_model::push_in_room;
 
 /// What a handle saw of the first window of its file.
 #[derive(Clone, Copy, Debug, PartialEq, Eq)]
@@ -43,4 +45,83 @@ pub(crate) fn open_count(handles: &[Option<Handle>]) -> usize
         }
     }
     count
+}
+
+/// The least handle that isn't in use.
+pub(crate) fn free_handle(handles: &[Option<Handle>]) -> u64
+    requires { length handles.now < 2 ^ 63 }
+    ensures free { result ≡ free_handle handles.now }
+    ensures low { 1 ≤ result }
+    ensures high { result ≤ length handles.now + 1 }
+{
+    let mut handle = 1;
+    for open in handles {
+        if open.is_none() {
+            return handle;
+        }
+        handle += 1;
+    }
+    handle
+}
+
+/// Gives a handle a file. There must be room where the handle is new.
+pub(crate) fn set(handles: &mut Vec<Option<Handle>>, handle: u64, file: Handle)
+    requires low { 1 ≤ handle }
+    requires high { handle ≤ vec_len handles.old + 1 }
+    requires room { vec_len handles.old + 1 ≤ vec_capacity handles.old }
+    ensures { handles.new.items ≡ with_file handle (Some file) handles.old.items }
+{
+    let index = (handle - 1) as usize;
+    if index < handles.len() {
+        handles[index] = Some(file);
+    } else {
+        push_in_room(handles, Some(file));
+    }
+}
+
+/// Takes a handle that is in use out of use.
+pub(crate) fn clear(handles: &mut [Option<Handle>], handle: u64)
+    requires { IsSome (file_of handles.old handle) }
+    ensures { handles.new ≡ with_file handle None handles.old }
+{
+    handles[(handle - 1) as usize] = None;
+}
+
+/// Gives a handle that is in use a view.
+pub(crate) fn set_view(handles: &mut [Option<Handle>], handle: u64, view: View)
+    requires { IsSome (file_of handles.old handle) }
+    ensures { handles.new ≡ with_file handle (seen_by view (file_of handles.old handle)) handles.old }
+{
+    let index = (handle - 1) as usize;
+    handles[index] = seen_by(handles[index], view);
+}
+
+fn seen_by(slot: Option<Handle>, view: View) -> Option<Handle>
+    ensures { result ≡ seen_by view slot }
+{
+    slot.map(|handle| Handle {
+        view: Some(view),
+        ..handle
+    })
+}
+
+/// Drops the views of a file that changed.
+pub(crate) fn forget_views(handles: &mut [Option<Handle>], inode: u64)
+    ensures { handles.new ≡ map (unseen inode) handles.old }
+{
+    for open in handles.iter_mut() {
+        *open = unseen(*open, inode);
+    }
+}
+
+fn unseen(slot: Option<Handle>, inode: u64) -> Option<Handle>
+    ensures { result ≡ unseen inode slot }
+{
+    match slot {
+        Some(handle) if handle.inode == inode => Some(Handle {
+            view: None,
+            ..handle
+        }),
+        other => other,
+    }
 }

@@ -1,9 +1,12 @@
 //! How an operation begins.
-ghost use Rattle.std.specs.Prelude.{◌≡◌, ◌≤◌, is_some, length, OnOk, OnErr, Some, None};
+ghost use Rattle.std.specs.Prelude.{◌≡◌, ℕ, ◌≤◌, IsSome, IsTrue, is_some, length, OnOk, OnErr, Some, None};
 ghost use Rattle.jv_model.specs.declared.limits.TheConstants.{MAX_HANDLES, FILE_END};
 ghost use Rattle.jv_model.specs.client.ModelClient.{ModelClient, open_count};
 ghost use Rattle.jv_model.specs.client.Profile.{profile};
 ghost use Rattle.jv_model.specs.client.Submission.{submission, submission_of, submitted, names_closed, is_closed, is_mount, by_limits};
+ghost use Rattle.jv_model.specs.journal.Built.{is_built_op};
+ghost use Rattle.jv_client.specs.StoreValue.{StoreValue};
+ghost use Rattle.jv_client.specs.UnderWay.{IsReady};
 ghost use Rattle.jv_client.specs.Held.{IsClient, begun, flush_here, full_flush, files_here, inode_here, refused_with};
 
 use crate::client::Client;
@@ -17,10 +20,16 @@ impl Client {
     /// handle that it names isn't open, `TooManyHandles` where it would open one handle more than there may be, and
     /// `FileTooLarge` where a write ends past the longest file. On error nothing has changed.
     pub fn submit(&mut self, op: Op) -> Result<(), (Op, Fault)>
-        ensures refusal { (m : ModelClient) → IsClient m self.old → refused_with result ≡ submission
-            m op }
-        ensures begun { (m : ModelClient) → IsClient m self.old → OnOk result (IsClient (submitted
-            self.old.limits op m) self.new) }
+        ensures refusal { (m : ModelClient) (count : ℕ) (store : StoreValue)
+            → IsClient m count store self.old → refused_with result ≡ submission m op }
+        ensures begun { (m : ModelClient) (count : ℕ) (store : StoreValue)
+            → IsClient m count store self.old
+            → OnOk result (IsClient (submitted self.old.limits op m) count store self.new) }
+        ensures ready { (store : StoreValue) → IsReady store self.old
+            → IsTrue (is_built_op self.old.limits (length self.old.pending) op)
+            → OnOk result (IsReady store self.new) }
+        ensures busy { OnOk result (IsSome self.new.doing) }
+        ensures still { self.new ≡ record self.old { doing = self.new.doing } }
         ensures err { OnErr result (self.new ≡ self.old) }
     {
         let row = op.profile();

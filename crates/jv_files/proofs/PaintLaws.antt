@@ -5,7 +5,7 @@ use Rattle.std.proofs.lemmas.Bool.Decides.{nat_tests}
 use Rattle.std.proofs.lemmas.List.{get_or_append_left, get_or-append_right, get_or-take, get_or-drop, length-take-le, length-take, take_more, take_all}
 use Rattle.std.proofs.lemmas.List.Edits.{get_or-between, length-between}
 use Rattle.std.specs.List.{between}
-use Rattle.jv_model.specs.run.Past.{bytes_from}
+use Rattle.jv_model.specs.journal.Reading.{bytes_from}
 use Rattle.jv_files.specs.declared.files.StoredFile.{StoredFile}
 use Rattle.jv_files.specs.declared.files.StoredSegment.{StoredSegment}
 use Rattle.jv_files.specs.Stored.{covers, shown_over, stored_byte}

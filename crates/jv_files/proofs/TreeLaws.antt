@@ -12,7 +12,6 @@ use Rattle.jv_model.specs.declared.setting.Setting.{Setting}
 use Rattle.jv_model.specs.tree.Attempt.{◌>>=◌, require}
 use Rattle.jv_model.specs.FiniteMap.{Map, number_key, get, insert}
 use Rattle.jv_model.specs.script.Spelling.{is_name, is_root_path}
-use Rattle.jv_model.specs.run.Pending.{PendingByte, end_of}
 use Rattle.jv_model.specs.tree.Tree.{Tree, Node, File, Content, entry_key, new_node, paged, kind_space, node_space, node_count, fits, sum_fits, space_limit, inode_limit, full_count, trash_root, node_at, content_of, content_at, parent_of, parent_at, target_at, used_space, used_inodes}
 use Rattle.jv_model.specs.tree.Caller.{Caller, Outcome}
 use Rattle.jv_model.specs.tree.Changes.{empty_content, touched, put_node, set_node, change_node, with_content, overwritten}
@@ -20,7 +19,6 @@ use Rattle.jv_model.specs.tree.Making.{new_place, with_next, create}
 use Rattle.jv_model.specs.tree.Reading.{file_inode, open_file}
 use Rattle.jv_model.specs.tree.FileBytes.{committed}
 use Rattle.jv_model.specs.tree.Walk.{is_trash}
-use Rattle.jv_model.specs.run.Built.{flush_fits, grown}
 use Rattle.jv_model.proofs.FiniteMapLaws.{get-insert}
 use Rattle.jv_files.specs.declared.files.StoredFile.{StoredFile}
 use Rattle.jv_files.proofs.SpaceLaws.{named_with}
@@ -436,6 +434,9 @@ sessions-created t who path mode = kept-created (λ x. x.sessions) (λ x nodes. 
 pub next_session-created : (t : Tree) (who : Caller) (path : List ℕ) (mode : ℕ) → (created t who path mode).next_session ≡ t.next_session
 next_session-created t who path mode = kept-created (λ x. x.next_session) (λ x nodes. refl) (λ x entries next. refl) t who path mode
 
+pub sustained-created : (t : Tree) (who : Caller) (path : List ℕ) (mode : ℕ) → (created t who path mode).sustained ≡ t.sustained
+sustained-created t who path mode = kept-created (λ x. x.sustained) (λ x nodes. refl) (λ x entries next. refl) t who path mode
+
 -- whether a commit is within the limits is a matter of its space alone
 pub fits-committed : (t : Tree) (v : FilesValue) (k now from : ℕ) (bytes : List ℕ) (file : StoredFile) (used : ℕ) → HasFiles t v
     → slice_get v.files k ≡ Some file → used + paged file.length ≡ v.used_space + paged (max file.length (from + length bytes))
@@ -446,14 +447,3 @@ fits-committed t v k now from bytes file used h there space =
     let enough = space_from used v.used_space (from + length bytes) file found.content found.keeps space in
     ap (fits t) (committed-is t (2 + k) now from bytes found.content found.there ∙ with_content-is t v k now file used new h h.few there enough)
     ∙ fits-changed t v k now file used new h h.few there enough
-
-pub flush_fits-file : (t : Tree) (v : FilesValue) (k : ℕ) (pending : List PendingByte) (file : StoredFile) (used : ℕ) → HasFiles t v
-    → slice_get v.files k ≡ Some file → used + paged file.length ≡ v.used_space + paged (max file.length (end_of (2 + k) pending))
-    → flush_fits t (2 + k) pending ≡ sum_fits (space_limit t.setting) v.used_space used
-flush_fits-file t v k pending file used h there space =
-    let found = file_at t v k file h there in
-    let new = grown found.content (end_of (2 + k) pending) in
-    let enough = space_from used v.used_space (end_of (2 + k) pending) file found.content found.keeps space in
-    ap (λ (o : Option Content). elim o as (λ _. Bool) [ None ↦ true | Some old ↦ fits t (with_content t 0 (2 + k) (grown old (end_of (2 + k) pending))) ]) found.there
-    ∙ ap (fits t) (with_content-is t v k 0 file used new h h.few there enough)
-    ∙ fits-changed t v k 0 file used new h h.few there enough

@@ -1,6 +1,6 @@
 -- What a read gives of a stored file.
 use Rattle.std.specs.Prelude.{ℕ, ◌-◌, min, List, take}
-use Rattle.jv_model.specs.run.Past.{bytes_from}
+use Rattle.jv_model.specs.journal.Reading.{bytes_from}
 use Rattle.jv_files.specs.declared.files.Seen.{Seen}
 use Rattle.jv_files.specs.declared.files.StoredFile.{StoredFile}
 use Rattle.jv_files.specs.Stored.{stored_byte}

@@ -29,7 +29,7 @@ use Rattle.jv_model.specs.tree.TreeAct.{tree_act}
 use Rattle.jv_model.specs.tree.Reading.{fstat, attr_of}
 use Rattle.jv_model.specs.tree.Sessions.{release, released}
 use Rattle.jv_model.specs.tree.FileBytes.{truncate, truncated, copy, copied, copy_bytes, open_content, overlap}
-use Rattle.jv_model.specs.run.Pending.{PendingByte, Segment, first_segment, pending_of, without_range}
+use Rattle.jv_model.specs.client.Pending.{PendingByte, Segment, first_segment, pending_of, without_range}
 use Rattle.jv_model.specs.client.Origins.{Owed}
 use Rattle.jv_model.specs.client.Profile.{profile, handle_list, handle_of}
 use Rattle.jv_model.specs.client.ModelClient.{ModelClient, OpenFile, View, Doing, OfFiles, OfAll, Stage, Cleaning, Sessions, Trash, Files, Blocks, Part, Working, Reading, Missing, LookedAgain, Compacting, Cleans, Requesting, Replying, unmounted, with_stage, file_of, inode_in, inode_at, views_without}

@@ -15,7 +15,7 @@ use Rattle.jv_model.specs.declared.op.Reply.TheVariants as reply
 use Rattle.jv_model.specs.declared.profile.Answer.TheVariants as answer
 use Rattle.jv_model.specs.declared.profile.Does.{Does}
 use Rattle.jv_model.specs.declared.profile.Does.TheVariants.{Answers, Mounts, Transacts, Releases, Reads, Truncates, Copies, Compacts, Cleans as DoesClean, Collects, Uploads}
-use Rattle.jv_model.specs.run.Pending.{without_range}
+use Rattle.jv_model.specs.client.Pending.{without_range}
 use Rattle.jv_model.specs.client.Origins.{Owed}
 use Rattle.jv_model.specs.client.Profile.{profile, handle_of}
 use Rattle.jv_model.specs.client.ModelClient.{ModelClient, OpenFile, View, Doing, Stage, Cleaning, Files, Blocks, Working, Reading, Missing, LookedAgain, Compacting, Cleans, Requesting, Replying, unmounted, with_stage, views_without, Sessions}

@@ -14,7 +14,7 @@ use Rattle.jv_model.specs.declared.fault.Fault.TheVariants.{Stale, NoMemory}
 use Rattle.jv_model.specs.declared.fault.Gone.TheVariants.{Session, Node}
 use Rattle.jv_model.specs.declared.op.Op.{Op}
 use Rattle.jv_model.specs.declared.op.Op.TheVariants as op
-use Rattle.jv_model.specs.run.Pending.{pending_of}
+use Rattle.jv_model.specs.client.Pending.{pending_of}
 use Rattle.jv_model.specs.client.ModelClient.{ModelClient, OpenFile, View, Doing, file_of, inode_at, session_of}
 use Rattle.jv_model.specs.journal.State.{State, effect, or_empty, transacted}
 use Rattle.jv_model.specs.journal.Steps.{told_of}

@@ -4,12 +4,6 @@ pub mod GrammarExamples
 pub mod ReplyTextExamples
 pub mod FiniteMapLaws
 pub mod TreeComputes
-pub mod LegalExamples
-pub mod PastLaws
-pub mod LooksLaws
-pub mod GrowthLaws
-pub mod CloseLaws
-pub mod WriteLaws
 pub mod BlockNamesExamples
 pub mod SlicesExamples
 pub mod RowGrammarExamples

@@ -4,7 +4,6 @@ pub mod Optional
 pub mod Counts
 pub mod tree
 pub mod script
-pub mod run
 pub mod client
 pub mod journal
 pub mod blocks

@@ -1,4 +1,5 @@
 -- The journal: what it has come to, what may stand in it, what it prints, and when it is legal.
+pub mod JournalValue
 pub mod Reading
 pub mod Looks
 pub mod State
@@ -6,3 +7,4 @@ pub mod Steps
 pub mod Past
 pub mod Stepping
 pub mod Legal
+pub mod Built

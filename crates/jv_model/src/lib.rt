@@ -7,7 +7,6 @@ mod basics;
 mod bytes;
 mod fault;
 mod journal;
-mod laws;
 pub mod lifetimes;
 mod limits;
 mod op;
@@ -22,10 +21,6 @@ pub use basics::{ClientId, How, InodeList, Limits, Moment, Who};
 pub use bytes::{Bytes, Name, Path, Text, copied};
 pub use fault::{Busy, Device, Down, Fault, Gone, RowFault, TxFault};
 pub use journal::Journal;
-pub use laws::{
-    closed_files_are_committed, closes_commit_writes, earlier_text_stays,
-    fresh_views_are_fresh_looks, journals_grow, parts_read_are_of_fresh_looks, views_show_the_file,
-};
 pub use limits::{
     DEFAULT_BLOCK, DEFAULT_BUFFER, DIRECTORY_LENGTH, FILE_END, FULL_COUNT, GIB, KIB, LAST_MOMENT,
     MAX_BLOCK, MAX_BLOCKS, MAX_BUCKET, MAX_CAPACITY, MAX_DATA, MAX_HANDLES, MAX_ITEMS, MAX_LINE,

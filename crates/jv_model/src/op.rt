@@ -118,61 +118,6 @@ pub enum Op {
     Stats,
 }
 
-impl Op {
-    ghost use Rattle.std.specs.Prelude.{◌≡◌};
-    ghost use Rattle.jv_model.specs.run.Client.{is_mount, needs_no_mount, names_handle, handle_in, gives_handle, write_end};
-
-    /// Whether it mounts the client.
-    pub fn is_mount(&self) -> bool
-        ensures { result ≡ is_mount self.now }
-    {
-        matches!(self, Op::Mount { .. })
-    }
-
-    /// Whether a client that isn't mounted may ask for it.
-    pub fn needs_no_mount(&self) -> bool
-        ensures { result ≡ needs_no_mount self.now }
-    {
-        matches!(self, Op::Mount { .. } | Op::Upload)
-    }
-
-    /// Whether it names a handle, which has to be open.
-    pub fn names_handle(&self) -> bool
-        ensures { result ≡ names_handle self.now }
-    {
-        matches!(self, Op::Close { .. } | Op::Read { .. } | Op::Write { .. })
-    }
-
-    /// The handle that it names, 0 where it names none.
-    pub fn handle(&self) -> u64
-        ensures { result ≡ handle_in self.now }
-    {
-        match self {
-            Op::Close { handle } => *handle,
-            Op::Read { handle, .. } => *handle,
-            Op::Write { handle, .. } => *handle,
-            _ => 0,
-        }
-    }
-
-    /// Whether it opens a handle.
-    pub fn gives_handle(&self) -> bool
-        ensures { result ≡ gives_handle self.now }
-    {
-        matches!(self, Op::Create { .. } | Op::Open { .. })
-    }
-
-    /// The position behind the last byte that it writes, 0 where it writes none.
-    pub fn write_end(&self) -> u128
-        ensures { result ≡ write_end self.now }
-    {
-        match self {
-            Op::Write { offset, bytes, .. } => u128::from(*offset) + bytes.len() as u128,
-            _ => 0,
-        }
-    }
-}
-
 /// A line of a script.
 #[derive(Debug, Drop, PartialEq, Eq)]
 pub enum Line {

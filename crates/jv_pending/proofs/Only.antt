@@ -1,7 +1,7 @@
 -- A write that touches one run alone.
 use Rattle.std.proofs.Common.{◌≡◌, ℕ, ◌+◌, ◌-◌, ◌%◌, ◌<◌, ◌≤◌, List, [], ◌∷◌, ◌++◌, length, Some, Option, is_some, unwrap_or, refl, sym, ap, subst, ◌∙◌, arith}
 use Rattle.std.proofs.lemmas.List.{length-append}
-use Rattle.jv_model.specs.run.Pending.{written}
+use Rattle.jv_model.specs.client.Pending.{written}
 use Rattle.jv_pending.specs.declared.run.RunStart.{RunStart}
 use Rattle.jv_pending.specs.Runs.{Run, place, place_of, placed, start_place, end_of_run, gap, bytes_at, pending_bytes, InOrder, Rise, Before, runs_before, runs_from, runs_within, last_of, with_runs, tail_of, joined_behind, IsFirst, IsOnly, Starts, Writes}
 use Rattle.jv_pending.proofs.Order.{pending_bytes-append, length-placed}

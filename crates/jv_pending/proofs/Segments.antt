@@ -5,7 +5,7 @@ use Rattle.std.proofs.lemmas.Bool.Decides.{nat_tests}
 use Rattle.std.proofs.lemmas.Option.{none-some}
 use Rattle.std.proofs.lemmas.List.{append-nil, length-append}
 use Rattle.std.proofs.lemmas.List.Elements.{filter-append}
-use Rattle.jv_model.specs.run.Pending.{PendingByte, Segment, stands_at, comes_before, all_after, is_rising, is_in_range, without_range, pending_of, run_length, first_segment, bytes_in_range, pending_end}
+use Rattle.jv_model.specs.client.Pending.{PendingByte, Segment, stands_at, comes_before, all_after, is_rising, is_in_range, without_range, pending_of, run_length, first_segment, bytes_in_range, pending_end}
 use Rattle.jv_pending.specs.declared.run.RunStart.{RunStart}
 use Rattle.jv_pending.specs.Runs.{Run, place, place_of, placed, pending_bytes, bytes_at, end_of_run, start_place, end_place, segment_of_run, IsRun, InOrder, Rise, Before, runs_before, runs_from, without_run, first_of, last_of}
 use Rattle.jv_pending.proofs.Outcomes.{some_same}

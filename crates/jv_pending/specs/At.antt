@@ -1,6 +1,6 @@
 -- Segments as the code names them.
 use Rattle.std.specs.Prelude.{◌+◌, ◌*◌}
-use Rattle.jv_model.specs.run.Pending.{Segment, window_size}
+use Rattle.jv_model.specs.client.Pending.{Segment, window_size}
 use Rattle.jv_pending.specs.declared.segment.SegmentAt.{SegmentAt}
 
 -- the segment with this window and this position in it

@@ -1,7 +1,7 @@
 //! Runs of pending bytes, and where to find them.
 ghost use Rattle.std.specs.Prelude.{◌≡◌, ℕ, ◌+◌, ◌*◌, ◌<◌, ◌≤◌, ◌^◌, ◌↔◌, length, Option, Some, None, IfSome, IsTrue};
 ghost use Rattle.std.specs.Option.{option_map};
-ghost use Rattle.jv_model.specs.run.Pending.{window_size, next_segment, end_of};
+ghost use Rattle.jv_model.specs.client.Pending.{window_size, next_segment, end_of};
 ghost use Rattle.jv_pending.specs.At.{segment_at};
 ghost use Rattle.jv_pending.specs.Runs.{place_of, end_of_run, segment_of_run, IsRun, InOrder, Rise, pending_bytes, runs_before, runs_from, runs_within, first_of, last_of};
 

@@ -15,7 +15,7 @@ use Rattle.jv_model.specs.declared.op.Op.TheVariants.{Mount, Create, Open, Write
 use Rattle.jv_model.specs.declared.op.Reply.TheVariants.{Refused, SessionMade, FileOpened, Count, Done, Data}
 use Rattle.jv_model.specs.FiniteMap.{get}
 use Rattle.jv_model.specs.tree.TreeAct.{Outcome, outcome}
-use Rattle.jv_model.specs.run.Pending.{written, pending_of, window_size}
+use Rattle.jv_model.specs.client.Pending.{written, pending_of, window_size}
 use Rattle.jv_model.specs.run.Client.{free_handle, file_of, file_in, with_file, submission}
 use Rattle.jv_model.specs.run.Past.{Past, caller, transacted}
 use Rattle.jv_model.specs.script.ReplyText.{printed_line}

@@ -15,7 +15,7 @@ use Rattle.jv_model.specs.run.Built.{pending_limit, is_built, is_built_form, is_
 use Rattle.jv_model.specs.run.Client.{submission, file_of, is_mount, needs_no_mount, names_handle, handle_in, inode_in}
 use Rattle.jv_model.specs.FiniteMap.{get, insert}
 use Rattle.jv_model.specs.run.Past.{Past, caller}
-use Rattle.jv_model.specs.run.Pending.{PendingByte, end_of}
+use Rattle.jv_model.specs.client.Pending.{PendingByte, end_of}
 use Rattle.jv_model.specs.tree.Tree.{Tree, full_count, paged}
 use Rattle.jv_model.specs.tree.Caller.{Outcome, outcome}
 use Rattle.jv_model.specs.tree.Sessions.{mount}

@@ -13,7 +13,7 @@ use Rattle.jv_model.specs.declared.op.Op.{Op}
 use Rattle.jv_model.specs.declared.op.Op.TheVariants.{Close, Read}
 use Rattle.jv_model.specs.declared.op.Reply.{Reply}
 use Rattle.jv_model.specs.declared.op.Reply.TheVariants.{Refused, Done, Data}
-use Rattle.jv_model.specs.run.Pending.{first_segment, pending_of, window_size}
+use Rattle.jv_model.specs.client.Pending.{first_segment, pending_of, window_size}
 use Rattle.jv_model.specs.tree.Tree.{Content, content_at}
 use Rattle.jv_model.specs.run.Client.{ModelClient, OpenFile, Doing, Reading, file_of, inode_in, with_file, submission, answers_once_flushed}
 use Rattle.jv_model.specs.run.Past.{Past, View, reply_of, with_client, counted, or_empty, or_no_bytes, only_if, second_read, bytes_from, bytes_between, reading, part_read, seen_in, is_fresh, view_at}

@@ -10,7 +10,7 @@ use Rattle.jv_model.specs.declared.op.Line.{Line}
 use Rattle.jv_model.specs.declared.op.Op.{Op}
 use Rattle.jv_model.specs.declared.op.Op.TheVariants.{Close, Read, Write}
 use Rattle.jv_model.specs.declared.op.Reply.TheVariants.{Count}
-use Rattle.jv_model.specs.run.Pending.{PendingByte, written}
+use Rattle.jv_model.specs.client.Pending.{PendingByte, written}
 use Rattle.jv_model.specs.run.Client.{ModelClient, OpenFile, NoFlush, OfAll, left_to_flush, file_in, file_of, inode_in, submission}
 use Rattle.jv_model.specs.run.Past.{Past}
 use Rattle.jv_model.specs.script.ReplyText.{printed_line}

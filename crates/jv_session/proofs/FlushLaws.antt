@@ -7,7 +7,7 @@ use Rattle.jv_model.specs.declared.op.Line.{Line}
 use Rattle.jv_model.specs.declared.op.Op.{Op}
 use Rattle.jv_model.specs.run.Past.{Past}
 use Rattle.jv_model.specs.tree.Tree.{paged, sum_fits, space_limit}
-use Rattle.jv_model.specs.run.Pending.{Segment, first_segment, pending_of, end_of, bytes_in_range, without_range}
+use Rattle.jv_model.specs.client.Pending.{Segment, first_segment, pending_of, end_of, bytes_in_range, without_range}
 use Rattle.jv_model.specs.run.Client.{Doing}
 use Rattle.jv_files.specs.declared.files.StoredFile.{StoredFile}
 use Rattle.jv_files.specs.Stored.{FilesValue, Commits, IsFile, with_segment, with_commit}

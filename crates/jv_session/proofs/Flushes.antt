@@ -7,7 +7,7 @@ use Rattle.jv_model.specs.declared.act.ActKind.TheVariants.{Commit, Quiet}
 use Rattle.jv_model.specs.declared.op.Line.{Line}
 use Rattle.jv_model.specs.tree.Tree.{Tree, paged, sum_fits, space_limit, fits}
 use Rattle.jv_model.specs.tree.TreeAct.{committed}
-use Rattle.jv_model.specs.run.Pending.{first_segment, bytes_in_range, without_range}
+use Rattle.jv_model.specs.client.Pending.{first_segment, bytes_in_range, without_range}
 use Rattle.jv_model.specs.run.Client.{Doing, Flushing, left_to_flush}
 use Rattle.jv_model.specs.run.Past.{Past, with_client, spoiled, counted}
 use Rattle.jv_model.specs.run.Legal.{Commits, may_be_staged}

@@ -8,7 +8,7 @@ use Rattle.jv_model.specs.declared.op.Line.{Line}
 use Rattle.jv_model.specs.declared.setting.Setting.{Setting}
 use Rattle.jv_model.specs.FiniteMap.{get}
 use Rattle.jv_model.specs.tree.Tree.{Tree, Content, root, parent_at, content_at, used_space, used_inodes, full_count}
-use Rattle.jv_model.specs.run.Pending.{PendingByte}
+use Rattle.jv_model.specs.client.Pending.{PendingByte}
 use Rattle.jv_model.specs.run.Client.{ModelClient, OpenFile, Doing}
 use Rattle.jv_model.specs.run.Past.{Past, NoMore, begun_to, past}
 use Rattle.jv_model.specs.run.Legal.{AllAllowed}

@@ -7,7 +7,7 @@ use Rattle.jv_model.specs.declared.fault.Fault.{Fault}
 use Rattle.jv_model.specs.declared.fault.Fault.TheVariants.{NoMemory}
 use Rattle.jv_model.specs.declared.op.Op.{Op}
 use Rattle.jv_model.specs.declared.op.Reply.TheVariants.{Refused}
-use Rattle.jv_model.specs.run.JournalValue.{JournalValue}
+use Rattle.jv_model.specs.journal.JournalValue.{JournalValue}
 use Rattle.jv_model.specs.script.ReplyText.{printed_line}
 use Rattle.jv_session.specs.declared.turn.Turn.{Turn}
 use Rattle.jv_session.specs.Agrees.{ScheduleValue, entry_at}

@@ -11,7 +11,7 @@ use Rattle.jv_model.specs.declared.op.Op.TheVariants.{Mount, Create, Open, Close
 use Rattle.jv_model.specs.declared.setting.Setting.{Setting}
 use Rattle.jv_model.specs.script.Spelling.{is_root_path}
 use Rattle.jv_model.specs.tree.Tree.{paged, sum_fits, space_limit, inode_limit, full_count}
-use Rattle.jv_model.specs.run.Pending.{end_of, window_size}
+use Rattle.jv_model.specs.client.Pending.{end_of, window_size}
 use Rattle.jv_model.specs.run.Client.{first_refusal, is_mount, needs_no_mount, names_handle, handle_in, gives_handle, write_end, file_of, open_count}
 use Rattle.jv_model.specs.run.Built.{is_built_fault, pending_limit}
 use Rattle.jv_files.specs.Stored.{FilesValue, inode_named}

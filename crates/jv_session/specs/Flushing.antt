@@ -8,7 +8,7 @@ use Rattle.jv_model.specs.declared.op.Reply.TheVariants.{Data}
 use Rattle.jv_model.specs.declared.op.Line.{Line}
 use Rattle.jv_model.specs.declared.setting.Setting.{Setting}
 use Rattle.jv_model.specs.run.Past.{Past}
-use Rattle.jv_model.specs.run.Pending.{Segment, bytes_in_range, without_range, is_rising}
+use Rattle.jv_model.specs.client.Pending.{Segment, bytes_in_range, without_range, is_rising}
 use Rattle.jv_model.specs.script.ReplyText.{printed_line}
 use Rattle.jv_files.specs.Stored.{Commits, space_of}
 use Rattle.jv_session.specs.Progress.{Reaches, flushing}

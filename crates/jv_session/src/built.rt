@@ -1,7 +1,7 @@
 //! Which lines a session runs today.
 ghost use Rattle.std.specs.Prelude.{◌≡◌, ◌+◌, ◌&&◌, nat_le, IsSome, length, None};
 ghost use Rattle.jv_model.specs.run.Built.{is_built_fault, pending_limit};
-ghost use Rattle.jv_model.specs.run.Pending.{window_size};
+ghost use Rattle.jv_model.specs.client.Pending.{window_size};
 ghost use Rattle.jv_model.specs.run.Client.{file_of};
 ghost use Rattle.jv_files.specs.Stored.{IsFile};
 ghost use Rattle.jv_session.specs.BuiltHere.{refusal_here, has_form, may_run, may_flush, may_answer, may_hold, built_op, inode_or_zero};

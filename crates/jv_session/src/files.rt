@@ -10,7 +10,7 @@ ghost use Rattle.jv_model.specs.run.Client.{file_of};
 ghost use Rattle.jv_model.specs.script.ReplyText.{printed_line};
 ghost use Rattle.jv_session.specs.Agrees.{entry_at};
 ghost use Rattle.jv_session.specs.BuiltHere.{refusal_here, built_op, may_flush};
-ghost use Rattle.jv_model.specs.run.Pending.{next_segment, pending_of, window_size, written};
+ghost use Rattle.jv_model.specs.client.Pending.{next_segment, pending_of, window_size, written};
 ghost use Rattle.jv_pending.specs.At.{segment_at};
 ghost use Rattle.jv_session.specs.Answers.{Answers, RunsOut};
 ghost use Rattle.jv_files.specs.Shown.{shown_between};

@@ -6,7 +6,7 @@ use Rattle.jv_model.specs.declared.op.Op.{Op}
 use Rattle.jv_model.specs.declared.op.Reply.{Reply}
 use Rattle.jv_model.specs.declared.profile.Does.{Does}
 use Rattle.jv_model.specs.tree.Tree.{Content}
-use Rattle.jv_model.specs.run.Pending.{PendingByte}
+use Rattle.jv_model.specs.client.Pending.{PendingByte}
 use Rattle.jv_model.specs.client.Origins.{Origin, Owed}
 
 -- an open file: its inode, and the number of the entry that opened it
@@ -103,7 +103,7 @@ abbrev pub file_of : {X : Type 0} → List (Option X) → ℕ → Option X
 file_of handles handle = if handle == 0 then None else file_in (slice_get handles (handle - 1))
 
 -- the least handle that isn't in use
-abbrev free_from : {X : Type 0} → ℕ → List (Option X) → ℕ
+abbrev pub free_from : {X : Type 0} → ℕ → List (Option X) → ℕ
 free_from handle [] = handle
 free_from handle (None ∷ files) = handle
 free_from handle (Some file ∷ files) = free_from (handle + 1) files

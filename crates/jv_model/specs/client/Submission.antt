@@ -11,7 +11,7 @@ use Rattle.jv_model.specs.declared.profile.Does.TheVariants.{Mounts}
 use Rattle.jv_model.specs.declared.profile.Profile.{Profile}
 use Rattle.jv_model.specs.declared.profile.Handles.{Handles}
 use Rattle.jv_model.specs.declared.profile.Flushes.TheVariants.{Nothing, ItsFiles, IfFull, Everything}
-use Rattle.jv_model.specs.run.Pending.{PendingByte, Segment, first_segment, pending_of}
+use Rattle.jv_model.specs.client.Pending.{PendingByte, Segment, first_segment, pending_of}
 use Rattle.jv_model.specs.client.Profile.{profile, handle_list}
 use Rattle.jv_model.specs.client.ModelClient.{ModelClient, Flush, OfFiles, OfAll, Working, file_of, inode_at, open_count}
 

@@ -26,7 +26,7 @@ use Rattle.jv_model.specs.tree.TreeAct.{tree_act}
 use Rattle.jv_model.specs.tree.FileBytes.{committed, truncated, copied}
 use Rattle.jv_model.specs.tree.Sessions.{expired}
 use Rattle.jv_model.specs.tree.Trash.{purged}
-use Rattle.jv_model.specs.run.Pending.{written, without_range, bytes_in_range, pending_of_others}
+use Rattle.jv_model.specs.client.Pending.{written, without_range, bytes_in_range, pending_of_others}
 use Rattle.jv_model.specs.client.Origins.{Marks, Owed, first_marks, marks_committed, marks_truncated, marks_copied, marks_compacted}
 use Rattle.jv_model.specs.client.Profile.{profile, handle_list, handle_of}
 use Rattle.jv_model.specs.client.ModelClient.{ModelClient, OpenFile, View, Doing, Stage, Part, Sessions, Trash, Files, Slices, Blocks, Cleaning, Working, Reading, Missing, LookedAgain, Compacting, Cleans, Requesting, Replying, unmounted, session_of, with_stage, with_file, file_of, free_handle, inode_at, held_inodes, is_last_of_removed, views_without}

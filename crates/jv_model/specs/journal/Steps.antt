@@ -28,7 +28,7 @@ use Rattle.jv_model.specs.tree.FileBytes.{committed}
 use Rattle.jv_model.specs.tree.Reading.{compact_inode}
 use Rattle.jv_model.specs.tree.Sessions.{due_session}
 use Rattle.jv_model.specs.tree.Trash.{due_purge}
-use Rattle.jv_model.specs.run.Pending.{Segment, bytes_in_range}
+use Rattle.jv_model.specs.client.Pending.{Segment, bytes_in_range}
 use Rattle.jv_model.specs.client.Origins.{Owed, missing_commit}
 use Rattle.jv_model.specs.client.Profile.{handle_of}
 use Rattle.jv_model.specs.client.ModelClient.{ModelClient, OpenFile, View, Doing, Stage, Part, Sessions, Trash, Files, Slices, Blocks, Cleaning, Compaction, Working, Reading, Missing, LookedAgain, Compacting, Cleans, Requesting, Replying, session_of, file_of, inode_at, is_among}

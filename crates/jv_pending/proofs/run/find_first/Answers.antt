@@ -1,6 +1,6 @@
 use Rattle.std.proofs.Common.{◌∙◌, Option, Some, ℕ, ap, sym, arith}
 use Rattle.std.specs.Option.{option_map}
-use Rattle.jv_model.specs.run.Pending.{Segment, next_segment, first_segment}
+use Rattle.jv_model.specs.client.Pending.{Segment, next_segment, first_segment}
 use Rattle.jv_pending.specs.At.{segment_at}
 use Rattle.jv_pending.specs.Runs.{pending_bytes}
 use Rattle.jv_pending.proofs.Parts.{Rise-order}

@@ -1,5 +1,5 @@
 use Rattle.std.proofs.Common.{◌≡◌, true, subst}
-use Rattle.jv_model.specs.run.Pending.{is_rising}
+use Rattle.jv_model.specs.client.Pending.{is_rising}
 use Rattle.jv_pending.specs.Held.{PendingValue}
 use Rattle.jv_pending.specs.Runs.{pending_bytes}
 use Rattle.jv_pending.proofs.Order.{Rises-runs}

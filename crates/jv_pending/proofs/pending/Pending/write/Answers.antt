@@ -1,5 +1,5 @@
 use Rattle.std.proofs.Common.{◌≡◌, ◌∙◌, List, true, length, ap, subst, arith}
-use Rattle.jv_model.specs.run.Pending.{is_rising, pending_of_others}
+use Rattle.jv_model.specs.client.Pending.{is_rising, pending_of_others}
 use Rattle.jv_pending.specs.Held.{PendingValue}
 use Rattle.jv_pending.specs.Runs.{Run, InOrder, pending_bytes}
 use Rattle.jv_pending.proofs.Bytes.{written_length}

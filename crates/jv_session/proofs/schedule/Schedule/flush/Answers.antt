@@ -1,6 +1,6 @@
 -- Each turn flushes the file's first segment.
 use Rattle.std.proofs.Common.{◌≡◌, true, length, Some, sym, ap, subst, ◌∙◌}
-use Rattle.jv_model.specs.run.Pending.{first_segment, pending_of}
+use Rattle.jv_model.specs.client.Pending.{first_segment, pending_of}
 use Rattle.jv_pending.specs.At.{segment_at}
 use Rattle.jv_files.specs.Stored.{IsFile}
 use Rattle.jv_session.specs.BuiltHere.{may_flush}

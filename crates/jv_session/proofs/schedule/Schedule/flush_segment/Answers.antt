@@ -2,7 +2,7 @@
 use Rattle.std.proofs.Common.{◌≡◌, ◌+◌, ◌-◌, ◌*◌, [], ◌∷◌, ◌++◌, length, slice_get, sym, ap, subst, ◌∙◌}
 use Rattle.std.specs.Prelude.{IfSome}
 use Rattle.jv_model.specs.declared.act.ActKind.TheVariants.{Quiet, Commit}
-use Rattle.jv_model.specs.run.Pending.{bytes_in_range, without_range, is_rising}
+use Rattle.jv_model.specs.client.Pending.{bytes_in_range, without_range, is_rising}
 use Rattle.jv_files.specs.Stored.{FilesValue, Commits, IsFile, space_of}
 use Rattle.jv_session.specs.Agrees.{ScheduleValue, entry_at}
 use Rattle.jv_session.proofs.FlushLaws.{three_notes, at_file}

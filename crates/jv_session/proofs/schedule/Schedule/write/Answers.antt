@@ -4,7 +4,7 @@ use Rattle.jv_model.specs.declared.act.ActKind.TheVariants.{Answered}
 use Rattle.jv_model.specs.declared.act.Told.TheVariants.{Fine}
 use Rattle.jv_model.specs.declared.op.Op.TheVariants.{Write}
 use Rattle.jv_model.specs.declared.op.Reply.TheVariants.{Count}
-use Rattle.jv_model.specs.run.Pending.{written}
+use Rattle.jv_model.specs.client.Pending.{written}
 use Rattle.jv_model.specs.run.Client.{file_of}
 use Rattle.jv_model.specs.script.ReplyText.{printed_line}
 use Rattle.jv_session.specs.Agrees.{ScheduleValue, entry_at}

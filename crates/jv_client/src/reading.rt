@@ -1,0 +1,72 @@
+//! Reading: a look at the file where its handle has no view of it, and then its bytes.
+ghost use Rattle.std.specs.Prelude.{◌≡◌, ℕ, ◌+◌, ◌≤◌, IsSome, None, Some};
+ghost use Rattle.jv_model.specs.declared.profile.Does.TheVariants.{Reads};
+ghost use Rattle.jv_client.specs.UnderWay.{IsReady, does_of, left};
+ghost use Rattle.jv_client.specs.Makes.{Makes};
+
+use crate::answers::looks;
+use crate::client::{Client, forget};
+use crate::doing::Progress;
+use crate::handles::{Handle, View, named, set_view};
+use crate::made::Made;
+use crate::step::go_on;
+use crate::store::Store;
+use jv_model::{ActKind, Reply, Sequence};
+
+impl Client {
+    /// Makes the next request of a reading, whose file has nothing pending.
+    pub(crate) fn read_on(&mut self, offset: u64, len: u32, store: &mut Store, entry: u64) -> Made
+        requires reads { does_of self.old.doing ≡ Some (Reads offset len) }
+        requires ready { IsReady store.old self.old }
+        requires flushed { left self.old ≡ None }
+        ensures { (now : ℕ) → Makes now entry self.old self.new store.old store.new result }
+    {
+        let handle = self.handle_in_use();
+        let Some(open) = named(&self.handles, handle) else {
+            unreachable!();
+        };
+        match open.view {
+            None => self.look(handle, open.inode, offset, store, entry),
+            Some(view) => self.show(open.inode, view, offset, len, store),
+        }
+    }
+
+    /// Looks at the file, and answers where it has no byte that is asked for.
+    fn look(
+        &mut self,
+        handle: u64,
+        inode: u64,
+        offset: u64,
+        store: &mut Store,
+        entry: u64,
+    ) -> Made {
+        let seen = store.files.look(inode);
+        set_view(&mut self.handles, handle, View { entry, seen });
+        let kind = ActKind::Look { inode, window: 0 };
+        if offset < seen.length {
+            go_on(&mut self.doing, Progress::Reading);
+            return Made::Request(kind);
+        }
+        forget(&mut self.doing);
+        Made::Both(
+            kind,
+            looks(entry, 0),
+            Reply::Data(Sequence::new(self.alloc)),
+        )
+    }
+
+    /// Answers with the bytes that a view shows. Where it shows none, nothing is asked for.
+    fn show(&mut self, inode: u64, view: View, offset: u64, len: u32, store: &mut Store) -> Made {
+        if offset >= view.seen.length {
+            forget(&mut self.doing);
+            return Made::Answer(looks(view.entry, 0), Reply::Data(Sequence::new(self.alloc)));
+        }
+        let end = offset + u64::from(len);
+        let Ok(bytes) = store.files.read_seen(inode, view.seen, offset, end) else {
+            return self.fail();
+        };
+        forget(&mut self.doing);
+        let told = looks(view.entry, bytes.len() as u64);
+        Made::Both(ActKind::Quiet, told, Reply::Data(bytes))
+    }
+}
