@@ -1,2 +1,4 @@
 -- Laws about clients.
+pub mod HeldLaws
 pub mod SubmissionLaws
+pub mod ReadyLaws
