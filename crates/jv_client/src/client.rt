@@ -1,5 +1,5 @@
 //! A client: its session, its open files, what it wrote and didn't commit, and what it is doing.
-ghost use Rattle.std.specs.Prelude.{◌≡◌, ◌≤◌, is_some, None};
+ghost use Rattle.std.specs.Prelude.{◌≡◌, ◌≤◌, is_some, length, None};
 ghost use Rattle.jv_model.specs.declared.limits.TheConstants.{MAX_DATA};
 ghost use Rattle.jv_client.specs.ClientValue.{fresh_client, crashed};
 
@@ -63,6 +63,13 @@ impl Client {
         ensures { result ≡ is_some self.now.doing }
     {
         self.doing.is_some()
+    }
+
+    /// The number of bytes that are pending.
+    pub fn pending_bytes(&self) -> u64
+        ensures { result ≡ length self.now.pending }
+    {
+        self.pending.bytes()
     }
 
     /// Ends the client without an `umount`: it drops its session, its operation, handles, views and pending bytes. Takes

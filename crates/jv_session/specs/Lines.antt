@@ -1,31 +1,14 @@
 -- What the call for one line of a script does.
-use Rattle.std.specs.Prelude.{◌≡◌, ℕ, ◌+◌, ◌≤◌, List, [], ◌∷◌, length, None}
-use Rattle.jv_model.specs.declared.limits.TheConstants.{LAST_MOMENT}
+use Rattle.std.specs.Prelude.{◌≡◌, ℕ, ◌+◌, true, ◌||◌, List, ◌∷◌, ◌++◌, length}
 use Rattle.jv_model.specs.declared.act.Act.{Act}
-use Rattle.jv_model.specs.declared.basics.Limits.{Limits}
 use Rattle.jv_model.specs.declared.op.Line.{Line}
-use Rattle.jv_model.specs.declared.op.Line.TheVariants.{Do}
-use Rattle.jv_model.specs.declared.op.Op.{Op}
-use Rattle.jv_model.specs.declared.setting.Setting.{Setting}
-use Rattle.jv_model.specs.run.Past.{Past, turned}
-use Rattle.jv_model.specs.run.Legal.{IsMoment}
+use Rattle.jv_model.specs.journal.Past.{Past, begun_to, past, is_over}
+use Rattle.jv_model.specs.journal.Legal.{AllAllowed, may_stop}
 use Rattle.jv_outside.specs.Causes.{Rose}
 use Rattle.jv_outside.specs.Ticks.{Ticks, Passes}
 use Rattle.jv_session.specs.declared.line_end.LineEnd.{LineEnd}
 use Rattle.jv_session.specs.declared.line_end.LineEnd.TheVariants.{Said, Quiet, ClockFailed, Memory}
-use Rattle.jv_session.specs.Agrees.{ScheduleValue, Stands, Ran, ClockFor}
-
--- a schedule before its first line
-abbrev pub fresh_schedule : Setting → Limits → ScheduleValue
-fresh_schedule setting limits = record {
-  setting = setting;
-  limits = limits;
-  at = 0;
-  session = None;
-  handles = [];
-  pending = [];
-  volume = record { names = []; files = []; used_space = 0 };
-}
+use Rattle.jv_session.specs.Stands.{ScheduleValue, Stands, ClockFor}
 
 -- what the call for a line uses
 pub record LineState : Type 0 where
@@ -36,17 +19,51 @@ pub record LineState : Type 0 where
 abbrev pub line_state : Ticks → List Act → ScheduleValue → LineState
 line_state clock journal schedule = record { clock = clock; journal = journal; schedule = schedule }
 
--- From wherever the schedule stands, the line's entries are appended and allowed, and it prints the text.
-abbrev pub RunsLine : Line → ℕ → LineState → LineState → List ℕ → Type 0
-RunsLine line number before after text =
-    (p : Past) (more : List Line) → Stands p before.schedule → p.line + 1 ≡ number → p.rest ≡ line ∷ more → p.count ≡ length before.journal
-    → ClockFor p.run.clock p.asked before.clock.answers after.clock.answers → Ran p more number before.journal after.journal text after.schedule
+-- the entries of one line, which has this number, were appended and are allowed, and the clock was asked so often
+pub record Appends (p : Past) (more : List Line) (number asks : ℕ) (before after : List Act) (acts : List Act) (q : Past) : Type 0 where
+  pub grows : after ≡ before ++ acts
+  pub allowed : AllAllowed p acts
+  pub reaches : begun_to number (past p acts) ≡ q
+  pub line : q.line ≡ number
+  pub same_run : q.run ≡ p.run
+  pub rest : q.rest ≡ more
+  pub count : q.state.count ≡ length after
+  pub asked : q.asked ≡ p.asked + asks
+  pub printed : q.printed ≡ p.printed ++ p.said
 
--- the line was run, and the clock was asked once for it
+-- the line is done and prints this
+pub record Ran (p : Past) (more : List Line) (number asks : ℕ) (before after : List Act) (text : List ℕ) (s : ScheduleValue) : Type 0 where
+  pub acts : List Act
+  pub end : Past
+  pub appends : Appends p more number asks before after acts end
+  pub stands : Stands end s
+  pub said : end.said ≡ text
+
+-- the run stopped on the line, before a step or after its last one
+pub record Cut (p : Past) (more : List Line) (number asks : ℕ) (before after : List Act) : Type 0 where
+  pub acts : List Act
+  pub end : Past
+  pub appends : Appends p more number asks before after acts end
+  pub complete : end.complete ≡ true
+  pub stops : (is_over end || may_stop end) ≡ true
+
+-- From wherever the schedule stands, when the clock tells still what the run's clock tells: what the line comes to.
+abbrev pub FromThere : Line → ℕ → LineState → LineState → (Past → List Line → Type 0) → Type 0
+FromThere line number before after Comes = (p : Past) (more : List Line) → Stands p before.schedule → p.line + 1 ≡ number → p.rest ≡ line ∷ more
+    → p.state.count ≡ length before.journal → ClockFor p.run.clock p.asked before.clock.answers after.clock.answers → Comes p more
+
+-- the line was run
 pub record SaysLine (line : Line) (number : ℕ) (before after : LineState) (text : List ℕ) : Type 0 where
-  pub runs : RunsLine line number before after text
-  pub passes : Passes before.clock.answers after.clock.answers 1
+  pub asks : ℕ
+  pub passes : Passes before.clock.answers after.clock.answers asks
   pub calm : after.clock.faults ≡ before.clock.faults
+  pub runs : FromThere line number before after (λ p more. Ran p more number asks before.journal after.journal text after.schedule)
+
+-- the line was cut off
+pub record CutsLine (line : Line) (number : ℕ) (before after : LineState) : Type 0 where
+  pub asks : ℕ
+  pub passes : Passes before.clock.answers after.clock.answers asks
+  pub stops : FromThere line number before after (λ p more. Cut p more number asks before.journal after.journal)
 
 -- nothing has changed, and the clock wasn't asked
 pub record LeavesAll (before after : LineState) : Type 0 where
@@ -54,30 +71,9 @@ pub record LeavesAll (before after : LineState) : Type 0 where
   pub journal : after.journal ≡ before.journal
   pub schedule : after.schedule ≡ before.schedule
 
--- the clock failed, and nothing else has changed
-pub record StopsAtClock (before after : LineState) : Type 0 where
-  pub answers : after.clock.answers ≡ before.clock.answers
-  pub rose : Rose before.clock.faults after.clock.faults
-  pub journal : after.journal ≡ before.journal
-  pub schedule : after.schedule ≡ before.schedule
-
--- A line that a schedule is to run from where it stands: its operation and its moment.
-pub record Coming (p : Past) (more : List Line) (line at : ℕ) (op : Op) (s : ScheduleValue) (before : List Act) : Type 0 where
-  pub stands : Stands p s
-  pub next : p.line + 1 ≡ line
-  pub rest : p.rest ≡ Do 0 op ∷ more
-  pub moment : IsMoment (turned p more) at
-  pub last : at ≤ LAST_MOMENT
-  pub count : p.count ≡ length before
-
 -- by how the call ended
 abbrev pub LineRuns : Line → ℕ → LineState → LineState → LineEnd → Type 0
 LineRuns line number before after (Said text) = SaysLine line number before after text
 LineRuns line number before after Quiet = LeavesAll before after
-LineRuns line number before after ClockFailed = StopsAtClock before after
-LineRuns line number before after Memory = LeavesAll before after
-
--- An operation's line, from wherever the schedule stood before it was run: what the call appended is allowed, and the
--- schedule is then where the past is, at the line's moment.
-abbrev pub RunsTo : Op → ℕ → ℕ → List Act → List Act → ScheduleValue → ScheduleValue → List ℕ → Type 0
-RunsTo op line at before after s s' text = (p : Past) (more : List Line) → Coming p more line at op s before → Ran p more line before after text (record s' { at = at })
+LineRuns line number before after ClockFailed = CutsLine line number before after × Rose before.clock.faults after.clock.faults
+LineRuns line number before after Memory = CutsLine line number before after × (after.clock.faults ≡ before.clock.faults)

@@ -2,13 +2,11 @@
 #![tactic(auto)]
 
 mod built;
-mod files;
-mod handles;
 mod line_end;
-mod operations;
+mod lines;
 mod root_paths;
 mod schedule;
-mod turn;
+mod texts;
 
 pub use line_end::LineEnd;
 pub use schedule::Schedule;

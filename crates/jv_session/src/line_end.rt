@@ -8,8 +8,8 @@ pub enum LineEnd {
     Said(Bytes),
     /// The line does nothing and prints nothing.
     Quiet,
-    /// The clock failed before the line's first step; nothing has changed.
+    /// The clock failed before a step of the line; the steps before it are made.
     ClockFailed,
-    /// There was no memory for the line's first step; nothing has changed.
+    /// There was no memory for a step's entries or for the line's text; the steps made so far stand.
     Memory,
 }

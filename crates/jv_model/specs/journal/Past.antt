@@ -111,7 +111,7 @@ begun_by_due due p client o None = record p { due = due; state = set_client p.st
 abbrev pub is_busy : Past → ℕ → Bool
 is_busy p client = is_some (p.state.clients client).doing
 
-abbrev idle_text : List ℕ
+abbrev pub idle_text : List ℕ
 idle_text = with_feed (codes "idle")
 
 abbrev pub or_idle : Past → ℕ → Due → Past
@@ -231,7 +231,7 @@ line_reply p told = elim p.due [
 abbrev answered : Past → Reply → Past
 answered p r = record p { due = NoMore; said = printed_line p.state.tree.setting r }
 
-abbrev more_text : List ℕ
+abbrev pub more_text : List ℕ
 more_text = with_feed (codes "more")
 
 -- what a request leaves due
