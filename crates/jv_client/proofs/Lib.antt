@@ -1,2 +1,5 @@
 -- Laws about clients.
+pub mod AnswerLaws
+pub mod HeldLaws
 pub mod SubmissionLaws
+pub mod TableLaws
