@@ -1,5 +1,6 @@
 -- Laws about clients.
 pub mod AnswerLaws
 pub mod HeldLaws
+pub mod ReadyLaws
 pub mod SubmissionLaws
 pub mod TableLaws
