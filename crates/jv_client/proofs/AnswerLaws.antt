@@ -25,9 +25,9 @@ use Rattle.jv_model.specs.client.Submission.{is_flushed}
 use Rattle.jv_model.specs.client.ModelClient.{ModelClient, Doing as ModelDoing, OpenFile, View, Stage, Replying, with_stage, with_file, file_of, held_inodes, inode_at, is_among, is_last_of_removed}
 use Rattle.jv_model.specs.journal.State.{State, after_told, answer_then, answered_client, is_of_another, set_client, with_client}
 use Rattle.jv_model.specs.journal.Steps.{Start, MayStep, MayAnswer, IsEntry, Fails, AtOnce, begins_step, is_failure, is_ready, must_answer, told_of}
-use Rattle.jv_model.specs.journal.Past.{or_no_bytes, reply_of, settled_reply}
+use Rattle.jv_model.specs.journal.Past.{or_no_bytes, ends_in_step, reply_of, settled_reply}
 use Rattle.jv_model.specs.journal.Reading.{reading}
-use Rattle.jv_model.specs.journal.Stepping.{AllowsStep, AnswersAlone, AnswersAfter, stepped, is_answer, answer_of}
+use Rattle.jv_model.specs.journal.Stepping.{AllowsStep, GoesOn as StepGoesOn, AnswersAlone, AnswersAfter, stepped, is_answer, answer_of}
 use Rattle.jv_pending.specs.Held.{PendingValue}
 use Rattle.jv_client.specs.declared.doing.Doing.{Doing}
 use Rattle.jv_client.specs.declared.doing.Flush.{Flush}
@@ -116,6 +116,20 @@ steps_after s t client now kind c d told reply after store leads entry asks coun
           (subst (λ n. IsClient ((stepped t client now (Answered told)).clients client) n store after) (sym entries)
           (subst (λ c. IsClient c (s.count + 2) store after) answered is_client));
     }
+
+-- a request, which leads to a state from where the operation goes on
+pub steps_on : (s t : State) (client now : ℕ) (kind : ActKind) (c : ModelClient) (d : ModelDoing) (after : ClientValue) (store : StoreValue)
+    → stepped s client now kind ≡ t → ((start : Start) (alone : Bool) → IsEntry start alone s client now kind true) → is_answer kind ≡ false
+    → t.count ≡ s.count + 1 → t.clients client ≡ c → c.doing ≡ Some d → must_answer d ≡ false
+    → HasStore t.tree store → IsClient c (s.count + 1) store after
+    → StepsTo s client now (kind ∷ []) More after store
+steps_on s t client now kind c d after store leads entry asks count at busy goes has_store is_client = record {
+  allows = λ start alone. StepGoesOn kind refl refl (entry start alone) asks
+      (ap (λ (t : State). ends_in_step (t.clients client)) leads ∙ ap ends_in_step at ∙ ap (λ o. elim o as (λ _. Bool) [ None ↦ false | Some d ↦ must_answer d ]) busy ∙ goes);
+  count = ap (λ (t : State). t.count) leads ∙ count;
+  has_store = subst (λ (t : State). HasStore t.tree store) (sym leads) has_store;
+  is_client = subst (λ (t : State). IsClient (t.clients client) (s.count + 1) store after) (sym leads) (subst (λ c. IsClient c (s.count + 1) store after) (sym at) is_client);
+}
 
 -- an operation whose answer isn't settled
 

@@ -1,5 +1,6 @@
 -- Readings of the first window: which looks they make, and what they return.
-use Rattle.std.proofs.Common.{◌≡◌, ℕ, zero, suc, ◌+◌, ◌-◌, ◌*◌, ◌/◌, ◌≤◌, ◌<◌, min, Bool, true, false, cond, ◌&&◌, ◌||◌, not, IsTrue, MatchBool, List, [], ◌∷◌, length, slice_get, take, Option, None, Some, refl, sym, ap, subst, ◌∙◌, arith, take_all}
+use Rattle.std.proofs.Common.{◌≡◌, ℕ, zero, suc, ◌+◌, ◌-◌, ◌*◌, ◌/◌, ◌≤◌, ◌<◌, min, Bool, true, false, cond, ◌&&◌, ◌||◌, not, IsTrue, MatchBool, List, [], ◌∷◌, length, slice_get, take, Option, None, Some, refl, sym, ap, subst, ◌∙◌, arith}
+use Rattle.std.proofs.Math.Seq.{take-length}
 use Rattle.std.specs.Prelude.{is_some, ◌==◌, nat_le, nat_lt, if◌then◌else◌, unwrap_or, IfSome, IsSomeAnd}
 use Rattle.std.specs.List.{AllByRecursion}
 use Rattle.std.proofs.lemmas.Bool.{le-leb, and_parts}
@@ -20,8 +21,10 @@ use Rattle.jv_model.specs.tree.Tree.{Tree, Node, Content, node_at, content_at, c
 use Rattle.jv_model.specs.client.Profile.{handle_of}
 use Rattle.jv_model.specs.client.Pending.{PendingByte}
 use Rattle.jv_model.specs.client.Submission.{is_flushed, next_segment}
-use Rattle.jv_model.specs.client.ModelClient.{ModelClient, OpenFile, View as ModelView, Doing as ModelDoing, Stage, Working as ModelWorking, Reading as ModelReading, OfFiles, file_of, session_of, with_stage}
-use Rattle.jv_model.specs.journal.Reading.{Asked, asked_parts, bytes_from, bytes_between, is_fresh, first_that, fresh_view, cited_view, part_read, only_if, read_on, reading, part_to_look}
+use Rattle.jv_model.specs.client.ModelClient.{ModelClient, OpenFile, View as ModelView, Doing as ModelDoing, Stage, Working as ModelWorking, Reading as ModelReading, OfFiles, file_of, with_file, session_of, with_stage}
+use Rattle.jv_model.specs.journal.Steps.{Start, IsEntry, LooksAt, window_to_look}
+use Rattle.jv_model.specs.journal.Stepping.{stepped, entry_of}
+use Rattle.jv_model.specs.journal.Reading.{Asked, shows_all, asked_parts, bytes_from, bytes_between, is_fresh, first_that, fresh_view, cited_view, part_read, only_if, read_on, reading, part_to_look}
 use Rattle.jv_model.specs.journal.State.{State, has_session, or_empty, view_now, set_client, after_look, of_doing, effect}
 use Rattle.jv_files.specs.declared.files.StoredFile.{StoredFile}
 use Rattle.jv_files.specs.declared.files.Seen.{Seen}
@@ -38,6 +41,11 @@ use Rattle.jv_client.specs.declared.handles.View.{View}
 use Rattle.jv_client.specs.ClientValue.{ClientValue}
 use Rattle.jv_client.specs.StoreValue.{StoreValue, IsSession, HasStore}
 use Rattle.jv_client.specs.Held.{SamePlace, SameTable, ShowsContent, IsView, IsHandle, IsHeld, IsClient}
+use Rattle.jv_client.specs.UnderWay.{IsReady, IsUnderWay, segment_left}
+use Rattle.jv_client.proofs.AnswerLaws.{client-doing, doing_of, under_way}
+use Rattle.jv_client.proofs.SubmissionLaws.{file-same}
+use Rattle.jv_client.proofs.HeldLaws.{own_client, with_stage-doing, held-later, views-later}
+use Rattle.jv_client.proofs.TableLaws.{same-with_file}
 
 -- the parts of a range in the first window
 
@@ -147,3 +155,218 @@ node_of (Some node) P h = refl
 
 pub node-there : (t : Tree) (store : StoreValue) (inode : ℕ) → IsStored t store inode → is_some (node_at t inode) ≡ true
 node-there t store inode h = node_of (node_at t inode) (Keeps h.file) h.keeps
+
+-- a reading
+
+abbrev pub reader : ℕ → ℕ → ℕ → ℕ → Progress → Bool → Doing
+reader handle offset len inode progress moved = record { op = op.Read handle offset len; does = does.Reads offset len; flush = flush.File inode; progress = progress; has_moved = moved }
+
+-- it is past its flush, and its file is there
+pub record IsAtFile (h : ClientValue) (store : StoreValue) (handle offset len : ℕ) (file : Handle) (progress : Progress) (moved : Bool) : Type 0 where
+  pub busy : h.doing ≡ Some (reader handle offset len file.inode progress moved)
+  pub opened : file_of h.handles handle ≡ Some file
+  pub some : 0 < len
+  pub short : offset + len ≤ WINDOW
+  pub mounted : is_some h.session ≡ true
+  pub flushed : is_some (segment_left (flush.File file.inode) h.pending) ≡ false
+  pub is_file : IsFile (length store.files.files) file.inode
+  pub ready : IsReady store h
+
+-- the view that a handle keeps
+abbrev pub view_in : Option Handle → Option View
+view_in None = None
+view_in (Some file) = file.view
+
+-- what a look saw of the file
+abbrev pub HasSeen : StoreValue → ℕ → View → Type 0
+HasSeen store inode view = IfSome (slice_get store.files.files (inode - 2)) (λ file. (view.seen.length ≡ file.length) × (view.seen.commits ≡ length file.segments))
+
+-- the client after it
+abbrev pub with_view : ℕ → Handle → View → Option Doing → ClientValue → ClientValue
+with_view handle file view doing h = record h { handles = with_file handle (Some (record file { view = Some view })) h.handles; doing = doing }
+
+-- the model's open file
+pub open_in : (P : OpenFile → Handle → Type 0) (x : Option OpenFile) (y : Option Handle) (file : Handle) → y ≡ Some file → SamePlace P x y → (m : OpenFile) × (x ≡ Some m) × P m file
+open_in P None None file e h = absurd (cc e)
+open_in P None (Some y) file e h = absurd h
+open_in P (Some m) None file e h = absurd h
+open_in P (Some m) (Some y) file e h = (m, refl, subst (P m) (let same : y ≡ file = cc e in same) h)
+
+pub no_view : (P : ModelView → View → Type 0) (x : Option ModelView) (y : Option View) → y ≡ None → SamePlace P x y → x ≡ None
+no_view P None y e h = refl
+no_view P (Some m) None e h = absurd h
+no_view P (Some m) (Some view) e h = absurd (cc e)
+
+pub one_view : (P : ModelView → View → Type 0) (x : Option ModelView) (y : Option View) (view : View) → y ≡ Some view → SamePlace P x y → (m : ModelView) × (x ≡ Some m) × P m view
+one_view P None None view e h = absurd (cc e)
+one_view P None (Some y) view e h = absurd h
+one_view P (Some m) None view e h = absurd h
+one_view P (Some m) (Some y) view e h = (m, refl, subst (P m) (let same : y ≡ view = cc e in same) h)
+
+-- a look at the file
+
+abbrev window_of : Option Asked → Option ℕ
+window_of None = None
+window_of (Some asked) = Some asked.window
+
+first_window_to_look : (views : List ModelView) (handle offset len : ℕ) (file : OpenFile) → 0 < len → offset + len ≤ WINDOW → fresh_view views handle file 0 ≡ None
+    → window_of (part_to_look views handle file (asked_parts offset len)) ≡ Some 0
+first_window_to_look views handle offset len file some short none =
+    ap (λ parts. window_of (part_to_look views handle file parts)) (one_part offset len some short)
+    ∙ ap (λ o. window_of (elim o as (λ _. Option Asked) [ None ↦ Some (first_part offset len) | Some view ↦ (if shows_all (first_part offset len) view then None else None) ])) none
+
+looks_at : (s : State) (c : ModelClient) (handle offset len inode started : ℕ) (moved : Bool) (m : OpenFile) → is_flushed (OfFiles (inode ∷ [])) c.pending ≡ true → file_of c.handles handle ≡ Some m → inode ≡ m.inode
+    → fresh_view c.views handle m 0 ≡ None → 0 < len → offset + len ≤ WINDOW → has_session s.tree c ≡ true → is_some (node_at s.tree inode) ≡ true
+    → LooksAt s c (doing_of (reader handle offset len inode (Working 0 started) moved)) inode 0
+looks_at s c handle offset len inode started moved m flushed is same none some short session there =
+    let d = doing_of (reader handle offset len inode (Working 0 started) moved) in
+    record {
+      goes_on = ap (λ b. b || false) flushed;
+      file = subst (λ o. IsSomeAnd o (λ file. (inode ≡ file.inode) × (window_to_look c d file ≡ Some 0))) (sym is) (same, first_window_to_look c.views handle offset len m some short none);
+      session = session;
+      there = there;
+    }
+
+abbrev pub looking : ModelDoing → ModelDoing
+looking d = record d { stage = ModelReading 0; moved = true }
+
+abbrev pub looked_client : State → ℕ → ℕ → ModelDoing → ModelClient → ModelClient
+looked_client s handle inode d c = record c { views = view_now s handle inode 0 ∷ c.views; doing = Some (looking d) }
+
+-- the state with this client after one more entry
+abbrev pub goes_to : State → ℕ → ModelClient → State
+goes_to s client c = record (set_client s client c) { count = s.count + 1 }
+
+stepped-look : (s : State) (client now handle offset len inode started : ℕ) (moved : Bool) → (s.clients client).doing ≡ Some (doing_of (reader handle offset len inode (Working 0 started) moved))
+    → stepped s client now (Look inode 0) ≡ goes_to s client (looked_client s handle inode (doing_of (reader handle offset len inode (Working 0 started) moved)) (s.clients client))
+stepped-look s client now handle offset len inode started moved busy =
+    let d = doing_of (reader handle offset len inode (Working 0 started) moved) in
+    let c = s.clients client in
+    let seen : ModelClient = record c { views = view_now s handle inode 0 ∷ c.views } in
+    ap (λ o. record (of_doing s (entry_of 0 now client (Look inode 0)) o) { count = s.count + 1 }) busy ∙ ap (goes_to s client) (with_stage-doing (ModelReading 0) seen d busy)
+
+-- the view that it takes
+
+keeps_now : (o : Option Content) (file : StoredFile) → IsSomeAnd o (Keeps file) → Keeps file (or_empty o)
+keeps_now None file h = absurd h
+keeps_now (Some content) file h = h
+
+sees_all : (view : View) (file : StoredFile) → view.seen.length ≡ file.length → view.seen.commits ≡ length file.segments → as_seen view.seen file ≡ file
+sees_all view file same all =
+    ap (λ n. record { length = n; segments = take view.seen.commits file.segments }) same
+    ∙ ap (λ n. record { length = file.length; segments = take n file.segments }) all
+    ∙ ap (λ segments. record { length = file.length; segments = segments }) (take-length file.segments)
+
+view-taken : (s : State) (store : StoreValue) (handle inode : ℕ) (view : View) → IsStored s.tree store inode → HasSeen store inode view → s.count + 1 ≡ view.entry → IsView store inode (view_now s handle inode 0) view
+view-taken s store handle inode view stored seen entry =
+    let file = stored.file in
+    let sees = subst (λ o. IfSome o (λ (file : StoredFile). (view.seen.length ≡ file.length) × (view.seen.commits ≡ length file.segments))) stored.stored seen in
+    let all = sees.1 in
+    let keeps = keeps_now (content_at s.tree inode) file stored.keeps in
+    record {
+      entry = entry;
+      shows = subst (λ o. IsSomeAnd o (ShowsContent view (view_now s handle inode 0))) (sym stored.stored)
+          (record { seen = omega (arith, all); keeps = subst (λ f. Keeps f (or_empty (content_at s.tree inode))) (sym (sees_all view file sees.0 all)) keeps });
+    }
+
+-- it is the handle's latest one, and no other handle's
+
+fresh-taken : (s : State) (handle inode : ℕ) (m : OpenFile) (views : List ModelView) → m.inode ≡ inode → m.opened ≤ s.count → fresh_view (view_now s handle inode 0 ∷ views) handle m 0 ≡ Some (view_now s handle inode 0)
+fresh-taken s handle inode m views same before =
+    let mine : (handle == handle) ≡ true = grind (arith, nat_tests) in
+    let equal : (inode == m.inode) ≡ true = grind (arith, nat_tests) in
+    let later : nat_lt m.opened (s.count + 1) ≡ true = grind (arith, nat_tests) in
+    ap (λ b. if b && (inode == m.inode) && true && nat_lt m.opened (s.count + 1) then Some (view_now s handle inode 0) else fresh_view views handle m 0) mine
+    ∙ ap (λ b. if b && true && nat_lt m.opened (s.count + 1) then Some (view_now s handle inode 0) else fresh_view views handle m 0) equal
+    ∙ ap (λ b. if b then Some (view_now s handle inode 0) else fresh_view views handle m 0) later
+
+fresh-other : (s : State) (handle inode n : ℕ) (m : OpenFile) (views : List ModelView) → (n ≡ handle → ⊥) → fresh_view (view_now s handle inode 0 ∷ views) n m 0 ≡ fresh_view views n m 0
+fresh-other s handle inode n m views apart =
+    let other : (handle == n) ≡ false = grind (arith, nat_tests) in
+    ap (λ b. if b && (inode == m.inode) && true && nat_lt m.opened (s.count + 1) then Some (view_now s handle inode 0) else fresh_view views n m 0) other
+
+-- client and model after the look
+looked-held : (s : State) (c : ModelClient) (store : StoreValue) (h : ClientValue) (handle : ℕ) (m : OpenFile) (file : Handle) (view : View) (doing : Option ModelDoing) (mine : Option Doing)
+    → IsHeld c s.count store h → file_of c.handles handle ≡ Some m → file_of h.handles handle ≡ Some file → IsHandle c.views s.count store handle m file
+    → IsStored s.tree store file.inode → HasSeen store file.inode view → s.count + 1 ≡ view.entry
+    → IsHeld (record c { views = view_now s handle file.inode 0 ∷ c.views; doing = doing }) (s.count + 1) store (with_view handle file view mine h)
+looked-held s c store h handle m file view doing mine held is opened same stored seen entry =
+    let taken = view_now s handle file.inode 0 in
+    let before = same.before in
+    record {
+      session = held.session;
+      mounted = held.mounted;
+      direct = held.direct;
+      none_removed = held.none_removed;
+      handles = same-with_file (IsHandle c.views s.count store) (IsHandle (taken ∷ c.views) (s.count + 1) store) handle c.handles h.handles m file (record file { view = Some view }) is opened
+          (λ n a b apart other. record {
+            inode = other.inode;
+            opened = other.opened;
+            before = (let early = other.before in omega (arith, early));
+            view = subst (λ o. SamePlace (IsView store b.inode) o b.view) (sym (fresh-other s handle file.inode n a c.views apart)) other.view;
+          })
+          (record {
+            inode = same.inode;
+            opened = same.opened;
+            before = omega (arith, before);
+            view = subst (λ o. SamePlace (IsView store file.inode) o (Some view)) (sym (fresh-taken s handle file.inode m c.views same.inode before)) (view-taken s store handle file.inode view stored seen entry);
+          })
+          held.handles;
+      views = (omega arith, views-later s.count (s.count + 1) c.views (omega arith) held.views);
+      pending = held.pending;
+    }
+
+-- what is still known of the reading
+
+pub reading_on : {h : ClientValue} {store : StoreValue} {handle offset len : ℕ} {file : Handle} {progress : Progress} {moved : Bool} → IsAtFile h store handle offset len file progress moved
+    → IsUnderWay h (reader handle offset len file.inode progress moved)
+reading_on {h} {store} {handle} {offset} {len} {file} {progress} {moved} at = under_way h store (reader handle offset len file.inode progress moved) at.busy at.ready
+
+-- the file of the model's client
+pub opened_in : (h : ClientValue) (store : StoreValue) (c : ModelClient) (count handle : ℕ) (file : Handle) → file_of h.handles handle ≡ Some file → IsHeld c count store h
+    → (m : OpenFile) × (file_of c.handles handle ≡ Some m) × IsHandle c.views count store handle m file
+opened_in h store c count handle file opened held =
+    open_in (IsHandle c.views count store handle) (file_of c.handles handle) (file_of h.handles handle) file opened (file-same (IsHandle c.views count store) c.handles h.handles held.handles handle)
+
+pub flushed_in : (h : ClientValue) (store : StoreValue) (c : ModelClient) (count inode : ℕ) → is_some (segment_left (flush.File inode) h.pending) ≡ false → IsHeld c count store h → is_flushed (OfFiles (inode ∷ [])) c.pending ≡ true
+flushed_in h store c count inode none held = ap (λ pending. is_flushed (OfFiles (inode ∷ [])) pending) held.pending ∙ ap not none
+
+-- a look, in the model
+pub record HasLooked (s : State) (h : ClientValue) (store : StoreValue) (now handle offset len started : ℕ) (moved : Bool) (file : Handle) (view : View) : Type 0 where
+  pub m : OpenFile
+  pub is : file_of (s.clients h.id).handles handle ≡ Some m
+  pub allowed : (start : Start) (alone : Bool) → IsEntry start alone s h.id now (Look file.inode 0) true
+  pub leads : stepped s h.id now (Look file.inode 0) ≡ goes_to s h.id (looked_client s handle file.inode (doing_of (reader handle offset len file.inode (Working 0 started) moved)) (s.clients h.id))
+  pub fresh : fresh_view (view_now s handle file.inode 0 ∷ (s.clients h.id).views) handle m 0 ≡ Some (view_now s handle file.inode 0)
+  pub held : (doing : Option ModelDoing) (mine : Option Doing)
+      → IsHeld (record (s.clients h.id) { views = view_now s handle file.inode 0 ∷ (s.clients h.id).views; doing = doing }) (s.count + 1) store (with_view handle file view mine h)
+  pub taken : IsView store file.inode (view_now s handle file.inode 0) view
+
+pub has_looked : (s : State) (h : ClientValue) (store : StoreValue) (now handle offset len started : ℕ) (moved : Bool) (file : Handle) (view : View)
+    → IsAtFile h store handle offset len file (Working 0 started) moved → file.view ≡ None → HasSeen store file.inode view
+    → s.count + 1 ≡ view.entry → HasStore s.tree store → IsClient (s.clients h.id) s.count store h
+    → HasLooked s h store now handle offset len started moved file view
+has_looked s h store now handle offset len started moved file view at none seen entry has_store client =
+    let c = s.clients h.id in
+    let d = reader handle offset len file.inode (Working 0 started) moved in
+    let mine = opened_in h store c s.count handle file at.opened client.held in
+    let m : OpenFile = mine.0 in
+    let same = mine.2 in
+    let busy = client-doing d at.busy client in
+    let stored = is_stored s.tree store file.inode has_store at.is_file in
+    let unseen = no_view (IsView store file.inode) (fresh_view c.views handle m 0) file.view none same.view in
+    record {
+      m = m;
+      is = mine.1;
+      allowed = λ start alone. record {
+        doing = doing_of d;
+        busy = busy;
+        begins_is = refl;
+        may = looks_at s c handle offset len file.inode started moved m (flushed_in h store c s.count file.inode at.flushed client.held) mine.1 (sym same.inode) unseen at.some at.short
+            (session-there s.tree store has_store client.held at.mounted) (node-there s.tree store file.inode stored);
+      };
+      leads = stepped-look s h.id now handle offset len file.inode started moved busy;
+      fresh = fresh-taken s handle file.inode m c.views same.inode same.before;
+      held = λ doing own. looked-held s c store h handle m file view doing own client.held mine.1 at.opened same stored seen entry;
+      taken = view-taken s store handle file.inode view stored seen entry;
+    }
