@@ -41,11 +41,11 @@ use Rattle.jv_client.specs.declared.handles.View.{View}
 use Rattle.jv_client.specs.ClientValue.{ClientValue}
 use Rattle.jv_client.specs.StoreValue.{StoreValue, IsSession, HasStore}
 use Rattle.jv_client.specs.Held.{SamePlace, SameTable, ShowsContent, IsView, IsHandle, IsHeld, IsClient}
-use Rattle.jv_client.specs.UnderWay.{IsReady, IsUnderWay, segment_left}
-use Rattle.jv_client.proofs.AnswerLaws.{client-doing, doing_of, under_way}
+use Rattle.jv_client.specs.UnderWay.{FlushesFor, Closes, ReadsNothing, Reads, IsForm, Mounts, Transacts, Writes, Flushes, IsOfFile, IsReady, IsUnderWay, left, left_of, segment_left}
+use Rattle.jv_client.proofs.AnswerLaws.{client-doing, doing_of, under_way, written_out}
 use Rattle.jv_client.proofs.SubmissionLaws.{file-same}
 use Rattle.jv_client.proofs.HeldLaws.{own_client, with_stage-doing, held-later, views-later}
-use Rattle.jv_client.proofs.TableLaws.{same-with_file}
+use Rattle.jv_client.proofs.TableLaws.{all-at, same-with_file}
 
 -- the parts of a range in the first window
 
@@ -314,6 +314,64 @@ looked-held s c store h handle m file view doing mine held is opened same stored
           held.handles;
       views = (omega arith, views-later s.count (s.count + 1) c.views (omega arith) held.views);
       pending = held.pending;
+    }
+
+-- a reading in progress
+
+record IsReader (h : ClientValue) (d : Doing) (offset len : ℕ) : Type 0 where
+  pub handle : ℕ
+  pub file : Handle
+  pub op : d.op ≡ op.Read handle offset len
+  pub first : d.flush ≡ flush.File file.inode
+  pub opened : file_of h.handles handle ≡ Some file
+  pub some : 0 < len
+  pub short : offset + len ≤ WINDOW
+  pub mounted : is_some h.session ≡ true
+
+read_form : (h : ClientValue) (d : Doing) (offset len : ℕ) → IsForm h d → d.does ≡ does.Reads offset len → IsReader h d offset len
+read_form h d offset len (Mounts of_op of_does none) e = absurd (cc (sym e ∙ of_does))
+read_form h d offset len (Transacts of_op of_does none mounted) e = absurd (cc (sym e ∙ of_does))
+read_form h d offset len (Writes handle from bytes file of_op of_does none opened short room) e = absurd (cc (sym e ∙ of_does))
+read_form h d offset len (Flushes handle file (Closes of_op of_does) first opened mounted) e = absurd (cc (sym e ∙ of_does))
+read_form h d offset len (Flushes handle file (ReadsNothing from n of_op of_does) first opened mounted) e = absurd (cc (sym e ∙ of_does))
+read_form h d offset len (Flushes handle file (Reads from n of_op of_does some short) first opened mounted) e =
+    let same : does.Reads from n ≡ does.Reads offset len = sym of_does ∙ e in
+    let start : from ≡ offset = cc same in
+    let long : n ≡ len = cc same in
+    record {
+      handle = handle;
+      file = file;
+      op = of_op ∙ ap (λ from. op.Read handle from n) start ∙ ap (op.Read handle offset) long;
+      first = first;
+      opened = opened;
+      some = (omega (arith, some, long));
+      short = (omega (arith, short, start, long));
+      mounted = mounted;
+    }
+
+-- by the handle and the file that the code names
+pub at_file : (h : ClientValue) (store : StoreValue) (handle offset len : ℕ) (file : Handle) (d : Doing) → h.doing ≡ Some d → d.does ≡ does.Reads offset len → IsReady store h → left h ≡ None
+    → handle ≡ handle_of d.op → file_of h.handles handle ≡ Some file → IsAtFile h store handle offset len file d.progress d.has_moved
+at_file h store handle offset len file d busy of_does ready none names opened =
+    let under = under_way h store d busy ready in
+    let r = read_form h d offset len under.form of_does in
+    let own : handle ≡ r.handle = names ∙ ap handle_of r.op in
+    let both : Some file ≡ Some r.file = sym opened ∙ ap (file_of h.handles) own ∙ r.opened in
+    let same : file ≡ r.file = cc both in
+    let reads : d.op ≡ op.Read handle offset len = r.op ∙ ap (λ handle. op.Read handle offset len) (sym own) in
+    let first : d.flush ≡ flush.File file.inode = r.first ∙ ap (λ (file : Handle). flush.File file.inode) (sym same) in
+    let spelt : d ≡ reader handle offset len file.inode d.progress d.has_moved =
+    written_out d (op.Read handle offset len) (does.Reads offset len) d.progress d.has_moved reads of_does refl refl ∙ ap (λ first. record d { op = op.Read handle offset len; does = does.Reads offset len; flush = first }) first in
+    let flushed : left_of h.pending (Some d) ≡ None = ap (left_of h.pending) (sym busy) ∙ none in
+    record {
+      busy = busy ∙ ap Some spelt;
+      opened = opened;
+      some = r.some;
+      short = r.short;
+      mounted = r.mounted;
+      flushed = ap (λ first. is_some (segment_left first h.pending)) (sym first) ∙ ap is_some flushed;
+      is_file = all-at (IsOfFile store) h.handles handle file ready.files opened;
+      ready = ready;
     }
 
 -- what is still known of the reading

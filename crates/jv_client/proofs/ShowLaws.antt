@@ -9,7 +9,7 @@ use Rattle.jv_model.specs.declared.op.Reply.TheVariants.{Data}
 use Rattle.jv_model.specs.client.ModelClient.{ModelClient, OpenFile, View as ModelView, Doing as ModelDoing, Stage, Reading as ModelReading, OfFiles, file_of, inode_at, with_stage}
 use Rattle.jv_model.specs.client.Pending.{window_size}
 use Rattle.jv_model.specs.client.Submission.{is_flushed}
-use Rattle.jv_model.specs.journal.Reading.{asked_parts, bytes_between, fresh_view, reading}
+use Rattle.jv_model.specs.journal.Reading.{Asked, asked_parts, bytes_between, fresh_view, reading}
 use Rattle.jv_model.specs.journal.State.{State, after_quiet, is_cleaning, look_refusal, next_entry, of_doing, quieted, flushing_on, refused_look, sees_first, set_client}
 use Rattle.jv_model.specs.journal.Steps.{Start, IsEntry, ReadsViews, may_be_quiet}
 use Rattle.jv_model.specs.journal.Stepping.{stepped, entry_of}
@@ -98,5 +98,98 @@ show_none now entry handle offset len progress moved h store file view at e past
 
 -- a request for a block
 
-sees_in : (c : ModelClient) (handle : ℕ) (o : Option OpenFile) → Bool
-sees_in c handle o = elim o [ None ↦ false | Some file ↦ is_some (fresh_view c.views handle file 0) ]
+abbrev sees_in : ModelClient → ℕ → Option OpenFile → List Asked → Bool
+sees_in c handle None parts = false
+sees_in c handle (Some file) [] = false
+sees_in c handle (Some file) (asked ∷ others) = is_some (fresh_view c.views handle file asked.window)
+
+sees_view : (c : ModelClient) (handle offset len inode : ℕ) (progress : Progress) (moved : Bool) (m : OpenFile) (seen : ModelView) → 0 < len → offset + len ≤ window_size
+    → file_of c.handles handle ≡ Some m → fresh_view c.views handle m 0 ≡ Some seen → sees_first c (doing_of (reader handle offset len inode progress moved)) (asked_parts offset len) ≡ true
+sees_view c handle offset len inode progress moved m seen some short is fresh =
+    ap (sees_first c (doing_of (reader handle offset len inode progress moved))) (one_part offset len some short) ∙ ap (λ o. sees_in c handle o (first_part offset len ∷ [])) is ∙ ap is_some fresh
+
+quiet_when : (flushed sees gone : Bool) → flushed ≡ true → sees ≡ true → (if flushed then sees || gone else true) ≡ true
+quiet_when true true gone e f = refl
+quiet_when true false gone e f = absurd (cc f)
+quiet_when false sees gone e f = refl
+
+reads_when : (flushed sees : Bool) (shown gone flushing : Stage) → flushed ≡ true → sees ≡ true → (if flushed then (if sees then shown else gone) else flushing) ≡ shown
+reads_when true true shown gone flushing e f = refl
+reads_when true false shown gone flushing e f = absurd (cc f)
+reads_when false sees shown gone flushing e f = absurd (cc e)
+
+-- its first request, or a further one
+abbrev pub IsFirst : Progress → Type 0
+IsFirst (Working quiets started) = quiets ≡ 0
+IsFirst Reading = Unit {0}
+
+pub no_segment_first : (h : ClientValue) (d : Doing) (progress : Progress) → IsAt h d progress → has_segment h d ≡ false → IsFirst progress
+no_segment_first h d (Working zero started) at none = refl
+no_segment_first h d (Working (suc quiets) started) at none = let some : 0 < suc quiets = omega arith in let segment = at.segment some in absurd (cc (sym segment ∙ none))
+no_segment_first h d Reading at none = tt
+
+module _ (s : State) (client now : ℕ) (c : ModelClient) (handle offset len inode : ℕ) (moved : Bool) where
+  abbrev model_of : Progress → ModelDoing
+  model_of progress = doing_of (reader handle offset len inode progress moved)
+
+  quiet-allowed : (start : Start) (progress : Progress) → IsFirst progress → is_flushed (OfFiles (inode ∷ [])) c.pending ≡ true → sees_first c (model_of progress) (asked_parts offset len) ≡ true
+      → may_be_quiet start s client now c (model_of progress) (stage_of progress) ≡ true
+  quiet-allowed start (Working zero started) first flushed sees = quiet_when _ _ (is_some (look_refusal s.tree c (inode_at c handle))) flushed sees
+  quiet-allowed start (Working (suc quiets) started) first flushed sees = absurd (omega (arith, first))
+  quiet-allowed start Reading first flushed sees = refl
+
+  quieted-reads : (progress : Progress) → IsFirst progress → is_flushed (OfFiles (inode ∷ [])) c.pending ≡ true → sees_first c (model_of progress) (asked_parts offset len) ≡ true
+      → quieted s client c now (model_of progress) (stage_of progress) ≡ ModelReading 0
+  quieted-reads (Working zero started) first flushed sees =
+      reads_when _ _ (ModelReading 0) (refused_look s c (inode_at c handle) (model_of (Working zero started)).stage) (flushing_on s c now zero started) flushed sees
+  quieted-reads (Working (suc quiets) started) first flushed sees = absurd (omega (arith, first))
+  quieted-reads Reading first flushed sees = refl
+
+-- the operation after a request
+abbrev pub read_client : ModelDoing → ModelClient → ModelClient
+read_client d c = record c { doing = Some (looking d) }
+
+stepped-quiet : (s : State) (client now : ℕ) (d : ModelDoing) → (s.clients client).doing ≡ Some d → is_cleaning d.does ≡ false → quieted s client (s.clients client) now d d.stage ≡ ModelReading 0
+    → stepped s client now Quiet ≡ goes_to s client (read_client d (s.clients client))
+stepped-quiet s client now d busy other leads =
+    let c = s.clients client in
+    let kept = λ (b : Bool). record s { swept = (if b then next_entry s else s.swept) } in
+    ap (λ o. record (of_doing s (entry_of 0 now client Quiet) o) { count = s.count + 1 }) busy
+    ∙ ap (λ b. record (set_client (kept b) client (with_stage (quieted s client c now d d.stage) c)) { count = s.count + 1 }) other
+    ∙ ap (λ stage. goes_to s client (with_stage stage c)) leads ∙ ap (goes_to s client) (with_stage-doing (ModelReading 0) c d busy)
+
+-- the bytes of the view
+pub show_bytes : (now entry handle offset len : ℕ) (progress : Progress) (moved : Bool) (h : ClientValue) (store : StoreValue) (file : Handle) (view : View) (bytes : List ℕ)
+    → IsAtFile h store handle offset len file progress moved → file.view ≡ Some view
+    → IfSome (slice_get store.files.files (file.inode - 2)) (λ stored. bytes ≡ shown_between (as_seen view.seen stored) offset (offset + len))
+    → Makes now entry h (ended h) store store (Both Quiet (Looks view.entry 0 (length bytes)) (Data bytes))
+show_bytes now entry handle offset len progress moved h store file view bytes at e shows =
+    let d = reader handle offset len file.inode progress moved in
+    let first = no_segment_first h d progress (reading_on at).at at.flushed in
+    record {
+      id = refl;
+      limits = refl;
+      ready = record { files = at.ready.files; doing = tt };
+      grows = grows-same store;
+      falls = refl;
+      leads = λ s number has_store client.
+          let c = s.clients h.id in
+          let v = has_view s h store handle file view at.opened e client.held in
+          let m = v.m in
+          let before = doing_of d in
+          let busy = client-doing d at.busy client in
+          let flushed = flushed_in h store c s.count file.inode at.flushed client.held in
+          let sees = sees_view c handle offset len file.inode progress moved m v.seen at.some at.short v.is v.fresh in
+          let reads = returns-view c handle offset len view.entry m v.seen bytes v.fresh v.same.entry at.some at.short
+              (view_bytes view v.seen (slice_get store.files.files (file.inode - 2)) bytes offset (offset + len) v.same.shows shows) in
+          let after = read_client before c in
+          steps_after s (goes_to s h.id after) h.id now Quiet after (looking before) (Looks view.entry 0 (length bytes)) (Data bytes) (ended h) store
+          (stepped-quiet s h.id now before busy refl (quieted-reads s h.id now c handle offset len file.inode moved progress first flushed sees))
+          (λ start alone. record { doing = before; busy = busy; begins_is = refl; may = quiet-allowed s h.id now c handle offset len file.inode moved start progress first flushed sees })
+          refl refl (own_client s.clients h.id after) refl refl (record {
+            may = λ start alone. ReadsViews (record { goes_on = refl; file = m; opened = v.is; first = view.entry; second = 0; bytes = bytes; reads = reads; same = refl });
+            own = refl;
+            says = ap Data (data-of c.views handle offset len view.entry (file_of c.handles handle) m bytes v.is reads);
+          })
+          has_store (record { held = held-later (grows-same store) (omega arith) (held-doing None None client.held); doing = tt });
+    }
