@@ -150,6 +150,11 @@ own-no_memory Reading = refl
 pub under_way : (h : ClientValue) (store : StoreValue) (d : Doing) → h.doing ≡ Some d → IsReady store h → IsUnderWay h d
 under_way h store d busy ready = subst (λ o. IfSome o (IsUnderWay h)) busy ready.doing
 
+-- what an operation in progress does
+pub the_doing : (o : Option Doing) (does : Does) → does_of o ≡ Some does → (d : Doing) × (o ≡ Some d) × (d.does ≡ does)
+the_doing None does e = absurd (cc e)
+the_doing (Some d) does e = (d, refl, cc e)
+
 -- out of memory: the operation ends, and nothing else has changed
 pub fails : (now entry : ℕ) (h : ClientValue) (store : StoreValue) (d : Doing) → h.doing ≡ Some d → IsReady store h
     → Makes now entry h (ended h) store store (Answer (ToldRefused NoMemory) (Refused NoMemory))

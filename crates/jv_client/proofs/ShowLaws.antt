@@ -1,6 +1,9 @@
 -- A reading shows the bytes of the view that its handle keeps.
 use Rattle.std.proofs.Common.{◌≡◌, ℕ, zero, suc, ◌+◌, ◌-◌, ◌≤◌, ◌<◌, Bool, true, false, cond, ◌||◌, List, [], ◌∷◌, length, slice_get, Option, None, Some, refl, sym, ap, subst, ◌∙◌, arith}
 use Rattle.std.specs.Prelude.{is_some, nat_lt, if◌then◌else◌, IfSome}
+use Rattle.std.proofs.lemmas.Bool.{le-ltb}
+use Rattle.jv_model.specs.declared.profile.Does.TheVariants as does
+use Rattle.jv_model.specs.client.Profile.{handle_of}
 use Rattle.jv_model.specs.declared.act.ActKind.TheVariants.{Quiet, Answered}
 use Rattle.jv_model.specs.declared.act.Told.{Told}
 use Rattle.jv_model.specs.declared.act.Told.TheVariants.{Looks}
@@ -24,11 +27,11 @@ use Rattle.jv_client.specs.declared.made.Made.TheVariants.{Answer, Both}
 use Rattle.jv_client.specs.ClientValue.{ClientValue}
 use Rattle.jv_client.specs.StoreValue.{StoreValue}
 use Rattle.jv_client.specs.Held.{IsView, IsHeld, IsClient, stage_of}
-use Rattle.jv_client.specs.UnderWay.{IsAt, ended, has_segment, reads_more, shows_from}
+use Rattle.jv_client.specs.UnderWay.{IsAt, IsReady, does_of, ended, left, has_segment, reads_more, shows_from}
 use Rattle.jv_client.specs.Makes.{Makes}
 use Rattle.jv_client.proofs.HeldLaws.{own_client, grows-same, held-later, held-doing, with_stage-doing}
-use Rattle.jv_client.proofs.AnswerLaws.{client-doing, doing_of, nothing_asked, steps_after, steps_alone}
-use Rattle.jv_client.proofs.ReadingLaws.{IsAtFile, reader, first_part, one_part, looking, goes_to, view_in, reading_on, opened_in, flushed_in, one_view, reading-cited, no_bytes, view_bytes}
+use Rattle.jv_client.proofs.AnswerLaws.{client-doing, the_doing, doing_of, nothing_asked, steps_after, steps_alone}
+use Rattle.jv_client.proofs.ReadingLaws.{IsAtFile, at_file, reader, first_part, one_part, looking, goes_to, view_in, reading_on, opened_in, flushed_in, one_view, reading-cited, no_bytes, view_bytes}
 
 -- the view in the model
 pub record HasView (s : State) (h : ClientValue) (store : StoreValue) (handle : ℕ) (file : Handle) (view : View) : Type 0 where
@@ -78,7 +81,7 @@ show_none now entry handle offset len progress moved h store file view at e past
           let c = s.clients h.id in
           let v = has_view s h store handle file view at.opened e client.held in
           let nothing = returns-view c handle offset len view.entry v.m v.seen [] v.fresh v.same.entry at.some at.short
-              (no_bytes view v.seen (slice_get store.files.files (file.inode - 2)) offset (offset + len) v.same.shows past) in
+          (no_bytes view v.seen (slice_get store.files.files (file.inode - 2)) offset (offset + len) v.same.shows past) in
           steps_alone s h.id now c (doing_of idle) (Looks view.entry 0 0) (Data []) (ended h) store refl (client-doing idle busy client) refl (record {
             may = λ start alone. ReadsViews (record {
               goes_on = flushed_in h store c s.count file.inode at.flushed client.held;
@@ -181,7 +184,7 @@ show_bytes now entry handle offset len progress moved h store file view bytes at
           let flushed = flushed_in h store c s.count file.inode at.flushed client.held in
           let sees = sees_view c handle offset len file.inode progress moved m v.seen at.some at.short v.is v.fresh in
           let reads = returns-view c handle offset len view.entry m v.seen bytes v.fresh v.same.entry at.some at.short
-              (view_bytes view v.seen (slice_get store.files.files (file.inode - 2)) bytes offset (offset + len) v.same.shows shows) in
+          (view_bytes view v.seen (slice_get store.files.files (file.inode - 2)) bytes offset (offset + len) v.same.shows shows) in
           let after = read_client before c in
           steps_after s (goes_to s h.id after) h.id now Quiet after (looking before) (Looks view.entry 0 (length bytes)) (Data bytes) (ended h) store
           (stepped-quiet s h.id now before busy refl (quieted-reads s h.id now c handle offset len file.inode moved progress first flushed sees))
@@ -193,3 +196,37 @@ show_bytes now entry handle offset len progress moved h store file view bytes at
           })
           has_store (record { held = held-later (grows-same store) (omega arith) (held-doing None None client.held); doing = tt });
     }
+
+-- from what is known before
+
+pub record BeforeShow (h : ClientValue) (store : StoreValue) (offset len : ℕ) (file : Handle) : Type 0 where
+  pub handle : ℕ
+  pub d : Doing
+  pub busy : h.doing ≡ Some d
+  pub at : IsAtFile h store handle offset len file d.progress d.has_moved
+
+pub before_show : (h : ClientValue) (store : StoreValue) (offset len : ℕ) (file : Handle) → does_of h.doing ≡ Some (does.Reads offset len) → IfSome h.doing (λ d. file_of h.handles (handle_of d.op) ≡ Some file)
+    → IsReady store h → left h ≡ None → BeforeShow h store offset len file
+before_show h store offset len file reads opened ready flushed =
+    let doing = the_doing h.doing (does.Reads offset len) reads in
+    let d = doing.0 in
+    let named = subst (λ o. IfSome o (λ d. file_of h.handles (handle_of d.op) ≡ Some file)) doing.1 opened in
+    record { handle = handle_of d.op; d = d; busy = doing.1; at = at_file h store (handle_of d.op) offset len file d doing.1 doing.2 ready flushed refl named }
+
+pub shows_nothing : (now entry offset len : ℕ) (h after : ClientValue) (store : StoreValue) (file : Handle) (view : View) (told : Told) (bytes : List ℕ) → BeforeShow h store offset len file
+    → file.view ≡ Some view → view.seen.length ≤ offset → after ≡ ended h → told ≡ Looks view.entry 0 0 → bytes ≡ []
+    → Makes now entry h after store store (Answer told (Data bytes))
+shows_nothing now entry offset len h after store file view told bytes before e past of_after of_told of_bytes =
+    let made = ap (λ told. Answer told (Data bytes)) of_told ∙ ap (λ bytes. Answer (Looks view.entry 0 0) (Data bytes)) of_bytes in
+    subst (λ after. Makes now entry h after store store (Answer told (Data bytes))) (sym of_after)
+    (subst (λ made. Makes now entry h (ended h) store store made) (sym made)
+    (show_none now entry before.handle offset len before.d.progress before.d.has_moved h store file view before.at e past (le-ltb offset view.seen.length past)))
+
+pub shows_all : (now entry offset len : ℕ) (h after : ClientValue) (store : StoreValue) (file : Handle) (view : View) (told : Told) (bytes : List ℕ) → BeforeShow h store offset len file
+    → file.view ≡ Some view → IfSome (slice_get store.files.files (file.inode - 2)) (λ stored. bytes ≡ shown_between (as_seen view.seen stored) offset (offset + len))
+    → after ≡ ended h → told ≡ Looks view.entry 0 (length bytes)
+    → Makes now entry h after store store (Both Quiet told (Data bytes))
+shows_all now entry offset len h after store file view told bytes before e shows of_after of_told =
+    subst (λ after. Makes now entry h after store store (Both Quiet told (Data bytes))) (sym of_after)
+    (subst (λ told. Makes now entry h (ended h) store store (Both Quiet told (Data bytes))) (sym of_told)
+    (show_bytes now entry before.handle offset len before.d.progress before.d.has_moved h store file view bytes before.at e shows))
