@@ -1,4 +1,9 @@
 -- Laws about clients.
+pub mod AnswerLaws
 pub mod HeldLaws
-pub mod SubmissionLaws
+pub mod LookLaws
+pub mod ReadingLaws
 pub mod ReadyLaws
+pub mod ShowLaws
+pub mod SubmissionLaws
+pub mod TableLaws

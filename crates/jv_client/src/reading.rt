@@ -1,6 +1,8 @@
 //! Reading: a look at the file where its handle has no view of it, and then its bytes.
-ghost use Rattle.std.specs.Prelude.{◌≡◌, ℕ, ◌+◌, ◌≤◌, IsSome, None, Some};
+ghost use Rattle.std.specs.Prelude.{◌≡◌, ℕ, ◌+◌, ◌≤◌, IfSome, IsSome, None, Some};
 ghost use Rattle.jv_model.specs.declared.profile.Does.TheVariants.{Reads};
+ghost use Rattle.jv_model.specs.client.ModelClient.{file_of};
+ghost use Rattle.jv_model.specs.client.Profile.{handle_of};
 ghost use Rattle.jv_client.specs.UnderWay.{IsReady, does_of, left};
 ghost use Rattle.jv_client.specs.Makes.{Makes};
 
@@ -26,8 +28,8 @@ impl Client {
             unreachable!();
         };
         match open.view {
-            None => self.look(handle, open.inode, offset, store, entry),
-            Some(view) => self.show(open.inode, view, offset, len, store),
+            None => self.look(handle, open, offset, store, entry),
+            Some(view) => self.show(open, view, offset, len, store),
         }
     }
 
@@ -35,14 +37,25 @@ impl Client {
     fn look(
         &mut self,
         handle: u64,
-        inode: u64,
+        file: Handle,
         offset: u64,
         store: &mut Store,
         entry: u64,
-    ) -> Made {
-        let seen = store.files.look(inode);
+    ) -> Made
+        requires reads { (len : ℕ) × (does_of self.old.doing ≡ Some (Reads offset len)) }
+        requires names { IfSome self.old.doing (λ d. handle ≡ handle_of d.op) }
+        requires opened { file_of self.old.handles handle ≡ Some file }
+        requires not_seen { file.view ≡ None }
+        requires ready { IsReady store.old self.old }
+        requires flushed { left self.old ≡ None }
+        ensures { (now : ℕ) → Makes now entry self.old self.new store.old store.new result }
+    {
+        let seen = store.files.look(file.inode);
         set_view(&mut self.handles, handle, View { entry, seen });
-        let kind = ActKind::Look { inode, window: 0 };
+        let kind = ActKind::Look {
+            inode: file.inode,
+            window: 0,
+        };
         if offset < seen.length {
             go_on(&mut self.doing, Progress::Reading);
             return Made::Request(kind);
@@ -56,13 +69,21 @@ impl Client {
     }
 
     /// Answers with the bytes that a view shows. Where it shows none, nothing is asked for.
-    fn show(&mut self, inode: u64, view: View, offset: u64, len: u32, store: &mut Store) -> Made {
+    fn show(&mut self, file: Handle, view: View, offset: u64, len: u32, store: &mut Store) -> Made
+        requires reads { does_of self.old.doing ≡ Some (Reads offset len) }
+        requires opened { IfSome self.old.doing (λ d.
+            file_of self.old.handles (handle_of d.op) ≡ Some file) }
+        requires seen { file.view ≡ Some view }
+        requires ready { IsReady store.old self.old }
+        requires flushed { left self.old ≡ None }
+        ensures { (now entry : ℕ) → Makes now entry self.old self.new store.old store.new result }
+    {
         if offset >= view.seen.length {
             forget(&mut self.doing);
             return Made::Answer(looks(view.entry, 0), Reply::Data(Sequence::new(self.alloc)));
         }
         let end = offset + u64::from(len);
-        let Ok(bytes) = store.files.read_seen(inode, view.seen, offset, end) else {
+        let Ok(bytes) = store.files.read_seen(file.inode, view.seen, offset, end) else {
             return self.fail();
         };
         forget(&mut self.doing);

@@ -1,0 +1,151 @@
+-- Two tables of handles after a change at one place.
+use Rattle.std.proofs.Common.{◌≡◌, ℕ, zero, suc, ◌+◌, ◌-◌, ◌≤◌, ◌<◌, Bool, true, false, cond, List, [], ◌∷◌, ◌++◌, length, slice_get, slice_set, Option, None, Some, refl, sym, ap, subst, ◌∙◌, arith}
+use Rattle.std.specs.List.{AllByRecursion}
+use Rattle.std.specs.Prelude.{nat_le, ◌==◌, if◌then◌else◌}
+use Rattle.std.proofs.lemmas.Bool.{le-leb}
+use Rattle.std.proofs.lemmas.Bool.Decides.{nat_tests}
+use Rattle.jv_model.specs.client.ModelClient.{file_in, file_of, with_file}
+use Rattle.jv_client.specs.Held.{SamePlace, SameTable}
+
+module _ {X Y : Type 0} where
+  pub length-same : (P : ℕ → X → Y → Type 0) (number : ℕ) (xs : List (Option X)) (ys : List (Option Y)) → SameTable P number xs ys → length xs ≡ length ys
+  length-same P number [] [] h = refl
+  length-same P number [] (y ∷ ys) h = absurd h
+  length-same P number (x ∷ xs) [] h = absurd h
+  length-same P number (x ∷ xs) (y ∷ ys) h = ap suc (length-same P (number + 1) xs ys h.1)
+
+  same-cleared : (P : ℕ → X → Y → Type 0) (number k : ℕ) (xs : List (Option X)) (ys : List (Option Y)) → SameTable P number xs ys → SameTable P number (slice_set xs k None) (slice_set ys k None)
+  same-cleared P number k [] [] h = tt
+  same-cleared P number k [] (y ∷ ys) h = absurd h
+  same-cleared P number k (x ∷ xs) [] h = absurd h
+  same-cleared P number zero (x ∷ xs) (y ∷ ys) h = (tt, h.1)
+  same-cleared P number (suc k) (x ∷ xs) (y ∷ ys) h = (h.0, same-cleared P (number + 1) k xs ys h.1)
+
+  same-longer : (P : ℕ → X → Y → Type 0) (number : ℕ) (xs : List (Option X)) (ys : List (Option Y)) → SameTable P number xs ys → SameTable P number (xs ++ None ∷ []) (ys ++ None ∷ [])
+  same-longer P number [] [] h = (tt, tt)
+  same-longer P number [] (y ∷ ys) h = absurd h
+  same-longer P number (x ∷ xs) [] h = absurd h
+  same-longer P number (x ∷ xs) (y ∷ ys) h = (h.0, same-longer P (number + 1) xs ys h.1)
+
+  closed-by : (P : ℕ → X → Y → Type 0) (b : Bool) (k : ℕ) (xs : List (Option X)) (ys : List (Option Y)) → SameTable P 1 xs ys
+      → SameTable P 1 (if b then slice_set xs k None else xs ++ None ∷ []) (if b then slice_set ys k None else ys ++ None ∷ [])
+  closed-by P true k xs ys h = same-cleared P 1 k xs ys h
+  closed-by P false k xs ys h = same-longer P 1 xs ys h
+
+  -- the same handle is closed on both sides
+  pub same-closed : (P : ℕ → X → Y → Type 0) (handle : ℕ) (xs : List (Option X)) (ys : List (Option Y)) → SameTable P 1 xs ys → SameTable P 1 (with_file handle None xs) (with_file handle None ys)
+  same-closed P handle xs ys h =
+      subst (λ n. SameTable P 1 (with_file handle None xs) (if nat_le handle n then slice_set ys (handle - 1) None else ys ++ None ∷ [])) (length-same P 1 xs ys h)
+      (closed-by P (nat_le handle (length xs)) (handle - 1) xs ys h)
+
+module _ {X : Type 0} (Q : X → Type 0) where
+  all-set : (k : ℕ) (x : X) (xs : List X) → Q x → AllByRecursion Q xs → AllByRecursion Q (slice_set xs k x)
+  all-set k x [] q h = tt
+  all-set zero x (y ∷ ys) q h = (q, h.1)
+  all-set (suc k) x (y ∷ ys) q h = (h.0, all-set k x ys q h.1)
+
+  all-longer : (x : X) (xs : List X) → Q x → AllByRecursion Q xs → AllByRecursion Q (xs ++ x ∷ [])
+  all-longer x [] q h = (q, tt)
+  all-longer x (y ∷ ys) q h = (h.0, all-longer x ys q h.1)
+
+  all-by : (b : Bool) (k : ℕ) (x : X) (xs : List X) → Q x → AllByRecursion Q xs → AllByRecursion Q (if b then slice_set xs k x else xs ++ x ∷ [])
+  all-by true k x xs q h = all-set k x xs q h
+  all-by false k x xs q h = all-longer x xs q h
+
+-- what holds of all places, and of what a handle is given
+pub all-with_file : {X : Type 0} (Q : Option X → Type 0) (handle : ℕ) (file : Option X) (files : List (Option X)) → Q file → AllByRecursion Q files → AllByRecursion Q (with_file handle file files)
+all-with_file Q handle file files q h = all-by Q (nat_le handle (length files)) (handle - 1) file files q h
+
+-- an open handle
+
+-- its place
+pub record IsOpenAt {X : Type 0} (files : List (Option X)) (handle : ℕ) (file : X) : Type 0 where
+  pub place : ℕ
+  pub number : handle ≡ 1 + place
+  pub is : file_in (slice_get files place) ≡ Some file
+  pub inside : place < length files
+
+in_list : {X : Type 0} (files : List (Option X)) (k : ℕ) (file : X) → file_in (slice_get files k) ≡ Some file → k < length files
+in_list [] k file e = absurd (cc e)
+in_list (x ∷ xs) zero file e = omega arith
+in_list (x ∷ xs) (suc k) file e = let less = in_list xs k file e in omega (arith, less)
+
+file_of-place : {X : Type 0} (files : List (Option X)) (k : ℕ) → file_of files (suc k) ≡ file_in (slice_get files k)
+file_of-place files k =
+    let some : (suc k == 0) ≡ false = grind (arith, nat_tests) in
+    let index : suc k - 1 ≡ k = omega arith in
+    ap (λ b. if b then None else file_in (slice_get files (suc k - 1))) some ∙ ap (λ i. file_in (slice_get files i)) index
+
+pub open_at : {X : Type 0} (files : List (Option X)) (handle : ℕ) (file : X) → file_of files handle ≡ Some file → IsOpenAt files handle file
+open_at files zero file e = absurd (cc e)
+open_at files (suc k) file e = let is = sym (file_of-place files k) ∙ e in record { place = k; number = omega arith; is = is; inside = in_list files k file is }
+
+-- it stays in its place
+pub with_file-open : {X : Type 0} (files : List (Option X)) (handle : ℕ) (file : X) (new : Option X) (o : IsOpenAt files handle file) → with_file handle new files ≡ slice_set files o.place new
+with_file-open files handle file new o =
+    let number = o.number in
+    let inside = o.inside in
+    let low : nat_le handle (length files) ≡ true = le-leb _ _ (omega (arith, number, inside)) in
+    let index : handle - 1 ≡ o.place = omega (arith, number) in
+    ap (λ b. if b then slice_set files (handle - 1) new else files ++ new ∷ []) low ∙ ap (λ k. slice_set files k new) index
+
+set-in : {X : Type 0} (files : List (Option X)) (k : ℕ) (new : Option X) → k < length files → file_in (slice_get (slice_set files k new) k) ≡ new
+set-in [] k new h = absurd (omega (arith, h))
+set-in (x ∷ xs) zero new h = refl
+set-in (x ∷ xs) (suc k) new h = set-in xs k new (omega (arith, h))
+
+-- and names what it is given
+pub file_of-with_file : {X : Type 0} (files : List (Option X)) (handle : ℕ) (file : X) (new : Option X) → file_of files handle ≡ Some file → file_of (with_file handle new files) handle ≡ new
+file_of-with_file files handle file new e =
+    let o = open_at files handle file e in
+    ap (λ files. file_of files handle) (with_file-open files handle file new o) ∙ ap (λ n. file_of (slice_set files o.place new) n) o.number
+    ∙ (let next : 1 + o.place ≡ suc o.place = omega arith in ap (λ n. file_of (slice_set files o.place new) n) next) ∙ file_of-place (slice_set files o.place new) o.place ∙ set-in files o.place new o.inside
+
+-- what holds of a place
+all-in : {X : Type 0} (Q : Option X → Type 0) (files : List (Option X)) (k : ℕ) (file : X) → AllByRecursion Q files → file_in (slice_get files k) ≡ Some file → Q (Some file)
+all-in Q [] k file h e = absurd (cc e)
+all-in Q (x ∷ xs) zero file h e = subst Q (let is : x ≡ Some file = e in is) h.0
+all-in Q (x ∷ xs) (suc k) file h e = all-in Q xs k file h.1 e
+
+pub all-at : {X : Type 0} (Q : Option X → Type 0) (files : List (Option X)) (handle : ℕ) (file : X) → AllByRecursion Q files → file_of files handle ≡ Some file → Q (Some file)
+all-at Q files handle file h e = let o = open_at files handle file e in all-in Q files o.place file h o.is
+
+module _ {X Y : Type 0} where
+  same_place-by : (P Q : X → Y → Type 0) (x : Option X) (y : Option Y) → ((a : X) (b : Y) → P a b → Q a b) → SamePlace P x y → SamePlace Q x y
+  same_place-by P Q None None f h = tt
+  same_place-by P Q None (Some y) f h = absurd h
+  same_place-by P Q (Some x) None f h = absurd h
+  same_place-by P Q (Some x) (Some y) f h = f x y h
+
+  same-above : (P Q : ℕ → X → Y → Type 0) (low n : ℕ) (xs : List (Option X)) (ys : List (Option Y)) → low < n → ((m : ℕ) (a : X) (b : Y) → (m ≡ low → ⊥) → P m a b → Q m a b)
+      → SameTable P n xs ys → SameTable Q n xs ys
+  same-above P Q low n [] [] less f h = tt
+  same-above P Q low n [] (y ∷ ys) less f h = absurd h
+  same-above P Q low n (x ∷ xs) [] less f h = absurd h
+  same-above P Q low n (x ∷ xs) (y ∷ ys) less f h =
+      (same_place-by (P n) (Q n) x y (λ a b. f n a b (λ e. omega (arith, less, e))) h.0, same-above P Q low (n + 1) xs ys (omega (arith, less)) f h.1)
+
+  same-given : (P Q : ℕ → X → Y → Type 0) (at n k : ℕ) (xs : List (Option X)) (ys : List (Option Y)) (x : X) (new : Y) → at ≡ n + k → ((m : ℕ) (a : X) (b : Y) → (m ≡ at → ⊥) → P m a b → Q m a b)
+      → file_in (slice_get xs k) ≡ Some x → Q at x new → SameTable P n xs ys → SameTable Q n xs (slice_set ys k (Some new))
+  same-given P Q at n k [] [] x new number f e q h = tt
+  same-given P Q at n k [] (y ∷ ys) x new number f e q h = absurd h
+  same-given P Q at n k (x' ∷ xs) [] x new number f e q h = absurd h
+  same-given P Q at n zero (x' ∷ xs) (y ∷ ys) x new number f e q h =
+      let here : at ≡ n = omega (arith, number) in
+      let is : x' ≡ Some x = e in
+      (subst (λ m. SamePlace (Q m) x' (Some new)) here (subst (λ o. SamePlace (Q at) o (Some new)) (sym is) q), same-above P Q at (n + 1) xs ys (omega (arith, here)) f h.1)
+  same-given P Q at n (suc k) (x' ∷ xs) (y ∷ ys) x new number f e q h =
+      (same_place-by (P n) (Q n) x' y (λ a b. f n a b (λ e. omega (arith, number, e))) h.0, same-given P Q at (n + 1) k xs ys x new (omega (arith, number)) f e q h.1)
+
+  -- a handle is given something that its file is related to, and all others stay related
+  pub same-with_file : (P Q : ℕ → X → Y → Type 0) (handle : ℕ) (xs : List (Option X)) (ys : List (Option Y)) (x : X) (old new : Y) → file_of xs handle ≡ Some x → file_of ys handle ≡ Some old
+      → ((m : ℕ) (a : X) (b : Y) → (m ≡ handle → ⊥) → P m a b → Q m a b) → Q handle x new → SameTable P 1 xs ys → SameTable Q 1 xs (with_file handle (Some new) ys)
+  same-with_file P Q handle xs ys x old new e opened f q h =
+      let o = open_at ys handle old opened in
+      let number = o.number in
+      let index : handle - 1 ≡ o.place = omega (arith, number) in
+      let mine = open_at xs handle x e in
+      let numbers = mine.number in
+      let place : mine.place ≡ o.place = omega (arith, number, numbers) in
+      subst (λ ys. SameTable Q 1 xs ys) (sym (with_file-open ys handle old (Some new) o))
+      (same-given P Q handle 1 o.place xs ys x new number f (subst (λ k. file_in (slice_get xs k) ≡ Some x) place mine.is) q h)
