@@ -1,5 +1,5 @@
 -- What contracts see of what all clients share, when a tree has it, and what no client takes away from another.
-use Rattle.std.specs.Prelude.{◌≡◌, ℕ, ◌+◌, ◌≤◌, ◌<◌, Option, None, Some, IsTrue, IfSome, IsSomeAnd, is_some, List, ◌++◌, length, slice_get}
+use Rattle.std.specs.Prelude.{◌≡◌, ℕ, ◌+◌, ◌≤◌, ◌<◌, Option, None, Some, IsTrue, IfSome, IsSomeAnd, is_some, List, [], ◌++◌, length, slice_get}
 use Rattle.jv_model.specs.declared.limits.TheConstants.{FULL_COUNT}
 use Rattle.jv_model.specs.declared.setting.Setting.{Setting}
 use Rattle.jv_model.specs.FiniteMap.{get}
