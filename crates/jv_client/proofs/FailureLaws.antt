@@ -1,5 +1,5 @@
 -- An operation for which there is no memory ends, and nothing else has changed.
-use Rattle.std.proofs.Common.{◌≡◌, ℕ, ◌+◌, Bool, true, false, not, List, [], ◌∷◌, Option, None, Some, refl, sym, ap, subst, ◌∙◌, arith}
+use Rattle.std.proofs.Common.{◌≡◌, ℕ, ◌+◌, Bool, true, false, not, [], ◌∷◌, Option, None, Some, refl, sym, ap, subst, ◌∙◌, arith}
 use Rattle.std.specs.Prelude.{◌||◌}
 use Rattle.jv_model.specs.declared.act.ActKind.TheVariants.{Answered}
 use Rattle.jv_model.specs.declared.act.Told.{Told}
@@ -9,13 +9,14 @@ use Rattle.jv_model.specs.declared.op.Reply.{Reply}
 use Rattle.jv_model.specs.declared.op.Reply.TheVariants.{Refused}
 use Rattle.jv_model.specs.declared.op.Step.TheVariants.{Done}
 use Rattle.jv_model.specs.client.ModelClient.{ModelClient, Doing as ModelDoing, Stage}
-use Rattle.jv_model.specs.journal.State.{State, answered_client, is_of_another}
-use Rattle.jv_model.specs.journal.Steps.{Start, Fails, begins_step, must_answer}
-use Rattle.jv_model.specs.journal.Stepping.{AllowsStep, AnswersAlone, answer_of, stepped}
+use Rattle.jv_model.specs.journal.State.{State, is_of_another}
+use Rattle.jv_model.specs.journal.Steps.{Fails, must_answer}
+use Rattle.jv_model.specs.journal.Stepping.{AnswersAlone, answer_of, stepped}
 use Rattle.jv_model.specs.journal.Past.{reply_of}
 use Rattle.jv_client.specs.declared.doing.Doing.{Doing}
 use Rattle.jv_client.specs.declared.doing.Progress.{Progress}
 use Rattle.jv_client.specs.declared.doing.Progress.TheVariants as progress
+use Rattle.jv_client.specs.declared.made.Made.{Made}
 use Rattle.jv_client.specs.declared.made.Made.TheVariants.{Answer}
 use Rattle.jv_client.specs.ClientValue.{ClientValue}
 use Rattle.jv_client.specs.StoreValue.{StoreValue, HasStore}
@@ -84,3 +85,11 @@ fails now entry h d store busy ready = record {
   falls = refl;
   leads = λ s count has is. fails-leads now h d store busy s has is;
 }
+
+-- the same under other names
+pub fails-as : (now entry : ℕ) (h after : ClientValue) (d : Doing) (store grown : StoreValue) (made : Made) → h.doing ≡ Some d → IsReady store h → after ≡ ended h → grown ≡ store
+    → made ≡ Answer (ToldRefused NoMemory) (Refused NoMemory) → Makes now entry h after store grown made
+fails-as now entry h after d store grown made busy ready same kept is =
+    subst (λ x. Makes now entry h after store grown x) (sym is)
+    (subst (λ x. Makes now entry h after store x (Answer (ToldRefused NoMemory) (Refused NoMemory))) (sym kept)
+    (subst (λ x. Makes now entry h x store store (Answer (ToldRefused NoMemory) (Refused NoMemory))) (sym same) (fails now entry h d store busy ready)))

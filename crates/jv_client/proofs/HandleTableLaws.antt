@@ -5,7 +5,7 @@ use Rattle.std.proofs.Math.Dec.{leb-suc-suc}
 use Rattle.std.proofs.lemmas.Bool.{le-leb, cond-true}
 use Rattle.std.specs.List.{AllByRecursion}
 use Rattle.jv_model.specs.client.ModelClient.{free_from, free_handle, with_file}
-use Rattle.jv_client.specs.Held.{SamePlace, SameTable}
+use Rattle.jv_client.specs.Held.{SameTable}
 
 -- the table with something at its least free place
 abbrev pub at_free : {X : Type 0} → Option X → List (Option X) → List (Option X)

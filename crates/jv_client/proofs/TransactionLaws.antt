@@ -1,41 +1,43 @@
 -- A step that is one metadata transaction: its entry, and the answer that it settles.
-use Rattle.std.proofs.Common.{◌≡◌, ℕ, zero, suc, ◌+◌, ◌≤◌, ◌<◌, Bool, true, false, ◌&&◌, not, IsTrue, List, [], ◌∷◌, ◌++◌, filter, length, Option, None, Some, refl, sym, ap, subst, ◌∙◌, arith}
-use Rattle.std.specs.Prelude.{◌||◌, nat_lt, is_some, unwrap_or, IfSome, if◌then◌else◌}
+use Rattle.std.proofs.Common.{◌≡◌, ℕ, zero, suc, ◌+◌, ◌≤◌, Bool, true, false, ◌&&◌, not, IsTrue, List, [], ◌∷◌, ◌++◌, filter, Option, None, Some, refl, sym, ap, subst, ◌∙◌, arith}
+use Rattle.std.specs.Prelude.{◌||◌, nat_lt, is_some, unwrap_or, IfSome, IsSome, if◌then◌else◌}
 use Rattle.std.specs.List.{AllByRecursion}
 use Rattle.std.proofs.lemmas.Bool.{le-ltb}
 use Rattle.jv_model.specs.declared.act.ActKind.{ActKind}
-use Rattle.jv_model.specs.declared.act.ActKind.TheVariants.{Answered}
-use Rattle.jv_model.specs.declared.act.Told.{Told}
-use Rattle.jv_model.specs.declared.op.Op.{Op}
+use Rattle.jv_model.specs.declared.act.ActKind.TheVariants.{Answered, Mounted, Meta}
+use Rattle.jv_model.specs.declared.act.Told.TheVariants.{Fine, Refused as ToldRefused}
+use Rattle.jv_model.specs.declared.fault.Fault.TheVariants.{NoSpace}
 use Rattle.jv_model.specs.declared.op.Op.TheVariants as op
 use Rattle.jv_model.specs.declared.op.Reply.{Reply}
+use Rattle.jv_model.specs.declared.op.Reply.TheVariants.{Refused, SessionMade}
 use Rattle.jv_model.specs.declared.op.Step.TheVariants.{Done}
 use Rattle.jv_model.specs.declared.profile.Does.{Does}
 use Rattle.jv_model.specs.declared.profile.Does.TheVariants as does
 use Rattle.jv_model.specs.FiniteMap.{get}
 use Rattle.jv_model.specs.tree.Tree.{Tree, is_sustained}
-use Rattle.jv_model.specs.client.ModelClient.{ModelClient, OpenFile, View as ModelView, Doing as ModelDoing, Flush as ModelFlush, Stage, Replying, Working, OfFiles, session_of, free_handle, held_inodes, with_stage}
+use Rattle.jv_model.specs.client.ModelClient.{ModelClient, OpenFile, View as ModelView, Doing as ModelDoing, Flush as ModelFlush, Stage, Replying, Working, OfFiles, session_of, held_inodes}
 use Rattle.jv_model.specs.client.Profile.{profile}
 use Rattle.jv_model.specs.journal.Reading.{fresh_view, first_that, is_fresh}
-use Rattle.jv_model.specs.journal.State.{State, Gift, NewSession, NewHandle, Nothing, with_client, caller, transacted, newly_sustained, gift_of, given, replied, after_transaction, of_doing, answered_client, after_told}
-use Rattle.jv_model.specs.journal.Steps.{Start, IsEntry, MayStep, Transaction, MayAnswer, Settles, Fails, entry_of_gift, told_of, is_failure, is_ready, transacts as transacts_in, begins_step}
-use Rattle.jv_model.specs.journal.Stepping.{AllowsStep, AnswersAlone, AnswersAfter, answer_of, is_answer, entry_of, stepped}
-use Rattle.jv_files.specs.Stored.{IsFile}
+use Rattle.jv_model.specs.journal.State.{State, Gift, NewSession, NewHandle, Nothing, caller, transacted, newly_sustained, gift_of, given, replied, after_transaction, of_doing, answered_client, after_told}
+use Rattle.jv_model.specs.journal.Steps.{Start, MayStep, Transaction, Settles, entry_of_gift, told_of, is_failure, is_ready, transacts as transacts_in, begins_step}
+use Rattle.jv_model.specs.journal.Stepping.{AllowsStep, AnswersAfter, answer_of, is_answer, entry_of, stepped}
 use Rattle.jv_client.specs.declared.doing.Doing.{Doing}
 use Rattle.jv_client.specs.declared.doing.Flush.{Flush}
 use Rattle.jv_client.specs.declared.doing.Flush.TheVariants as flush
 use Rattle.jv_client.specs.declared.doing.Progress.{Progress}
 use Rattle.jv_client.specs.declared.doing.Progress.TheVariants as progress
 use Rattle.jv_client.specs.declared.handles.Handle.{Handle}
+use Rattle.jv_client.specs.declared.made.Made.{Made}
 use Rattle.jv_client.specs.declared.made.Made.TheVariants.{Both}
 use Rattle.jv_client.specs.ClientValue.{ClientValue}
-use Rattle.jv_client.specs.StoreValue.{StoreValue, IsSession, HasStore, Grows}
+use Rattle.jv_client.specs.StoreValue.{StoreValue, IsSession, HasStore, Grows, MakesSession}
 use Rattle.jv_client.specs.Held.{SamePlace, SameTable, IsView, IsHandle, IsHeld, IsDoing, IsClient, stage_of, flush_of_code}
-use Rattle.jv_client.specs.UnderWay.{IsForm, Mounts, Transacts as FormTransacts, Writes, Flushes, FlushesFor, Closes, ReadsNothing, Reads, IsUnderWay, IsOfFile, IsAt, IsReady, is_transaction, mounts, transacts, has_segment, reads_more}
+use Rattle.jv_client.specs.UnderWay.{IsForm, Mounts, Transacts as FormTransacts, Writes, Flushes, FlushesFor, Closes, ReadsNothing, Reads, IsUnderWay, IsOfFile, IsAt, IsReady, mounts, transacts, has_segment, reads_more}
 use Rattle.jv_client.specs.Makes.{Makes, StepsTo}
-use Rattle.jv_client.specs.Transacting.{Transacts, LeadsTo, IsGift, given_here, handles_given, session_given, new_handle}
+use Rattle.jv_client.specs.Transacting.{Transacts, LeadsTo, Gives, IsGift, given_here, handles_given, new_handle}
 use Rattle.jv_client.proofs.HeldLaws.{own_client, with_stage-doing, answered_client-doing, held-later, held-doing, grows-same, all_of_file-later}
 use Rattle.jv_client.proofs.FailureLaws.{doing-of}
+use Rattle.jv_client.proofs.TreeSide.{mount_made, mount_full}
 use Rattle.jv_client.proofs.HandleTableLaws.{with_file-free, all-at_free, free-same, same-with_free}
 
 -- a client with a gift
@@ -230,6 +232,14 @@ pub record IsFirst (h : ClientValue) (d : Doing) : Type 0 where
   pub direct : IsDirect d.does
   pub session : (profile d.op).needs_mount ≡ true → IsTrue (is_some h.session)
 
+left_of : (a b : Bool) → IsTrue a → IsTrue (a || b)
+left_of true b h = refl
+left_of false b h = absurd (cc h)
+
+right_of : (a b : Bool) → IsTrue b → IsTrue (a || b)
+right_of true b h = refl
+right_of false b h = h
+
 abbrev makes_one : Does → Bool
 makes_one what = mounts what || transacts what
 
@@ -332,3 +342,63 @@ meta-step now entry h d store grown reply busy ready one does_so =
           subst (λ n. StepsTo s h.id now (entry_of_gift (gift_of reply) ∷ Answered (told_of reply) ∷ []) (Done reply) (given_here n (gift_of reply) h) grown) count
           (meta-leads now h d store grown reply busy way one does_so s has is);
     }
+
+-- the same under other names
+meta-as : (now entry : ℕ) (h after : ClientValue) (store grown : StoreValue) (reply : Reply) (made : Made) → after ≡ given_here entry (gift_of reply) h
+    → made ≡ Both (entry_of_gift (gift_of reply)) (told_of reply) reply
+    → Makes now entry h (given_here entry (gift_of reply) h) store grown (Both (entry_of_gift (gift_of reply)) (told_of reply) reply) → Makes now entry h after store grown made
+meta-as now entry h after store grown reply made same is makes =
+    subst (λ x. Makes now entry h after store grown x) (sym is)
+    (subst (λ x. Makes now entry h x store grown (Both (entry_of_gift (gift_of reply)) (told_of reply) reply)) (sym same) makes)
+
+-- a transaction of a mounted client
+pub transact-makes : (now entry : ℕ) (h : ClientValue) (handles : List (Option Handle)) (d : Doing) (store grown : StoreValue) (reply : Reply) (made : Made) → h.doing ≡ Some d
+    → IsReady store h → IsTrue (transacts d.does) → Gives d.op entry h.handles handles store grown reply
+    → made ≡ Both (entry_of_gift (gift_of reply)) (told_of reply) reply → Makes now entry h (record h { handles = handles; doing = None }) store grown made
+transact-makes now entry h handles d store grown reply made busy ready one gives is =
+    meta-as now entry h (record h { handles = handles; doing = None }) store grown reply made
+    (ap (λ hs. let c : ClientValue = record h { handles = hs; doing = None } in c) gives.given
+    ∙ ap (λ session. let c : ClientValue = record h { session = session; handles = handles_given entry (gift_of reply) h.handles; doing = None } in c) (sym (gives.mounts_none h.session)))
+    is (meta-step now entry h d store grown reply busy ready (right_of (mounts d.does) _ one) gives.done)
+
+-- a mount
+
+doing_there : (o : Option Doing) → IsSome o → (d : Doing) × (o ≡ Some d)
+doing_there None some = absurd (cc some)
+doing_there (Some d) some = (d, refl)
+
+mount_of : (h : ClientValue) (d : Doing) → IsForm h d → IsTrue (mounts d.does) → d.op ≡ op.Mount false
+mount_of h d (Mounts o what first) one = o
+mount_of h d (FormTransacts o what first session) one = absurd (cc (sym one ∙ ap mounts what))
+mount_of h d (Writes handle offset bytes file o what first opened short few) one = absurd (cc (sym one ∙ ap mounts what))
+mount_of h d (Flushes handle file for first opened session) one = absurd (not_of_handle d handle for (left_of (mounts d.does) _ one))
+
+mount-makes : (now entry : ℕ) (h : ClientValue) (store grown : StoreValue) (reply : Reply) → IsSome h.doing → IsReady store h → IfSome h.doing (λ d. IsTrue (mounts d.does))
+    → Transacts (op.Mount false) h.handles store grown reply → Makes now entry h (given_here entry (gift_of reply) h) store grown (Both (entry_of_gift (gift_of reply)) (told_of reply) reply)
+mount-makes now entry h store grown reply busy ready one does_so =
+    let there = doing_there h.doing busy in
+    let d = there.0 in
+    let way : IsUnderWay h d = subst (λ o. IfSome o (IsUnderWay h)) there.1 ready.doing in
+    let mine : IsTrue (mounts d.does) = subst (λ o. IfSome o (λ x. IsTrue (mounts x.does))) there.1 one in
+    meta-step now entry h d store grown reply there.1 ready (left_of (mounts d.does) _ mine)
+    (subst (λ o. Transacts o h.handles store grown reply) (sym (mount_of h d way.form mine)) does_so)
+
+pub mounted : (now entry : ℕ) (h after : ClientValue) (store grown : StoreValue) (sid : ℕ) (made : Made) → IsSome h.doing → IsReady store h
+    → IfSome h.doing (λ d. IsTrue (mounts d.does)) → MakesSession store grown (Some sid) → 1 ≤ sid → after ≡ record h { session = Some sid; doing = None }
+    → made ≡ Both (Mounted sid) (Fine sid 0 0 0) (SessionMade sid) → Makes now entry h after store grown made
+mounted now entry h after store grown sid made busy ready one makes low same is =
+    let less = makes.1 in
+    let least : 1 ≤ store.next_session = subst (λ n. 1 ≤ n) makes.0 low in
+    let does_so : Transacts (op.Mount false) h.handles store (record store { next_session = store.next_session + 1 }) (SessionMade store.next_session) = mount_made h.handles store least less in
+    let here : Transacts (op.Mount false) h.handles store grown (SessionMade sid) =
+    subst (λ g. Transacts (op.Mount false) h.handles store g (SessionMade sid)) (sym makes.2)
+    (subst (λ n. Transacts (op.Mount false) h.handles store (record store { next_session = store.next_session + 1 }) (SessionMade n)) (sym makes.0) does_so) in
+    meta-as now entry h after store grown (SessionMade sid) made same is (mount-makes now entry h store grown (SessionMade sid) busy ready one here)
+
+pub mount_refused : (now entry : ℕ) (h after : ClientValue) (store grown : StoreValue) (made : Made) → IsSome h.doing → IsReady store h
+    → IfSome h.doing (λ d. IsTrue (mounts d.does)) → MakesSession store grown None → after ≡ record h { doing = None }
+    → made ≡ Both Meta (ToldRefused NoSpace) (Refused NoSpace) → Makes now entry h after store grown made
+mount_refused now entry h after store grown made busy ready one makes same is =
+    let here : Transacts (op.Mount false) h.handles store grown (Refused NoSpace) =
+    subst (λ g. Transacts (op.Mount false) h.handles store g (Refused NoSpace)) (sym makes.1) (mount_full h.handles store makes.0) in
+    meta-as now entry h after store grown (Refused NoSpace) made same is (mount-makes now entry h store grown (Refused NoSpace) busy ready one here)

@@ -1,5 +1,5 @@
 -- What mount, create and open promise of a tree that has the store.
-use Rattle.std.proofs.Common.{◌≡◌, ℕ, zero, suc, ◌+◌, ◌≤◌, ◌<◌, Bool, true, false, cond, ◌||◌, IsTrue, List, [], ◌∷◌, ◌++◌, length, slice_get, inl, inr, Option, None, Some, Result, Ok, Err, refl, sym, ap, subst, ◌∙◌, arith, length-append}
+use Rattle.std.proofs.Common.{◌≡◌, ℕ, zero, suc, ◌+◌, ◌≤◌, ◌<◌, Bool, true, false, IsTrue, List, [], ◌∷◌, ◌++◌, length, slice_get, inl, inr, Option, None, Some, Result, Err, refl, sym, ap, subst, ◌∙◌, arith, length-append}
 use Rattle.std.specs.Prelude.{is_some, IfSome, IsSomeAnd, nat_lt, if◌then◌else◌}
 use Rattle.std.proofs.lemmas.Bool.{le-ltb, lt-ltb, cond-true, cond-false}
 use Rattle.std.proofs.lemmas.Bool.Decides.{eqb_tells}
@@ -7,24 +7,25 @@ use Rattle.std.proofs.lemmas.List.{append-nil}
 use Rattle.jv_model.specs.declared.limits.TheConstants.{FULL_COUNT}
 use Rattle.jv_model.specs.declared.fault.Fault.{Fault}
 use Rattle.jv_model.specs.declared.fault.Fault.TheVariants.{NotFound, AlreadyExists, NoSpace}
+use Rattle.jv_model.specs.declared.op.Op.{Op}
 use Rattle.jv_model.specs.declared.op.Op.TheVariants.{Mount, Create, Open}
 use Rattle.jv_model.specs.declared.op.Reply.{Reply}
 use Rattle.jv_model.specs.declared.op.Reply.TheVariants.{Refused, SessionMade, FileOpened}
-use Rattle.jv_model.specs.FiniteMap.{get, insert}
+use Rattle.jv_model.specs.FiniteMap.{get}
 use Rattle.jv_model.specs.script.Spelling.{is_root_path}
 use Rattle.jv_model.specs.tree.Attempt.{require, ◌>>=◌}
 use Rattle.jv_model.specs.tree.Tree.{Tree, full_count}
 use Rattle.jv_model.specs.tree.Caller.{Caller, Outcome, outcome, answered}
 use Rattle.jv_model.specs.tree.Sessions.{mount, with_session}
-use Rattle.jv_model.specs.client.ModelClient.{free_handle}
+use Rattle.jv_model.specs.client.ModelClient.{free_handle, with_file}
 use Rattle.jv_files.specs.declared.files.StoredFile.{StoredFile}
 use Rattle.jv_files.specs.Stored.{FilesValue, Creates, IsFile, inode_named}
 use Rattle.jv_files.specs.Holds.{HasFiles, has_room}
 use Rattle.jv_files.proofs.SumLaws.{get-same, get-other}
 use Rattle.jv_files.proofs.TreeLaws.{created, create-exists, create-new, open-found, open-absent, has_files-created, setting-created, sessions-created, next_session-created, sustained-created, few-has_room}
 use Rattle.jv_client.specs.declared.handles.Handle.{Handle}
-use Rattle.jv_client.specs.StoreValue.{StoreValue, IsSession, HasStore, Continues, Grows, MakesSession}
-use Rattle.jv_client.specs.Transacting.{Transacts, LeadsTo}
+use Rattle.jv_client.specs.StoreValue.{StoreValue, HasStore, Continues, Grows}
+use Rattle.jv_client.specs.Transacting.{Transacts, LeadsTo, Gives, new_handle}
 use Rattle.jv_client.proofs.HeldLaws.{grows-same}
 
 leads_to : (t after : Tree) (reply : Reply) (grown : StoreValue) (done : Outcome) → done ≡ record { tree = after; reply = reply } → after.sustained ≡ t.sustained → HasStore after grown → LeadsTo t reply grown done
@@ -209,3 +210,22 @@ open_found path handle inode handles store root named file least = record {
       ∙ ap (λ n. let out : Outcome = record { tree = t; reply = FileOpened n inode } in out) (free ∙ sym least))
       refl h;
 }
+
+-- a handle that was given
+
+pub gives_none : (o : Op) (entry : ℕ) (handles : List (Option Handle)) (store : StoreValue) (fault : Fault) → Transacts o handles store store (Refused fault)
+    → Gives o entry handles handles store store (Refused fault)
+gives_none o entry handles store fault h = record { done = h; given = refl; mounts_none = λ session. refl }
+
+gives_first : (o : Op) (entry : ℕ) (handles : List (Option Handle)) (store grown : StoreValue) (inode : ℕ) → Transacts o handles store grown (FileOpened (free_handle handles) inode)
+    → Gives o entry handles (with_file (free_handle handles) (Some (new_handle inode entry)) handles) store grown (FileOpened (free_handle handles) inode)
+gives_first o entry handles store grown inode h = record { done = h; given = refl; mounts_none = λ session. refl }
+
+pub gives_handle : (o : Op) (entry : ℕ) (handles kept after : List (Option Handle)) (store grown : StoreValue) (inode : ℕ) (reply : Reply) → kept ≡ handles
+    → after ≡ with_file (free_handle kept) (Some (new_handle inode entry)) kept → reply ≡ FileOpened (free_handle kept) inode
+    → Transacts o handles store grown (FileOpened (free_handle handles) inode) → Gives o entry handles after store grown reply
+gives_handle o entry handles kept after store grown inode reply same set is h =
+    let set_is : after ≡ with_file (free_handle handles) (Some (new_handle inode entry)) handles = set ∙ ap (λ hs. with_file (free_handle hs) (Some (new_handle inode entry)) hs) same in
+    let reply_is : reply ≡ FileOpened (free_handle handles) inode = is ∙ ap (λ (hs : List (Option Handle)). FileOpened (free_handle hs) inode) same in
+    subst (λ r. Gives o entry handles after store grown r) (sym reply_is)
+    (subst (λ hs. Gives o entry handles hs store grown (FileOpened (free_handle handles) inode)) (sym set_is) (gives_first o entry handles store grown inode h))

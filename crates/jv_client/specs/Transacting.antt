@@ -69,8 +69,13 @@ pub record Transacts (o : Op) (handles : List (Option Handle)) (store grown : St
   pub leads : (t : Tree) (who : Caller) → HasStore t store → ((profile o).needs_mount ≡ true → IsTrue (is_some (get t.sessions who.sid)))
       → who.free_handle ≡ free_handle handles → LeadsTo t reply grown (tree_act t who o)
 
--- What a function that makes a transaction gives: the transaction's, and the handles with what its reply hands out; where
--- memory ran out nothing has changed.
-abbrev pub Gives : {E : Type 0} → Op → ℕ → (handles after : List (Option Handle)) → (store grown : StoreValue) → Result Reply E → Type 0
-Gives o entry handles after store grown (Ok reply) = Transacts o handles store grown reply × (after ≡ handles_given entry (gift_of reply) handles)
-Gives o entry handles after store grown (Err error) = (after ≡ handles) × (grown ≡ store)
+-- A transaction of a mounted client, and its handles with what the reply hands out.
+pub record Gives (o : Op) (entry : ℕ) (handles after : List (Option Handle)) (store grown : StoreValue) (reply : Reply) : Type 0 where
+  pub done : Transacts o handles store grown reply
+  pub given : after ≡ handles_given entry (gift_of reply) handles
+  pub mounts_none : (session : Option ℕ) → session_given (gift_of reply) session ≡ session
+
+-- Where memory ran out nothing has changed.
+abbrev pub MayGive : {E : Type 0} → Op → ℕ → (handles after : List (Option Handle)) → (store grown : StoreValue) → Result Reply E → Type 0
+MayGive o entry handles after store grown (Ok reply) = Gives o entry handles after store grown reply
+MayGive o entry handles after store grown (Err error) = (after ≡ handles) × (grown ≡ store)

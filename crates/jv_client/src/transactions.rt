@@ -8,7 +8,7 @@ ghost use Rattle.jv_model.specs.journal.State.{gift_of};
 ghost use Rattle.jv_model.specs.journal.Steps.{entry_of_gift, told_of};
 ghost use Rattle.jv_client.specs.UnderWay.{IsReady, is_transaction, mounts, transacts};
 ghost use Rattle.jv_client.specs.Makes.{Makes};
-ghost use Rattle.jv_client.specs.Transacting.{Gives, is_transacted, new_handle};
+ghost use Rattle.jv_client.specs.Transacting.{MayGive, is_transacted, new_handle};
 
 use crate::client::{Client, forget};
 use crate::handles::{Handle, free_handle, set};
@@ -87,7 +87,7 @@ fn transact(
     entry: u64,
 ) -> Result<Reply, AllocError>
     requires { IsTrue (is_transaction op.now) }
-    ensures { Gives op.now entry handles.old.items handles.new.items store.old store.new result }
+    ensures { MayGive op.now entry handles.old.items handles.new.items store.old store.new result }
 {
     match op {
         Op::Create { path, .. } => create(path, handles, store, entry),
@@ -104,7 +104,7 @@ fn create(
     entry: u64,
 ) -> Result<Reply, AllocError>
     requires { IsTrue (is_root_path path.now) }
-    ensures { (mode : ℕ) → Gives (Create path.now mode) entry handles.old.items handles.new.items
+    ensures { (mode : ℕ) → MayGive (Create path.now mode) entry handles.old.items handles.new.items
         store.old store.new result }
 {
     if store.files.find(path).is_some() {
@@ -126,7 +126,7 @@ fn open(
     entry: u64,
 ) -> Result<Reply, AllocError>
     requires { IsTrue (is_root_path path.now) }
-    ensures { Gives (Open path.now) entry handles.old.items handles.new.items store.now store.now
+    ensures { MayGive (Open path.now) entry handles.old.items handles.new.items store.now store.now
         result }
 {
     let Some(inode) = store.files.find(path) else {
