@@ -1,7 +1,8 @@
 -- Laws about clients.
-pub mod FailureLaws
-pub mod HandleTableLaws
 pub mod HeldLaws
 pub mod SubmissionLaws
+pub mod ReadyLaws
+pub mod FailureLaws
+pub mod HandleTableLaws
 pub mod TransactionLaws
 pub mod TreeSide

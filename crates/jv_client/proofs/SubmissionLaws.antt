@@ -1,5 +1,5 @@
 -- A client in memory is refused, and flushes, as the client of the model that it stands for.
-use Rattle.std.proofs.Common.{◌≡◌, ℕ, zero, suc, ◌+◌, ◌-◌, Bool, true, false, cond, not, List, [], ◌∷◌, length, slice_get, map, Option, None, Some, refl, sym, ap, ◌∙◌}
+use Rattle.std.proofs.Common.{◌≡◌, ℕ, zero, suc, ◌+◌, ◌-◌, Bool, true, false, cond, not, List, [], ◌∷◌, length, slice_get, map, Option, None, Some, refl, sym, ap, subst, ◌∙◌, arith}
 use Rattle.std.specs.Prelude.{is_some, ◌||◌, ◌==◌, nat_lt, if◌then◌else◌}
 use Rattle.jv_model.specs.declared.fault.Fault.{Fault}
 use Rattle.jv_model.specs.declared.op.Op.{Op}
@@ -16,101 +16,112 @@ use Rattle.jv_client.specs.declared.doing.Flush.TheVariants as flush
 use Rattle.jv_client.specs.declared.doing.Progress.TheVariants as progress
 use Rattle.jv_client.specs.declared.handles.Handle.{Handle}
 use Rattle.jv_client.specs.ClientValue.{ClientValue}
+use Rattle.jv_client.specs.StoreValue.{StoreValue}
+use Rattle.jv_client.proofs.HeldLaws.{held-doing}
 use Rattle.jv_client.specs.Held.{SamePlace, SameTable, IsHandle, IsDoing, IsHeld, IsClient, inode_of_handle, inode_here, files_here, flush_here, begun, flush_of_code, stage_of}
 
-module _ {X Y : Type 0} (P : X → Y → Type 0) where
-  pub some-same : (x : Option X) (y : Option Y) → SamePlace P x y → is_some x ≡ is_some y
-  some-same None None h = refl
-  some-same None (Some y) h = absurd h
-  some-same (Some x) None h = absurd h
-  some-same (Some x) (Some y) h = refl
+pub some-same : {X Y : Type 0} (P : X → Y → Type 0) (x : Option X) (y : Option Y) → SamePlace P x y → is_some x ≡ is_some y
+some-same P None None h = refl
+some-same P None (Some y) h = absurd h
+some-same P (Some x) None h = absurd h
+some-same P (Some x) (Some y) h = refl
 
-  pub count-same : (xs : List (Option X)) (ys : List (Option Y)) → SameTable P xs ys → open_count xs ≡ open_count ys
-  count-same [] [] h = refl
-  count-same [] (y ∷ ys) h = absurd h
-  count-same (x ∷ xs) [] h = absurd h
-  count-same (None ∷ xs) (None ∷ ys) h = count-same xs ys h.1
-  count-same (None ∷ xs) (Some y ∷ ys) h = absurd h.0
-  count-same (Some x ∷ xs) (None ∷ ys) h = absurd h.0
-  count-same (Some x ∷ xs) (Some y ∷ ys) h = ap (λ n. 1 + n) (count-same xs ys h.1)
+not_zero : (n : ℕ) → (n == 0) ≡ false → 1 + (n - 1) ≡ n
+not_zero zero e = absurd (cc e)
+not_zero (suc n) e = omega arith
 
-  place-same : (xs : List (Option X)) (ys : List (Option Y)) → SameTable P xs ys → (n : ℕ) → SamePlace P (file_in (slice_get xs n)) (file_in (slice_get ys n))
-  place-same [] [] h n = tt
-  place-same [] (y ∷ ys) h n = absurd h
-  place-same (x ∷ xs) [] h n = absurd h
-  place-same (x ∷ xs) (y ∷ ys) h zero = h.0
-  place-same (x ∷ xs) (y ∷ ys) h (suc n) = place-same xs ys h.1 n
+module _ {X Y : Type 0} (P : ℕ → X → Y → Type 0) where
+  pub count-same : (number : ℕ) (xs : List (Option X)) (ys : List (Option Y)) → SameTable P number xs ys → open_count xs ≡ open_count ys
+  count-same number [] [] h = refl
+  count-same number [] (y ∷ ys) h = absurd h
+  count-same number (x ∷ xs) [] h = absurd h
+  count-same number (None ∷ xs) (None ∷ ys) h = count-same (number + 1) xs ys h.1
+  count-same number (None ∷ xs) (Some y ∷ ys) h = absurd h.0
+  count-same number (Some x ∷ xs) (None ∷ ys) h = absurd h.0
+  count-same number (Some x ∷ xs) (Some y ∷ ys) h = ap (λ n. 1 + n) (count-same (number + 1) xs ys h.1)
 
-  unless : (b : Bool) (x : Option X) (y : Option Y) → SamePlace P x y → SamePlace P (cond b None x) (cond b None y)
-  unless true x y h = tt
-  unless false x y h = h
+  -- what stands at an index
+  pub place-same : (number : ℕ) (xs : List (Option X)) (ys : List (Option Y)) → SameTable P number xs ys → (n : ℕ) → SamePlace (P (number + n)) (file_in (slice_get xs n)) (file_in (slice_get ys n))
+  place-same number [] [] h n = tt
+  place-same number [] (y ∷ ys) h n = absurd h
+  place-same number (x ∷ xs) [] h n = absurd h
+  place-same number (x ∷ xs) (y ∷ ys) h zero = subst (λ k. SamePlace (P k) x y) (omega arith) h.0
+  place-same number (x ∷ xs) (y ∷ ys) h (suc n) = subst (λ k. SamePlace (P k) (file_in (slice_get xs n)) (file_in (slice_get ys n))) (omega arith) (place-same (number + 1) xs ys h.1 n)
+
+  none-unless : (b : Bool) (m n : ℕ) (x : Option X) (y : Option Y) → (b ≡ false → m ≡ n) → SamePlace (P m) x y → SamePlace (P n) (cond b None x) (cond b None y)
+  none-unless true m n x y same h = tt
+  none-unless false m n x y same h = subst (λ k. SamePlace (P k) x y) (same refl) h
 
   -- what a handle names
-  pub file-same : (xs : List (Option X)) (ys : List (Option Y)) → SameTable P xs ys → (handle : ℕ) → SamePlace P (file_of xs handle) (file_of ys handle)
-  file-same xs ys h handle = unless (handle == 0) _ _ (place-same xs ys h (handle - 1))
+  pub file-same : (xs : List (Option X)) (ys : List (Option Y)) → SameTable P 1 xs ys → (handle : ℕ) → SamePlace (P handle) (file_of xs handle) (file_of ys handle)
+  file-same xs ys h handle = none-unless (handle == 0) (1 + (handle - 1)) handle _ _ (λ some. not_zero handle some) (place-same 1 xs ys h (handle - 1))
 
-  closed-same : (xs : List (Option X)) (ys : List (Option Y)) → SameTable P xs ys → (handle : ℕ) → is_closed xs handle ≡ is_closed ys handle
-  closed-same xs ys h handle = ap not (some-same _ _ (file-same xs ys h handle))
+  closed-same : (xs : List (Option X)) (ys : List (Option Y)) → SameTable P 1 xs ys → (handle : ℕ) → is_closed xs handle ≡ is_closed ys handle
+  closed-same xs ys h handle = ap not (some-same (P handle) _ _ (file-same xs ys h handle))
 
   -- a handle that isn't open
-  pub names_closed-same : (xs : List (Option X)) (ys : List (Option Y)) → SameTable P xs ys → (handles : Handles) → names_closed xs handles ≡ names_closed ys handles
+  pub names_closed-same : (xs : List (Option X)) (ys : List (Option Y)) → SameTable P 1 xs ys → (handles : Handles) → names_closed xs handles ≡ names_closed ys handles
   names_closed-same xs ys h named.None = refl
   names_closed-same xs ys h (named.One handle) = ap (λ b. b || false) (closed-same xs ys h handle)
   names_closed-same xs ys h (named.Two first second) =
       ap (λ b. b || (is_closed xs second || false)) (closed-same xs ys h first)
       ∙ ap (λ b. is_closed ys first || (b || false)) (closed-same xs ys h second)
 
--- the refusals are the same
-pub submission-same : (m : ModelClient) (c : ClientValue) (o : Op) → IsClient m c
-    → submission m o ≡ submission_of (is_some c.doing) (is_some c.session) (names_closed c.handles (profile o).handles) (open_count c.handles) (profile o)
-submission-same m c o h =
-    let closed = names_closed m.handles (profile o).handles in
-    let row = profile o in
-    ap (λ b. submission_of b (is_some m.session) closed (open_count m.handles) row) (some-same IsDoing m.doing c.doing h.doing)
-    ∙ ap (λ x. submission_of (is_some c.doing) (is_some x) closed (open_count m.handles) row) h.held.session
-    ∙ ap (λ b. submission_of (is_some c.doing) (is_some c.session) b (open_count m.handles) row) (names_closed-same IsHandle m.handles c.handles h.held.handles row.handles)
-    ∙ ap (λ n. submission_of (is_some c.doing) (is_some c.session) (names_closed c.handles row.handles) n row) (count-same IsHandle m.handles c.handles h.held.handles)
+module _ (m : ModelClient) (count : ℕ) (store : StoreValue) (c : ClientValue) where
+  abbrev Same : ℕ → OpenFile → Handle → Type 0
+  Same = IsHandle m.views count store
 
-inode-same : (file : Option OpenFile) (handle : Option Handle) → SamePlace IsHandle file handle → inode_in file ≡ inode_of_handle handle
-inode-same None None h = refl
-inode-same None (Some handle) h = absurd h
-inode-same (Some file) None h = absurd h
-inode-same (Some file) (Some handle) h = h.inode
+  -- the refusals are the same
+  pub submission-same : (o : Op) → IsClient m count store c
+      → submission m o ≡ submission_of (is_some c.doing) (is_some c.session) (names_closed c.handles (profile o).handles) (open_count c.handles) (profile o)
+  submission-same o h =
+      let closed = names_closed m.handles (profile o).handles in
+      let row = profile o in
+      ap (λ b. submission_of b (is_some m.session) closed (open_count m.handles) row) (some-same IsDoing m.doing c.doing h.doing)
+      ∙ ap (λ x. submission_of (is_some c.doing) (is_some x) closed (open_count m.handles) row) h.held.session
+      ∙ ap (λ b. submission_of (is_some c.doing) (is_some c.session) b (open_count m.handles) row) (names_closed-same Same m.handles c.handles h.held.handles row.handles)
+      ∙ ap (λ n. submission_of (is_some c.doing) (is_some c.session) (names_closed c.handles row.handles) n row) (count-same Same 1 m.handles c.handles h.held.handles)
 
-inode_at-same : (m : ModelClient) (c : ClientValue) → IsHeld m c → (handle : ℕ) → inode_at m handle ≡ inode_here c.handles handle
-inode_at-same m c h handle = inode-same _ _ (file-same IsHandle m.handles c.handles h.handles handle)
+  inode-same : (n : ℕ) (file : Option OpenFile) (handle : Option Handle) → SamePlace (Same n) file handle → inode_in file ≡ inode_of_handle handle
+  inode-same n None None h = refl
+  inode-same n None (Some handle) h = absurd h
+  inode-same n (Some file) None h = absurd h
+  inode-same n (Some file) (Some handle) h = h.inode
 
-files-same : (m : ModelClient) (c : ClientValue) → IsHeld m c → (handles : Handles) → OfFiles (map (inode_at m) (handle_list handles)) ≡ flush_of_code (files_here c.handles handles)
-files-same m c h named.None = refl
-files-same m c h (named.One handle) = ap (λ i. OfFiles (i ∷ [])) (inode_at-same m c h handle)
-files-same m c h (named.Two first second) =
-    ap (λ i. OfFiles (i ∷ inode_at m second ∷ [])) (inode_at-same m c h first) ∙ ap (λ i. OfFiles (inode_here c.handles first ∷ i ∷ [])) (inode_at-same m c h second)
+  pub inode_at-same : IsHeld m count store c → (handle : ℕ) → inode_at m handle ≡ inode_here c.handles handle
+  inode_at-same h handle = inode-same handle _ _ (file-same Same m.handles c.handles h.handles handle)
 
-full-same : (b : Bool) → (if b then OfAll else OfFiles []) ≡ flush_of_code (if b then flush.All else flush.Nothing)
-full-same true = refl
-full-same false = refl
+  files-same : IsHeld m count store c → (handles : Handles) → OfFiles (map (inode_at m) (handle_list handles)) ≡ flush_of_code (files_here c.handles handles)
+  files-same h named.None = refl
+  files-same h (named.One handle) = ap (λ i. OfFiles (i ∷ [])) (inode_at-same h handle)
+  files-same h (named.Two first second) =
+      ap (λ i. OfFiles (i ∷ inode_at m second ∷ [])) (inode_at-same h first) ∙ ap (λ i. OfFiles (inode_here c.handles first ∷ i ∷ [])) (inode_at-same h second)
 
-by-flushes : (m : ModelClient) (c : ClientValue) → IsHeld m c → (row : Profile) (flushes : Flushes) → row.flushes ≡ flushes → flush_of c.limits.buffer m row ≡ flush_of_code (flush_here c row)
-by-flushes m c h row Nothing e = rw e refl
-by-flushes m c h row ItsFiles e = rw e (files-same m c h row.handles)
-by-flushes m c h row (IfFull len) e = rw e (ap (λ (bytes : List PendingByte). if nat_lt c.limits.buffer (length bytes + len) then OfAll else OfFiles []) h.pending ∙ full-same (nat_lt c.limits.buffer (length c.pending + len)))
-by-flushes m c h row Everything e = rw e refl
+  full-same : (b : Bool) → (if b then OfAll else OfFiles []) ≡ flush_of_code (if b then flush.All else flush.Nothing)
+  full-same true = refl
+  full-same false = refl
 
--- what is committed first is the same
-pub flush-same : (m : ModelClient) (c : ClientValue) → IsHeld m c → (row : Profile) → flush_of c.limits.buffer m row ≡ flush_of_code (flush_here c row)
-flush-same m c h row = by-flushes m c h row row.flushes refl
+  by-flushes : IsHeld m count store c → (row : Profile) (flushes : Flushes) → row.flushes ≡ flushes → flush_of c.limits.buffer m row ≡ flush_of_code (flush_here c row)
+  by-flushes h row Nothing e = rw e refl
+  by-flushes h row ItsFiles e = rw e (files-same h row.handles)
+  by-flushes h row (IfFull len) e = rw e (ap (λ (bytes : List PendingByte). if nat_lt c.limits.buffer (length bytes + len) then OfAll else OfFiles []) h.pending ∙ full-same (nat_lt c.limits.buffer (length c.pending + len)))
+  by-flushes h row Everything e = rw e refl
 
--- an operation that isn't refused is in progress
-pub begun-stands : (m : ModelClient) (c : ClientValue) (o : Op) → IsClient m c
-    → IsClient (submitted c.limits o m) (record c { doing = Some (begun o (by_limits c.limits (profile o).does) (flush_here c (profile o))) })
-begun-stands m c o h = record {
-  held = record { session = h.held.session; direct = h.held.direct; handles = h.held.handles; pending = h.held.pending };
-  doing = record { op = refl; does = refl; flush = flush-same m c h.held (profile o); stage = refl; moved = refl };
-}
+  -- what is committed first is the same
+  pub flush-same : IsHeld m count store c → (row : Profile) → flush_of c.limits.buffer m row ≡ flush_of_code (flush_here c row)
+  flush-same h row = by-flushes h row row.flushes refl
 
--- the refusal by a row that is the operation's
-pub refusal-by : (m : ModelClient) (c : ClientValue) (o : Op) (row : Profile) (refusal : Option Fault) → IsClient m c → row ≡ profile o
-    → refusal ≡ submission_of (is_some c.doing) (is_some c.session) (names_closed c.handles row.handles) (open_count c.handles) row
-    → refusal ≡ submission m o
-refusal-by m c o row refusal h same is =
-    is ∙ ap (λ (r : Profile). submission_of (is_some c.doing) (is_some c.session) (names_closed c.handles r.handles) (open_count c.handles) r) same ∙ sym (submission-same m c o h)
+  -- an operation that isn't refused is in progress
+  pub begun-stands : (o : Op) → IsClient m count store c
+      → IsClient (submitted c.limits o m) count store (record c { doing = Some (begun o (by_limits c.limits (profile o).does) (flush_here c (profile o))) })
+  begun-stands o h = record {
+    held = held-doing _ _ h.held;
+    doing = record { op = refl; does = refl; flush = flush-same h.held (profile o); stage = refl; moved = refl };
+  }
+
+  -- the refusal by a row that is the operation's
+  pub refusal-by : (o : Op) (row : Profile) (refusal : Option Fault) → IsClient m count store c → row ≡ profile o
+      → refusal ≡ submission_of (is_some c.doing) (is_some c.session) (names_closed c.handles row.handles) (open_count c.handles) row
+      → refusal ≡ submission m o
+  refusal-by o row refusal h same is =
+      is ∙ ap (λ (r : Profile). submission_of (is_some c.doing) (is_some c.session) (names_closed c.handles r.handles) (open_count c.handles) r) same ∙ sym (submission-same o h)

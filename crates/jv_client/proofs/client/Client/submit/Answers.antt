@@ -1,22 +1,25 @@
 -- The client in memory and the model's are refused alike, and begin alike.
-use Rattle.std.proofs.Common.{◌≡◌, sym, ap, subst, ◌∙◌, Option, Some}
+use Rattle.std.proofs.Common.{◌≡◌, is_some, sym, ap, subst, ◌∙◌, Option, Some}
 use Rattle.jv_model.specs.client.Profile.{profile}
 use Rattle.jv_model.specs.declared.profile.Profile.{Profile}
-use Rattle.jv_model.specs.client.Submission.{submitted, by_limits}
+use Rattle.jv_model.specs.client.ModelClient.{open_count}
+use Rattle.jv_model.specs.client.Submission.{submitted, submission_of, names_closed, by_limits}
 use Rattle.jv_client.specs.declared.doing.Doing.{Doing}
 use Rattle.jv_client.specs.ClientValue.{ClientValue}
 use Rattle.jv_client.specs.Held.{IsClient, begun, flush_here}
+use Rattle.jv_client.specs.UnderWay.{IsReady}
+use Rattle.jv_client.proofs.ReadyLaws.{begun-ready}
 use Rattle.jv_client.proofs.SubmissionLaws.{refusal-by, begun-stands}
 use Rattle.jv_client.proofs.client.Client.submit.Goals as goal
 
 pub returns-in-Some-clause-refusal : goal.returns-in-Some-clause-refusal
-returns-in-Some-clause-refusal c m h = sym c.in-Some.is ∙ refusal-by m c.args.self.now c.args.op c.profile-row.result c.refusal.result h c.profile-row.ensures c.refusal.ensures
+returns-in-Some-clause-refusal c m count store h = sym c.in-Some.is ∙ refusal-by m count store c.args.self.now c.args.op c.profile-row.result c.refusal.result h c.profile-row.ensures c.refusal.ensures
 
 pub returns-clause-refusal : goal.returns-clause-refusal
-returns-clause-refusal c m h = sym c.in_default.is ∙ refusal-by m c.args.self.now c.args.op c.profile-row.result c.refusal.result h c.profile-row.ensures c.refusal.ensures
+returns-clause-refusal c m count store h = sym c.in_default.is ∙ refusal-by m count store c.args.self.now c.args.op c.profile-row.result c.refusal.result h c.profile-row.ensures c.refusal.ensures
 
 pub returns-clause-begun : goal.returns-clause-begun
-returns-clause-begun c m h =
+returns-clause-begun c m count store h =
     let value : ClientValue = c.args.self.now in
     let o = c.args.op in
     let row : c.profile-row.result ≡ profile o = c.profile-row.ensures in
@@ -25,6 +28,22 @@ returns-clause-begun c m h =
     ∙ ap (λ (v : ClientValue). by_limits v.limits (profile o).does) seen in
     let flush = c.flush_of-flush.ensures ∙ ap (λ (r : Profile). flush_here value r) row in
     let doing = c.begun.ensures ∙ ap (λ does. begun o does c.flush_of-flush.result) does ∙ ap (begun o (by_limits value.limits (profile o).does)) flush in
-    let stands = subst (λ (d : Doing). IsClient (submitted value.limits o m) (record value { doing = Some d })) (sym doing) (begun-stands m value o h) in
-    let placed = subst (λ (d : Option Doing). IsClient (submitted value.limits o m) (record value { doing = d })) (sym c.begin.ensures) stands in
-    subst (λ (v : ClientValue). IsClient (submitted value.limits o m) (record v { doing = c.begin.new.doing })) (sym seen) placed
+    let stands = subst (λ (d : Doing). IsClient (submitted value.limits o m) count store (record value { doing = Some d })) (sym doing) (begun-stands m count store value o h) in
+    let placed = subst (λ (d : Option Doing). IsClient (submitted value.limits o m) count store (record value { doing = d })) (sym c.begin.ensures) stands in
+    subst (λ (v : ClientValue). IsClient (submitted value.limits o m) count store (record v { doing = c.begin.new.doing })) (sym seen) placed
+
+pub returns-clause-ready : goal.returns-clause-ready
+returns-clause-ready c store ready built =
+    let value : ClientValue = c.args.self.now in
+    let o = c.args.op in
+    let row : c.profile-row.result ≡ profile o = c.profile-row.ensures in
+    let seen = c.self.view_is in
+    let does = c.by_limits-does.ensures ∙ ap (λ (r : Profile). by_limits c.self.inside.limits r.does) row
+    ∙ ap (λ (v : ClientValue). by_limits v.limits (profile o).does) seen in
+    let flush = c.flush_of-flush.ensures ∙ ap (λ r. flush_here value r) row in
+    let doing = c.begun.ensures ∙ ap (λ does. begun o does c.flush_of-flush.result) does ∙ ap (begun o (by_limits value.limits (profile o).does)) flush in
+    let none = sym (c.refusal.ensures ∙ ap (λ (r : Profile). submission_of (is_some value.doing) (is_some value.session) (names_closed value.handles r.handles) (open_count value.handles) r) row)
+    ∙ c.in_default.is in
+    let stands = begun-ready value store o c.begun.result ready built none doing in
+    let placed = subst (λ (d : Option Doing). IsReady store (record value { doing = d })) (sym c.begin.ensures) stands in
+    subst (λ (v : ClientValue). IsReady store (record v { doing = c.begin.new.doing })) (sym seen) placed
