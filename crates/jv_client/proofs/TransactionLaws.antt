@@ -310,8 +310,8 @@ meta-leads now h d store grown reply busy way one does_so s has is =
     let here : IsDoing m d = doing.2 in
     let all : Transacts m.op h.handles store grown reply = subst (λ o. Transacts o h.handles store grown reply) (sym here.op) does_so in
     let needs : (profile m.op).needs_mount ≡ true → IsTrue (is_some (get s.tree.sessions (session_of c))) = λ needed.
-        subst (λ x. IsTrue (is_some (get s.tree.sessions (unwrap_or x 0)))) (sym is.held.session)
-        (in_session s.tree store h.session has is.held.mounted (first.session (sym (ap (λ o. (profile o).needs_mount) here.op) ∙ needed))) in
+    subst (λ x. IsTrue (is_some (get s.tree.sessions (unwrap_or x 0)))) (sym is.held.session)
+    (in_session s.tree store h.session has is.held.mounted (first.session (sym (ap (λ o. (profile o).needs_mount) here.op) ∙ needed))) in
     let leads = all.leads s.tree (caller c h.id now m.op) has needs (free-same (IsHandle c.views s.count store) 1 1 c.handles h.handles is.held.handles) in
     let ready = ready-by c m first.started (here.stage ∙ ap stage_of first.progress) (here.flush ∙ ap flush_of_code first.nothing) in
     let of_tree = transacts-by c m d.does here.does one in
