@@ -1,5 +1,5 @@
 //! Operations that are one metadata transaction: mount, create and open.
-ghost use Rattle.std.specs.Prelude.{◌≡◌, ℕ, ◌+◌, ◌≤◌, IsSome, IsTrue, IfOk, IfSome, OnErr, None, Some, vec_len, vec_capacity};
+ghost use Rattle.std.specs.Prelude.{◌≡◌, ℕ, ◌+◌, ◌≤◌, IsSome, IsTrue, IfSome, None, Some, vec_len, vec_capacity};
 ghost use Rattle.jv_model.specs.declared.op.Op.TheVariants.{Create, Open};
 ghost use Rattle.jv_model.specs.declared.op.Reply.TheVariants.{FileOpened};
 ghost use Rattle.jv_model.specs.script.Spelling.{is_root_path};
