@@ -7,3 +7,7 @@ pub mod ReadyLaws
 pub mod ShowLaws
 pub mod SubmissionLaws
 pub mod TableLaws
+pub mod FailureLaws
+pub mod HandleTableLaws
+pub mod TransactionLaws
+pub mod TreeSide

@@ -24,7 +24,8 @@ impl Schedule {
     }
 
     fn is_built_op(&self, client: ClientId, op: &Op) -> bool
-        ensures { result ≡ built_op_here self.now client op.now }
+        ensures built { result ≡ built_op_here self.now client op.now }
+        ensures low { client < length self.now.clients }
     {
         let held = self.clients[client.number() as usize].pending_bytes();
         has_form(&self.limits, op) && may_hold(&self.limits, held, op)
