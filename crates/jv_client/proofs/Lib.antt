@@ -2,3 +2,5 @@
 pub mod HeldLaws
 pub mod SubmissionLaws
 pub mod ReadyLaws
+pub mod FlushLaws
+pub mod CommitLaws
