@@ -1,6 +1,6 @@
 -- The requests of a flush before its commit, and what refuses it.
-use Rattle.std.proofs.Common.{◌≡◌, ℕ, zero, suc, ◌+◌, ◌-◌, ◌*◌, ◌≤◌, ◌<◌, max, Bool, true, false, ◌&&◌, ◌||◌, not, IsTrue, List, [], ◌∷◌, length, slice_get, Option, None, Some, refl, sym, ap, subst, ◌∙◌, arith, lit≤}
-use Rattle.std.specs.Prelude.{◌==◌, if◌then◌else◌, is_some, nat_lt, unwrap_or, IsSome, IfSome, IsSomeAnd}
+use Rattle.std.proofs.Common.{◌≡◌, ℕ, zero, suc, ◌+◌, ◌-◌, ◌≤◌, ◌<◌, max, Bool, true, false, ◌||◌, not, IsTrue, List, [], ◌∷◌, length, slice_get, Option, None, Some, refl, sym, ap, subst, ◌∙◌, arith, lit≤}
+use Rattle.std.specs.Prelude.{◌==◌, if◌then◌else◌, is_some, unwrap_or, IsSome, IfSome, IsSomeAnd}
 use Rattle.std.specs.List.{AllByRecursion}
 use Rattle.std.specs.Option.{option_map}
 use Rattle.jv_model.specs.declared.lifetimes.TheConstants.{UPLOAD_LIFE}
@@ -13,17 +13,16 @@ use Rattle.jv_model.specs.declared.fault.Fault.{Fault}
 use Rattle.jv_model.specs.declared.fault.Fault.TheVariants.{NoMemory, NoSpace, TimedOut}
 use Rattle.jv_model.specs.declared.op.Reply.{Reply}
 use Rattle.jv_model.specs.declared.op.Reply.TheVariants.{Refused}
-use Rattle.jv_model.specs.declared.op.Step.{Step}
 use Rattle.jv_model.specs.declared.op.Step.TheVariants.{More, Done}
 use Rattle.jv_model.specs.FiniteMap.{get}
 use Rattle.jv_model.specs.tree.Tree.{Tree, Node, Content, node_at, content_of, content_at, paged, fits, sum_fits, space_limit}
 use Rattle.jv_model.specs.tree.FileBytes.{committed}
 use Rattle.jv_model.specs.client.Pending.{PendingByte, Segment, first_segment, pending_of}
 use Rattle.jv_model.specs.client.Submission.{next_segment}
-use Rattle.jv_model.specs.client.ModelClient.{ModelClient, Doing as ModelDoing, Stage, Working, Replying, with_stage, session_of, file_of, file_in}
-use Rattle.jv_model.specs.journal.State.{State, has_session, session_gone, flushing_on, begun_quietly, quieted, is_cleaning, next_entry, of_doing, is_of_another, answered_client, after_told, refused_as}
-use Rattle.jv_model.specs.journal.Steps.{Start, IsEntry, MayStep, MayAnswer, Fails, begins_step, is_failure, may_be_quiet, must_answer, Refuses, IsRefusedIn, CommitLate, CommitTooLarge, CommitAsked, is_crowded}
-use Rattle.jv_model.specs.journal.Stepping.{AllowsStep, GoesOn, AnswersAlone, AnswersAfter, entry_of, stepped, stepped_by, is_answer, answer_of}
+use Rattle.jv_model.specs.client.ModelClient.{ModelClient, Doing as ModelDoing, Stage, Working, Replying, file_of, file_in}
+use Rattle.jv_model.specs.journal.State.{State, has_session, session_gone, flushing_on, begun_quietly, quieted, of_doing, is_of_another, answered_client, after_told, refused_as}
+use Rattle.jv_model.specs.journal.Steps.{Start, IsEntry, MayAnswer, Fails, begins_step, is_failure, may_be_quiet, must_answer, Refuses, IsRefusedIn, CommitLate, CommitTooLarge, CommitAsked, is_crowded}
+use Rattle.jv_model.specs.journal.Stepping.{GoesOn, AnswersAlone, AnswersAfter, entry_of, stepped, is_answer, answer_of}
 use Rattle.jv_model.specs.journal.Past.{ends_in_step, reply_of}
 use Rattle.jv_pending.proofs.SegmentLaws.{own_segment}
 use Rattle.jv_files.specs.declared.files.StoredFile.{StoredFile}
@@ -40,11 +39,11 @@ use Rattle.jv_client.specs.declared.handles.Handle.{Handle}
 use Rattle.jv_client.specs.declared.made.Made.{Made}
 use Rattle.jv_client.specs.declared.made.Made.TheVariants as made
 use Rattle.jv_client.specs.ClientValue.{ClientValue}
-use Rattle.jv_client.specs.StoreValue.{StoreValue, HasStore, IsSession, Grows}
+use Rattle.jv_client.specs.StoreValue.{StoreValue, HasStore, IsSession}
 use Rattle.jv_client.specs.Held.{SamePlace, IsDoing, IsHeld, IsClient, flush_of_code, stage_of}
-use Rattle.jv_client.specs.UnderWay.{IsOfFile, FlushesFor, Closes, ReadsNothing, Reads, IsForm, Mounts, Transacts, Writes, Flushes, IsUnderWay, IsReady, segment_left, has_segment, reads_more, steps_in, steps_of, steps_left, moved_to, ended, left, left_of, progress_of}
+use Rattle.jv_client.specs.UnderWay.{IsOfFile, FlushesFor, Closes, ReadsNothing, Reads, IsForm, Mounts, Transacts, Writes, Flushes, IsUnderWay, IsReady, segment_left, reads_more, steps_in, steps_of, steps_left, moved_to, ended, left, left_of, progress_of}
 use Rattle.jv_client.specs.Flushing.{FitsIf, bytes_of}
-use Rattle.jv_client.specs.Makes.{Makes, StepsTo, kinds_of, step_of}
+use Rattle.jv_client.specs.Makes.{Makes, StepsTo}
 use Rattle.jv_client.proofs.HeldLaws.{own_client, with_stage-doing, answered_client-doing, held-later, held-doing, grows-same}
 
 -- one step
@@ -122,7 +121,7 @@ answers_after s client now kind told reply h store c d entry request after busy 
 
 -- an operation of this row goes on
 
-moved_for : (d : Doing) (p : Progress) (handle : ℕ) → FlushesFor d handle → FlushesFor (moved_to p d) handle
+pub moved_for : (d : Doing) (p : Progress) (handle : ℕ) → FlushesFor d handle → FlushesFor (moved_to p d) handle
 moved_for d p handle (Closes o does) = Closes o does
 moved_for d p handle (ReadsNothing offset len o does) = ReadsNothing offset len o does
 moved_for d p handle (Reads offset len o does some short) = Reads offset len o does some short
@@ -340,16 +339,21 @@ some_node : (o : Option Node) (P : Content → Type 0) → IsSomeAnd (content_of
 some_node None P h = absurd h
 some_node (Some node) P h = refl
 
-some_in : {X : Type 0} (o : Option X) (x : X) (P : X → Type 0) → o ≡ Some x → IfSome o P → P x
+pub some_in : {X : Type 0} (o : Option X) (x : X) (P : X → Type 0) → o ≡ Some x → IfSome o P → P x
 some_in None x P e h = absurd (let f : ◌≡◌ {A = Option _} None (Some x) = e in cc)
 some_in (Some y) x P e h = subst P (let f : ◌≡◌ {A = Option _} (Some y) (Some x) = e in cc) h
+
+pub file_of_inode : (files : List StoredFile) (inode : ℕ) → IsFile (length files) inode → (file : StoredFile) × (slice_get files (inode - 2) ≡ Some file)
+file_of_inode files inode is =
+    let low = is.low in
+    let high = is.high in
+    slice_get_inside files (inode - 2) (omega (arith, low, high))
 
 pub file_there : (t : Tree) (v : FilesValue) (inode : ℕ) → HasFiles t v → IsFile (length v.files) inode → is_some (node_at t inode) ≡ true
 file_there t v inode h is =
     let low = is.low in
-    let high = is.high in
-    let file = slice_get_inside v.files (inode - 2) (omega (arith, low, high)) in
-    let kept : IsSomeAnd (content_at t (2 + (inode - 2))) (Keeps file.0) = some_in (slice_get v.files (inode - 2)) file.0 (λ file. IsSomeAnd (content_at t (2 + (inode - 2))) (Keeps file)) file.1 (h.files (inode - 2)) in
+    let file = file_of_inode v.files inode is in
+    let kept = some_in (slice_get v.files (inode - 2)) file.0 (λ file. IsSomeAnd (content_at t (2 + (inode - 2))) (Keeps file)) file.1 (h.files (inode - 2)) in
     let two : 2 + (inode - 2) ≡ inode = omega (arith, low) in
     subst (λ n. is_some (node_at t n) ≡ true) two (some_node (node_at t (2 + (inode - 2))) (Keeps file.0) kept)
 
@@ -424,27 +428,33 @@ refuses_late h d store segment started now entry busy ready next at late =
 paged_rises : (a b : ℕ) → a ≤ b → paged a ≤ paged b
 paged_rises a b le = omega arith
 
+space_after : (before length end : ℕ) → (used : ℕ) × (used + paged length ≡ before + paged (max length end))
+space_after before length end =
+    let rises = paged_rises length (max length end) (omega arith) in
+    (before + (paged (max length end) - paged length), omega (arith, rises))
+
+fits-by : (t : Tree) (v : FilesValue) (k now from limit : ℕ) (bytes : List ℕ) (file : StoredFile) (used : ℕ) (allowed : Bool) → HasFiles t v → slice_get v.files k ≡ Some file
+    → used + paged file.length ≡ v.used_space + paged (max file.length (from + length bytes)) → space_limit t.setting ≡ limit → allowed ≡ sum_fits limit v.used_space used
+    → fits t (committed t now (2 + k) from bytes) ≡ allowed
+fits-by t v k now from limit bytes file used allowed has there space same known =
+    fits-committed t v k now from bytes file used has there space ∙ ap (λ n. sum_fits n v.used_space used) same ∙ sym known
+
 -- whether a commit is within the volume's limits
 pub commit-fits : (t : Tree) (store : StoreValue) (now : ℕ) (segment : Segment) (pending : List PendingByte) (allowed : Bool) → HasStore t store → IsFile (length store.files.files) segment.inode
     → length (bytes_of segment pending) ≡ segment.len → FitsIf store segment.inode (segment.from + segment.len) allowed
     → fits t (committed t now segment.inode segment.from (bytes_of segment pending)) ≡ allowed
 commit-fits t store now segment pending allowed has is long fits_if =
     let low = is.low in
-    let high = is.high in
     let k = segment.inode - 2 in
     let v = store.files in
     let two : 2 + k ≡ segment.inode = omega (arith, low) in
-    let file = slice_get_inside v.files k (omega (arith, low, high)) in
-    let end = segment.from + length (bytes_of segment pending) in
-    let same : end ≡ segment.from + segment.len = ap (λ n. segment.from + n) long in
-    let less = paged_rises file.0.length (max file.0.length end) (omega arith) in
-    let used = v.used_space + (paged (max file.0.length end) - paged file.0.length) in
-    let space : used + paged file.0.length ≡ v.used_space + paged (max file.0.length end) = omega (arith, less) in
-    let limit : sum_fits (space_limit t.setting) v.used_space used ≡ sum_fits (space_limit store.setting) v.used_space used = ap (λ setting. sum_fits (space_limit setting) v.used_space used) has.setting in
+    let file = file_of_inode v.files segment.inode is in
+    let used = space_after v.used_space file.0.length (segment.from + segment.len) in
     let known = some_in (slice_get v.files k) file.0 (λ file. (used : ℕ) → used + paged file.length ≡ v.used_space + paged (max file.length (segment.from + segment.len))
-    → allowed ≡ sum_fits (space_limit store.setting) v.used_space used) file.1 fits_if used (space ∙ ap (λ n. v.used_space + paged (max file.0.length n)) same) in
-    ap (λ n. fits t (committed t now n segment.from (bytes_of segment pending))) (sym two)
-    ∙ fits-committed t v k now segment.from (bytes_of segment pending) file.0 used has.files file.1 space ∙ limit ∙ sym known
+    → allowed ≡ sum_fits (space_limit store.setting) v.used_space used) file.1 fits_if used.0 used.1 in
+    let space = subst (λ len. used.0 + paged file.0.length ≡ v.used_space + paged (max file.0.length (segment.from + len))) (sym long) used.1 in
+    subst (λ n. fits t (committed t now n segment.from (bytes_of segment pending)) ≡ allowed) two
+    (fits-by t v k now segment.from (space_limit store.setting) (bytes_of segment pending) file.0 used.0 allowed has.files file.1 space (ap space_limit has.setting) known)
 
 -- the volume has no room for it
 pub refuses_large : (h : ClientValue) (d : Doing) (store : StoreValue) (segment : Segment) (started now entry : ℕ) → h.doing ≡ Some d → IsReady store h → left h ≡ Some segment

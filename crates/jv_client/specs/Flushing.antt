@@ -1,5 +1,5 @@
 -- What a flush leaves of a client and of the volume.
-use Rattle.std.specs.Prelude.{◌≡◌, ℕ, ◌+◌, ◌-◌, max, Bool, false, List, length, map, Option, None, Some}
+use Rattle.std.specs.Prelude.{◌≡◌, ℕ, ◌+◌, ◌-◌, max, Bool, false, List, length, map, None, Some}
 use Rattle.jv_model.specs.declared.act.ActKind.{ActKind}
 use Rattle.jv_model.specs.declared.act.Told.{Told}
 use Rattle.jv_model.specs.declared.op.Reply.{Reply}

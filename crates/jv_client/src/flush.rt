@@ -114,7 +114,8 @@ fn start_of(at: SegmentAt) -> u64
 impl Client {
     /// Makes a request, after which the operation goes on.
     fn request(&mut self, kind: ActKind, next: Progress) -> Made
-        ensures asked { self.new ≡ record self.old { doing = option_map (moved_to next) self.old.doing } }
+        ensures asked { self.new
+            ≡ record self.old { doing = option_map (moved_to next) self.old.doing } }
         ensures made { result ≡ Made.Request kind }
     {
         go_on(&mut self.doing, next);

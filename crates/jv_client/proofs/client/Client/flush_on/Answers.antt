@@ -1,7 +1,6 @@
 -- The next request of a segment is allowed, and where it leads.
-use Rattle.std.proofs.Common.{◌≡◌, ap, ◌∙◌, Option, Some}
+use Rattle.std.proofs.Common.{◌≡◌, ap, ◌∙◌, Some}
 use Rattle.jv_pending.specs.At.{segment_at}
-use Rattle.jv_client.specs.declared.doing.Progress.{Progress}
 use Rattle.jv_client.specs.declared.doing.Progress.TheVariants.{Working}
 use Rattle.jv_client.specs.UnderWay.{progress_of}
 use Rattle.jv_client.proofs.FlushLaws.{asks_first, asks_second}

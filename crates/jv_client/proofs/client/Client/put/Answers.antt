@@ -1,10 +1,10 @@
 -- What a segment's file is after its commit.
-use Rattle.std.proofs.Common.{◌≡◌, ℕ, ◌-◌, List, length, sym, ap, subst, ◌∙◌}
+use Rattle.std.proofs.Common.{ℕ, ◌-◌, List, length, sym, ap, subst, ◌∙◌}
 use Rattle.jv_pending.specs.At.{segment_at}
 use Rattle.jv_files.specs.Stored.{FilesValue, OfFileAt, Commits}
 use Rattle.jv_client.specs.ClientValue.{ClientValue}
 use Rattle.jv_client.specs.StoreValue.{StoreValue}
-use Rattle.jv_client.specs.Flushing.{Puts, bytes_of}
+use Rattle.jv_client.specs.Flushing.{bytes_of}
 use Rattle.jv_client.proofs.client.Client.put.Goals as goal
 
 pub returns-clause-stored : goal.returns-clause-stored
