@@ -340,7 +340,7 @@ held-closed c count store h handle held = record {
 
 -- what a commit wants and gives
 module _ (h : ClientValue) (d : Doing) (store : StoreValue) (segment : Segment) (file : StoredFile) (used started now : ℕ) (busy : h.doing ≡ Some d) (ready : IsReady store h)
-    (next : left h ≡ Some segment) (at : d.progress ≡ progress.Working 2 started) (in_time : now < started + UPLOAD_LIFE) (some : 0 < segment.len)
+    (next : left h ≡ Some segment) (at : d.progress ≡ progress.Working 2 started) (in_time : now < started + UPLOAD_LIFE)
     (long : length (bytes_of segment h.pending) ≡ segment.len)
     (there : slice_get store.files.files (segment.inode - 2) ≡ Some file)
     (space : used + paged file.length ≡ store.files.used_space + paged (max file.length (segment.from + length (bytes_of segment h.pending))))
@@ -571,10 +571,10 @@ module _ (h : ClientValue) (d : Doing) (store : StoreValue) (segment : Segment) 
 
 -- a commit, as the code has it
 pub commits_by : (h between after : ClientValue) (store grown : StoreValue) (segment : Segment) (started now entry : ℕ) (outcome : Made) → IsReady store h → left h ≡ Some segment
-    → progress_of h.doing ≡ Some (progress.Working 2 started) → now < started + UPLOAD_LIFE → 0 < segment.len → FitsIf store segment.inode (segment.from + segment.len) true
+    → progress_of h.doing ≡ Some (progress.Working 2 started) → now < started + UPLOAD_LIFE → FitsIf store segment.inode (segment.from + segment.len) true
     → Puts store segment h.pending grown → between ≡ without_segment segment h → length between.pending < length h.pending
     → IfSome between.doing (λ d. Follows d (Commit segment.inode segment.from segment.len 0) between after outcome) → Makes now entry h after store grown outcome
-commits_by h between after store grown segment started now entry outcome ready next at in_time some room puts same fewer follows =
+commits_by h between after store grown segment started now entry outcome ready next at in_time room puts same fewer follows =
     let d = in_progress h.doing (progress.Working 2 started) at in
     let is = segment-of_file h d.0 store segment d.1 ready next in
     let file = file_of_inode store.files.files segment.inode is in
@@ -587,7 +587,7 @@ commits_by h between after store grown segment started now entry outcome ready n
     (subst (λ (b : ClientValue). IfSome b.doing (λ d. Follows d kind b after outcome)) same follows) in
     let less = subst (λ (b : ClientValue). length b.pending < length h.pending) same fewer in
     subst (λ grown. Makes now entry h after store grown outcome) (sym grown_is)
-    (committed-follows h d.0 store segment file.0 committed.used started now d.1 ready next d.2 in_time some puts.len file.1 committed.space room after outcome less follows_it entry)
+    (committed-follows h d.0 store segment file.0 committed.used started now d.1 ready next d.2 in_time puts.len file.1 committed.space room after outcome less follows_it entry)
 
 -- its handle is still open
 pub names_still : (h between : ClientValue) (store : StoreValue) (segment : Segment) → IsReady store h → IsSome h.doing → left h ≡ Some segment → between ≡ without_segment segment h

@@ -151,7 +151,6 @@ impl Client {
         requires ready { IsReady store.old self.old }
         requires next { left self.old ≡ Some (segment_at at) }
         requires own { next_segment (Some at.inode) self.old.pending ≡ Some (segment_at at) }
-        requires some { 0 < at.len }
         requires file { IsFile (length store.old.files.files) at.inode }
         requires range { (from ≡ (segment_at at).from) × (len ≡ at.len) }
         requires end { from + len ≤ FILE_END }

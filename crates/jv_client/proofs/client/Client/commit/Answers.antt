@@ -29,5 +29,5 @@ returns c now entry started at in_time room =
     let follows : IfSome c.put.new.self.doing (λ d. Follows d (Commit segment.inode segment.from segment.len 0) c.put.new.self c.after_commit.new.self c.after_commit.result) =
     subst (λ from. IfSome c.put.new.self.doing (λ d. Follows d (Commit segment.inode from segment.len 0) c.put.new.self c.after_commit.new.self c.after_commit.result)) from
     (subst (λ len. IfSome c.put.new.self.doing (λ d. Follows d (Commit segment.inode c.args.from len 0) c.put.new.self c.after_commit.new.self c.after_commit.result)) len c.after_commit.ensures) in
-    commits_by here c.put.new.self c.after_commit.new.self c.args.store.now c.put.new.store segment started now entry c.after_commit.result c.requires.ready c.requires.next at in_time c.requires.some fits
+    commits_by here c.put.new.self c.after_commit.new.self c.args.store.now c.put.new.store segment started now entry c.after_commit.result c.requires.ready c.requires.next at in_time fits
     c.in-Ok.ensures.stored c.in-Ok.ensures.rest c.in-Ok.ensures.fewer follows
