@@ -11,3 +11,5 @@ pub mod FailureLaws
 pub mod HandleTableLaws
 pub mod TransactionLaws
 pub mod TreeSide
+pub mod FlushLaws
+pub mod CommitLaws
