@@ -496,7 +496,7 @@ module _ (h : ClientValue) (d : Doing) (store : StoreValue) (segment : Segment) 
       limits = refl;
       ready = record { files = without-of_file; doing = way-without };
       grows = grows;
-      falls = falls-without;
+      falls = (falls-without, refl);
       leads = λ s count has is. leads-without s has (is_busy (s.clients h.id) s.count store h d busy is);
     }
 

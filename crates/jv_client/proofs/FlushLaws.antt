@@ -259,7 +259,7 @@ module _ (h : ClientValue) (d : Doing) (store : StoreValue) (segment : Segment) 
     limits = refl;
     ready = record { files = ready.files; doing = asks-ready };
     grows = grows-same store;
-    falls = asks-falls;
+    falls = (asks-falls, refl);
     leads = λ s count has is. asks-leads s has (is_busy (s.clients h.id) s.count store h d busy is);
   }
 

@@ -51,7 +51,7 @@ look_more now handle offset len started moved h store file view at none seen som
         };
       };
       grows = grows-same store;
-      falls = (let pending = length h.pending in subst (λ o. 3 * pending + 1 < steps_of pending o) (sym at.busy) (omega arith));
+      falls = ((let pending = length h.pending in subst (λ o. 3 * pending + 1 < steps_of pending o) (sym at.busy) (omega arith)), refl);
       leads = λ s entry has_store client.
           let c = s.clients h.id in
           let l = has_looked s h store now handle offset len started moved file view at none seen entry has_store client in

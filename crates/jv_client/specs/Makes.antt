@@ -1,5 +1,5 @@
 -- What a step makes of a client and of what all clients share.
-use Rattle.std.specs.Prelude.{◌≡◌, ℕ, ◌+◌, ◌<◌, Bool, List, [], ◌∷◌, ◌++◌, map, length, None}
+use Rattle.std.specs.Prelude.{◌≡◌, ℕ, ◌+◌, ◌<◌, Bool, List, [], ◌∷◌, ◌++◌, map, length, IsSome, None}
 use Rattle.jv_model.specs.declared.act.Act.{Act}
 use Rattle.jv_model.specs.declared.act.ActKind.{ActKind}
 use Rattle.jv_model.specs.declared.act.ActKind.TheVariants.{Answered}
@@ -36,9 +36,9 @@ pub record StepsTo (s : State) (client now : ℕ) (kinds : List ActKind) (step :
   pub has_store : HasStore (stepped_by s client now kinds).tree store
   pub is_client : IsClient ((stepped_by s client now kinds).clients client) (stepped_by s client now kinds).count store h
 
--- after a step that isn't the last one, fewer are left
+-- after a step that isn't the last one the operation goes on, and fewer are left
 abbrev pub Falls : Step → ClientValue → ClientValue → Type 0
-Falls More before after = steps_left after < steps_left before
+Falls More before after = (steps_left after < steps_left before) × IsSome after.doing
 Falls (Done reply) before after = after.doing ≡ None
 Falls (Broken key bytes) before after = ⊥
 
