@@ -1,5 +1,7 @@
 -- Laws about clients.
 pub mod AnswerLaws
+pub mod FailureLaws
+pub mod HandleTableLaws
 pub mod HeldLaws
 pub mod LookLaws
 pub mod ReadingLaws
@@ -7,3 +9,5 @@ pub mod ReadyLaws
 pub mod ShowLaws
 pub mod SubmissionLaws
 pub mod TableLaws
+pub mod TransactionLaws
+pub mod TreeSide

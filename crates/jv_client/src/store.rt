@@ -52,7 +52,8 @@ impl Store {
 
     /// Makes a session, and returns its number, or `None` where no further number can be stored.
     pub(crate) fn make_session(&mut self) -> Option<u64>
-        ensures { MakesSession self.old self.new result }
+        ensures made { MakesSession self.old self.new result }
+        ensures low { IfSome result (λ sid. 1 ≤ sid) }
     {
         let sid = self.next_session;
         if sid >= FULL_COUNT {

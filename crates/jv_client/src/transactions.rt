@@ -1,12 +1,14 @@
 //! Operations that are one metadata transaction: mount, create and open.
-ghost use Rattle.std.specs.Prelude.{◌≡◌, ℕ, ◌+◌, ◌≤◌, IsSome, IsTrue, IfOk, IfSome, OnErr, None, Some, vec_len, vec_capacity};
+ghost use Rattle.std.specs.Prelude.{◌≡◌, ℕ, ◌+◌, ◌≤◌, IsSome, IsTrue, IfSome, None, Some, vec_len, vec_capacity};
+ghost use Rattle.jv_model.specs.declared.op.Op.TheVariants.{Create, Open};
 ghost use Rattle.jv_model.specs.declared.op.Reply.TheVariants.{FileOpened};
+ghost use Rattle.jv_model.specs.script.Spelling.{is_root_path};
 ghost use Rattle.jv_model.specs.client.ModelClient.{free_handle, with_file};
 ghost use Rattle.jv_model.specs.journal.State.{gift_of};
 ghost use Rattle.jv_model.specs.journal.Steps.{entry_of_gift, told_of};
 ghost use Rattle.jv_client.specs.UnderWay.{IsReady, is_transaction, mounts, transacts};
 ghost use Rattle.jv_client.specs.Makes.{Makes};
-ghost use Rattle.jv_client.specs.Transacting.{is_transacted, new_handle};
+ghost use Rattle.jv_client.specs.Transacting.{MayGive, is_transacted, new_handle};
 
 use crate::client::{Client, forget};
 use crate::handles::{Handle, free_handle, set};
@@ -85,6 +87,7 @@ fn transact(
     entry: u64,
 ) -> Result<Reply, AllocError>
     requires { IsTrue (is_transaction op.now) }
+    ensures { MayGive op.now entry handles.old.items handles.new.items store.old store.new result }
 {
     match op {
         Op::Create { path, .. } => create(path, handles, store, entry),
@@ -99,7 +102,11 @@ fn create(
     handles: &mut Vec<Option<Handle>>,
     store: &mut Store,
     entry: u64,
-) -> Result<Reply, AllocError> {
+) -> Result<Reply, AllocError>
+    requires { IsTrue (is_root_path path.now) }
+    ensures { (mode : ℕ) → MayGive (Create path.now mode) entry handles.old.items handles.new.items
+        store.old store.new result }
+{
     if store.files.find(path).is_some() {
         return Ok(Reply::Refused(Fault::AlreadyExists));
     }
@@ -117,7 +124,11 @@ fn open(
     handles: &mut Vec<Option<Handle>>,
     store: &Store,
     entry: u64,
-) -> Result<Reply, AllocError> {
+) -> Result<Reply, AllocError>
+    requires { IsTrue (is_root_path path.now) }
+    ensures { MayGive (Open path.now) entry handles.old.items handles.new.items store.now store.now
+        result }
+{
     let Some(inode) = store.files.find(path) else {
         return Ok(Reply::Refused(Fault::NotFound));
     };
