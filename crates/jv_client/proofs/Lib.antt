@@ -1,6 +1,8 @@
 -- Laws about clients.
 pub mod AnswerLaws
+pub mod CommitLaws
 pub mod FailureLaws
+pub mod FlushLaws
 pub mod HandleTableLaws
 pub mod HeldLaws
 pub mod LookLaws

@@ -5,3 +5,4 @@ pub mod Held
 pub mod UnderWay
 pub mod Makes
 pub mod Transacting
+pub mod Flushing

@@ -1,13 +1,14 @@
 //! The flush of an operation: of each segment its slice's number, its block and its commit are asked for.
-ghost use Rattle.std.specs.Prelude.{◌≡◌, ℕ, ◌+◌, ◌*◌, ◌≤◌, ◌<◌, length, IfSome, IsSome, Option, None, Some};
+ghost use Rattle.std.specs.Prelude.{◌≡◌, ℕ, ◌+◌, ◌*◌, ◌≤◌, ◌<◌, true, length, IfSome, IsSome, OnOk, OnErr, Option, None, Some};
 ghost use Rattle.std.specs.Option.{option_map};
 ghost use Rattle.jv_model.specs.declared.limits.TheConstants.{FILE_END, WINDOW};
 ghost use Rattle.jv_model.specs.client.Pending.{next_segment, window_size};
 ghost use Rattle.jv_pending.specs.At.{segment_at};
-ghost use Rattle.jv_model.specs.declared.act.ActKind.TheVariants.{Quiet};
+ghost use Rattle.jv_model.specs.declared.lifetimes.TheConstants.{UPLOAD_LIFE};
 ghost use Rattle.jv_files.specs.Stored.{IsFile};
 ghost use Rattle.jv_client.specs.declared.doing.Progress.TheVariants.{Working};
-ghost use Rattle.jv_client.specs.UnderWay.{IsReady, left, moved_to, progress_of, segment_left};
+ghost use Rattle.jv_client.specs.UnderWay.{IsReady, left, moved_to, names_open, progress_of, segment_left};
+ghost use Rattle.jv_client.specs.Flushing.{FitsIf, Follows, Puts, without_segment};
 ghost use Rattle.jv_client.specs.Makes.{Makes};
 
 use crate::client::Client;
@@ -19,6 +20,7 @@ use crate::store::Store;
 use jv_model::lifetimes::UPLOAD_LIFE;
 use jv_model::{ActKind, Fault, WINDOW};
 use jv_pending::{Pending, SegmentAt};
+use std::alloc::AllocError;
 
 impl Client {
     /// The segment that the operation in progress commits next.
@@ -48,14 +50,20 @@ impl Client {
         ensures { (entry : ℕ) → Makes now entry self.old self.new store.old store.new result }
     {
         match self.progress() {
-            Progress::Working { quiets: 0, .. } => self.ask(Progress::Working {
-                quiets: 1,
-                started: 0,
-            }),
-            Progress::Working { quiets: 1, .. } => self.ask(Progress::Working {
-                quiets: 2,
-                started: now,
-            }),
+            Progress::Working { quiets: 0, .. } => self.request(
+                ActKind::Quiet,
+                Progress::Working {
+                    quiets: 1,
+                    started: 0,
+                },
+            ),
+            Progress::Working { quiets: 1, .. } => self.request(
+                ActKind::Quiet,
+                Progress::Working {
+                    quiets: 2,
+                    started: now,
+                },
+            ),
             Progress::Working { started, .. } => self.commit_in_time(at, started, store, now),
             Progress::Reading => unreachable!(),
         }
@@ -93,28 +101,25 @@ fn first_left(pending: &Pending, flush: Flush) -> Option<SegmentAt>
     }
 }
 
-/// Where a segment begins, and its length.
-fn range_of(at: SegmentAt) -> (u64, u64)
+/// Where a segment begins.
+fn start_of(at: SegmentAt) -> u64
     requires inside { at.pos + at.len ≤ window_size }
     requires window { at.window * WINDOW < FILE_END }
-    ensures from { result.0 ≡ (segment_at at).from }
-    ensures len { result.1 ≡ at.len }
-    ensures end { result.0 + result.1 ≤ FILE_END }
+    ensures from { result ≡ (segment_at at).from }
+    ensures end { result + at.len ≤ FILE_END }
 {
-    (
-        u64::from(at.window) * WINDOW + u64::from(at.pos),
-        u64::from(at.len),
-    )
+    u64::from(at.window) * WINDOW + u64::from(at.pos)
 }
 
 impl Client {
-    /// Asks for the number or the block of a segment.
-    fn ask(&mut self, next: Progress) -> Made
-        ensures asked { self.new ≡ record self.old { doing = option_map (moved_to next) self.old.doing } }
-        ensures made { result ≡ Made.Request Quiet }
+    /// Makes a request, after which the operation goes on.
+    fn request(&mut self, kind: ActKind, next: Progress) -> Made
+        ensures asked { self.new
+            ≡ record self.old { doing = option_map (moved_to next) self.old.doing } }
+        ensures made { result ≡ Made.Request kind }
     {
         go_on(&mut self.doing, next);
-        Made::Request(ActKind::Quiet)
+        Made::Request(kind)
     }
 
     /// Asks for a segment's commit, which is refused with `TimedOut` where its block is as old as uploads live, and with
@@ -132,7 +137,8 @@ impl Client {
         if now.saturating_sub(started) >= UPLOAD_LIFE {
             return self.refuse(Fault::TimedOut { started, now });
         }
-        let (from, len) = range_of(at);
+        let from = start_of(at);
+        let len = self.pending.segment(at).len() as u64;
         if !store.fits(at.inode, from + len) {
             return self.refuse(Fault::NoSpace);
         }
@@ -145,35 +151,62 @@ impl Client {
         requires ready { IsReady store.old self.old }
         requires next { left self.old ≡ Some (segment_at at) }
         requires own { next_segment (Some at.inode) self.old.pending ≡ Some (segment_at at) }
-        requires some { 0 < at.len }
         requires file { IsFile (length store.old.files.files) at.inode }
         requires range { (from ≡ (segment_at at).from) × (len ≡ at.len) }
         requires end { from + len ≤ FILE_END }
+        ensures { (now entry started : ℕ)
+            → progress_of self.old.doing ≡ Some (Working 2 started) → now < started + UPLOAD_LIFE
+            → FitsIf store.old at.inode (from + len) true
+            → Makes now entry self.old self.new store.old store.new result }
     {
-        let committed = store.files.commit(at.inode, from, self.pending.segment(at));
-        if committed.is_err() {
+        let Ok(()) = self.put(at, from, store) else {
             return self.fail();
-        }
-        self.pending.remove(at);
-        forget_views(&mut self.handles, at.inode);
-        let kind = ActKind::Commit {
+        };
+        self.after_commit(ActKind::Commit {
             inode: at.inode,
             from,
             len,
             staged: 0,
+        })
+    }
+
+    /// Puts a segment's bytes into its file. They aren't pending any more, and views of the file are dropped. On error
+    /// nothing has changed.
+    fn put(&mut self, at: SegmentAt, from: u64, store: &mut Store) -> Result<(), AllocError>
+        requires own { next_segment (Some at.inode) self.old.pending ≡ Some (segment_at at) }
+        requires file { IsFile (length store.old.files.files) at.inode }
+        requires from { from ≡ (segment_at at).from }
+        requires end { from + at.len ≤ FILE_END }
+        ensures rest { OnOk result (self.new ≡ without_segment (segment_at at) self.old) }
+        ensures fewer { OnOk result (length self.new.pending < length self.old.pending) }
+        ensures stored { OnOk result (Puts store.old (segment_at at) self.old.pending store.new) }
+        ensures still { OnErr result (self.new ≡ self.old) }
+        ensures kept { OnErr result (store.new ≡ store.old) }
+    {
+        store
+            .files
+            .commit(at.inode, from, self.pending.segment(at))?;
+        self.pending.remove(at);
+        forget_views(&mut self.handles, at.inode);
+        Ok(())
+    }
+
+    /// Goes on after a commit, or answers with it where nothing is left to ask for.
+    fn after_commit(&mut self, commit: ActKind) -> Made
+        requires busy { IsSome self.old.doing }
+        requires named { IfSome self.old.doing (λ d. names_open self.old d) }
+        ensures { IfSome self.old.doing (λ d. Follows d commit self.old self.new result) }
+    {
+        let next = Progress::Working {
+            quiets: 0,
+            started: 0,
         };
-        if self.segment_left().is_none() {
-            if let Some((told, reply)) = self.end() {
-                return Made::Both(kind, told, reply);
-            }
+        if self.segment_left().is_some() {
+            return self.request(commit, next);
         }
-        go_on(
-            &mut self.doing,
-            Progress::Working {
-                quiets: 0,
-                started: 0,
-            },
-        );
-        Made::Request(kind)
+        match self.end() {
+            Some((told, reply)) => Made::Both(commit, told, reply),
+            None => self.request(commit, next),
+        }
     }
 }
