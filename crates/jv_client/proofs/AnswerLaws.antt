@@ -141,7 +141,7 @@ pub goes_on : (p : Progress) (d : ModelDoing) → must_answer (record d { stage 
 goes_on (Working quiets started) d = refl
 goes_on Reading d = refl
 
--- want of memory is refused to the operation itself
+-- out of memory: the operation itself is refused
 own-no_memory : (p : Progress) → is_of_another (stage_of p) (ToldRefused NoMemory) ≡ false
 own-no_memory (Working quiets started) = refl
 own-no_memory Reading = refl

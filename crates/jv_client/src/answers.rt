@@ -27,7 +27,7 @@ impl Client {
         Made::Both(ActKind::Quiet, Told::Refused(fault), Reply::Refused(fault))
     }
 
-    /// Ends the operation for want of memory.
+    /// Ends the operation: out of memory.
     pub(crate) fn fail(&mut self) -> Made
         ensures ended { self.new ≡ ended self.old }
         ensures made { result ≡ Made.Answer (ToldRefused NoMemory) (Refused NoMemory) }

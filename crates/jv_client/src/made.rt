@@ -11,14 +11,14 @@ use jv_model::{Act, ActKind, ClientId, Journal, Moment, Reply, Step, Told};
 pub enum Made {
     /// A request, after which the operation goes on.
     Request(ActKind),
-    /// An answer that wants no request.
+    /// An answer without a request.
     Answer(Told, Reply),
     /// A request, and the answer.
     Both(ActKind, Told, Reply),
 }
 
 impl Made {
-    /// What the step came to.
+    /// What the step returns.
     pub(crate) fn into_step(self) -> Step
         ensures { result ≡ step_of self }
     {

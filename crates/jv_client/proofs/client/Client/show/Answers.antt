@@ -1,4 +1,4 @@
--- The view's bytes, or want of memory for them.
+-- The bytes of the view, or out of memory.
 use Rattle.std.proofs.Common.{ap, sym, subst, ◌≡◌, ◌∙◌, ◌+◌, ◌-◌, length, slice_get}
 use Rattle.std.specs.Prelude.{IfSome}
 use Rattle.jv_model.specs.declared.act.Told.TheVariants.{Looks}
