@@ -1,11 +1,10 @@
 -- How a step ends an operation: by an answer alone, or by a request and its answer.
-use Rattle.std.proofs.Common.{◌≡◌, ℕ, zero, suc, ◌+◌, ◌≤◌, ◌<◌, Bool, true, false, ◌||◌, not, IsTrue, IfSome, List, [], ◌∷◌, length, filter, Option, None, Some, refl, sym, ap, subst, ◌∙◌, arith}
-use Rattle.std.specs.List.{AllByRecursion}
+use Rattle.std.proofs.Common.{◌≡◌, ℕ, zero, suc, ◌+◌, ◌<◌, Bool, true, false, ◌||◌, not, IfSome, List, [], ◌∷◌, length, filter, Option, None, Some, refl, sym, ap, subst, ◌∙◌, arith}
 use Rattle.std.specs.Prelude.{is_some, if◌then◌else◌, ◌==◌, ◌&&◌}
 use Rattle.std.specs.Option.{option_map}
-use Rattle.std.proofs.lemmas.Bool.{or_right, or_left}
+use Rattle.std.proofs.lemmas.Bool.{or_right}
 use Rattle.jv_model.specs.declared.act.ActKind.{ActKind}
-use Rattle.jv_model.specs.declared.act.ActKind.TheVariants.{Quiet, Answered}
+use Rattle.jv_model.specs.declared.act.ActKind.TheVariants.{Answered}
 use Rattle.jv_model.specs.declared.act.Told.{Told}
 use Rattle.jv_model.specs.declared.act.Told.TheVariants.{Fine, Looks, Refused as ToldRefused}
 use Rattle.jv_model.specs.declared.fault.Fault.TheVariants.{NoMemory}
@@ -20,14 +19,13 @@ use Rattle.jv_model.specs.declared.op.Reply.TheVariants.{Refused, Data, Count}
 use Rattle.jv_model.specs.declared.op.Reply.TheVariants as reply
 use Rattle.jv_model.specs.declared.op.Step.TheVariants.{More, Done}
 use Rattle.jv_model.specs.client.Pending.{written as written_bytes}
-use Rattle.jv_model.specs.client.Profile.{handle_of}
 use Rattle.jv_model.specs.client.Submission.{is_flushed}
-use Rattle.jv_model.specs.client.ModelClient.{ModelClient, Doing as ModelDoing, OpenFile, View, Stage, Replying, with_stage, with_file, file_of, held_inodes, inode_at, is_among, is_last_of_removed}
-use Rattle.jv_model.specs.journal.State.{State, after_told, answer_then, answered_client, is_of_another, set_client, with_client}
-use Rattle.jv_model.specs.journal.Steps.{Start, MayStep, MayAnswer, IsEntry, Fails, AtOnce, begins_step, is_failure, is_ready, must_answer, told_of}
+use Rattle.jv_model.specs.client.ModelClient.{ModelClient, Doing as ModelDoing, OpenFile, View, with_file, file_of, held_inodes, inode_at, is_among, is_last_of_removed}
+use Rattle.jv_model.specs.journal.State.{State, after_told, answered_client, is_of_another}
+use Rattle.jv_model.specs.journal.Steps.{Start, MayAnswer, IsEntry, Fails, AtOnce, begins_step, is_ready, must_answer, told_of}
 use Rattle.jv_model.specs.journal.Past.{or_no_bytes, ends_in_step, reply_of, settled_reply}
 use Rattle.jv_model.specs.journal.Reading.{reading}
-use Rattle.jv_model.specs.journal.Stepping.{AllowsStep, GoesOn as StepGoesOn, AnswersAlone, AnswersAfter, stepped, is_answer, answer_of}
+use Rattle.jv_model.specs.journal.Stepping.{GoesOn as StepGoesOn, AnswersAlone, AnswersAfter, stepped, is_answer, answer_of}
 use Rattle.jv_pending.specs.Held.{PendingValue}
 use Rattle.jv_client.specs.declared.doing.Doing.{Doing}
 use Rattle.jv_client.specs.declared.doing.Flush.{Flush}
@@ -35,11 +33,11 @@ use Rattle.jv_client.specs.declared.doing.Flush.TheVariants as flush
 use Rattle.jv_client.specs.declared.doing.Progress.{Progress}
 use Rattle.jv_client.specs.declared.doing.Progress.TheVariants.{Working, Reading}
 use Rattle.jv_client.specs.declared.handles.Handle.{Handle}
-use Rattle.jv_client.specs.declared.made.Made.TheVariants.{Answer, Both}
+use Rattle.jv_client.specs.declared.made.Made.TheVariants.{Answer}
 use Rattle.jv_client.specs.ClientValue.{ClientValue}
-use Rattle.jv_client.specs.StoreValue.{StoreValue, HasStore, Grows}
-use Rattle.jv_client.specs.Held.{SamePlace, IsDoing, IsHeld, IsClient, flush_of_code, inode_here, stage_of}
-use Rattle.jv_client.specs.UnderWay.{IsOfFile, IsReady, FlushesFor, Closes, ReadsNothing, Reads, IsForm, Mounts, Transacts, Writes, Flushes, IsAt, IsUnderWay, HasKept, does_of, left_of, Ends, Closed, ReadNothing, GoesOn, has_segment, reads_more, segment_left, ends_itself, keeps, ended, closed}
+use Rattle.jv_client.specs.StoreValue.{StoreValue, HasStore}
+use Rattle.jv_client.specs.Held.{SamePlace, IsDoing, IsClient, flush_of_code, inode_here, stage_of}
+use Rattle.jv_client.specs.UnderWay.{IsOfFile, IsReady, Closes, ReadsNothing, Reads, IsForm, Mounts, Transacts, Writes, Flushes, IsAt, IsUnderWay, HasKept, does_of, left_of, Ends, Closed, ReadNothing, GoesOn, has_segment, reads_more, segment_left, ends_itself, keeps, ended, closed}
 use Rattle.jv_client.specs.Makes.{StepsTo, Makes}
 use Rattle.jv_client.proofs.HeldLaws.{own_client, answered_client-doing, grows-same, held-later, held-doing}
 use Rattle.jv_client.proofs.SubmissionLaws.{inode_at-same}

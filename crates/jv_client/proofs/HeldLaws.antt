@@ -1,6 +1,6 @@
 -- What a client in memory stands for stays so while others go on, and what an answer does to it.
-use Rattle.std.proofs.Common.{◌≡◌, ℕ, ◌+◌, ◌-◌, ◌≤◌, ◌<◌, Bool, true, false, List, [], ◌∷◌, ◌++◌, length, slice_get, take, Option, None, Some, inl, inr, refl, sym, ap, subst, ◌∙◌, arith, length-append}
-use Rattle.std.specs.Prelude.{IfSome, IsSomeAnd, ◌==◌, if◌then◌else◌}
+use Rattle.std.proofs.Common.{◌≡◌, ℕ, ◌+◌, ◌-◌, ◌≤◌, true, false, List, [], ◌∷◌, length, slice_get, take, Option, None, Some, inl, inr, refl, sym, ap, subst, ◌∙◌, arith, length-append}
+use Rattle.std.specs.Prelude.{IfSome, IsSomeAnd, if◌then◌else◌}
 use Rattle.std.specs.List.{AllByRecursion}
 use Rattle.std.proofs.lemmas.List.{take-append-le, append-nil}
 use Rattle.std.proofs.lemmas.Bool.Decides.{eqb_tells}
@@ -9,16 +9,14 @@ use Rattle.jv_model.specs.client.ModelClient.{ModelClient, OpenFile, View as Mod
 use Rattle.jv_model.specs.journal.Reading.{fresh_view}
 use Rattle.jv_model.specs.journal.State.{with_client, after_told, answered_client, is_of_another}
 use Rattle.jv_files.specs.declared.files.StoredFile.{StoredFile}
-use Rattle.jv_files.specs.Stored.{IsFile}
 use Rattle.jv_files.specs.Holds.{Keeps}
 use Rattle.jv_files.specs.Shown.{as_seen}
-use Rattle.jv_files.proofs.FileLaws.{some_and}
 use Rattle.jv_client.specs.declared.doing.Doing.{Doing}
 use Rattle.jv_client.specs.declared.handles.Handle.{Handle}
 use Rattle.jv_client.specs.declared.handles.View.{View}
 use Rattle.jv_client.specs.ClientValue.{ClientValue}
 use Rattle.jv_client.specs.StoreValue.{StoreValue, IsSession, Continues, Grows}
-use Rattle.jv_client.specs.Held.{SamePlace, SameTable, ShowsContent, IsView, IsHandle, IsHeld, IsDoing, IsClient}
+use Rattle.jv_client.specs.Held.{SamePlace, SameTable, ShowsContent, IsView, IsHandle, IsHeld, IsClient}
 use Rattle.jv_client.specs.UnderWay.{IsOfFile, IsReady}
 
 -- the clients of a state

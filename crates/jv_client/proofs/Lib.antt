@@ -1,5 +1,9 @@
 -- Laws about clients.
 pub mod AnswerLaws
+pub mod CommitLaws
+pub mod FailureLaws
+pub mod FlushLaws
+pub mod HandleTableLaws
 pub mod HeldLaws
 pub mod LookLaws
 pub mod ReadingLaws
@@ -7,9 +11,5 @@ pub mod ReadyLaws
 pub mod ShowLaws
 pub mod SubmissionLaws
 pub mod TableLaws
-pub mod FailureLaws
-pub mod HandleTableLaws
 pub mod TransactionLaws
 pub mod TreeSide
-pub mod FlushLaws
-pub mod CommitLaws

@@ -1,18 +1,18 @@
 -- A reading looks at its file: it goes on where it sees a byte that it asks for, and else is answered.
-use Rattle.std.proofs.Common.{◌≡◌, ℕ, zero, suc, ◌+◌, ◌*◌, ◌-◌, ◌≤◌, ◌<◌, Bool, true, false, ◌||◌, List, [], ◌∷◌, length, slice_get, Option, None, Some, refl, sym, ap, subst, ◌∙◌, arith, lt-ltb}
+use Rattle.std.proofs.Common.{◌≡◌, ℕ, zero, suc, ◌+◌, ◌*◌, ◌-◌, ◌≤◌, ◌<◌, Bool, true, false, List, [], ◌∷◌, length, slice_get, Option, None, Some, refl, sym, ap, subst, ◌∙◌, arith, lt-ltb}
 use Rattle.std.specs.Prelude.{is_some, nat_lt, IfSome}
 use Rattle.std.specs.Option.{option_map}
 use Rattle.std.proofs.lemmas.Bool.{or_right}
-use Rattle.jv_model.specs.declared.act.ActKind.TheVariants.{Look, Answered}
+use Rattle.jv_model.specs.declared.act.ActKind.TheVariants.{Look}
 use Rattle.jv_model.specs.declared.act.Told.{Told}
 use Rattle.jv_model.specs.declared.act.Told.TheVariants.{Looks}
 use Rattle.jv_model.specs.declared.op.Reply.TheVariants.{Data}
 use Rattle.jv_model.specs.declared.profile.Does.TheVariants as does
 use Rattle.jv_model.specs.client.Profile.{handle_of}
-use Rattle.jv_model.specs.client.ModelClient.{ModelClient, OpenFile, View as ModelView, Doing as ModelDoing, file_of, with_file}
+use Rattle.jv_model.specs.client.ModelClient.{file_of, with_file}
 use Rattle.jv_files.specs.declared.files.Seen.{Seen}
-use Rattle.jv_model.specs.journal.Reading.{asked_parts, bytes_between, reading}
-use Rattle.jv_model.specs.journal.State.{State, view_now}
+use Rattle.jv_model.specs.journal.Reading.{asked_parts, reading}
+use Rattle.jv_model.specs.journal.State.{view_now}
 use Rattle.jv_model.specs.journal.Steps.{ReadsViews}
 use Rattle.jv_model.specs.journal.Past.{or_no_bytes}
 use Rattle.jv_client.specs.declared.doing.Doing.{Doing}
@@ -28,7 +28,7 @@ use Rattle.jv_client.specs.Makes.{Makes}
 use Rattle.jv_client.proofs.HeldLaws.{own_client, grows-same, held-later}
 use Rattle.jv_client.proofs.TableLaws.{all-with_file, file_of-with_file}
 use Rattle.jv_client.proofs.AnswerLaws.{doing_of, the_doing, steps_on, steps_after}
-use Rattle.jv_client.proofs.ReadingLaws.{IsAtFile, at_file, reading_on, HasSeen, HasLooked, reader, looking, looked_client, goes_to, view_in, with_view, has_looked, reading-cited, no_bytes}
+use Rattle.jv_client.proofs.ReadingLaws.{IsAtFile, at_file, reading_on, HasSeen, reader, looking, looked_client, goes_to, view_in, with_view, has_looked, reading-cited, no_bytes}
 
 -- its file has a byte that is asked for
 pub look_more : (now handle offset len started : ℕ) (moved : Bool) (h : ClientValue) (store : StoreValue) (file : Handle) (view : View)

@@ -1,50 +1,40 @@
 -- Readings of the first window: which looks they make, and what they return.
-use Rattle.std.proofs.Common.{◌≡◌, ℕ, zero, suc, ◌+◌, ◌-◌, ◌*◌, ◌/◌, ◌≤◌, ◌<◌, min, Bool, true, false, cond, ◌&&◌, ◌||◌, not, IsTrue, MatchBool, List, [], ◌∷◌, length, slice_get, take, Option, None, Some, refl, sym, ap, subst, ◌∙◌, arith}
+use Rattle.std.proofs.Common.{◌≡◌, ℕ, zero, suc, ◌+◌, ◌-◌, ◌*◌, ◌/◌, ◌≤◌, ◌<◌, min, Bool, true, false, cond, ◌&&◌, ◌||◌, not, List, [], ◌∷◌, length, slice_get, take, Option, None, Some, refl, sym, ap, subst, ◌∙◌, arith}
 use Rattle.std.proofs.Math.Seq.{take-length}
 use Rattle.std.specs.Prelude.{is_some, ◌==◌, nat_le, nat_lt, if◌then◌else◌, unwrap_or, IfSome, IsSomeAnd}
-use Rattle.std.specs.List.{AllByRecursion}
-use Rattle.std.proofs.lemmas.Bool.{le-leb, and_parts}
+use Rattle.std.proofs.lemmas.Bool.{le-leb}
 use Rattle.std.proofs.lemmas.Bool.Decides.{nat_tests}
 use Rattle.jv_model.specs.declared.limits.TheConstants.{FILE_END, WINDOW}
-use Rattle.jv_model.specs.declared.act.ActKind.{ActKind}
-use Rattle.jv_model.specs.declared.act.ActKind.TheVariants.{Quiet, Look, Answered}
-use Rattle.jv_model.specs.declared.act.Told.{Told}
-use Rattle.jv_model.specs.declared.act.Told.TheVariants.{Looks}
-use Rattle.jv_model.specs.declared.op.Op.{Op}
+use Rattle.jv_model.specs.declared.act.ActKind.TheVariants.{Look}
 use Rattle.jv_model.specs.declared.op.Op.TheVariants as op
-use Rattle.jv_model.specs.declared.op.Reply.{Reply}
-use Rattle.jv_model.specs.declared.op.Reply.TheVariants.{Data}
-use Rattle.jv_model.specs.declared.op.Step.TheVariants.{More, Done}
 use Rattle.jv_model.specs.declared.profile.Does.TheVariants as does
 use Rattle.jv_model.specs.FiniteMap.{get}
 use Rattle.jv_model.specs.tree.Tree.{Tree, Node, Content, node_at, content_at, content_of}
 use Rattle.jv_model.specs.client.Profile.{handle_of}
-use Rattle.jv_model.specs.client.Pending.{PendingByte}
-use Rattle.jv_model.specs.client.Submission.{is_flushed, next_segment}
-use Rattle.jv_model.specs.client.ModelClient.{ModelClient, OpenFile, View as ModelView, Doing as ModelDoing, Stage, Working as ModelWorking, Reading as ModelReading, OfFiles, file_of, with_file, session_of, with_stage}
+use Rattle.jv_model.specs.client.Submission.{is_flushed}
+use Rattle.jv_model.specs.client.ModelClient.{ModelClient, OpenFile, View as ModelView, Doing as ModelDoing, Reading as ModelReading, OfFiles, file_of, with_file}
 use Rattle.jv_model.specs.journal.Steps.{Start, IsEntry, LooksAt, window_to_look}
 use Rattle.jv_model.specs.journal.Stepping.{stepped, entry_of}
-use Rattle.jv_model.specs.journal.Reading.{Asked, shows_all, asked_parts, bytes_from, bytes_between, is_fresh, first_that, fresh_view, cited_view, part_read, only_if, read_on, reading, part_to_look}
-use Rattle.jv_model.specs.journal.State.{State, has_session, or_empty, view_now, set_client, after_look, of_doing, effect}
+use Rattle.jv_model.specs.journal.Reading.{Asked, shows_all, asked_parts, bytes_from, bytes_between, is_fresh, fresh_view, cited_view, read_on, reading, part_to_look}
+use Rattle.jv_model.specs.journal.State.{State, has_session, or_empty, view_now, set_client, of_doing}
 use Rattle.jv_files.specs.declared.files.StoredFile.{StoredFile}
-use Rattle.jv_files.specs.declared.files.Seen.{Seen}
 use Rattle.jv_files.specs.Stored.{IsFile, stored_byte}
-use Rattle.jv_files.specs.Holds.{Keeps, HasFiles}
+use Rattle.jv_files.specs.Holds.{Keeps}
 use Rattle.jv_files.specs.Shown.{shown_between, as_seen}
 use Rattle.jv_files.proofs.FileLaws.{slice_get_inside}
 use Rattle.jv_client.specs.declared.doing.Doing.{Doing}
 use Rattle.jv_client.specs.declared.doing.Flush.TheVariants as flush
 use Rattle.jv_client.specs.declared.doing.Progress.{Progress}
-use Rattle.jv_client.specs.declared.doing.Progress.TheVariants.{Working, Reading}
+use Rattle.jv_client.specs.declared.doing.Progress.TheVariants.{Working}
 use Rattle.jv_client.specs.declared.handles.Handle.{Handle}
 use Rattle.jv_client.specs.declared.handles.View.{View}
 use Rattle.jv_client.specs.ClientValue.{ClientValue}
 use Rattle.jv_client.specs.StoreValue.{StoreValue, IsSession, HasStore}
-use Rattle.jv_client.specs.Held.{SamePlace, SameTable, ShowsContent, IsView, IsHandle, IsHeld, IsClient}
-use Rattle.jv_client.specs.UnderWay.{FlushesFor, Closes, ReadsNothing, Reads, IsForm, Mounts, Transacts, Writes, Flushes, IsOfFile, IsReady, IsUnderWay, left, left_of, segment_left}
+use Rattle.jv_client.specs.Held.{SamePlace, ShowsContent, IsView, IsHandle, IsHeld, IsClient}
+use Rattle.jv_client.specs.UnderWay.{Closes, ReadsNothing, Reads, IsForm, Mounts, Transacts, Writes, Flushes, IsOfFile, IsReady, IsUnderWay, left, left_of, segment_left}
 use Rattle.jv_client.proofs.AnswerLaws.{client-doing, doing_of, under_way, written_out}
 use Rattle.jv_client.proofs.SubmissionLaws.{file-same}
-use Rattle.jv_client.proofs.HeldLaws.{own_client, with_stage-doing, held-later, views-later}
+use Rattle.jv_client.proofs.HeldLaws.{with_stage-doing, views-later}
 use Rattle.jv_client.proofs.TableLaws.{all-at, same-with_file}
 
 -- the parts of a range in the first window

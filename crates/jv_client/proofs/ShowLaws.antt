@@ -1,20 +1,19 @@
 -- A reading shows the bytes of the view that its handle keeps.
-use Rattle.std.proofs.Common.{◌≡◌, ℕ, zero, suc, ◌+◌, ◌-◌, ◌≤◌, ◌<◌, Bool, true, false, cond, ◌||◌, List, [], ◌∷◌, length, slice_get, Option, None, Some, refl, sym, ap, subst, ◌∙◌, arith}
+use Rattle.std.proofs.Common.{◌≡◌, ℕ, zero, suc, ◌+◌, ◌-◌, ◌≤◌, ◌<◌, Bool, true, false, ◌||◌, List, [], ◌∷◌, length, slice_get, Option, None, Some, refl, sym, ap, subst, ◌∙◌, arith}
 use Rattle.std.specs.Prelude.{is_some, nat_lt, if◌then◌else◌, IfSome}
 use Rattle.std.proofs.lemmas.Bool.{le-ltb}
 use Rattle.jv_model.specs.declared.profile.Does.TheVariants as does
 use Rattle.jv_model.specs.client.Profile.{handle_of}
-use Rattle.jv_model.specs.declared.act.ActKind.TheVariants.{Quiet, Answered}
+use Rattle.jv_model.specs.declared.act.ActKind.TheVariants.{Quiet}
 use Rattle.jv_model.specs.declared.act.Told.{Told}
 use Rattle.jv_model.specs.declared.act.Told.TheVariants.{Looks}
-use Rattle.jv_model.specs.declared.op.Reply.{Reply}
 use Rattle.jv_model.specs.declared.op.Reply.TheVariants.{Data}
 use Rattle.jv_model.specs.client.ModelClient.{ModelClient, OpenFile, View as ModelView, Doing as ModelDoing, Stage, Reading as ModelReading, OfFiles, file_of, inode_at, with_stage}
 use Rattle.jv_model.specs.client.Pending.{window_size}
 use Rattle.jv_model.specs.client.Submission.{is_flushed}
 use Rattle.jv_model.specs.journal.Reading.{Asked, asked_parts, bytes_between, fresh_view, reading}
-use Rattle.jv_model.specs.journal.State.{State, after_quiet, is_cleaning, look_refusal, next_entry, of_doing, quieted, flushing_on, refused_look, sees_first, set_client}
-use Rattle.jv_model.specs.journal.Steps.{Start, IsEntry, ReadsViews, may_be_quiet}
+use Rattle.jv_model.specs.journal.State.{State, is_cleaning, look_refusal, next_entry, of_doing, quieted, flushing_on, refused_look, sees_first, set_client}
+use Rattle.jv_model.specs.journal.Steps.{Start, ReadsViews, may_be_quiet}
 use Rattle.jv_model.specs.journal.Stepping.{stepped, entry_of}
 use Rattle.jv_model.specs.journal.Past.{or_no_bytes}
 use Rattle.jv_files.specs.Shown.{shown_between, as_seen}
@@ -26,7 +25,7 @@ use Rattle.jv_client.specs.declared.handles.View.{View}
 use Rattle.jv_client.specs.declared.made.Made.TheVariants.{Answer, Both}
 use Rattle.jv_client.specs.ClientValue.{ClientValue}
 use Rattle.jv_client.specs.StoreValue.{StoreValue}
-use Rattle.jv_client.specs.Held.{IsView, IsHeld, IsClient, stage_of}
+use Rattle.jv_client.specs.Held.{IsView, IsHeld, stage_of}
 use Rattle.jv_client.specs.UnderWay.{IsAt, IsReady, does_of, ended, left, has_segment, reads_more, shows_from}
 use Rattle.jv_client.specs.Makes.{Makes}
 use Rattle.jv_client.proofs.HeldLaws.{own_client, grows-same, held-later, held-doing, with_stage-doing}

@@ -13,12 +13,11 @@ use Rattle.jv_model.specs.client.ModelClient.{ModelClient, OpenFile, OfFiles, Of
 use Rattle.jv_model.specs.client.Profile.{profile, handle_list}
 use Rattle.jv_model.specs.client.Submission.{submission, submission_of, submitted, names_closed, is_closed, flush_of, by_limits}
 use Rattle.jv_client.specs.declared.doing.Flush.TheVariants as flush
-use Rattle.jv_client.specs.declared.doing.Progress.TheVariants as progress
 use Rattle.jv_client.specs.declared.handles.Handle.{Handle}
 use Rattle.jv_client.specs.ClientValue.{ClientValue}
 use Rattle.jv_client.specs.StoreValue.{StoreValue}
 use Rattle.jv_client.proofs.HeldLaws.{held-doing}
-use Rattle.jv_client.specs.Held.{SamePlace, SameTable, IsHandle, IsDoing, IsHeld, IsClient, inode_of_handle, inode_here, files_here, flush_here, begun, flush_of_code, stage_of}
+use Rattle.jv_client.specs.Held.{SamePlace, SameTable, IsHandle, IsDoing, IsHeld, IsClient, inode_of_handle, inode_here, files_here, flush_here, begun, flush_of_code}
 
 pub some-same : {X Y : Type 0} (P : X → Y → Type 0) (x : Option X) (y : Option Y) → SamePlace P x y → is_some x ≡ is_some y
 some-same P None None h = refl

@@ -1,5 +1,5 @@
 -- A read of no bytes ends with its answer.
-use Rattle.std.proofs.Common.{ap, ◌∙◌, Some, None}
+use Rattle.std.proofs.Common.{ap, ◌∙◌, Some}
 use Rattle.jv_model.specs.declared.act.Told.TheVariants.{Looks}
 use Rattle.jv_model.specs.declared.op.Reply.TheVariants.{Data}
 use Rattle.jv_client.specs.ClientValue.{ClientValue}

@@ -1,5 +1,5 @@
 -- The look, after which the reading goes on or is answered.
-use Rattle.std.proofs.Common.{refl, sym, ap, subst, ◌∙◌, arith, List, Option, ◌≡◌, length, slice_get}
+use Rattle.std.proofs.Common.{subst, ◌∙◌, ◌≡◌, length}
 use Rattle.std.proofs.lemmas.List.{with_items_is}
 use Rattle.jv_client.specs.ClientValue.{ClientValue}
 use Rattle.jv_client.specs.StoreValue.{StoreValue}

@@ -1,7 +1,4 @@
 -- Where there is a view, its bytes are shown.
-use Rattle.std.proofs.Common.{sym, subst}
-use Rattle.jv_client.specs.StoreValue.{StoreValue}
-use Rattle.jv_client.specs.Makes.{Makes}
 use Rattle.jv_client.proofs.client.Client.read_on.Goals as goal
 
 pub returns-in-Some-view : goal.returns-in-Some-view

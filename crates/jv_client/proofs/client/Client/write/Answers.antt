@@ -1,5 +1,5 @@
 -- The bytes are pending, or memory ran out.
-use Rattle.std.proofs.Common.{ap, sym, subst, refl, ◌∙◌, Some, None}
+use Rattle.std.proofs.Common.{ap, sym, subst, ◌∙◌, None}
 use Rattle.jv_pending.specs.Held.{PendingValue}
 use Rattle.jv_client.specs.ClientValue.{ClientValue}
 use Rattle.jv_client.specs.UnderWay.{ended}
