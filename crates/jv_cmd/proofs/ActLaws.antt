@@ -1,39 +1,19 @@
 -- Which line each entry of a journal belongs to.
-use Rattle.std.proofs.Common.{◌≡◌, ℕ, zero, suc, ◌+◌, ◌≤◌, ◌<◌, leb, List, [], ◌∷◌, ◌++◌, length, slice_get, Option, None, Some, IfSome, inl, inr, refl, sym, ap, subst, ◌∙◌, arith}
+use Rattle.std.proofs.Common.{◌≡◌, ℕ, zero, suc, ◌+◌, ◌≤◌, ◌<◌, leb, false, MatchBool, List, [], ◌∷◌, ◌++◌, length, slice_get, IfSome, inl, inr, refl, ap, subst, ◌∙◌, arith}
 use Rattle.std.proofs.lemmas.Bool.{le-leb, lt-leb, cond-true, cond-false, cases_eq}
 use Rattle.std.proofs.lemmas.List.{append-nil}
 use Rattle.std.proofs.lemmas.List.Elements.{filter-append}
 use Rattle.jv_model.specs.declared.act.Act.{Act}
-use Rattle.jv_model.specs.declared.act.ActKind.{ActKind}
-use Rattle.jv_model.specs.declared.act.ActKind.TheVariants.{Answered}
-use Rattle.jv_model.specs.declared.act.Told.TheVariants.{Refused}
 use Rattle.jv_model.specs.declared.op.Line.{Line}
-use Rattle.jv_model.specs.run.Client.{Doing}
-use Rattle.jv_model.specs.run.Legal.{Allowed, AllAllowed, MayStand}
-use Rattle.jv_model.specs.run.Past.{Past, Due, NoMore, Refusal, Whole, Unbuilt, begun_to, after, after_due, after_refusal, after_step, advance, past}
-use Rattle.jv_model.proofs.PastLaws.{begun_to-present}
+use Rattle.jv_model.specs.journal.Legal.{Allowed, AllAllowed, OfLine, OfWorker}
+use Rattle.jv_model.specs.journal.Past.{Past, NoMore, is_workers, begun_to, advance, past}
+use Rattle.jv_laws.proofs.JournalGrowthLaws.{advanced, begun_to-begun}
 use Rattle.jv_cmd.specs.Run.{up_to}
 use Rattle.jv_cmd.specs.Steps.{AreBetween}
 use Rattle.jv_cmd.proofs.StepLaws.{low}
 
-line-after_refusal : (p : Past) (kind : ActKind) → (after_refusal p kind).line ≡ p.line
-line-after_refusal p (Answered (Refused fault)) = refl
-line-after_refusal p _ = refl
-
-line-after_step : (p : Past) (client now : ℕ) (kind : ActKind) (doing : Option Doing) → (after_step p client now kind doing).line ≡ p.line
-line-after_step p client now kind None = refl
-line-after_step p client now (Answered told) (Some doing) = refl
-line-after_step p client now _ (Some doing) = refl
-
-line-after_due : (p : Past) (act : Act) (due : Due) → (after_due p act due).line ≡ p.line
-line-after_due p act NoMore = refl
-line-after_due p act (Refusal client fault) = line-after_refusal p act.kind
-line-after_due p act (Whole client) = line-after_step p client act.at act.kind (p.clients client).doing
-line-after_due p act Unbuilt = refl
-
 line-advance : (p : Past) (act : Act) → Allowed (begun_to act.line p) act → (advance p act).line ≡ act.line
-unfolding advance after
-line-advance p act allowed = line-after_due (begun_to act.line p) act (begun_to act.line p).due ∙ allowed.line
+line-advance p act allowed = (advanced p act).line ∙ allowed.line
 
 -- the lines of entries that are allowed never fall
 rises : (p : Past) (acts : List Act) → AllAllowed p acts → p.line ≤ (past p acts).line
@@ -52,18 +32,20 @@ between p (act ∷ acts) n high allowed above below =
     let after = rises (advance p act) acts allowed.1 in
     (omega (arith, above, before), omega (arith, here, after, below), between (advance p act) acts n high allowed.1 (omega (arith, above, before, here)) below)
 
-not_present : (p : Past) (act : Act) → p.due ≡ NoMore → Allowed (begun_to act.line p) act → act.line ≡ p.line → ⊥
-not_present p act none allowed e =
-    let present = begun_to-present act.line p (sym e) in
-    subst (λ due. MayStand p act due) none (subst (λ q. MayStand q act q.due) present allowed.stands)
+not_present : (p : Past) (act : Act) → p.due ≡ NoMore → is_workers p ≡ false → Allowed (begun_to act.line p) act → act.line ≡ p.line → ⊥
+not_present p act none alone allowed e =
+    let here = subst (λ q. Allowed q act) (begun_to-begun act.line p (omega (arith, e))) allowed in
+    let own = subst (λ worker. MatchBool worker (OfWorker p act) (OfLine p act p.due)) alone here.stands in
+    subst (λ due. OfLine p act due) none own
 
--- the entries that take a run from a line that is done to the next one are of that line
-pub AreBetween-own : (n : ℕ) (p : Past) (acts : List Act) → p.line ≡ n → p.due ≡ NoMore → AllAllowed p acts → (begun_to (n + 1) (past p acts)).line ≡ n + 1 → AreBetween (n + 1) (n + 1) acts
-AreBetween-own n p [] here none allowed end = tt
-AreBetween-own n p (act ∷ acts) here none allowed end =
+-- the entries that take a run from a line that may have no more to the next one are of that line
+pub AreBetween-own : (n : ℕ) (p : Past) (acts : List Act) → p.line ≡ n → p.due ≡ NoMore → is_workers p ≡ false → AllAllowed p acts → (begun_to (n + 1) (past p acts)).line ≡ n + 1
+    → AreBetween (n + 1) (n + 1) acts
+AreBetween-own n p [] here none alone allowed end = tt
+AreBetween-own n p (act ∷ acts) here none alone allowed end =
     let last = low (n + 1) (past p (act ∷ acts)) end in
     let later : n + 1 ≤ act.line = elim (cases_eq act.line p.line) [
-      | inl e ↦ absurd (not_present p act none allowed.0 e)
+      | inl e ↦ absurd (not_present p act none alone allowed.0 e)
       | inr apart ↦ let below = low act.line p allowed.0.line in omega (arith, here, apart, below)
     ] in
     let next = line-advance p act allowed.0 in

@@ -1,5 +1,5 @@
 -- What a run has done, line by line and at its end.
-use Rattle.std.proofs.Common.{◌≡◌, ℕ, ◌+◌, ◌≤◌, ◌<◌, IsSome, IfSome, IsSomeAnd, slice_get, List, [], ◌∷◌, ◌++◌, length, map, take, drop, Option, None, Some, Result, Ok, Err, refl, sym, ap, subst, ◌∙◌, arith}
+use Rattle.std.proofs.Common.{◌≡◌, ℕ, ◌+◌, ◌≤◌, ◌<◌, IsSome, IfSome, IsSomeAnd, slice_get, true, All, List, [], ◌∷◌, ◌++◌, length, map, take, drop, Option, None, Some, Result, Ok, Err, refl, sym, ap, subst, ◌∙◌, arith}
 use Rattle.std.proofs.lemmas.List.{append_assoc, append-nil, length_push, map_push, length-take-le}
 use Rattle.std.proofs.lemmas.List.Elements.{All-push}
 use Rattle.std.specs.Io.KnownBytes.{prepend_known}
@@ -7,25 +7,25 @@ use Rattle.jv_model.specs.declared.act.Act.{Act}
 use Rattle.jv_model.specs.declared.limits.TheConstants.{MAX_LINE, MAX_LINES}
 use Rattle.jv_model.specs.declared.op.Line.{Line}
 use Rattle.jv_model.specs.script.Grammar.{line_of}
-use Rattle.jv_model.specs.run.Past.{Past, Setup, at_start, begun_to, reached, at_end, text_of}
-use Rattle.jv_model.proofs.PastLaws.{begun_to-present}
+use Rattle.jv_model.specs.journal.Legal.{AllAllowed, may_be_cut}
+use Rattle.jv_model.specs.journal.Past.{Past, Setup, NoMore, at_start, begun_to, past, reached, at_end, text_of}
+use Rattle.jv_laws.proofs.JournalGrowthLaws.{begun_to-begun}
 use Rattle.jv_outside.specs.Causes.{Rose}
 use Rattle.jv_outside.specs.Stream.{Stream, Gains}
 use Rattle.jv_outside.specs.Ticks.{Ticks, Passes}
 use Rattle.jv_outside.proofs.StreamLaws.{Gains-nil, Gains-trans}
 use Rattle.jv_outside.proofs.TicksLaws.{Passes-trans, Passes-zero}
-use Rattle.jv_session.specs.Agrees.{ScheduleValue, Stands, ClockFor}
-use Rattle.jv_session.specs.Lines.{fresh_schedule}
+use Rattle.jv_session.specs.Lines.{FromThere, Cut, CutsLine}
+use Rattle.jv_session.specs.Stands.{ScheduleValue, Stands, ClockFor, fresh_schedule}
 use Rattle.jv_cmd.specs.declared.ended.Ended.{Ended}
 use Rattle.jv_cmd.specs.declared.ended.Ended.TheVariants.{Whole, OffLine, NoVolume, VolumeExists, NewerVersion, SettingOff, SourceFailed, OutFailed, ClockFailed, KeeperFailed, OutOfMemory}
 use Rattle.jv_cmd.specs.Ends.{status_of}
 use Rattle.jv_cmd.specs.Texts.{texts_of}
 use Rattle.jv_cmd.specs.Cutting.{BeginsWith, CutsText, IsOverlong}
-use Rattle.jv_cmd.specs.Faults.{CountsFaults}
-use Rattle.jv_cmd.specs.Run.{IsKnownClock, BeginWith, IsOff, OneTooMany, TooLong, OffGrammar, NotBuilt, StopsAt, EndsBy, Prints, PrintsPart, IsBuilt, RunsLines, FreshVolume, session_run, session_limits, up_to}
-use Rattle.jv_cmd.specs.Steps.{IsAt, Reaches, AreBetween, Done, AreCalm, Going, EndsLines, Turns, Goes, Advances, IsOffText, NoLine, Unbuilt, ReadsBuilt, IsStill, TextReads, TextEnds, PrintsCut}
+use Rattle.jv_cmd.specs.Run.{IsKnownClock, BeginWith, IsOff, OneTooMany, TooLong, OffGrammar, NotBuilt, StopsAt, EndsBy, Prints, PrintsPart, AllLines, AllButLast, IsBuilt, AreLines, RunsLines, FreshVolume, session_run, session_limits, up_to}
+use Rattle.jv_cmd.specs.Steps.{IsAt, Reaches, AreBetween, Done, Going, EndsLines, Turns, Goes, Advances, IsOffText, NoLine, Unbuilt, IsBuiltHere, ReadsBuilt, TextReads, LineEnds, TextEnds, PrintsCut, StopsIn, BeforeLine, OnLine, used}
 use Rattle.jv_cmd.specs.Worlds.{WorldValue}
-use Rattle.jv_cmd.proofs.StepLaws.{Reaches-more, Legal-reached, text_of-reached, Stands-reached}
+use Rattle.jv_cmd.proofs.StepLaws.{Reaches-more, Legal-reached, text_of-reached, Stands-reached, Stands-settled, Legal-cut, printed-cut}
 use Rattle.jv_cmd.proofs.ActLaws.{AreBetween-own, AreBetween-append, AreBetween-wider, up_to-all, up_to-front, each_push}
 use Rattle.jv_cmd.proofs.FreshLaws.{Stands-start}
 
@@ -86,26 +86,91 @@ none_read : (bytes : Option (List ℕ)) → IfSome bytes (λ all. IsSomeAnd byte
 none_read None = tt
 none_read (Some xs) = refl
 
--- the entries of the next line, in a run of any lines to come
-goes_on : (v : FreshVolume) (left : Option (List ℕ)) (before now after : WorldValue) (n : ℕ) (text printed : List ℕ) (line : Line) (s s' : ScheduleValue) (d : Done v left before now n text s) (a : Advances line (n + 1) now after s s' printed)
-    (known : Option (ℕ → ℕ)) (more : List Line) (status : ℕ) → IsKnownClock known before.clock after.clock
-    → Goes (begun_to n (reached (session_run v known (d.lines ++ line ∷ more) status) now.journal)) more (n + 1) a.asks now.journal after.journal printed s'
-goes_on v left before now after n text printed line s s' d a known more status t =
-    let run = session_run v known (d.lines ++ line ∷ more) status in
-    let here : Reaches run (line ∷ more) n d.asked text now.journal s = d.reaches known (line ∷ more) status (IsKnownClock-earlier known before now after a.asks a.passes t) in
-    let at : Past = begun_to n (reached run now.journal) in
-    let clock : ClockFor at.run.clock at.asked now.clock.answers after.clock.answers =
-    subst (λ asked. ClockFor at.run.clock asked now.clock.answers after.clock.answers) (sym here.at.asked)
-    (subst (λ (setup : Setup). ClockFor setup.clock d.asked now.clock.answers after.clock.answers) (sym here.at.same_run) (ClockFor-now known before now after d.asked t d.passes)) in
-    a.goes at more here.at.stands (ap (λ k. k + 1) here.at.line) here.at.rest here.at.count clock
+-- where `n` lines are done in a run of any lines to come
+abbrev there : FreshVolume → Option (ℕ → ℕ) → List Line → ℕ → ℕ → List Act → Past
+there v known lines status n journal = begun_to n (reached (session_run v known lines status) journal)
 
--- they are its own
-next_entries : (v : FreshVolume) (left : Option (List ℕ)) (before now after : WorldValue) (n : ℕ) (text printed : List ℕ) (line : Line) (s s' : ScheduleValue) (d : Done v left before now n text s) (a : Advances line (n + 1) now after s s' printed)
-    → (acts : List Act) × (after.journal ≡ now.journal ++ acts) × AreBetween (n + 1) (n + 1) acts
-next_entries v left before now after n text printed line s s' d a =
-    let goes = goes_on v left before now after n text printed line s s' d a None [] 0 tt in
+-- what the next line comes to there
+module _ (v : FreshVolume) (left : Option (List ℕ)) (before now after : WorldValue) (n : ℕ) (text : List ℕ) (line : Line) (s s' : ScheduleValue) (d : Done v left before now n text s)
+    (asks : ℕ) (passes : Passes now.clock.answers after.clock.answers asks) where
+  clock_there : (known : Option (ℕ → ℕ)) (more : List Line) (status : ℕ) → IsKnownClock known before.clock after.clock
+      → let p = there v known (d.lines ++ line ∷ more) status n now.journal in ClockFor p.run.clock p.asked now.clock.answers after.clock.answers
+  clock_there known more status t =
+      let here = (d.reaches known (line ∷ more) status (IsKnownClock-earlier known before now after asks passes t)).at in
+      let p = there v known (d.lines ++ line ∷ more) status n now.journal in
+      subst (λ asked. ClockFor p.run.clock asked now.clock.answers after.clock.answers) (sym here.asked)
+      (subst (λ (setup : Setup). ClockFor setup.clock d.asked now.clock.answers after.clock.answers) (sym here.same_run) (ClockFor-now known before now after d.asked t d.passes))
+
+  comes : (Comes : Past → List Line → Type 0) → FromThere line (n + 1) (used now s) (used after s') Comes → (known : Option (ℕ → ℕ)) (more : List Line) (status : ℕ) → IsKnownClock known before.clock after.clock
+      → Comes (there v known (d.lines ++ line ∷ more) status n now.journal) more
+  comes Comes from known more status t =
+      let here = (d.reaches known (line ∷ more) status (IsKnownClock-earlier known before now after asks passes t)).at in
+      from (there v known (d.lines ++ line ∷ more) status n now.journal) more here.stands (ap (λ k. k + 1) here.line) here.rest here.count (clock_there known more status t)
+
+  -- also where nothing more is due of the line before
+  comes_settled : (Comes : Past → List Line → Type 0) → FromThere line (n + 1) (used now s) (used after s') Comes
+      → Comes (record (there v None (d.lines ++ line ∷ []) 0 n now.journal) { due = NoMore }) []
+  comes_settled Comes from =
+      let here = (d.reaches None (line ∷ []) 0 tt).at in
+      let p = there v None (d.lines ++ line ∷ []) 0 n now.journal in
+      from (record p { due = NoMore }) [] (Stands-settled p s here.stands) (ap (λ k. k + 1) here.line) here.rest here.count (clock_there None [] 0 tt)
+
+-- entries after a journal take a past to a line
+record Enters (p : Past) (number : ℕ) (before after : List Act) : Type 0 where
+  acts : List Act
+  grows : after ≡ before ++ acts
+  allowed : AllAllowed p acts
+  line : (begun_to number (past p acts)).line ≡ number
+
+-- entries of the next line alone were appended
+record OfNext (n : ℕ) (before after : List Act) : Type 0 where
+  acts : List Act
+  grows : after ≡ before ++ acts
+  own : AreBetween (n + 1) (n + 1) acts
+
+OfNext-from : (n : ℕ) (p : Past) (before after : List Act) (s : ScheduleValue) → p.line ≡ n → p.due ≡ NoMore → Stands p s → Enters p (n + 1) before after → OfNext n before after
+OfNext-from n p before after s here none stands e =
+    record { acts = e.acts; grows = e.grows; own = AreBetween-own n p e.acts here none (stands.alone (p.state.count + 1)) e.allowed e.line }
+
+OfNext-settled : (v : FreshVolume) (left : Option (List ℕ)) (before now after : WorldValue) (n : ℕ) (text : List ℕ) (line : Line) (s : ScheduleValue) (d : Done v left before now n text s)
+    → Enters (record (there v None (d.lines ++ line ∷ []) 0 n now.journal) { due = NoMore }) (n + 1) now.journal after.journal → OfNext n now.journal after.journal
+OfNext-settled v left before now after n text line s d e =
     let here = (d.reaches None (line ∷ []) 0 tt).at in
-    (goes.acts, goes.grows, AreBetween-own n (begun_to n (reached (session_run v None (d.lines ++ line ∷ []) 0) now.journal)) goes.acts here.line here.stands.due goes.allowed goes.at.line)
+    let p = there v None (d.lines ++ line ∷ []) 0 n now.journal in
+    OfNext-from n (record p { due = NoMore }) now.journal after.journal s here.line refl (Stands-settled p s here.stands) e
+
+Enters-goes : (p : Past) (more : List Line) (number asks : ℕ) (before after : List Act) (text : List ℕ) (s : ScheduleValue) → Goes p more number asks before after text s → Enters p number before after
+Enters-goes p more number asks before after text s g = record { acts = g.acts; grows = g.grows; allowed = g.allowed; line = g.at.line }
+
+Enters-cut : (p : Past) (more : List Line) (number asks : ℕ) (before after : List Act) → Cut p more number asks before after → Enters p number before after
+Enters-cut p more number asks before after c =
+    record { acts = c.acts; grows = c.appends.grows; allowed = c.appends.allowed; line = ap (λ (q : Past). q.line) c.appends.reaches ∙ c.appends.line }
+
+-- the entries of the lines before stay
+up_to-before : (n k : ℕ) (before after : List Act) → OfNext n before after → k ≤ n → up_to k before ≡ up_to k after
+up_to-before n k before after o small = sym (ap (up_to k) o.grows ∙ up_to-front n k before o.acts small o.own)
+
+up_to-now : (n : ℕ) (before after : List Act) → OfNext n before after → AreBetween 0 n before → before ≡ up_to n after
+up_to-now n before after o own = sym (up_to-all 0 n n before (omega arith) own) ∙ up_to-before n n before after o (omega arith)
+
+-- a line is built where those before it came to
+built_more : (v : FreshVolume) (left : Option (List ℕ)) (before now after : WorldValue) (n : ℕ) (text : List ℕ) (line : Line) (s : ScheduleValue) (d : Done v left before now n text s)
+    → OfNext n now.journal after.journal → IsBuiltHere s line → (known : Option (ℕ → ℕ)) (more : List Line) (status : ℕ) → IsKnownClock known before.clock now.clock
+    → (k : ℕ) → IfSome (slice_get (d.lines ++ line ∷ []) k) (IsBuilt (begun_to k (reached (session_run v known (d.lines ++ line ∷ more) status) (up_to k after.journal))))
+built_more v left before now after n text line s d o here known more status t =
+    let run = session_run v known (d.lines ++ line ∷ more) status in
+    let at = (d.reaches known (line ∷ more) status t).at in
+    each_push (λ k. IsBuilt (begun_to k (reached run (up_to k after.journal)))) d.lines line
+    (λ k small. subst (λ journal. IfSome (slice_get d.lines k) (IsBuilt (begun_to k (reached run journal)))) (up_to-before n k now.journal after.journal o (omega (arith, small, d.count))) (d.built known (line ∷ more) status t k))
+    (subst (λ k. IsBuilt (begun_to k (reached run (up_to k after.journal))) line) (sym d.count)
+    (subst (λ journal. IsBuilt (begun_to n (reached run journal)) line) (up_to-now n now.journal after.journal o d.own) (here.at (begun_to n (reached run now.journal)) at.stands)))
+
+each_more : (texts : List (List ℕ)) (lines : List Line) (text : List ℕ) (line : Line) → map line_of texts ≡ map Some lines → line_of text ≡ Some line → map line_of (texts ++ text ∷ []) ≡ map Some (lines ++ line ∷ [])
+each_more texts lines text line each one =
+    map_push line_of texts text ∙ ap (λ all. all ++ line_of text ∷ []) each ∙ ap (λ last. map Some lines ++ last ∷ []) one ∙ sym (map_push Some lines line)
+
+short_more : (texts : List (List ℕ)) (text : List ℕ) → All (λ line. length line ≤ MAX_LINE) texts → length text ≤ MAX_LINE → All (λ line. length line ≤ MAX_LINE) (texts ++ text ∷ [])
+short_more texts text all one = All-push (λ one. length one ≤ MAX_LINE) texts text all one
 
 -- the lines up to there, with the line added, and the entries of the lines before it
 pub record DoneMore (v : FreshVolume) (left' : Option (List ℕ)) (before now after : WorldValue) (n : ℕ) (text : List ℕ) (lines : List Line) (line : Line) (s' : ScheduleValue) : Type 0 where
@@ -120,37 +185,31 @@ Done-more : (v : FreshVolume) (left left' : Option (List ℕ)) (before now after
     → Advances line (n + 1) now after s s' printed
     → DoneMore v left' before now after n (text ++ printed) d.lines line s'
 Done-more v left left' before now after n text printed bytes_of_line line s s' d room read short next a =
-    let entries = next_entries v left before now after n text printed line s s' d a in
-    let same : (k : ℕ) → k ≤ n → up_to k now.journal ≡ up_to k after.journal = λ k small. sym (ap (up_to k) entries.1 ∙ up_to-front n k now.journal entries.0 small entries.2) in
-    let all : now.journal ≡ up_to n after.journal = sym (up_to-all 0 n n now.journal (omega arith) d.own) ∙ same n (omega arith) in
+    let o = OfNext-settled v left before now after n text line s d
+    (comes_settled v left before now after n text line s s' d a.asks a.passes (λ p more. Enters p (n + 1) now.journal after.journal)
+    (λ p more stands next rest count clock. Enters-goes p more (n + 1) a.asks now.journal after.journal printed s' (a.goes p more stands next rest count clock))) in
     let done : Done v left' before after (n + 1) (text ++ printed) s' = record {
       texts = d.texts ++ bytes_of_line ∷ [];
       lines = d.lines ++ line ∷ [];
       asked = d.asked + a.asks;
       count = length_push d.lines line ∙ ap (λ k. k + 1) d.count;
-      each = map_push line_of d.texts bytes_of_line ∙ ap (λ all. all ++ line_of bytes_of_line ∷ []) d.each ∙ ap (λ one. map Some d.lines ++ one ∷ []) read.read ∙ sym (map_push Some d.lines line);
+      each = each_more d.texts d.lines bytes_of_line line d.each read.read;
       few = omega (arith, room);
-      short = All-push (λ one. length one ≤ MAX_LINE) d.texts bytes_of_line d.short short;
+      short = short_more d.texts bytes_of_line d.short short;
       first = first_more before.source.content left left' d.texts bytes_of_line d.first next;
-      own = subst (λ journal. AreBetween 0 (n + 1) journal) (sym entries.1)
-          (AreBetween-append 0 (n + 1) now.journal entries.0 (AreBetween-wider 0 n 0 (n + 1) now.journal (omega arith) (omega arith) d.own) (AreBetween-wider (n + 1) (n + 1) 0 (n + 1) entries.0 (omega arith) (omega arith) entries.2));
+      own = subst (λ journal. AreBetween 0 (n + 1) journal) (sym o.grows)
+          (AreBetween-append 0 (n + 1) now.journal o.acts (AreBetween-wider 0 n 0 (n + 1) now.journal (omega arith) (omega arith) d.own) (AreBetween-wider (n + 1) (n + 1) 0 (n + 1) o.acts (omega arith) (omega arith) o.own));
       passes = Passes-trans before.clock.answers now.clock.answers after.clock.answers d.asked a.asks d.passes a.passes;
       built = λ known more status t.
-          let earlier = IsKnownClock-earlier known before now after a.asks a.passes t in
-          let run = session_run v known (d.lines ++ line ∷ more) status in
-          let here : Reaches run (line ∷ more) n d.asked text now.journal s = d.reaches known (line ∷ more) status earlier in
           subst (λ lines. (k : ℕ) → IfSome (slice_get (d.lines ++ line ∷ []) k) (IsBuilt (begun_to k (reached (session_run v known lines status) (up_to k after.journal))))) (sym (append_assoc d.lines (line ∷ []) more))
-          (each_push (λ k. IsBuilt (begun_to k (reached run (up_to k after.journal)))) d.lines line
-          (λ k small. subst (λ journal. IfSome (slice_get d.lines k) (IsBuilt (begun_to k (reached run journal)))) (same k (omega (arith, small, d.count))) (d.built known (line ∷ more) status earlier k))
-          (subst (λ k. IsBuilt (begun_to k (reached run (up_to k after.journal))) line) (sym d.count)
-          (subst (λ journal. IsBuilt (begun_to n (reached run journal)) line) all (read.built.at (begun_to n (reached run now.journal)) here.at.stands))));
+          (built_more v left before now after n text line s d o read.built known more status (IsKnownClock-earlier known before now after a.asks a.passes t));
       reaches = λ known more status t.
           let run = session_run v known (d.lines ++ line ∷ more) status in
           subst (λ lines. Reaches (session_run v known lines status) more (n + 1) (d.asked + a.asks) (text ++ printed) after.journal s') (sym (append_assoc d.lines (line ∷ []) more))
           (Reaches-more run line more n d.asked a.asks text printed now.journal after.journal s s' (d.reaches known (line ∷ more) status (IsKnownClock-earlier known before now after a.asks a.passes t))
-          (goes_on v left before now after n text printed line s s' d a known more status t));
+          (comes v left before now after n text line s s' d a.asks a.passes (λ p rest. Goes p rest (n + 1) a.asks now.journal after.journal printed s') a.goes known more status t));
     } in
-    record { lines_done = done; added = refl; earlier = sym all }
+    record { lines_done = done; added = refl; earlier = sym (up_to-now n now.journal after.journal o d.own) }
 
 -- the end
 at_last : (v : FreshVolume) (left : Option (List ℕ)) (before now after : WorldValue) (n : ℕ) (text : List ℕ) (s : ScheduleValue) (d : Done v left before now n text s) → after.journal ≡ now.journal
@@ -189,6 +248,53 @@ RunsLines-from v left before now after n text s ended d same earlier cause print
   printed = prints;
 }
 
+-- the run ended on the next line, which was cut off
+module _ (v : FreshVolume) (left left' : Option (List ℕ)) (before now after : WorldValue) (n : ℕ) (text bytes_of_line : List ℕ) (line : Line) (s s' : ScheduleValue) (d : Done v left before now n text s)
+    (room : n < MAX_LINES) (read : ReadsBuilt bytes_of_line s line) (short : length bytes_of_line ≤ MAX_LINE)
+    (next : IfSome left (λ all. IsSomeAnd left' (λ rest. texts_of all ≡ bytes_of_line ∷ texts_of rest))) (c : CutsLine line (n + 1) (used now s) (used after s')) where
+  AreLines-cut : AreLines before.source.content (d.texts ++ bytes_of_line ∷ []) (d.lines ++ line ∷ [])
+  AreLines-cut = record {
+    first = first_is before.source.content left' (d.texts ++ bytes_of_line ∷ []) (first_more before.source.content left left' d.texts bytes_of_line d.first next);
+    each = each_more d.texts d.lines bytes_of_line line d.each read.read;
+    few = (let size = length_push d.lines line in omega (arith, size, d.count, room));
+    short = short_more d.texts bytes_of_line d.short short;
+  }
+
+  OfNext-cut : OfNext n now.journal after.journal
+  OfNext-cut = OfNext-settled v left before now after n text line s d
+      (comes_settled v left before now after n text line s s' d c.asks c.passes (λ p more. Enters p (n + 1) now.journal after.journal)
+      (λ p more stands next rest count clock. Enters-cut p more (n + 1) c.asks now.journal after.journal (c.stops p more stands next rest count clock)))
+
+  cut_there : (known : Option (ℕ → ℕ)) (status : ℕ) → IsKnownClock known before.clock after.clock → Cut (there v known (d.lines ++ line ∷ []) status n now.journal) [] (n + 1) c.asks now.journal after.journal
+  cut_there known status t = comes v left before now after n text line s s' d c.asks c.passes (λ p more. Cut p more (n + 1) c.asks now.journal after.journal) c.stops known [] status t
+
+  earlier_cut : (known : Option (ℕ → ℕ)) → IsKnownClock known before.clock after.clock → IsKnownClock known before.clock now.clock
+  earlier_cut known t = IsKnownClock-earlier known before now after c.asks c.passes t
+
+  printed_before : (known : Option (ℕ → ℕ)) (status : ℕ) → IsKnownClock known before.clock after.clock → (at_end (session_run v known (d.lines ++ line ∷ []) status) after.journal).printed ≡ text
+  printed_before known status t =
+      printed-cut (session_run v known (d.lines ++ line ∷ []) status) line n d.asked c.asks text now.journal after.journal s (length_push d.lines line ∙ ap (λ k. k + 1) d.count)
+      (d.reaches known (line ∷ []) status (earlier_cut known t)) (cut_there known status t)
+
+  -- out has gained the text of the lines before it
+  gains_before : Gains before.out.content after.out.content text → (status : ℕ) (known : Option (ℕ → ℕ)) → IsKnownClock known before.clock after.clock
+      → Gains before.out.content after.out.content (at_end (session_run v known (d.lines ++ line ∷ []) status) after.journal).printed
+  gains_before gains status known t = subst (λ bytes. Gains before.out.content after.out.content bytes) (sym (printed_before known status t)) gains
+
+  RunsLines-cut : (ended : Ended) → may_be_cut (status_of ended) ≡ true → EndsBy v ended before after (d.texts ++ bytes_of_line ∷ []) (d.lines ++ line ∷ [])
+      → ((known : Option (ℕ → ℕ)) → IsKnownClock known before.clock after.clock → Prints ended v known before after (d.lines ++ line ∷ [])) → RunsLines v before after ended
+  RunsLines-cut ended cuts cause prints = record {
+    texts = d.texts ++ bytes_of_line ∷ [];
+    lines = d.lines ++ line ∷ [];
+    read = AreLines-cut;
+    cause = cause;
+    built = λ known t. record { each = built_more v left before now after n text line s d OfNext-cut read.built known [] (status_of ended) (earlier_cut known t) };
+    legal = λ known t.
+        Legal-cut (session_run v known (d.lines ++ line ∷ []) (status_of ended)) line n d.asked c.asks text now.journal after.journal s (length_push d.lines line ∙ ap (λ k. k + 1) d.count)
+        (d.reaches known (line ∷ []) (status_of ended) (earlier_cut known t)) (cut_there known (status_of ended) t) cuts;
+    printed = prints;
+  }
+
 StopsAt-from : (v : FreshVolume) (left : Option (List ℕ)) (before now after : WorldValue) (n : ℕ) (text : List ℕ) (s : ScheduleValue) (d : Done v left before now n text s) (next : List ℕ) → BeginsWith left next
     → ((known : Option (ℕ → ℕ)) → IsKnownClock known before.clock after.clock → IsOff (at_end (session_run v known d.lines 3) after.journal) (n + 1) next) → StopsAt v before after d.texts d.lines (n + 1)
 StopsAt-from v left before now after n text s d next begins off = record {
@@ -220,7 +326,7 @@ Done-start v before empty = record {
       let run = session_run v known more status in
       subst (λ journal. Reaches run more 0 0 [] journal (fresh_schedule v.setting session_limits)) (sym empty) (record {
         allowed = tt;
-        at = subst (λ q. IsAt q run more 0 0 0 [] (fresh_schedule v.setting session_limits)) (sym (begun_to-present 0 (at_start run) refl))
+        at = subst (λ q. IsAt q run more 0 0 0 [] (fresh_schedule v.setting session_limits)) (sym (begun_to-begun 0 (at_start run) (omega arith)))
             (record { line = refl; stands = Stands-start v known more status; same_run = refl; rest = refl; count = refl; asked = refl; text = refl });
       });
 }
@@ -251,7 +357,7 @@ EndsLines-none v before empty =
     let s = fresh_schedule v.setting session_limits in
     record {
       runs = RunsLines-from v before.source.content before before before 0 [] s OutOfMemory d refl (λ known t. t) tt
-          (all_printed v before.source.content before before before 0 [] s d refl (λ known t. t) 6 (Gains-nil before.out.content));
+          (λ known t. AllLines (all_printed v before.source.content before before before 0 [] s d refl (λ known t. t) 6 (Gains-nil before.out.content) known t));
       faults = record { source = refl; out = refl; clock = refl };
     }
 
@@ -262,12 +368,28 @@ TextEnds-from_reads number text world s (OffLine at) h = (h.0, h.1, record { out
 TextEnds-from_reads number text world s SourceFailed h = absurd h
 TextEnds-from_reads number text world s OutFailed h = absurd h
 TextEnds-from_reads number text world s ClockFailed h = absurd h
-TextEnds-from_reads number text world s OutOfMemory h = record { out = refl; clock = refl; journal = refl }
+TextEnds-from_reads number text world s OutOfMemory h = BeforeLine (record { out = refl; clock = refl; journal = refl })
 TextEnds-from_reads number text world s NoVolume h = absurd h
 TextEnds-from_reads number text world s VolumeExists h = absurd h
 TextEnds-from_reads number text world s (NewerVersion version) h = absurd h
 TextEnds-from_reads number text world s SettingOff h = absurd h
 TextEnds-from_reads number text world s KeeperFailed h = absurd h
+
+-- the line of a text was run, or cut off
+pub TextEnds-from_line : (number : ℕ) (text : List ℕ) (line : Line) (before after : WorldValue) (s s' : ScheduleValue) (ran : Result (Unit {0}) Ended) → ReadsBuilt text s line
+    → LineEnds line number before after s s' ran → TextEnds number text before after s s' ran
+TextEnds-from_line number text line before after s s' (Ok unit) read ends = (line, read, ends)
+TextEnds-from_line number text line before after s s' (Err Whole) read ends = absurd ends
+TextEnds-from_line number text line before after s s' (Err (OffLine at)) read ends = absurd ends
+TextEnds-from_line number text line before after s s' (Err SourceFailed) read ends = absurd ends
+TextEnds-from_line number text line before after s s' (Err OutFailed) read ends = (line, read, ends)
+TextEnds-from_line number text line before after s s' (Err ClockFailed) read ends = (line, read, ends.0, ends.1)
+TextEnds-from_line number text line before after s s' (Err OutOfMemory) read ends = OnLine line read ends.0 ends.1
+TextEnds-from_line number text line before after s s' (Err NoVolume) read ends = absurd ends
+TextEnds-from_line number text line before after s s' (Err VolumeExists) read ends = absurd ends
+TextEnds-from_line number text line before after s s' (Err (NewerVersion version)) read ends = absurd ends
+TextEnds-from_line number text line before after s s' (Err SettingOff) read ends = absurd ends
+TextEnds-from_line number text line before after s s' (Err KeeperFailed) read ends = absurd ends
 
 known_then : (known : Option (ℕ → ℕ)) (before now after : Ticks) → after.answers ≡ now.answers → IsKnownClock known before after → IsKnownClock known before now
 known_then None before now after same t = tt
@@ -345,6 +467,22 @@ module _ (v : FreshVolume) (left left0 : Option (List ℕ)) (before now after : 
             (Gains-trans before.out.content now.out.content after.out.content going.text (take ends.cut.count ends.printed) going.gains ends.cut.gains);
       }
 
+  short : length (take count held) ≤ MAX_LINE
+  short = omega (arith, length-take-le count held cut.within, cut.short)
+
+  -- the run ended on a line
+  gains_cut : (line : Line) → ReadsBuilt (take count held) s line → (stops : StopsIn line (n + 1) now after s s') → (status : ℕ) (known : Option (ℕ → ℕ)) → IsKnownClock known before.clock after.clock
+      → Gains before.out.content after.out.content (at_end (session_run v known (going.lines_done.lines ++ line ∷ []) status) after.journal).printed
+  gains_cut line read stops status known t =
+      gains_before v left (prepend_known (drop (count + 1) held) left0) before now after n going.text (take count held) line s s' going.lines_done room read short cut.known stops.cut
+      (subst (λ (o : Stream). Gains before.out.content o.content going.text) (sym stops.out) going.gains) status known t
+
+  cut_off : (line : Line) → ReadsBuilt (take count held) s line → (stops : StopsIn line (n + 1) now after s s') → (ended : Ended) → may_be_cut (status_of ended) ≡ true
+      → EndsBy v ended before after (going.lines_done.texts ++ take count held ∷ []) (going.lines_done.lines ++ line ∷ [])
+      → ((known : Option (ℕ → ℕ)) → IsKnownClock known before.clock after.clock → Prints ended v known before after (going.lines_done.lines ++ line ∷ [])) → RunsLines v before after ended
+  cut_off line read stops ended cuts cause prints =
+      RunsLines-cut v left (prepend_known (drop (count + 1) held) left0) before now after n going.text (take count held) line s s' going.lines_done room read short cut.known stops.cut ended cuts cause prints
+
   -- a text was run, or the run ended there
   pub Turns-text : (ran : Result (Unit {0}) Ended) → TextEnds (n + 1) (take count held) now after s s' ran
       → Turns v (prepend_known (drop (count + 1) held) left0) before after n s' ran
@@ -379,16 +517,20 @@ module _ (v : FreshVolume) (left left0 : Option (List ℕ)) (before now after : 
       }
   Turns-text (Err ClockFailed) ends =
       record {
-        runs = RunsLines-from v left before now after n going.text s ClockFailed going.lines_done ends.0.journal (λ known t. known_then known before.clock now.clock after.clock ends.0.answers t) tt
-            (stays ends.0.out ends.0.answers ends.0.journal 5);
-        faults = record { source = calm_source; out = calm_out ends.0.out; clock = Rose-since before.clock.faults now.clock.faults after.clock.faults going.calm.clock ends.1 };
+        runs = cut_off ends.0 ends.1 ends.2 ClockFailed refl tt (gains_cut ends.0 ends.1 ends.2 5);
+        faults = record { source = calm_source; out = calm_out ends.2.out; clock = Rose-since before.clock.faults now.clock.faults after.clock.faults going.calm.clock ends.3 };
       }
-  Turns-text (Err OutOfMemory) ends =
-      let answers = ap (λ (c : Ticks). c.answers) ends.clock in
+  Turns-text (Err OutOfMemory) (BeforeLine still) =
+      let answers = ap (λ (c : Ticks). c.answers) still.clock in
       record {
-        runs = RunsLines-from v left before now after n going.text s OutOfMemory going.lines_done ends.journal (λ known t. known_then known before.clock now.clock after.clock answers t) tt
-            (stays ends.out answers ends.journal 6);
-        faults = record { source = calm_source; out = calm_out ends.out; clock = calm_clock ends.clock };
+        runs = RunsLines-from v left before now after n going.text s OutOfMemory going.lines_done still.journal (λ known t. known_then known before.clock now.clock after.clock answers t) tt
+            (λ known t. AllLines (stays still.out answers still.journal 6 known t));
+        faults = record { source = calm_source; out = calm_out still.out; clock = calm_clock still.clock };
+      }
+  Turns-text (Err OutOfMemory) (OnLine line read stops calm) =
+      record {
+        runs = cut_off line read stops OutOfMemory refl tt (λ known t. AllButLast (gains_cut line read stops 6 known t));
+        faults = record { source = calm_source; out = calm_out stops.out; clock = calm ∙ going.calm.clock };
       }
   Turns-text (Err NoVolume) ends = absurd ends
   Turns-text (Err VolumeExists) ends = absurd ends

@@ -1,5 +1,5 @@
 -- What was said, by one write after another.
-use Rattle.std.proofs.Common.{◌≡◌, ℕ, ◌+◌, ◌<◌, ◌≤◌, List, ◌++◌, length, take, drop, Result, Ok, Err, IsErrAnd, sym, ap, subst, ◌∙◌, arith, length-append, refl}
+use Rattle.std.proofs.Common.{◌≡◌, ℕ, ◌+◌, List, ◌++◌, length, take, drop, Result, Ok, Err, IsErrAnd, sym, ap, subst, ◌∙◌, arith, length-append, refl}
 use Rattle.std.proofs.lemmas.List.{take_at, drop_at, take-append-le}
 use Rattle.std.proofs.Math.Seq.{take-add}
 use Rattle.jv_model.specs.declared.fault.Down.{Down}

@@ -1,18 +1,18 @@
 -- How a run gets from line to line.
-use Rattle.std.proofs.Common.{◌≡◌, ℕ, ◌+◌, ◌-◌, ◌≤◌, ◌&&◌, ◌||◌, List, [], ◌∷◌, ◌++◌, length, Option, None, inl, inr, refl, sym, ap, subst, ◌∙◌, arith}
+use Rattle.std.proofs.Common.{◌≡◌, ℕ, ◌+◌, ◌-◌, ◌≤◌, ◌&&◌, ◌||◌, true, List, [], ◌∷◌, ◌++◌, length, inl, inr, refl, sym, ap, subst, ◌∙◌, arith}
 use Rattle.std.proofs.lemmas.Bool.{cases_lt, and_from, or_left}
 use Rattle.std.proofs.lemmas.List.{append-nil}
 use Rattle.jv_model.specs.declared.act.Act.{Act}
 use Rattle.jv_model.specs.declared.op.Line.{Line}
 use Rattle.jv_model.specs.declared.op.Line.TheVariants.{Empty}
-use Rattle.jv_model.specs.run.Legal.{Legal, AllAllowed, may_be_cut, may_stop}
-use Rattle.jv_model.specs.run.Past.{Past, Setup, is_no_more, at_start, begun, turned, begin_from, begin_next, begun_by, begun_to, past, reached, at_end, text_of}
-use Rattle.jv_model.proofs.PastLaws.{begun_to-twice, begun_to-next, past-append, AllAllowed-append, past-begun_to, AllAllowed-begun_to}
+use Rattle.jv_model.specs.journal.Legal.{Legal, AllAllowed, may_be_cut, may_stop}
+use Rattle.jv_model.specs.journal.Past.{Past, Setup, NoMore, is_over, at_start, begun, turned, begin_from, begin_next, begun_by, begun_to, past, reached, at_end, text_of}
+use Rattle.jv_laws.proofs.JournalGrowthLaws.{begun_to-twice, begun_to-next, past-append, AllAllowed-append, past-begun_to, AllAllowed-begun_to}
 use Rattle.jv_outside.specs.Ticks.{Ticks, Passes}
 use Rattle.jv_outside.proofs.TicksLaws.{Passes-zero}
-use Rattle.jv_session.specs.Agrees.{ScheduleValue, Agrees, Stands}
-use Rattle.jv_session.specs.Lines.{LineState, line_state, LeavesAll, SaysLine}
-use Rattle.jv_cmd.specs.Steps.{IsAt, Reaches, Goes, Advances}
+use Rattle.jv_session.specs.Lines.{LeavesAll, SaysLine, Cut}
+use Rattle.jv_session.specs.Stands.{ScheduleValue, Stands}
+use Rattle.jv_cmd.specs.Steps.{IsAt, Reaches, Goes, Advances, used}
 use Rattle.jv_cmd.specs.Worlds.{WorldValue}
 
 -- a past that comes to a line wasn't past it
@@ -64,46 +64,53 @@ Reaches-more run line more n asked asks text printed journal journal' s s' r g =
 
 -- a line that was run
 pub Advances-said : (line : Line) (number : ℕ) (before after : WorldValue) (s s' : ScheduleValue) (text : List ℕ)
-    → SaysLine line number (line_state before.clock before.journal s) (line_state after.clock after.journal s') text → Advances line number before after s s' text
+    → SaysLine line number (used before s) (used after s') text → Advances line number before after s s' text
 Advances-said line number before after s s' text says = record {
-  asks = 1;
+  asks = says.asks;
   passes = says.passes;
   goes = λ p more stands next rest count clock.
       let ran = says.runs p more stands next rest count clock in
+      let a = ran.appends in
       record {
         acts = ran.acts;
-        grows = ran.grows;
-        allowed = ran.allowed;
-        at = record {
-          line = ran.line;
+        grows = a.grows;
+        allowed = a.allowed;
+        at = subst (λ q. IsAt q p.run more number (p.asked + says.asks) (length after.journal) (p.printed ++ p.said ++ text) s') (sym a.reaches) (record {
+          line = a.line;
           stands = ran.stands;
-          same_run = ran.same_run;
-          rest = ran.rest;
-          count = ran.count;
-          asked = ran.asked;
-          text = ap (λ printed. printed ++ (begun_to number (past p ran.acts)).said) ran.printed ∙ ap (λ said. p.printed ++ p.said ++ said) ran.said;
-        };
+          same_run = a.same_run;
+          rest = a.rest;
+          count = a.count;
+          asked = a.asked;
+          text = ap (λ printed. printed ++ ran.end.said) a.printed ∙ ap (λ said. p.printed ++ p.said ++ said) ran.said;
+        });
       };
 }
 
--- an empty line does nothing
-Agrees-turned : (p : Past) (more : List Line) (s : ScheduleValue) → Agrees p None s → Agrees (begun (turned p more) Empty) None s
-Agrees-turned p more s a = record {
-  limits = a.limits;
-  setting = a.setting;
-  files = a.files;
-  mounted = a.mounted;
-  client = a.client;
-  busy = a.busy;
-}
-
-Stands-turned : (p : Past) (more : List Line) (s : ScheduleValue) → Stands p s → Stands (begun (turned p more) Empty) s
-Stands-turned p more s st = record {
-  complete = and_from p.complete (is_no_more p.due) st.complete (ap is_no_more st.due);
-  due = refl;
+-- where nothing more is due of the present line, the schedule stands too
+pub Stands-settled : (p : Past) (s : ScheduleValue) → Stands p s → Stands (record p { due = NoMore }) s
+Stands-settled p s st = record {
+  complete = st.complete;
+  over = refl;
   at = st.at;
   last = st.last;
-  agrees = Agrees-turned p more s st.agrees;
+  ticks = st.ticks;
+  alone = st.alone;
+  limits = st.limits;
+  state = st.state;
+}
+
+-- an empty line does nothing
+Stands-turned : (p : Past) (more : List Line) (s : ScheduleValue) → Stands p s → Stands (begun (turned p more) Empty) s
+Stands-turned p more s st = record {
+  complete = and_from p.complete (is_over p) st.complete st.over;
+  over = refl;
+  at = st.at;
+  last = st.last;
+  ticks = st.ticks;
+  alone = st.alone;
+  limits = st.limits;
+  state = st.state;
 }
 
 next_is : (p : Past) (more : List Line) → p.rest ≡ Empty ∷ more → begin_next p ≡ begun (turned p more) Empty
@@ -111,7 +118,7 @@ unfolding begin_next
 next_is p more e = ap (λ rest. begin_from rest p) e
 
 pub Advances-quiet : (line : Line) (number : ℕ) (before after : WorldValue) (s s' : ScheduleValue)
-    → line ≡ Empty → LeavesAll (line_state before.clock before.journal s) (line_state after.clock after.journal s') → Advances line number before after s s' []
+    → line ≡ Empty → LeavesAll (used before s) (used after s') → Advances line number before after s s' []
 Advances-quiet line number before after s s' empty leaves = record {
   asks = 0;
   passes = subst (λ (later : Ticks). Passes before.clock.answers later.answers 0) (sym leaves.clock) (Passes-zero before.clock.answers);
@@ -144,8 +151,8 @@ Legal-reached run n asked text journal s size r =
     let end = at_the_end run n asked text journal s size r in
     record {
       allowed = r.allowed;
-      ends = and_from (at_end run journal).complete (is_no_more (at_end run journal).due || may_be_cut run.status && may_stop (at_end run journal) (at_end run journal).due) end.stands.complete
-          (or_left (is_no_more (at_end run journal).due) (may_be_cut run.status && may_stop (at_end run journal) (at_end run journal).due) (ap is_no_more end.stands.due));
+      ends = and_from (at_end run journal).complete (is_over (at_end run journal) || may_be_cut run.status && may_stop (at_end run journal)) end.stands.complete
+          (or_left (is_over (at_end run journal)) (may_be_cut run.status && may_stop (at_end run journal)) end.stands.over);
     }
 
 pub text_of-reached : (run : Setup) (n asked : ℕ) (text : List ℕ) (journal : List Act) (s : ScheduleValue) → length run.script ≡ n → Reaches run [] n asked text journal s → text_of run journal ≡ text
@@ -153,3 +160,23 @@ text_of-reached run n asked text journal s size r = (at_the_end run n asked text
 
 pub Stands-reached : (run : Setup) (n asked : ℕ) (text : List ℕ) (journal : List Act) (s : ScheduleValue) → length run.script ≡ n → Reaches run [] n asked text journal s → Stands (at_end run journal) s
 Stands-reached run n asked text journal s size r = (at_the_end run n asked text journal s size r).stands
+
+-- the end of a run whose last line was cut off
+module _ (run : Setup) (line : Line) (n asked asks : ℕ) (text : List ℕ) (journal journal' : List Act) (s : ScheduleValue) (size : length run.script ≡ n + 1) (r : Reaches run (line ∷ []) n asked text journal s)
+    (c : Cut (begun_to n (reached run journal)) [] (n + 1) asks journal journal') where
+  both : AllAllowed (at_start run) (journal ++ c.acts) × (begun_to (n + 1) (past (begun_to n (reached run journal)) c.acts) ≡ begun_to (n + 1) (reached run (journal ++ c.acts)))
+  both = joined n (at_start run) journal c.acts r.at.line r.allowed c.appends.allowed
+
+  cut_end : c.end ≡ at_end run journal'
+  cut_end = sym c.appends.reaches ∙ both.1 ∙ ap (λ acts. begun_to (n + 1) (reached run acts)) (sym c.appends.grows) ∙ ap (λ k. begun_to k (reached run journal')) (sym size)
+
+  pub Legal-cut : may_be_cut run.status ≡ true → Legal run journal'
+  Legal-cut cuts = record {
+    allowed = subst (λ acts. AllAllowed (at_start run) acts) (sym c.appends.grows) both.0;
+    ends = subst (λ q. (q.complete && (is_over q || may_be_cut run.status && may_stop q)) ≡ true) cut_end
+        (and_from c.end.complete (is_over c.end || may_be_cut run.status && may_stop c.end) c.complete
+        (subst (λ cut. (is_over c.end || cut && may_stop c.end) ≡ true) (sym cuts) c.stops));
+  }
+
+  pub printed-cut : (at_end run journal').printed ≡ text
+  printed-cut = ap (λ (q : Past). q.printed) (sym cut_end) ∙ c.appends.printed ∙ r.at.text

@@ -1,11 +1,11 @@
 -- Numbers of a few digits, and lengths of blocks.
-use Rattle.std.proofs.Common.{◌≡◌, ℕ, ◌^◌, ◌+◌, ◌-◌, ◌*◌, ◌<◌, ◌≤◌, true, false, not, ◌==◌, nat_le, List, [], ◌∷◌, length, get_or, take, arith, refl, zero, suc, None, inl, inr}
+use Rattle.std.proofs.Common.{◌≡◌, ℕ, ◌^◌, ◌+◌, ◌-◌, ◌*◌, ◌<◌, ◌≤◌, true, false, not, ◌==◌, nat_le, List, [], ◌∷◌, length, get_or, arith, refl, zero, suc, None, inl, inr}
 use Rattle.std.specs.List.{list_all}
 use Rattle.std.proofs.lemmas.Bool.{and_parts, cases_lt, leb-true}
 use Rattle.std.proofs.lemmas.Bool.Decides.{nat_tests}
 use Rattle.std.proofs.lemmas.Grind.{pow_more}
 use Rattle.std.proofs.Math.Nat.{pow-le-pow_right}
-use Rattle.jv_model.specs.script.Spelling.{is_decimal_digit, is_numeral, value_of}
+use Rattle.jv_model.specs.script.Spelling.{is_decimal_digit, is_numeral}
 use Rattle.jv_cmd.specs.Values.{as_block_size, is_block_size}
 
 -- ten times more

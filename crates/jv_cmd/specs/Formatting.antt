@@ -10,7 +10,6 @@ use Rattle.jv_outside.specs.Ticks.{Ticks, Passes}
 use Rattle.jv_rows.specs.FreshRows.{fresh_rows}
 use Rattle.jv_cmd.specs.declared.ended.Ended.{Ended}
 use Rattle.jv_cmd.specs.declared.ended.Ended.TheVariants.{Whole, VolumeExists, SettingOff, OutFailed, ClockFailed, KeeperFailed, OutOfMemory}
-use Rattle.jv_cmd.specs.Faults.{UsesKeeper, CountsFault, clock_failed, ended_by}
 use Rattle.jv_cmd.specs.Opening.{SettingRow, IsAbsent, IsSetting, IsOff}
 use Rattle.jv_cmd.specs.Worlds.{WorldValue}
 

@@ -4,10 +4,11 @@ use Rattle.jv_model.specs.declared.act.Act.{Act}
 use Rattle.jv_model.specs.declared.basics.Limits.{Limits}
 use Rattle.jv_model.specs.declared.op.Line.{Line}
 use Rattle.jv_model.specs.declared.setting.Setting.{Setting}
-use Rattle.jv_model.specs.run.Built.{is_built}
+use Rattle.jv_model.specs.journal.Built.{is_built}
 use Rattle.jv_model.specs.script.Grammar.{line_of}
-use Rattle.jv_model.specs.run.Legal.{Legal}
-use Rattle.jv_model.specs.run.Past.{Past, Setup, begun_to, reached, at_end, text_of}
+use Rattle.jv_model.specs.journal.Legal.{Legal}
+use Rattle.jv_model.specs.journal.Past.{Past, Setup, begun_to, reached, at_end, text_of}
+use Rattle.jv_model.specs.journal.Steps.{Start}
 use Rattle.jv_model.specs.tree.Tree.{fresh_tree}
 use Rattle.jv_outside.specs.Stream.{Gains}
 use Rattle.jv_outside.specs.Ticks.{Ticks}
@@ -27,14 +28,19 @@ pub record FreshVolume : Type 0 where
 abbrev pub session_limits : Limits
 session_limits = record { buffer = DEFAULT_BUFFER; entries = 16; writeback = false }
 
--- the run of lines over such a volume, with the clock's answers where they are known
+-- its tree, none of whose bytes is on a shelf, with all its numbers still to be given
+abbrev pub fresh_start : FreshVolume → Start
+fresh_start v = record { tree = fresh_tree v.setting v.made; shelved = λ inode position. []; next_slice = 1; records = 0 }
+
+-- The run of lines over such a volume, with the clock's answers where they are known. No thread uploads.
 abbrev pub session_run : FreshVolume → Option (ℕ → ℕ) → List Line → ℕ → Setup
 session_run v known lines status = record {
-  start = fresh_tree v.setting v.made;
+  start = fresh_start v;
   script = lines;
   limits = session_limits;
   uploads = 0;
   clock = known;
+  by_worker = λ entry. false;
   status = status;
 }
 
@@ -110,13 +116,26 @@ pub record PrintsPart (v : FreshVolume) (known : Option (ℕ → ℕ)) (before a
   pub proper : count < length said
   pub gains : Gains before.out.content after.out.content (printed_by v known earlier OutFailed (up_to (length earlier) after.journal) ++ take count said)
 
--- out has gained the text of the lines, or a part of it where out failed
+-- what the lines before the last one print
+abbrev pub printed_before_last : FreshVolume → Option (ℕ → ℕ) → List Line → Ended → List Act → List ℕ
+printed_before_last v known lines ended journal = (at_end (session_run v known lines (status_of ended)) journal).printed
+
+-- Memory ran out before a line was run, or on the last line, which was cut off and prints nothing.
+pub data PrintsUntil (v : FreshVolume) (known : Option (ℕ → ℕ)) (before after : WorldValue) (lines : List Line) : Type 0 where
+  AllLines : Gains before.out.content after.out.content (printed_by v known lines OutOfMemory after.journal) → PrintsUntil v known before after lines
+  AllButLast : Gains before.out.content after.out.content (printed_before_last v known lines OutOfMemory after.journal) → PrintsUntil v known before after lines
+
+-- Out has gained the text of the lines. Where out failed, it has gained a part of it; where the clock failed, or memory ran
+-- out, on a line, that of the lines before it.
 abbrev pub Prints : Ended → FreshVolume → Option (ℕ → ℕ) → WorldValue → WorldValue → List Line → Type 0
 Prints OutFailed v known before after lines = PrintsPart v known before after lines
+Prints ClockFailed v known before after lines = Gains before.out.content after.out.content (printed_before_last v known lines ClockFailed after.journal)
+Prints OutOfMemory v known before after lines = PrintsUntil v known before after lines
 Prints ended v known before after lines = Gains before.out.content after.out.content (printed_by v known lines ended after.journal)
 
--- The lines that were run, those before the end or, where out failed, those up to the one that it failed at: each of them
--- was built, their journal is legal for one POSIX tree, and their text was printed.
+-- The lines that were run: those before the end and, where out or the clock failed or memory ran out on a line, that line as
+-- the last one, which may be cut off then. Each of them was built, their journal is legal for one POSIX tree, and their text
+-- was printed.
 pub record RunsLines (v : FreshVolume) (before after : WorldValue) (ended : Ended) : Type 0 where
   pub texts : List (List ℕ)
   pub lines : List Line

@@ -3,13 +3,13 @@ use Rattle.std.specs.Prelude.{◌≡◌, ℕ, ◌+◌, ◌≤◌, Bool, true, fa
 use Rattle.jv_model.specs.declared.act.Act.{Act}
 use Rattle.jv_model.specs.declared.op.Line.{Line}
 use Rattle.jv_model.specs.script.Grammar.{line_of}
-use Rattle.jv_model.specs.run.Legal.{AllAllowed}
-use Rattle.jv_model.specs.run.Past.{Past, Setup, at_start, begun_to, past, reached}
+use Rattle.jv_model.specs.journal.Legal.{AllAllowed}
+use Rattle.jv_model.specs.journal.Past.{Past, Setup, at_start, begun_to, past, reached}
 use Rattle.jv_outside.specs.Causes.{Rose}
 use Rattle.jv_outside.specs.Stream.{Gains, HasAll, IsCut}
 use Rattle.jv_outside.specs.Ticks.{Passes}
-use Rattle.jv_session.specs.Agrees.{ScheduleValue, Stands, ClockFor}
-use Rattle.jv_session.specs.BuiltHere.{built_here}
+use Rattle.jv_session.specs.Lines.{LineState, line_state, FromThere, CutsLine}
+use Rattle.jv_session.specs.Stands.{ScheduleValue, Stands, built_here}
 use Rattle.jv_cmd.specs.declared.ended.Ended.{Ended}
 use Rattle.jv_cmd.specs.declared.ended.Ended.TheVariants.{OffLine, OutFailed, ClockFailed, OutOfMemory}
 use Rattle.jv_model.specs.declared.limits.TheConstants.{MAX_LINE, MAX_LINES}
@@ -24,7 +24,7 @@ pub record IsAt (p : Past) (run : Setup) (more : List Line) (done asks entries :
   pub stands : Stands p s
   pub same_run : p.run ≡ run
   pub rest : p.rest ≡ more
-  pub count : p.count ≡ entries
+  pub count : p.state.count ≡ entries
   pub asked : p.asked ≡ asks
   pub text : p.printed ++ p.said ≡ printed
 
@@ -85,12 +85,15 @@ pub record Goes (p : Past) (more : List Line) (number asks : ℕ) (before after 
   pub allowed : AllAllowed p acts
   pub at : IsAt (begun_to number (past p acts)) p.run more number (p.asked + asks) (length after) (p.printed ++ p.said ++ text) s
 
+-- what a line uses of the world
+abbrev pub used : WorldValue → ScheduleValue → LineState
+used world s = line_state world.clock world.journal s
+
 -- a line was run and prints this, from wherever the schedule stood
 pub record Advances (line : Line) (number : ℕ) (before after : WorldValue) (s s' : ScheduleValue) (printed : List ℕ) : Type 0 where
   pub asks : ℕ
   pub passes : Passes before.clock.answers after.clock.answers asks
-  pub goes : (p : Past) (more : List Line) → Stands p s → p.line + 1 ≡ number → p.rest ≡ line ∷ more → p.count ≡ length before.journal
-      → ClockFor p.run.clock p.asked before.clock.answers after.clock.answers → Goes p more number asks before.journal after.journal printed s'
+  pub goes : FromThere line number (used before s) (used after s') (λ p more. Goes p more number asks before.journal after.journal printed s')
 
 -- the line may be run where the schedule stands
 pub record IsBuiltHere (s : ScheduleValue) (line : Line) : Type 0 where
@@ -122,12 +125,6 @@ TextReads number text s (Err (OffLine at)) = (at ≡ number) × IsOffText text s
 TextReads number text s (Err OutOfMemory) = Unit {0}
 TextReads number text s (Err _) = ⊥
 
--- nothing has changed but the clock's count of faults
-pub record Leaves (before after : WorldValue) : Type 0 where
-  pub out : after.out ≡ before.out
-  pub answers : after.clock.answers ≡ before.clock.answers
-  pub journal : after.journal ≡ before.journal
-
 -- nothing has changed that lines use
 pub record IsStill (before after : WorldValue) : Type 0 where
   pub out : after.out ≡ before.out
@@ -148,12 +145,22 @@ pub record PrintsCut (line : Line) (number : ℕ) (before after : WorldValue) (s
   pub cut : IsCut before.out after.out printed
   pub clock : after.clock.faults ≡ before.clock.faults
 
+-- a line was cut off, and prints nothing
+pub record StopsIn (line : Line) (number : ℕ) (before after : WorldValue) (s s' : ScheduleValue) : Type 0 where
+  pub cut : CutsLine line number (used before s) (used after s')
+  pub out : after.out ≡ before.out
+
+-- memory ran out for a text: before its line was run, or on it
+pub data LacksMemory (number : ℕ) (text : List ℕ) (before after : WorldValue) (s s' : ScheduleValue) : Type 0 where
+  BeforeLine : IsStill before after → LacksMemory number text before after s s'
+  OnLine : (line : Line) → ReadsBuilt text s line → StopsIn line number before after s s' → after.clock.faults ≡ before.clock.faults → LacksMemory number text before after s s'
+
 -- by how the call for a line ended
 abbrev pub LineEnds : Line → ℕ → WorldValue → WorldValue → ScheduleValue → ScheduleValue → Result (Unit {0}) Ended → Type 0
 LineEnds line number before after s s' (Ok unit) = PrintsLine line number before after s s'
 LineEnds line number before after s s' (Err OutFailed) = PrintsCut line number before after s s'
-LineEnds line number before after s s' (Err ClockFailed) = Leaves before after × Rose before.clock.faults after.clock.faults
-LineEnds line number before after s s' (Err OutOfMemory) = IsStill before after
+LineEnds line number before after s s' (Err ClockFailed) = StopsIn line number before after s s' × Rose before.clock.faults after.clock.faults
+LineEnds line number before after s s' (Err OutOfMemory) = StopsIn line number before after s s' × (after.clock.faults ≡ before.clock.faults)
 LineEnds line number before after s s' (Err _) = ⊥
 
 -- by how the call for a text ended
@@ -161,6 +168,6 @@ abbrev pub TextEnds : ℕ → List ℕ → WorldValue → WorldValue → Schedul
 TextEnds number text before after s s' (Ok unit) = (line : Line) × ReadsBuilt text s line × PrintsLine line number before after s s'
 TextEnds number text before after s s' (Err OutFailed) = (line : Line) × ReadsBuilt text s line × PrintsCut line number before after s s'
 TextEnds number text before after s s' (Err (OffLine at)) = (at ≡ number) × IsOffText text s × IsStill before after
-TextEnds number text before after s s' (Err ClockFailed) = Leaves before after × Rose before.clock.faults after.clock.faults
-TextEnds number text before after s s' (Err OutOfMemory) = IsStill before after
+TextEnds number text before after s s' (Err ClockFailed) = (line : Line) × ReadsBuilt text s line × StopsIn line number before after s s' × Rose before.clock.faults after.clock.faults
+TextEnds number text before after s s' (Err OutOfMemory) = LacksMemory number text before after s s'
 TextEnds number text before after s s' (Err _) = ⊥

@@ -23,8 +23,9 @@ use std::alloc::Global;
 /// the words are refused, 3 if the next line isn't run, 4 if there is no volume for a session, or one for `format`, or the
 /// row of its setting is malformed or of a later version, 5 if a device failed, and 6 if the process is out of memory.
 /// Standard error has a text for each but the first, which ends with a line feed. Nothing after the end of the run is done,
-/// and everything before it is done, printed and in the journal. A device's count of faults rises only with status 5, by
-/// that device, and standard error's own faults are passed over.
+/// and everything before it is done, printed and in the journal. Where the clock fails or memory runs out on a line, the
+/// steps that the line made are in the journal, and it prints nothing. A device's count of faults rises only with status 5,
+/// by that device, and standard error's own faults are passed over.
 pub fn run<S: Source, O: Sink, E: Sink, K: Keeper, C: Clock>(
     alloc: Global,
     words: &[String],

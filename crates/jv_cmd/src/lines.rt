@@ -49,16 +49,17 @@ fn discard(line: Line) {
     drop(line);
 }
 
-/// Runs a line, and prints its answer where it has one.
+/// Runs a line, and prints its answer where it has one. Where the clock fails or memory runs out, the steps made so far
+/// stand, and nothing is printed.
 fn run_line<S: Source, O: Sink, E: Sink, K: Keeper, C: Clock>(
-    line: &Line,
+    line: Line,
     number: u32,
     schedule: &mut Schedule,
     world: &mut World<S, O, E, K, C>,
 ) -> Result<(), Ended>
-    requires { IsBuiltHere schedule.old line.now }
+    requires { IsBuiltHere schedule.old line }
     ensures ends { let seen = ⟦<World<S, O, E, K, C> as Observed>⟧.seen in
-        LineEnds line.now number (seen world.old) (seen world.new) schedule.old schedule.new result }
+        LineEnds line number (seen world.old) (seen world.new) schedule.old schedule.new result }
     ensures source { world.new.source ≡ world.old.source }
     ensures keeper { world.new.keeper ≡ world.old.keeper }
     ensures err { world.new.err ≡ world.old.err }
@@ -89,11 +90,7 @@ fn run_text<S: Source, O: Sink, E: Sink, K: Keeper, C: Clock>(
     ensures err { world.new.err ≡ world.old.err }
 {
     match read_built(alloc, number, text, schedule) {
-        Ok(line) => {
-            let ran = run_line(&line, number, schedule, world);
-            discard(line);
-            ran
-        }
+        Ok(line) => run_line(line, number, schedule, world),
         Err(ended) => Err(ended),
     }
 }

@@ -372,7 +372,7 @@ clock_followed run journal h (suc i) (suc j) le = follows_at (at_start run) jour
 
 -- entries are counted
 
-count_past : (p : Past) (acts : List Act) → (past p acts).state.count ≡ p.state.count + length acts
+pub count_past : (p : Past) (acts : List Act) → (past p acts).state.count ≡ p.state.count + length acts
 count_past p [] = omega arith
 count_past p (act ∷ acts) =
     let rest = count_past (advance p act) acts in

@@ -1,4 +1,7 @@
 -- Laws of the journal.
+pub mod BegunLines
+pub mod EndedLines
+pub mod EntriesOfLines
 pub mod JournalAnswerLaws
 pub mod JournalCleaningLaws
 pub mod JournalCloseLaws
@@ -10,3 +13,5 @@ pub mod JournalOwedLaws
 pub mod JournalReadLaws
 pub mod JournalStageLaws
 pub mod JournalStates
+pub mod NotedLines
+pub mod StepsOnLines

@@ -1,2 +1,3 @@
 -- What the laws say.
 pub mod Laws
+pub mod OnLines

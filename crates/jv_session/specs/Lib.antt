@@ -1,3 +1,4 @@
 -- The definitions that contracts cite.
 pub mod Stands
 pub mod Lines
+pub mod InLine

@@ -1,5 +1,5 @@
 -- When a schedule stands where a journal's past does.
-use Rattle.std.specs.Prelude.{◌≡◌, ℕ, ◌+◌, ◌≤◌, min, Bool, true, false, IsSome, IfSome, List, [], ◌∷◌, length, slice_get, Option, None, Some}
+use Rattle.std.specs.Prelude.{◌≡◌, ℕ, ◌+◌, ◌≤◌, min, Bool, true, false, IsSome, IfSome, is_some, List, [], ◌∷◌, length, slice_get, Option, None, Some}
 use Rattle.jv_model.specs.declared.limits.TheConstants.{LAST_MOMENT}
 use Rattle.jv_model.specs.declared.basics.Limits.{Limits}
 use Rattle.jv_model.specs.declared.op.Line.{Line}
@@ -68,6 +68,14 @@ held_in (Some c) = length c.pending
 
 abbrev pub held_at : ScheduleValue → ℕ → ℕ
 held_at s client = held_in (slice_get s.clients client)
+
+-- whether an operation of the client at a place is in progress
+abbrev pub busy_in : Option ClientValue → Bool
+busy_in None = false
+busy_in (Some c) = is_some c.doing
+
+abbrev pub client_is_busy : ScheduleValue → ℕ → Bool
+client_is_busy s client = busy_in (slice_get s.clients client)
 
 -- whether a line is built, by the schedule's own state
 abbrev pub built_op_here : ScheduleValue → ℕ → Op → Bool

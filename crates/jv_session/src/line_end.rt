@@ -1,4 +1,7 @@
 //! How the call for one line ended.
+ghost use Rattle.std.specs.Prelude.{◌≡◌};
+ghost use Rattle.jv_session.specs.InLine.{end_of};
+
 use jv_model::Bytes;
 
 /// What a line of a script came to.
@@ -12,4 +15,25 @@ pub enum LineEnd {
     ClockFailed,
     /// There was no memory for a step's entries or for the line's text; the steps made so far stand.
     Memory,
+}
+
+/// Why a call for a line stopped before a step.
+#[derive(Clone, Copy, Debug, PartialEq, Eq)]
+pub(crate) enum Stopped {
+    /// The clock failed.
+    Clock,
+    /// There was no room for the step's entries.
+    Memory,
+}
+
+impl Stopped {
+    /// How the line ended.
+    pub(crate) fn into_end(self) -> LineEnd
+        ensures { result ≡ end_of self }
+    {
+        match self {
+            Stopped::Clock => LineEnd::ClockFailed,
+            Stopped::Memory => LineEnd::Memory,
+        }
+    }
 }

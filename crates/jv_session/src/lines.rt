@@ -1,5 +1,12 @@
 //! The lines of a script, one method a form.
-use crate::line_end::LineEnd;
+ghost use Rattle.std.specs.Prelude.{◌≡◌, ◌≢◌, ℕ, ◌+◌, ◌<◌, ◌≤◌, ◌^◌, IsTrue, IsSome, IsSomeAnd, OnOk, OnErr, false, length, slice_get};
+ghost use Rattle.jv_model.specs.declared.op.Line.TheVariants as line;
+ghost use Rattle.jv_model.specs.declared.act.ActKind.TheVariants.{Crashed};
+ghost use Rattle.jv_session.specs.Stands.{built_op_here, client_is_busy};
+ghost use Rattle.jv_session.specs.Lines.{LineRuns, line_state};
+ghost use Rattle.jv_session.specs.InLine.{Crashes, IsRefused, LineGoes, LineSays, MakesStep, Moments, Notes, Passing, RunsToEnd, StepsOnce, Submits};
+
+use crate::line_end::{LineEnd, Stopped};
 use crate::schedule::Schedule;
 use crate::texts::{moment_text, text};
 use jv_model::{
@@ -15,7 +22,9 @@ fn discard(op: Op) {
 }
 
 /// A line that has this text, where there was memory for it.
-fn said(text: Result<Bytes, AllocError>) -> LineEnd {
+fn said(text: Result<Bytes, AllocError>) -> LineEnd
+    ensures { LineSays text result }
+{
     match text {
         Ok(text) => LineEnd::Said(text),
         Err(AllocError) => LineEnd::Memory,
@@ -31,13 +40,16 @@ impl Schedule {
         number: u32,
         clock: &mut C,
         journal: &mut Journal,
-    ) -> LineEnd {
-        match self.clients[client.number() as usize].submit(op) {
+    ) -> LineEnd
+        requires built { IsTrue (built_op_here self.old client op) }
+        ensures runs { LineRuns (line.Do client op) number
+            (line_state (C.seen clock.old) journal.old.acts self.old)
+            (line_state (C.seen clock.new) journal.new.acts self.new) result }
+        ensures some { result ≢ LineEnd.Quiet }
+    {
+        match self.submit(client, op) {
             Ok(()) => self.run_to_end(client, number, clock, journal),
-            Err((op, fault)) => {
-                discard(op);
-                self.refuse(client, fault, number, clock, journal)
-            }
+            Err(fault) => self.refuse(client, fault, number, clock, journal),
         }
     }
 
@@ -49,12 +61,29 @@ impl Schedule {
         number: u32,
         clock: &mut C,
         journal: &mut Journal,
-    ) -> LineEnd {
-        match self.clients[client.number() as usize].submit(op) {
+    ) -> LineEnd
+        requires built { IsTrue (built_op_here self.old client op) }
+        ensures runs { LineRuns (line.Begin client op) number
+            (line_state (C.seen clock.old) journal.old.acts self.old)
+            (line_state (C.seen clock.new) journal.new.acts self.new) result }
+        ensures some { result ≢ LineEnd.Quiet }
+    {
+        match self.submit(client, op) {
             Ok(()) => said(text(self.alloc, b"begun\n")),
+            Err(fault) => self.refuse(client, fault, number, clock, journal),
+        }
+    }
+
+    /// Begins an operation of a client, or refuses it.
+    fn submit(&mut self, client: ClientId, op: Op) -> Result<(), Fault>
+        requires built { IsTrue (built_op_here self.old client op) }
+        ensures { Submits self.old self.new client op result }
+    {
+        match self.clients[client.number() as usize].submit(op) {
+            Ok(()) => Ok(()),
             Err((op, fault)) => {
                 discard(op);
-                self.refuse(client, fault, number, clock, journal)
+                Err(fault)
             }
         }
     }
@@ -67,14 +96,26 @@ impl Schedule {
         number: u32,
         clock: &mut C,
         journal: &mut Journal,
-    ) -> LineEnd {
+    ) -> LineEnd
+        ensures goes { LineGoes (IsRefused client fault) number
+            (line_state (C.seen clock.old) journal.old.acts self.old)
+            (line_state (C.seen clock.new) journal.new.acts self.new) result }
+    {
         let told = ActKind::Answered {
             told: Told::Refused(fault),
         };
         match self.note(client.number(), told, 0, number, clock, journal) {
             Ok(_) => said(self.print(&Reply::Refused(fault))),
-            Err(end) => end,
+            Err(stopped) => stopped.into_end(),
         }
+    }
+
+    /// Whether an operation of the client is in progress.
+    fn is_busy(&self, client: ClientId) -> bool
+        ensures busy { result ≡ client_is_busy self.now client }
+        ensures low { client < length self.now.clients }
+    {
+        self.clients[client.number() as usize].busy()
     }
 
     /// Makes one step of the client's operation.
@@ -84,15 +125,35 @@ impl Schedule {
         number: u32,
         clock: &mut C,
         journal: &mut Journal,
-    ) -> LineEnd {
-        if !self.clients[client.number() as usize].busy() {
+    ) -> LineEnd
+        ensures runs { LineRuns (line.Step client) number
+            (line_state (C.seen clock.old) journal.old.acts self.old)
+            (line_state (C.seen clock.new) journal.new.acts self.new) result }
+        ensures some { result ≢ LineEnd.Quiet }
+    {
+        if !self.is_busy(client) {
             return said(text(self.alloc, b"idle\n"));
         }
+        self.step_once(client, number, clock, journal)
+    }
+
+    fn step_once<C: Clock>(
+        &mut self,
+        client: ClientId,
+        number: u32,
+        clock: &mut C,
+        journal: &mut Journal,
+    ) -> LineEnd
+        requires busy { IsTrue (client_is_busy self.old client) }
+        ensures goes { LineGoes (StepsOnce client) number
+            (line_state (C.seen clock.old) journal.old.acts self.old)
+            (line_state (C.seen clock.new) journal.new.acts self.new) result }
+    {
         match self.make_step(client, number, clock, journal) {
             Ok(Step::More) => said(text(self.alloc, b"more\n")),
             Ok(Step::Done(reply)) => said(self.print(&reply)),
             Ok(Step::Broken(..)) => unreachable!(),
-            Err(end) => end,
+            Err(stopped) => stopped.into_end(),
         }
     }
 
@@ -103,8 +164,13 @@ impl Schedule {
         number: u32,
         clock: &mut C,
         journal: &mut Journal,
-    ) -> LineEnd {
-        if !self.clients[client.number() as usize].busy() {
+    ) -> LineEnd
+        ensures runs { LineRuns (line.Run client) number
+            (line_state (C.seen clock.old) journal.old.acts self.old)
+            (line_state (C.seen clock.new) journal.new.acts self.new) result }
+        ensures some { result ≢ LineEnd.Quiet }
+    {
+        if !self.is_busy(client) {
             return said(text(self.alloc, b"idle\n"));
         }
         self.run_to_end(client, number, clock, journal)
@@ -116,25 +182,34 @@ impl Schedule {
         number: u32,
         clock: &mut C,
         journal: &mut Journal,
-    ) -> LineEnd {
+    ) -> LineEnd
+        requires busy { IsTrue (client_is_busy self.old client) }
+        ensures goes { LineGoes (RunsToEnd client) number
+            (line_state (C.seen clock.old) journal.old.acts self.old)
+            (line_state (C.seen clock.new) journal.new.acts self.new) result }
+    {
         loop {
             match self.make_step(client, number, clock, journal) {
                 Ok(Step::More) => {}
                 Ok(Step::Done(reply)) => return said(self.print(&reply)),
                 Ok(Step::Broken(..)) => unreachable!(),
-                Err(end) => return end,
+                Err(stopped) => return stopped.into_end(),
             }
         }
     }
 
-    /// Makes a step, at the moment that the clock answers. Without room for its entries nothing has changed.
+    /// Makes a step, at the moment that the clock answers. On error nothing has changed.
     fn make_step<C: Clock>(
         &mut self,
         client: ClientId,
         number: u32,
         clock: &mut C,
         journal: &mut Journal,
-    ) -> Result<Step, LineEnd> {
+    ) -> Result<Step, Stopped>
+        requires busy { IsTrue (client_is_busy self.old client) }
+        ensures steps { MakesStep self.old self.new number client (C.seen clock.old) (C.seen clock.new)
+            journal.old.acts journal.new.acts result }
+    {
         let now = self.next_moment(0, 2, clock, journal)?;
         let step = self.clients[client.number() as usize].step(
             &mut self.store,
@@ -153,13 +228,17 @@ impl Schedule {
         number: u32,
         clock: &mut C,
         journal: &mut Journal,
-    ) -> LineEnd {
+    ) -> LineEnd
+        ensures goes { LineGoes (Crashes client) number
+            (line_state (C.seen clock.old) journal.old.acts self.old)
+            (line_state (C.seen clock.new) journal.new.acts self.new) result }
+    {
         match self.note(client.number(), ActKind::Crashed, 0, number, clock, journal) {
             Ok(_) => {
                 self.clients[client.number() as usize].crash();
                 said(text(self.alloc, b"crashed\n"))
             }
-            Err(end) => end,
+            Err(stopped) => stopped.into_end(),
         }
     }
 
@@ -170,7 +249,11 @@ impl Schedule {
         number: u32,
         clock: &mut C,
         journal: &mut Journal,
-    ) -> LineEnd {
+    ) -> LineEnd
+        ensures goes { LineGoes (Passing by) number
+            (line_state (C.seen clock.old) journal.old.acts self.old)
+            (line_state (C.seen clock.new) journal.new.acts self.new) result }
+    {
         match self.note(
             NO_CLIENT,
             ActKind::Ticked { by },
@@ -183,11 +266,12 @@ impl Schedule {
                 self.ticks = LAST_MOMENT.min(self.ticks.saturating_add(by));
                 said(moment_text(self.alloc, now))
             }
-            Err(end) => end,
+            Err(stopped) => stopped.into_end(),
         }
     }
 
-    /// Appends the one entry of a line, at the moment that the clock answers.
+    /// Appends the one entry of a line, at the moment that the clock answers, which is returned in seconds. `by` more
+    /// seconds have passed. On error nothing has changed.
     fn note<C: Clock>(
         &mut self,
         client: u8,
@@ -196,7 +280,10 @@ impl Schedule {
         number: u32,
         clock: &mut C,
         journal: &mut Journal,
-    ) -> Result<u64, LineEnd> {
+    ) -> Result<u64, Stopped>
+        ensures notes { Notes self.old self.new number client kind by (C.seen clock.old)
+            (C.seen clock.new) journal.old.acts journal.new.acts result }
+    {
         let now = self.next_moment(by, 1, clock, journal)?;
         journal.push_reserved(Act {
             line: number,
@@ -216,12 +303,16 @@ impl Schedule {
         entries: usize,
         clock: &mut C,
         journal: &mut Journal,
-    ) -> Result<Moment, LineEnd> {
+    ) -> Result<Moment, Stopped>
+        ensures moment { Moments self.now by (C.seen clock.old) (C.seen clock.new) result }
+        ensures room { OnOk result (entries ≤ journal.new.spare) }
+        ensures same { journal.new.acts ≡ journal.old.acts }
+    {
         if journal.reserve(entries).is_err() {
-            return Err(LineEnd::Memory);
+            return Err(Stopped::Memory);
         }
         let Ok(answer) = clock.now() else {
-            return Err(LineEnd::ClockFailed);
+            return Err(Stopped::Clock);
         };
         let passed = self.ticks.saturating_add(by);
         let told = answer.seconds().saturating_add(passed);

@@ -1,7 +1,7 @@
-use Rattle.std.proofs.Common.{ℕ, ap, sym, subst, ◌∙◌}
+use Rattle.std.proofs.Common.{ap, sym, subst, ◌∙◌}
 use Rattle.jv_cmd.specs.Commands.{Opened}
 use Rattle.jv_cmd.specs.Run.{RunsLines}
-use Rattle.jv_cmd.specs.Worlds.{WorldValue, world_value}
+use Rattle.jv_cmd.specs.Worlds.{world_value}
 use Rattle.jv_cmd.proofs.CommandLaws.{UsesKeeper-lines}
 use Rattle.jv_cmd.proofs.command.run_session.Goals as goal
 

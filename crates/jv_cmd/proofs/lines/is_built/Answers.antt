@@ -1,9 +1,8 @@
 use Rattle.std.proofs.Common.{◌≡◌, Bool, true, false, sym}
 use Rattle.jv_model.specs.declared.op.Line.{Line}
-use Rattle.jv_model.specs.run.Built.{is_built}
-use Rattle.jv_model.specs.run.Past.{Past}
-use Rattle.jv_session.specs.Agrees.{ScheduleValue, Stands}
-use Rattle.jv_session.specs.BuiltHere.{built_here}
+use Rattle.jv_model.specs.journal.Built.{is_built}
+use Rattle.jv_model.specs.journal.Past.{Past}
+use Rattle.jv_session.specs.Stands.{ScheduleValue, Stands, built_here}
 use Rattle.jv_cmd.specs.Steps.{TellsBuilt}
 use Rattle.jv_cmd.proofs.lines.is_built.Goals as goal
 

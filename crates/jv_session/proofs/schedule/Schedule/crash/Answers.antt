@@ -1,0 +1,36 @@
+-- A crash is the line's one entry, and its client is as before any mount.
+use Rattle.std.proofs.Common.{◌≡◌, ℕ, ◌+◌, ◌≤◌, ◌<◌, length, slice_get, slice_set, get_or, List, Option, None, Some, Result, Ok, Err, refl, sym, ap, subst, ◌∙◌, arith}
+use Rattle.jv_session.specs.Stands.{ScheduleValue}
+use Rattle.jv_session.specs.Lines.{LineState, line_state}
+use Rattle.jv_model.specs.declared.act.ActKind.TheVariants.{Crashed}
+use Rattle.jv_client.specs.ClientValue.{ClientValue, crashed}
+use Rattle.jv_session.specs.InLine.{Crashes, LineGoes, Notes}
+use Rattle.jv_session.proofs.MemberLaws.{found_at}
+use Rattle.jv_session.proofs.NoteLaws.{crash_says, stops_noted, crash_breaks}
+use Rattle.jv_session.proofs.schedule.Schedule.crash.Goals as goal
+
+pub returns-in-Ok : goal.returns-in-Ok
+returns-in-Ok g c =
+    let before = line_state (g.C.Clock.seen c.args.clock.now) c.args.journal.now.acts c.args.self.now in
+    let noted : ScheduleValue = c.note.new.self in
+    let low = c.number-in-Ok.ensures.limit in
+    let eight = c.self.invariant.eight in
+    let k = c.number-in-Ok.result in
+    let old : ClientValue = get_or c.self.inside.clients k c.index-self-number.result in
+    let inside = found_at c.self.inside.clients k c.index-self-number.result (omega (arith, low, eight)) in
+    let found : slice_get noted.clients k ≡ Some old = subst (λ (v : ScheduleValue). slice_get v.clients k ≡ Some old) c.self.view_is inside in
+    let last : ScheduleValue = record { limits = c.self.inside.limits; at = c.self.inside.at; ticks = c.self.inside.ticks; clients = slice_set c.self.inside.clients k c.crash.new.self; store = c.self.inside.store } in
+    let after = line_state (g.C.Clock.seen c.note.new.clock) c.note.new.journal.acts last in
+    let same : last ≡ record noted { clients = slice_set noted.clients k (crashed old) } =
+    ap (λ (v : ScheduleValue). record v { clients = slice_set v.clients k c.crash.new.self }) c.self.view_is
+    ∙ ap (λ (new : ClientValue). record noted { clients = slice_set noted.clients k new }) c.crash.ensures in
+    let notes = subst (λ n. Notes c.args.self.now noted c.args.number n Crashed 0 (g.C.Clock.seen c.args.clock.now) (g.C.Clock.seen c.note.new.clock) c.args.journal.now.acts c.note.new.journal.acts c.note.result)
+        (c.number.ensures.number ∙ sym c.number-in-Ok.ensures.number) c.note.ensures.notes in
+    record { goes = subst (λ n. LineGoes (Crashes n) c.args.number before after c.said.result) c.number-in-Ok.ensures.number
+        (crash_says k c.args.number before after noted old c.in-Ok.field-0 c.note.result c.text.result c.said.result notes c.in-Ok.is found same c.text.ensures c.said.ensures) }
+
+pub returns-in-Err : goal.returns-in-Err
+returns-in-Err g c =
+    let before = line_state (g.C.Clock.seen c.args.clock.now) c.args.journal.now.acts c.args.self.now in
+    let after = line_state (g.C.Clock.seen c.note.new.clock) c.note.new.journal.acts c.note.new.self in
+    record { goes = stops_noted (Crashes c.args.client) c.number.result c.args.number 0 _ before after c.note.result c.in-Err.stopped c.into_end.result (crash_breaks c.args.client c.args.self.now) c.note.ensures.notes c.in-Err.is c.into_end.ensures }
