@@ -1,10 +1,10 @@
 -- Short parts at the front of a text: a pair of digits, alone or with a count of one digit.
-use Rattle.std.proofs.Common.{◌≡◌, ℕ, zero, suc, ◌-◌, ◌<◌, ◌≤◌, ◌&&◌, ◌==◌, Bool, true, false, List, [], ◌∷◌, ◌++◌, Some, length, get_or, take, drop, replicate, option_map, refl, sym, ap, ◌∙◌, arith}
+use Rattle.std.proofs.Common.{◌≡◌, ℕ, zero, suc, ◌+◌, ◌-◌, ◌<◌, ◌≤◌, ◌&&◌, ◌==◌, Bool, true, false, List, [], ◌∷◌, ◌++◌, Some, length, get_or, take, drop, replicate, option_map, refl, sym, ap, ◌∙◌, arith}
 use Rattle.std.proofs.lemmas.Bool.{eq-eqb, eqb-true, le-leb, lt-ltb, false≢true, false_from_ne_true}
 use Rattle.std.proofs.lemmas.List.{take_rest}
 use Rattle.std.proofs.lemmas.List.Splits.{slice_split_at}
 use Rattle.jv_model.specs.script.Spelling.{is_hex_digit, number_of, value_of}
-use Rattle.jv_model.specs.script.Printed.{Repeated}
+use Rattle.jv_model.specs.script.Printed.{Plain, Repeated}
 use Rattle.jv_model.specs.script.Grammar.{provided, byte_of, parted, is_pairs, repeated_of, part_of, part_bytes}
 use Rattle.jv_script.specs.Reading.{IsShortPart}
 use Rattle.jv_script.proofs.DigitLaws.{number_in}

@@ -55,6 +55,7 @@ pub record PrintsTo (old bytes : List ℕ) (was : Bool) (new rest : List ℕ) (i
   pub text : new ++ rest_text rest is ≡ old ++ rest_text bytes was
   pub fewer : length rest < length bytes
 
+-- the same, whether the text was within a plain part or not
 abbrev pub PrintsFromAny : List ℕ → List ℕ → List ℕ → List ℕ → Bool → Type 0
 PrintsFromAny old bytes new rest is = (was : Bool) → PrintsTo old bytes was new rest is
 

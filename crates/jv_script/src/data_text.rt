@@ -8,7 +8,8 @@ use crate::repeats::{begins_long_repeat, long_repeat_length, plain_length};
 use jv_slices::push_decimal;
 use std::alloc::AllocError;
 
-/// Where a multiple of so many bytes is left, the whole of a plain part is printed at once, which is faster for a long one.
+/// Plain bytes are printed one by one, the fastest for a few of them. Where a multiple of so many bytes is left, the rest of
+/// the plain part is printed at once, the fastest for many.
 const STRIDE: usize = 64;
 
 #[tactic(auto, unfolding(jv_model::specs::script::Printed::data_text))]
@@ -20,6 +21,7 @@ pub(crate) fn push_data(text: &mut Vec<u8>, bytes: &[u8]) -> Result<(), AllocErr
         return Ok(());
     }
     let mut rest = bytes;
+    // whether the text ends inside a plain part, which more plain bytes would continue
     let mut is_inside = false;
     while !rest.is_empty() {
         if begins_long_repeat(rest) {
@@ -36,7 +38,8 @@ pub(crate) fn push_data(text: &mut Vec<u8>, bytes: &[u8]) -> Result<(), AllocErr
     Ok(())
 }
 
-// Prints the long repeat at the front, after a plain part or not, and the `+` after it. Returns the bytes after it.
+// Prints the long repeat at the front, with a `+` before it if the text ends inside a plain part, and one after it if there
+// are more bytes. Returns those.
 fn push_long<'a>(
     text: &mut Vec<u8>,
     bytes: &'a [u8],
@@ -54,7 +57,7 @@ fn push_long<'a>(
     Ok(rest)
 }
 
-// Prints the bytes before the first long repeat, and the `+` after them. Returns the bytes after them.
+// Prints the bytes before the first long repeat, and a `+` if there are more bytes. Returns those.
 fn push_plain<'a>(text: &mut Vec<u8>, bytes: &'a [u8]) -> Result<&'a [u8], AllocError>
     requires some { 0 < length bytes.now }
     requires plain { begins_long bytes.now ≡ false }
@@ -67,7 +70,7 @@ fn push_plain<'a>(text: &mut Vec<u8>, bytes: &'a [u8]) -> Result<&'a [u8], Alloc
     Ok(rest)
 }
 
-// Prints the first byte, of a plain part. Returns the bytes after it.
+// Prints the first byte, and leaves its plain part open. Returns the bytes after it.
 fn push_byte<'a>(text: &mut Vec<u8>, bytes: &'a [u8]) -> Result<&'a [u8], AllocError>
     requires some { 0 < length bytes.now }
     requires plain { begins_long bytes.now ≡ false }

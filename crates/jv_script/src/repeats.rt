@@ -8,13 +8,14 @@ const BLOCK: usize = 64;
 /// The bytes of the shortest long repeat.
 const LONG: usize = 4;
 
-/// The bytes after those, up to a count of two digits.
+/// With so many bytes beyond those a count has two digits.
 const FEW_MORE: usize = 6;
 
 /// The bytes after its first that make a repeat a long one.
 const BEYOND: usize = 3;
 
-/// Whether a long repeat begins at the first byte.
+/// Whether a long repeat begins at the first byte. Counts the equal neighbours: `&&` or `&` would become a branch each, and
+/// the processor can't guess where short repeats end.
 pub(crate) fn begins_long_repeat(bytes: &[u8]) -> bool
     ensures { result ≡ begins_long bytes.now }
 {
@@ -39,8 +40,8 @@ pub(crate) fn long_repeat_length(bytes: &[u8]) -> usize
     repeat_length(bytes)
 }
 
-// How many bytes at the front are this one. Looks at every byte, with no way out of the loop: the processor can't guess
-// when a short repeat ends.
+// How many bytes at the front are this one. Looks at every byte, since leaving the loop would be a branch that the
+// processor can't guess.
 fn front_count(byte: u8, bytes: &[u8]) -> usize
     ensures { IsFrontCount byte bytes.now result }
 {
