@@ -1,6 +1,7 @@
 -- Lemmas on texts, their parts and repeats.
 pub mod CutLaws
 pub mod DataRoundTripLaws
+pub mod DataTextLaws
 pub mod DigitLaws
 pub mod EntryLaws
 pub mod EscapeLaws

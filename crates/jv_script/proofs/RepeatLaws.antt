@@ -1,14 +1,14 @@
 -- Repeats of bytes, and the parts that they are printed as.
-use Rattle.std.proofs.Common.{◌≡◌, ◌≢◌, ℕ, zero, suc, ◌+◌, ◌-◌, add-zero, ◌<◌, ◌≤◌, ◌&&◌, ◌==◌, nat_le, inl, inr, Bool, true, false, cond, eqb, List, [], ◌∷◌, ◌++◌, length, get_or, take, drop, replicate, map, refl, sym, ap, ◌∙◌, subst, arith}
+use Rattle.std.proofs.Common.{◌≡◌, ◌≢◌, ℕ, zero, suc, ◌+◌, ◌-◌, add-zero, ◌<◌, ◌≤◌, ◌&&◌, ◌==◌, inl, inr, Bool, true, false, cond, eqb, List, [], ◌∷◌, ◌++◌, length, get_or, take, drop, replicate, map, refl, sym, ap, ◌∙◌, arith}
 use Rattle.std.specs.List.{flat_map, join_with_byte}
 use Rattle.std.proofs.lemmas.Bool.{eq-eqb, eqb-true, ne_eqb, le-leb, lt-leb, cases_lt, false≢true}
 use Rattle.std.proofs.lemmas.List.{append-nil, append_assoc, take-append-drop, length-take, length-take-le, length-drop, length-replicate, get_or-take, get_or-drop, get_or-replicate, drop-drop}
 use Rattle.std.proofs.lemmas.Grind.{same_number_lists}
-use Rattle.jv_model.specs.script.Printed.{hex_pair, Run, with_byte, runs_of, Part, Plain, Repeated, with_short, parts_of, part_text, data_text}
-use Rattle.jv_script.specs.Printing.{IsFirstRepeat, begins_long, HasNoLongBefore, PrintsPart}
+use Rattle.jv_model.specs.script.Printed.{Run, with_byte, runs_of, Part, Plain, Repeated, with_short, parts_of, part_text, data_text}
+use Rattle.jv_script.specs.Printing.{IsFirstRepeat, IsFrontCount, begins_long, HasNoLongBefore}
 
 -- one more byte in front makes a run of that byte the first
-with_byte-first : (byte : ℕ) (runs : List Run) → (count : ℕ) × (more : List Run) × (1 ≤ count) × (with_byte byte runs ≡ record { byte = byte; count = count } ∷ more)
+pub with_byte-first : (byte : ℕ) (runs : List Run) → (count : ℕ) × (more : List Run) × (1 ≤ count) × (with_byte byte runs ≡ record { byte = byte; count = count } ∷ more)
 with_byte-first byte [] = (1, [], omega arith, refl)
 with_byte-first byte (run ∷ runs) = either (eqb byte run.byte)
   where
@@ -157,7 +157,7 @@ short_more b y n more short = by_test (b == y) refl
     by_test false other = refl
 
 -- a byte that begins no long run goes into the part after it
-short_first : (b : ℕ) (ys : List ℕ) → begins_long (b ∷ ys) ≡ false → parts_of (runs_of (b ∷ ys)) ≡ with_short (b ∷ []) (parts_of (runs_of ys))
+pub short_first : (b : ℕ) (ys : List ℕ) → begins_long (b ∷ ys) ≡ false → parts_of (runs_of (b ∷ ys)) ≡ with_short (b ∷ []) (parts_of (runs_of ys))
 short_first b [] short = refl
 short_first b (y ∷ ys) short =
     let (n, more, some, first) = with_byte-first y (runs_of ys) in
@@ -196,13 +196,6 @@ more_text parts = flat_map (λ part. 43 ∷ part_text part) parts
 pub joined-cons : (part : Part) (parts : List Part) → join_with_byte 43 (map part_text (part ∷ parts)) ≡ part_text part ++ more_text parts
 joined-cons part [] = sym (append-nil (part_text part))
 joined-cons part (next ∷ parts) = ap (λ (text : List ℕ). part_text part ++ 43 ∷ text) (joined-cons next parts)
-
--- the first part is printed
-pub first_printed : (old new bytes rest : List ℕ) → PrintsPart old new bytes rest → 0 < length bytes → new ++ more_text (parts_of (runs_of rest)) ≡ old ++ data_text bytes
-first_printed old new bytes rest printed some =
-    ap (λ (text : List ℕ). text ++ more_text (parts_of (runs_of rest))) printed.text
-    ∙ append_assoc old (part_text printed.part) (more_text (parts_of (runs_of rest)))
-    ∙ ap (λ (text : List ℕ). old ++ text) (sym (text_of bytes some ∙ ap (λ (parts : List Part). join_with_byte 43 (map part_text parts)) printed.parts ∙ joined-cons printed.part (parts_of (runs_of rest))))
 
 -- a place where a long repeat begins, if none begins at the first byte
 pub not_first : (bytes : List ℕ) (n : ℕ) → begins_long bytes ≡ false → begins_long (drop n bytes) ≡ true → 0 < n
@@ -246,3 +239,28 @@ none_more n bytes none next k below = elim (cases_lt k n) [
   | inl less ↦ none k less
   | inr ge ↦ let same : k ≡ n = omega arith in ap (λ (k : ℕ). begins_long (drop k bytes)) same ∙ next
 ]
+
+-- the first four bytes of a long repeat
+pub long_same : (bytes : List ℕ) → begins_long bytes ≡ true → (k : ℕ) → k < 4 → (k < length bytes) × (get_or bytes k 0 ≡ get_or bytes 0 0)
+long_same [] long k below = absurd (false≢true long)
+long_same (a ∷ []) long k below = absurd (false≢true long)
+long_same (a ∷ b ∷ []) long k below = absurd (false≢true long)
+long_same (a ∷ b ∷ c ∷ []) long k below = absurd (false≢true long)
+long_same (a ∷ b ∷ c ∷ d ∷ ys) long zero below = (omega arith, refl)
+long_same (a ∷ b ∷ c ∷ d ∷ ys) long (suc zero) below = (omega arith, (all_equal a b c d long).0)
+long_same (a ∷ b ∷ c ∷ d ∷ ys) long (suc (suc zero)) below = (omega arith, (all_equal a b c d long).1)
+long_same (a ∷ b ∷ c ∷ d ∷ ys) long (suc (suc (suc zero))) below = (omega arith, (all_equal a b c d long).2)
+long_same (a ∷ b ∷ c ∷ d ∷ ys) long (suc (suc (suc (suc k)))) below = absurd (omega arith)
+
+-- a long repeat that ends among the bytes after its first four
+pub long_count : (bytes few : List ℕ) (n : ℕ) → begins_long bytes ≡ true → IsFrontCount (get_or bytes 0 0) few n → n < length few → ((k : ℕ) → k < length few → (4 + k < length bytes) × (get_or few k 0 ≡ get_or bytes (4 + k) 0)) → IsFirstRepeat bytes (4 + n)
+long_count bytes few n long count ends at =
+    first_repeat bytes (4 + n) (omega (arith, (long_same bytes long 0 (omega arith)).0)) (omega (arith, (at n ends).0)) each (λ more e. count.other ends ((at n ends).1 ∙ e))
+  where
+    each : (k : ℕ) → k < 4 + n → get_or bytes k 0 ≡ get_or bytes 0 0
+    each k below = elim (cases_lt k 4) [
+      | inl less ↦ (long_same bytes long k less).1
+      | inr ge ↦
+          let place : 4 + (k - 4) ≡ k = omega arith in
+          ap (λ (k : ℕ). get_or bytes k 0) (sym place) ∙ sym (at (k - 4) (omega arith)).1 ∙ count.same (k - 4) (omega arith)
+    ]

@@ -1,12 +1,16 @@
 //! Prints DATA, the bytes of a read: `-` for none, or parts joined by `+`.
-ghost use Rattle.std.specs.Prelude.{◌≡◌, ◌<◌, ◌++◌, length, IfOk, OnOk};
+ghost use Rattle.std.specs.Prelude.{◌≡◌, ◌<◌, ◌++◌, false, true, length, IfOk, OnOk};
 ghost use Rattle.jv_model.specs.script.Printed.{data_text, part_text, Repeated};
-ghost use Rattle.jv_script.specs.Printing.{PrintsPart};
+ghost use Rattle.jv_script.specs.Printing.{begins_long, joint, PrintsFromAny, PrintsTo};
 
 use crate::hex_text::{hex_pair, push_digits};
-use crate::repeats::{begins_long_repeat, plain_length, repeat_length};
+use crate::repeats::{begins_long_repeat, long_repeat_length, plain_length};
 use jv_slices::push_decimal;
 use std::alloc::AllocError;
+
+/// Plain bytes are printed one by one, the fastest for a few of them. Where a multiple of so many bytes is left, the rest of
+/// the plain part is printed at once, the fastest for many.
+const STRIDE: usize = 64;
 
 #[tactic(auto, unfolding(jv_model::specs::script::Printed::data_text))]
 pub(crate) fn push_data(text: &mut Vec<u8>, bytes: &[u8]) -> Result<(), AllocError>
@@ -16,27 +20,74 @@ pub(crate) fn push_data(text: &mut Vec<u8>, bytes: &[u8]) -> Result<(), AllocErr
         text.push(b'-')?;
         return Ok(());
     }
-    let mut rest = push_part(text, bytes)?;
+    let mut rest = bytes;
+    // whether the text ends inside a plain part, which more plain bytes would continue
+    let mut is_inside = false;
     while !rest.is_empty() {
-        text.push(b'+')?;
-        rest = push_part(text, rest)?;
+        if begins_long_repeat(rest) {
+            rest = push_long(text, rest, is_inside)?;
+            is_inside = false;
+        } else if rest.len() % STRIDE == 0 {
+            rest = push_plain(text, rest)?;
+            is_inside = false;
+        } else {
+            rest = push_byte(text, rest)?;
+            is_inside = true;
+        }
     }
     Ok(())
 }
 
-// Prints the first part, a long repeat or the bytes before the next one. Returns the bytes after it.
-fn push_part<'a>(text: &mut Vec<u8>, bytes: &'a [u8]) -> Result<&'a [u8], AllocError>
-    requires { 0 < length bytes.now }
-    ensures { IfOk result (λ rest. PrintsPart text.old.items text.new.items bytes.now rest.now) }
+// Prints the long repeat at the front, with a `+` before it if the text ends inside a plain part, and one after it if there
+// are more bytes. Returns those.
+fn push_long<'a>(
+    text: &mut Vec<u8>,
+    bytes: &'a [u8],
+    is_inside: bool,
+) -> Result<&'a [u8], AllocError>
+    requires { begins_long bytes.now ≡ true }
+    ensures { IfOk result (λ rest.
+        PrintsTo text.old.items bytes.now is_inside text.new.items rest.now false) }
 {
-    if begins_long_repeat(bytes) {
-        let count = repeat_length(bytes);
-        push_repeat(text, bytes[0], count)?;
-        return Ok(bytes.split_at(count).1);
-    }
+    push_joint(text, is_inside)?;
+    let count = long_repeat_length(bytes);
+    push_repeat(text, bytes[0], count)?;
+    let rest = bytes.split_at(count).1;
+    push_joint(text, !rest.is_empty())?;
+    Ok(rest)
+}
+
+// Prints the bytes before the first long repeat, and a `+` if there are more bytes. Returns those.
+fn push_plain<'a>(text: &mut Vec<u8>, bytes: &'a [u8]) -> Result<&'a [u8], AllocError>
+    requires some { 0 < length bytes.now }
+    requires plain { begins_long bytes.now ≡ false }
+    ensures { IfOk result (λ rest.
+        PrintsFromAny text.old.items bytes.now text.new.items rest.now false) }
+{
     let (plain, rest) = bytes.split_at(plain_length(bytes));
     push_digits(text, plain)?;
+    push_joint(text, !rest.is_empty())?;
     Ok(rest)
+}
+
+// Prints the first byte, and leaves its plain part open. Returns the bytes after it.
+fn push_byte<'a>(text: &mut Vec<u8>, bytes: &'a [u8]) -> Result<&'a [u8], AllocError>
+    requires some { 0 < length bytes.now }
+    requires plain { begins_long bytes.now ≡ false }
+    ensures { IfOk result (λ rest.
+        PrintsFromAny text.old.items bytes.now text.new.items rest.now true) }
+{
+    text.extend_from_slice(&hex_pair(bytes[0]))?;
+    Ok(bytes.split_at(1).1)
+}
+
+fn push_joint(text: &mut Vec<u8>, is_wanted: bool) -> Result<(), AllocError>
+    ensures { OnOk result (text.new.items ≡ text.old.items ++ joint is_wanted) }
+{
+    if is_wanted {
+        text.push(b'+')?;
+    }
+    Ok(())
 }
 
 #[tactic(auto, using(std::proofs::lemmas::Fmt::decimal_digit))]

@@ -1,0 +1,89 @@
+-- What is printed of DATA so far, and the text of the bytes to come.
+use Rattle.std.proofs.Common.{nat_le, ◌≡◌, ℕ, ◌<◌, ◌==◌, Bool, true, false, not, cond, List, [], ◌∷◌, ◌++◌, length, get_or, drop, replicate, refl, sym, ap, ◌∙◌, arith}
+use Rattle.std.specs.List.{flat_map}
+use Rattle.std.proofs.lemmas.Bool.{ne_eqb}
+use Rattle.std.proofs.lemmas.List.{append-nil, append_assoc}
+use Rattle.std.proofs.lemmas.Grind.{flat_map-append}
+use Rattle.jv_model.specs.script.Printed.{hex_pair, Run, runs_of, Part, Plain, Repeated, with_short, parts_of, part_text}
+use Rattle.jv_script.specs.Printing.{begins_long, joint, joined, parts_text, rest_text}
+use Rattle.jv_script.proofs.RepeatLaws.{with_byte-first, short_first}
+
+-- between parts
+at_start : (parts : List Part) → parts_text parts false ≡ joined parts
+at_start [] = refl
+at_start (Plain bytes ∷ parts) = refl
+at_start (Repeated run ∷ parts) = refl
+
+-- bytes of which some are there have a part
+some_parts : (bytes : List ℕ) → 0 < length bytes → (part : Part) × (parts : List Part) × (parts_of (runs_of bytes) ≡ part ∷ parts)
+some_parts [] some = absurd (omega arith)
+some_parts (byte ∷ bytes) some =
+    let first = with_byte-first byte (runs_of bytes) in
+    let (part, parts, are) = of_run (record { byte = byte; count = first.0 }) first.1 in
+    (part, parts, ap parts_of first.3 ∙ are)
+  where
+    after_short : (bytes : List ℕ) (parts : List Part) → (part : Part) × (more : List Part) × (with_short bytes parts ≡ part ∷ more)
+    after_short bytes [] = (Plain bytes, [], refl)
+    after_short bytes (Plain more ∷ parts) = (Plain (bytes ++ more), parts, refl)
+    after_short bytes (Repeated run ∷ parts) = (Plain bytes, Repeated run ∷ parts, refl)
+
+    of_run : (run : Run) (runs : List Run) → (part : Part) × (parts : List Part) × (parts_of (run ∷ runs) ≡ part ∷ parts)
+    of_run run runs = by_test (nat_le 4 run.count)
+      where
+        by_test : (v : Bool) → (part : Part) × (parts : List Part) × (cond v (Repeated run ∷ parts_of runs) (with_short (replicate run.count run.byte) (parts_of runs)) ≡ part ∷ parts)
+        by_test true = (Repeated run, parts_of runs, refl)
+        by_test false = after_short (replicate run.count run.byte) (parts_of runs)
+
+-- a part, and the text of the bytes after it
+joined_before : (part : Part) (bytes : List ℕ) → joined (part ∷ parts_of (runs_of bytes)) ≡ part_text part ++ (joint (not (length bytes == 0)) ++ rest_text bytes false)
+joined_before part [] = sym (append-nil (part_text part))
+joined_before part (byte ∷ bytes) =
+    let (next, parts, are) = some_parts (byte ∷ bytes) (omega arith) in
+    let some : length (byte ∷ bytes) == 0 ≡ false = ne_eqb (length (byte ∷ bytes)) 0 (λ e. absurd (omega (arith, e))) in
+    rw some
+    (ap (λ (parts : List Part). joined (part ∷ parts)) are
+    ∙ sym (ap (λ (text : List ℕ). part_text part ++ 43 ∷ text) (at_start (parts_of (runs_of (byte ∷ bytes))) ∙ ap joined are)))
+
+-- a long repeat is printed, after a plain part or not
+pub long_printed : (old first second new bytes rest : List ℕ) (run : Run) (inside : Bool) → first ≡ old ++ joint inside → second ≡ first ++ part_text (Repeated run) → new ≡ second ++ joint (not (length rest == 0))
+    → parts_of (runs_of bytes) ≡ Repeated run ∷ parts_of (runs_of rest) → new ++ rest_text rest false ≡ old ++ rest_text bytes inside
+long_printed old first second new bytes rest run inside opened repeated closed parts =
+    let after = joint (not (length rest == 0)) in
+    let more = rest_text rest false in
+    ap (λ (text : List ℕ). text ++ more) (closed ∙ ap (λ (text : List ℕ). text ++ after) (repeated ∙ ap (λ (text : List ℕ). text ++ part_text (Repeated run)) opened))
+    ∙ append_assoc ((old ++ joint inside) ++ part_text (Repeated run)) after more
+    ∙ append_assoc (old ++ joint inside) (part_text (Repeated run)) (after ++ more)
+    ∙ append_assoc old (joint inside) (part_text (Repeated run) ++ (after ++ more))
+    ∙ ap (λ (text : List ℕ). old ++ text) (ap (λ (text : List ℕ). joint inside ++ text) (sym (joined_before (Repeated run) rest))
+    ∙ sym (ap (λ (parts : List Part). parts_text parts inside) parts ∙ opened_by inside))
+  where
+    opened_by : (inside : Bool) → parts_text (Repeated run ∷ parts_of (runs_of rest)) inside ≡ joint inside ++ joined (Repeated run ∷ parts_of (runs_of rest))
+    opened_by true = refl
+    opened_by false = refl
+
+-- the rest of a plain part is printed
+pub plain_printed : (old first new bytes plain rest : List ℕ) → first ≡ old ++ flat_map hex_pair plain → new ≡ first ++ joint (not (length rest == 0)) → parts_of (runs_of bytes) ≡ Plain plain ∷ parts_of (runs_of rest)
+    → (was : Bool) → new ++ rest_text rest false ≡ old ++ rest_text bytes was
+plain_printed old first new bytes plain rest printed closed parts was =
+    let after = joint (not (length rest == 0)) in
+    let more = rest_text rest false in
+    ap (λ (text : List ℕ). text ++ more) (closed ∙ ap (λ (text : List ℕ). text ++ after) printed)
+    ∙ append_assoc (old ++ flat_map hex_pair plain) after more
+    ∙ append_assoc old (flat_map hex_pair plain) (after ++ more)
+    ∙ ap (λ (text : List ℕ). old ++ text) (sym (joined_before (Plain plain) rest) ∙ sym (ap (λ (parts : List Part). parts_text parts was) parts))
+
+-- short runs go into the part after them
+short_text : (bytes : List ℕ) (parts : List Part) (was : Bool) → parts_text (with_short bytes parts) was ≡ flat_map hex_pair bytes ++ parts_text parts true
+short_text bytes [] was = sym (append-nil (flat_map hex_pair bytes))
+short_text bytes (Plain more ∷ []) was = flat_map-append hex_pair bytes more
+short_text bytes (Plain more ∷ next ∷ parts) was =
+    ap (λ (text : List ℕ). text ++ 43 ∷ joined (next ∷ parts)) (flat_map-append hex_pair bytes more)
+    ∙ append_assoc (flat_map hex_pair bytes) (flat_map hex_pair more) (43 ∷ joined (next ∷ parts))
+short_text bytes (Repeated run ∷ parts) was = refl
+
+-- one byte of a plain part is printed
+pub byte_printed : (old bytes : List ℕ) → 0 < length bytes → begins_long bytes ≡ false → (was : Bool) → (old ++ hex_pair (get_or bytes 0 0)) ++ rest_text (drop 1 bytes) true ≡ old ++ rest_text bytes was
+byte_printed old [] some short was = absurd (omega arith)
+byte_printed old (byte ∷ bytes) some short was =
+    append_assoc old (hex_pair byte) (rest_text bytes true)
+    ∙ ap (λ (text : List ℕ). old ++ text) (sym (ap (λ (parts : List Part). parts_text parts was) (short_first byte bytes short) ∙ short_text (byte ∷ []) (parts_of (runs_of bytes)) was))
