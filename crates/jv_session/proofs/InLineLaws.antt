@@ -153,11 +153,14 @@ says Where number asks before after text (Ok t) end passes calm goes is said = s
   calm = calm;
   goes = λ q there line at count clock. finish_says q asks before.journal after.journal text t after.schedule is (goes q there line at count clock);
 })
-says Where number asks before after text (Err e) end passes calm goes is said = subst (LineGoes Where number before after) (sym said) (record {
-  asks = asks;
-  passes = passes;
-  goes = λ q there line at count clock. breaks_after q asks before.journal after.journal text after.schedule (goes q there line at count clock);
-}, calm)
+says Where number asks before after text (Err e) end passes calm goes is said = subst (LineGoes Where number before after) (sym said) (
+  record {
+    asks = asks;
+    passes = passes;
+    goes = λ q there line at count clock. breaks_after q asks before.journal after.journal text after.schedule (goes q there line at count clock);
+  },
+  calm,
+)
 
 -- a line that stops before a step
 
@@ -175,16 +178,22 @@ goes_none q journal count = record {
 
 pub stops_at : (Where : Past → Type 0) (number : ℕ) (before after : LineState) (why : Stopped) → MayBreak Where before.schedule → StopsBefore before.clock after.clock why → after.journal ≡ before.journal
     → LineGoes Where number before after (end_of why)
-stops_at Where number before after stopped.Clock may h same = (record {
-  asks = 0;
-  passes = subst (λ (a : Option (ℕ → ℕ)). Passes before.clock.answers a 0) (sym h.0) (Passes-zero before.clock.answers);
-  goes = λ q there line at count clock. subst (λ more. Break q 0 before.journal more) (sym same) (record { acts = []; end = q; goes = goes_none q before.journal count; stops = may q there line });
-}, h.1)
-stops_at Where number before after stopped.Memory may h same = (record {
-  asks = 0;
-  passes = subst (λ (a : Ticks). Passes before.clock.answers a.answers 0) (sym h) (Passes-zero before.clock.answers);
-  goes = λ q there line at count clock. subst (λ more. Break q 0 before.journal more) (sym same) (record { acts = []; end = q; goes = goes_none q before.journal count; stops = may q there line });
-}, ap (λ (a : Ticks). a.faults) h)
+stops_at Where number before after stopped.Clock may h same = (
+  record {
+    asks = 0;
+    passes = subst (λ (a : Option (ℕ → ℕ)). Passes before.clock.answers a 0) (sym h.0) (Passes-zero before.clock.answers);
+    goes = λ q there line at count clock. subst (λ more. Break q 0 before.journal more) (sym same) (record { acts = []; end = q; goes = goes_none q before.journal count; stops = may q there line });
+  },
+  h.1,
+)
+stops_at Where number before after stopped.Memory may h same = (
+  record {
+    asks = 0;
+    passes = subst (λ (a : Ticks). Passes before.clock.answers a.answers 0) (sym h) (Passes-zero before.clock.answers);
+    goes = λ q there line at count clock. subst (λ more. Break q 0 before.journal more) (sym same) (record { acts = []; end = q; goes = goes_none q before.journal count; stops = may q there line });
+  },
+  ap (λ (a : Ticks). a.faults) h,
+)
 
 -- entries one after another
 

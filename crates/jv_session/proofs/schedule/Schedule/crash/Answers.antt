@@ -25,9 +25,11 @@ returns-in-Ok g c =
     ap (λ (v : ScheduleValue). record v { clients = slice_set v.clients k c.crash.new.self }) c.self.view_is
     ∙ ap (λ (new : ClientValue). record noted { clients = slice_set noted.clients k new }) c.crash.ensures in
     let notes = subst (λ n. Notes c.args.self.now noted c.args.number n Crashed 0 (g.C.Clock.seen c.args.clock.now) (g.C.Clock.seen c.note.new.clock) c.args.journal.now.acts c.note.new.journal.acts c.note.result)
-        (c.number.ensures.number ∙ sym c.number-in-Ok.ensures.number) c.note.ensures.notes in
-    record { goes = subst (λ n. LineGoes (Crashes n) c.args.number before after c.said.result) c.number-in-Ok.ensures.number
-        (crash_says k c.args.number before after noted old c.in-Ok.field-0 c.note.result c.text.result c.said.result notes c.in-Ok.is found same c.text.ensures c.said.ensures) }
+    (c.number.ensures.number ∙ sym c.number-in-Ok.ensures.number) c.note.ensures.notes in
+    record {
+      goes = subst (λ n. LineGoes (Crashes n) c.args.number before after c.said.result) c.number-in-Ok.ensures.number
+          (crash_says k c.args.number before after noted old c.in-Ok.field-0 c.note.result c.text.result c.said.result notes c.in-Ok.is found same c.text.ensures c.said.ensures);
+    }
 
 pub returns-in-Err : goal.returns-in-Err
 returns-in-Err g c =

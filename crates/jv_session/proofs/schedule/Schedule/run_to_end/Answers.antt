@@ -18,11 +18,15 @@ loop-reply-preserved g c = reached_step c.args.client c.args.number (line_state 
     c.make_step.result c.loop-reply.invariant c.make_step.ensures.steps (c.in-Ok-More.is ∙ ap Ok c.in-Ok-More.field-0-is)
 
 pub returns-in-Ok-Done : goal.returns-in-Ok-Done
-returns-in-Ok-Done g c = record { goes = run_says c.args.client c.args.number (line_state (g.C.Clock.seen c.args.clock.now) c.args.journal.now.acts c.args.self.now)
-    (line_state (g.C.Clock.seen c.loop-reply.clock) c.loop-reply.journal.acts c.loop-reply.self) (line_state (g.C.Clock.seen c.make_step.new.clock) c.make_step.new.journal.acts c.make_step.new.self)
-    c.make_step.result c.in-Ok-Done.reply c.print.result c.said.result c.loop-reply.invariant c.make_step.ensures.steps (c.in-Ok-Done.is ∙ ap Ok c.in-Ok-Done.field-0-is) c.print.ensures c.said.ensures }
+returns-in-Ok-Done g c = record {
+  goes = run_says c.args.client c.args.number (line_state (g.C.Clock.seen c.args.clock.now) c.args.journal.now.acts c.args.self.now)
+      (line_state (g.C.Clock.seen c.loop-reply.clock) c.loop-reply.journal.acts c.loop-reply.self) (line_state (g.C.Clock.seen c.make_step.new.clock) c.make_step.new.journal.acts c.make_step.new.self)
+      c.make_step.result c.in-Ok-Done.reply c.print.result c.said.result c.loop-reply.invariant c.make_step.ensures.steps (c.in-Ok-Done.is ∙ ap Ok c.in-Ok-Done.field-0-is) c.print.ensures c.said.ensures;
+}
 
 pub returns-in-Err : goal.returns-in-Err
-returns-in-Err g c = record { goes = run_stops c.args.client c.args.number (line_state (g.C.Clock.seen c.args.clock.now) c.args.journal.now.acts c.args.self.now)
-    (line_state (g.C.Clock.seen c.loop-reply.clock) c.loop-reply.journal.acts c.loop-reply.self) (line_state (g.C.Clock.seen c.make_step.new.clock) c.make_step.new.journal.acts c.make_step.new.self)
-    c.make_step.result c.in-Err.stopped c.into_end.result c.loop-reply.invariant c.make_step.ensures.steps c.in-Err.is c.into_end.ensures }
+returns-in-Err g c = record {
+  goes = run_stops c.args.client c.args.number (line_state (g.C.Clock.seen c.args.clock.now) c.args.journal.now.acts c.args.self.now)
+      (line_state (g.C.Clock.seen c.loop-reply.clock) c.loop-reply.journal.acts c.loop-reply.self) (line_state (g.C.Clock.seen c.make_step.new.clock) c.make_step.new.journal.acts c.make_step.new.self)
+      c.make_step.result c.in-Err.stopped c.into_end.result c.loop-reply.invariant c.make_step.ensures.steps c.in-Err.is c.into_end.ensures;
+}

@@ -19,8 +19,10 @@ returns-in-Ok g c =
     let least = c.min-self-inside.ensures in
     let here : min LAST_MOMENT (c.self.inside.ticks + c.args.by) ≡ min LAST_MOMENT (noted.ticks + c.args.by) = ap (λ (v : ScheduleValue). min LAST_MOMENT (v.ticks + c.args.by)) seen in
     let passed : ticks ≡ min LAST_MOMENT (noted.ticks + c.args.by) = (let told : ticks ≡ min LAST_MOMENT (c.self.inside.ticks + c.args.by) = omega (arith, sum, least) in told ∙ here) in
-    record { goes = tick_says c.args.number c.args.by before (line_state (g.C.Clock.seen c.note.new.clock) c.note.new.journal.acts _) noted ticks c.in-Ok.now c.note.result c.moment_text.result c.said.result
-        c.note.ensures.notes c.in-Ok.is same passed c.moment_text.ensures c.said.ensures }
+    record {
+      goes = tick_says c.args.number c.args.by before (line_state (g.C.Clock.seen c.note.new.clock) c.note.new.journal.acts _) noted ticks c.in-Ok.now c.note.result c.moment_text.result c.said.result
+          c.note.ensures.notes c.in-Ok.is same passed c.moment_text.ensures c.said.ensures;
+    }
 
 pub returns-in-Err : goal.returns-in-Err
 returns-in-Err g c =
