@@ -21,7 +21,7 @@ use Rattle.jv_model.specs.client.Pending.{PendingByte, Segment, first_segment, p
 use Rattle.jv_model.specs.client.Submission.{next_segment}
 use Rattle.jv_model.specs.client.ModelClient.{ModelClient, Doing as ModelDoing, Stage, Working, Replying, file_of, file_in}
 use Rattle.jv_model.specs.journal.State.{State, has_session, session_gone, flushing_on, begun_quietly, quieted, of_doing, is_of_another, answered_client, after_told, refused_as}
-use Rattle.jv_model.specs.journal.Steps.{Start, IsEntry, MayAnswer, Fails, begins_step, is_failure, may_be_quiet, must_answer, Refuses, IsRefusedIn, CommitLate, CommitTooLarge, CommitAsked, is_crowded}
+use Rattle.jv_model.specs.journal.Steps.{Start, IsEntry, MayAnswer, begins_step, is_failure, may_be_quiet, Refuses, IsRefusedIn, CommitLate, CommitTooLarge, CommitAsked, is_crowded}
 use Rattle.jv_model.specs.journal.Stepping.{GoesOn, AnswersAlone, AnswersAfter, entry_of, stepped, is_answer, answer_of}
 use Rattle.jv_model.specs.journal.Past.{ends_in_step, reply_of}
 use Rattle.jv_pending.proofs.SegmentLaws.{own_segment}
@@ -45,6 +45,7 @@ use Rattle.jv_client.specs.UnderWay.{IsOfFile, FlushesFor, Closes, ReadsNothing,
 use Rattle.jv_client.specs.Flushing.{FitsIf, bytes_of}
 use Rattle.jv_client.specs.Makes.{Makes, StepsTo}
 use Rattle.jv_client.proofs.HeldLaws.{own_client, with_stage-doing, answered_client-doing, held-later, held-doing, grows-same}
+use Rattle.jv_client.proofs.AnswerLaws.{fails}
 
 -- one step
 
@@ -269,40 +270,6 @@ or_true : (b : Bool) → (b || true) ≡ true
 or_true true = refl
 or_true false = refl
 
--- an operation in memory has no settled answer
-
-own_failure : (p : Progress) → is_of_another (stage_of p) (ToldRefused NoMemory) ≡ false
-own_failure (progress.Working quiets started) = refl
-own_failure progress.Reading = refl
-
-may_fail : (p : Progress) (d : ModelDoing) → must_answer (record d { stage = stage_of p }) ≡ false
-may_fail (progress.Working quiets started) d = refl
-may_fail progress.Reading d = refl
-
-failure_reply : (p : Progress) (m : ModelClient) (d : ModelDoing) → reply_of m (record d { stage = stage_of p }) (ToldRefused NoMemory) ≡ Refused NoMemory
-failure_reply (progress.Working quiets started) m d = refl
-failure_reply progress.Reading m d = refl
-
--- the operation ends for want of memory
-pub fails : (h : ClientValue) (d : Doing) (store : StoreValue) (now entry : ℕ) → h.doing ≡ Some d → IsReady store h
-    → Makes now entry h (ended h) store store (made.Answer (ToldRefused NoMemory) (Refused NoMemory))
-fails h d store now entry busy ready = record {
-  id = refl;
-  limits = refl;
-  ready = record { files = ready.files; doing = tt };
-  grows = grows-same store;
-  falls = refl;
-  leads = λ s count has is_client.
-      let m = s.clients h.id in
-      let is = is_busy m s.count store h d busy is_client in
-      let doing = is.doing in
-      answers_alone s h.id now (ToldRefused NoMemory) (Refused NoMemory) (ended h) store doing is.busy (or_true (not doing.moved))
-      (ap (λ stage. is_of_another stage (ToldRefused NoMemory)) is.same.stage ∙ own_failure d.progress)
-      (ap (λ stage. reply_of m (record doing { stage = stage }) (ToldRefused NoMemory)) is.same.stage ∙ failure_reply d.progress m doing)
-      (λ start alone. Fails (ap (λ stage. must_answer (record doing { stage = stage })) is.same.stage ∙ may_fail d.progress doing) refl)
-      has (record { held = held-doing None None (held-later (grows-same store) (omega arith) is.held); doing = tt });
-}
-
 -- the file of a segment
 
 one_segment : (o : Option Segment) → elim o as (λ _. Option Segment) [ None ↦ None | Some segment ↦ Some segment ] ≡ o
@@ -521,4 +488,4 @@ ends_failed h after store grown now entry outcome ready busy then_is same made_i
     let d = the_doing h.doing busy in
     subst (λ outcome. Makes now entry h after store grown outcome) (sym made_is)
     (subst (λ grown. Makes now entry h after store grown (made.Answer (ToldRefused NoMemory) (Refused NoMemory))) (sym same)
-    (subst (λ after. Makes now entry h after store store (made.Answer (ToldRefused NoMemory) (Refused NoMemory))) (sym then_is) (fails h d.0 store now entry d.1 ready)))
+    (subst (λ after. Makes now entry h after store store (made.Answer (ToldRefused NoMemory) (Refused NoMemory))) (sym then_is) (fails now entry h store d.0 d.1 ready)))

@@ -4,7 +4,7 @@ use Rattle.jv_model.specs.declared.limits.TheConstants.{LAST_MOMENT}
 use Rattle.jv_model.specs.declared.act.Act.{Act}
 use Rattle.jv_model.specs.journal.State.{effect}
 use Rattle.jv_model.specs.journal.Past.{Setup, Past, Due, is_workers, lined, asks_clock, after, past}
-use Rattle.jv_model.specs.journal.Legal.{Allowed, AllAllowed, IsMoment, OfLine, OfWorker, clock_moment, tick_of}
+use Rattle.jv_model.specs.journal.Legal.{Allowed, AllAllowed, IsMoment, OfLine, OfWorker, tick_of}
 use Rattle.jv_laws.proofs.JournalGrowthLaws.{begun_to-begun, advance-present, past-append, AllAllowed-append}
 use Rattle.jv_laws.specs.OnLines.{IsAlone, IsNow, Leads, SameLine}
 

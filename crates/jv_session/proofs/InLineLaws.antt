@@ -1,6 +1,6 @@
 -- A line in progress goes on: a step of its client, an entry of its own, and where it stops.
-use Rattle.std.proofs.Common.{◌≡◌, ℕ, zero, suc, ◌+◌, ◌≤◌, ◌<◌, min, max, Bool, true, false, ◌||◌, IsSome, List, [], ◌∷◌, ◌++◌, length, map, slice_get, slice_set, Option, None, Some, Result, Ok, Err, refl, sym, ap, subst, ◌∙◌, arith, length-append}
-use Rattle.std.specs.Prelude.{IfSome, IsSomeAnd, MatchOption, is_some, IfOk}
+use Rattle.std.proofs.Common.{◌≡◌, ℕ, zero, suc, ◌+◌, ◌≤◌, ◌<◌, min, max, Bool, true, false, ◌||◌, List, [], ◌∷◌, ◌++◌, length, map, slice_get, slice_set, Option, None, Some, Result, Ok, Err, refl, sym, ap, subst, ◌∙◌, arith, length-append}
+use Rattle.std.specs.Prelude.{IfSome, MatchOption, is_some, IfOk}
 use Rattle.std.specs.declared.alloc.AllocError.{AllocError}
 use Rattle.std.proofs.lemmas.List.{append-nil, append_assoc}
 use Rattle.std.proofs.lemmas.Option.{slice_get_within}
@@ -16,27 +16,26 @@ use Rattle.jv_model.specs.journal.Past.{Past, Setup, Due, NoMore, ToAnswer, OneS
 use Rattle.jv_model.specs.script.ReplyText.{printed_line}
 use Rattle.jv_model.specs.journal.Legal.{may_stop}
 use Rattle.jv_model.specs.journal.Stepping.{stepped_by, entry_of}
-use Rattle.jv_laws.specs.OnLines.{IsAlone, IsNow, Leads, SameLine}
+use Rattle.jv_laws.specs.OnLines.{IsNow}
 use Rattle.jv_laws.proofs.EntriesOfLines.{leads_none, leads_more, same_line-then}
 use Rattle.jv_laws.proofs.EndedLines.{is_over_at, may_be_cut_at}
 use Rattle.jv_laws.proofs.StepsOnLines.{RunsClient, ToItsEnd, OneStepOnly, StepsOn, step_ran, others_stepped}
 use Rattle.jv_outside.specs.Causes.{Rose}
-use Rattle.jv_outside.specs.Ticks.{Ticks, Passes, HasAnswered}
+use Rattle.jv_outside.specs.Ticks.{Ticks, Passes}
 use Rattle.jv_outside.proofs.TicksLaws.{Passes-zero, Passes-trans}
-use Rattle.jv_files.proofs.FileLaws.{each-set, in_place, slice_get_inside}
+use Rattle.jv_files.proofs.FileLaws.{each-set, in_place}
 use Rattle.jv_client.specs.ClientValue.{ClientValue}
 use Rattle.jv_client.specs.StoreValue.{StoreValue, HasStore, Grows}
 use Rattle.jv_client.specs.Held.{IsClient}
-use Rattle.jv_client.specs.Makes.{StepsTo, Steps, entries_of}
+use Rattle.jv_client.specs.Makes.{StepsTo, entries_of}
 use Rattle.jv_client.specs.UnderWay.{steps_left}
 use Rattle.jv_client.proofs.HeldLaws.{client-later}
 use Rattle.jv_session.specs.declared.line_end.LineEnd.{LineEnd}
-use Rattle.jv_session.specs.declared.line_end.LineEnd.TheVariants.{Said, Quiet, ClockFailed, Memory}
 use Rattle.jv_session.specs.declared.line_end.Stopped.{Stopped}
 use Rattle.jv_session.specs.declared.line_end.Stopped.TheVariants as stopped
 use Rattle.jv_session.specs.Stands.{ScheduleValue, IsState, ClockFor, busy_in, client_is_busy}
-use Rattle.jv_session.specs.Lines.{LineState, line_state}
-use Rattle.jv_session.specs.InLine.{InLine, Goes, Finish, Break, FromLine, Finishes, Breaks, LineGoes, LineSays, IsMomentOf, StopsBefore, HasStepped, MakesStep, RunsToEnd, StepsOnce, end_of}
+use Rattle.jv_session.specs.Lines.{LineState}
+use Rattle.jv_session.specs.InLine.{InLine, Goes, Finish, Break, FromLine, Breaks, LineGoes, LineSays, IsMomentOf, StopsBefore, HasStepped, MakesStep, RunsToEnd, StepsOnce, end_of}
 use Rattle.jv_session.proofs.BeginLaws.{not_ending}
 
 -- the clock

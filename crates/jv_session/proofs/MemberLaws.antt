@@ -1,5 +1,5 @@
 -- Eight clients, of which one changes.
-use Rattle.std.proofs.Common.{◌≡◌, ℕ, zero, suc, ◌+◌, ◌≤◌, ◌<◌, IsTrue, List, [], ◌∷◌, length, slice_get, slice_set, get_or, Option, None, Some, Result, Ok, Err, refl, sym, ap, subst, ◌∙◌, arith, length-set}
+use Rattle.std.proofs.Common.{◌≡◌, ℕ, zero, suc, ◌<◌, IsTrue, List, [], ◌∷◌, length, slice_get, slice_set, get_or, None, Some, Result, Ok, Err, refl, sym, ap, subst, ◌∙◌, arith, length-set}
 use Rattle.std.specs.Prelude.{IfSome, IsSome, OnOk, OnErr}
 use Rattle.jv_model.specs.declared.basics.Limits.{Limits}
 use Rattle.jv_model.specs.declared.fault.Fault.{Fault}
@@ -12,8 +12,8 @@ use Rattle.jv_client.specs.ClientValue.{ClientValue}
 use Rattle.jv_client.specs.StoreValue.{StoreValue}
 use Rattle.jv_client.specs.Held.{IsClient, refused_with}
 use Rattle.jv_client.specs.UnderWay.{IsReady}
-use Rattle.jv_session.specs.Stands.{ScheduleValue, IsMember, IsSchedule, built_op_here, held_in}
-use Rattle.jv_session.specs.InLine.{HasBegun, HasRefused, Submits}
+use Rattle.jv_session.specs.Stands.{ScheduleValue, IsMember, IsSchedule}
+use Rattle.jv_session.specs.InLine.{Submits}
 
 some_is : {X : Type 0} (x y : X) → Some x ≡ Some y → x ≡ y
 some_is x y e = ap (λ o. elim o as (λ _. _) [ None ↦ x | Some z ↦ z ]) e

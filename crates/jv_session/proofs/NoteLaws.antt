@@ -1,5 +1,5 @@
 -- Lines of one entry: a refused submission, a crash and a tick.
-use Rattle.std.proofs.Common.{◌≡◌, ℕ, ◌+◌, ◌≤◌, ◌<◌, min, true, false, ◌||◌, List, [], ◌∷◌, ◌++◌, length, slice_get, slice_set, Option, Some, Result, Ok, Err, refl, sym, ap, subst, ◌∙◌, arith}
+use Rattle.std.proofs.Common.{◌≡◌, ℕ, ◌+◌, ◌≤◌, min, List, [], ◌∷◌, ◌++◌, length, slice_get, slice_set, Some, Result, Ok, Err, refl, sym, ap, subst, ◌∙◌, arith}
 use Rattle.std.specs.Prelude.{codes, decimal}
 use Rattle.std.proofs.lemmas.List.{length_push}
 use Rattle.jv_model.specs.declared.limits.TheConstants.{LAST_MOMENT}
@@ -13,9 +13,9 @@ use Rattle.jv_model.specs.declared.op.Reply.TheVariants.{Refused}
 use Rattle.jv_model.specs.script.ReplyText.{printed_line}
 use Rattle.jv_model.specs.client.ModelClient.{ModelClient, unmounted}
 use Rattle.jv_model.specs.journal.State.{State}
-use Rattle.jv_model.specs.journal.Past.{Past, Setup, NoMore, CrashEntry, TickEntry, Refusal, is_over, with_feed}
+use Rattle.jv_model.specs.journal.Past.{Past, Setup, NoMore, CrashEntry, TickEntry, Refusal, with_feed}
 use Rattle.jv_model.specs.journal.Stepping.{entry_of}
-use Rattle.jv_laws.specs.OnLines.{IsNow, Leads, SameLine}
+use Rattle.jv_laws.specs.OnLines.{IsNow}
 use Rattle.jv_laws.proofs.EndedLines.{is_over_at, may_be_cut_at}
 use Rattle.jv_laws.proofs.NotedLines.{Notes as NotesEntry, refused_ran, crash_ran, tick_ran}
 use Rattle.jv_outside.specs.Ticks.{Ticks}

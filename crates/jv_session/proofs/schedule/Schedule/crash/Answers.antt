@@ -1,7 +1,7 @@
 -- A crash is the line's one entry, and its client is as before any mount.
-use Rattle.std.proofs.Common.{◌≡◌, ℕ, ◌+◌, ◌≤◌, ◌<◌, length, slice_get, slice_set, get_or, List, Option, None, Some, Result, Ok, Err, refl, sym, ap, subst, ◌∙◌, arith}
+use Rattle.std.proofs.Common.{◌≡◌, slice_get, slice_set, get_or, Some, sym, ap, subst, ◌∙◌, arith}
 use Rattle.jv_session.specs.Stands.{ScheduleValue}
-use Rattle.jv_session.specs.Lines.{LineState, line_state}
+use Rattle.jv_session.specs.Lines.{line_state}
 use Rattle.jv_model.specs.declared.act.ActKind.TheVariants.{Crashed}
 use Rattle.jv_client.specs.ClientValue.{ClientValue, crashed}
 use Rattle.jv_session.specs.InLine.{Crashes, LineGoes, Notes}

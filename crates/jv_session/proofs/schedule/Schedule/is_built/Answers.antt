@@ -1,5 +1,5 @@
 -- A line is built where the model says so of the state that the schedule stands for.
-use Rattle.std.proofs.Common.{◌≡◌, sym, ap, ◌∙◌}
+use Rattle.std.proofs.Common.{sym, ap, ◌∙◌}
 use Rattle.jv_model.specs.declared.op.Line.{Line}
 use Rattle.jv_model.specs.journal.Built.{is_built}
 use Rattle.jv_session.proofs.BeginLaws.{built-same}

@@ -1,8 +1,6 @@
 -- A refused submission is the line's one entry.
-use Rattle.std.proofs.Common.{◌≡◌, ℕ, ◌+◌, ◌++◌, ◌∷◌, [], ◌≤◌, ◌<◌, min, length, slice_get, slice_set, List, Option, None, Some, Result, Ok, Err, refl, sym, ap, subst, ◌∙◌, arith}
-use Rattle.jv_session.specs.Stands.{ScheduleValue}
-use Rattle.jv_session.specs.Lines.{LineState, line_state}
-use Rattle.jv_session.specs.declared.line_end.LineEnd.{LineEnd}
+use Rattle.std.proofs.Common.{subst}
+use Rattle.jv_session.specs.Lines.{line_state}
 use Rattle.jv_session.specs.InLine.{IsRefused, LineGoes}
 use Rattle.jv_session.proofs.NoteLaws.{refuse_says, stops_noted, refusal_breaks}
 use Rattle.jv_session.proofs.schedule.Schedule.refuse.Goals as goal

@@ -1,8 +1,7 @@
 -- A client's operation is run to its end, step by step.
-use Rattle.std.proofs.Common.{◌≡◌, ℕ, ◌+◌, ◌++◌, ◌∷◌, [], ◌≤◌, ◌<◌, min, length, slice_get, slice_set, List, Option, None, Some, Result, Ok, Err, refl, sym, ap, subst, ◌∙◌, arith}
-use Rattle.jv_session.specs.Stands.{ScheduleValue}
-use Rattle.jv_session.specs.Lines.{LineState, line_state}
-use Rattle.jv_session.proofs.InLineLaws.{Reached, reached_none, reached_step, run_says, run_stops, falls_step}
+use Rattle.std.proofs.Common.{Ok, ap, ◌∙◌}
+use Rattle.jv_session.specs.Lines.{line_state}
+use Rattle.jv_session.proofs.InLineLaws.{reached_none, reached_step, run_says, run_stops, falls_step}
 use Rattle.jv_session.proofs.schedule.Schedule.run_to_end.Goals as goal
 
 pub loop-reply-init : goal.loop-reply-init

@@ -1,6 +1,4 @@
 -- The client's operation goes on from where the line found it.
-use Rattle.std.proofs.Common.{◌≡◌, ℕ}
-use Rattle.std.specs.Prelude.{slice_get}
 use Rattle.jv_session.specs.Lines.{line_state}
 use Rattle.jv_session.proofs.InLineLaws.{Reached, steps_at}
 use Rattle.jv_session.proofs.schedule.Schedule.run_to_end.Given as goal

@@ -1,7 +1,6 @@
 -- One step of a client's operation.
-use Rattle.std.proofs.Common.{◌≡◌, ℕ, ◌+◌, ◌++◌, ◌∷◌, [], ◌≤◌, ◌<◌, min, length, slice_get, slice_set, List, Option, None, Some, Result, Ok, Err, refl, sym, ap, subst, ◌∙◌, arith}
-use Rattle.jv_session.specs.Stands.{ScheduleValue}
-use Rattle.jv_session.specs.Lines.{LineState, line_state}
+use Rattle.std.proofs.Common.{Ok, ap, ◌∙◌}
+use Rattle.jv_session.specs.Lines.{line_state}
 use Rattle.jv_session.proofs.InLineLaws.{once_says_more, once_says_done, once_stops}
 use Rattle.jv_session.proofs.schedule.Schedule.step_once.Goals as goal
 

@@ -1,9 +1,8 @@
 -- An operation is begun at its client, or refused.
-use Rattle.std.proofs.Common.{◌≡◌, ℕ, ◌+◌, ◌≤◌, ◌<◌, IsTrue, length, slice_get, slice_set, get_or, List, Option, None, Some, Result, Ok, Err, refl, sym, ap, subst, ◌∙◌, arith}
-use Rattle.jv_model.specs.declared.fault.Fault.{Fault}
+use Rattle.std.proofs.Common.{◌≡◌, IsTrue, length, slice_get, slice_set, get_or, Some, sym, ap, subst, ◌∙◌, arith}
 use Rattle.jv_model.specs.journal.Built.{is_built_op}
 use Rattle.jv_client.specs.ClientValue.{ClientValue}
-use Rattle.jv_session.specs.Stands.{ScheduleValue, IsMember, built_op_here, held_in}
+use Rattle.jv_session.specs.Stands.{ScheduleValue, built_op_here, held_in}
 use Rattle.jv_session.specs.InLine.{Submits}
 use Rattle.jv_session.proofs.MemberLaws.{found_at, schedule_with, member_at, submitted_member, begins_at, refuses_at}
 use Rattle.jv_session.proofs.schedule.Schedule.submit.Goals as goal

@@ -1,7 +1,7 @@
 -- A tick is the line's one entry, and moves the clock on.
-use Rattle.std.proofs.Common.{◌≡◌, ℕ, ◌+◌, ◌++◌, ◌∷◌, [], ◌≤◌, ◌<◌, min, length, slice_get, slice_set, List, Option, None, Some, Result, Ok, Err, refl, sym, ap, subst, ◌∙◌, arith}
+use Rattle.std.proofs.Common.{◌≡◌, ◌+◌, min, ap, ◌∙◌, arith}
 use Rattle.jv_session.specs.Stands.{ScheduleValue}
-use Rattle.jv_session.specs.Lines.{LineState, line_state}
+use Rattle.jv_session.specs.Lines.{line_state}
 use Rattle.jv_model.specs.declared.limits.TheConstants.{LAST_MOMENT}
 use Rattle.jv_session.specs.InLine.{Passing}
 use Rattle.jv_session.proofs.NoteLaws.{tick_says, stops_noted, tick_breaks}
