@@ -4,7 +4,7 @@ use crate::stage::Played;
 use std::alloc::{AllocError, Global};
 use std::str;
 
-/// The most lines of a text that are printed, besides its last one.
+/// How many lines of a text are printed from its start, and as many from its end.
 const MOST_LINES: usize = 30;
 
 /// Adds a line: a key word and a text.
@@ -17,14 +17,15 @@ fn push_line(report: &mut String, key: &str, text: &str) -> Result<(), AllocErro
     report.push_str("\n")
 }
 
-/// Adds the lines of a text, each behind a key word. Of many lines the first ones are printed, and the last one.
+/// Adds the lines of a text, each behind a key word. Of many lines the first ones are printed, and the last ones.
 fn push_lines(report: &mut String, key: &str, text: &str) -> Result<(), AllocError> {
     let count = text.lines().count();
+    let most = MOST_LINES;
     for (number, line) in text.lines().enumerate() {
-        if number < MOST_LINES || number.saturating_add(1) == count {
+        if number < most || number.saturating_add(most) >= count {
             push_line(report, key, line)?;
-        } else if number == MOST_LINES {
-            writeln!(report, "{key}, and of {count} lines the last one:")?;
+        } else if number == most {
+            writeln!(report, "{key}, and of {count} lines the last {most}:")?;
         }
     }
     Ok(())
