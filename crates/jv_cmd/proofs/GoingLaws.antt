@@ -142,8 +142,8 @@ OfNext-settled v left before now after n text line s d e =
 Enters-goes : (p : Past) (more : List Line) (number asks : ℕ) (before after : List Act) (text : List ℕ) (s : ScheduleValue) → Goes p more number asks before after text s → Enters p number before after
 Enters-goes p more number asks before after text s g = record { acts = g.acts; grows = g.grows; allowed = g.allowed; line = g.at.line }
 
-Enters-cut : (p : Past) (more : List Line) (number asks : ℕ) (before after : List Act) → Cut p more number asks before after → Enters p number before after
-Enters-cut p more number asks before after c =
+Enters-cut : (p : Past) (more : List Line) (number asks : ℕ) (before after : List Act) (s : ScheduleValue) → Cut p more number asks before after s → Enters p number before after
+Enters-cut p more number asks before after s c =
     record { acts = c.acts; grows = c.appends.grows; allowed = c.appends.allowed; line = ap (λ (q : Past). q.line) c.appends.reaches ∙ c.appends.line }
 
 -- the entries of the lines before stay
@@ -263,10 +263,10 @@ module _ (v : FreshVolume) (left left' : Option (List ℕ)) (before now after : 
   OfNext-cut : OfNext n now.journal after.journal
   OfNext-cut = OfNext-settled v left before now after n text line s d
       (comes_settled v left before now after n text line s s' d c.asks c.passes (λ p more. Enters p (n + 1) now.journal after.journal)
-      (λ p more stands next rest count clock. Enters-cut p more (n + 1) c.asks now.journal after.journal (c.stops p more stands next rest count clock)))
+      (λ p more stands next rest count clock. Enters-cut p more (n + 1) c.asks now.journal after.journal s' (c.stops p more stands next rest count clock)))
 
-  cut_there : (known : Option (ℕ → ℕ)) (status : ℕ) → IsKnownClock known before.clock after.clock → Cut (there v known (d.lines ++ line ∷ []) status n now.journal) [] (n + 1) c.asks now.journal after.journal
-  cut_there known status t = comes v left before now after n text line s s' d c.asks c.passes (λ p more. Cut p more (n + 1) c.asks now.journal after.journal) c.stops known [] status t
+  cut_there : (known : Option (ℕ → ℕ)) (status : ℕ) → IsKnownClock known before.clock after.clock → Cut (there v known (d.lines ++ line ∷ []) status n now.journal) [] (n + 1) c.asks now.journal after.journal s'
+  cut_there known status t = comes v left before now after n text line s s' d c.asks c.passes (λ p more. Cut p more (n + 1) c.asks now.journal after.journal s') c.stops known [] status t
 
   earlier_cut : (known : Option (ℕ → ℕ)) → IsKnownClock known before.clock after.clock → IsKnownClock known before.clock now.clock
   earlier_cut known t = IsKnownClock-earlier known before now after c.asks c.passes t
@@ -274,7 +274,7 @@ module _ (v : FreshVolume) (left left' : Option (List ℕ)) (before now after : 
   printed_before : (known : Option (ℕ → ℕ)) (status : ℕ) → IsKnownClock known before.clock after.clock → (at_end (session_run v known (d.lines ++ line ∷ []) status) after.journal).printed ≡ text
   printed_before known status t =
       printed-cut (session_run v known (d.lines ++ line ∷ []) status) line n d.asked c.asks text now.journal after.journal s (length_push d.lines line ∙ ap (λ k. k + 1) d.count)
-      (d.reaches known (line ∷ []) status (earlier_cut known t)) (cut_there known status t)
+      (d.reaches known (line ∷ []) status (earlier_cut known t)) s' (cut_there known status t)
 
   -- out has gained the text of the lines before it
   gains_before : Gains before.out.content after.out.content text → (status : ℕ) (known : Option (ℕ → ℕ)) → IsKnownClock known before.clock after.clock
@@ -291,7 +291,7 @@ module _ (v : FreshVolume) (left left' : Option (List ℕ)) (before now after : 
     built = λ known t. record { each = built_more v left before now after n text line s d OfNext-cut read.built known [] (status_of ended) (earlier_cut known t) };
     legal = λ known t.
         Legal-cut (session_run v known (d.lines ++ line ∷ []) (status_of ended)) line n d.asked c.asks text now.journal after.journal s (length_push d.lines line ∙ ap (λ k. k + 1) d.count)
-        (d.reaches known (line ∷ []) (status_of ended) (earlier_cut known t)) (cut_there known (status_of ended) t) cuts;
+        (d.reaches known (line ∷ []) (status_of ended) (earlier_cut known t)) s' (cut_there known (status_of ended) t) cuts;
     printed = prints;
   }
 

@@ -163,7 +163,7 @@ Stands-reached run n asked text journal s size r = (at_the_end run n asked text 
 
 -- the end of a run whose last line was cut off
 module _ (run : Setup) (line : Line) (n asked asks : ℕ) (text : List ℕ) (journal journal' : List Act) (s : ScheduleValue) (size : length run.script ≡ n + 1) (r : Reaches run (line ∷ []) n asked text journal s)
-    (c : Cut (begun_to n (reached run journal)) [] (n + 1) asks journal journal') where
+    (s' : ScheduleValue) (c : Cut (begun_to n (reached run journal)) [] (n + 1) asks journal journal' s') where
   both : AllAllowed (at_start run) (journal ++ c.acts) × (begun_to (n + 1) (past (begun_to n (reached run journal)) c.acts) ≡ begun_to (n + 1) (reached run (journal ++ c.acts)))
   both = joined n (at_start run) journal c.acts r.at.line r.allowed c.appends.allowed
 
@@ -174,7 +174,7 @@ module _ (run : Setup) (line : Line) (n asked asks : ℕ) (text : List ℕ) (jou
   Legal-cut cuts = record {
     allowed = subst (λ acts. AllAllowed (at_start run) acts) (sym c.appends.grows) both.0;
     ends = subst (λ q. (q.complete && (is_over q || may_be_cut run.status && may_stop q)) ≡ true) cut_end
-        (and_from c.end.complete (is_over c.end || may_be_cut run.status && may_stop c.end) c.complete
+        (and_from c.end.complete (is_over c.end || may_be_cut run.status && may_stop c.end) c.stands.complete
         (subst (λ cut. (is_over c.end || cut && may_stop c.end) ≡ true) (sym cuts) c.stops));
   }
 

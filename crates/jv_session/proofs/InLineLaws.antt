@@ -33,9 +33,9 @@ use Rattle.jv_client.proofs.HeldLaws.{client-later}
 use Rattle.jv_session.specs.declared.line_end.LineEnd.{LineEnd}
 use Rattle.jv_session.specs.declared.line_end.Stopped.{Stopped}
 use Rattle.jv_session.specs.declared.line_end.Stopped.TheVariants as stopped
-use Rattle.jv_session.specs.Stands.{ScheduleValue, IsState, ClockFor, busy_in, client_is_busy}
+use Rattle.jv_session.specs.Stands.{ScheduleValue, IsState, ClockFor, busy_in, client_is_busy, InLine}
 use Rattle.jv_session.specs.Lines.{LineState}
-use Rattle.jv_session.specs.InLine.{InLine, Goes, Finish, Break, FromLine, Breaks, LineGoes, LineSays, IsMomentOf, StopsBefore, HasStepped, MakesStep, RunsToEnd, StepsOnce, end_of}
+use Rattle.jv_session.specs.InLine.{Goes, Finish, Break, FromLine, Breaks, LineGoes, LineSays, IsMomentOf, StopsBefore, HasStepped, MakesStep, RunsToEnd, StepsOnce, end_of}
 use Rattle.jv_session.proofs.BeginLaws.{not_ending}
 
 -- the clock
@@ -137,8 +137,8 @@ step_made due q s s' number client n before after final journal more step runs i
 over_stops : (q : Past) → is_over q ≡ true → (is_over q || may_stop q) ≡ true
 over_stops q e = ap (λ b. b || may_stop q) e
 
-breaks_after : (q : Past) (asks : ℕ) (before after : List Act) (text : List ℕ) (s : ScheduleValue) → Finish q asks before after text s → Break q asks before after
-breaks_after q asks before after text s f = record { acts = f.acts; end = f.end; goes = f.goes; stops = over_stops f.end f.over }
+breaks_after : (q : Past) (asks : ℕ) (before after : List Act) (text : List ℕ) (s : ScheduleValue) → Finish q asks before after text s → Break q asks before after s
+breaks_after q asks before after text s f = record { acts = f.acts; end = f.end; goes = f.goes; in_line = f.in_line; stops = over_stops f.end f.over }
 
 finish_says : (q : Past) (asks : ℕ) (before after : List Act) (text said : List ℕ) (s : ScheduleValue) → said ≡ text → Finish q asks before after text s → Finish q asks before after said s
 finish_says q asks before after text said s e f = record { acts = f.acts; end = f.end; goes = f.goes; in_line = f.in_line; over = f.over; said = f.said ∙ sym e }
@@ -175,21 +175,25 @@ goes_none q journal count = record {
   asked = omega arith;
 }
 
+breaks_none : (q : Past) (journal more : List Act) (s s' : ScheduleValue) → q.state.count ≡ length journal → InLine q s → (is_over q || may_stop q) ≡ true → more ≡ journal → s' ≡ s → Break q 0 journal more s'
+breaks_none q journal more s s' count line stops same kept = subst (λ (v : ScheduleValue). Break q 0 journal more v) (sym kept)
+    (subst (λ acts. Break q 0 journal acts s) (sym same) (record { acts = []; end = q; goes = goes_none q journal count; in_line = line; stops = stops }))
+
 pub stops_at : (Where : Past → Type 0) (number : ℕ) (before after : LineState) (why : Stopped) → MayBreak Where before.schedule → StopsBefore before.clock after.clock why → after.journal ≡ before.journal
-    → LineGoes Where number before after (end_of why)
-stops_at Where number before after stopped.Clock may h same = (
+    → after.schedule ≡ before.schedule → LineGoes Where number before after (end_of why)
+stops_at Where number before after stopped.Clock may h same kept = (
   record {
     asks = 0;
     passes = subst (λ (a : Option (ℕ → ℕ)). Passes before.clock.answers a 0) (sym h.0) (Passes-zero before.clock.answers);
-    goes = λ q there line at count clock. subst (λ more. Break q 0 before.journal more) (sym same) (record { acts = []; end = q; goes = goes_none q before.journal count; stops = may q there line });
+    goes = λ q there line at count clock. breaks_none q before.journal after.journal before.schedule after.schedule count line (may q there line) same kept;
   },
   h.1,
 )
-stops_at Where number before after stopped.Memory may h same = (
+stops_at Where number before after stopped.Memory may h same kept = (
   record {
     asks = 0;
     passes = subst (λ (a : Ticks). Passes before.clock.answers a.answers 0) (sym h) (Passes-zero before.clock.answers);
-    goes = λ q there line at count clock. subst (λ more. Break q 0 before.journal more) (sym same) (record { acts = []; end = q; goes = goes_none q before.journal count; stops = may q there line });
+    goes = λ q there line at count clock. breaks_none q before.journal after.journal before.schedule after.schedule count line (may q there line) same kept;
   },
   ap (λ (a : Ticks). a.faults) h,
 )
@@ -293,33 +297,34 @@ reached_done client number start now later reply q h m due line_at line count cl
 -- it stopped before a step
 
 break_there : (client number : ℕ) (start now later : LineState) (c : ClientValue) (q : Past) → slice_get now.schedule.clients client ≡ Some c → (h : Reached client number start now)
-    → Passes now.clock.answers later.clock.answers 0 → later.journal ≡ now.journal → RunsToEnd client q → InLine q start.schedule → q.line ≡ number → q.state.count ≡ length start.journal
-    → ClockFor q.run.clock q.asked start.clock.answers later.clock.answers → Break q h.asks start.journal later.journal
-break_there client number start now later c q found h none same due line_at line count clock =
+    → Passes now.clock.answers later.clock.answers 0 → later.journal ≡ now.journal → later.schedule ≡ now.schedule → RunsToEnd client q → InLine q start.schedule → q.line ≡ number → q.state.count ≡ length start.journal
+    → ClockFor q.run.clock q.asked start.clock.answers later.clock.answers → Break q h.asks start.journal later.journal later.schedule
+break_there client number start now later c q found h none same kept due line_at line count clock =
     let f = h.leads later.clock.answers 0 q due line_at line count clock none in
-    subst (λ more. Break q h.asks start.journal more) (sym same) (record {
+    subst (λ (v : ScheduleValue). Break q h.asks start.journal later.journal v) (sym kept) (subst (λ more. Break q h.asks start.journal more now.schedule) (sym same) (record {
       acts = f.acts;
       end = f.there;
       goes = f.goes;
+      in_line = f.in_line;
       stops = may_be_cut_at f.there (ToAnswer client) f.due (goes_on f.there.state now.schedule client c f.in_line.state found);
-    })
+    }))
 
 breaks_there : (client number : ℕ) (start now later : LineState) (c : ClientValue) → slice_get now.schedule.clients client ≡ Some c → Reached client number start now
-    → later.clock.answers ≡ now.clock.answers → later.journal ≡ now.journal → Breaks (RunsToEnd client) number start later
-breaks_there client number start now later c found h answers same =
+    → later.clock.answers ≡ now.clock.answers → later.journal ≡ now.journal → later.schedule ≡ now.schedule → Breaks (RunsToEnd client) number start later
+breaks_there client number start now later c found h answers same kept =
     let none : Passes now.clock.answers later.clock.answers 0 = subst (λ a. Passes now.clock.answers a 0) (sym answers) (Passes-zero now.clock.answers) in
     record {
       asks = h.asks;
       passes = subst (λ a. Passes start.clock.answers a h.asks) (sym answers) h.passes;
-      goes = λ q due line_at line count clock. break_there client number start now later c q found h none same due line_at line count clock;
+      goes = λ q due line_at line count clock. break_there client number start now later c q found h none same kept due line_at line count clock;
     }
 
 pub reached_stops : (client number : ℕ) (start now later : LineState) (why : Stopped) (c : ClientValue) → slice_get now.schedule.clients client ≡ Some c → Reached client number start now
-    → StopsBefore now.clock later.clock why → later.journal ≡ now.journal → LineGoes (RunsToEnd client) number start later (end_of why)
-reached_stops client number start now later stopped.Clock c found h stops same =
-    (breaks_there client number start now later c found h stops.0 same, subst (λ k. Rose k later.clock.faults) h.calm stops.1)
-reached_stops client number start now later stopped.Memory c found h stops same =
-    (breaks_there client number start now later c found h (ap (λ (t : Ticks). t.answers) stops) same, ap (λ (t : Ticks). t.faults) stops ∙ h.calm)
+    → StopsBefore now.clock later.clock why → later.journal ≡ now.journal → later.schedule ≡ now.schedule → LineGoes (RunsToEnd client) number start later (end_of why)
+reached_stops client number start now later stopped.Clock c found h stops same kept =
+    (breaks_there client number start now later c found h stops.0 same kept, subst (λ k. Rose k later.clock.faults) h.calm stops.1)
+reached_stops client number start now later stopped.Memory c found h stops same kept =
+    (breaks_there client number start now later c found h (ap (λ (t : Ticks). t.answers) stops) same kept, ap (λ (t : Ticks). t.faults) stops ∙ h.calm)
 
 -- the steps that the client's operation still makes before its last one
 abbrev steps_in : Option ClientValue → ℕ
@@ -365,7 +370,7 @@ pub run_stops : (client number : ℕ) (start now later : LineState) (made : Resu
 run_stops client number start now later made why end h made_is is ends =
     let m = subst (MakesStep now.schedule later.schedule number client now.clock later.clock now.journal later.journal) is made_is in
     let c = some_busy (slice_get now.schedule.clients client) h.busy in
-    subst (LineGoes (RunsToEnd client) number start later) (sym ends) (reached_stops client number start now later why c.0 c.1 h m.stops m.acts)
+    subst (LineGoes (RunsToEnd client) number start later) (sym ends) (reached_stops client number start now later why c.0 c.1 h m.stops m.acts m.same)
 
 -- one step of a line that makes one
 
@@ -414,4 +419,4 @@ pub once_stops : (client number : ℕ) (before after : LineState) (made : Result
 once_stops client number before after made why end made_is is ends =
     let m = subst (MakesStep before.schedule after.schedule number client before.clock after.clock before.journal after.journal) is made_is in
     subst (LineGoes (StepsOnce client) number before after) (sym ends)
-    (stops_at (StepsOnce client) number before after why (λ q due h. may_be_cut_at q (OneStep client) due tt) m.stops m.acts)
+    (stops_at (StepsOnce client) number before after why (λ q due h. may_be_cut_at q (OneStep client) due tt) m.stops m.acts m.same)

@@ -24,13 +24,13 @@ use Rattle.jv_client.specs.ClientValue.{ClientValue, crashed}
 use Rattle.jv_client.specs.StoreValue.{StoreValue, HasStore}
 use Rattle.jv_client.specs.Held.{IsClient}
 use Rattle.jv_client.proofs.HeldLaws.{client-later, grows-same}
-use Rattle.jv_session.specs.Stands.{ScheduleValue, IsState, ClockFor}
+use Rattle.jv_session.specs.Stands.{ScheduleValue, IsState, ClockFor, InLine}
 use Rattle.jv_session.specs.Lines.{LineState}
 use Rattle.std.specs.Prelude.{IfOk}
 use Rattle.std.specs.declared.alloc.AllocError.{AllocError}
 use Rattle.jv_session.specs.declared.line_end.LineEnd.{LineEnd}
 use Rattle.jv_session.specs.declared.line_end.Stopped.{Stopped}
-use Rattle.jv_session.specs.InLine.{InLine, Goes, Finish, FromLine, LineGoes, LineSays, IsMomentOf, HasNoted, Notes, IsRefused, Crashes, Passing, end_of}
+use Rattle.jv_session.specs.InLine.{Goes, Finish, FromLine, LineGoes, LineSays, IsMomentOf, HasNoted, Notes, IsRefused, Crashes, Passing, end_of}
 use Rattle.jv_session.proofs.InLineLaws.{is_now, goes_on, says, state-stepped, stops_at, MayBreak}
 
 -- every client and the tree stay
@@ -170,7 +170,7 @@ pub stops_noted : (Where : Past → Type 0) (client number by : ℕ) (kind : Act
     → Notes before.schedule after.schedule number client kind by before.clock after.clock before.journal after.journal noted → noted ≡ Err why → end ≡ end_of why → LineGoes Where number before after end
 stops_noted Where client number by kind before after noted why end may notes is ends =
     let m = subst (Notes before.schedule after.schedule number client kind by before.clock after.clock before.journal after.journal) is notes in
-    subst (LineGoes Where number before after) (sym ends) (stops_at Where number before after why may m.stops m.acts)
+    subst (LineGoes Where number before after) (sym ends) (stops_at Where number before after why may m.stops m.acts m.same)
 
 pub tick_says : (number by : ℕ) (before after : LineState) (noted : ScheduleValue) (ticks now : ℕ) (made : Result ℕ Stopped) (printed : Result (List ℕ) AllocError) (end : LineEnd)
     → Notes before.schedule noted number NO_CLIENT (Ticked by) by before.clock after.clock before.journal after.journal made → made ≡ Ok now

@@ -28,9 +28,9 @@ use Rattle.jv_client.specs.StoreValue.{StoreValue}
 use Rattle.jv_client.specs.Held.{IsClient, IsDoing, SamePlace}
 use Rattle.jv_session.specs.declared.line_end.LineEnd.{LineEnd}
 use Rattle.jv_session.specs.declared.line_end.LineEnd.TheVariants.{Said, Quiet, ClockFailed, Memory}
-use Rattle.jv_session.specs.Stands.{ScheduleValue, Stands, IsState, ClockFor, busy_in, client_is_busy}
+use Rattle.jv_session.specs.Stands.{ScheduleValue, Stands, IsState, ClockFor, busy_in, client_is_busy, InLine}
 use Rattle.jv_session.specs.Lines.{LineState, line_state, Appends, Ran, Cut, SaysLine, CutsLine, LineRuns}
-use Rattle.jv_session.specs.InLine.{InLine, Goes, Finish, Break, FromLine, Finishes, Breaks, LineGoes, LineSays, RunsToEnd, StepsOnce, IsRefused, Crashes, Passing, HasBegun, HasRefused}
+use Rattle.jv_session.specs.InLine.{Goes, Finish, Break, FromLine, Finishes, Breaks, LineGoes, LineSays, RunsToEnd, StepsOnce, IsRefused, Crashes, Passing, HasBegun, HasRefused}
 
 -- where the line begun stands for the call that goes on with it
 pub record StandsIn (p : Past) (more : List Line) (Where : Past → Type 0) (s : ScheduleValue) (q : Past) : Type 0 where
@@ -268,12 +268,12 @@ module _ (p q : Past) (more : List Line) (number : ℕ) (due : Due) (said : List
     said = f.said;
   }
 
-  cut : p.line + 1 ≡ number → begun_to number p ≡ q → IsBegun p more due said state q → Break q asks before after → Cut p more number asks before after
-  cut next begins b f = record {
+  cut : (s : ScheduleValue) → p.line + 1 ≡ number → begun_to number p ≡ q → IsBegun p more due said state q → Break q asks before after s → Cut p more number asks before after s
+  cut s next begins b f = record {
     acts = f.acts;
     end = f.end;
     appends = appends f.acts f.end next begins b f.goes;
-    complete = f.goes.same.complete ∙ b.complete;
+    stands = f.in_line;
     stops = f.stops;
   }
 
@@ -306,8 +306,8 @@ module _ (line : Line) (number : ℕ) (before after : LineState) (s1 : ScheduleV
     passes = h.passes;
     stops = λ p more st next rest count clock.
         let e = i.enters p more st next rest in
-        cut p (begun_to number p) more number e.due e.said e.state h.asks before.journal after.journal next refl e.begun
-        (from_begun number before after s1 Where (λ q. Break q h.asks before.journal after.journal) p more h.goes e next count clock);
+        cut p (begun_to number p) more number e.due e.said e.state h.asks before.journal after.journal after.schedule next refl e.begun
+        (from_begun number before after s1 Where (λ q. Break q h.asks before.journal after.journal after.schedule) p more h.goes e next count clock);
   }
 
   -- a line that was entered comes to what the call that goes on with it comes to
@@ -346,7 +346,7 @@ lacks_text text number clock journal s = (
     asks = 0;
     passes = Passes-zero clock.answers;
     goes = λ q alone i at count tells.
-        record { acts = []; end = q; goes = goes_none q journal count; stops = either_true (is_over q) (may_stop q) alone.over };
+        record { acts = []; end = q; goes = goes_none q journal count; in_line = i; stops = either_true (is_over q) (may_stop q) alone.over };
   },
   refl,
 )

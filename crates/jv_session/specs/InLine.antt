@@ -12,7 +12,7 @@ use Rattle.jv_model.specs.client.Submission.{submission, submitted}
 use Rattle.jv_model.specs.journal.Past.{Past, ToAnswer, OneStep, Refusal, CrashEntry, TickEntry, is_over}
 use Rattle.jv_model.specs.journal.Legal.{may_stop}
 use Rattle.jv_model.specs.journal.Stepping.{entry_of}
-use Rattle.jv_laws.specs.OnLines.{IsAlone, Leads, SameLine}
+use Rattle.jv_laws.specs.OnLines.{Leads, SameLine}
 use Rattle.jv_outside.specs.Causes.{Rose}
 use Rattle.jv_outside.specs.Ticks.{Ticks, Passes, HasAnswered}
 use Rattle.jv_client.specs.ClientValue.{ClientValue}
@@ -23,18 +23,8 @@ use Rattle.jv_session.specs.declared.line_end.LineEnd.{LineEnd}
 use Rattle.jv_session.specs.declared.line_end.LineEnd.TheVariants.{Said, Quiet, ClockFailed, Memory}
 use Rattle.jv_session.specs.declared.line_end.Stopped.{Stopped}
 use Rattle.jv_session.specs.declared.line_end.Stopped.TheVariants as stopped
-use Rattle.jv_session.specs.Stands.{ScheduleValue, IsState, ClockFor}
+use Rattle.jv_session.specs.Stands.{ScheduleValue, InLine, ClockFor}
 use Rattle.jv_session.specs.Lines.{LineState}
-
--- the schedule stands where the past is, whose present line is begun
-pub record InLine (q : Past) (s : ScheduleValue) : Type 0 where
-  pub complete : q.complete ≡ true
-  pub at : q.at ≡ s.at
-  pub last : q.at ≤ LAST_MOMENT
-  pub ticks : min LAST_MOMENT q.ticks ≡ s.ticks
-  pub alone : IsAlone q
-  pub limits : q.run.limits ≡ s.limits
-  pub state : IsState q.state s.clients s.store
 
 -- entries of the line were appended; they are allowed, and lead there
 pub record Goes (q : Past) (asks : ℕ) (before after acts : List Act) (r : Past) : Type 0 where
@@ -53,11 +43,12 @@ pub record Finish (q : Past) (asks : ℕ) (before after : List Act) (text : List
   pub over : is_over end ≡ true
   pub said : end.said ≡ text
 
--- the run stopped on the line
-pub record Break (q : Past) (asks : ℕ) (before after : List Act) : Type 0 where
+-- the run stopped on the line, and the schedule stands where it is then
+pub record Break (q : Past) (asks : ℕ) (before after : List Act) (s : ScheduleValue) : Type 0 where
   pub acts : List Act
   pub end : Past
   pub goes : Goes q asks before after acts end
+  pub in_line : InLine end s
   pub stops : (is_over end || may_stop end) ≡ true
 
 abbrev pub end_of : Stopped → LineEnd
@@ -78,7 +69,7 @@ pub record Finishes (Where : Past → Type 0) (number : ℕ) (before after : Lin
 pub record Breaks (Where : Past → Type 0) (number : ℕ) (before after : LineState) : Type 0 where
   pub asks : ℕ
   pub passes : Passes before.clock.answers after.clock.answers asks
-  pub goes : FromLine Where number before after (λ q. Break q asks before.journal after.journal)
+  pub goes : FromLine Where number before after (λ q. Break q asks before.journal after.journal after.schedule)
 
 -- by how the call ended
 abbrev pub LineGoes : (Past → Type 0) → ℕ → LineState → LineState → LineEnd → Type 0

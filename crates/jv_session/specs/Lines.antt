@@ -8,7 +8,7 @@ use Rattle.jv_outside.specs.Causes.{Rose}
 use Rattle.jv_outside.specs.Ticks.{Ticks, Passes}
 use Rattle.jv_session.specs.declared.line_end.LineEnd.{LineEnd}
 use Rattle.jv_session.specs.declared.line_end.LineEnd.TheVariants.{Said, Quiet, ClockFailed, Memory}
-use Rattle.jv_session.specs.Stands.{ScheduleValue, Stands, ClockFor}
+use Rattle.jv_session.specs.Stands.{ScheduleValue, Stands, InLine, ClockFor}
 
 -- what the call for a line uses
 pub record LineState : Type 0 where
@@ -39,12 +39,12 @@ pub record Ran (p : Past) (more : List Line) (number asks : ℕ) (before after :
   pub stands : Stands end s
   pub said : end.said ≡ text
 
--- the run stopped on the line, before a step or after its last one
-pub record Cut (p : Past) (more : List Line) (number asks : ℕ) (before after : List Act) : Type 0 where
+-- the run stopped on the line, before a step or after its last one, and the schedule stands where it is then
+pub record Cut (p : Past) (more : List Line) (number asks : ℕ) (before after : List Act) (s : ScheduleValue) : Type 0 where
   pub acts : List Act
   pub end : Past
   pub appends : Appends p more number asks before after acts end
-  pub complete : end.complete ≡ true
+  pub stands : InLine end s
   pub stops : (is_over end || may_stop end) ≡ true
 
 -- From wherever the schedule stands, when the clock tells still what the run's clock tells: what the line comes to.
@@ -63,7 +63,7 @@ pub record SaysLine (line : Line) (number : ℕ) (before after : LineState) (tex
 pub record CutsLine (line : Line) (number : ℕ) (before after : LineState) : Type 0 where
   pub asks : ℕ
   pub passes : Passes before.clock.answers after.clock.answers asks
-  pub stops : FromThere line number before after (λ p more. Cut p more number asks before.journal after.journal)
+  pub stops : FromThere line number before after (λ p more. Cut p more number asks before.journal after.journal after.schedule)
 
 -- nothing has changed, and the clock wasn't asked
 pub record LeavesAll (before after : LineState) : Type 0 where

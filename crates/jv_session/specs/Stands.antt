@@ -8,6 +8,7 @@ use Rattle.jv_model.specs.declared.setting.Setting.{Setting}
 use Rattle.jv_model.specs.journal.State.{State}
 use Rattle.jv_model.specs.journal.Past.{Past, is_over}
 use Rattle.jv_model.specs.journal.Built.{is_built_op, is_built_line}
+use Rattle.jv_laws.specs.OnLines.{IsAlone}
 use Rattle.jv_client.specs.ClientValue.{ClientValue, fresh_client}
 use Rattle.jv_client.specs.StoreValue.{StoreValue, HasStore, fresh_store}
 use Rattle.jv_client.specs.Held.{IsClient}
@@ -58,6 +59,16 @@ pub record Stands (q : Past) (s : ScheduleValue) : Type 0 where
   pub last : q.at ≤ LAST_MOMENT
   pub ticks : min LAST_MOMENT q.ticks ≡ s.ticks
   pub alone : (n : ℕ) → q.run.by_worker n ≡ false
+  pub limits : q.run.limits ≡ s.limits
+  pub state : IsState q.state s.clients s.store
+
+-- the schedule stands where the past is, whose present line is begun
+pub record InLine (q : Past) (s : ScheduleValue) : Type 0 where
+  pub complete : q.complete ≡ true
+  pub at : q.at ≡ s.at
+  pub last : q.at ≤ LAST_MOMENT
+  pub ticks : min LAST_MOMENT q.ticks ≡ s.ticks
+  pub alone : IsAlone q
   pub limits : q.run.limits ≡ s.limits
   pub state : IsState q.state s.clients s.store
 

@@ -11,9 +11,9 @@ pub enum LineEnd {
     Said(Bytes),
     /// The line does nothing and prints nothing.
     Quiet,
-    /// The clock failed before a step of the line; the steps before it are made.
+    /// The clock failed before a step of the line. The steps before it are made, and the session stands where they lead.
     ClockFailed,
-    /// There was no memory for a step's entries or for the line's text; the steps made so far stand.
+    /// There was no memory for a step's entries or for the line's text. The session stands where the steps so far lead.
     Memory,
 }
 
