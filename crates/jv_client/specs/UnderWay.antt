@@ -63,7 +63,7 @@ reads_more h d = elim d.does [
   | does.Copies ↦ false
   | does.Compacts ↦ false
   | does.Cleans ↦ false
-  | does.Collects ↦ false
+  | does.Collects delete ↦ false
   | does.Uploads ↦ false
 ]
 

@@ -55,7 +55,7 @@ is_at_work _ = false
 -- operations that are answered in numbers which aren't those of the tree
 abbrev has_own_numbers : Does → Bool
 has_own_numbers (Answers CacheStats) = true
-has_own_numbers Collects = true
+has_own_numbers (Collects delete) = true
 has_own_numbers Uploads = true
 has_own_numbers _ = false
 

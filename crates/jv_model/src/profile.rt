@@ -53,7 +53,8 @@ pub enum Does {
     Copies,
     Compacts,
     Cleans,
-    Collects,
+    /// It judges the objects of the depot page by page, and removes the leaked ones or not.
+    Collects(bool),
     Uploads,
 }
 
@@ -108,7 +109,7 @@ impl Op {
             Op::Copy { source, target, .. } => on_files(*source, *target),
             Op::Compact { .. } => mounted(Does::Compacts),
             Op::Clean => mounted(Does::Cleans),
-            Op::Gc { .. } => mounted(Does::Collects),
+            Op::Gc { delete } => mounted(Does::Collects(*delete)),
             Op::Upload => unmounted(Does::Uploads),
             Op::Stats => mounted(Does::Answers(Answer::CacheStats)),
             Op::Beat

@@ -36,13 +36,15 @@ pub record Compaction : Type 0 where
   pub missed : Option (List Owed)  -- what was owed when a block wasn't found
   pub has_replaced : Bool
 
--- how far a cleaning is: first sessions, then the trash, then files, then slices, whose blocks are removed one by one
+-- How far a cleaning is: first sessions, then the trash, then files, then slices. Once it asked for a slice it has found none,
+-- or removes the blocks of one that it found, one by one.
 pub data Part : Type 0 where
   Sessions : Part
   Trash : Part
   Files : Part
   Slices : Part
-  Blocks : Part
+  Blocks : Part  -- a slice was asked for
+  MoreBlocks : Part  -- a block of it was removed
 
 pub record Cleaning : Type 0 where
   pub part : Part

@@ -80,7 +80,7 @@ profile (op.Link path to) = transaction
 profile (op.Rename path to how) = transaction
 profile (op.Compact path window) = mounted Compacts
 profile op.Clean = mounted Cleans
-profile (op.Gc delete) = mounted Collects
+profile (op.Gc delete) = mounted (Collects delete)
 profile op.Upload = unmounted Uploads
 profile op.Stats = mounted (Answers CacheStats)
 

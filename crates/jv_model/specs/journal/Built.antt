@@ -1,5 +1,5 @@
 -- The lines that a session runs today: eight clients, step by step, with the operations on files of the root.
-use Rattle.std.specs.Prelude.{ℕ, ◌+◌, min, Bool, true, false, ◌&&◌, ◌||◌, not, nat_le, nat_lt, List, length}
+use Rattle.std.specs.Prelude.{ℕ, ◌+◌, min, Bool, true, false, ◌&&◌, ◌||◌, not, nat_le, nat_lt, length}
 use Rattle.jv_model.specs.declared.limits.TheConstants.{DEFAULT_BUFFER, FILE_END, WINDOW}
 use Rattle.jv_model.specs.declared.basics.Limits.{Limits}
 use Rattle.jv_model.specs.declared.op.Op.{Op}
@@ -7,8 +7,6 @@ use Rattle.jv_model.specs.declared.op.Op.TheVariants as op
 use Rattle.jv_model.specs.declared.op.Line.{Line}
 use Rattle.jv_model.specs.declared.op.Line.TheVariants.{Empty, Do, Begin, Step, Run, Crash, Drain, Tick}
 use Rattle.jv_model.specs.script.Spelling.{is_root_path}
-use Rattle.jv_model.specs.client.Pending.{PendingByte}
-use Rattle.jv_model.specs.client.ModelClient.{ModelClient}
 use Rattle.jv_model.specs.journal.Past.{Past}
 
 -- The form of the operations that are built: a mount that isn't in writeback mode, paths of one name in the root, and

@@ -11,7 +11,7 @@ use Rattle.jv_model.specs.declared.act.Told.TheVariants.{Fine, Refused as ToldRe
 use Rattle.jv_model.specs.declared.fault.Fault.{Fault}
 use Rattle.jv_model.specs.declared.fault.Fault.TheVariants.{NoMemory}
 use Rattle.jv_model.specs.journal.State.{State}
-use Rattle.jv_model.specs.journal.Steps.{IsEntry, is_failure, owes_none}
+use Rattle.jv_model.specs.journal.Steps.{IsEntry, is_failure, owes_none, is_owed_by}
 use Rattle.jv_model.specs.journal.Past.{Setup, Past, Due, NoMore, Refusal, MayLack, ToAnswer, OneStep, StepMade, CrashEntry, TickEntry, DrainEntries, at_start, begun_to, advance, at_end, asks_clock, begins_in, is_workers, is_busy, ends_in_step, is_over}
 
 -- the moment of the clock's next answer, with the seconds that lines let pass
@@ -45,9 +45,15 @@ IsPublish s (Settled commit) = IsTrue (is_owed s commit)
 IsPublish s Quiet = Unit {0}
 IsPublish s _ = ⊥
 
--- an entry of a `drain`: a publish, or its end, when no commit of the client is owed
+-- a publish of a block that the client staged
+abbrev pub IsPublishOf : State → ℕ → ActKind → Type 0
+IsPublishOf s client (Settled commit) = IsTrue (is_owed_by s client commit)
+IsPublishOf s client Quiet = Unit {0}
+IsPublishOf s client _ = ⊥
+
+-- an entry of a `drain`: a publish of a block of the client, or its end, when no commit of the client is owed
 pub data Drains (s : State) (client : ℕ) (kind : ActKind) : Type 0 where
-  Sends : IsPublish s kind → Drains s client kind
+  Sends : IsPublishOf s client kind → Drains s client kind
   Ends : IsTrue (owes_none s client) → kind ≡ Answered (Fine 0 0 0 0) → Drains s client kind
   Fails : (told : Told) → IsTrue (is_failure told) → kind ≡ Answered told → Drains s client kind
 

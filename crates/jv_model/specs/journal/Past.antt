@@ -188,7 +188,7 @@ fine_reply Truncates a b c d = reply.Done
 fine_reply Copies a b c d = reply.Count a
 fine_reply Compacts a b c d = reply.Compaction a b
 fine_reply DoesClean a b c d = reply.Cleanup a b c d
-fine_reply Collects a b c d = reply.Leaked a b
+fine_reply (Collects delete) a b c d = reply.Leaked a b
 fine_reply Uploads a b c d = reply.Uploaded (uploaded_of a b c d)
 
 abbrev pub told_reply : ModelClient → Doing → Told → Reply

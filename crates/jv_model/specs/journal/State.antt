@@ -1,6 +1,6 @@
 -- What a journal has come to, and what one more entry does to it: the tree, the clients, and whose blocks are owed. It
 -- knows no lines, clock or text.
-use Rattle.std.specs.Prelude.{ℕ, ◌+◌, Bool, true, false, ◌&&◌, ◌||◌, not, ◌==◌, nat_lt, if◌then◌else◌, List, [], ◌∷◌, ◌++◌, map, filter, is_some, Option, None, Some}
+use Rattle.std.specs.Prelude.{ℕ, ◌+◌, ◌%◌, Bool, true, false, ◌&&◌, ◌||◌, not, ◌==◌, nat_lt, if◌then◌else◌, List, [], ◌∷◌, ◌++◌, map, filter, is_some, Option, None, Some}
 use Rattle.jv_model.specs.declared.limits.TheConstants.{TRASH_ROOT}
 use Rattle.jv_model.specs.declared.act.Act.{Act}
 use Rattle.jv_model.specs.declared.act.ActKind.{ActKind}
@@ -29,7 +29,7 @@ use Rattle.jv_model.specs.tree.Trash.{purged}
 use Rattle.jv_model.specs.client.Pending.{written, without_range, bytes_in_range, pending_of_others}
 use Rattle.jv_model.specs.client.Origins.{Marks, Owed, first_marks, marks_committed, marks_truncated, marks_copied, marks_compacted}
 use Rattle.jv_model.specs.client.Profile.{profile, handle_list, handle_of}
-use Rattle.jv_model.specs.client.ModelClient.{ModelClient, OpenFile, View, Doing, Stage, Part, Sessions, Trash, Files, Slices, Blocks, Cleaning, Working, Reading, Missing, LookedAgain, Compacting, Cleans, Requesting, Replying, unmounted, session_of, with_stage, with_file, file_of, free_handle, inode_at, held_inodes, is_last_of_removed, views_without}
+use Rattle.jv_model.specs.client.ModelClient.{ModelClient, OpenFile, View, Doing, Stage, Part, Sessions, Trash, Files, Slices, Blocks, MoreBlocks, Cleaning, Working, Reading, Missing, LookedAgain, Compacting, Cleans, Requesting, Replying, unmounted, session_of, with_stage, with_file, file_of, free_handle, inode_at, held_inodes, is_last_of_removed, views_without}
 use Rattle.jv_model.specs.client.Submission.{is_flushed}
 use Rattle.jv_model.specs.journal.Reading.{Asked, window_start, asked_parts, fresh_view}
 
@@ -190,27 +190,45 @@ next_part Sessions = Trash
 next_part Trash = Files
 next_part Files = Slices
 next_part Slices = Blocks
-next_part Blocks = Blocks
+next_part Blocks = MoreBlocks
+next_part MoreBlocks = MoreBlocks
 
+-- no slice may have been left
 abbrev pub is_last : Part → Bool
 is_last Sessions = false
 is_last Trash = false
 is_last Files = false
 is_last Slices = false
 is_last Blocks = true
+is_last MoreBlocks = false
+
+-- a request of this part removes a block
+abbrev pub removes_block : Part → Bool
+removes_block Sessions = false
+removes_block Trash = false
+removes_block Files = false
+removes_block Slices = false
+removes_block Blocks = true
+removes_block MoreBlocks = true
 
 -- A request of a cleaning that found nothing more in its part, or a slice, or that removed a block, which wants no session.
 abbrev pub cleaning_on : State → ModelClient → Cleaning → Stage
-cleaning_on s c k = (if has_session s.tree c || is_last k.part then Cleans (record k { part = next_part k.part }) else Replying (session_gone c))
+cleaning_on s c k = (if has_session s.tree c || removes_block k.part then Cleans (record k { part = next_part k.part }) else Replying (session_gone c))
 
 abbrev pub is_collecting : Does → Bool
-is_collecting Collects = true
+is_collecting (Collects delete) = true
 is_collecting _ = false
 
--- A request of a collection or an upload. The second one of a collection judges the names that the first one listed, in a
--- transaction that wants the session.
+-- A collection lists a page of names and judges them in a transaction, which wants the session. Where it removes none, every
+-- second request is such a transaction; else the second one is, and others stand between removals.
+abbrev pub judges : Does → ℕ → Bool
+judges (Collects true) requests = requests == 1
+judges (Collects false) requests = requests % 2 == 1
+judges _ requests = false
+
+-- a request of a collection or an upload
 abbrev pub requesting_on : State → ModelClient → Does → ℕ → Stage
-requesting_on s c does requests = (if is_collecting does && (requests == 1) && not (has_session s.tree c) then Replying (session_gone c) else Requesting (requests + 1))
+requesting_on s c does requests = (if judges does requests && not (has_session s.tree c) then Replying (session_gone c) else Requesting (requests + 1))
 
 abbrev pub first_cleaning : Cleaning
 first_cleaning = record { part = Sessions; sessions = 0; trash = 0; hours = 0; files = 0; slices = 0 }
@@ -245,7 +263,7 @@ begun_quietly s client c now d Truncates = Replying (refusal_in (transacted s cl
 begun_quietly s client c now d Copies = Replying (refusal_in (transacted s client now d.op).reply)
 begun_quietly s client c now d Compacts = Replying (refusal_in (transacted s client now d.op).reply)
 begun_quietly s client c now d DoesClean = cleaning_on s c first_cleaning
-begun_quietly s client c now d Collects = Requesting 1
+begun_quietly s client c now d (Collects delete) = Requesting 1
 begun_quietly s client c now d Uploads = Requesting 1
 
 -- a request that changed nothing of the tree
@@ -347,7 +365,7 @@ answer_then c d = elim d.does [
   | Copies ↦ None
   | Compacts ↦ None
   | DoesClean ↦ None
-  | Collects ↦ None
+  | Collects delete ↦ None
   | Uploads ↦ None
 ]
 

@@ -1,6 +1,6 @@
 -- What an entry of a client's operation may be, by the state alone: the requests of the operation in their order, each with
 -- the operation's own numbers, and the answers with their causes.
-use Rattle.std.specs.Prelude.{◌≡◌, ℕ, ◌+◌, ◌≤◌, ◌<◌, Bool, true, false, ◌&&◌, ◌||◌, not, ◌==◌, nat_le, nat_lt, if◌then◌else◌, IsTrue, MatchBool, IsSomeAnd, List, [], ◌∷◌, length, is_some, Option, None, Some, Result, Ok, Err}
+use Rattle.std.specs.Prelude.{◌≡◌, ℕ, ◌+◌, ◌%◌, ◌≤◌, ◌<◌, Bool, true, false, ◌&&◌, ◌||◌, not, ◌==◌, nat_le, nat_lt, if◌then◌else◌, IsTrue, MatchBool, IsSomeAnd, List, [], ◌∷◌, length, is_some, Option, None, Some, Result, Ok, Err}
 use Rattle.std.specs.List.{list_any}
 use Rattle.std.specs.Option.{option_map}
 use Rattle.jv_model.specs.declared.limits.TheConstants.{FULL_COUNT, FILE_END, WINDOW}
@@ -31,7 +31,7 @@ use Rattle.jv_model.specs.tree.Trash.{due_purge}
 use Rattle.jv_model.specs.client.Pending.{Segment, bytes_in_range}
 use Rattle.jv_model.specs.client.Origins.{Owed, missing_commit}
 use Rattle.jv_model.specs.client.Profile.{handle_of}
-use Rattle.jv_model.specs.client.ModelClient.{ModelClient, OpenFile, View, Doing, Stage, Part, Sessions, Trash, Files, Slices, Blocks, Cleaning, Compaction, Working, Reading, Missing, LookedAgain, Compacting, Cleans, Requesting, Replying, session_of, file_of, inode_at, is_among}
+use Rattle.jv_model.specs.client.ModelClient.{ModelClient, OpenFile, View, Doing, Stage, Part, Sessions, Trash, Files, Slices, Blocks, MoreBlocks, Cleaning, Compaction, Working, Reading, Missing, LookedAgain, Compacting, Cleans, Requesting, Replying, session_of, file_of, inode_at, is_among}
 use Rattle.jv_model.specs.client.Submission.{next_segment, is_flushed}
 use Rattle.jv_model.specs.journal.State.{State, ChangeKind, Written, Replaced, Ended, transacted, caller, has_session, look_refusal, sees_first, is_refused, is_cleaning, is_compaction, is_last, is_collecting, first_cleaning, answer_then, gift_of, Gift, NewSession, NewHandle, Nothing}
 use Rattle.jv_model.specs.journal.Reading.{Asked, window_start, asked_parts, fresh_view, part_to_look, shows_all, reading}
@@ -76,7 +76,7 @@ transacts c d = elim d.does [
   | Copies ↦ false
   | Compacts ↦ false
   | DoesClean ↦ false
-  | Collects ↦ false
+  | Collects delete ↦ false
   | Uploads ↦ false
 ]
 
@@ -299,7 +299,7 @@ pub record DropsFile (s : State) (inode : ℕ) : Type 0 where
   pub once : is_among inode s.dropped ≡ false
 
 abbrev pub CleansRow : State → ModelClient → Doing → ℕ → ℕ → Type 0
-CleansRow s c d table key = MatchBool (table == 8) (CleansItem s c d Files × DropsFile s key) ((table ≡ 9) × CleansItem s c d Blocks)
+CleansRow s c d table key = MatchBool (table == 8) (CleansItem s c d Files × DropsFile s key) ((table ≡ 9) × CleansItem s c d MoreBlocks)
 
 -- a request of a cleaning found nothing more in its part; blocks of slices are removed in any number
 abbrev finds_none : State → ModelClient → ℕ → Part → Bool
@@ -308,6 +308,7 @@ finds_none s c now Trash = not (is_some (due_purge s.tree now))
 finds_none s c now Files = true
 finds_none s c now Slices = true
 finds_none s c now Blocks = true
+finds_none s c now MoreBlocks = true
 
 -- requests that changed nothing of the tree
 
@@ -323,7 +324,7 @@ may_begin_quietly start s client now c d = elim d.does [
   | Copies ↦ is_refused (transacted s client now d.op).reply || is_crowded start s
   | Compacts ↦ is_refused (transacted s client now d.op).reply
   | DoesClean ↦ finds_none s c now Sessions || not (has_session s.tree c)
-  | Collects ↦ true
+  | Collects delete ↦ true
   | Uploads ↦ true
 ]
 
@@ -337,11 +338,15 @@ may_be_quiet start s client now c d (Cleans k) = nat_lt (items k) MAX_ITEMS && (
 may_be_quiet start s client now c d (Requesting requests) = is_collecting d.does
 may_be_quiet start s client now c d (Replying answer) = false
 
--- the last staged block of a commit is published by an upload
-pub record Publishes (s : State) (c : ModelClient) (d : Doing) (commit : ℕ) : Type 0 where
+-- the client owes blocks of that commit
+abbrev pub is_owed_by : State → ℕ → ℕ → Bool
+is_owed_by s client commit = list_any (λ o. (o.commit == commit) && (o.client == client)) s.owed
+
+-- the last staged block of a commit is published by an upload of the client that staged it
+pub record Publishes (s : State) (client : ℕ) (c : ModelClient) (d : Doing) (commit : ℕ) : Type 0 where
   pub ready : IsTrue (is_ready c d)
   pub uploads : d.does ≡ Uploads
-  pub owed : IsTrue (list_any (λ o. o.commit == commit) s.owed)
+  pub owed : IsTrue (is_owed_by s client commit)
 
 -- answers
 
@@ -465,10 +470,15 @@ pub data IsRefusedIn (start : Start) (s : State) (client now : ℕ) (c : ModelCl
   MissedTooOften : (window : ℕ) → (owed : List Owed) → d.stage ≡ LookedAgain MAX_MISSES window owed → fault ≡ Contended (TooManyMisses MAX_MISSES)
       → IsRefusedIn start s client now c d fault
 
--- A collection has listed a page and judged it, so that it may end.
-abbrev pub has_judged : Stage → Bool
-has_judged (Requesting requests) = nat_le 2 requests
-has_judged _ = false
+-- A collection has judged the page that it listed last, so that it may end.
+abbrev pub may_end_after : Does → ℕ → Bool
+may_end_after (Collects true) requests = nat_le 2 requests
+may_end_after (Collects false) requests = nat_le 2 requests && (requests % 2 == 0)
+may_end_after _ requests = false
+
+abbrev pub has_judged : Does → Stage → Bool
+has_judged does (Requesting requests) = may_end_after does requests
+has_judged does _ = false
 
 -- no Commit of the client is owed
 abbrev pub owes_none : State → ℕ → Bool
@@ -516,12 +526,13 @@ pub data MayAnswer (start : Start) (alone : Bool) (s : State) (client now : ℕ)
   Fails : must_answer d ≡ false → IsTrue (is_failure told) → MayAnswer start alone s client now c d told
   Settles : (answer : Reply) → d.stage ≡ Replying answer → told ≡ told_of answer → MayAnswer start alone s client now c d told
   AtOnce : AnswersAtOnce c d told → MayAnswer start alone s client now c d told
-  CountsCache : (hits misses cached : ℕ) → d.does ≡ Answers answer.CacheStats → told ≡ Fine hits misses cached (length c.pending)
+  CountsCache : (hits misses cached : ℕ) → IsTrue (is_ready c d) → d.moved ≡ false → d.does ≡ Answers answer.CacheStats
+      → told ≡ Fine hits misses cached (length c.pending)
       → MayAnswer start alone s client now c d told
   ReadsViews : ReadsFresh c d told → MayAnswer start alone s client now c d told
   CleanedUp : EndsCleaning s c d told → MayAnswer start alone s client now c d told
   HasCompacted : EndsCompaction d told → MayAnswer start alone s client now c d told
-  HasCollected : (count bytes : ℕ) → d.does ≡ Collects → IsTrue (has_judged d.stage) → told ≡ Fine count bytes 0 0 → MayAnswer start alone s client now c d told
+  HasCollected : (count bytes : ℕ) → IsTrue (has_judged d.does d.stage) → told ≡ Fine count bytes 0 0 → MayAnswer start alone s client now c d told
   HasUploaded : d.does ≡ Uploads → EndsUpload alone s client c d told → MayAnswer start alone s client now c d told
   Refuses : (fault : Fault) → d.moved ≡ true → IsRefusedIn start s client now c d fault → told ≡ ToldRefused fault → MayAnswer start alone s client now c d told
 
@@ -541,7 +552,7 @@ MayStep start alone s client now c d (Commit inode from len staged) = Commits s 
 MayStep start alone s client now c d (Truncated inode len) = Changes s client now c d (Truncated inode len)
 MayStep start alone s client now c d (Copied source from target to len) = Changes s client now c d (Copied source from target to len)
 MayStep start alone s client now c d (Compacted inode window from to) = Replaces s now c d inode window from to
-MayStep start alone s client now c d (Settled commit) = Publishes s c d commit
+MayStep start alone s client now c d (Settled commit) = Publishes s client c d commit
 MayStep start alone s client now c d (Expired sid) = CleansItem s c d Sessions × (due_session s.tree (session_of c) now ≡ Some sid)
 MayStep start alone s client now c d (Purged inode) = CleansItem s c d Trash × (due_purge s.tree now ≡ Some inode)
 MayStep start alone s client now c d (Cleaned table key) = CleansRow s c d table key
