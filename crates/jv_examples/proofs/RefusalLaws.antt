@@ -13,14 +13,14 @@ use Rattle.jv_model.specs.declared.op.Reply.{Reply}
 use Rattle.jv_model.specs.declared.profile.Answer.TheVariants.{CacheStats}
 use Rattle.jv_model.specs.declared.profile.Does.{Does}
 use Rattle.jv_model.specs.declared.profile.Does.TheVariants.{Answers, Collects, Uploads}
-use Rattle.jv_model.specs.client.ModelClient.{ModelClient, Doing, OpenFile, View, Flush, Stage, Working, LookedAgain, Compacting, Replying, is_replying}
+use Rattle.jv_model.specs.client.ModelClient.{ModelClient, Doing, OpenFile, View, Flush, Stage, Working, LookedAgain, Compacting, Requesting, Replying, is_replying}
 use Rattle.jv_model.specs.client.Origins.{Origin, Start as AtStart, Zero, Committed, Made, missing_commit}
 use Rattle.jv_model.specs.client.Profile.{handle_of}
 use Rattle.jv_model.specs.journal.Reading.{fresh_view, reading}
 use Rattle.jv_model.specs.journal.State.{State, answer_then}
 use Rattle.jv_model.specs.journal.Steps.{Start, IsEntry, MayStep, MayAnswer, Fails, Settles, AtOnce, CountsCache, ReadsViews, CleanedUp, HasCompacted, TooShort, HasReplaced, HasCollected, HasUploaded, Sent, FoundNone, Refuses}
 use Rattle.jv_model.specs.journal.Steps.{IsRefusedIn, SessionGone, InodeGone, CommitLate, CommitTooLarge, NumberRefused, CompactionCrowded, CompactionLate, AnotherList, BlockOwed, MissedTooOften, InReading, InCompaction}
-use Rattle.jv_model.specs.journal.Steps.{AnswersAtOnce, ReadsFresh, MayBeGone, Owes, MayBeCleaned, MissesBlock, may_be_cleaned, asked_of, file_in_use, begins_step, told_of, is_failure}
+use Rattle.jv_model.specs.journal.Steps.{AnswersAtOnce, ReadsFresh, MayBeGone, Owes, MayBeCleaned, MissesBlock, may_be_cleaned, asked_of, file_in_use, begins_step, told_of, is_failure, has_judged}
 use Rattle.jv_model.specs.journal.Past.{Past, begun_to, advance, past}
 use Rattle.jv_model.specs.journal.Legal.{Allowed, AllAllowed}
 
@@ -52,6 +52,10 @@ abbrev is_at_work : Stage → Bool
 is_at_work (Working quiets started) = true
 is_at_work _ = false
 
+judged_is_over : (does : Does) (stage : Stage) → IsTrue (has_judged does stage) → is_at_work stage ≡ false
+judged_is_over does (Requesting requests) judged = refl
+judged_is_over does _ judged = absurd (cc)
+
 -- operations that are answered in numbers which aren't those of the tree
 abbrev has_own_numbers : Does → Bool
 has_own_numbers (Answers CacheStats) = true
@@ -65,12 +69,12 @@ pub fine_at_once : {start : Start} {alone : Bool} {s : State} {client now : ℕ}
 fine_at_once work own (Fails must fails) = absurd (cc)
 fine_at_once work own (Settles answer stage e) = let no = sym work ∙ ap is_at_work stage in absurd (cc)
 fine_at_once work own (AtOnce h) = h
-fine_at_once work own (CountsCache hits misses cached does e) = let no = sym own ∙ ap has_own_numbers does in absurd (cc)
+fine_at_once work own (CountsCache hits misses cached ready first does e) = let no = sym own ∙ ap has_own_numbers does in absurd (cc)
 fine_at_once work own (ReadsViews h) = let no = h.same in absurd (cc)
 fine_at_once work own (CleanedUp h) = let no = sym work ∙ ap is_at_work h.stage in absurd (cc)
 fine_at_once work own (HasCompacted (TooShort k records stage quiets on few e)) = let no = sym work ∙ ap is_at_work stage in absurd (cc)
 fine_at_once work own (HasCompacted (HasReplaced k before after stage replaced two e)) = let no = sym work ∙ ap is_at_work stage in absurd (cc)
-fine_at_once work own (HasCollected count bytes does judged e) = let no = sym own ∙ ap has_own_numbers does in absurd (cc)
+fine_at_once {d = d} work own (HasCollected count bytes judged e) = let no = sym work ∙ judged_is_over d.does d.stage judged in absurd (cc)
 fine_at_once work own (HasUploaded does h) = let no = sym own ∙ ap has_own_numbers does in absurd (cc)
 fine_at_once work own (Refuses fault moved h e) = absurd (cc)
 
@@ -80,12 +84,12 @@ pub looks_are_read : {start : Start} {alone : Bool} {s : State} {client now : �
 looks_are_read unsettled none (Fails must fails) = absurd (cc)
 looks_are_read unsettled none (Settles answer stage e) = let no = sym unsettled ∙ ap is_replying stage in absurd (cc)
 looks_are_read unsettled none (AtOnce h) = let no = sym (ap (option_map told_of) none) ∙ h.same in absurd (cc)
-looks_are_read unsettled none (CountsCache hits misses cached does e) = absurd (cc)
+looks_are_read unsettled none (CountsCache hits misses cached ready first does e) = absurd (cc)
 looks_are_read unsettled none (ReadsViews h) = h
 looks_are_read unsettled none (CleanedUp h) = let no = h.same in absurd (cc)
 looks_are_read unsettled none (HasCompacted (TooShort k records stage quiets on few e)) = absurd (cc)
 looks_are_read unsettled none (HasCompacted (HasReplaced k before after stage replaced two e)) = absurd (cc)
-looks_are_read unsettled none (HasCollected count bytes does judged e) = absurd (cc)
+looks_are_read unsettled none (HasCollected count bytes judged e) = absurd (cc)
 looks_are_read unsettled none (HasUploaded does (Sent id index size stage e)) = absurd (cc)
 looks_are_read unsettled none (HasUploaded does (FoundNone ready first none_owed e)) = absurd (cc)
 looks_are_read unsettled none (Refuses fault moved h e) = absurd (cc)
@@ -105,12 +109,12 @@ pub refused_by_cause : {start : Start} {alone : Bool} {s : State} {client now : 
 refused_by_cause plain unsettled done (Fails must fails) = let no = sym plain ∙ fails in absurd (cc)
 refused_by_cause plain unsettled done (Settles answer stage e) = let no = sym unsettled ∙ ap is_replying stage in absurd (cc)
 refused_by_cause plain unsettled done (AtOnce h) = let no = sym done ∙ ap is_refusal h.same in absurd (cc)
-refused_by_cause plain unsettled done (CountsCache hits misses cached does e) = absurd (cc)
+refused_by_cause plain unsettled done (CountsCache hits misses cached ready first does e) = absurd (cc)
 refused_by_cause plain unsettled done (ReadsViews h) = let no = h.same in absurd (cc)
 refused_by_cause plain unsettled done (CleanedUp h) = let no = h.same in absurd (cc)
 refused_by_cause plain unsettled done (HasCompacted (TooShort k records stage quiets on few e)) = absurd (cc)
 refused_by_cause plain unsettled done (HasCompacted (HasReplaced k before after stage replaced two e)) = absurd (cc)
-refused_by_cause plain unsettled done (HasCollected count bytes does judged e) = absurd (cc)
+refused_by_cause plain unsettled done (HasCollected count bytes judged e) = absurd (cc)
 refused_by_cause plain unsettled done (HasUploaded does (Sent id index size stage e)) = absurd (cc)
 refused_by_cause plain unsettled done (HasUploaded does (FoundNone ready first none_owed e)) = absurd (cc)
 refused_by_cause {start} {alone} {s} {client} {now} {c} {d} plain unsettled done (Refuses fault moved h e) = subst (λ x. IsRefusedIn start s client now c d x) (sym (ap fault_of e)) h
@@ -244,12 +248,12 @@ pub settled_is_told : {start : Start} {alone : Bool} {s : State} {client now : �
 settled_is_told other (Fails must fails) = absurd (cc)
 settled_is_told {answer = answer} other (Settles reply stage e) = e ∙ ap told_of (ap (reply_in answer) (sym stage))
 settled_is_told other (AtOnce h) = let never = h.ready in absurd (cc)
-settled_is_told other (CountsCache hits misses cached does e) = let never = sym other ∙ ap is_stats does in absurd (cc)
+settled_is_told other (CountsCache hits misses cached ready first does e) = let never = sym other ∙ ap is_stats does in absurd (cc)
 settled_is_told other (ReadsViews h) = let never = h.goes_on in absurd (cc)
 settled_is_told other (CleanedUp h) = let never = ap is_replying h.stage in absurd (cc)
 settled_is_told other (HasCompacted (TooShort k records stage quiets on few e)) = let never = ap is_replying stage in absurd (cc)
 settled_is_told other (HasCompacted (HasReplaced k before after stage replaced two e)) = let never = ap is_replying stage in absurd (cc)
-settled_is_told other (HasCollected count bytes does judged e) = absurd (cc)
+settled_is_told other (HasCollected count bytes judged e) = absurd (cc)
 settled_is_told other (HasUploaded does (Sent id index size stage e)) = let never = ap is_replying stage in absurd (cc)
 settled_is_told other (HasUploaded does (FoundNone ready first none_owed e)) = absurd (cc)
 settled_is_told other (Refuses fault moved h e) = absurd (settled_not_refused h)

@@ -14,11 +14,11 @@ use Rattle.jv_model.specs.client.Submission.{submission, submitted}
 use Rattle.jv_model.specs.journal.State.{State, state_at_start, set_client, after_step, after_other, of_doing, changed, effect}
 use Rattle.jv_model.specs.journal.Steps.{MayStep, is_failure, owes_none}
 use Rattle.jv_model.specs.journal.Past.{Setup, Past, DrainEntries, at_start, begun_to, is_workers, reached}
-use Rattle.jv_model.specs.journal.Legal.{Allowed, AllAllowed, OfLine, OfWorker, IsPublish, IsRefusal, Refuses, LacksMemory as RefusalLacks, Drains, Sends, Ends, Fails}
+use Rattle.jv_model.specs.journal.Legal.{Allowed, AllAllowed, OfLine, OfWorker, IsPublish, IsPublishOf, IsRefusal, Refuses, LacksMemory as RefusalLacks, Drains, Sends, Ends, Fails}
 use Rattle.jv_model.specs.journal.Looks.{entry_at}
 use Rattle.jv_laws.specs.Laws.{IsOwed, OwedCommits, SettlesOwed, DrainsSettleAll, leaves_staged, settles, is_owed_by}
 use Rattle.jv_laws.proofs.JournalGrowthLaws.{AllAllowed-parts}
-use Rattle.jv_laws.proofs.JournalStates.{Entry, Steps, RefusedSubmission, LacksMemory, Crashes, Publishes, OfDrain, Ticks, entry_of, entry_before, entry_last, entry_past, entry_within, none_entered, holds, holds_on}
+use Rattle.jv_laws.proofs.JournalStates.{owed_of, publish_of, Entry, Steps, RefusedSubmission, LacksMemory, Crashes, Publishes, OfDrain, Ticks, entry_of, entry_before, entry_last, entry_past, entry_within, none_entered, holds, holds_on}
 
 -- what an entry does to what is owed
 pub data OwedAfter (s : State) (client : ℕ) (kind : ActKind) (owed : List Owed) : Type 0 where
@@ -71,7 +71,7 @@ publish_needs_none s Quiet h = refl
 publish_needs_none s _ h = absurd h
 
 drain_needs_none : (s : State) (client : ℕ) (kind : ActKind) → Drains s client kind → is_of_operation kind ≡ false
-drain_needs_none s client kind (Sends h) = publish_needs_none s kind h
+drain_needs_none s client kind (Sends h) = publish_needs_none s kind (publish_of s client kind h)
 drain_needs_none s client kind (Ends h e) = ap is_of_operation e
 drain_needs_none s client kind (Fails told h e) = ap is_of_operation e
 
@@ -303,13 +303,13 @@ publish_owed : (s : State) (kind : ActKind) (commit : ℕ) → kind ≡ Settled 
 publish_owed s kind commit e h = let t : IsPublish s (Settled commit) = subst (IsPublish s) e h in t
 
 settled_owed : (p : Past) (act : Act) (commit : ℕ) → act.kind ≡ Settled commit → Entry p act → IsAmong p.state commit
-settled_owed p act commit k (Steps d e may) = let t = subst (λ kind. MayStep p.run.start (p.run.uploads == 0) p.state act.client act.at (p.state.clients act.client) d kind) k may in t.owed
+settled_owed p act commit k (Steps d e may) = let t = subst (λ kind. MayStep p.run.start (p.run.uploads == 0) p.state act.client act.at (p.state.clients act.client) d kind) k may in owed_of p.state.owed act.client commit t.owed
 settled_owed p act commit k (RefusedSubmission fault e (Refuses k')) = absurd (cc)
 settled_owed p act commit k (RefusedSubmission fault e (RefusalLacks b k')) = absurd (cc)
 settled_owed p act commit k (LacksMemory e k') = absurd (cc)
 settled_owed p act commit k (Crashes e k') = absurd (cc)
 settled_owed p act commit k (Publishes e h) = publish_owed p.state act.kind commit k h
-settled_owed p act commit k (OfDrain client e due (Sends h)) = publish_owed p.state act.kind commit k h
+settled_owed p act commit k (OfDrain client e due (Sends h)) = publish_owed p.state act.kind commit k (publish_of p.state client act.kind h)
 settled_owed p act commit k (OfDrain client e due (Ends h k')) = absurd (cc)
 settled_owed p act commit k (OfDrain client e due (Fails told h k')) = absurd (cc)
 settled_owed p act commit k (Ticks by e k') = absurd (cc)
@@ -333,7 +333,7 @@ none_owed client commit (o ∷ os) h = elim (eqb_tells o.client client) [
 ]
 
 drain_ends : (s : State) (client : ℕ) (kind : ActKind) (a b c d : ℕ) → kind ≡ Answered (Fine a b c d) → Drains s client kind → IsTrue (owes_none s client)
-drain_ends s client kind a b c d k (Sends h) = absurd (subst (IsPublish s) k h)
+drain_ends s client kind a b c d k (Sends h) = absurd (subst (IsPublishOf s client) k h)
 drain_ends s client kind a b c d k (Ends h e) = h
 drain_ends s client kind a b c d k (Fails told h e) =
     let same : Fine a b c d ≡ told = cc in
