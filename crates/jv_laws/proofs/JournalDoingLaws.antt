@@ -65,6 +65,7 @@ or_left false h = absurd (cc)
 abbrev pub IsFineReply : Does → Reply → Type 0
 IsFineReply (Answers told) r = reply_of_answer told ≡ Some r
 IsFineReply (Reads offset len) r = ⊥
+IsFineReply Uploads r = ⊥
 IsFineReply _ r = Unit {0}
 
 pub data IsSettled (does : Does) (flushed : Bool) (r : Reply) : Type 0 where
@@ -273,7 +274,7 @@ fine_transacts c d Copies r h = tt
 fine_transacts c d Compacts r h = tt
 fine_transacts c d DoesClean r h = tt
 fine_transacts c d (Collects delete) r h = tt
-fine_transacts c d Uploads r h = tt
+fine_transacts c d Uploads r h = absurd (cc)
 
 abbrev IsGiftless : Tree → Result Outcome Fault → Type 0
 IsGiftless t r = gift_of (outcome t r).reply ≡ Nothing
@@ -375,7 +376,7 @@ answer_fine c d Copies r e = tt
 answer_fine c d Compacts r e = tt
 answer_fine c d DoesClean r e = tt
 answer_fine c d (Collects delete) r e = tt
-answer_fine c d Uploads r e = tt
+answer_fine c d Uploads r e = absurd (cc)
 
 -- changes of a file
 

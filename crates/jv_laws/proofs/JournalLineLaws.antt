@@ -558,7 +558,7 @@ done_advance : (line : ℕ) (p : Past) (act : Act) → IsDone line (after (begun
 unfolding advance
 done_advance line p act h = h
 
-workers_at : (run : Setup) (pre : List Act) (line : ℕ) → AllAllowed (at_start run) pre → is_workers (begun_to line (reached run pre)) ≡ run.by_worker (1 + length pre)
+pub workers_at : (run : Setup) (pre : List Act) (line : ℕ) → AllAllowed (at_start run) pre → is_workers (begun_to line (reached run pre)) ≡ run.by_worker (1 + length pre)
 workers_at run pre line may = is_by_worker run pre (begun_to line (reached run pre)) (lined_to run pre line (reached run pre) (all_lined run pre may))
 
 pub refused_once : RefusedLinesHaveOneEntry

@@ -346,7 +346,7 @@ drain_at : (p : Past) (act : Act) (client a b c d : ℕ) (worker : Bool) → p.d
 drain_at p act client a b c d true due k h = absurd (subst (IsPublish p.state) k h.2)
 drain_at p act client a b c d false due k h = let t : OfLine p act (DrainEntries client) = subst (OfLine p act) due h in drain_ends p.state client act.kind a b c d k t.1
 
-none_is_owed : (run : Setup) (journal : List Act) → AllAllowed (at_start run) journal → (line client commit : ℕ) → IsTrue (owes_none (begun_to line (reached run journal)).state client) → IsOwed journal client commit → ⊥
+pub none_is_owed : (run : Setup) (journal : List Act) → AllAllowed (at_start run) journal → (line client commit : ℕ) → IsTrue (owes_none (begun_to line (reached run journal)).state client) → IsOwed journal client commit → ⊥
 none_is_owed run journal may line client commit none owed =
     let o = owing_on run journal may line in
     let there = o.shows client commit owed in

@@ -4,6 +4,7 @@ pub mod EndedLines
 pub mod EntriesOfLines
 pub mod JournalAnswerLaws
 pub mod JournalCleaningLaws
+pub mod JournalClockLaws
 pub mod JournalCloseLaws
 pub mod JournalDoingLaws
 pub mod JournalGrowthLaws
@@ -13,5 +14,6 @@ pub mod JournalOwedLaws
 pub mod JournalReadLaws
 pub mod JournalStageLaws
 pub mod JournalStates
+pub mod JournalUploadLaws
 pub mod NotedLines
 pub mod StepsOnLines

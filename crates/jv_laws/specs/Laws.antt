@@ -21,8 +21,8 @@ use Rattle.jv_model.specs.journal.Steps.{told_of}
 use Rattle.jv_model.specs.declared.op.Reply.{Reply}
 use Rattle.jv_model.specs.journal.Reading.{Asked, asked_parts, bytes_between, fresh_view, is_full}
 use Rattle.jv_model.specs.declared.op.Reply.TheVariants.{Data}
-use Rattle.jv_model.specs.journal.Past.{Setup, Past, Refusal, at_start, begun_to, reached, line_reply, reply_of, DrainEntries}
-use Rattle.jv_model.specs.journal.Legal.{AllAllowed, Legal, may_be_cut}
+use Rattle.jv_model.specs.journal.Past.{Setup, Past, Refusal, at_start, begun_to, reached, line_reply, reply_of, DrainEntries, asks_clock}
+use Rattle.jv_model.specs.journal.Legal.{AllAllowed, Legal, may_be_cut, clock_moment, tick_of}
 use Rattle.jv_model.specs.declared.act.Told.{Told}
 use Rattle.jv_model.specs.declared.fault.Fault.{Fault}
 use Rattle.jv_model.specs.declared.op.Line.{Line}
@@ -56,6 +56,16 @@ pub record Follows (earlier later : Act) : Type 0 where
 abbrev pub FollowsClock : Type 0
 FollowsClock = (run : Setup) (journal : List Act) → AllAllowed (at_start run) journal
     → (earlier later : ℕ) → earlier ≤ later → IfSome (entry_at journal earlier) (λ a. IfSome (entry_at journal later) (λ b. Follows a b))
+
+-- An entry that asks the clock has the moment of the clock's next answer, and another one that of the entry before it.
+pub record HasMoment (answers : ℕ → ℕ) (p : Past) (act : Act) : Type 0 where
+  pub asked : IsTrue (asks_clock p act) → act.at ≡ clock_moment p (p.ticks + tick_of act.kind) answers
+  pub unasked : asks_clock p act ≡ false → act.at ≡ p.at
+
+-- Where the clock's answers are known, they and the ticks determine the moments. Entries of uploading threads are left out.
+abbrev pub MomentsAreTheClocks : Type 0
+MomentsAreTheClocks = (run : Setup) (journal : List Act) (act : Act) → AllAllowed (at_start run) (journal ++ act ∷ []) → run.by_worker (1 + length journal) ≡ false
+    → (answers : ℕ → ℕ) → run.clock ≡ Some answers → HasMoment answers (begun_to act.line (reached run journal)) act
 
 -- an entry of one client changes nothing of another
 abbrev pub OthersStay : Type 0
@@ -105,6 +115,12 @@ abbrev pub DrainsSettleAll : Type 0
 DrainsSettleAll = (run : Setup) (journal : List Act) (act : Act) → AllAllowed (at_start run) (journal ++ act ∷ [])
     → (client : ℕ) → (begun_to act.line (reached run journal)).due ≡ DrainEntries client → (a b c d : ℕ) → act.kind ≡ Answered (Fine a b c d)
     → (commit : ℕ) → IsOwed journal client commit → ⊥
+
+-- where no threads upload, an `upload` finds no block only where its client owes no commit
+abbrev pub UploadsFindAll : Type 0
+UploadsFindAll = (run : Setup) (journal : List Act) (act : Act) → AllAllowed (at_start run) (journal ++ act ∷ []) → run.uploads ≡ 0 → (act.client ≡ NO_CLIENT → ⊥)
+    → (d : Doing) → ((begun_to act.line (reached run journal)).state.clients act.client).doing ≡ Some d → d.op ≡ op.Upload → act.kind ≡ Answered (Fine 0 0 0 0)
+    → (commit : ℕ) → IsOwed journal act.client commit → ⊥
 
 -- fresh looks
 
