@@ -65,6 +65,7 @@ or_left false h = absurd (cc)
 abbrev pub IsFineReply : Does → Reply → Type 0
 IsFineReply (Answers told) r = reply_of_answer told ≡ Some r
 IsFineReply (Reads offset len) r = ⊥
+IsFineReply DoesClean r = ⊥
 IsFineReply Uploads r = ⊥
 IsFineReply _ r = Unit {0}
 
@@ -272,7 +273,7 @@ fine_transacts c d Releases r h = tt
 fine_transacts c d Truncates r h = tt
 fine_transacts c d Copies r h = tt
 fine_transacts c d Compacts r h = tt
-fine_transacts c d DoesClean r h = tt
+fine_transacts c d DoesClean r h = absurd (cc)
 fine_transacts c d (Collects delete) r h = tt
 fine_transacts c d Uploads r h = absurd (cc)
 
@@ -374,7 +375,7 @@ answer_fine c d Releases r e = tt
 answer_fine c d Truncates r e = tt
 answer_fine c d Copies r e = tt
 answer_fine c d Compacts r e = tt
-answer_fine c d DoesClean r e = tt
+answer_fine c d DoesClean r e = absurd (cc)
 answer_fine c d (Collects delete) r e = tt
 answer_fine c d Uploads r e = absurd (cc)
 

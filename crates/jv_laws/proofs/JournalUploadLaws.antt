@@ -57,7 +57,8 @@ module _ (start : Start) (s : State) (client now : ℕ) (c : ModelClient) (d : D
   finds_none (HasUploaded e h) = none_sent h
   finds_none (Refuses fault m h same) = absurd (cc)
 
-entry_finds : (p : Past) (act : Act) → Entry p act → p.run.uploads ≡ 0 → (act.client ≡ NO_CLIENT → ⊥) → (d : Doing) → (p.state.clients act.client).doing ≡ Some d → Uploading p.state act.client (p.state.clients act.client) d
+entry_finds : (p : Past) (act : Act) → Entry p act → p.run.uploads ≡ 0 → (act.client ≡ NO_CLIENT → ⊥) → (d : Doing)
+    → (p.state.clients act.client).doing ≡ Some d → Uploading p.state act.client (p.state.clients act.client) d
     → act.kind ≡ Answered (Fine 0 0 0 0) → IsTrue (owes_none p.state act.client)
 entry_finds p act (Steps x e may) none some d busy u k =
     let same : x ≡ d = cc in
@@ -75,7 +76,8 @@ entry_finds p act (Publishes e h) none some d busy u k = absurd (some e)
 entry_finds p act (OfDrain client e due h) none some d busy u k = absurd (some e)
 entry_finds p act (Ticks by e k') none some d busy u k = absurd (some e)
 
-uploading : (limits : Limits) (s : State) (client : ℕ) (c : ModelClient) (d : Doing) → d.op ≡ op.Upload → Sound limits c.handles c.pending d → IsTrue (stage_fits d.does d.stage) → Uploading s client c d
+uploading : (limits : Limits) (s : State) (client : ℕ) (c : ModelClient) (d : Doing) → d.op ≡ op.Upload → Sound limits c.handles c.pending d
+    → IsTrue (stage_fits d.does d.stage) → Uploading s client c d
 uploading limits s client c d e h fits =
     let does : d.does ≡ Uploads = h.does ∙ ap (λ o. by_limits limits (profile o).does) e in
     record {

@@ -7,6 +7,7 @@ pub mod JournalCleaningLaws
 pub mod JournalClockLaws
 pub mod JournalCloseLaws
 pub mod JournalDoingLaws
+pub mod JournalDueLaws
 pub mod JournalGrowthLaws
 pub mod JournalLineLaws
 pub mod JournalLooksLaws
