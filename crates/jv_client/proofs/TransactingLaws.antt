@@ -135,17 +135,17 @@ still_there [] file k = tt
 still_there (f ∷ files) file zero = record { more = []; segments = sym (append-nil f.segments) }
 still_there (f ∷ files) file (suc k) = still_there files file k
 
-abbrev no_bytes : StoredFile
-no_bytes = record { length = 0; segments = [] }
+abbrev empty_file : StoredFile
+empty_file = record { length = 0; segments = [] }
 
 grows-created : (path : List ℕ) (store : StoreValue) (files : FilesValue) → Creates store.files path files → Grows store (record store { files = files })
 grows-created path store files made =
-    let long : length files.files ≡ length store.files.files + 1 = ap length made.files ∙ length-append store.files.files (no_bytes ∷ []) in
+    let long : length files.files ≡ length store.files.files + 1 = ap length made.files ∙ length-append store.files.files (empty_file ∷ []) in
     record {
       setting = refl;
       next = omega arith;
       count = omega (arith, long);
-      files = λ k. subst (λ fs. IfSome (slice_get store.files.files k) (λ f. IsSomeAnd (slice_get fs k) (Continues f))) (sym made.files) (still_there store.files.files no_bytes k);
+      files = λ k. subst (λ fs. IfSome (slice_get store.files.files k) (λ f. IsSomeAnd (slice_get fs k) (Continues f))) (sym made.files) (still_there store.files.files empty_file k);
     }
 
 has_store-created : (t : Tree) (who : Caller) (path : List ℕ) (mode : ℕ) (store : StoreValue) (files : FilesValue) → HasStore t store → IsTrue (is_root_path path)
@@ -153,9 +153,9 @@ has_store-created : (t : Tree) (who : Caller) (path : List ℕ) (mode : ℕ) (st
     → HasStore (created t who path mode) (record store { files = files })
 has_store-created t who path mode store files h root absent room made =
     let v = store.files in
-    let same : files ≡ record { names = files.names; files = v.files ++ no_bytes ∷ []; used_space = v.used_space + 4096 } =
+    let same : files ≡ record { names = files.names; files = v.files ++ empty_file ∷ []; used_space = v.used_space + 4096 } =
     ap (λ fs. let r : FilesValue = record { names = files.names; files = fs; used_space = files.used_space } in r) made.files
-    ∙ ap (λ n. let r : FilesValue = record { names = files.names; files = v.files ++ no_bytes ∷ []; used_space = n } in r) made.space in
+    ∙ ap (λ n. let r : FilesValue = record { names = files.names; files = v.files ++ empty_file ∷ []; used_space = n } in r) made.space in
     record {
       setting = setting-created t who path mode ∙ h.setting;
       files = subst (HasFiles (created t who path mode)) (sym same)
@@ -168,7 +168,7 @@ pub create_made : (path : List ℕ) (mode handle inode : ℕ) (handles : List (O
     → inode_named store.files.names path ≡ None → has_room store.setting store.files ≡ true → Creates store.files path files → inode ≡ 2 + length store.files.files → handle ≡ free_handle handles
     → Transacts (Create path mode) handles store (record store { files = files }) (FileOpened handle inode)
 create_made path mode handle inode handles store files root absent room made next least =
-    let long : length files.files ≡ length store.files.files + 1 = ap length made.files ∙ length-append store.files.files (no_bytes ∷ []) in
+    let long : length files.files ≡ length store.files.files + 1 = ap length made.files ∙ length-append store.files.files (empty_file ∷ []) in
     record {
       plain = refl;
       fine = refl;
