@@ -271,22 +271,24 @@ write_of h d (Flushes handle file (ReadsNothing offset len of_op of_does) first 
 write_of h d (Flushes handle file (Reads offset len of_op of_does some short) first opened mounted) e = absurd (let kept = ap keeps of_does in cc (sym kept ∙ e))
 
 -- the bytes of a write are kept
+
+write_in : (now entry handle offset : ℕ) (bytes : List ℕ) (h after : ClientValue) (store : StoreValue) (d : Doing) (count : ℕ) (handles : List (Option Handle)) (before pending : PendingValue)
+    → h.doing ≡ Some d → IsReady store h → d.op ≡ op.Write handle offset bytes → d.does ≡ does.Answers (answer.Count (length bytes)) → d.flush ≡ flush.Nothing
+    → handles ≡ h.handles → before.bytes ≡ h.pending → HasKept d.op handles before pending count → after ≡ record h { pending = pending.bytes; doing = None }
+    → Makes now entry h after store store (Answer (Fine count 0 0 0) (Count count))
+write_in now entry handle offset bytes h after store d count handles before pending busy ready of_op of_does none same_handles same_bytes kept of_after =
+    let spelt = idle-is h d (op.Write handle offset bytes) (does.Answers (answer.Count (length bytes))) of_op of_does refl (under_way h store d busy ready) (no_segment h d none) in
+    let has : HasKept (op.Write handle offset bytes) handles before pending count = subst (λ o. HasKept o handles before pending count) of_op kept in
+    let same = spelt.1 ∙ ap (λ flush. idle (op.Write handle offset bytes) (does.Answers (answer.Count (length bytes))) flush spelt.0) none in
+    let leads = of_after ∙ ap (λ (v : PendingValue). record h { pending = v.bytes; doing = None }) has.1
+    ∙ ap (λ handles. record h { pending = written_bytes (inode_here handles handle) offset bytes before.bytes; doing = None }) same_handles
+    ∙ ap (λ old. record h { pending = written_bytes (inode_here h.handles handle) offset bytes old; doing = None }) same_bytes in
+    makes_as leads refl (ap (λ n. Answer (Fine n 0 0 0) (Count n)) has.0) (write_alone now entry handle offset spelt.0 bytes h store (busy ∙ ap Some same) ready)
+
 pub write_kept : (now entry : ℕ) (h after : ClientValue) (store : StoreValue) (d : Doing) (count : ℕ) (handles : List (Option Handle)) (before pending : PendingValue)
     → h.doing ≡ Some d → IsReady store h → IfSome h.doing (λ d. keeps d.does ≡ true) → handles ≡ h.handles → before.bytes ≡ h.pending
     → HasKept d.op handles before pending count → after ≡ record h { pending = pending.bytes; doing = None }
     → Makes now entry h after store store (Answer (Fine count 0 0 0) (Count count))
 write_kept now entry h after store d count handles before pending busy ready writes same_handles same_bytes kept of_after =
-    let under = under_way h store d busy ready in
-    let keeping : keeps d.does ≡ true = subst (λ o. IfSome o (λ d. keeps d.does ≡ true)) busy writes in
-    let form = write_of h d under.form keeping in
-    let handle = form.0 in
-    let offset = form.1 in
-    let bytes = form.2 in
-    let spelt = idle-is h d (op.Write handle offset bytes) (does.Answers (answer.Count (length bytes))) form.3 form.4 refl under (no_segment h d form.5) in
-    let has : HasKept (op.Write handle offset bytes) handles before pending count = subst (λ o. HasKept o handles before pending count) form.3 kept in
-    let same = spelt.1 ∙ ap (λ flush. idle (op.Write handle offset bytes) (does.Answers (answer.Count (length bytes))) flush spelt.0) form.5 in
-    let made = write_alone now entry handle offset spelt.0 bytes h store (busy ∙ ap Some same) ready in
-    let leads = of_after ∙ ap (λ (v : PendingValue). record h { pending = v.bytes; doing = None }) has.1
-    ∙ ap (λ handles. record h { pending = written_bytes (inode_here handles handle) offset bytes before.bytes; doing = None }) same_handles
-    ∙ ap (λ old. record h { pending = written_bytes (inode_here h.handles handle) offset bytes old; doing = None }) same_bytes in
-    makes_as leads refl (ap (λ n. Answer (Fine n 0 0 0) (Count n)) has.0) made
+    let form = write_of h d (under_way h store d busy ready).form (subst (λ o. IfSome o (λ d. keeps d.does ≡ true)) busy writes) in
+    write_in now entry form.0 form.1 form.2 h after store d count handles before pending busy ready form.3 form.4 form.5 same_handles same_bytes kept of_after

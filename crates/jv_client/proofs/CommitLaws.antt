@@ -156,7 +156,7 @@ module _ (h : ClientValue) (d : Doing) (store : StoreValue) (segment : Segment) 
     without_m = rest s h.id now segment.inode segment.from segment.len (doing_of d) (client-doing d busy is)
 
     next-here : next_segment (flush_of_code d.flush) m.pending ≡ Some segment
-    next-here = next-same m s.count store h d is.held ∙ left-is h d busy (Some segment) next
+    next-here = next-same m s.count store h d (Some segment) is.held (left-is h d busy (Some segment) next)
 
     tree-is : (stepped s h.id now kind).tree ≡ committed s.tree now segment.inode segment.from (bytes_of segment h.pending)
     tree-is =
@@ -208,7 +208,7 @@ module _ (h : ClientValue) (d : Doing) (store : StoreValue) (segment : Segment) 
     }
 
     next-without : (o : Option Segment) → segment_left d.flush without.pending ≡ o → next_segment (flush_of_code d.flush) without_m.pending ≡ o
-    next-without o e = next-same without_m (s.count + 1) grown without d (held-without (s.count + 1) (omega arith)) ∙ e
+    next-without o e = next-same without_m (s.count + 1) grown without d o (held-without (s.count + 1) (omega arith)) e
 
   abbrev asking : Doing
   asking = moved_to (progress.Working 0 0) d

@@ -54,10 +54,6 @@ flush-quiet s client now d quiets started segment at left =
 flushing-first : (s : State) (m : ModelClient) (now started : ℕ) → has_session s.tree m ≡ true → flushing_on s m now 0 started ≡ Working 1 0
 flushing-first s m now started there = ap (λ b. if b then Working 1 0 else Replying (session_gone m)) there
 
--- what is committed next is the same
-pub next-same : (m : ModelClient) (count : ℕ) (store : StoreValue) (h : ClientValue) (d : Doing) → IsHeld m count store h → next_segment (flush_of_code d.flush) m.pending ≡ segment_left d.flush h.pending
-next-same m count store h d held = ap (next_segment (flush_of_code d.flush)) held.pending
-
 -- the operation in progress
 module _ (h : ClientValue) (d : Doing) (busy : h.doing ≡ Some d) where
   pub left-is : (segment : Option Segment) → left h ≡ segment → segment_left d.flush h.pending ≡ segment
@@ -65,6 +61,11 @@ module _ (h : ClientValue) (d : Doing) (busy : h.doing ≡ Some d) where
 
   pub steps-are : (at : Progress) → d.progress ≡ at → steps_left h ≡ steps_in (length h.pending) at
   steps-are at e = ap (steps_of (length h.pending)) busy ∙ ap (steps_in (length h.pending)) e
+
+-- what is committed next is the same
+pub next-same : (m : ModelClient) (count : ℕ) (store : StoreValue) (h : ClientValue) (d : Doing) (segment : Option Segment) → IsHeld m count store h → segment_left d.flush h.pending ≡ segment
+    → next_segment (flush_of_code d.flush) m.pending ≡ segment
+next-same m count store h d segment held e = ap (next_segment (flush_of_code d.flush)) held.pending ∙ e
 
 unflushed : (o : Option Segment) (segment : Segment) (b : Bool) → o ≡ Some segment → (if not (is_some o) then b else true) ≡ true
 unflushed o segment b e = ap (λ (o : Option Segment). if not (is_some o) then b else true) e
@@ -97,7 +98,7 @@ module _ (h : ClientValue) (d : Doing) (store : StoreValue) (segment : Segment) 
 
   module _ (s : State) (has : HasStore s.tree store) (is : IsClient (s.clients h.id) s.count store h) where
     next-is : next_segment (flush_of_code d.flush) (s.clients h.id).pending ≡ Some segment
-    next-is = next-same (s.clients h.id) s.count store h d is.held ∙ left-is h d busy (Some segment) next
+    next-is = next-same (s.clients h.id) s.count store h d (Some segment) is.held (left-is h d busy (Some segment) next)
 
     asks-leads : StepsTo s h.id now (Quiet ∷ []) More after store
     asks-leads =
@@ -159,7 +160,7 @@ module _ (h : ClientValue) (d : Doing) (store : StoreValue) (segment : Segment) 
     asks_commit = record (s.clients h.id) { doing = Some asked }
 
     refusal-next : next_segment (flush_of_code d.flush) (s.clients h.id).pending ≡ Some segment
-    refusal-next = next-same (s.clients h.id) s.count store h d is.held ∙ left-is h d busy (Some segment) next
+    refusal-next = next-same (s.clients h.id) s.count store h d (Some segment) is.held (left-is h d busy (Some segment) next)
 
     refusal-leads : StepsTo s h.id now (Quiet ∷ Answered (ToldRefused fault) ∷ []) (Done (Refused fault)) (ended h) store
     refusal-leads =

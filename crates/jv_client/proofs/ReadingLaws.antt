@@ -213,8 +213,8 @@ fresh-taken s handle inode m views same before =
     ∙ ap (λ b. if b && true && nat_lt m.opened (s.count + 1) then Some (view_now s handle inode 0) else fresh_view views handle m 0) equal
     ∙ ap (λ b. if b then Some (view_now s handle inode 0) else fresh_view views handle m 0) later
 
-fresh-other : (s : State) (handle inode n : ℕ) (m : OpenFile) (views : List ModelView) → (n ≡ handle → ⊥) → fresh_view (view_now s handle inode 0 ∷ views) n m 0 ≡ fresh_view views n m 0
-fresh-other s handle inode n m views apart =
+fresh-not_taken : (s : State) (handle inode n : ℕ) (m : OpenFile) (views : List ModelView) → (n ≡ handle → ⊥) → fresh_view (view_now s handle inode 0 ∷ views) n m 0 ≡ fresh_view views n m 0
+fresh-not_taken s handle inode n m views apart =
     let other : (handle == n) ≡ false = grind (arith, nat_tests) in
     ap (λ b. if b && (inode == m.inode) && true && nat_lt m.opened (s.count + 1) then Some (view_now s handle inode 0) else fresh_view views n m 0) other
 
@@ -236,7 +236,7 @@ looked-held s c store h handle m file view doing mine held is opened same stored
             inode = other.inode;
             opened = other.opened;
             before = (let early = other.before in omega (arith, early));
-            view = subst (λ o. SamePlace (IsView store b.inode) o b.view) (sym (fresh-other s handle file.inode n a c.views apart)) other.view;
+            view = subst (λ o. SamePlace (IsView store b.inode) o b.view) (sym (fresh-not_taken s handle file.inode n a c.views apart)) other.view;
           })
           (record {
             inode = same.inode;

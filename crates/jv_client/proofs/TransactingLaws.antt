@@ -101,8 +101,8 @@ mount_made handles store low less = record {
 -- a create
 
 -- an outcome that is the tree's own, with a refusal
-refuses : (t : Tree) (store : StoreValue) (fault : Fault) (result : Result Outcome Fault) → HasStore t store → result ≡ Err fault → LeadsTo t (Refused fault) store (outcome t result)
-refuses t store fault result h e = leads_to t t (Refused fault) store (outcome t result) (ap (outcome t) e) refl h
+refused_in : (t : Tree) (store : StoreValue) (fault : Fault) (result : Result Outcome Fault) → HasStore t store → result ≡ Err fault → LeadsTo t (Refused fault) store (outcome t result)
+refused_in t store fault result h e = leads_to t t (Refused fault) store (outcome t result) (ap (outcome t) e) refl h
 
 pub create_exists : (path : List ℕ) (mode inode : ℕ) (handles : List (Option Handle)) (store : StoreValue) → IsTrue (is_root_path path) → inode_named store.files.names path ≡ Some inode
     → Transacts (Create path mode) handles store store (Refused AlreadyExists)
@@ -112,7 +112,7 @@ create_exists path mode inode handles store root named = record {
   ends = λ c. refl;
   grows = grows-same store;
   gift = tt;
-  leads = λ t who h session free. refuses t store AlreadyExists _ h (create-exists t store.files who path mode inode h.files (session refl) root named);
+  leads = λ t who h session free. refused_in t store AlreadyExists _ h (create-exists t store.files who path mode inode h.files (session refl) root named);
 }
 
 room-of : (t : Tree) (store : StoreValue) (room : Bool) → HasStore t store → has_room store.setting store.files ≡ room → has_room t.setting store.files ≡ room
@@ -126,7 +126,7 @@ create_full path mode handles store root absent full = record {
   ends = λ c. refl;
   grows = grows-same store;
   gift = tt;
-  leads = λ t who h session free. refuses t store NoSpace _ h
+  leads = λ t who h session free. refused_in t store NoSpace _ h
       (create-new t store.files who path mode h.files (session refl) root absent ∙ cond-false _ _ _ (room-of t store false h full));
 }
 
@@ -193,7 +193,7 @@ open_absent path handles store root absent = record {
   ends = λ c. refl;
   grows = grows-same store;
   gift = tt;
-  leads = λ t who h session free. refuses t store NotFound _ h (open-absent t store.files who path h.files (session refl) root absent);
+  leads = λ t who h session free. refused_in t store NotFound _ h (open-absent t store.files who path h.files (session refl) root absent);
 }
 
 pub open_found : (path : List ℕ) (handle inode : ℕ) (handles : List (Option Handle)) (store : StoreValue) → IsTrue (is_root_path path) → inode_named store.files.names path ≡ Some inode

@@ -54,14 +54,14 @@ direct-given entry what (NewHandle handle inode) m h e = e
 direct-given entry what Nothing m h e = e
 
 -- no view that was taken by now is fresh for a file that is opened by the next entry
-fresh-opened : (count handle inode : ℕ) (views : List ModelView) → AllByRecursion (λ (view : ModelView). view.entry ≤ count) views
+fresh-before : (count handle inode : ℕ) (views : List ModelView) → AllByRecursion (λ (view : ModelView). view.entry ≤ count) views
     → fresh_view views handle (record { inode = inode; opened = count + 1 }) 0 ≡ None
-fresh-opened count handle inode [] h = refl
-fresh-opened count handle inode (view ∷ views) h =
+fresh-before count handle inode [] h = refl
+fresh-before count handle inode (view ∷ views) h =
     let file : OpenFile = record { inode = inode; opened = count + 1 } in
     let old : nat_lt (count + 1) view.entry ≡ false = le-ltb (count + 1) view.entry (let low = h.0 in omega (arith, low)) in
     ap (λ b. if b then Some view else first_that (is_fresh handle file 0) views) (and_right _ _ old)
-    ∙ fresh-opened count handle inode views h.1
+    ∙ fresh-before count handle inode views h.1
 
 handle-opened : (count handle inode : ℕ) (store : StoreValue) (views : List ModelView) → AllByRecursion (λ (view : ModelView). view.entry ≤ count) views
     → IsHandle views (count + 1) store handle (record { inode = inode; opened = count + 1 }) (new_handle inode (count + 1))
@@ -69,7 +69,7 @@ handle-opened count handle inode store views h = record {
   inode = refl;
   opened = refl;
   before = omega arith;
-  view = subst (λ (o : Option ModelView). SamePlace (IsView store inode) o None) (sym (fresh-opened count handle inode views h)) tt;
+  view = subst (λ (o : Option ModelView). SamePlace (IsView store inode) o None) (sym (fresh-before count handle inode views h)) tt;
 }
 
 pub held-given : {m : ModelClient} {count : ℕ} {store grown : StoreValue} {h : ClientValue} (what : Does) (gift : Gift) → Grows store grown → IsDirect what → IsGift grown h.handles gift
@@ -210,21 +210,20 @@ module _ (s : State) (client now : ℕ) (d : ModelDoing) (reply : Reply) (grown 
 
 -- an operation of this kind is at its first step
 
-pub record IsFirst (h : ClientValue) (d : Doing) : Type 0 where
-  pub nothing : d.flush ≡ flush.Nothing
-  pub started : ℕ
-  pub progress : d.progress ≡ progress.Working 0 started
-  pub direct : IsDirect d.does
-  pub session : (profile d.op).needs_mount ≡ true → IsTrue (is_some h.session)
-
 abbrev makes_one : Does → Bool
 makes_one what = mounts what || transacts what
 
-record HasForm (h : ClientValue) (d : Doing) : Type 0 where
-  nothing : d.flush ≡ flush.Nothing
-  reads : reads_more h d ≡ false
-  direct : IsDirect d.does
-  session : (profile d.op).needs_mount ≡ true → IsTrue (is_some h.session)
+-- its form: it flushes nothing, and reads nothing
+pub record HasForm (h : ClientValue) (d : Doing) : Type 0 where
+  pub nothing : d.flush ≡ flush.Nothing
+  pub reads : reads_more h d ≡ false
+  pub direct : IsDirect d.does
+  pub session : (profile d.op).needs_mount ≡ true → IsTrue (is_some h.session)
+
+pub record IsFirst (h : ClientValue) (d : Doing) : Type 0 where
+  pub form : HasForm h d
+  pub started : ℕ
+  pub progress : d.progress ≡ progress.Working 0 started
 
 not_of_handle : (d : Doing) (handle : ℕ) → FlushesFor d handle → IsTrue (makes_one d.does) → ⊥
 not_of_handle d handle (Closes o what) one = absurd (cc (sym one ∙ ap makes_one what))
@@ -251,7 +250,7 @@ pub is_first : (h : ClientValue) (d : Doing) → IsUnderWay h d → IsTrue (make
 is_first h d way one =
     let form = has_form h d way.form one in
     let at = not_begun h d d.progress way.at (no_segment h d form.nothing) form.reads in
-    record { nothing = form.nothing; started = at.0; progress = at.1; direct = form.direct; session = form.session }
+    record { form = form; started = at.0; progress = at.1 }
 
 transacts-by : (c : ModelClient) (m : ModelDoing) (what : Does) → m.does ≡ what → IsTrue (makes_one what) → IsTrue (transacts_in c m)
 transacts-by c m (does.Mounts writeback) same one = ap (λ (x : Does). transacts_in c (record m { does = x })) same
@@ -270,10 +269,10 @@ meta-leads now h d store grown reply busy way one does_so s has is =
     let c = s.clients h.id in
     let first = is_first h d way one in
     let there = client-doing d busy is in
-    let needs : (profile d.op).needs_mount ≡ true → IsTrue (has_session s.tree c) = λ needed. session-there s.tree store has is.held (first.session needed) in
+    let needs : (profile d.op).needs_mount ≡ true → IsTrue (has_session s.tree c) = λ needed. session-there s.tree store has is.held (first.form.session needed) in
     let leads = does_so.leads s.tree (caller c h.id now d.op) has needs (free-same (IsHandle c.views s.count store) 1 1 c.handles h.handles is.held.handles) in
-    let ready = ready-by c (doing_of d) first.started (ap stage_of first.progress) (ap flush_of_code first.nothing) in
-    let held = held-given d.does (gift_of reply) does_so.grows first.direct does_so.gift is.held in
+    let ready = ready-by c (doing_of d) first.started (ap stage_of first.progress) (ap flush_of_code first.form.nothing) in
+    let held = held-given d.does (gift_of reply) does_so.grows first.form.direct does_so.gift is.held in
     meta-answers s h.id now (doing_of d) reply grown there ready (transacts-by c (doing_of d) d.does refl one) leads does_so.fine does_so.ends (given_here (s.count + 1) (gift_of reply) h)
     (record { held = held-later (grows-same grown) (omega arith) (held-doing None None held); doing = tt })
 

@@ -24,26 +24,26 @@ no_match false b c d e = refl
 
 module _ (inode number : ℕ) (file : OpenFile) where
   -- none of its own file
-  fresh-own : (views : List ModelView) → file.inode ≡ inode → fresh_view (views_without inode views) number file 0 ≡ None
-  fresh-own [] own = refl
-  fresh-own (view ∷ views) own = elim (eqb_tells view.inode inode) [
-    | inl same ↦ ap (λ b. first_that (is_fresh number file 0) (cond (not b) (view ∷ views_without inode views) (views_without inode views))) same.0 ∙ fresh-own views own
+  fresh-dropped : (views : List ModelView) → file.inode ≡ inode → fresh_view (views_without inode views) number file 0 ≡ None
+  fresh-dropped [] own = refl
+  fresh-dropped (view ∷ views) own = elim (eqb_tells view.inode inode) [
+    | inl same ↦ ap (λ b. first_that (is_fresh number file 0) (cond (not b) (view ∷ views_without inode views) (views_without inode views))) same.0 ∙ fresh-dropped views own
     | inr other ↦ ap (λ b. first_that (is_fresh number file 0) (cond (not b) (view ∷ views_without inode views) (views_without inode views))) other.0
         ∙ ap (λ b. if b then Some view else fresh_view (views_without inode views) number file 0)
         (no_match (view.handle == number) (view.inode == file.inode) (view.window == 0) (nat_lt file.opened view.entry) (ap (λ n. view.inode == n) own ∙ other.0))
-        ∙ fresh-own views own
+        ∙ fresh-dropped views own
   ]
 
   -- all of another
-  fresh-other : (views : List ModelView) → (file.inode ≡ inode → ⊥) → fresh_view (views_without inode views) number file 0 ≡ fresh_view views number file 0
-  fresh-other [] apart = refl
-  fresh-other (view ∷ views) apart = elim (eqb_tells view.inode inode) [
-    | inl same ↦ ap (λ b. first_that (is_fresh number file 0) (cond (not b) (view ∷ views_without inode views) (views_without inode views))) same.0 ∙ fresh-other views apart
+  fresh-kept : (views : List ModelView) → (file.inode ≡ inode → ⊥) → fresh_view (views_without inode views) number file 0 ≡ fresh_view views number file 0
+  fresh-kept [] apart = refl
+  fresh-kept (view ∷ views) apart = elim (eqb_tells view.inode inode) [
+    | inl same ↦ ap (λ b. first_that (is_fresh number file 0) (cond (not b) (view ∷ views_without inode views) (views_without inode views))) same.0 ∙ fresh-kept views apart
         ∙ sym (ap (λ b. if b then Some view else fresh_view views number file 0)
         (no_match (view.handle == number) (view.inode == file.inode) (view.window == 0) (nat_lt file.opened view.entry)
         (ne_eqb view.inode file.inode (λ e. apart (sym e ∙ same.1)))))
     | inr other ↦ ap (λ b. first_that (is_fresh number file 0) (cond (not b) (view ∷ views_without inode views) (views_without inode views))) other.0
-        ∙ ap (λ rest. if is_fresh number file 0 view then Some view else rest) (fresh-other views apart)
+        ∙ ap (λ rest. if is_fresh number file 0 view then Some view else rest) (fresh-kept views apart)
   ]
 
 -- the handles after a commit
@@ -64,14 +64,14 @@ module _ (inode count later : ℕ) (views : List ModelView) (store grown : Store
               inode = h.inode;
               opened = h.opened;
               before = omega (arith, before, le);
-              view = subst (λ o. SamePlace (IsView grown handle.inode) o None) (sym (fresh-own inode n file views (h.inode ∙ same.1))) tt;
+              view = subst (λ o. SamePlace (IsView grown handle.inode) o None) (sym (fresh-dropped inode n file views (h.inode ∙ same.1))) tt;
             })
         | inr other ↦ subst (λ b. SamePlace (After n) (Some file) (if b then Some (record handle { view = None }) else Some handle)) (sym other.0)
             (record {
               inode = h.inode;
               opened = h.opened;
               before = omega (arith, before, le);
-              view = subst (λ o. SamePlace (IsView grown handle.inode) o handle.view) (sym (fresh-other inode n file views (λ e. other.1 (sym h.inode ∙ e))))
+              view = subst (λ o. SamePlace (IsView grown handle.inode) o handle.view) (sym (fresh-kept inode n file views (λ e. other.1 (sym h.inode ∙ e))))
                   (same_place-by (IsView store handle.inode) (IsView grown handle.inode) (fresh_view views n file 0) handle.view (λ m view. view-later handle.inode m view grows) h.view);
             })
       ]
