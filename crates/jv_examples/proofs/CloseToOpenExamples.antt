@@ -82,7 +82,7 @@ first_close_is_legal = record {
       ∴ record { line = refl; complete = refl; moment = refl; stands = (refl, Refuses refl) }
       ∴ record { line = refl; complete = refl; moment = refl; stands = (refl, Refuses refl) }
       ∴ record { line = refl; complete = refl; moment = refl; stands = record { own = refl; may = record { doing = _; busy = refl; begins_is = refl; may = ReadsViews (record { goes_on = refl; file = _; opened = refl; first = 12; second = 0; bytes = _; reads = refl; same = refl }) } } }
-      ∴ record { line = refl; complete = refl; moment = refl; stands = record { own = refl; may = record { doing = _; busy = refl; begins_is = refl; may = CountsCache 1 1 1 refl refl } } }
+      ∴ record { line = refl; complete = refl; moment = refl; stands = record { own = refl; may = record { doing = _; busy = refl; begins_is = refl; may = CountsCache 1 1 1 refl refl refl refl } } }
       ∴ tt;
 }
 

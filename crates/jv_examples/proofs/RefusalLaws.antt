@@ -1,5 +1,6 @@
 -- What an entry wants, in the form in which closed examples of journals that may not be use it.
-use Rattle.std.proofs.Common.{◌≡◌, ◌≤◌, ◌+◌, ℕ, Bool, true, false, IsTrue, Option, None, Some, List, [], ◌∷◌, ◌++◌, length, refl, sym, arith, ap, ◌∙◌, subst}
+use Rattle.std.proofs.Common.{◌≡◌, ◌≤◌, ◌<◌, ◌+◌, ℕ, Bool, true, false, ◌&&◌, ◌||◌, ◌==◌, nat_lt, IsTrue, Option, None, Some, List, [], ◌∷◌, ◌++◌, length, refl, sym, arith, ap, ◌∙◌, subst}
+use Rattle.std.specs.List.{list_any}
 use Rattle.std.specs.Option.{option_map}
 use Rattle.jv_model.specs.declared.lifetimes.TheConstants.{UPLOAD_LIFE}
 use Rattle.jv_model.specs.declared.act.Act.{Act}
@@ -7,20 +8,21 @@ use Rattle.jv_model.specs.declared.act.ActKind.{ActKind}
 use Rattle.jv_model.specs.declared.act.Told.{Told}
 use Rattle.jv_model.specs.declared.act.Told.TheVariants.{Fine, Looks, Refused as ToldRefused}
 use Rattle.jv_model.specs.declared.fault.Fault.{Fault}
-use Rattle.jv_model.specs.declared.fault.Fault.TheVariants.{TryAgain, TimedOut, NoMemory}
+use Rattle.jv_model.specs.declared.fault.Fault.TheVariants.{TryAgain, TimedOut, NoMemory, Contended}
+use Rattle.jv_model.specs.declared.fault.Busy.TheVariants.{Lists}
 use Rattle.jv_model.specs.declared.op.Op.{Op}
 use Rattle.jv_model.specs.declared.op.Reply.{Reply}
 use Rattle.jv_model.specs.declared.profile.Answer.TheVariants.{CacheStats}
 use Rattle.jv_model.specs.declared.profile.Does.{Does}
-use Rattle.jv_model.specs.declared.profile.Does.TheVariants.{Answers, Collects, Uploads}
-use Rattle.jv_model.specs.client.ModelClient.{ModelClient, Doing, OpenFile, View, Flush, Stage, Working, LookedAgain, Compacting, Replying, is_replying}
+use Rattle.jv_model.specs.declared.profile.Does.TheVariants.{Answers, Compacts, Collects, Uploads}
+use Rattle.jv_model.specs.client.ModelClient.{ModelClient, Compaction, Doing, OpenFile, View, Flush, Stage, Working, LookedAgain, Compacting, Requesting, Replying, is_replying}
 use Rattle.jv_model.specs.client.Origins.{Origin, Start as AtStart, Zero, Committed, Made, missing_commit}
 use Rattle.jv_model.specs.client.Profile.{handle_of}
 use Rattle.jv_model.specs.journal.Reading.{fresh_view, reading}
-use Rattle.jv_model.specs.journal.State.{State, answer_then}
+use Rattle.jv_model.specs.journal.State.{State, Change, answer_then}
 use Rattle.jv_model.specs.journal.Steps.{Start, IsEntry, MayStep, MayAnswer, Fails, Settles, AtOnce, CountsCache, ReadsViews, CleanedUp, HasCompacted, TooShort, HasReplaced, HasCollected, HasUploaded, Sent, FoundNone, Refuses}
 use Rattle.jv_model.specs.journal.Steps.{IsRefusedIn, SessionGone, InodeGone, CommitLate, CommitTooLarge, NumberRefused, CompactionCrowded, CompactionLate, AnotherList, BlockOwed, MissedTooOften, InReading, InCompaction}
-use Rattle.jv_model.specs.journal.Steps.{AnswersAtOnce, ReadsFresh, MayBeGone, Owes, MayBeCleaned, MissesBlock, may_be_cleaned, asked_of, file_in_use, begins_step, told_of, is_failure}
+use Rattle.jv_model.specs.journal.Steps.{AnswersAtOnce, ReadsFresh, MayBeGone, Owes, MayBeCleaned, MissesBlock, may_be_cleaned, asked_of, file_in_use, begins_step, told_of, is_failure, has_judged}
 use Rattle.jv_model.specs.journal.Past.{Past, begun_to, advance, past}
 use Rattle.jv_model.specs.journal.Legal.{Allowed, AllAllowed}
 
@@ -48,9 +50,17 @@ pub own_begins : {start : Start} {alone : Bool} {s : State} {client now : ℕ} {
     → IsEntry start alone s client now kind begins → (s.clients client).doing ≡ Some d → begins_step d kind ≡ begins
 own_begins {kind = kind} h busy = ap (λ x. begins_step x kind) (same_some (sym busy ∙ h.busy)) ∙ h.begins_is
 
+abbrev pub first_number : Told → ℕ
+first_number (Fine a b c d) = a
+first_number _ = 0
+
 abbrev is_at_work : Stage → Bool
 is_at_work (Working quiets started) = true
 is_at_work _ = false
+
+judged_is_over : (does : Does) (stage : Stage) → IsTrue (has_judged does stage) → is_at_work stage ≡ false
+judged_is_over does (Requesting requests) judged = refl
+judged_is_over does _ judged = absurd (cc)
 
 -- operations that are answered in numbers which aren't those of the tree
 abbrev has_own_numbers : Does → Bool
@@ -65,12 +75,12 @@ pub fine_at_once : {start : Start} {alone : Bool} {s : State} {client now : ℕ}
 fine_at_once work own (Fails must fails) = absurd (cc)
 fine_at_once work own (Settles answer stage e) = let no = sym work ∙ ap is_at_work stage in absurd (cc)
 fine_at_once work own (AtOnce h) = h
-fine_at_once work own (CountsCache hits misses cached does e) = let no = sym own ∙ ap has_own_numbers does in absurd (cc)
+fine_at_once work own (CountsCache hits misses cached ready first does e) = let no = sym own ∙ ap has_own_numbers does in absurd (cc)
 fine_at_once work own (ReadsViews h) = let no = h.same in absurd (cc)
 fine_at_once work own (CleanedUp h) = let no = sym work ∙ ap is_at_work h.stage in absurd (cc)
 fine_at_once work own (HasCompacted (TooShort k records stage quiets on few e)) = let no = sym work ∙ ap is_at_work stage in absurd (cc)
 fine_at_once work own (HasCompacted (HasReplaced k before after stage replaced two e)) = let no = sym work ∙ ap is_at_work stage in absurd (cc)
-fine_at_once work own (HasCollected count bytes does judged e) = let no = sym own ∙ ap has_own_numbers does in absurd (cc)
+fine_at_once {d = d} work own (HasCollected count bytes judged e) = let no = sym work ∙ judged_is_over d.does d.stage judged in absurd (cc)
 fine_at_once work own (HasUploaded does h) = let no = sym own ∙ ap has_own_numbers does in absurd (cc)
 fine_at_once work own (Refuses fault moved h e) = absurd (cc)
 
@@ -80,12 +90,12 @@ pub looks_are_read : {start : Start} {alone : Bool} {s : State} {client now : �
 looks_are_read unsettled none (Fails must fails) = absurd (cc)
 looks_are_read unsettled none (Settles answer stage e) = let no = sym unsettled ∙ ap is_replying stage in absurd (cc)
 looks_are_read unsettled none (AtOnce h) = let no = sym (ap (option_map told_of) none) ∙ h.same in absurd (cc)
-looks_are_read unsettled none (CountsCache hits misses cached does e) = absurd (cc)
+looks_are_read unsettled none (CountsCache hits misses cached ready first does e) = absurd (cc)
 looks_are_read unsettled none (ReadsViews h) = h
 looks_are_read unsettled none (CleanedUp h) = let no = h.same in absurd (cc)
 looks_are_read unsettled none (HasCompacted (TooShort k records stage quiets on few e)) = absurd (cc)
 looks_are_read unsettled none (HasCompacted (HasReplaced k before after stage replaced two e)) = absurd (cc)
-looks_are_read unsettled none (HasCollected count bytes does judged e) = absurd (cc)
+looks_are_read unsettled none (HasCollected count bytes judged e) = absurd (cc)
 looks_are_read unsettled none (HasUploaded does (Sent id index size stage e)) = absurd (cc)
 looks_are_read unsettled none (HasUploaded does (FoundNone ready first none_owed e)) = absurd (cc)
 looks_are_read unsettled none (Refuses fault moved h e) = absurd (cc)
@@ -105,12 +115,12 @@ pub refused_by_cause : {start : Start} {alone : Bool} {s : State} {client now : 
 refused_by_cause plain unsettled done (Fails must fails) = let no = sym plain ∙ fails in absurd (cc)
 refused_by_cause plain unsettled done (Settles answer stage e) = let no = sym unsettled ∙ ap is_replying stage in absurd (cc)
 refused_by_cause plain unsettled done (AtOnce h) = let no = sym done ∙ ap is_refusal h.same in absurd (cc)
-refused_by_cause plain unsettled done (CountsCache hits misses cached does e) = absurd (cc)
+refused_by_cause plain unsettled done (CountsCache hits misses cached ready first does e) = absurd (cc)
 refused_by_cause plain unsettled done (ReadsViews h) = let no = h.same in absurd (cc)
 refused_by_cause plain unsettled done (CleanedUp h) = let no = h.same in absurd (cc)
 refused_by_cause plain unsettled done (HasCompacted (TooShort k records stage quiets on few e)) = absurd (cc)
 refused_by_cause plain unsettled done (HasCompacted (HasReplaced k before after stage replaced two e)) = absurd (cc)
-refused_by_cause plain unsettled done (HasCollected count bytes does judged e) = absurd (cc)
+refused_by_cause plain unsettled done (HasCollected count bytes judged e) = absurd (cc)
 refused_by_cause plain unsettled done (HasUploaded does (Sent id index size stage e)) = absurd (cc)
 refused_by_cause plain unsettled done (HasUploaded does (FoundNone ready first none_owed e)) = absurd (cc)
 refused_by_cause {start} {alone} {s} {client} {now} {c} {d} plain unsettled done (Refuses fault moved h e) = subst (λ x. IsRefusedIn start s client now c d x) (sym (ap fault_of e)) h
@@ -135,7 +145,7 @@ try_again_after_look unlooked (BlockOwed position number from to view owed (InRe
 try_again_after_look unlooked (BlockOwed position number from to view owed (InCompaction k stage missed later view_is first last) begins ends commit e) = let yes = sym unlooked ∙ ap may_have_looked stage in absurd (cc)
 try_again_after_look unlooked (MissedTooOften window owed stage e) = absurd (cc)
 
-abbrev is_compacting : Stage → Bool
+abbrev pub is_compacting : Stage → Bool
 is_compacting (Compacting k) = true
 is_compacting _ = false
 
@@ -152,6 +162,58 @@ timed_out_late (CompactionLate k first stage on here late e) = let no = ap is_co
 timed_out_late (AnotherList k looked found stage unchanged other again e) = absurd (cc)
 timed_out_late (BlockOwed position number from to view owed missed begins ends commit e) = absurd (cc)
 timed_out_late (MissedTooOften window owed stage e) = absurd (cc)
+
+abbrev compaction_in : Compaction → Stage → Compaction
+compaction_in other (Compacting k) = k
+compaction_in other _ = other
+
+either_implied : (a b x y : Bool) → (IsTrue a → IsTrue b) → (IsTrue x → IsTrue y) → IsTrue (a || x) → IsTrue (b || y)
+either_implied true b x y f g h = subst (λ yes. IsTrue (yes || y)) (sym (f refl)) refl
+either_implied false true x y f g h = refl
+either_implied false false x y f g h = g h
+
+any_implied : (p q : Change → Bool) → ((change : Change) → IsTrue (p change) → IsTrue (q change)) → (changes : List Change) → IsTrue (list_any p changes) → IsTrue (list_any q changes)
+any_implied p q f [] h = h
+any_implied p q f (change ∷ changes) h = either_implied (p change) (q change) _ _ (f change) (any_implied p q f changes) h
+
+and_middle : (a b x : Bool) → IsTrue (a && b && x) → IsTrue b
+and_middle true true x h = refl
+and_middle true false x h = h
+and_middle false b x h = absurd (cc)
+
+-- a file was changed after the entry of this number
+abbrev pub any_changed_after : State → ℕ → Bool
+any_changed_after s entry = list_any (λ change. nat_lt entry change.entry) s.changes
+
+-- a compaction is refused for another list only where something was changed after its first look
+pub refused_for_a_change : {start : Start} {s : State} {client now : ℕ} {c : ModelClient} {o : Op} {does : Does} {flush : Flush} {moved : Bool} {k : Compaction} {m n : ℕ}
+    → IsRefusedIn start s client now c (record { op = o; does = does; flush = flush; stage = Compacting k; moved = moved }) (Contended (Lists m n)) → IsTrue (any_changed_after s k.first)
+refused_for_a_change (SessionGone asks gone e) = absurd (cc)
+refused_for_a_change (InodeGone asks here gone e) = absurd (cc)
+refused_for_a_change (CommitLate segment asked late e) = absurd (cc)
+refused_for_a_change (CommitTooLarge segment asked early large e) = absurd (cc)
+refused_for_a_change (NumberRefused first crowded e) = absurd (cc)
+refused_for_a_change (CompactionCrowded j stage on crowded e) = absurd (cc)
+refused_for_a_change (CompactionLate j started stage on here late e) = absurd (cc)
+refused_for_a_change {s = s} {k = k} (AnotherList j looked found stage unchanged other again e) =
+    subst (λ (x : Compaction). IsTrue (any_changed_after s x.first)) (sym (ap (compaction_in k) stage)) (any_implied _ _ (λ change. and_middle (change.inode == j.view.inode) (nat_lt j.first change.entry) _) s.changes other)
+refused_for_a_change (BlockOwed position number from to view owed missed begins ends commit e) = absurd (cc)
+refused_for_a_change (MissedTooOften window owed stage e) = absurd (cc)
+
+-- a compaction that replaced nothing is done only where the list had fewer than two records
+pub compaction_is_short : {start : Start} {alone : Bool} {s : State} {client now : ℕ} {c : ModelClient} {o : Op} {flush : Flush} {moved : Bool} {k : Compaction} {m n p q : ℕ}
+    → k.has_replaced ≡ false → MayAnswer start alone s client now c (record { op = o; does = Compacts; flush = flush; stage = Compacting k; moved = moved }) (Fine m n p q) → m < 2
+compaction_is_short same (Fails must fails) = absurd (cc)
+compaction_is_short same (Settles answer stage e) = let never = ap is_replying stage in absurd (cc)
+compaction_is_short same (AtOnce h) = let never = h.same in absurd (cc)
+compaction_is_short same (CountsCache hits misses cached ready first does e) = absurd (cc)
+compaction_is_short same (ReadsViews h) = let never = h.same in absurd (cc)
+compaction_is_short same (CleanedUp h) = let never = ap is_compacting h.stage in absurd (cc)
+compaction_is_short same (HasCompacted (TooShort j records stage quiets on few e)) = subst (λ number. number < 2) (sym (ap first_number e)) few
+compaction_is_short {k = k} same (HasCompacted (HasReplaced j before after stage replaced two e)) = let no = sym same ∙ ap (λ at. (compaction_in k at).has_replaced) stage ∙ replaced in absurd (cc)
+compaction_is_short same (HasCollected count bytes judged e) = absurd (cc)
+compaction_is_short same (HasUploaded does h) = absurd (cc)
+compaction_is_short same (Refuses fault moved h e) = absurd (cc)
 
 abbrev reading_of : ModelClient → Doing → Option OpenFile → ℕ → ℕ → Option (List ℕ)
 reading_of c d None first second = None
@@ -244,12 +306,12 @@ pub settled_is_told : {start : Start} {alone : Bool} {s : State} {client now : �
 settled_is_told other (Fails must fails) = absurd (cc)
 settled_is_told {answer = answer} other (Settles reply stage e) = e ∙ ap told_of (ap (reply_in answer) (sym stage))
 settled_is_told other (AtOnce h) = let never = h.ready in absurd (cc)
-settled_is_told other (CountsCache hits misses cached does e) = let never = sym other ∙ ap is_stats does in absurd (cc)
+settled_is_told other (CountsCache hits misses cached ready first does e) = let never = sym other ∙ ap is_stats does in absurd (cc)
 settled_is_told other (ReadsViews h) = let never = h.goes_on in absurd (cc)
 settled_is_told other (CleanedUp h) = let never = ap is_replying h.stage in absurd (cc)
 settled_is_told other (HasCompacted (TooShort k records stage quiets on few e)) = let never = ap is_replying stage in absurd (cc)
 settled_is_told other (HasCompacted (HasReplaced k before after stage replaced two e)) = let never = ap is_replying stage in absurd (cc)
-settled_is_told other (HasCollected count bytes does judged e) = absurd (cc)
+settled_is_told other (HasCollected count bytes judged e) = absurd (cc)
 settled_is_told other (HasUploaded does (Sent id index size stage e)) = let never = ap is_replying stage in absurd (cc)
 settled_is_told other (HasUploaded does (FoundNone ready first none_owed e)) = absurd (cc)
 settled_is_told other (Refuses fault moved h e) = absurd (settled_not_refused h)

@@ -1,17 +1,19 @@
 -- Journals of changes of files and of uploads that no POSIX tree allows, by the first entry that may not stand.
-use Rattle.std.proofs.Common.{◌≡◌, ℕ, true, false, IsTrue, List, [], ◌∷◌, ◌++◌, take, refl, ap, codes, arith, ◌∙◌, lit≤, lit<}
+use Rattle.std.proofs.Common.{◌≡◌, ◌<◌, ℕ, true, false, IsTrue, List, [], ◌∷◌, ◌++◌, take, refl, ap, codes, arith, ◌∙◌, lit≤, lit<}
 use Rattle.jv_model.specs.declared.act.Act.{Act}
 use Rattle.jv_model.specs.declared.act.ActKind.{ActKind}
 use Rattle.jv_model.specs.declared.act.ActKind.TheVariants.{Mounted, Opened, Look, Commit, Truncated, Copied, Compacted, Quiet, Answered}
 use Rattle.jv_model.specs.declared.act.Told.{Told}
-use Rattle.jv_model.specs.declared.act.Told.TheVariants.{Fine}
+use Rattle.jv_model.specs.declared.act.Told.TheVariants.{Fine, Refused as ToldRefused}
+use Rattle.jv_model.specs.declared.fault.Fault.TheVariants.{Contended}
+use Rattle.jv_model.specs.declared.fault.Busy.TheVariants.{Lists}
 use Rattle.jv_model.specs.declared.op.Line.TheVariants.{Do, Drain}
 use Rattle.jv_model.specs.declared.op.Op.TheVariants.{Mount, Create, Close, Flush, Write, Truncate, Copy, Compact}
 use Rattle.jv_model.specs.journal.Steps.{owes_none, Settles, AtOnce, HasCompacted, First, HasReplaced, is_failure}
 use Rattle.jv_model.specs.journal.State.{State}
 use Rattle.jv_model.specs.journal.Past.{Setup, at_start}
 use Rattle.jv_model.specs.journal.Legal.{AllAllowed, Sends, Ends, Drains, Fails as IsFailed}
-use Rattle.jv_examples.proofs.RefusalLaws.{entry_is_allowed, same_some, own_step, never}
+use Rattle.jv_examples.proofs.RefusalLaws.{entry_is_allowed, same_some, own_step, never, refused_by_cause, refused_for_a_change, compaction_is_short}
 use Rattle.jv_examples.proofs.JournalRuns.{run_of, entry, journals_compute, ◌∴◌}
 
 abbrev told_in : ActKind → Told
@@ -138,6 +140,20 @@ unfolding journals_compute
 compaction_past_its_window more all =
     let h = entry_is_allowed (at_start changes_run) (take 23 changes_journal) (entry 9 0 (Compacted 2 0 0 67108865)) more all in
     let step = own_step h.stands.may refl in let no = step.ends in absurd (omega (arith, no))
+
+-- a compaction of two records that is done without a replacement
+compaction_replaces_nothing : (more : List Act) → AllAllowed (at_start changes_run) (take 19 changes_journal ++ entry 9 0 (Answered (Fine 2 2 0 0)) ∷ more) → ⊥
+unfolding journals_compute
+compaction_replaces_nothing more all =
+    let h = entry_is_allowed (at_start changes_run) (take 19 changes_journal) (entry 9 0 (Answered (Fine 2 2 0 0))) more all in
+    let step = own_step h.stands.may refl in let few : 2 < 2 = compaction_is_short refl step in absurd (omega (arith, few))
+
+-- a compaction refused for another list, though nobody changed the file
+compaction_contended_by_nobody : (more : List Act) → AllAllowed (at_start changes_run) (take 23 changes_journal ++ entry 9 0 (Answered (ToldRefused (Contended (Lists 2 1)))) ∷ more) → ⊥
+unfolding journals_compute
+compaction_contended_by_nobody more all =
+    let h = entry_is_allowed (at_start changes_run) (take 23 changes_journal) (entry 9 0 (Answered (ToldRefused (Contended (Lists 2 1))))) more all in
+    let step = own_step h.stands.may refl in never (refused_for_a_change (refused_by_cause refl refl refl step))
 
 -- A client keeps a block, and a line waits for its upload.
 abbrev kept_run : Setup

@@ -7,14 +7,14 @@ use Rattle.jv_model.specs.declared.act.Told.TheVariants.{Fine}
 use Rattle.jv_model.specs.declared.op.Op.{Op}
 use Rattle.jv_model.specs.declared.op.Line.TheVariants.{Do, Begin, Step, Tick}
 use Rattle.jv_model.specs.declared.op.Op.TheVariants.{Mount, Create, Close, Write, Unlink, Clean, Gc}
-use Rattle.jv_model.specs.journal.Steps.{Start, MayAnswer, items, Fails, Settles, AtOnce, CountsCache, ReadsViews, CleanedUp, HasCompacted, HasCollected, HasUploaded, TooShort, HasReplaced, Refuses as IsRefusedBy}
+use Rattle.jv_model.specs.journal.Steps.{Start, MayAnswer, items, Fails, Settles, AtOnce, CountsCache, ReadsViews, CleanedUp, HasCompacted, HasCollected, HasUploaded, TooShort, HasReplaced, may_end_after, Refuses as IsRefusedBy}
 use Rattle.jv_model.specs.declared.limits.TheConstants.{MAX_ITEMS}
-use Rattle.jv_model.specs.declared.profile.Does.TheVariants.{Cleans as DoesClean}
-use Rattle.jv_model.specs.client.ModelClient.{ModelClient, Cleaning, Stage, Cleans, Flush as ToFlush}
+use Rattle.jv_model.specs.declared.profile.Does.TheVariants.{Cleans as DoesClean, Collects}
+use Rattle.jv_model.specs.client.ModelClient.{ModelClient, Cleaning, Stage, Cleans, Requesting, is_replying, Flush as ToFlush}
 use Rattle.jv_model.specs.journal.State.{State, is_last}
 use Rattle.jv_model.specs.journal.Past.{Setup, at_start}
 use Rattle.jv_model.specs.journal.Legal.{AllAllowed}
-use Rattle.jv_examples.proofs.RefusalLaws.{entry_is_allowed, own_step, fine_at_once, never, settled_is_told}
+use Rattle.jv_examples.proofs.RefusalLaws.{entry_is_allowed, own_step, fine_at_once, never, settled_is_told, is_compacting}
 use Rattle.jv_examples.proofs.JournalRuns.{run_of, entry, entry_at, journals_compute, ◌∴◌}
 
 -- the end of a cleaning, by how far it is
@@ -39,14 +39,29 @@ cleaning_ends : {start : Start} {alone : Bool} {s : State} {client now : ℕ} {c
 cleaning_ends (Fails must fails) = absurd (cc)
 cleaning_ends (Settles answer stage e) = let never = ap is_cleans stage in absurd (cc)
 cleaning_ends (AtOnce h) = let never = h.same in absurd (cc)
-cleaning_ends (CountsCache hits misses cached does e) = absurd (cc)
+cleaning_ends (CountsCache hits misses cached ready first does e) = absurd (cc)
 cleaning_ends (ReadsViews h) = let never = h.same in absurd (cc)
 cleaning_ends {k = k} {m} {n} {p} {q} (CleanedUp h) = subst (λ x. Ended x (Fine m n p q)) (sym (ap (cleaning_in k) h.stage)) (record { over = h.over; same = h.same })
 cleaning_ends (HasCompacted (TooShort k records stage quiets on few e)) = let never = ap is_cleans stage in absurd (cc)
 cleaning_ends (HasCompacted (HasReplaced k before after stage replaced two e)) = let never = ap is_cleans stage in absurd (cc)
-cleaning_ends (HasCollected count bytes does judged e) = absurd (cc)
+cleaning_ends (HasCollected count bytes judged e) = absurd (cc)
 cleaning_ends (HasUploaded does h) = absurd (cc)
 cleaning_ends (IsRefusedBy fault moved h e) = absurd (cc)
+
+-- the end of a collection, by the requests that it made
+collection_ends : {start : Start} {alone : Bool} {s : State} {client now : ℕ} {c : ModelClient} {o : Op} {flush : ToFlush} {moved delete : Bool} {requests m n p q : ℕ}
+    → MayAnswer start alone s client now c (record { op = o; does = Collects delete; flush = flush; stage = Requesting requests; moved = moved }) (Fine m n p q) → IsTrue (may_end_after (Collects delete) requests)
+collection_ends (Fails must fails) = absurd (cc)
+collection_ends (Settles answer stage e) = let never = ap is_replying stage in absurd (cc)
+collection_ends (AtOnce h) = let never = h.same in absurd (cc)
+collection_ends (CountsCache hits misses cached ready first does e) = absurd (cc)
+collection_ends (ReadsViews h) = let never = h.same in absurd (cc)
+collection_ends (CleanedUp h) = let never = ap is_cleans h.stage in absurd (cc)
+collection_ends (HasCompacted (TooShort k records stage quiets on few e)) = let never = ap is_compacting stage in absurd (cc)
+collection_ends (HasCompacted (HasReplaced k before after stage replaced two e)) = let never = ap is_compacting stage in absurd (cc)
+collection_ends (HasCollected count bytes judged e) = judged
+collection_ends (HasUploaded does h) = absurd (cc)
+collection_ends (IsRefusedBy fault moved h e) = absurd (cc)
 
 -- A file is removed, and its rows and its block are cleaned up.
 abbrev cleaning_run : Setup
@@ -168,6 +183,13 @@ cleaning_ends_early more all =
     let h = entry_is_allowed (at_start cleaning_run) (take 22 cleaning_journal) (entry 8 0 (Answered (Fine 0 0 1 1))) more all in
     let step = own_step h.stands.may refl in let ends = cleaning_ends step in never ends.over
 
+-- a cleaning that ends right after it removed a block
+cleaning_ends_after_a_block : (more : List Act) → AllAllowed (at_start cleaning_run) (take 21 cleaning_journal ++ entry 8 0 (Answered (Fine 0 0 1 0)) ∷ more) → ⊥
+unfolding journals_compute
+cleaning_ends_after_a_block more all =
+    let h = entry_is_allowed (at_start cleaning_run) (take 21 cleaning_journal) (entry 8 0 (Answered (Fine 0 0 1 0))) more all in
+    let step = own_step h.stands.may refl in let ends = cleaning_ends step in never ends.over
+
 -- a cleaning that tells another number of files
 cleaning_counts_more : (more : List Act) → AllAllowed (at_start cleaning_run) (take 23 cleaning_journal ++ entry 8 0 (Answered (Fine 0 0 2 1)) ∷ more) → ⊥
 unfolding journals_compute
@@ -229,3 +251,37 @@ unfolding journals_compute
 collection_without_session more all =
     let h = entry_is_allowed (at_start lost_session_run) lost_session_journal (entry_at 1060 7 0 (Answered (Fine 0 0 0 0))) more all in
     let step = own_step h.stands.may refl in let no = settled_is_told refl step in cc
+
+-- A collection that removes nothing lists a page and judges it, and lists another one.
+abbrev two_pages_run : Setup
+two_pages_run = run_of (Do 0 (Mount false) ∷ Do 0 (Gc false) ∷ [])
+
+abbrev two_pages_journal : List Act
+two_pages_journal =
+    entry 1 0 (Mounted 1)
+    ∷ entry 1 0 (Answered (Fine 1 0 0 0))
+    ∷ entry 2 0 Quiet
+    ∷ entry 2 0 Quiet
+    ∷ entry 2 0 Quiet
+    ∷ entry 2 0 Quiet
+    ∷ entry 2 0 (Answered (Fine 3 9 0 0))
+    ∷ []
+
+two_pages_is_allowed : AllAllowed (at_start two_pages_run) two_pages_journal
+unfolding journals_compute
+two_pages_is_allowed =
+    record { line = refl; complete = refl; moment = refl; stands = record { own = refl; may = record { doing = _; busy = refl; begins_is = refl; may = record { ready = refl; transacts = refl; same = refl } } } }
+    ∴ record { line = refl; complete = refl; moment = refl; stands = record { own = refl; may = record { doing = _; busy = refl; begins_is = refl; may = Settles _ refl refl } } }
+    ∴ record { line = refl; complete = refl; moment = refl; stands = record { own = refl; may = record { doing = _; busy = refl; begins_is = refl; may = refl } } }
+    ∴ record { line = refl; complete = refl; moment = refl; stands = record { own = refl; may = record { doing = _; busy = refl; begins_is = refl; may = refl } } }
+    ∴ record { line = refl; complete = refl; moment = refl; stands = record { own = refl; may = record { doing = _; busy = refl; begins_is = refl; may = refl } } }
+    ∴ record { line = refl; complete = refl; moment = refl; stands = record { own = refl; may = record { doing = _; busy = refl; begins_is = refl; may = refl } } }
+    ∴ record { line = refl; complete = refl; moment = refl; stands = record { own = refl; may = record { doing = _; busy = refl; begins_is = refl; may = HasCollected 3 9 refl refl } } }
+    ∴ tt
+
+-- a collection that ends before it judged its second page
+collection_ends_after_a_listing : (more : List Act) → AllAllowed (at_start two_pages_run) (take 5 two_pages_journal ++ entry 2 0 (Answered (Fine 3 9 0 0)) ∷ more) → ⊥
+unfolding journals_compute
+collection_ends_after_a_listing more all =
+    let h = entry_is_allowed (at_start two_pages_run) (take 5 two_pages_journal) (entry 2 0 (Answered (Fine 3 9 0 0))) more all in
+    let step = own_step h.stands.may refl in never (collection_ends step)

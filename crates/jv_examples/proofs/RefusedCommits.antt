@@ -1,19 +1,19 @@
 -- Journals of commits that are late or keep blocks back, which no POSIX tree allows, by the first entry that may not stand.
-use Rattle.std.proofs.Common.{◌≡◌, ◌≤◌, ℕ, Bool, true, false, List, [], ◌∷◌, ◌++◌, take, replicate, refl, sym, ap, codes, arith, ◌∙◌, lit≤, lit<, ◌==◌}
+use Rattle.std.proofs.Common.{◌≡◌, ◌≤◌, ℕ, Bool, true, false, IsTrue, List, [], ◌∷◌, ◌++◌, take, replicate, refl, sym, ap, codes, arith, ◌∙◌, lit≤, lit<, ◌==◌}
 use Rattle.jv_model.specs.declared.act.Act.{Act}
 use Rattle.jv_model.specs.declared.act.ActKind.TheVariants.{Mounted, Opened, Look, Commit, Settled, Quiet, Miss, Ticked, Answered}
 use Rattle.jv_model.specs.declared.act.Told.{Told}
 use Rattle.jv_model.specs.declared.act.Told.TheVariants.{Fine, Refused as ToldRefused}
 use Rattle.jv_model.specs.declared.fault.Fault.TheVariants.{TryAgain, TimedOut}
 use Rattle.jv_model.specs.declared.op.Op.{Op}
-use Rattle.jv_model.specs.declared.op.Line.TheVariants.{Do, Begin, Step, Tick}
+use Rattle.jv_model.specs.declared.op.Line.TheVariants.{Do, Begin, Step, Tick, Drain}
 use Rattle.jv_model.specs.declared.op.Op.TheVariants.{Mount, Create, Open, Close, Flush, Read, Write, Upload}
-use Rattle.jv_model.specs.journal.Steps.{Start, MayAnswer, owes_none, Fails, Settles, AtOnce, CountsCache, ReadsViews, CleanedUp, HasCompacted, HasCollected, HasUploaded, Owes, Sent, FoundNone, TooShort, HasReplaced, BlockOwed, InReading, Refuses as IsRefusedBy}
+use Rattle.jv_model.specs.journal.Steps.{Start, MayAnswer, owes_none, is_owed_by, Fails, Settles, AtOnce, CountsCache, ReadsViews, CleanedUp, HasCompacted, HasCollected, HasUploaded, Owes, Sent, FoundNone, TooShort, HasReplaced, BlockOwed, InReading, Refuses as IsRefusedBy}
 use Rattle.jv_model.specs.declared.profile.Does.TheVariants.{Uploads}
 use Rattle.jv_model.specs.client.ModelClient.{ModelClient, Stage, Working, Cleans, Compacting, is_replying, Flush as ToFlush}
 use Rattle.jv_model.specs.journal.State.{State}
 use Rattle.jv_model.specs.journal.Past.{Setup, at_start}
-use Rattle.jv_model.specs.journal.Legal.{AllAllowed}
+use Rattle.jv_model.specs.journal.Legal.{AllAllowed, Sends, Ends, Drains, Fails as IsFailed}
 use Rattle.jv_examples.proofs.RefusalLaws.{entry_is_allowed, own_step, refused_by_cause, try_again_after_look, timed_out_late, never}
 use Rattle.jv_examples.proofs.JournalRuns.{run_of, entry, entry_at, journals_compute, ◌∴◌}
 
@@ -35,15 +35,21 @@ none_is_owed : {start : Start} {s : State} {client now : ℕ} {c : ModelClient} 
 none_is_owed (Fails must fails) owed = absurd (cc)
 none_is_owed (Settles answer stage e) owed = let never = ap is_replying stage in absurd (cc)
 none_is_owed (AtOnce h) owed = let never = h.same in absurd (cc)
-none_is_owed (CountsCache hits misses cached does e) owed = absurd (cc)
+none_is_owed (CountsCache hits misses cached ready first does e) owed = absurd (cc)
 none_is_owed (ReadsViews h) owed = let never = h.same in absurd (cc)
 none_is_owed (CleanedUp h) owed = let never = ap is_cleans h.stage in absurd (cc)
 none_is_owed (HasCompacted (TooShort k records stage quiets on few e)) owed = let never = ap is_compacts stage in absurd (cc)
 none_is_owed (HasCompacted (HasReplaced k before after stage replaced two e)) owed = let never = ap is_compacts stage in absurd (cc)
-none_is_owed (HasCollected count bytes does judged e) owed = absurd (cc)
+none_is_owed (HasCollected count bytes judged e) owed = absurd (cc)
 none_is_owed (HasUploaded does (Sent id index size stage e)) owed = let never = ap tells_none e in absurd (cc)
 none_is_owed (HasUploaded does (FoundNone ready first none_owed e)) owed = let never = sym owed ∙ none_owed in absurd (cc)
 none_is_owed (IsRefusedBy fault moved h e) owed = absurd (cc)
+
+-- a wait for uploads settles commits of its client
+drain_settles : {s : State} {client commit : ℕ} → Drains s client (Settled commit) → IsTrue (is_owed_by s client commit)
+drain_settles (Sends publish) = publish
+drain_settles (Ends none e) = absurd (cc)
+drain_settles (IsFailed told fails e) = absurd (cc)
 
 -- A commit 3,599 seconds after its block was sent.
 abbrev late_commit_run : Setup
@@ -149,6 +155,8 @@ kept_block_run = run_of (
     ∷ Do 0 (Close 1)
     ∷ Do 1 (Open (codes "/w"))
     ∷ Do 1 (Read 1 0 4)
+    ∷ Do 1 Upload
+    ∷ Drain 1
     ∷ Do 0 Upload
     ∷ Do 0 Upload
     ∷ []
@@ -173,8 +181,10 @@ kept_block_journal =
     ∷ entry 7 1 (Miss 2 0)
     ∷ entry 7 1 (Look 2 0)
     ∷ entry 7 1 (Answered (ToldRefused (TryAgain 10)))
-    ∷ entry 8 0 (Settled 10)
-    ∷ entry 8 0 (Answered (Fine 1 0 4 1))
+    ∷ entry 8 1 (Answered (Fine 0 0 0 0))
+    ∷ entry 9 255 (Answered (Fine 0 0 0 0))
+    ∷ entry 10 0 (Settled 10)
+    ∷ entry 10 0 (Answered (Fine 1 0 4 1))
     ∷ []
 
 kept_block_is_allowed : AllAllowed (at_start kept_block_run) kept_block_journal
@@ -197,6 +207,8 @@ kept_block_is_allowed =
     ∴ record { line = refl; complete = refl; moment = refl; stands = record { own = refl; may = record { doing = _; busy = refl; begins_is = refl; may = record { goes_on = refl; file = _; opened = refl; own = refl; asked = _; at = refl; view = _; fresh = refl; gone = Owes 0 10 (lit≤ tt) (lit< tt) refl } } } }
     ∴ record { line = refl; complete = refl; moment = refl; stands = record { own = refl; may = record { doing = _; busy = refl; begins_is = refl; may = record { goes_on = refl; file = (refl, refl); session = refl; there = refl } } } }
     ∴ record { line = refl; complete = refl; moment = refl; stands = record { own = refl; may = record { doing = _; busy = refl; begins_is = refl; may = IsRefusedBy _ refl (BlockOwed 0 10 _ _ _ _ (InReading _ _ _ _ refl refl refl refl refl refl) (lit≤ tt) (lit< tt) refl refl) refl } } }
+    ∴ record { line = refl; complete = refl; moment = refl; stands = record { own = refl; may = record { doing = _; busy = refl; begins_is = refl; may = HasUploaded refl (FoundNone refl refl refl refl) } } }
+    ∴ record { line = refl; complete = refl; moment = refl; stands = (refl, Ends refl refl) }
     ∴ record { line = refl; complete = refl; moment = refl; stands = record { own = refl; may = record { doing = _; busy = refl; begins_is = refl; may = record { ready = refl; uploads = refl; owed = refl } } } }
     ∴ record { line = refl; complete = refl; moment = refl; stands = record { own = refl; may = record { doing = _; busy = refl; begins_is = refl; may = HasUploaded refl (Sent 1 0 4 refl refl) } } }
     ∴ tt
@@ -216,22 +228,36 @@ quiet_after_a_miss more all =
     let step = own_step h.stands.may refl in never step
 
 -- a commit settled a second time
-settled_twice : (more : List Act) → AllAllowed (at_start kept_block_run) (take 19 kept_block_journal ++ entry 9 0 (Settled 10) ∷ more) → ⊥
+settled_twice : (more : List Act) → AllAllowed (at_start kept_block_run) (take 21 kept_block_journal ++ entry 11 0 (Settled 10) ∷ more) → ⊥
 unfolding journals_compute
 settled_twice more all =
-    let h = entry_is_allowed (at_start kept_block_run) (take 19 kept_block_journal) (entry 9 0 (Settled 10)) more all in
+    let h = entry_is_allowed (at_start kept_block_run) (take 21 kept_block_journal) (entry 11 0 (Settled 10)) more all in
     let step = own_step h.stands.may refl in never step.owed
 
 -- a commit settled that isn't
-settled_before_it_is_owed : (more : List Act) → AllAllowed (at_start kept_block_run) (take 17 kept_block_journal ++ entry 8 0 (Settled 11) ∷ more) → ⊥
+settled_before_it_is_owed : (more : List Act) → AllAllowed (at_start kept_block_run) (take 19 kept_block_journal ++ entry 10 0 (Settled 11) ∷ more) → ⊥
 unfolding journals_compute
 settled_before_it_is_owed more all =
-    let h = entry_is_allowed (at_start kept_block_run) (take 17 kept_block_journal) (entry 8 0 (Settled 11)) more all in
+    let h = entry_is_allowed (at_start kept_block_run) (take 19 kept_block_journal) (entry 10 0 (Settled 11)) more all in
     let step = own_step h.stands.may refl in never step.owed
 
+-- a commit settled by an upload of another client
+settled_by_another_client : (more : List Act) → AllAllowed (at_start kept_block_run) (take 17 kept_block_journal ++ entry 8 1 (Settled 10) ∷ more) → ⊥
+unfolding journals_compute
+settled_by_another_client more all =
+    let h = entry_is_allowed (at_start kept_block_run) (take 17 kept_block_journal) (entry 8 1 (Settled 10)) more all in
+    let step = own_step h.stands.may refl in never step.owed
+
+-- a commit settled by a wait for the uploads of another client
+settled_in_another_wait : (more : List Act) → AllAllowed (at_start kept_block_run) (take 18 kept_block_journal ++ entry 9 255 (Settled 10) ∷ more) → ⊥
+unfolding journals_compute
+settled_in_another_wait more all =
+    let h = entry_is_allowed (at_start kept_block_run) (take 18 kept_block_journal) (entry 9 255 (Settled 10)) more all in
+    never (drain_settles h.stands.1)
+
 -- an upload that finds no block, where one is kept
-nothing_to_upload : (more : List Act) → AllAllowed (at_start kept_block_run) (take 17 kept_block_journal ++ entry 8 0 (Answered (Fine 0 0 0 0)) ∷ more) → ⊥
+nothing_to_upload : (more : List Act) → AllAllowed (at_start kept_block_run) (take 19 kept_block_journal ++ entry 10 0 (Answered (Fine 0 0 0 0)) ∷ more) → ⊥
 unfolding journals_compute
 nothing_to_upload more all =
-    let h = entry_is_allowed (at_start kept_block_run) (take 17 kept_block_journal) (entry 8 0 (Answered (Fine 0 0 0 0))) more all in
+    let h = entry_is_allowed (at_start kept_block_run) (take 19 kept_block_journal) (entry 10 0 (Answered (Fine 0 0 0 0))) more all in
     let step = own_step h.stands.may refl in none_is_owed step refl

@@ -1,20 +1,15 @@
 -- Journals that no POSIX tree allows, by the first entry that may not stand.
-use Rattle.std.proofs.Common.{◌≡◌, ℕ, false, List, [], ◌∷◌, ◌++◌, take, refl, ap, codes, arith, lit≤, lit<}
+use Rattle.std.proofs.Common.{◌≡◌, false, List, [], ◌∷◌, ◌++◌, take, refl, ap, codes, arith, lit≤, lit<}
 use Rattle.jv_model.specs.declared.act.Act.{Act}
 use Rattle.jv_model.specs.declared.act.ActKind.TheVariants.{Mounted, Meta, Opened, Commit, Quiet, Answered}
-use Rattle.jv_model.specs.declared.act.Told.{Told}
 use Rattle.jv_model.specs.declared.act.Told.TheVariants.{Fine}
 use Rattle.jv_model.specs.declared.op.Line.TheVariants.{Do}
-use Rattle.jv_model.specs.declared.op.Op.TheVariants.{Mount, Stat, Create, Flush, Write}
-use Rattle.jv_model.specs.journal.Steps.{Settles, AtOnce}
+use Rattle.jv_model.specs.declared.op.Op.TheVariants.{Mount, Stat, Stats, Create, Flush, Write}
+use Rattle.jv_model.specs.journal.Steps.{Settles, AtOnce, CountsCache}
 use Rattle.jv_model.specs.journal.Past.{Setup, at_start}
 use Rattle.jv_model.specs.journal.Legal.{AllAllowed}
-use Rattle.jv_examples.proofs.RefusalLaws.{entry_is_allowed, same_some, own_step, fine_at_once, never}
+use Rattle.jv_examples.proofs.RefusalLaws.{first_number, entry_is_allowed, same_some, own_step, fine_at_once, never}
 use Rattle.jv_examples.proofs.JournalRuns.{run_of, entry, entry_at, journals_compute, ◌∴◌}
-
-abbrev first_number : Told → ℕ
-first_number (Fine a b c d) = a
-first_number _ = 0
 
 -- A file is made, written and closed.
 abbrev simple_run : Setup
@@ -24,6 +19,7 @@ simple_run = run_of (
     ∷ Do 0 (Write 1 0 (104 ∷ 105 ∷ []))
     ∷ Do 0 (Flush 1)
     ∷ Do 0 (Stat (codes "/f"))
+    ∷ Do 0 Stats
     ∷ []
     )
 
@@ -40,6 +36,7 @@ simple_journal =
     ∷ entry 4 0 (Answered (Fine 0 0 0 0))
     ∷ entry 5 0 Meta
     ∷ entry 5 0 (Answered (Fine 0 0 0 0))
+    ∷ entry 6 0 (Answered (Fine 1 2 3 0))
     ∷ []
 
 simple_is_allowed : AllAllowed (at_start simple_run) simple_journal
@@ -56,6 +53,7 @@ simple_is_allowed =
     ∴ record { line = refl; complete = refl; moment = refl; stands = record { own = refl; may = record { doing = _; busy = refl; begins_is = refl; may = Settles _ refl refl } } }
     ∴ record { line = refl; complete = refl; moment = refl; stands = record { own = refl; may = record { doing = _; busy = refl; begins_is = refl; may = record { ready = refl; transacts = refl; same = refl } } } }
     ∴ record { line = refl; complete = refl; moment = refl; stands = record { own = refl; may = record { doing = _; busy = refl; begins_is = refl; may = Settles _ refl refl } } }
+    ∴ record { line = refl; complete = refl; moment = refl; stands = record { own = refl; may = record { doing = _; busy = refl; begins_is = refl; may = CountsCache 1 2 3 refl refl refl refl } } }
     ∴ tt
 
 -- a metadata operation that made no transaction
@@ -134,3 +132,10 @@ unfolding journals_compute
 another_client more all =
     let h = entry_is_allowed (at_start simple_run) (take 5 simple_journal) (entry 4 1 Quiet) more all in
     let no : 1 ≡ 0 = h.stands.own in absurd (omega (arith, no))
+
+-- a `stats` that asks for something
+stats_makes_a_request : (more : List Act) → AllAllowed (at_start simple_run) (take 11 simple_journal ++ entry 6 0 Quiet ∷ more) → ⊥
+unfolding journals_compute
+stats_makes_a_request more all =
+    let h = entry_is_allowed (at_start simple_run) (take 11 simple_journal) (entry 6 0 Quiet) more all in
+    let step = own_step h.stands.may refl in never step

@@ -8,7 +8,8 @@ use Rattle.jv_model.specs.declared.op.Op.TheVariants.{Mount, Create, Open, Close
 use Rattle.jv_model.specs.journal.Steps.{Settles, AtOnce, ReadsViews}
 use Rattle.jv_model.specs.journal.Past.{Setup, at_start}
 use Rattle.jv_model.specs.journal.Legal.{AllAllowed}
-use Rattle.jv_examples.proofs.RefusalLaws.{entry_is_allowed, same_some, own_step, never, read_returns, gone_by_cleaning, missed_by_view}
+use Rattle.jv_examples.proofs.RefusalLaws.{entry_is_allowed, same_some, own_step, never, read_returns, gone_by_cleaning, missed_by_view, looks_are_read}
+use Rattle.jv_examples.proofs.WritebackExamples.{ten_misses_run, ten_misses_journal}
 use Rattle.jv_examples.proofs.JournalRuns.{run_of, entry, journals_compute, ◌∴◌}
 
 abbrev bytes_in : Option (List ℕ) → List ℕ
@@ -198,3 +199,10 @@ unfolding journals_compute
 miss_without_cause more all =
     let h = entry_is_allowed (at_start changing_file_run) (take 16 changing_file_journal) (entry 8 0 (Miss 2 0)) more all in
     let step = own_step h.stands.may refl in never (gone_by_cleaning refl refl (missed_by_view step refl))
+
+-- a read that is done though it missed a block for the tenth time
+read_after_ten_misses : (more : List Act) → AllAllowed (at_start ten_misses_run) (take 34 ten_misses_journal ++ entry 7 1 (Answered (Looks 34 0 4)) ∷ more) → ⊥
+unfolding journals_compute
+read_after_ten_misses more all =
+    let h = entry_is_allowed (at_start ten_misses_run) (take 34 ten_misses_journal) (entry 7 1 (Answered (Looks 34 0 4))) more all in
+    let step = own_step h.stands.may refl in let read = looks_are_read refl refl step in never read.goes_on

@@ -2,7 +2,6 @@
 use Rattle.std.proofs.Common.{◌≡◌, ℕ, Bool, true, false, List, [], ◌∷◌, ◌++◌, take, refl, ap, codes, arith, lit≤, lit<}
 use Rattle.jv_model.specs.declared.act.Act.{Act}
 use Rattle.jv_model.specs.declared.act.ActKind.TheVariants.{Mounted, Meta, Opened, Commit, Quiet, Answered}
-use Rattle.jv_model.specs.declared.act.Told.{Told}
 use Rattle.jv_model.specs.declared.act.Told.TheVariants.{Fine, Refused as ToldRefused}
 use Rattle.jv_model.specs.declared.fault.Fault.TheVariants.{NoMemory}
 use Rattle.jv_model.specs.declared.op.Line.{Line}
@@ -11,12 +10,9 @@ use Rattle.jv_model.specs.declared.op.Op.TheVariants.{Mount, Mkdir, Create, Flus
 use Rattle.jv_model.specs.journal.Steps.{Settles, AtOnce}
 use Rattle.jv_model.specs.journal.Past.{Setup, at_start, at_end}
 use Rattle.jv_model.specs.journal.Legal.{ends_well, AllAllowed}
-use Rattle.jv_examples.proofs.RefusalLaws.{entry_is_allowed, own_step, own_begins, never, settled_is_told}
+use Rattle.jv_examples.proofs.RefusalLaws.{first_number, entry_is_allowed, own_step, own_begins, never, settled_is_told}
+use Rattle.jv_examples.proofs.WritebackExamples.{drained_run, drained_journal}
 use Rattle.jv_examples.proofs.JournalRuns.{run_of, entry, journals_compute, ◌∴◌}
-
-abbrev first_number : Told → ℕ
-first_number (Fine a b c d) = a
-first_number _ = 0
 
 -- A file is written and flushed step by step, and then looked for.
 abbrev steps_run : Setup
@@ -118,6 +114,13 @@ unfolding journals_compute
 entry_past_the_last_line more all =
     let h = entry_is_allowed (at_start steps_run) (take 11 steps_journal) (entry 9 0 Quiet) more all in
     h.stands
+
+-- an entry of an uploading thread past the last line
+publish_past_the_last_line : (more : List Act) → AllAllowed (at_start drained_run) (drained_journal ++ entry 9 255 Quiet ∷ more) → ⊥
+unfolding journals_compute
+publish_past_the_last_line more all =
+    let h = entry_is_allowed (at_start drained_run) drained_journal (entry 9 255 Quiet) more all in
+    never h.stands.3
 
 -- A run that ended well has all entries of its lines, and one that a fault ended may lack entries from some step on.
 abbrev ends_after : ℕ → ℕ → List Line → Bool

@@ -125,7 +125,7 @@ unfolding journals_compute replies_on_literals
 writeback_prints = refl
 
 -- Blocks that a client keeps are uploaded by threads, and by a line that waits for them.
-abbrev drained_run : Setup
+abbrev pub drained_run : Setup
 drained_run = record (run_of (
     Do 0 (Mount true)
     ∷ Do 1 (Mount false)
@@ -136,9 +136,9 @@ drained_run = record (run_of (
     ∷ Do 1 (Open (codes "/w"))
     ∷ Do 1 (Read 1 6 9)
     ∷ []
-    )) { uploads = 3; by_worker = λ entry. (entry == 14) || (entry == 16) || (entry == 18) }
+    )) { uploads = 3; by_worker = λ entry. (entry == 14) || (entry == 16) || (entry == 18) || (entry == 25) }
 
-abbrev drained_journal : List Act
+abbrev pub drained_journal : List Act
 drained_journal =
     entry 1 0 (Mounted 1)
     ∷ entry 1 0 (Answered (Fine 1 0 0 0))
@@ -213,7 +213,7 @@ unfolding journals_compute replies_on_literals
 drained_prints = refl
 
 -- A read gives up where it misses a block for the tenth time.
-abbrev ten_misses_run : Setup
+abbrev pub ten_misses_run : Setup
 ten_misses_run = record (run_of (
     Do 0 (Mount false)
     ∷ Do 1 (Mount false)
@@ -225,7 +225,7 @@ ten_misses_run = record (run_of (
     ∷ []
     )) { limits = record { buffer = 33554432; entries = 16; writeback = true } }
 
-abbrev ten_misses_journal : List Act
+abbrev pub ten_misses_journal : List Act
 ten_misses_journal =
     entry 1 0 (Mounted 1)
     ∷ entry 1 0 (Answered (Fine 1 0 0 0))

@@ -11,7 +11,7 @@ use Rattle.jv_model.specs.declared.fault.Fault.{Fault}
 use Rattle.jv_model.specs.declared.op.Reply.{Reply}
 use Rattle.jv_model.specs.declared.profile.Answer.{Answer}
 use Rattle.jv_model.specs.declared.profile.Does.TheVariants.{Answers}
-use Rattle.jv_model.specs.client.ModelClient.{ModelClient, Doing, Stage, Replying, Files, Blocks, Part}
+use Rattle.jv_model.specs.client.ModelClient.{ModelClient, Doing, Stage, Replying, Files, MoreBlocks, Part}
 use Rattle.jv_model.specs.journal.State.{State, given, replied, transacted, newly_sustained, next_entry, gift_of, after_transaction, after_step, of_doing, effect, is_compaction}
 use Rattle.jv_model.specs.journal.Steps.{Start, transacts, Transaction, LooksAt, CompactionLooks, First, Again, CompactionMisses, MissesBlock, CleansItem, DropsFile, MayStep, MayAnswer, Fails, Settles, AtOnce, CountsCache, ReadsViews, CleanedUp, HasCompacted, HasCollected, HasUploaded, Refuses, TooShort, HasReplaced, Sent, FoundNone, IsRefusedIn, SessionGone, InodeGone, CommitLate, CommitTooLarge, NumberRefused, CompactionCrowded, CompactionLate, AnotherList, BlockOwed, MissedTooOften, InReading, InCompaction, begins_step, must_answer, told_of}
 use Rattle.jv_model.specs.journal.Past.{Past, Due, NoMore, Refusal, MayLack, ToAnswer, OneStep, StepMade, CrashEntry, TickEntry, DrainEntries, at_start, begun_by, begun_to, is_over, requested, lined, is_workers, after, advance, past, reached, line_reply, reply_of, refusal_reply}
@@ -51,9 +51,9 @@ none_missed start s client c d r inode window false h = let g = h.goes_on in cc
 none_cleaned : (s : State) (c : ModelClient) (d : Doing) (r : Reply) (part : Part) → CleansItem s c (settled_doing d r) part → ⊥
 none_cleaned s c d r part h = let e = h.stage in cc
 
-none_row : (s : State) (c : ModelClient) (d : Doing) (r : Reply) (table key : ℕ) (b : Bool) → MatchBool b (CleansItem s c (settled_doing d r) Files × DropsFile s key) ((table ≡ 9) × CleansItem s c (settled_doing d r) Blocks) → ⊥
+none_row : (s : State) (c : ModelClient) (d : Doing) (r : Reply) (table key : ℕ) (b : Bool) → MatchBool b (CleansItem s c (settled_doing d r) Files × DropsFile s key) ((table ≡ 9) × CleansItem s c (settled_doing d r) MoreBlocks) → ⊥
 none_row s c d r table key true h = none_cleaned s c d r Files h.0
-none_row s c d r table key false h = none_cleaned s c d r Blocks h.1
+none_row s c d r table key false h = none_cleaned s c d r MoreBlocks h.1
 
 module _ (start : Start) (alone : Bool) (s : State) (client now : ℕ) (c : ModelClient) (d : Doing) (r : Reply) (no_answer : (told : Answer) → d.does ≡ Answers told → ⊥) where
   none_refused : (fault : Fault) → IsRefusedIn start s client now c (settled_doing d r) fault → ⊥
@@ -73,12 +73,12 @@ module _ (start : Start) (alone : Bool) (s : State) (client now : ℕ) (c : Mode
   settled_answer told (Fails m f) = absurd (cc)
   settled_answer told (Settles answer e same) = let a : answer ≡ r = cc in same ∙ ap told_of a
   settled_answer told (AtOnce a) = let ready = a.ready in absurd (cc)
-  settled_answer told (CountsCache hits misses cached e same) = absurd (no_answer _ e)
+  settled_answer told (CountsCache hits misses cached ready first e same) = absurd (no_answer _ e)
   settled_answer told (ReadsViews h) = let g = h.goes_on in absurd (cc)
   settled_answer told (CleanedUp h) = let e = h.stage in absurd (cc)
   settled_answer told (HasCompacted (TooShort k records e q m few same)) = absurd (cc)
   settled_answer told (HasCompacted (HasReplaced k before after e m few same)) = absurd (cc)
-  settled_answer told (HasCollected count bytes e j same) = absurd (cc)
+  settled_answer told (HasCollected count bytes j same) = absurd (cc)
   settled_answer told (HasUploaded e (Sent id index size g same)) = absurd (cc)
   settled_answer told (HasUploaded e (FoundNone ready m o same)) = absurd (cc)
   settled_answer told (Refuses fault m h same) = absurd (none_refused fault h)

@@ -13,7 +13,7 @@ use Rattle.jv_model.specs.client.Submission.{submission, submitted}
 use Rattle.jv_model.specs.journal.State.{State, set_client, after_step, after_other, of_doing, changed, effect}
 use Rattle.jv_model.specs.journal.Steps.{MayStep, DropsFile}
 use Rattle.jv_model.specs.journal.Past.{Setup, Past, at_start, begun_to, reached}
-use Rattle.jv_model.specs.journal.Legal.{Allowed, AllAllowed, IsPublish, Refuses, LacksMemory as RefusalLacks, Sends, Ends, Fails}
+use Rattle.jv_model.specs.journal.Legal.{Allowed, AllAllowed, IsPublish, IsPublishOf, Refuses, LacksMemory as RefusalLacks, Sends, Ends, Fails}
 use Rattle.jv_model.specs.journal.Looks.{entry_at}
 use Rattle.jv_laws.specs.Laws.{ExpiresOnlyGone, IsExpired, DropsOnlyGone}
 use Rattle.jv_model.proofs.FiniteMapLaws.{first_where-found}
@@ -53,7 +53,7 @@ expired_step p act sid k (RefusedSubmission fault e (RefusalLacks b k')) = absur
 expired_step p act sid k (LacksMemory e k') = absurd (cc)
 expired_step p act sid k (Crashes e k') = absurd (cc)
 expired_step p act sid k (Publishes e h) = absurd (subst (IsPublish p.state) k h)
-expired_step p act sid k (OfDrain client e due (Sends h)) = absurd (subst (IsPublish p.state) k h)
+expired_step p act sid k (OfDrain client e due (Sends h)) = absurd (subst (IsPublishOf p.state client) k h)
 expired_step p act sid k (OfDrain client e due (Ends h k')) = absurd (cc)
 expired_step p act sid k (OfDrain client e due (Fails told h k')) = absurd (cc)
 expired_step p act sid k (Ticks by e k') = absurd (cc)
@@ -144,7 +144,7 @@ drops_step p act inode k (RefusedSubmission fault e (RefusalLacks b k')) = absur
 drops_step p act inode k (LacksMemory e k') = absurd (cc)
 drops_step p act inode k (Crashes e k') = absurd (cc)
 drops_step p act inode k (Publishes e h) = absurd (subst (IsPublish p.state) k h)
-drops_step p act inode k (OfDrain client e due (Sends h)) = absurd (subst (IsPublish p.state) k h)
+drops_step p act inode k (OfDrain client e due (Sends h)) = absurd (subst (IsPublishOf p.state client) k h)
 drops_step p act inode k (OfDrain client e due (Ends h k')) = absurd (cc)
 drops_step p act inode k (OfDrain client e due (Fails told h k')) = absurd (cc)
 drops_step p act inode k (Ticks by e k') = absurd (cc)

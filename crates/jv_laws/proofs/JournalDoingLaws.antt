@@ -18,7 +18,6 @@ use Rattle.jv_model.specs.declared.op.Op.TheVariants as op
 use Rattle.jv_model.specs.declared.op.Reply.{Reply}
 use Rattle.jv_model.specs.declared.op.Reply.TheVariants as reply
 use Rattle.jv_model.specs.declared.profile.Profile.{Profile}
-use Rattle.jv_model.specs.declared.profile.Answer.TheVariants as answer
 use Rattle.jv_model.specs.declared.profile.Does.{Does}
 use Rattle.jv_model.specs.declared.profile.Does.TheVariants.{Answers, Mounts, Transacts, Releases, Reads, Truncates, Copies, Compacts, Cleans as DoesClean, Collects, Uploads}
 use Rattle.jv_model.specs.declared.profile.Flushes.TheVariants.{ItsFiles, Everything}
@@ -32,9 +31,9 @@ use Rattle.jv_model.specs.tree.FileBytes.{truncate, truncated, copy, copied, cop
 use Rattle.jv_model.specs.client.Pending.{PendingByte, Segment, first_segment, pending_of, without_range}
 use Rattle.jv_model.specs.client.Origins.{Owed}
 use Rattle.jv_model.specs.client.Profile.{profile, handle_list, handle_of}
-use Rattle.jv_model.specs.client.ModelClient.{ModelClient, OpenFile, View, Doing, OfFiles, OfAll, Stage, Cleaning, Sessions, Trash, Files, Blocks, Part, Working, Reading, Missing, LookedAgain, Compacting, Cleans, Requesting, Replying, unmounted, with_stage, file_of, inode_in, inode_at, views_without}
+use Rattle.jv_model.specs.client.ModelClient.{ModelClient, OpenFile, View, Doing, OfFiles, OfAll, Stage, Cleaning, Sessions, Trash, Files, MoreBlocks, Part, Working, Reading, Missing, LookedAgain, Compacting, Cleans, Requesting, Replying, unmounted, with_stage, file_of, inode_in, inode_at, views_without}
 use Rattle.jv_model.specs.client.Submission.{submission, submitted, flush_of, by_limits, segment_of_files, is_flushed}
-use Rattle.jv_model.specs.journal.State.{is_last, is_collecting, State, Gift, NewSession, NewHandle, Nothing, with_client, set_client, given, replied, transacted, newly_sustained, next_entry, gift_of, after_transaction, is_refused, refusal_in, look_refusal, has_session, quieted, begun_quietly, flushing_on, cleaning_on, looked, compaction_looked, missed, committed_stage, answer_then, reply_of_answer, replaced, after_told, answered_client, is_of_another, after_step, of_doing, changed, effect, view_now, is_compaction, sees_first, first_cleaning}
+use Rattle.jv_model.specs.journal.State.{removes_block, judges, State, Gift, NewSession, NewHandle, Nothing, with_client, set_client, given, replied, transacted, newly_sustained, next_entry, gift_of, after_transaction, is_refused, refusal_in, look_refusal, has_session, quieted, begun_quietly, flushing_on, cleaning_on, looked, compaction_looked, missed, committed_stage, answer_then, reply_of_answer, replaced, after_told, answered_client, is_of_another, after_step, of_doing, changed, effect, view_now, is_compaction, sees_first, first_cleaning}
 use Rattle.jv_model.specs.journal.Reading.{asked_parts}
 use Rattle.jv_model.specs.journal.Steps.{Start, is_ready, transacts, Transaction, LooksAt, may_read_on, is_missing, CompactionLooks, First, Again, CompactionMisses, MissesBlock, change_entry, cleaning_in, CleansItem, DropsFile, MayStep, MayAnswer, Fails, Settles, AtOnce, CountsCache, ReadsViews, CleanedUp, HasCompacted, HasCollected, HasUploaded, Refuses, EndsCompaction, TooShort, HasReplaced, EndsUpload, Sent, FoundNone, told_of, is_failure, has_judged}
 use Rattle.jv_model.specs.journal.Past.{Setup, Past, at_start, begun_to, reached}
@@ -66,6 +65,8 @@ or_left false h = absurd (cc)
 abbrev pub IsFineReply : Does → Reply → Type 0
 IsFineReply (Answers told) r = reply_of_answer told ≡ Some r
 IsFineReply (Reads offset len) r = ⊥
+IsFineReply DoesClean r = ⊥
+IsFineReply Uploads r = ⊥
 IsFineReply _ r = Unit {0}
 
 pub data IsSettled (does : Does) (flushed : Bool) (r : Reply) : Type 0 where
@@ -171,7 +172,7 @@ module _ (s : State) (client : ℕ) (c : ModelClient) (now : ℕ) (d : Doing) wh
   F = is_flushed d.flush c.pending
 
   ok_cleaning : (k : Cleaning) → IsTrue F → StageOk d.does F (cleaning_on s c k)
-  ok_cleaning k f = ok_if d.does F (has_session s.tree c || is_last k.part) _ _ f (IsRefusedReply refl)
+  ok_cleaning k f = ok_if d.does F (has_session s.tree c || removes_block k.part) _ _ f (IsRefusedReply refl)
 
   ok_tree_refusal : StageOk d.does F (Replying (refusal_in (transacted s client now d.op).reply))
   ok_tree_refusal = IsRefusedReply (refusal_refused (transacted s client now d.op).reply (is_refused (transacted s client now d.op).reply) refl)
@@ -186,7 +187,7 @@ module _ (s : State) (client : ℕ) (c : ModelClient) (now : ℕ) (d : Doing) wh
   ok_begun Copies f h = ok_tree_refusal
   ok_begun Compacts f h = ok_tree_refusal
   ok_begun DoesClean f h = ok_cleaning first_cleaning f
-  ok_begun Collects f h = f
+  ok_begun (Collects delete) f h = f
   ok_begun Uploads f h = f
 
   ok_flushing : (quiets started : ℕ) → StageOk d.does F (flushing_on s c now quiets started)
@@ -203,7 +204,7 @@ module _ (s : State) (client : ℕ) (c : ModelClient) (now : ℕ) (d : Doing) wh
   ok_quieted (LookedAgain misses window owed) all h = h
   ok_quieted (Compacting k) all h = ok_if d.does F (is_some k.missed) _ _ (ok_refused d.does F (Compacting k) _ (look_refused s.tree c _) h) h
   ok_quieted (Cleans k) all h = ok_cleaning k h
-  ok_quieted (Requesting requests) all h = ok_if d.does F (is_collecting d.does && (requests == 1) && not (has_session s.tree c)) _ _ (IsRefusedReply refl) h
+  ok_quieted (Requesting requests) all h = ok_if d.does F (judges d.does requests && not (has_session s.tree c)) _ _ (IsRefusedReply refl) h
   ok_quieted (Replying answer) all h = h
 
 -- what an entry of an operation wants committed
@@ -257,9 +258,9 @@ module _ (s : State) (client now : ℕ) (start : Start) (c : ModelClient) (d : D
   item_flushed : (part : Part) → CleansItem s c d part → IsTrue (is_flushed d.flush c.pending)
   item_flushed part h = cleaning_flushed c d d.stage h.k ok h.stage
 
-  row_flushed : (table key : ℕ) (b : Bool) → MatchBool b (CleansItem s c d Files × DropsFile s key) ((table ≡ 9) × CleansItem s c d Blocks) → IsTrue (is_flushed d.flush c.pending)
+  row_flushed : (table key : ℕ) (b : Bool) → MatchBool b (CleansItem s c d Files × DropsFile s key) ((table ≡ 9) × CleansItem s c d MoreBlocks) → IsTrue (is_flushed d.flush c.pending)
   row_flushed table key true h = item_flushed Files h.0
-  row_flushed table key false h = item_flushed Blocks h.1
+  row_flushed table key false h = item_flushed MoreBlocks h.1
 
 -- transactions
 
@@ -272,9 +273,9 @@ fine_transacts c d Releases r h = tt
 fine_transacts c d Truncates r h = tt
 fine_transacts c d Copies r h = tt
 fine_transacts c d Compacts r h = tt
-fine_transacts c d DoesClean r h = tt
-fine_transacts c d Collects r h = tt
-fine_transacts c d Uploads r h = tt
+fine_transacts c d DoesClean r h = absurd (cc)
+fine_transacts c d (Collects delete) r h = tt
+fine_transacts c d Uploads r h = absurd (cc)
 
 abbrev IsGiftless : Tree → Result Outcome Fault → Type 0
 IsGiftless t r = gift_of (outcome t r).reply ≡ Nothing
@@ -374,9 +375,9 @@ answer_fine c d Releases r e = tt
 answer_fine c d Truncates r e = tt
 answer_fine c d Copies r e = tt
 answer_fine c d Compacts r e = tt
-answer_fine c d DoesClean r e = tt
-answer_fine c d Collects r e = tt
-answer_fine c d Uploads r e = tt
+answer_fine c d DoesClean r e = absurd (cc)
+answer_fine c d (Collects delete) r e = tt
+answer_fine c d Uploads r e = absurd (cc)
 
 -- changes of a file
 
@@ -533,24 +534,6 @@ sound run journal may line = holds_on run (λ pre s. AllSound run.limits s.clien
 
 -- what is committed where an operation is done
 
-pub cache_read : (limits : Limits) (b : Bool) (offset len : ℕ) → by_limits limits (if b then Answers answer.NoData else Reads offset len) ≡ Answers answer.CacheStats → ⊥
-cache_read limits true offset len e = cc
-cache_read limits false offset len e = cc
-
--- what answers with the numbers of the cache has nothing to commit
-record CommitsNothing (o : Op) : Type 0 where
-  files : (profile o).flushes ≡ ItsFiles → ⊥
-  all : (profile o).flushes ≡ Everything → ⊥
-
-cache_commits_nothing : (limits : Limits) (o : Op) → by_limits limits (profile o).does ≡ Answers answer.CacheStats → CommitsNothing o
-cache_commits_nothing limits op.Stats e = record { files = λ h. cc; all = λ h. cc }
-cache_commits_nothing limits (op.Read handle offset len) e = absurd (cache_read limits _ offset len e)
-cache_commits_nothing limits _ e = absurd (cc)
-
-data HasFlushed (c : ModelClient) (d : Doing) : Type 0 where
-  Flushed : IsTrue (is_flushed d.flush c.pending) → HasFlushed c d
-  NothingNamed : CommitsNothing d.op → HasFlushed c d
-
 fine_not_failure : (told : Told) → IsTrue (is_fine_answer (Answered told)) → IsTrue (is_failure told) → ⊥
 fine_not_failure (Fine a b c d) fine h = cc
 fine_not_failure (Looks first second len) fine h = cc
@@ -564,28 +547,28 @@ settled_flushed : (does : Does) (flushed : Bool) (r : Reply) (told : Told) → I
 settled_flushed does flushed r told fine e (IsRefusedReply h) = absurd (fine_not_refused told r fine e h)
 settled_flushed does flushed r told fine e (IsDoneReply f h) = f
 
-judged_flushed : (does : Does) (flushed : Bool) (stage : Stage) → StageOk does flushed stage → IsTrue (has_judged stage) → IsTrue flushed
+judged_flushed : (does : Does) (flushed : Bool) (stage : Stage) → StageOk does flushed stage → IsTrue (has_judged does stage) → IsTrue flushed
 judged_flushed does flushed (Requesting requests) ok h = ok
 judged_flushed does flushed _ ok h = absurd (cc)
 
 module _ (limits : Limits) (start : Start) (alone : Bool) (s : State) (client now : ℕ) (c : ModelClient) (d : Doing) (told : Told) (fine : IsTrue (is_fine_answer (Answered told))) (h : Sound limits c.handles c.pending d) where
-  compacted_flushed : EndsCompaction d told → HasFlushed c d
-  compacted_flushed (TooShort k records e q may few same) = Flushed (stage_flushed c d (Compacting k) h.stage e)
-  compacted_flushed (HasReplaced k before after e r few same) = Flushed (stage_flushed c d (Compacting k) h.stage e)
+  compacted_flushed : EndsCompaction d told → IsTrue (is_flushed d.flush c.pending)
+  compacted_flushed (TooShort k records e q may few same) = stage_flushed c d (Compacting k) h.stage e
+  compacted_flushed (HasReplaced k before after e r few same) = stage_flushed c d (Compacting k) h.stage e
 
-  uploaded_flushed : EndsUpload alone s client c d told → HasFlushed c d
-  uploaded_flushed (Sent id index size e same) = Flushed (stage_flushed c d (Requesting 1) h.stage e)
-  uploaded_flushed (FoundNone ready m o same) = Flushed (ready_flushed c d ready)
+  uploaded_flushed : EndsUpload alone s client c d told → IsTrue (is_flushed d.flush c.pending)
+  uploaded_flushed (Sent id index size e same) = stage_flushed c d (Requesting 1) h.stage e
+  uploaded_flushed (FoundNone ready m o same) = ready_flushed c d ready
 
-  answer_flushed : MayAnswer start alone s client now c d told → HasFlushed c d
+  answer_flushed : MayAnswer start alone s client now c d told → IsTrue (is_flushed d.flush c.pending)
   answer_flushed (Fails m f) = absurd (fine_not_failure told fine f)
-  answer_flushed (Settles r e same) = Flushed (settled_flushed d.does (is_flushed d.flush c.pending) r told fine same (stage_flushed c d (Replying r) h.stage e))
-  answer_flushed (AtOnce a) = Flushed (ready_flushed c d a.ready)
-  answer_flushed (CountsCache hits misses cached e same) = NothingNamed (cache_commits_nothing limits d.op (sym h.does ∙ e))
-  answer_flushed (ReadsViews r) = Flushed (reading_flushed c d d.stage h.stage (or_more _ _ r.goes_on))
-  answer_flushed (CleanedUp e) = Flushed (stage_flushed c d (Cleans e.k) h.stage e.stage)
+  answer_flushed (Settles r e same) = settled_flushed d.does (is_flushed d.flush c.pending) r told fine same (stage_flushed c d (Replying r) h.stage e)
+  answer_flushed (AtOnce a) = ready_flushed c d a.ready
+  answer_flushed (CountsCache hits misses cached ready first e same) = ready_flushed c d ready
+  answer_flushed (ReadsViews r) = reading_flushed c d d.stage h.stage (or_more _ _ r.goes_on)
+  answer_flushed (CleanedUp e) = stage_flushed c d (Cleans e.k) h.stage e.stage
   answer_flushed (HasCompacted e) = compacted_flushed e
-  answer_flushed (HasCollected count bytes e j same) = Flushed (judged_flushed d.does (is_flushed d.flush c.pending) d.stage h.stage j)
+  answer_flushed (HasCollected count bytes j same) = judged_flushed d.does (is_flushed d.flush c.pending) d.stage h.stage j
   answer_flushed (HasUploaded e u) = uploaded_flushed u
   answer_flushed (Refuses fault m r same) = let no : IsTrue (is_fine_answer (Answered (ToldRefused fault))) = subst (λ t. IsTrue (is_fine_answer (Answered t))) same fine in absurd (cc)
 
@@ -637,9 +620,8 @@ its_files c (op.Truncate handle len) h = let all = h refl in (all.0, tt)
 its_files c (op.Copy source from target to len) h = let all = h refl in (all.0, (all.1.0, tt))
 its_files c _ h = tt
 
-committed_all : (limits : Limits) (c : ModelClient) (d : Doing) → Sound limits c.handles c.pending d → HasFlushed c d → HasCommitted c d.op
-committed_all limits c d h (NothingNamed n) = record { files = its_files c d.op (λ its. absurd (n.files its)); all = λ e. absurd (n.all (ap (λ o. (profile o).flushes) e)) }
-committed_all limits c d h (Flushed f) = record {
+committed_all : (limits : Limits) (c : ModelClient) (d : Doing) → Sound limits c.handles c.pending d → IsTrue (is_flushed d.flush c.pending) → HasCommitted c d.op
+committed_all limits c d h f = record {
   files = its_files c d.op (λ its. none_pending (map (inode_at c) (handle_list (profile d.op).handles)) c.pending (subst (λ flush. IsTrue (is_flushed flush c.pending)) (h.files its) f));
   all = λ e. no_segment c.pending (none_some (first_segment c.pending) (subst (λ flush. IsTrue (is_flushed flush c.pending)) (h.all (ap (λ o. (profile o).flushes) e)) f));
 }

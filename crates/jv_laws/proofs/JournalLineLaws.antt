@@ -22,6 +22,7 @@ use Rattle.jv_model.specs.journal.Past.{Setup, Past, Due, NoMore, Refusal, MayLa
 use Rattle.jv_model.specs.journal.Legal.{IsRefusal, Allowed, AllAllowed, Refuses, LacksMemory, IsPublish, Drains, Sends, Ends, Fails, OfClient, OfLine, OfWorker, may_be_cut, may_stop}
 use Rattle.jv_laws.specs.Laws.{LinesHaveEntries, EndedLinesHaveEntries, RefusedLinesHaveOneEntry, FitsLine, EndsAnswered, IsOneStep, Idle, OneEntry, AndAnswer, is_answer, kinds_on, line_at}
 use Rattle.jv_laws.proofs.JournalGrowthLaws.{AllAllowed-parts, past-append, frame_begun, line-begun_to, begun_to-begun, line_allowed, entered, advanced}
+use Rattle.jv_laws.proofs.JournalStates.{publish_of}
 
 -- entries so far of a line, by what it may still have
 
@@ -213,7 +214,7 @@ module _ (p : Past) (act : Act) (line : Line) (kinds : List ActKind) where
   refused_next fault s none k = to_end (due_of_answer p act act.kind (ap is_answer k)) (fits_refused line (kinds ++ act.kind ∷ []) fault s (first_only kinds act.kind none ∙ ap (λ x. x ∷ []) k))
 
   drained_next : (client : ℕ) → p.due ≡ DrainEntries client → IsTrue (is_drain line) → Unanswered kinds → Drains p.state client act.kind → Next
-  drained_next client e s h (Sends x) = let o = publish_open p.state act.kind x in to_due (DrainEntries client) (due_of_request p act act.kind o.0 o.1 ∙ ap requested e) (s, unanswered_more kinds act.kind h o.0)
+  drained_next client e s h (Sends x) = let o = publish_open p.state act.kind (publish_of p.state client act.kind x) in to_due (DrainEntries client) (due_of_request p act act.kind o.0 o.1 ∙ ap requested e) (s, unanswered_more kinds act.kind h o.0)
   drained_next client e s h (Ends x k) = let a = ap is_answer k in to_end (due_of_answer p act act.kind a) (fits_drained line (kinds ++ act.kind ∷ []) s (ends_with kinds act.kind h a))
   drained_next client e s h (Fails told x k) = let a = ap is_answer k in to_end (due_of_answer p act act.kind a) (fits_drained line (kinds ++ act.kind ∷ []) s (ends_with kinds act.kind h a))
 
@@ -557,7 +558,7 @@ done_advance : (line : ℕ) (p : Past) (act : Act) → IsDone line (after (begun
 unfolding advance
 done_advance line p act h = h
 
-workers_at : (run : Setup) (pre : List Act) (line : ℕ) → AllAllowed (at_start run) pre → is_workers (begun_to line (reached run pre)) ≡ run.by_worker (1 + length pre)
+pub workers_at : (run : Setup) (pre : List Act) (line : ℕ) → AllAllowed (at_start run) pre → is_workers (begun_to line (reached run pre)) ≡ run.by_worker (1 + length pre)
 workers_at run pre line may = is_by_worker run pre (begun_to line (reached run pre)) (lined_to run pre line (reached run pre) (all_lined run pre may))
 
 pub refused_once : RefusedLinesHaveOneEntry

@@ -2,6 +2,7 @@
 use Rattle.std.proofs.Common.{◌≡◌, ℕ, ◌+◌, ◌≤◌, ◌⊎◌, Bool, true, false, ◌&&◌, ◌||◌, not, ◌==◌, if◌then◌else◌, IsTrue, IsSomeAnd, IfSome, inl, inr, List, [], ◌∷◌, ◌++◌, length, filter, Option, None, Some, refl, sym, ap, subst, ◌∙◌, arith, length-append, MatchBool}
 use Rattle.std.specs.List.{list_any}
 use Rattle.std.proofs.lemmas.Bool.Decides.{nat_tests, leb_tells, eqb_tells}
+use Rattle.jv_model.specs.declared.act.TheConstants.{NO_CLIENT}
 use Rattle.jv_model.specs.declared.act.Act.{Act}
 use Rattle.jv_model.specs.declared.act.ActKind.{ActKind}
 use Rattle.jv_model.specs.declared.act.ActKind.TheVariants.{Commit, Settled, Quiet, Crashed, Ticked, Answered}
@@ -14,11 +15,12 @@ use Rattle.jv_model.specs.client.Submission.{submission, submitted}
 use Rattle.jv_model.specs.journal.State.{State, state_at_start, set_client, after_step, after_other, of_doing, changed, effect}
 use Rattle.jv_model.specs.journal.Steps.{MayStep, is_failure, owes_none}
 use Rattle.jv_model.specs.journal.Past.{Setup, Past, DrainEntries, at_start, begun_to, is_workers, reached}
-use Rattle.jv_model.specs.journal.Legal.{Allowed, AllAllowed, OfLine, OfWorker, IsPublish, IsRefusal, Refuses, LacksMemory as RefusalLacks, Drains, Sends, Ends, Fails}
+use Rattle.jv_model.specs.journal.Legal.{Allowed, AllAllowed, OfLine, OfWorker, IsPublish, IsPublishOf, IsRefusal, Refuses, LacksMemory as RefusalLacks, Drains, Sends, Ends, Fails}
 use Rattle.jv_model.specs.journal.Looks.{entry_at}
-use Rattle.jv_laws.specs.Laws.{IsOwed, OwedCommits, SettlesOwed, DrainsSettleAll, leaves_staged, settles, is_owed_by}
+use Rattle.jv_laws.specs.Laws.{IsOwed, OwedCommits, SettlesOwed, DrainsSettleAll, leaves_staged, settles}
 use Rattle.jv_laws.proofs.JournalGrowthLaws.{AllAllowed-parts}
-use Rattle.jv_laws.proofs.JournalStates.{Entry, Steps, RefusedSubmission, LacksMemory, Crashes, Publishes, OfDrain, Ticks, entry_of, entry_before, entry_last, entry_past, entry_within, none_entered, holds, holds_on}
+use Rattle.jv_laws.proofs.JournalLineLaws.{workers_at}
+use Rattle.jv_laws.proofs.JournalStates.{owed_of, publish_of, Entry, Steps, RefusedSubmission, LacksMemory, Crashes, Publishes, OfDrain, Ticks, entry_of, entry_before, entry_last, entry_past, entry_within, none_entered, holds, holds_on}
 
 -- what an entry does to what is owed
 pub data OwedAfter (s : State) (client : ℕ) (kind : ActKind) (owed : List Owed) : Type 0 where
@@ -71,7 +73,7 @@ publish_needs_none s Quiet h = refl
 publish_needs_none s _ h = absurd h
 
 drain_needs_none : (s : State) (client : ℕ) (kind : ActKind) → Drains s client kind → is_of_operation kind ≡ false
-drain_needs_none s client kind (Sends h) = publish_needs_none s kind h
+drain_needs_none s client kind (Sends h) = publish_needs_none s kind (publish_of s client kind h)
 drain_needs_none s client kind (Ends h e) = ap is_of_operation e
 drain_needs_none s client kind (Fails told h e) = ap is_of_operation e
 
@@ -93,24 +95,27 @@ owed_entry p act h = owed_changed p.state act act.kind (has_operation p act (ent
 
 -- membership after an entry
 
-owed_without : (commit client k : ℕ) (os : List Owed) → (k ≡ commit → ⊥) → is_owed_by client commit (filter (λ (o : Owed). not (o.commit == k)) os) ≡ is_owed_by client commit os
+abbrev owes_commit : ℕ → ℕ → List Owed → Bool
+owes_commit client commit owed = list_any (λ o. (o.commit == commit) && (o.client == client)) owed
+
+owed_without : (commit client k : ℕ) (os : List Owed) → (k ≡ commit → ⊥) → owes_commit client commit (filter (λ (o : Owed). not (o.commit == k)) os) ≡ owes_commit client commit os
 owed_without commit client k [] h = refl
 owed_without commit client k (o ∷ os) h = elim (eqb_tells o.commit k) [
   | inl same ↦ (
       let other : (o.commit == commit) ≡ false = (let e = same.1 in grind (arith, nat_tests)) in
       let rest = owed_without commit client k os h in
-      subst (λ b. is_owed_by client commit (if not b then o ∷ filter (λ (x : Owed). not (x.commit == k)) os else filter (λ (x : Owed). not (x.commit == k)) os) ≡ is_owed_by client commit (o ∷ os)) (sym same.0)
-      (subst (λ b. is_owed_by client commit (filter (λ (x : Owed). not (x.commit == k)) os) ≡ (b && (o.client == client)) || is_owed_by client commit os) (sym other) rest))
-  | inr apart ↦ subst (λ b. is_owed_by client commit (if not b then o ∷ filter (λ (x : Owed). not (x.commit == k)) os else filter (λ (x : Owed). not (x.commit == k)) os) ≡ is_owed_by client commit (o ∷ os)) (sym apart.0)
+      subst (λ b. owes_commit client commit (if not b then o ∷ filter (λ (x : Owed). not (x.commit == k)) os else filter (λ (x : Owed). not (x.commit == k)) os) ≡ owes_commit client commit (o ∷ os)) (sym same.0)
+      (subst (λ b. owes_commit client commit (filter (λ (x : Owed). not (x.commit == k)) os) ≡ (b && (o.client == client)) || owes_commit client commit os) (sym other) rest))
+  | inr apart ↦ subst (λ b. owes_commit client commit (if not b then o ∷ filter (λ (x : Owed). not (x.commit == k)) os else filter (λ (x : Owed). not (x.commit == k)) os) ≡ owes_commit client commit (o ∷ os)) (sym apart.0)
       (ap (λ r. ((o.commit == commit) && (o.client == client)) || r) (owed_without commit client k os h))
 ]
 
-owed_gone : (commit client : ℕ) (os : List Owed) → is_owed_by client commit (filter (λ (o : Owed). not (o.commit == commit)) os) ≡ false
+owed_gone : (commit client : ℕ) (os : List Owed) → owes_commit client commit (filter (λ (o : Owed). not (o.commit == commit)) os) ≡ false
 owed_gone commit client [] = refl
 owed_gone commit client (o ∷ os) = elim (eqb_tells o.commit commit) [
-  | inl same ↦ subst (λ b. is_owed_by client commit (if not b then o ∷ filter (λ (x : Owed). not (x.commit == commit)) os else filter (λ (x : Owed). not (x.commit == commit)) os) ≡ false) (sym same.0) (owed_gone commit client os)
-  | inr apart ↦ subst (λ b. is_owed_by client commit (if not b then o ∷ filter (λ (x : Owed). not (x.commit == commit)) os else filter (λ (x : Owed). not (x.commit == commit)) os) ≡ false) (sym apart.0)
-      (subst (λ b. (b && (o.client == client)) || is_owed_by client commit (filter (λ (x : Owed). not (x.commit == commit)) os) ≡ false) (sym apart.0) (owed_gone commit client os))
+  | inl same ↦ subst (λ b. owes_commit client commit (if not b then o ∷ filter (λ (x : Owed). not (x.commit == commit)) os else filter (λ (x : Owed). not (x.commit == commit)) os) ≡ false) (sym same.0) (owed_gone commit client os)
+  | inr apart ↦ subst (λ b. owes_commit client commit (if not b then o ∷ filter (λ (x : Owed). not (x.commit == commit)) os else filter (λ (x : Owed). not (x.commit == commit)) os) ≡ false) (sym apart.0)
+      (subst (λ b. (b && (o.client == client)) || owes_commit client commit (filter (λ (x : Owed). not (x.commit == commit)) os) ≡ false) (sym apart.0) (owed_gone commit client os))
 ]
 
 abbrev Leaves : ℕ → Act → Type 0
@@ -166,8 +171,8 @@ module _ (pre : List Act) (e : Act) (client commit : ℕ) where
 
 pub record Owing (pre : List Act) (s : State) : Type 0 where
   pub count : s.count ≡ length pre
-  pub tells : (client commit : ℕ) → IsTrue (is_owed_by client commit s.owed) → IsOwed pre client commit
-  pub shows : (client commit : ℕ) → IsOwed pre client commit → IsTrue (is_owed_by client commit s.owed)
+  pub tells : (client commit : ℕ) → IsTrue (owes_commit client commit s.owed) → IsOwed pre client commit
+  pub shows : (client commit : ℕ) → IsOwed pre client commit → IsTrue (owes_commit client commit s.owed)
 
 decided : (b : Bool) → (b ≡ true) ⊎ (b ≡ false)
 decided true = inl refl
@@ -199,27 +204,27 @@ record IsNew (none : Bool) (count client other commit : ℕ) : Type 0 where
   own : client ≡ other
   some : IsTrue (not none)
 
-new_only : (none : Bool) (count client other commit : ℕ) (os : List Owed) → IsTrue (is_owed_by other commit (made none count client ++ os)) → is_owed_by other commit os ≡ false → IsNew none count client other commit
+new_only : (none : Bool) (count client other commit : ℕ) (os : List Owed) → IsTrue (owes_commit other commit (made none count client ++ os)) → owes_commit other commit os ≡ false → IsNew none count client other commit
 new_only true count client other commit os h g = absurd (cc)
 new_only false count client other commit os h g =
-    let both = first_of (count == commit) (client == other) (is_owed_by other commit os) h g in
+    let both = first_of (count == commit) (client == other) (owes_commit other commit os) h g in
     let at = both.0 in let own = both.1 in
     record { at = grind (arith, nat_tests); own = grind (arith, nat_tests); some = refl }
 
-new_there : (none : Bool) (count client other commit : ℕ) (os : List Owed) → commit ≡ count → client ≡ other → IsTrue (not none) → IsTrue (is_owed_by other commit (made none count client ++ os))
+new_there : (none : Bool) (count client other commit : ℕ) (os : List Owed) → commit ≡ count → client ≡ other → IsTrue (not none) → IsTrue (owes_commit other commit (made none count client ++ os))
 new_there true count client other commit os at own h = absurd (cc)
-new_there false count client other commit os at own h = either_first (count == commit) (client == other) (is_owed_by other commit os) (grind (arith, nat_tests)) (grind (arith, nat_tests))
+new_there false count client other commit os at own h = either_first (count == commit) (client == other) (owes_commit other commit os) (grind (arith, nat_tests)) (grind (arith, nat_tests))
 
-old_there : (none : Bool) (count client other commit : ℕ) (os : List Owed) → IsTrue (is_owed_by other commit os) → IsTrue (is_owed_by other commit (made none count client ++ os))
+old_there : (none : Bool) (count client other commit : ℕ) (os : List Owed) → IsTrue (owes_commit other commit os) → IsTrue (owes_commit other commit (made none count client ++ os))
 old_there true count client other commit os h = h
-old_there false count client other commit os h = either_second _ (is_owed_by other commit os) h
+old_there false count client other commit os h = either_second _ (owes_commit other commit os) h
 
 module _ (pre : List Act) (e : Act) (s : State) (owed : List Owed) (o : Owing pre s) where
-  tells_next : (client commit : ℕ) → OwedAfter s e.client e.kind owed → IsTrue (is_owed_by client commit owed) → IsOwed (pre ++ e ∷ []) client commit
-  tells_next client commit (Spared l n same) h = still pre e client commit (o.tells client commit (subst (λ os. IsTrue (is_owed_by client commit os)) same h)) (n commit)
+  tells_next : (client commit : ℕ) → OwedAfter s e.client e.kind owed → IsTrue (owes_commit client commit owed) → IsOwed (pre ++ e ∷ []) client commit
+  tells_next client commit (Spared l n same) h = still pre e client commit (o.tells client commit (subst (λ os. IsTrue (owes_commit client commit os)) same h)) (n commit)
   tells_next client commit (Made inode from len staged k same) h =
-      let there = subst (λ os. IsTrue (is_owed_by client commit os)) same h in
-      elim (decided (is_owed_by client commit s.owed)) [
+      let there = subst (λ os. IsTrue (owes_commit client commit os)) same h in
+      elim (decided (owes_commit client commit s.owed)) [
         | inl old ↦ still pre e client commit (o.tells client commit old) (ap (settles commit) k)
         | inr fresh ↦ (
             let n = new_only (staged == 0) (s.count + 1) e.client client commit s.owed there fresh in
@@ -228,30 +233,30 @@ module _ (pre : List Act) (e : Act) (s : State) (owed : List Owed) (o : Owing pr
       ]
   tells_next client commit (Published k' k same) h = elim (eqb_tells k' commit) [
     | inl at ↦ (
-        let there : IsTrue (is_owed_by client commit (filter (λ (x : Owed). not (x.commit == commit)) s.owed)) = subst (λ n. IsTrue (is_owed_by client commit (filter (λ (x : Owed). not (x.commit == n)) s.owed))) at.1 (subst (λ os. IsTrue (is_owed_by client commit os)) same h) in
+        let there : IsTrue (owes_commit client commit (filter (λ (x : Owed). not (x.commit == commit)) s.owed)) = subst (λ n. IsTrue (owes_commit client commit (filter (λ (x : Owed). not (x.commit == n)) s.owed))) at.1 (subst (λ os. IsTrue (owes_commit client commit os)) same h) in
         let gone = owed_gone commit client s.owed in
         absurd (cc))
     | inr apart ↦ (
-        let there = subst (λ os. IsTrue (is_owed_by client commit os)) same h in
-        let old : IsTrue (is_owed_by client commit s.owed) = sym (owed_without commit client k' s.owed apart.1) ∙ there in
+        let there = subst (λ os. IsTrue (owes_commit client commit os)) same h in
+        let old : IsTrue (owes_commit client commit s.owed) = sym (owed_without commit client k' s.owed apart.1) ∙ there in
         still pre e client commit (o.tells client commit old) (ap (settles commit) k ∙ apart.0))
   ]
 
-  shows_low : (client commit : ℕ) → OwedAfter s e.client e.kind owed → IsOwed pre client commit → settles commit e.kind ≡ false → IsTrue (is_owed_by client commit owed)
-  shows_low client commit (Spared l n same) r u = subst (λ os. IsTrue (is_owed_by client commit os)) (sym same) (o.shows client commit r)
-  shows_low client commit (Made inode from len staged k same) r u = subst (λ os. IsTrue (is_owed_by client commit os)) (sym same) (old_there (staged == 0) (s.count + 1) e.client client commit s.owed (o.shows client commit r))
+  shows_low : (client commit : ℕ) → OwedAfter s e.client e.kind owed → IsOwed pre client commit → settles commit e.kind ≡ false → IsTrue (owes_commit client commit owed)
+  shows_low client commit (Spared l n same) r u = subst (λ os. IsTrue (owes_commit client commit os)) (sym same) (o.shows client commit r)
+  shows_low client commit (Made inode from len staged k same) r u = subst (λ os. IsTrue (owes_commit client commit os)) (sym same) (old_there (staged == 0) (s.count + 1) e.client client commit s.owed (o.shows client commit r))
   shows_low client commit (Published k' k same) r u = elim (eqb_tells k' commit) [
     | inl at ↦ (let yes : settles commit e.kind ≡ true = ap (settles commit) k ∙ at.0 in absurd (cc))
-    | inr apart ↦ subst (λ os. IsTrue (is_owed_by client commit os)) (sym same) (owed_without commit client k' s.owed apart.1 ∙ o.shows client commit r)
+    | inr apart ↦ subst (λ os. IsTrue (owes_commit client commit os)) (sym same) (owed_without commit client k' s.owed apart.1 ∙ o.shows client commit r)
   ]
 
-  shows_last : (client commit : ℕ) → OwedAfter s e.client e.kind owed → commit ≡ length pre + 1 → Leaves client e → IsTrue (is_owed_by client commit owed)
+  shows_last : (client commit : ℕ) → OwedAfter s e.client e.kind owed → commit ≡ length pre + 1 → Leaves client e → IsTrue (owes_commit client commit owed)
   shows_last client commit (Spared l n same) at r = let yes = r.1 in absurd (cc)
   shows_last client commit (Made inode from len staged k same) at r =
-      subst (λ os. IsTrue (is_owed_by client commit os)) (sym same) (new_there (staged == 0) (s.count + 1) e.client client commit s.owed (at ∙ ap (λ c. c + 1) (sym o.count)) r.0 (sym (ap leaves_staged k) ∙ r.1))
+      subst (λ os. IsTrue (owes_commit client commit os)) (sym same) (new_there (staged == 0) (s.count + 1) e.client client commit s.owed (at ∙ ap (λ c. c + 1) (sym o.count)) r.0 (sym (ap leaves_staged k) ∙ r.1))
   shows_last client commit (Published k' k same) at r = let yes = sym (ap leaves_staged k) ∙ r.1 in absurd (cc)
 
-  shows_next : (client commit : ℕ) → OwedAfter s e.client e.kind owed → IsOwed (pre ++ e ∷ []) client commit → IsTrue (is_owed_by client commit owed)
+  shows_next : (client commit : ℕ) → OwedAfter s e.client e.kind owed → IsOwed (pre ++ e ∷ []) client commit → IsTrue (owes_commit client commit owed)
   shows_next client commit a r = elim (leb_tells commit (length pre)) [
     | inl low ↦ shows_low client commit a (was pre e client commit r low.1) (not_settled pre e client commit r low.1)
     | inr high ↦ (let n = within_longer pre e client commit r in let at : commit ≡ length pre + 1 = omega (arith, n, high.1) in shows_last client commit a at (newly pre e client commit r at))
@@ -286,14 +291,14 @@ owed_commits run journal may client commit = let o = owing run journal may in (o
 
 record IsNamed (commit : ℕ) (os : List Owed) : Type 0 where
   client : ℕ
-  owed : IsTrue (is_owed_by client commit os)
+  owed : IsTrue (owes_commit client commit os)
 
 named_of : (commit : ℕ) (os : List Owed) → IsTrue (list_any (λ (o : Owed). o.commit == commit) os) → IsNamed commit os
 named_of commit [] h = absurd (cc)
 named_of commit (o ∷ os) h = elim (eqb_tells o.commit commit) [
-  | inl same ↦ (let e = same.0 in record { client = o.client; owed = either_first (o.commit == commit) (o.client == o.client) (is_owed_by o.client commit os) e (grind (arith, nat_tests)) })
+  | inl same ↦ (let e = same.0 in record { client = o.client; owed = either_first (o.commit == commit) (o.client == o.client) (owes_commit o.client commit os) e (grind (arith, nat_tests)) })
   | inr apart ↦ (let rest = named_of commit os (subst (λ b. IsTrue (b || list_any (λ (x : Owed). x.commit == commit) os)) apart.0 h) in
-      record { client = rest.client; owed = either_second _ (is_owed_by rest.client commit os) rest.owed })
+      record { client = rest.client; owed = either_second _ (owes_commit rest.client commit os) rest.owed })
 ]
 
 abbrev IsAmong : State → ℕ → Type 0
@@ -303,16 +308,35 @@ publish_owed : (s : State) (kind : ActKind) (commit : ℕ) → kind ≡ Settled 
 publish_owed s kind commit e h = let t : IsPublish s (Settled commit) = subst (IsPublish s) e h in t
 
 settled_owed : (p : Past) (act : Act) (commit : ℕ) → act.kind ≡ Settled commit → Entry p act → IsAmong p.state commit
-settled_owed p act commit k (Steps d e may) = let t = subst (λ kind. MayStep p.run.start (p.run.uploads == 0) p.state act.client act.at (p.state.clients act.client) d kind) k may in t.owed
+settled_owed p act commit k (Steps d e may) = let t = subst (λ kind. MayStep p.run.start (p.run.uploads == 0) p.state act.client act.at (p.state.clients act.client) d kind) k may in owed_of p.state.owed act.client commit t.owed
 settled_owed p act commit k (RefusedSubmission fault e (Refuses k')) = absurd (cc)
 settled_owed p act commit k (RefusedSubmission fault e (RefusalLacks b k')) = absurd (cc)
 settled_owed p act commit k (LacksMemory e k') = absurd (cc)
 settled_owed p act commit k (Crashes e k') = absurd (cc)
 settled_owed p act commit k (Publishes e h) = publish_owed p.state act.kind commit k h
-settled_owed p act commit k (OfDrain client e due (Sends h)) = publish_owed p.state act.kind commit k h
+settled_owed p act commit k (OfDrain client e due (Sends h)) = publish_owed p.state act.kind commit k (publish_of p.state client act.kind h)
 settled_owed p act commit k (OfDrain client e due (Ends h k')) = absurd (cc)
 settled_owed p act commit k (OfDrain client e due (Fails told h k')) = absurd (cc)
 settled_owed p act commit k (Ticks by e k') = absurd (cc)
+
+own_settled : (p : Past) (act : Act) (commit : ℕ) → act.kind ≡ Settled commit → Entry p act → (act.client ≡ NO_CLIENT → ⊥) → IsTrue (owes_commit act.client commit p.state.owed)
+own_settled p act commit k (Steps d e may) some = let t = subst (λ kind. MayStep p.run.start (p.run.uploads == 0) p.state act.client act.at (p.state.clients act.client) d kind) k may in t.owed
+own_settled p act commit k (RefusedSubmission fault e (Refuses k')) some = absurd (cc)
+own_settled p act commit k (RefusedSubmission fault e (RefusalLacks b k')) some = absurd (cc)
+own_settled p act commit k (LacksMemory e k') some = absurd (cc)
+own_settled p act commit k (Crashes e k') some = absurd (cc)
+own_settled p act commit k (Publishes e h) some = absurd (some e)
+own_settled p act commit k (OfDrain client e due h) some = absurd (some e)
+own_settled p act commit k (Ticks by e k') some = absurd (some e)
+
+drain_settles : (s : State) (client commit : ℕ) (kind : ActKind) → kind ≡ Settled commit → Drains s client kind → IsTrue (owes_commit client commit s.owed)
+drain_settles s client commit kind k (Sends h) = let t : IsPublishOf s client (Settled commit) = subst (IsPublishOf s client) k h in t
+drain_settles s client commit kind k (Ends h e) = absurd (cc)
+drain_settles s client commit kind k (Fails told h e) = absurd (cc)
+
+line_settled : (p : Past) (act : Act) (client commit : ℕ) (worker : Bool) → worker ≡ false → p.due ≡ DrainEntries client → act.kind ≡ Settled commit → MatchBool worker (OfWorker p act) (OfLine p act p.due) → IsTrue (owes_commit client commit p.state.owed)
+line_settled p act client commit true own due k h = absurd (cc)
+line_settled p act client commit false own due k h = let t : OfLine p act (DrainEntries client) = subst (OfLine p act) due h in drain_settles p.state client commit act.kind k t.1
 
 pub settles_owed : SettlesOwed
 settles_owed run journal act may commit k =
@@ -320,20 +344,24 @@ settles_owed run journal act may commit k =
     let b = begun_to act.line (reached run journal) in
     let o = owing_on run journal parts.0 act.line in
     let n = named_of commit b.state.owed (settled_owed b act commit k (entry_of b act parts.1.0)) in
-    record { client = n.client; owed = o.tells n.client commit n.owed }
+    record {
+      by_some = record { client = n.client; owed = o.tells n.client commit n.owed };
+      by_own = λ some. o.tells act.client commit (own_settled b act commit k (entry_of b act parts.1.0) some);
+      by_line = λ client due own. o.tells client commit (line_settled b act client commit (is_workers b) (workers_at run journal act.line parts.0 ∙ own) due k parts.1.0.stands);
+    }
 
-none_owed : (client commit : ℕ) (os : List Owed) → IsTrue (not (list_any (λ (o : Owed). o.client == client) os)) → is_owed_by client commit os ≡ false
+none_owed : (client commit : ℕ) (os : List Owed) → IsTrue (not (list_any (λ (o : Owed). o.client == client) os)) → owes_commit client commit os ≡ false
 none_owed client commit [] h = refl
 none_owed client commit (o ∷ os) h = elim (eqb_tells o.client client) [
   | inl same ↦ (let no : IsTrue (not (true || list_any (λ (x : Owed). x.client == client) os)) = subst (λ b. IsTrue (not (b || list_any (λ (x : Owed). x.client == client) os))) same.0 h in absurd (cc))
   | inr apart ↦ (
       let rest = none_owed client commit os (subst (λ b. IsTrue (not (b || list_any (λ (x : Owed). x.client == client) os))) apart.0 h) in
       let off = apart.0 in
-      not_either (o.commit == commit) (o.client == client) (is_owed_by client commit os) off rest)
+      not_either (o.commit == commit) (o.client == client) (owes_commit client commit os) off rest)
 ]
 
 drain_ends : (s : State) (client : ℕ) (kind : ActKind) (a b c d : ℕ) → kind ≡ Answered (Fine a b c d) → Drains s client kind → IsTrue (owes_none s client)
-drain_ends s client kind a b c d k (Sends h) = absurd (subst (IsPublish s) k h)
+drain_ends s client kind a b c d k (Sends h) = absurd (subst (IsPublishOf s client) k h)
 drain_ends s client kind a b c d k (Ends h e) = h
 drain_ends s client kind a b c d k (Fails told h e) =
     let same : Fine a b c d ≡ told = cc in
@@ -346,7 +374,7 @@ drain_at : (p : Past) (act : Act) (client a b c d : ℕ) (worker : Bool) → p.d
 drain_at p act client a b c d true due k h = absurd (subst (IsPublish p.state) k h.2)
 drain_at p act client a b c d false due k h = let t : OfLine p act (DrainEntries client) = subst (OfLine p act) due h in drain_ends p.state client act.kind a b c d k t.1
 
-none_is_owed : (run : Setup) (journal : List Act) → AllAllowed (at_start run) journal → (line client commit : ℕ) → IsTrue (owes_none (begun_to line (reached run journal)).state client) → IsOwed journal client commit → ⊥
+pub none_is_owed : (run : Setup) (journal : List Act) → AllAllowed (at_start run) journal → (line client commit : ℕ) → IsTrue (owes_none (begun_to line (reached run journal)).state client) → IsOwed journal client commit → ⊥
 none_is_owed run journal may line client commit none owed =
     let o = owing_on run journal may line in
     let there = o.shows client commit owed in

@@ -16,14 +16,14 @@ use Rattle.jv_model.specs.declared.op.Reply.{Reply}
 use Rattle.jv_model.specs.declared.op.Reply.TheVariants as reply
 use Rattle.jv_model.specs.declared.profile.Answer.TheVariants as answer
 use Rattle.jv_model.specs.declared.profile.Does.{Does}
-use Rattle.jv_model.specs.declared.profile.Does.TheVariants.{Answers, Reads, Collects, Uploads}
+use Rattle.jv_model.specs.declared.profile.Does.TheVariants.{Answers, Reads, Uploads}
 use Rattle.jv_model.specs.tree.Tree.{content_at}
 use Rattle.jv_model.specs.client.Profile.{profile, handle_of}
-use Rattle.jv_model.specs.client.ModelClient.{ModelClient, OpenFile, View, Doing, Stage, Replying, file_of, Cleans, Compacting}
+use Rattle.jv_model.specs.client.ModelClient.{ModelClient, OpenFile, View, Doing, Stage, Replying, file_of, Cleans, Compacting, Requesting}
 use Rattle.jv_model.specs.client.Submission.{by_limits, is_flushed}
 use Rattle.jv_model.specs.journal.State.{State, or_empty, answer_then, reply_of_answer, is_cleaning, is_compaction}
 use Rattle.jv_model.specs.journal.Reading.{Asked, asked_parts, bytes_between, is_fresh, cited_view, part_read, is_full, only_if, joined, read_on, reading}
-use Rattle.jv_model.specs.journal.Steps.{Start, MayStep, MayAnswer, Fails, Settles, AtOnce, CountsCache, ReadsViews, CleanedUp, HasCompacted, HasCollected, HasUploaded, Refuses, TooShort, HasReplaced, Sent, FoundNone, asked_of, file_in_use, may_read_on, is_ready, ReadsFresh, told_of, is_failure}
+use Rattle.jv_model.specs.journal.Steps.{Start, MayStep, MayAnswer, Fails, Settles, AtOnce, CountsCache, ReadsViews, CleanedUp, HasCompacted, HasCollected, HasUploaded, Refuses, TooShort, HasReplaced, Sent, FoundNone, asked_of, file_in_use, may_read_on, is_ready, ReadsFresh, told_of, is_failure, may_end_after, has_judged}
 use Rattle.jv_model.specs.journal.Past.{Setup, Past, at_start, begun_to, reached, reply_of, settled_reply, told_reply, or_no_bytes}
 use Rattle.jv_model.specs.journal.Legal.{Refuses as RefusesSubmission, LacksMemory as RefusalLacks}
 use Rattle.jv_model.specs.journal.Looks.{IsFreshLook}
@@ -205,12 +205,12 @@ module _ (run : Setup) (journal : List Act) (limits : Limits) (start : Start) (a
   answer_read does (Fails m f) = absurd (cc)
   answer_read does (Settles r e same) = settled_read r does same e (stage_flushed c d (Replying r) h.stage e)
   answer_read does (AtOnce a) = at_once does a.ready a.same
-  answer_read does (CountsCache hits misses cached e same) = absurd (cc)
+  answer_read does (CountsCache hits misses cached ready first e same) = absurd (cc)
   answer_read does (ReadsViews r) = views_read does r
   answer_read does (CleanedUp e) = let same = e.same in absurd (cc)
   answer_read does (HasCompacted (TooShort k records e q m few same)) = absurd (cc)
   answer_read does (HasCompacted (HasReplaced k before after e m few same)) = absurd (cc)
-  answer_read does (HasCollected number bytes e j same) = absurd (cc)
+  answer_read does (HasCollected number bytes j same) = absurd (cc)
   answer_read does (HasUploaded e (Sent id index size g same)) = absurd (cc)
   answer_read does (HasUploaded e (FoundNone ready m o same)) = absurd (cc)
   answer_read does (Refuses fault m r same) = absurd (cc)
@@ -261,9 +261,10 @@ module _ (limits : Limits) (start : Start) (alone : Bool) (s : State) (client no
   not_compacting does f (ReadsNothing none e) = let g = subst (λ x. IsTrue (is_compaction x)) e f in cc
   not_compacting does f (ReadsRange e) = let g = subst (λ x. IsTrue (is_compaction x)) e f in cc
 
-  not_collecting : d.does ≡ Collects → DoesRead offset len d.does → ⊥
-  not_collecting e (ReadsNothing none f) = cc
-  not_collecting e (ReadsRange f) = cc
+  not_judging : (does : Does) (stage : Stage) → IsTrue (has_judged does stage) → DoesRead offset len does → ⊥
+  not_judging does (Requesting requests) j (ReadsNothing none f) = let g = subst (λ x. IsTrue (may_end_after x requests)) f j in cc
+  not_judging does (Requesting requests) j (ReadsRange f) = let g = subst (λ x. IsTrue (may_end_after x requests)) f j in cc
+  not_judging does _ j f = absurd (cc)
 
   not_uploading : d.does ≡ Uploads → DoesRead offset len d.does → ⊥
   not_uploading e (ReadsNothing none f) = cc
@@ -293,12 +294,12 @@ module _ (limits : Limits) (start : Start) (alone : Bool) (s : State) (client no
   answer_cites does (Fails m f) = absurd (not_done told fine f)
   answer_cites does (Settles r e same) = settled_cites r does same (stage_flushed c d (Replying r) h.stage e)
   answer_cites does (AtOnce a) = at_once_cites does a.same
-  answer_cites does (CountsCache hits misses cached e same) = absurd (not_counting e does)
+  answer_cites does (CountsCache hits misses cached ready first e same) = absurd (not_counting e does)
   answer_cites does (ReadsViews r) = cited r.first r.second (length r.bytes) told r.same
   answer_cites does (CleanedUp e) = absurd (no_stage does (Cleans e.k) e.stage not_cleaning)
   answer_cites does (HasCompacted (TooShort k records e q m few same)) = absurd (no_stage does (Compacting k) e not_compacting)
   answer_cites does (HasCompacted (HasReplaced k before after e m few same)) = absurd (no_stage does (Compacting k) e not_compacting)
-  answer_cites does (HasCollected number bytes e j same) = absurd (not_collecting e does)
+  answer_cites does (HasCollected number bytes j same) = absurd (not_judging d.does d.stage j does)
   answer_cites does (HasUploaded e u) = absurd (not_uploading e does)
   answer_cites does (Refuses fault m r same) = let off : IsTrue (is_fine_answer (Answered (ToldRefused fault))) = subst (λ t. IsTrue (is_fine_answer (Answered t))) same fine in absurd (cc)
 

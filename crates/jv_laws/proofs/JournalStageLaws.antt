@@ -18,9 +18,9 @@ use Rattle.jv_model.specs.declared.profile.Does.TheVariants.{Answers, Mounts, Tr
 use Rattle.jv_model.specs.client.Pending.{without_range}
 use Rattle.jv_model.specs.client.Origins.{Owed}
 use Rattle.jv_model.specs.client.Profile.{profile, handle_of}
-use Rattle.jv_model.specs.client.ModelClient.{ModelClient, OpenFile, View, Doing, Stage, Cleaning, Files, Blocks, Working, Reading, Missing, LookedAgain, Compacting, Cleans, Requesting, Replying, unmounted, with_stage, views_without, Sessions}
+use Rattle.jv_model.specs.client.ModelClient.{ModelClient, OpenFile, View, Doing, Stage, Cleaning, Files, MoreBlocks, Working, Reading, Missing, LookedAgain, Compacting, Cleans, Requesting, Replying, unmounted, with_stage, views_without, Sessions}
 use Rattle.jv_model.specs.client.Submission.{submission, submitted, by_limits, is_flushed}
-use Rattle.jv_model.specs.journal.State.{is_last, is_collecting, State, with_client, set_client, given, replied, transacted, newly_sustained, next_entry, gift_of, after_transaction, has_session, quieted, begun_quietly, flushing_on, looked, compaction_looked, missed, committed_stage, answer_then, replaced, after_told, answered_client, is_of_another, after_step, of_doing, changed, effect, view_now, is_compaction, is_cleaning, sees_first, first_cleaning}
+use Rattle.jv_model.specs.journal.State.{removes_block, judges, State, with_client, set_client, given, replied, transacted, newly_sustained, next_entry, gift_of, after_transaction, has_session, quieted, begun_quietly, flushing_on, looked, compaction_looked, missed, committed_stage, answer_then, replaced, after_told, answered_client, is_of_another, after_step, of_doing, changed, effect, view_now, is_compaction, is_cleaning, sees_first, first_cleaning}
 use Rattle.jv_model.specs.journal.Reading.{Asked, asked_parts}
 use Rattle.jv_model.specs.journal.Steps.{Start, asked_of, file_in_use, window_to_look, part_in_use, LooksAt, CompactionLooks, CompactionMisses, MissesBlock, cleaning_in, CleansItem, DropsFile, MayStep}
 use Rattle.jv_model.specs.journal.Past.{Setup, Past, at_start, begun_to, reached}
@@ -35,7 +35,7 @@ is_reading (Reads offset len) = true
 is_reading _ = false
 
 abbrev pub requests_alone : Does → Bool
-requests_alone Collects = true
+requests_alone (Collects delete) = true
 requests_alone Uploads = true
 requests_alone _ = false
 
@@ -134,8 +134,8 @@ module _ (s : State) (client : ℕ) (c : ModelClient) (now : ℕ) (d : Doing) (h
   fit_begun Truncates e = refl
   fit_begun Copies e = refl
   fit_begun Compacts e = refl
-  fit_begun DoesClean e = fit_if d.does (has_session s.tree c || is_last Sessions) _ _ (ap is_cleaning e) refl
-  fit_begun Collects e = ap requests_alone e
+  fit_begun DoesClean e = fit_if d.does (has_session s.tree c || removes_block Sessions) _ _ (ap is_cleaning e) refl
+  fit_begun (Collects delete) e = ap requests_alone e
   fit_begun Uploads e = ap requests_alone e
 
   fit_flushing : (quiets started : ℕ) → IsTrue (stage_fits d.does (flushing_on s c now quiets started))
@@ -147,8 +147,8 @@ module _ (s : State) (client : ℕ) (c : ModelClient) (now : ℕ) (d : Doing) (h
   fit_quieted (Missing misses window owed) g = fit_refused d.does (Missing misses window owed) _ g
   fit_quieted (LookedAgain misses window owed) g = g
   fit_quieted (Compacting k) g = fit_if d.does (is_some k.missed) _ _ (fit_refused d.does (Compacting k) _ g) g
-  fit_quieted (Cleans k) g = fit_if d.does (has_session s.tree c || is_last k.part) _ _ g refl
-  fit_quieted (Requesting requests) g = fit_if d.does (is_collecting d.does && (requests == 1) && not (has_session s.tree c)) _ _ refl g
+  fit_quieted (Cleans k) g = fit_if d.does (has_session s.tree c || removes_block k.part) _ _ g refl
+  fit_quieted (Requesting requests) g = fit_if d.does (judges d.does requests && not (has_session s.tree c)) _ _ refl g
   fit_quieted (Replying answer) g = refl
 
 -- what an entry says of its operation
@@ -178,7 +178,7 @@ cleaning_fits c d (Working quiets started) k h e = cleaning_if d.does _ k e
 cleaning_fits c d (Cleans k') k h e = h
 cleaning_fits c d _ k h e = absurd (cc)
 
-row_cleans : (s : State) (c : ModelClient) (d : Doing) (table key : ℕ) (b : Bool) → IsTrue (stage_fits d.does d.stage) → MatchBool b (CleansItem s c d Files × DropsFile s key) ((table ≡ 9) × CleansItem s c d Blocks) → IsTrue (is_cleaning d.does)
+row_cleans : (s : State) (c : ModelClient) (d : Doing) (table key : ℕ) (b : Bool) → IsTrue (stage_fits d.does d.stage) → MatchBool b (CleansItem s c d Files × DropsFile s key) ((table ≡ 9) × CleansItem s c d MoreBlocks) → IsTrue (is_cleaning d.does)
 row_cleans s c d table key true h may = cleaning_fits c d d.stage may.0.k h may.0.stage
 row_cleans s c d table key false h may = cleaning_fits c d d.stage may.1.k h may.1.stage
 

@@ -1,22 +1,25 @@
 -- What stays true of a journal's state, by what its entries may be.
-use Rattle.std.proofs.Common.{◌≡◌, ℕ, zero, suc, ◌+◌, ◌-◌, ◌≤◌, ◌<◌, Bool, true, false, ◌==◌, if◌then◌else◌, IsSomeAnd, MatchBool, List, [], ◌∷◌, ◌++◌, length, slice_get, Option, None, Some, refl, sym, ap, subst, ◌∙◌, arith, append_assoc}
+use Rattle.std.proofs.Common.{◌≡◌, ℕ, zero, suc, ◌+◌, ◌-◌, ◌≤◌, ◌<◌, Bool, true, false, ◌&&◌, ◌||◌, ◌==◌, if◌then◌else◌, IsTrue, IsSomeAnd, MatchBool, List, [], ◌∷◌, ◌++◌, length, slice_get, Option, None, Some, refl, sym, ap, subst, ◌∙◌, arith, append_assoc}
+use Rattle.std.specs.List.{list_any}
 use Rattle.std.proofs.lemmas.List.{append-nil}
 use Rattle.std.proofs.lemmas.Option.{slice_get_past}
 use Rattle.jv_model.specs.declared.act.TheConstants.{NO_CLIENT}
 use Rattle.jv_model.specs.declared.act.Act.{Act}
-use Rattle.jv_model.specs.declared.act.ActKind.TheVariants.{Crashed, Ticked, Answered}
+use Rattle.jv_model.specs.declared.act.ActKind.{ActKind}
+use Rattle.jv_model.specs.declared.act.ActKind.TheVariants.{Settled, Quiet, Crashed, Ticked, Answered}
 use Rattle.jv_model.specs.declared.act.Told.TheVariants.{Refused as ToldRefused}
 use Rattle.jv_model.specs.declared.fault.Fault.{Fault}
 use Rattle.jv_model.specs.declared.fault.Fault.TheVariants.{NoMemory}
 use Rattle.jv_model.specs.declared.op.Op.{Op}
 use Rattle.jv_model.specs.declared.op.Line.{Line}
 use Rattle.jv_model.specs.declared.op.Line.TheVariants.{Empty, Do, Begin, Step, Run, Crash, Drain, Tick}
+use Rattle.jv_model.specs.client.Origins.{Owed}
 use Rattle.jv_model.specs.client.ModelClient.{Doing}
 use Rattle.jv_model.specs.client.Submission.{submission, submitted}
 use Rattle.jv_model.specs.journal.State.{State, state_at_start, set_client, effect}
 use Rattle.jv_model.specs.journal.Steps.{MayStep, IsEntry}
 use Rattle.jv_model.specs.journal.Past.{Setup, Past, Due, NoMore, Refusal, MayLack, ToAnswer, OneStep, StepMade, CrashEntry, TickEntry, DrainEntries, at_start, begun, begun_by, begun_by_due, begun_to, begin_from, begin_next, turned, is_busy, is_workers, advance, past, reached}
-use Rattle.jv_model.specs.journal.Legal.{Allowed, AllAllowed, IsRefusal, IsPublish, Drains, OfClient, OfLine, OfWorker}
+use Rattle.jv_model.specs.journal.Legal.{Allowed, AllAllowed, IsRefusal, IsPublish, IsPublishOf, Drains, OfClient, OfLine, OfWorker}
 use Rattle.jv_model.specs.journal.Looks.{entry_at}
 use Rattle.jv_laws.proofs.JournalGrowthLaws.{past-append, advanced, begun_frame, turned_begin_next}
 
@@ -54,6 +57,22 @@ entry_within xs (suc i) P h = let rest = get_within xs i P h in omega (arith, re
 pub none_entered : (n : ℕ) (P : Act → Type 0) → IsSomeAnd (entry_at [] n) P → ⊥
 none_entered zero P h = h
 none_entered (suc n) P h = h
+
+-- publishes
+
+either_kept : (a b x y : Bool) → (IsTrue x → IsTrue y) → IsTrue (a && b || x) → IsTrue (a || y)
+either_kept true b x y f h = refl
+either_kept false b x y f h = f h
+
+pub owed_of : (os : List Owed) (client commit : ℕ) → IsTrue (list_any (λ (o : Owed). (o.commit == commit) && (o.client == client)) os) → IsTrue (list_any (λ (o : Owed). o.commit == commit) os)
+owed_of [] client commit h = absurd (cc)
+owed_of (o ∷ os) client commit h = either_kept (o.commit == commit) (o.client == client) _ _ (owed_of os client commit) h
+
+-- a publish of a client's block is one of a block
+pub publish_of : (s : State) (client : ℕ) (kind : ActKind) → IsPublishOf s client kind → IsPublish s kind
+publish_of s client (Settled commit) h = owed_of s.owed client commit h
+publish_of s client Quiet h = tt
+publish_of s client _ h = absurd h
 
 -- what an entry is
 

@@ -4,8 +4,10 @@ pub mod EndedLines
 pub mod EntriesOfLines
 pub mod JournalAnswerLaws
 pub mod JournalCleaningLaws
+pub mod JournalClockLaws
 pub mod JournalCloseLaws
 pub mod JournalDoingLaws
+pub mod JournalDueLaws
 pub mod JournalGrowthLaws
 pub mod JournalLineLaws
 pub mod JournalLooksLaws
@@ -13,5 +15,6 @@ pub mod JournalOwedLaws
 pub mod JournalReadLaws
 pub mod JournalStageLaws
 pub mod JournalStates
+pub mod JournalUploadLaws
 pub mod NotedLines
 pub mod StepsOnLines

@@ -1,28 +1,29 @@
 -- What holds of every journal that is legal so far, in terms of its entries' numbers and lines.
 use Rattle.std.specs.Prelude.{◌≡◌, ℕ, zero, suc, ◌+◌, ◌-◌, ◌≤◌, ◌<◌, Bool, true, false, ◌&&◌, not, ◌==◌, nat_lt, nat_le, if◌then◌else◌, IsTrue, IsSomeAnd, IfSome, ◌↔◌, ◌⊎◌, List, [], ◌∷◌, ◌++◌, length, take, slice_get, Option, None, Some}
-use Rattle.std.specs.List.{AllByRecursion, list_any}
-use Rattle.jv_model.specs.declared.limits.TheConstants.{LAST_MOMENT}
+use Rattle.std.specs.List.{AllByRecursion}
+use Rattle.jv_model.specs.declared.limits.TheConstants.{LAST_MOMENT, MAX_ITEMS}
 use Rattle.jv_model.specs.declared.act.Act.{Act}
 use Rattle.jv_model.specs.declared.act.ActKind.{ActKind}
-use Rattle.jv_model.specs.declared.act.ActKind.TheVariants.{Mounted, Meta, Opened, Commit, Settled, Expired, Purged, Cleaned, Crashed, Ticked, Answered}
-use Rattle.jv_model.specs.client.Origins.{Owed}
+use Rattle.jv_model.specs.declared.act.ActKind.TheVariants.{Mounted, Meta, Opened, Commit, Settled, Expired, Purged, Cleaned, Quiet, Crashed, Ticked, Answered}
 use Rattle.jv_model.specs.tree.Tree.{Tree, content_at, node_at}
 use Rattle.jv_model.specs.FiniteMap.{get}
+use Rattle.jv_model.specs.tree.Trash.{due_purge}
+use Rattle.jv_model.specs.tree.Sessions.{due_session}
 use Rattle.jv_model.specs.declared.act.TheConstants.{NO_CLIENT}
 use Rattle.jv_model.specs.declared.act.Told.TheVariants.{Fine, Looks, Refused as ToldRefused}
-use Rattle.jv_model.specs.declared.fault.Fault.TheVariants.{Stale, NoMemory}
+use Rattle.jv_model.specs.declared.fault.Fault.TheVariants.{Stale, NoMemory, InProgress}
 use Rattle.jv_model.specs.declared.fault.Gone.TheVariants.{Session, Node}
 use Rattle.jv_model.specs.declared.op.Op.{Op}
 use Rattle.jv_model.specs.declared.op.Op.TheVariants as op
 use Rattle.jv_model.specs.client.Pending.{pending_of}
-use Rattle.jv_model.specs.client.ModelClient.{ModelClient, OpenFile, View, Doing, file_of, inode_at, session_of}
+use Rattle.jv_model.specs.client.ModelClient.{ModelClient, OpenFile, View, Doing, Stage, Cleaning, Cleans, file_of, inode_at, session_of}
 use Rattle.jv_model.specs.journal.State.{State, effect, or_empty, transacted}
-use Rattle.jv_model.specs.journal.Steps.{told_of}
+use Rattle.jv_model.specs.journal.Steps.{told_of, items, is_owed_by}
 use Rattle.jv_model.specs.declared.op.Reply.{Reply}
 use Rattle.jv_model.specs.journal.Reading.{Asked, asked_parts, bytes_between, fresh_view, is_full}
 use Rattle.jv_model.specs.declared.op.Reply.TheVariants.{Data}
-use Rattle.jv_model.specs.journal.Past.{Setup, Past, Refusal, at_start, begun_to, reached, line_reply, reply_of, DrainEntries}
-use Rattle.jv_model.specs.journal.Legal.{AllAllowed, Legal, may_be_cut}
+use Rattle.jv_model.specs.journal.Past.{Setup, Past, Refusal, at_start, begun_to, reached, line_reply, reply_of, DrainEntries, asks_clock}
+use Rattle.jv_model.specs.journal.Legal.{AllAllowed, Legal, may_be_cut, clock_moment, tick_of}
 use Rattle.jv_model.specs.declared.act.Told.{Told}
 use Rattle.jv_model.specs.declared.fault.Fault.{Fault}
 use Rattle.jv_model.specs.declared.op.Line.{Line}
@@ -57,6 +58,16 @@ abbrev pub FollowsClock : Type 0
 FollowsClock = (run : Setup) (journal : List Act) → AllAllowed (at_start run) journal
     → (earlier later : ℕ) → earlier ≤ later → IfSome (entry_at journal earlier) (λ a. IfSome (entry_at journal later) (λ b. Follows a b))
 
+-- An entry that asks the clock has the moment of the clock's next answer, and another one that of the entry before it.
+pub record HasMoment (answers : ℕ → ℕ) (p : Past) (act : Act) : Type 0 where
+  pub asked : IsTrue (asks_clock p act) → act.at ≡ clock_moment p (p.ticks + tick_of act.kind) answers
+  pub unasked : asks_clock p act ≡ false → act.at ≡ p.at
+
+-- Where the clock's answers are known, they and the ticks determine the moments. Entries of uploading threads are left out.
+abbrev pub MomentsAreTheClocks : Type 0
+MomentsAreTheClocks = (run : Setup) (journal : List Act) (act : Act) → AllAllowed (at_start run) (journal ++ act ∷ []) → run.by_worker (1 + length journal) ≡ false
+    → (answers : ℕ → ℕ) → run.clock ≡ Some answers → HasMoment answers (begun_to act.line (reached run journal)) act
+
 -- an entry of one client changes nothing of another
 abbrev pub OthersStay : Type 0
 OthersStay = (s : State) (act : Act) (client : ℕ) → (client ≡ act.client → ⊥) → (effect s act).clients client ≡ s.clients client
@@ -82,29 +93,38 @@ pub record IsOwed (journal : List Act) (client commit : ℕ) : Type 0 where
   pub made : IsSomeAnd (entry_at journal commit) (λ act. (act.client ≡ client) × IsTrue (leaves_staged act.kind))
   pub unsettled : (later : ℕ) → commit < later → IfSome (entry_at journal later) (λ act. settles commit act.kind ≡ false)
 
-abbrev pub is_owed_by : ℕ → ℕ → List Owed → Bool
-is_owed_by client commit owed = list_any (λ o. (o.commit == commit) && (o.client == client)) owed
-
 -- what counts as owed is what the entries say
 abbrev pub OwedCommits : Type 0
 OwedCommits = (run : Setup) (journal : List Act) → AllAllowed (at_start run) journal
-    → (client commit : ℕ) → IsTrue (is_owed_by client commit (reached run journal).state.owed) ↔ IsOwed journal client commit
+    → (client commit : ℕ) → IsTrue (is_owed_by (reached run journal).state client commit) ↔ IsOwed journal client commit
 
 -- a commit that some client owes
 pub record IsOwedBySome (journal : List Act) (commit : ℕ) : Type 0 where
   pub client : ℕ
   pub owed : IsOwed journal client commit
 
+-- A settled commit is owed by some client: by the one whose upload settles it, or whose line of the script waits for that.
+pub record SettlesOf (run : Setup) (journal : List Act) (act : Act) (commit : ℕ) : Type 0 where
+  pub by_some : IsOwedBySome journal commit
+  pub by_own : (act.client ≡ NO_CLIENT → ⊥) → IsOwed journal act.client commit
+  pub by_line : (client : ℕ) → (begun_to act.line (reached run journal)).due ≡ DrainEntries client → run.by_worker (1 + length journal) ≡ false → IsOwed journal client commit
+
 -- only what is owed is settled, and so at most once
 abbrev pub SettlesOwed : Type 0
 SettlesOwed = (run : Setup) (journal : List Act) (act : Act) → AllAllowed (at_start run) (journal ++ act ∷ [])
-    → (commit : ℕ) → act.kind ≡ Settled commit → IsOwedBySome journal commit
+    → (commit : ℕ) → act.kind ≡ Settled commit → SettlesOf run journal act commit
 
 -- a `drain` is done only where the client owes no commit
 abbrev pub DrainsSettleAll : Type 0
 DrainsSettleAll = (run : Setup) (journal : List Act) (act : Act) → AllAllowed (at_start run) (journal ++ act ∷ [])
     → (client : ℕ) → (begun_to act.line (reached run journal)).due ≡ DrainEntries client → (a b c d : ℕ) → act.kind ≡ Answered (Fine a b c d)
     → (commit : ℕ) → IsOwed journal client commit → ⊥
+
+-- where no threads upload, an `upload` finds no block only where its client owes no commit
+abbrev pub UploadsFindAll : Type 0
+UploadsFindAll = (run : Setup) (journal : List Act) (act : Act) → AllAllowed (at_start run) (journal ++ act ∷ []) → run.uploads ≡ 0 → (act.client ≡ NO_CLIENT → ⊥)
+    → (d : Doing) → ((begun_to act.line (reached run journal)).state.clients act.client).doing ≡ Some d → d.op ≡ op.Upload → act.kind ≡ Answered (Fine 0 0 0 0)
+    → (commit : ℕ) → IsOwed journal act.client commit → ⊥
 
 -- fresh looks
 
@@ -363,3 +383,47 @@ cleans _ = false
 abbrev pub CleansOnlyInClean : Type 0
 CleansOnlyInClean = (run : Setup) (journal : List Act) (act : Act) → AllAllowed (at_start run) (journal ++ act ∷ []) → (act.client ≡ NO_CLIENT → ⊥) → IsTrue (cleans act.kind)
     → (d : Doing) → ((begun_to act.line (reached run journal)).state.clients act.client).doing ≡ Some d → d.op ≡ op.Clean
+
+-- whether an entry ends its client's operation: a crash and an answer do, but for the refusal of another operation meanwhile
+abbrev pub ends_operation : ActKind → Bool
+ends_operation Crashed = true
+ends_operation (Answered (ToldRefused InProgress)) = false
+ends_operation (Answered told) = true
+ends_operation _ = false
+
+-- A request of the client's operation in progress changed nothing, and this held in the state before it, at its moment. So
+-- many entries stand before it.
+pub record FoundNothing (run : Setup) (journal : List Act) (client before : ℕ) (Holds : State → ℕ → Type 0) : Type 0 where
+  pub act : Act
+  pub there : entry_at journal (suc before) ≡ Some act
+  pub own : act.client ≡ client
+  pub quiet : act.kind ≡ Quiet
+  pub held : Holds (begun_to act.line (reached run (take before journal))).state act.at
+  pub goes_on : (later : ℕ) → suc before < later → IfSome (entry_at journal later) (λ e. e.client ≡ client → ends_operation e.kind ≡ false)
+
+-- no session but the client's own is due for expiry
+abbrev pub NoSessionDue : ℕ → State → ℕ → Type 0
+NoSessionDue client s now = due_session s.tree (session_of (s.clients client)) now ≡ None
+
+-- no directory of an hour is due for its purge
+abbrev pub NoHourDue : State → ℕ → Type 0
+NoHourDue s now = due_purge s.tree now ≡ None
+
+-- The operation in progress found no session that was due, and later no directory of an hour that was.
+pub record FoundNoneDue (run : Setup) (journal : List Act) (client : ℕ) : Type 0 where
+  pub first : ℕ
+  pub second : ℕ
+  pub later : first < second
+  pub sessions : FoundNothing run journal client first (NoSessionDue client)
+  pub hours : FoundNothing run journal client second NoHourDue
+
+-- a cleaning had as many items as one may have, or found none due
+pub data MayEndCleaning (run : Setup) (journal : List Act) (client : ℕ) (stage : Stage) : Type 0 where
+  HadMost : (k : Cleaning) → stage ≡ Cleans k → items k ≡ MAX_ITEMS → MayEndCleaning run journal client stage
+  HadFewer : FoundNoneDue run journal client → MayEndCleaning run journal client stage
+
+-- a `clean` that is done had as many items as one may have, or found no session and then no hour that was due
+abbrev pub CleansWhatIsDue : Type 0
+CleansWhatIsDue = (run : Setup) (journal : List Act) (act : Act) → AllAllowed (at_start run) (journal ++ act ∷ []) → (act.client ≡ NO_CLIENT → ⊥)
+    → (d : Doing) → ((begun_to act.line (reached run journal)).state.clients act.client).doing ≡ Some d → d.op ≡ op.Clean
+    → (sessions trash files slices : ℕ) → act.kind ≡ Answered (Fine sessions trash files slices) → MayEndCleaning run journal act.client d.stage

@@ -1,5 +1,5 @@
 //! What holds of every journal that is legal so far. Each law is a function that does nothing.
-ghost use Rattle.jv_laws.specs.Laws.{ReadsCiteLooks, CleansOnlyInClean, RefusedLinesHaveOneEntry, DropsOnlyGone, ExpiresOnlyGone, DrainsSettleAll, EndedLinesHaveEntries, LinesHaveEntries, ReadsAreOfFreshLooks, AnswersModel, ClosesCommitWrites, NothingPending, FreshViewsAreFreshLooks, SettlesOwed, OwedCommits, JournalsGrow, EarlierTextStays, FollowsClock, OthersStay, EntriesAreCounted};
+ghost use Rattle.jv_laws.specs.Laws.{ReadsCiteLooks, CleansOnlyInClean, RefusedLinesHaveOneEntry, DropsOnlyGone, ExpiresOnlyGone, DrainsSettleAll, EndedLinesHaveEntries, LinesHaveEntries, ReadsAreOfFreshLooks, AnswersModel, ClosesCommitWrites, NothingPending, FreshViewsAreFreshLooks, SettlesOwed, OwedCommits, JournalsGrow, EarlierTextStays, FollowsClock, MomentsAreTheClocks, UploadsFindAll, OthersStay, EntriesAreCounted, CleansWhatIsDue};
 
 /// A journal is legal so far if and only if each part of it is, from where the entries before it lead.
 pub fn journals_grow()
@@ -14,6 +14,12 @@ pub fn earlier_text_stays()
 /// Lines and moments never fall, and no moment is past the last one.
 pub fn follows_clock()
     ensures { FollowsClock }
+{}
+
+/// Where the clock's answers are known, they and the ticks determine the moment of each entry that asks the clock, and
+/// another entry has that of the one before it.
+pub fn moments_are_the_clocks()
+    ensures { MomentsAreTheClocks }
 {}
 
 /// An entry changes nothing of another client.
@@ -31,7 +37,8 @@ pub fn owed_commits()
     ensures { OwedCommits }
 {}
 
-/// A publish settles an owed commit, and so at most one settles it.
+/// A publish settles an owed commit, and so at most one settles it. An upload settles those of its own client, and a
+/// `drain` those of the client that it names.
 pub fn settles_owed()
     ensures { SettlesOwed }
 {}
@@ -80,9 +87,20 @@ pub fn drains_settle_all()
     ensures { DrainsSettleAll }
 {}
 
+/// Where no threads upload, an `upload` finds no block only where its client owes no commit.
+pub fn uploads_find_all()
+    ensures { UploadsFindAll }
+{}
+
 /// A cleaning ends only sessions whose time has come, and not the cleaner's own.
 pub fn expires_only_gone()
     ensures { ExpiresOnlyGone }
+{}
+
+/// A `clean` that is done had as many items as one may have, or some request of it found no session that was due for its
+/// expiry, and a later one no directory of an hour that was due.
+pub fn cleans_what_is_due()
+    ensures { CleansWhatIsDue }
 {}
 
 /// A cleaning drops only rows of removed files, those of each once.
