@@ -245,6 +245,13 @@ lost_session_is_allowed =
     ∴ record { line = refl; complete = refl; moment = refl; stands = record { own = refl; may = record { doing = _; busy = refl; begins_is = refl; may = refl } } }
     ∴ tt
 
+-- a cleaning that passes by a session that is due
+cleaning_leaves_a_session : (more : List Act) → AllAllowed (at_start lost_session_run) (take 6 lost_session_journal ++ entry_at 1060 6 1 Quiet ∷ more) → ⊥
+unfolding journals_compute
+cleaning_leaves_a_session more all =
+    let h = entry_is_allowed (at_start lost_session_run) (take 6 lost_session_journal) (entry_at 1060 6 1 Quiet) more all in
+    let step = own_step h.stands.may refl in never step
+
 -- a collection that is done though its session was gone
 collection_without_session : (more : List Act) → AllAllowed (at_start lost_session_run) (lost_session_journal ++ entry_at 1060 7 0 (Answered (Fine 0 0 0 0)) ∷ more) → ⊥
 unfolding journals_compute
