@@ -49,9 +49,9 @@ pub not_settled : (p : Progress) → settled_reply (stage_of p) ≡ None
 not_settled (Working quiets started) = refl
 not_settled Reading = refl
 
-pub not_ending : (p : Progress) (d : ModelDoing) → must_answer (record d { stage = stage_of p }) ≡ false
-not_ending (Working quiets started) d = refl
-not_ending Reading d = refl
+pub not_ending : (d : ModelDoing) (p : Progress) → d.stage ≡ stage_of p → must_answer d ≡ false
+not_ending d (Working quiets started) e = ap (λ stage. must_answer (record d { stage = stage })) e
+not_ending d Reading e = ap (λ stage. must_answer (record d { stage = stage })) e
 
 -- out of memory: the operation itself is refused
 own-no_memory : (p : Progress) → is_of_another (stage_of p) (ToldRefused NoMemory) ≡ false
@@ -69,7 +69,7 @@ fails now entry h store d busy ready = record {
   falls = refl;
   leads = λ s number has_store client.
       steps_alone s h.id now (doing_of d) (ToldRefused NoMemory) (Refused NoMemory) (ended h) store (client-doing d busy client) (or_right (not d.has_moved) true refl) (record {
-        may = λ start alone. Fails (not_ending d.progress (doing_of d)) refl;
+        may = λ start alone. Fails (not_ending (doing_of d) d.progress refl) refl;
         own = own-no_memory d.progress;
         says = ap (λ o. elim o as (λ _. Reply) [ None ↦ Refused NoMemory | Some settled ↦ settled ]) (not_settled d.progress);
       })

@@ -31,6 +31,7 @@ use Rattle.jv_files.specs.declared.files.StoredFile.{StoredFile}
 use Rattle.jv_files.specs.Stored.{IsFile, Commits, with_commit, with_segment}
 use Rattle.jv_files.specs.Holds.{HasFiles}
 use Rattle.jv_files.proofs.TreeLaws.{has_files-committed, sessions-committed, next_session-committed, setting-committed}
+use Rattle.jv_model.proofs.ClientsLaws.{own_client}
 use Rattle.jv_client.specs.declared.doing.Doing.{Doing}
 use Rattle.jv_client.specs.declared.doing.Progress.TheVariants as progress
 use Rattle.jv_client.specs.declared.made.Made.{Made}
@@ -44,7 +45,7 @@ use Rattle.jv_client.specs.Flushing.{FitsIf, Follows, Answers, GoesOn as Follows
 use Rattle.jv_client.proofs.TableLaws.{all-with_file, file_of-changed, the_some}
 use Rattle.jv_client.proofs.StoreLaws.{session-there, file_of_inode, is_stored, node-there}
 use Rattle.jv_client.proofs.HeldLaws.{continues-same, all_of_file-later, held-later, held-doing}
-use Rattle.jv_client.proofs.StepLaws.{own_client, with_stage-doing, doing_of, is_doing_of, client-doing, steps_on, steps_after, makes_as}
+use Rattle.jv_client.proofs.StepLaws.{with_stage-doing, doing_of, is_doing_of, client-doing, steps_on, steps_after, makes_as}
 use Rattle.jv_client.proofs.FormLaws.{FlushesFile, flushes_file, moved_for, names_it, closes_it, reads_none, reads_it, in_progress, under_way}
 use Rattle.jv_client.proofs.AnswerLaws.{answer-releases, held-closed}
 use Rattle.jv_client.proofs.UnseenLaws.{table-committed, views-committed, all_of_file-unseen, unseen-own, some-unseen, reads-unseen}

@@ -21,6 +21,7 @@ use Rattle.jv_files.specs.declared.files.StoredFile.{StoredFile}
 use Rattle.jv_files.specs.Stored.{IsFile, stored_byte}
 use Rattle.jv_files.specs.Holds.{Keeps}
 use Rattle.jv_files.specs.Shown.{shown_between, as_seen}
+use Rattle.jv_model.proofs.ClientsLaws.{own_client}
 use Rattle.jv_client.specs.declared.doing.Doing.{Doing}
 use Rattle.jv_client.specs.declared.doing.Flush.TheVariants as flush
 use Rattle.jv_client.specs.declared.doing.Progress.{Progress}
@@ -34,7 +35,7 @@ use Rattle.jv_client.specs.UnderWay.{IsOfFile, IsReady, IsUnderWay, keeps, mount
 use Rattle.jv_client.proofs.TableLaws.{all-at, file-same, same-with_file, there_in, none_in}
 use Rattle.jv_client.proofs.StoreLaws.{session-there, IsStored, is_stored, node-there}
 use Rattle.jv_client.proofs.HeldLaws.{views-later}
-use Rattle.jv_client.proofs.StepLaws.{own_client, with_stage-doing, doing_of, client-doing}
+use Rattle.jv_client.proofs.StepLaws.{with_stage-doing, doing_of, client-doing}
 use Rattle.jv_client.proofs.FormLaws.{flushes_otherwise, names_it, reads_here, under_way}
 use Rattle.jv_client.proofs.AnswerLaws.{written_out}
 

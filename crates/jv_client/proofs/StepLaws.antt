@@ -1,7 +1,6 @@
 -- A step of one entry or two: that the model allows it, and what it makes of the client; and a step under other names.
-use Rattle.std.proofs.Common.{◌≡◌, ℕ, ◌+◌, Bool, true, false, [], ◌∷◌, Option, None, Some, inl, inr, refl, sym, ap, subst, ◌∙◌, arith}
+use Rattle.std.proofs.Common.{◌≡◌, ℕ, ◌+◌, Bool, true, false, [], ◌∷◌, Option, None, Some, refl, sym, ap, subst, ◌∙◌, arith}
 use Rattle.std.specs.Prelude.{if◌then◌else◌}
-use Rattle.std.proofs.lemmas.Bool.Decides.{eqb_tells}
 use Rattle.jv_model.specs.declared.act.Act.{Act}
 use Rattle.jv_model.specs.declared.act.ActKind.{ActKind}
 use Rattle.jv_model.specs.declared.act.ActKind.TheVariants.{Answered, Quiet}
@@ -10,10 +9,11 @@ use Rattle.jv_model.specs.declared.op.Op.{Op}
 use Rattle.jv_model.specs.declared.op.Reply.{Reply}
 use Rattle.jv_model.specs.declared.op.Step.TheVariants.{More, Done}
 use Rattle.jv_model.specs.client.ModelClient.{ModelClient, Doing as ModelDoing, Stage, with_stage}
-use Rattle.jv_model.specs.journal.State.{State, with_client, after_told, answered_client, is_of_another, of_doing, quieted}
+use Rattle.jv_model.specs.journal.State.{State, after_told, answered_client, is_of_another, of_doing, quieted}
 use Rattle.jv_model.specs.journal.Steps.{Start, MayAnswer, IsEntry, begins_step}
 use Rattle.jv_model.specs.journal.Past.{ends_in_step, reply_of}
 use Rattle.jv_model.specs.journal.Stepping.{GoesOn, AnswersAlone, AnswersAfter, entry_of, stepped, is_answer, answer_of}
+use Rattle.jv_model.proofs.ClientsLaws.{own_client}
 use Rattle.jv_client.specs.declared.doing.Doing.{Doing}
 use Rattle.jv_client.specs.declared.made.Made.{Made}
 use Rattle.jv_client.specs.ClientValue.{ClientValue}
@@ -22,13 +22,7 @@ use Rattle.jv_client.specs.Held.{IsDoing, IsClient, flush_of_code, stage_of}
 use Rattle.jv_client.specs.Makes.{StepsTo, Makes}
 use Rattle.jv_client.proofs.TableLaws.{there_in}
 
--- the clients of a state
-
-pub own_client : (clients : ℕ → ModelClient) (at : ℕ) (c : ModelClient) → with_client clients at c at ≡ c
-own_client clients at c = elim (eqb_tells at at) [
-  | inl same ↦ subst (λ b. (if b then c else clients at) ≡ c) (sym same.0) refl
-  | inr other ↦ absurd (other.1 refl)
-]
+-- what the model's client is doing
 
 pub with_stage-doing : (stage : Stage) (c : ModelClient) (d : ModelDoing) → c.doing ≡ Some d → with_stage stage c ≡ record c { doing = Some (record d { stage = stage; moved = true }) }
 with_stage-doing stage c d e =
@@ -49,7 +43,6 @@ doing-is m d h =
     ∙ ap (λ stage. record m { op = d.op; does = d.does; flush = flush_of_code d.flush; stage = stage }) h.stage
     ∙ ap (λ moved. record m { op = d.op; does = d.does; flush = flush_of_code d.flush; stage = stage_of d.progress; moved = moved }) h.moved
 
--- what the model's client is doing
 pub client-doing : {m : ModelClient} {count : ℕ} {store : StoreValue} {h : ClientValue} (d : Doing) → h.doing ≡ Some d → IsClient m count store h → m.doing ≡ Some (doing_of d)
 client-doing {m} {count} {store} {h} d busy is = let there = there_in IsDoing m.doing h.doing d busy is.doing in there.1 ∙ ap Some (doing-is there.0 d there.2)
 

@@ -5,6 +5,7 @@ use Rattle.std.specs.Prelude.{nat_le, is_some, ◌==◌, if◌then◌else◌}
 use Rattle.std.proofs.lemmas.Bool.{le-leb}
 use Rattle.std.proofs.lemmas.Bool.Decides.{nat_tests}
 use Rattle.jv_model.specs.client.ModelClient.{file_in, file_of, free_from, open_count, with_file}
+use Rattle.jv_files.proofs.FileLaws.{slice_get-set}
 use Rattle.jv_client.specs.Held.{SamePlace, SameTable}
 
 -- one table
@@ -58,17 +59,12 @@ with_file-open files handle file new o =
     let index : handle - 1 ≡ o.place = omega (arith, number) in
     ap (λ b. if b then slice_set files (handle - 1) new else files ++ new ∷ []) low ∙ ap (λ k. slice_set files k new) index
 
-set-in : {X : Type 0} (files : List (Option X)) (k : ℕ) (new : Option X) → k < length files → file_in (slice_get (slice_set files k new) k) ≡ new
-set-in [] k new h = absurd (omega (arith, h))
-set-in (x ∷ xs) zero new h = refl
-set-in (x ∷ xs) (suc k) new h = set-in xs k new (omega (arith, h))
-
 -- and names what it is given
 pub file_of-with_file : {X : Type 0} (files : List (Option X)) (handle : ℕ) (file : X) (new : Option X) → file_of files handle ≡ Some file → file_of (with_file handle new files) handle ≡ new
 file_of-with_file files handle file new e =
     let o = open_at files handle file e in
     ap (λ files. file_of files handle) (with_file-open files handle file new o) ∙ ap (λ n. file_of (slice_set files o.place new) n) o.number
-    ∙ (let next : 1 + o.place ≡ suc o.place = omega arith in ap (λ n. file_of (slice_set files o.place new) n) next) ∙ file_of-place (slice_set files o.place new) o.place ∙ set-in files o.place new o.inside
+    ∙ (let next : 1 + o.place ≡ suc o.place = omega arith in ap (λ n. file_of (slice_set files o.place new) n) next) ∙ file_of-place (slice_set files o.place new) o.place ∙ ap file_in (slice_get-set files o.place new o.inside)
 
 -- what holds of all places holds of an open handle
 all-in : {X : Type 0} (Q : Option X → Type 0) (files : List (Option X)) (k : ℕ) (file : X) → AllByRecursion Q files → file_in (slice_get files k) ≡ Some file → Q (Some file)

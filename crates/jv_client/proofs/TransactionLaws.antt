@@ -21,6 +21,7 @@ use Rattle.jv_model.specs.journal.Reading.{fresh_view, first_that, is_fresh}
 use Rattle.jv_model.specs.journal.State.{State, has_session, Gift, NewSession, NewHandle, Nothing, caller, transacted, newly_sustained, gift_of, given, replied, after_transaction, of_doing, after_told}
 use Rattle.jv_model.specs.journal.Steps.{Start, IsEntry, MayStep, Transaction, Settles, entry_of_gift, told_of, is_failure, is_ready, transacts as transacts_in, begins_step}
 use Rattle.jv_model.specs.journal.Stepping.{is_answer, entry_of, stepped}
+use Rattle.jv_model.proofs.ClientsLaws.{own_client, doing_given}
 use Rattle.jv_client.specs.declared.doing.Doing.{Doing}
 use Rattle.jv_client.specs.declared.doing.Flush.TheVariants as flush
 use Rattle.jv_client.specs.declared.doing.Progress.TheVariants as progress
@@ -36,7 +37,7 @@ use Rattle.jv_client.specs.Transacting.{Transacts, LeadsTo, Gives, IsGift, given
 use Rattle.jv_client.proofs.TableLaws.{all-with_file, free-same, same-with_files, the_some}
 use Rattle.jv_client.proofs.StoreLaws.{session-there}
 use Rattle.jv_client.proofs.HeldLaws.{held-later, held-doing, grows-same, all_of_file-later}
-use Rattle.jv_client.proofs.StepLaws.{own_client, with_stage-doing, doing_of, client-doing, steps_after, makes_as}
+use Rattle.jv_client.proofs.StepLaws.{with_stage-doing, doing_of, client-doing, steps_after, makes_as}
 use Rattle.jv_client.proofs.FormLaws.{no_segment, not_begun, under_way}
 use Rattle.jv_client.proofs.TransactingLaws.{mount_made, mount_full}
 
@@ -125,11 +126,6 @@ newly_sustained-none before after c same =
     none_sustained (is_sustained after (session_of c)) (is_sustained before (session_of c)) (held_inodes c.handles)
     (λ inode. ap (λ sustained. is_some (get sustained (record { sid = session_of c; inode = inode }))) same)
 
-given-doing : (entry : ℕ) (what : Does) (gift : Gift) (c : ModelClient) → (given entry what gift c).doing ≡ c.doing
-given-doing entry what (NewSession sid) c = refl
-given-doing entry what (NewHandle handle inode) c = refl
-given-doing entry what Nothing c = refl
-
 -- the client between the transaction and its answer
 abbrev pub replying : ℕ → ModelDoing → Reply → ModelClient → ModelClient
 replying entry d reply c = record (given entry d.does (gift_of reply) c) { doing = Some (record d { stage = Replying reply; moved = true }) }
@@ -139,7 +135,7 @@ replied-is : (entry : ℕ) (d : ModelDoing) (answer reply : Reply) (gone : List 
 replied-is entry d answer reply gone c busy same none =
     ap (λ (inodes : List ℕ). replied entry d.does answer (record c { sustained = inodes ++ c.sustained })) none
     ∙ ap (λ (r : Reply). replied entry d.does r c) same
-    ∙ with_stage-doing (Replying reply) (given entry d.does (gift_of reply) c) d (given-doing entry d.does (gift_of reply) c ∙ busy)
+    ∙ with_stage-doing (Replying reply) (given entry d.does (gift_of reply) c) d (doing_given entry d.does (gift_of reply) c ∙ busy)
 
 -- whatever entry it makes, it is a transaction's
 steps-by_gift : (s : State) (client now : ℕ) (d : ModelDoing) (gift : Gift) → (s.clients client).doing ≡ Some d
