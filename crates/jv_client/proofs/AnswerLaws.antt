@@ -76,12 +76,14 @@ fails now entry h store d busy ready = record {
       has_store (record { held = held-later (grows-same store) (omega arith) (held-doing None None client.held); doing = tt });
 }
 
-pub fails_as : (now entry : ℕ) (h after : ClientValue) (d : Doing) (store grown : StoreValue) (made : Made) → h.doing ≡ Some d → IsReady store h → after ≡ ended h → grown ≡ store
+pub fails_as : (now entry : ℕ) (h after : ClientValue) (d : Doing) (store grown : StoreValue) (made : Made) → h.doing ≡ Some d → IsReady store h
+    → after ≡ ended h → grown ≡ store
     → made ≡ Answer (ToldRefused NoMemory) (Refused NoMemory) → Makes now entry h after store grown made
 fails_as now entry h after d store grown made busy ready same kept is = makes_as same kept is (fails now entry h store d busy ready)
 
 -- an operation written out
-pub written_out : (d : Doing) (o : Op) (does : Does) (progress : Progress) (moved : Bool) → d.op ≡ o → d.does ≡ does → d.progress ≡ progress → d.has_moved ≡ moved
+pub written_out : (d : Doing) (o : Op) (does : Does) (progress : Progress) (moved : Bool) → d.op ≡ o → d.does ≡ does → d.progress ≡ progress
+    → d.has_moved ≡ moved
     → d ≡ record d { op = o; does = does; progress = progress; has_moved = moved }
 written_out d o does progress moved of_op of_does of_progress of_moved =
     ap (λ o. record d { op = o }) of_op
@@ -102,7 +104,8 @@ idle-is h d o does of_op of_does unread under none =
     (asked.started, written_out d o does (Working 0 asked.started) false of_op of_does asked.progress asked.first)
 
 -- it is ready to be answered
-ready-is : (c : ModelClient) (h : ClientValue) (o : Op) (does : Does) (flush : Flush) (started : ℕ) → c.pending ≡ h.pending → is_some (segment_left flush h.pending) ≡ false
+ready-is : (c : ModelClient) (h : ClientValue) (o : Op) (does : Does) (flush : Flush) (started : ℕ) → c.pending ≡ h.pending
+    → is_some (segment_left flush h.pending) ≡ false
     → is_ready c (doing_of (idle o does flush started)) ≡ true
 ready-is c h o does flush started same none = ap (λ pending. is_flushed (flush_of_code flush) pending) same ∙ ap not none
 
@@ -128,7 +131,8 @@ held-closed c count store h handle held = record {
 }
 
 -- a close whose file has nothing pending
-close_alone : (now entry handle started : ℕ) (flush : Flush) (h : ClientValue) (store : StoreValue) → h.doing ≡ Some (idle (op.Close handle) does.Releases flush started)
+close_alone : (now entry handle started : ℕ) (flush : Flush) (h : ClientValue) (store : StoreValue)
+    → h.doing ≡ Some (idle (op.Close handle) does.Releases flush started)
     → is_some (segment_left flush h.pending) ≡ false → IsReady store h
     → Makes now entry h (record h { handles = with_file handle None h.handles; doing = None }) store store (Answer (Fine 0 0 0 0) reply.Done)
 close_alone now entry handle started flush h store busy none ready =
@@ -154,12 +158,14 @@ close_alone now entry handle started flush h store busy none ready =
           has_store (record { held = held-closed c (s.count + 1) store h handle (held-later (grows-same store) (omega arith) client.held); doing = tt });
     }
 
-none_read : (o : Option OpenFile) (views : List View) (handle : ℕ) → elim o as (λ _. List ℕ) [ None ↦ [] | Some file ↦ or_no_bytes (reading views handle file [] 0 0) ] ≡ []
+none_read : (o : Option OpenFile) (views : List View) (handle : ℕ)
+    → elim o as (λ _. List ℕ) [ None ↦ [] | Some file ↦ or_no_bytes (reading views handle file [] 0 0) ] ≡ []
 none_read None views handle = refl
 none_read (Some file) views handle = refl
 
 -- a read of no bytes
-nothing_alone : (now entry handle offset len started : ℕ) (flush : Flush) (h : ClientValue) (store : StoreValue) → h.doing ≡ Some (idle (op.Read handle offset len) (does.Answers answer.NoData) flush started)
+nothing_alone : (now entry handle offset len started : ℕ) (flush : Flush) (h : ClientValue) (store : StoreValue)
+    → h.doing ≡ Some (idle (op.Read handle offset len) (does.Answers answer.NoData) flush started)
     → is_some (segment_left flush h.pending) ≡ false → IsReady store h
     → Makes now entry h (ended h) store store (Answer (Looks 0 0 0) (Data []))
 nothing_alone now entry handle offset len started flush h store busy none ready =
@@ -219,7 +225,8 @@ write_alone now entry handle offset started bytes h store busy ready =
 
 -- from the forms of operations
 
-closes_alone : (now entry : ℕ) (h : ClientValue) (store : StoreValue) (d : Doing) → h.doing ≡ Some d → IsUnderWay h d → has_segment h d ≡ false → IsReady store h → d.does ≡ does.Releases
+closes_alone : (now entry : ℕ) (h : ClientValue) (store : StoreValue) (d : Doing) → h.doing ≡ Some d → IsUnderWay h d → has_segment h d ≡ false
+    → IsReady store h → d.does ≡ does.Releases
     → Makes now entry h (closed d h) store store (Answer (Fine 0 0 0 0) reply.Done)
 closes_alone now entry h store d busy under none ready of_does =
     let file = flushes_otherwise h d under.form (ap mounts of_does) (ap transacts of_does) (ap keeps of_does) in
@@ -228,7 +235,8 @@ closes_alone now entry h store d busy under none ready of_does =
     subst (λ x. h.doing ≡ Some x → Makes now entry h (closed x h) store store (Answer (Fine 0 0 0 0) reply.Done)) (sym written.1)
     (λ busy. close_alone now entry handle written.0 d.flush h store busy none ready) busy
 
-nothings_alone : (now entry : ℕ) (h : ClientValue) (store : StoreValue) (d : Doing) (told : AnswerKind) → h.doing ≡ Some d → IsUnderWay h d → has_segment h d ≡ false → IsReady store h → d.does ≡ does.Answers told
+nothings_alone : (now entry : ℕ) (h : ClientValue) (store : StoreValue) (d : Doing) (told : AnswerKind) → h.doing ≡ Some d → IsUnderWay h d
+    → has_segment h d ≡ false → IsReady store h → d.does ≡ does.Answers told
     → keeps d.does ≡ false → Makes now entry h (ended h) store store (Answer (Looks 0 0 0) (Data []))
 nothings_alone now entry h store d told busy under none ready of_does other =
     let file = flushes_otherwise h d under.form (ap mounts of_does) (ap transacts of_does) other in
@@ -237,7 +245,8 @@ nothings_alone now entry h store d told busy under none ready of_does other =
     let written = idle-is h d (op.Read handle reads.0 reads.1) (does.Answers answer.NoData) reads.2 reads.3 refl under none in
     nothing_alone now entry handle reads.0 reads.1 written.0 d.flush h store (busy ∙ ap Some written.1) none ready
 
-ends_alone : (now entry : ℕ) (h after : ClientValue) (store : StoreValue) (d : Doing) (told : Told) (said : Reply) → h.doing ≡ Some d → IsUnderWay h d → has_segment h d ≡ false → IsReady store h
+ends_alone : (now entry : ℕ) (h after : ClientValue) (store : StoreValue) (d : Doing) (told : Told) (said : Reply) → h.doing ≡ Some d → IsUnderWay h d
+    → has_segment h d ≡ false → IsReady store h
     → keeps d.does ≡ false → ends_itself d.does ≡ true → Ends d h after (Some (told, said)) → Makes now entry h after store store (Answer told said)
 ends_alone now entry h after store d told said busy under none ready other itself (Closed of_does of_answer of_after) =
     let same : ◌≡◌ {A = Told × Reply} (told, said) (Fine 0 0 0 0, reply.Done) = cc of_answer in
@@ -247,14 +256,17 @@ ends_alone now entry h after store d told said busy under none ready other itsel
     makes_as of_after refl (ap (λ (p : Told × Reply). Answer p.0 p.1) same) (nothings_alone now entry h store d answers busy under none ready of_does other)
 ends_alone now entry h after store d told said busy under none ready other itself (GoesOn more of_answer of_after) = absurd (cc (sym itself ∙ more))
 
-pub end_at_once : (now entry : ℕ) (h after : ClientValue) (store : StoreValue) (told : Told) (reply : Reply) (o : Option Doing) → h.doing ≡ o → is_some o ≡ true → IfSome o (IsUnderWay h)
-    → IsReady store h → left_of h.pending o ≡ None → IfSome o (λ d. keeps d.does ≡ false) → IfSome o (λ d. ends_itself d.does ≡ true) → IfSome o (λ d. Ends d h after (Some (told, reply)))
+pub end_at_once : (now entry : ℕ) (h after : ClientValue) (store : StoreValue) (told : Told) (reply : Reply) (o : Option Doing) → h.doing ≡ o → is_some o ≡ true
+    → IfSome o (IsUnderWay h)
+    → IsReady store h → left_of h.pending o ≡ None → IfSome o (λ d. keeps d.does ≡ false) → IfSome o (λ d. ends_itself d.does ≡ true)
+    → IfSome o (λ d. Ends d h after (Some (told, reply)))
     → Makes now entry h after store store (Answer told reply)
 end_at_once now entry h after store told reply None busy some under ready none other itself ends = absurd (cc some)
 end_at_once now entry h after store told reply (Some d) busy some under ready none other itself ends = ends_alone now entry h after store d told reply busy under (ap is_some none) ready other itself ends
 
 -- how an operation ends that answers at once
-pub end-nothing : (h after : ClientValue) (told : AnswerKind) (answer : Option (Told × Reply)) (o : Option Doing) → does_of o ≡ Some (does.Answers told) → answer ≡ Some (Looks 0 0 0, Data []) → after ≡ ended h
+pub end-nothing : (h after : ClientValue) (told : AnswerKind) (answer : Option (Told × Reply)) (o : Option Doing) → does_of o ≡ Some (does.Answers told)
+    → answer ≡ Some (Looks 0 0 0, Data []) → after ≡ ended h
     → IfSome o (λ d. Ends d h after answer)
 end-nothing h after told answer None of_does of_answer of_after = tt
 end-nothing h after told answer (Some d) of_does of_answer of_after = ReadNothing told (cc of_does) of_answer of_after

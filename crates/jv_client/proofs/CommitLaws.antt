@@ -64,7 +64,8 @@ follows_answer (Some d) kind h after told reply none ends = Answers told reply n
 
 -- the files after a commit
 
-continued : (files : List StoredFile) (k : ℕ) (old new : StoredFile) → slice_get files k ≡ Some old → Continues old new → (i : ℕ) → IfSome (slice_get files i) (λ file. IsSomeAnd (slice_get (slice_set files k new) i) (Continues file))
+continued : (files : List StoredFile) (k : ℕ) (old new : StoredFile) → slice_get files k ≡ Some old → Continues old new → (i : ℕ)
+    → IfSome (slice_get files i) (λ file. IsSomeAnd (slice_get (slice_set files k new) i) (Continues file))
 continued [] k old new there more i = tt
 continued (file ∷ files) zero old new there more zero = subst (λ file. Continues file new) (let e : ◌≡◌ {A = Option StoredFile} (Some old) (Some file) = sym there in cc) more
 continued (file ∷ files) zero old new there more (suc i) = continues-same (slice_get files i)
@@ -75,7 +76,8 @@ continued (file ∷ files) (suc k) old new there more (suc i) = continued files 
 abbrev pub with_commit_in : StoreValue → ℕ → ℕ → List ℕ → StoredFile → ℕ → StoreValue
 with_commit_in store k from bytes file used = record store { files = with_commit store.files k from bytes file used }
 
-pub grows-committed : (store : StoreValue) (k from : ℕ) (bytes : List ℕ) (file : StoredFile) (used : ℕ) → slice_get store.files.files k ≡ Some file → Grows store (with_commit_in store k from bytes file used)
+pub grows-committed : (store : StoreValue) (k from : ℕ) (bytes : List ℕ) (file : StoredFile) (used : ℕ) → slice_get store.files.files k ≡ Some file
+    → Grows store (with_commit_in store k from bytes file used)
 grows-committed store k from bytes file used there =
     let long = length-set store.files.files k (with_segment from bytes file) in
     record {
@@ -235,7 +237,8 @@ module _ (h : ClientValue) (d : Doing) (store : StoreValue) (segment : Segment) 
     reads-on : segment_left d.flush without.pending ≡ None → (offset len : ℕ) × (d.does ≡ does.Reads offset len)
     reads-on none = reads_it d flushed.handle flushed.reason (goes (left-without None none))
 
-    asks-without : (o : Option Segment) → segment_left d.flush without.pending ≡ o → (has_segment after_request asking || reads_more after_request asking) ≡ true
+    asks-without : (o : Option Segment) → segment_left d.flush without.pending ≡ o
+        → (has_segment after_request asking || reads_more after_request asking) ≡ true
     asks-without (Some segment) e = ap (λ (o : Option Segment). is_some o || reads_more after_request asking) e
     asks-without None e =
         let reads = reads-on e in
@@ -312,7 +315,8 @@ module _ (h : ClientValue) (d : Doing) (store : StoreValue) (segment : Segment) 
       let same = o ∙ ap op.Close (sym (names_it d flushed.handle flushed.reason)) in
       subst (λ one. IsClient (after_told one (Fine 0 0 0 0) m) (s.count + 1 + 1) grown (closed d without)) (sym same) (record { held = held; doing = tt }))
 
-  reads_nothing-last : (offset len : ℕ) → d.op ≡ op.Read flushed.handle offset len → d.does ≡ does.Answers answer.NoData → segment_left d.flush without.pending ≡ None → (entry : ℕ)
+  reads_nothing-last : (offset len : ℕ) → d.op ≡ op.Read flushed.handle offset len → d.does ≡ does.Answers answer.NoData
+      → segment_left d.flush without.pending ≡ None → (entry : ℕ)
       → Makes now entry h (ended without) store grown (made.Both kind (Looks 0 0 0) (reply.Data []))
   reads_nothing-last offset len o e none = commits_last (Looks 0 0 0) (reply.Data []) (ended without) none without-of_file refl refl refl refl refl
       (λ s has is. answer-nothing (without_m s has is) (doing_of d) e)
@@ -322,7 +326,8 @@ module _ (h : ClientValue) (d : Doing) (store : StoreValue) (segment : Segment) 
       subst (λ one. IsClient (after_told one (Looks 0 0 0) m) (s.count + 1 + 1) grown (ended without)) (sym o)
       (record { held = held-doing None None (held-without s has is (s.count + 1 + 1) (omega arith)); doing = tt }))
 
-  ends-last : (after : ClientValue) (told : Told) (said : Reply) → left without ≡ None → Ends d without after (Some (told, said)) → (entry : ℕ) → Makes now entry h after store grown (made.Both kind told said)
+  ends-last : (after : ClientValue) (told : Told) (said : Reply) → left without ≡ None → Ends d without after (Some (told, said)) → (entry : ℕ)
+      → Makes now entry h after store grown (made.Both kind told said)
   ends-last after told said none (EndsNot goes is same) entry = absurd (let f : ◌≡◌ {A = Option (Told × Reply)} (Some (told, said)) None = is in cc)
   ends-last after told said none (Closed e is same) entry =
       let both : (told, said) ≡ (Fine 0 0 0 0, reply.Done) = (let f : ◌≡◌ {A = Option (Told × Reply)} (Some (told, said)) (Some (Fine 0 0 0 0, reply.Done)) = is in cc) in
@@ -335,15 +340,18 @@ module _ (h : ClientValue) (d : Doing) (store : StoreValue) (segment : Segment) 
       makes_as same refl (ap (λ (pair : Told × Reply). made.Both kind pair.0 pair.1) both) leads
 
   -- a commit, and what follows it
-  pub committed-follows : (after : ClientValue) (outcome : Made) → length without.pending < length h.pending → Follows d kind without after outcome → (entry : ℕ) → Makes now entry h after store grown outcome
+  pub committed-follows : (after : ClientValue) (outcome : Made) → length without.pending < length h.pending → Follows d kind without after outcome
+      → (entry : ℕ) → Makes now entry h after store grown outcome
   committed-follows after outcome fewer (Answers told reply none ends same) entry = makes_as refl refl same (ends-last after told reply none ends entry)
   committed-follows after outcome fewer (FollowsOn goes then_is same) entry = makes_as then_is refl same (commits_on fewer goes entry)
 
 -- a commit, as the code has it
-pub commits_by : (h between after : ClientValue) (store grown : StoreValue) (segment : Segment) (started now entry : ℕ) (outcome : Made) → IsReady store h → left h ≡ Some segment
+pub commits_by : (h between after : ClientValue) (store grown : StoreValue) (segment : Segment) (started now entry : ℕ) (outcome : Made) → IsReady store h
+    → left h ≡ Some segment
     → progress_of h.doing ≡ Some (progress.Working 2 started) → now < started + UPLOAD_LIFE → FitsIf store segment.inode (segment.from + segment.len) true
     → Puts store segment h.pending grown → between ≡ without_segment segment h → length between.pending < length h.pending
-    → IfSome between.doing (λ d. Follows d (Commit segment.inode segment.from segment.len 0) between after outcome) → Makes now entry h after store grown outcome
+    → IfSome between.doing (λ d. Follows d (Commit segment.inode segment.from segment.len 0) between after outcome)
+    → Makes now entry h after store grown outcome
 commits_by h between after store grown segment started now entry outcome ready next at in_time room puts same fewer follows =
     let d = in_progress h.doing (progress.Working 2 started) at in
     let is = segment-of_file h d.0 store segment d.1 ready next in
@@ -359,7 +367,8 @@ commits_by h between after store grown segment started now entry outcome ready n
     (committed-follows h d.0 store segment file.0 committed.used started now d.1 ready next d.2 in_time puts.len file.1 committed.space room after outcome less follows_it entry)
 
 -- its handle is still open
-pub names_still : (h between : ClientValue) (store : StoreValue) (segment : Segment) → IsReady store h → IsSome h.doing → left h ≡ Some segment → between ≡ without_segment segment h
+pub names_still : (h between : ClientValue) (store : StoreValue) (segment : Segment) → IsReady store h → IsSome h.doing → left h ≡ Some segment
+    → between ≡ without_segment segment h
     → IfSome between.doing (names_open between)
 names_still h between store segment ready busy next same =
     let d = the_some h.doing busy in

@@ -45,7 +45,8 @@ use Rattle.jv_client.proofs.FormLaws.{FlushesFile, flushes_file, moved_for, unde
 -- the next request of a segment
 
 -- a request for the next segment
-flush-quiet : (s : State) (client now : ℕ) (d : ModelDoing) (quiets started : ℕ) (segment : Segment) → d.stage ≡ Working quiets started → next_segment d.flush (s.clients client).pending ≡ Some segment
+flush-quiet : (s : State) (client now : ℕ) (d : ModelDoing) (quiets started : ℕ) (segment : Segment) → d.stage ≡ Working quiets started
+    → next_segment d.flush (s.clients client).pending ≡ Some segment
     → quieted s client (s.clients client) now d d.stage ≡ flushing_on s (s.clients client) now quiets started
 flush-quiet s client now d quiets started segment at left =
     ap (quieted s client (s.clients client) now d) at
@@ -63,7 +64,8 @@ module _ (h : ClientValue) (d : Doing) (busy : h.doing ≡ Some d) where
   steps-are at e = ap (steps_of (length h.pending)) busy ∙ ap (steps_in (length h.pending)) e
 
 -- what is committed next is the same
-pub next-same : (m : ModelClient) (count : ℕ) (store : StoreValue) (h : ClientValue) (d : Doing) (segment : Option Segment) → IsHeld m count store h → segment_left d.flush h.pending ≡ segment
+pub next-same : (m : ModelClient) (count : ℕ) (store : StoreValue) (h : ClientValue) (d : Doing) (segment : Option Segment) → IsHeld m count store h
+    → segment_left d.flush h.pending ≡ segment
     → next_segment (flush_of_code d.flush) m.pending ≡ segment
 next-same m count store h d segment held e = ap (next_segment (flush_of_code d.flush)) held.pending ∙ e
 
@@ -135,11 +137,13 @@ one_segment None = refl
 one_segment (Some segment) = refl
 
 -- it is its handle's
-pub own_file : (first : Flush) (inode : ℕ) (pending : List PendingByte) (segment : Segment) → first ≡ flush.File inode → segment_left first pending ≡ Some segment → segment.inode ≡ inode
+pub own_file : (first : Flush) (inode : ℕ) (pending : List PendingByte) (segment : Segment) → first ≡ flush.File inode
+    → segment_left first pending ≡ Some segment → segment.inode ≡ inode
 own_file first inode pending segment e left =
     own_segment inode pending segment (sym (one_segment (first_segment (pending_of inode pending))) ∙ sym (ap (λ f. segment_left f pending) e) ∙ left)
 
-pub segment-of_file : (h : ClientValue) (d : Doing) (store : StoreValue) (segment : Segment) → h.doing ≡ Some d → IsReady store h → left h ≡ Some segment → IsFile (length store.files.files) segment.inode
+pub segment-of_file : (h : ClientValue) (d : Doing) (store : StoreValue) (segment : Segment) → h.doing ≡ Some d → IsReady store h → left h ≡ Some segment
+    → IsFile (length store.files.files) segment.inode
 segment-of_file h d store segment busy ready next =
     let first = left-is h d busy (Some segment) next in
     let flushed = flushes_file h d (under_way h store d busy ready).form (ap is_some first) in
@@ -208,7 +212,8 @@ module _ (h : ClientValue) (d : Doing) (store : StoreValue) (segment : Segment) 
   }
 
 -- its block is as old as uploads live
-pub refuses_late : (h : ClientValue) (d : Doing) (store : StoreValue) (segment : Segment) (started now entry : ℕ) → h.doing ≡ Some d → IsReady store h → left h ≡ Some segment
+pub refuses_late : (h : ClientValue) (d : Doing) (store : StoreValue) (segment : Segment) (started now entry : ℕ) → h.doing ≡ Some d → IsReady store h
+    → left h ≡ Some segment
     → d.progress ≡ progress.Working 2 started → started + UPLOAD_LIFE ≤ now
     → Makes now entry h (ended h) store store (made.Both Quiet (ToldRefused (TimedOut started now)) (Refused (TimedOut started now)))
 refuses_late h d store segment started now entry busy ready next at late =
@@ -223,14 +228,17 @@ space_after before length end =
     let rises = paged_rises length (max length end) (omega arith) in
     (before + (paged (max length end) - paged length), omega (arith, rises))
 
-fits-by : (t : Tree) (v : FilesValue) (k now from limit : ℕ) (bytes : List ℕ) (file : StoredFile) (used : ℕ) (allowed : Bool) → HasFiles t v → slice_get v.files k ≡ Some file
-    → used + paged file.length ≡ v.used_space + paged (max file.length (from + length bytes)) → space_limit t.setting ≡ limit → allowed ≡ sum_fits limit v.used_space used
+fits-by : (t : Tree) (v : FilesValue) (k now from limit : ℕ) (bytes : List ℕ) (file : StoredFile) (used : ℕ) (allowed : Bool) → HasFiles t v
+    → slice_get v.files k ≡ Some file
+    → used + paged file.length ≡ v.used_space + paged (max file.length (from + length bytes)) → space_limit t.setting ≡ limit
+    → allowed ≡ sum_fits limit v.used_space used
     → fits t (committed t now (2 + k) from bytes) ≡ allowed
 fits-by t v k now from limit bytes file used allowed has there space same known =
     fits-committed t v k now from bytes file used has there space ∙ ap (λ n. sum_fits n v.used_space used) same ∙ sym known
 
 -- whether a commit is within the volume's limits
-pub commit-fits : (t : Tree) (store : StoreValue) (now : ℕ) (segment : Segment) (pending : List PendingByte) (allowed : Bool) → HasStore t store → IsFile (length store.files.files) segment.inode
+pub commit-fits : (t : Tree) (store : StoreValue) (now : ℕ) (segment : Segment) (pending : List PendingByte) (allowed : Bool) → HasStore t store
+    → IsFile (length store.files.files) segment.inode
     → length (bytes_of segment pending) ≡ segment.len → FitsIf store segment.inode (segment.from + segment.len) allowed
     → fits t (committed t now segment.inode segment.from (bytes_of segment pending)) ≡ allowed
 commit-fits t store now segment pending allowed has is long fits_if =
@@ -247,8 +255,10 @@ commit-fits t store now segment pending allowed has is long fits_if =
     (fits-by t v k now segment.from (space_limit store.setting) (bytes_of segment pending) file.0 used.0 allowed has.files file.1 space (ap space_limit has.setting) known)
 
 -- the volume has no room for it
-pub refuses_large : (h : ClientValue) (d : Doing) (store : StoreValue) (segment : Segment) (started now entry : ℕ) → h.doing ≡ Some d → IsReady store h → left h ≡ Some segment
-    → d.progress ≡ progress.Working 2 started → now < started + UPLOAD_LIFE → length (bytes_of segment h.pending) ≡ segment.len → FitsIf store segment.inode (segment.from + segment.len) false
+pub refuses_large : (h : ClientValue) (d : Doing) (store : StoreValue) (segment : Segment) (started now entry : ℕ) → h.doing ≡ Some d → IsReady store h
+    → left h ≡ Some segment
+    → d.progress ≡ progress.Working 2 started → now < started + UPLOAD_LIFE → length (bytes_of segment h.pending) ≡ segment.len
+    → FitsIf store segment.inode (segment.from + segment.len) false
     → Makes now entry h (ended h) store store (made.Both Quiet (ToldRefused NoSpace) (Refused NoSpace))
 refuses_large h d store segment started now entry busy ready next at in_time long large =
     refuses h d store segment started now NoSpace busy ready next at refl refl (λ m. refl)
@@ -260,14 +270,16 @@ refuses_large h d store segment started now entry busy ready next at in_time lon
 -- the same, as the code has it
 module _ (h after : ClientValue) (store : StoreValue) (segment : Segment) (started now entry : ℕ) (outcome : Made) (ready : IsReady store h) (next : left h ≡ Some segment) where
   -- asks for a segment's number, and then for its block
-  pub asks_first : progress_of h.doing ≡ Some (progress.Working 0 started) → after ≡ record h { doing = option_map (moved_to (progress.Working 1 0)) h.doing } → outcome ≡ made.Request Quiet
+  pub asks_first : progress_of h.doing ≡ Some (progress.Working 0 started) → after ≡ record h { doing = option_map (moved_to (progress.Working 1 0)) h.doing }
+      → outcome ≡ made.Request Quiet
       → Makes now entry h after store store outcome
   asks_first at then_is made_is =
       let d = in_progress h.doing (progress.Working 0 started) at in
       let then_asking = then_is ∙ ap (λ o. record h { doing = option_map (moved_to (progress.Working 1 0)) o }) d.1 in
       makes_as then_asking refl made_is (asks h d.0 store segment 0 started 1 0 now d.1 ready next d.2 refl (lit≤ tt) (λ s m there. flushing-first s m now started there) entry)
 
-  pub asks_second : progress_of h.doing ≡ Some (progress.Working 1 started) → after ≡ record h { doing = option_map (moved_to (progress.Working 2 now)) h.doing } → outcome ≡ made.Request Quiet
+  pub asks_second : progress_of h.doing ≡ Some (progress.Working 1 started)
+      → after ≡ record h { doing = option_map (moved_to (progress.Working 2 now)) h.doing } → outcome ≡ made.Request Quiet
       → Makes now entry h after store store outcome
   asks_second at then_is made_is =
       let d = in_progress h.doing (progress.Working 1 started) at in

@@ -79,7 +79,8 @@ module _ (d : Doing) (handle : ℕ) where
   closes_it (ReadsNothing offset len o e) does = absurd (let f = sym e ∙ does in cc)
   closes_it (Reads offset len o e some short) does = absurd (let f = sym e ∙ does in cc)
 
-  pub reads_none : (told : Answer) → FlushesFor d handle → d.does ≡ does.Answers told → (offset len : ℕ) × (d.op ≡ op.Read handle offset len) × (d.does ≡ does.Answers answer.NoData)
+  pub reads_none : (told : Answer) → FlushesFor d handle → d.does ≡ does.Answers told
+      → (offset len : ℕ) × (d.op ≡ op.Read handle offset len) × (d.does ≡ does.Answers answer.NoData)
   reads_none told (Closes o e) does = absurd (let f = sym e ∙ does in cc)
   reads_none told (ReadsNothing offset len o e) does = (offset, len, o, e)
   reads_none told (Reads offset len o e some short) does = absurd (let f = sym e ∙ does in cc)
@@ -89,7 +90,8 @@ module _ (d : Doing) (handle : ℕ) where
   reads_it (ReadsNothing offset len o e) none = absurd (let f = sym (ap ends_itself e) ∙ none in cc)
   reads_it (Reads offset len o e some short) none = (offset, len, e)
 
-  pub reads_here : (offset len : ℕ) → FlushesFor d handle → d.does ≡ does.Reads offset len → (d.op ≡ op.Read handle offset len) × (0 < len) × (offset + len ≤ WINDOW)
+  pub reads_here : (offset len : ℕ) → FlushesFor d handle → d.does ≡ does.Reads offset len
+      → (d.op ≡ op.Read handle offset len) × (0 < len) × (offset + len ≤ WINDOW)
   reads_here offset len (Closes o e) of_does = absurd (let f = sym e ∙ of_does in cc)
   reads_here offset len (ReadsNothing from n o e) of_does = absurd (let f = sym e ∙ of_does in cc)
   reads_here offset len (Reads from n o e some short) of_does =
@@ -105,7 +107,8 @@ no_quiets h d zero at none = refl
 no_quiets h d (suc quiets) at none = absurd (let some : 0 < suc quiets = omega arith in let segment = at.segment some in cc (sym segment ∙ none))
 
 -- nor a look or a block to ask for
-pub not_begun : (h : ClientValue) (d : Doing) (p : Progress) → IsAt h d p → has_segment h d ≡ false → reads_more h d ≡ false → (started : ℕ) × (p ≡ Working 0 started)
+pub not_begun : (h : ClientValue) (d : Doing) (p : Progress) → IsAt h d p → has_segment h d ≡ false → reads_more h d ≡ false
+    → (started : ℕ) × (p ≡ Working 0 started)
 not_begun h d (Working quiets started) at none unread = (started, ap (λ n. Working n started) (no_quiets h d quiets at none))
 not_begun h d Reading at none unread = absurd (let reads : reads_more h d ≡ true = at.reads in cc (sym reads ∙ unread))
 

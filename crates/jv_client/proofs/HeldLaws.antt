@@ -26,18 +26,21 @@ shows-later view m file later more h =
     ap (λ segments. record { length = view.seen.length; segments = segments }) (ap (take view.seen.commits) more.segments ∙ take-append-le view.seen.commits file.segments more.more h.seen) in
     record { seen = (let seen = h.seen in omega (arith, seen, long)); keeps = subst (λ f. Keeps f m.content) (sym same) h.keeps }
 
-some_later : (view : View) (m : ModelView) (o p : Option StoredFile) → IfSome o (λ file. IsSomeAnd p (Continues file)) → IsSomeAnd o (ShowsContent view m) → IsSomeAnd p (ShowsContent view m)
+some_later : (view : View) (m : ModelView) (o p : Option StoredFile) → IfSome o (λ file. IsSomeAnd p (Continues file)) → IsSomeAnd o (ShowsContent view m)
+    → IsSomeAnd p (ShowsContent view m)
 some_later view m None p grows h = absurd h
 some_later view m (Some file) None grows h = absurd grows
 some_later view m (Some file) (Some later) grows h = shows-later view m file later grows h
 
-pub view-later : {store grown : StoreValue} (inode : ℕ) (m : ModelView) (view : View) → Grows store grown → IsView store inode m view → IsView grown inode m view
+pub view-later : {store grown : StoreValue} (inode : ℕ) (m : ModelView) (view : View) → Grows store grown → IsView store inode m view
+    → IsView grown inode m view
 view-later {store} {grown} inode m view g h = record {
   entry = h.entry;
   shows = some_later view m (slice_get store.files.files (inode - 2)) (slice_get grown.files.files (inode - 2)) (g.files (inode - 2)) h.shows;
 }
 
-pub handle-later : {store grown : StoreValue} {views : List ModelView} {count later : ℕ} (n : ℕ) (file : OpenFile) (handle : Handle) → Grows store grown → count ≤ later
+pub handle-later : {store grown : StoreValue} {views : List ModelView} {count later : ℕ} (n : ℕ) (file : OpenFile) (handle : Handle) → Grows store grown
+    → count ≤ later
     → IsHandle views count store n file handle → IsHandle views later grown n file handle
 handle-later {store} {grown} {views} {count} {later} n file handle g le h = record {
   inode = h.inode;
@@ -46,7 +49,8 @@ handle-later {store} {grown} {views} {count} {later} n file handle g le h = reco
   view = same_place-by (IsView store handle.inode) (IsView grown handle.inode) (fresh_view views n file 0) handle.view (λ m view. view-later handle.inode m view g) h.view;
 }
 
-pub views-later : (count later : ℕ) (views : List ModelView) → count ≤ later → AllByRecursion (λ (v : ModelView). v.entry ≤ count) views → AllByRecursion (λ (v : ModelView). v.entry ≤ later) views
+pub views-later : (count later : ℕ) (views : List ModelView) → count ≤ later → AllByRecursion (λ (v : ModelView). v.entry ≤ count) views
+    → AllByRecursion (λ (v : ModelView). v.entry ≤ later) views
 views-later count later [] le h = tt
 views-later count later (v ∷ views) le h = ((let low = h.0 in omega (arith, low, le)), views-later count later views le h.1)
 
@@ -55,7 +59,8 @@ session-later None g h = tt
 session-later (Some sid) g h = record { low = h.low; made = (let made = h.made in let next = g.next in omega (arith, made, next)) }
 
 -- a client is held after further entries of others, and with more in the store
-pub held-later : {m : ModelClient} {count later : ℕ} {store grown : StoreValue} {c : ClientValue} → Grows store grown → count ≤ later → IsHeld m count store c → IsHeld m later grown c
+pub held-later : {m : ModelClient} {count later : ℕ} {store grown : StoreValue} {c : ClientValue} → Grows store grown → count ≤ later → IsHeld m count store c
+    → IsHeld m later grown c
 held-later {m} {count} {later} {store} {grown} {c} g le h = record {
   session = h.session;
   mounted = session-later c.session g h.mounted;
@@ -66,7 +71,8 @@ held-later {m} {count} {later} {store} {grown} {c} g le h = record {
   pending = h.pending;
 }
 
-pub client-later : {m : ModelClient} {count later : ℕ} {store grown : StoreValue} {c : ClientValue} → Grows store grown → count ≤ later → IsClient m count store c → IsClient m later grown c
+pub client-later : {m : ModelClient} {count later : ℕ} {store grown : StoreValue} {c : ClientValue} → Grows store grown → count ≤ later
+    → IsClient m count store c → IsClient m later grown c
 client-later g le h = record { held = held-later g le h.held; doing = h.doing }
 
 -- whatever it is doing
@@ -84,7 +90,8 @@ pub grows-same : (store : StoreValue) → Grows store store
 grows-same store = record { setting = refl; next = omega arith; count = omega arith; files = λ k. continues-same (slice_get store.files.files k) }
 
 -- handles of files stay so
-pub of_file-later : (store grown : StoreValue) (handle : Option Handle) → length store.files.files ≤ length grown.files.files → IsOfFile store handle → IsOfFile grown handle
+pub of_file-later : (store grown : StoreValue) (handle : Option Handle) → length store.files.files ≤ length grown.files.files → IsOfFile store handle
+    → IsOfFile grown handle
 of_file-later store grown None le h = tt
 of_file-later store grown (Some handle) le h = record { low = h.low; high = (let high = h.high in omega (arith, high, le)) }
 

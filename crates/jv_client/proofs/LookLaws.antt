@@ -33,7 +33,8 @@ use Rattle.jv_client.proofs.ReadingLaws.{IsAtFile, at_file, reading_on, HasSeen,
 
 -- its file has a byte that is asked for
 pub look_more : (now handle offset len started : ℕ) (moved : Bool) (h : ClientValue) (store : StoreValue) (file : Handle) (view : View)
-    → IsAtFile h store handle offset len file (Working 0 started) moved → file.view ≡ None → HasSeen store file.inode view → nat_lt offset view.seen.length ≡ true
+    → IsAtFile h store handle offset len file (Working 0 started) moved → file.view ≡ None → HasSeen store file.inode view
+    → nat_lt offset view.seen.length ≡ true
     → Makes now view.entry h (with_view handle file view (Some (reader handle offset len file.inode Reading true)) h) store store (Request (Look file.inode 0))
 look_more now handle offset len started moved h store file view at none seen some =
     let d = reader handle offset len file.inode Reading true in
@@ -97,7 +98,8 @@ look_none now handle offset len started moved h store file view at none seen pas
 
 -- from what is known before the look
 
-unseen_working : (h : ClientValue) (d : Doing) (progress : Progress) → IsAt h d progress → has_segment h d ≡ false → view_here h d ≡ None → (started : ℕ) × (progress ≡ Working 0 started)
+unseen_working : (h : ClientValue) (d : Doing) (progress : Progress) → IsAt h d progress → has_segment h d ≡ false → view_here h d ≡ None
+    → (started : ℕ) × (progress ≡ Working 0 started)
 unseen_working h d (Working quiets started) at none unseen = (started, ap (λ n. Working n started) (no_quiets h d quiets at none))
 unseen_working h d Reading at none unseen = absurd (let seen : is_some (view_here h d) ≡ true = at.seen in let no = ap is_some unseen in cc (sym seen ∙ no))
 
@@ -107,7 +109,8 @@ record BeforeLook (h : ClientValue) (store : StoreValue) (handle offset : ℕ) (
   pub moved : Bool
   pub at : IsAtFile h store handle offset len file (Working 0 started) moved
 
-before_look : (h : ClientValue) (store : StoreValue) (handle offset : ℕ) (file : Handle) → (len : ℕ) × (does_of h.doing ≡ Some (does.Reads offset len)) → IfSome h.doing (λ d. handle ≡ handle_of d.op)
+before_look : (h : ClientValue) (store : StoreValue) (handle offset : ℕ) (file : Handle) → (len : ℕ) × (does_of h.doing ≡ Some (does.Reads offset len))
+    → IfSome h.doing (λ d. handle ≡ handle_of d.op)
     → file_of h.handles handle ≡ Some file → file.view ≡ None → IsReady store h → left h ≡ None → BeforeLook h store handle offset file
 before_look h store handle offset file reads names opened none ready flushed =
     let len = reads.0 in
@@ -120,7 +123,8 @@ before_look h store handle offset file reads names opened none ready flushed =
     record { len = len; started = working.0; moved = d.has_moved; at = subst (λ progress. IsAtFile h store handle offset len file progress d.has_moved) working.1 at }
 
 -- the table with the view
-viewed : (old new handles : List (Option Handle)) (handle : ℕ) (file : Handle) (view : View) → old ≡ handles → file_of handles handle ≡ Some file → new ≡ with_file handle (seen_by view (file_of old handle)) old
+viewed : (old new handles : List (Option Handle)) (handle : ℕ) (file : Handle) (view : View) → old ≡ handles → file_of handles handle ≡ Some file
+    → new ≡ with_file handle (seen_by view (file_of old handle)) old
     → new ≡ with_file handle (Some (record file { view = Some view })) handles
 viewed old new handles handle file view same opened is =
     is ∙ ap (λ handles. with_file handle (seen_by view (file_of handles handle)) handles) same ∙ ap (λ o. with_file handle (seen_by view o) handles) opened
@@ -129,7 +133,8 @@ pub look_goes_on : (now entry handle offset : ℕ) (h v : ClientValue) (store : 
     → (len : ℕ) × (does_of h.doing ≡ Some (does.Reads offset len)) → IfSome h.doing (λ d. handle ≡ handle_of d.op)
     → file_of h.handles handle ≡ Some file → file.view ≡ None → IsReady store h → left h ≡ None
     → HasSeen store file.inode (record { entry = entry; seen = seen }) → offset < seen.length
-    → v ≡ h → old ≡ v.handles → new ≡ with_file handle (seen_by (record { entry = entry; seen = seen }) (file_of old handle)) old → doing ≡ option_map (moved_to Reading) v.doing
+    → v ≡ h → old ≡ v.handles → new ≡ with_file handle (seen_by (record { entry = entry; seen = seen }) (file_of old handle)) old
+    → doing ≡ option_map (moved_to Reading) v.doing
     → Makes now entry h (record v { handles = new; doing = doing }) store store (Request (Look file.inode 0))
 look_goes_on now entry handle offset h v store file seen old new doing reads names opened none ready flushed has_seen some same same_old of_new of_doing =
     let view : View = record { entry = entry; seen = seen } in
@@ -145,7 +150,8 @@ pub look_ends : (now entry handle offset : ℕ) (h v : ClientValue) (store : Sto
     → (len : ℕ) × (does_of h.doing ≡ Some (does.Reads offset len)) → IfSome h.doing (λ d. handle ≡ handle_of d.op)
     → file_of h.handles handle ≡ Some file → file.view ≡ None → IsReady store h → left h ≡ None
     → HasSeen store file.inode (record { entry = entry; seen = seen }) → seen.length ≤ offset
-    → v ≡ h → old ≡ v.handles → new ≡ with_file handle (seen_by (record { entry = entry; seen = seen }) (file_of old handle)) old → doing ≡ None → told ≡ Looks entry 0 0 → bytes ≡ []
+    → v ≡ h → old ≡ v.handles → new ≡ with_file handle (seen_by (record { entry = entry; seen = seen }) (file_of old handle)) old → doing ≡ None
+    → told ≡ Looks entry 0 0 → bytes ≡ []
     → Makes now entry h (record v { handles = new; doing = doing }) store store (Both (Look file.inode 0) told (Data bytes))
 look_ends now entry handle offset h v store file seen old new doing told bytes reads names opened none ready flushed has_seen past same same_old of_new of_doing of_told of_bytes =
     let view : View = record { entry = entry; seen = seen } in

@@ -69,7 +69,8 @@ one_part offset len some short =
 -- views
 
 -- the latest fresh view is the one that its entry cites
-pub cited-fresh : (views : List ModelView) (handle : ℕ) (file : OpenFile) (view : ModelView) → fresh_view views handle file 0 ≡ Some view → cited_view views handle file 0 view.entry ≡ Some view
+pub cited-fresh : (views : List ModelView) (handle : ℕ) (file : OpenFile) (view : ModelView) → fresh_view views handle file 0 ≡ Some view
+    → cited_view views handle file 0 view.entry ≡ Some view
 cited-fresh [] handle file view e = absurd (cc e)
 cited-fresh (v ∷ vs) handle file view e =
     elim (is_fresh handle file 0 v) as (λ b. (if b then Some v else fresh_view vs handle file 0) ≡ Some view → (if (v.entry == view.entry) && b then Some v else cited_view vs handle file 0 view.entry) ≡ Some view) [
@@ -83,7 +84,8 @@ cited-fresh (v ∷ vs) handle file view e =
     ] e
 
 -- a read in the first window that cites its view
-pub reading-cited : (views : List ModelView) (handle : ℕ) (file : OpenFile) (offset len : ℕ) (view : ModelView) → 0 < len → offset + len ≤ WINDOW → fresh_view views handle file 0 ≡ Some view
+pub reading-cited : (views : List ModelView) (handle : ℕ) (file : OpenFile) (offset len : ℕ) (view : ModelView) → 0 < len → offset + len ≤ WINDOW
+    → fresh_view views handle file 0 ≡ Some view
     → reading views handle file (asked_parts offset len) view.entry 0 ≡ Some (bytes_between view.content offset (offset + len))
 reading-cited views handle file offset len view some short fresh =
     ap (λ parts. reading views handle file parts view.entry 0) (one_part offset len some short)
@@ -99,13 +101,15 @@ shows_bytes : (content : Content) (file : StoredFile) (from to : ℕ) → Keeps 
 shows_bytes content file from to h = ap (λ n. bytes_from content.byte from (min to n - from)) h.length ∙ same_bytes content.byte (stored_byte file.segments) h.bytes from (min to file.length - from)
 
 -- the bytes of a file as it was seen
-pub view_bytes : (view : View) (m : ModelView) (o : Option StoredFile) (bytes : List ℕ) (from to : ℕ) → IsSomeAnd o (ShowsContent view m) → IfSome o (λ file. bytes ≡ shown_between (as_seen view.seen file) from to)
+pub view_bytes : (view : View) (m : ModelView) (o : Option StoredFile) (bytes : List ℕ) (from to : ℕ) → IsSomeAnd o (ShowsContent view m)
+    → IfSome o (λ file. bytes ≡ shown_between (as_seen view.seen file) from to)
     → bytes_between m.content from to ≡ bytes
 view_bytes view m None bytes from to shows is = absurd shows
 view_bytes view m (Some file) bytes from to shows is = shows_bytes m.content (as_seen view.seen file) from to shows.keeps ∙ sym is
 
 -- none past its length
-pub no_bytes : (view : View) (m : ModelView) (o : Option StoredFile) (from to : ℕ) → IsSomeAnd o (ShowsContent view m) → view.seen.length ≤ from → bytes_between m.content from to ≡ []
+pub no_bytes : (view : View) (m : ModelView) (o : Option StoredFile) (from to : ℕ) → IsSomeAnd o (ShowsContent view m) → view.seen.length ≤ from
+    → bytes_between m.content from to ≡ []
 no_bytes view m None from to shows past = absurd shows
 no_bytes view m (Some file) from to shows past =
     let length : m.content.length ≡ view.seen.length = shows.keeps.length in
@@ -142,13 +146,15 @@ abbrev window_of : Option Asked → Option ℕ
 window_of None = None
 window_of (Some asked) = Some asked.window
 
-first_window_to_look : (views : List ModelView) (handle offset len : ℕ) (file : OpenFile) → 0 < len → offset + len ≤ WINDOW → fresh_view views handle file 0 ≡ None
+first_window_to_look : (views : List ModelView) (handle offset len : ℕ) (file : OpenFile) → 0 < len → offset + len ≤ WINDOW
+    → fresh_view views handle file 0 ≡ None
     → window_of (part_to_look views handle file (asked_parts offset len)) ≡ Some 0
 first_window_to_look views handle offset len file some short none =
     ap (λ parts. window_of (part_to_look views handle file parts)) (one_part offset len some short)
     ∙ ap (λ o. window_of (elim o as (λ _. Option Asked) [ None ↦ Some (first_part offset len) | Some view ↦ (if shows_all (first_part offset len) view then None else None) ])) none
 
-looks_at : (s : State) (c : ModelClient) (handle offset len inode started : ℕ) (moved : Bool) (m : OpenFile) → is_flushed (OfFiles (inode ∷ [])) c.pending ≡ true → file_of c.handles handle ≡ Some m → inode ≡ m.inode
+looks_at : (s : State) (c : ModelClient) (handle offset len inode started : ℕ) (moved : Bool) (m : OpenFile)
+    → is_flushed (OfFiles (inode ∷ [])) c.pending ≡ true → file_of c.handles handle ≡ Some m → inode ≡ m.inode
     → fresh_view c.views handle m 0 ≡ None → 0 < len → offset + len ≤ WINDOW → has_session s.tree c ≡ true → is_some (node_at s.tree inode) ≡ true
     → LooksAt s c (doing_of (reader handle offset len inode (Working 0 started) moved)) inode 0
 looks_at s c handle offset len inode started moved m flushed is same none some short session there =
@@ -191,7 +197,8 @@ sees_all view file same all =
     ∙ ap (λ n. record { length = file.length; segments = take n file.segments }) all
     ∙ ap (λ segments. record { length = file.length; segments = segments }) (take-length file.segments)
 
-view-taken : (s : State) (store : StoreValue) (handle inode : ℕ) (view : View) → IsStored s.tree store inode → HasSeen store inode view → s.count + 1 ≡ view.entry → IsView store inode (view_now s handle inode 0) view
+view-taken : (s : State) (store : StoreValue) (handle inode : ℕ) (view : View) → IsStored s.tree store inode → HasSeen store inode view
+    → s.count + 1 ≡ view.entry → IsView store inode (view_now s handle inode 0) view
 view-taken s store handle inode view stored seen entry =
     let file = stored.file in
     let sees = subst (λ o. IfSome o (λ (file : StoredFile). (view.seen.length ≡ file.length) × (view.seen.commits ≡ length file.segments))) stored.stored seen in
@@ -205,7 +212,8 @@ view-taken s store handle inode view stored seen entry =
 
 -- it is the handle's latest one, and no other handle's
 
-fresh-taken : (s : State) (handle inode : ℕ) (m : OpenFile) (views : List ModelView) → m.inode ≡ inode → m.opened ≤ s.count → fresh_view (view_now s handle inode 0 ∷ views) handle m 0 ≡ Some (view_now s handle inode 0)
+fresh-taken : (s : State) (handle inode : ℕ) (m : OpenFile) (views : List ModelView) → m.inode ≡ inode → m.opened ≤ s.count
+    → fresh_view (view_now s handle inode 0 ∷ views) handle m 0 ≡ Some (view_now s handle inode 0)
 fresh-taken s handle inode m views same before =
     let mine : (handle == handle) ≡ true = grind (arith, nat_tests) in
     let equal : (inode == m.inode) ≡ true = grind (arith, nat_tests) in
@@ -214,7 +222,8 @@ fresh-taken s handle inode m views same before =
     ∙ ap (λ b. if b && true && nat_lt m.opened (s.count + 1) then Some (view_now s handle inode 0) else fresh_view views handle m 0) equal
     ∙ ap (λ b. if b then Some (view_now s handle inode 0) else fresh_view views handle m 0) later
 
-fresh-not_taken : (s : State) (handle inode n : ℕ) (m : OpenFile) (views : List ModelView) → (n ≡ handle → ⊥) → fresh_view (view_now s handle inode 0 ∷ views) n m 0 ≡ fresh_view views n m 0
+fresh-not_taken : (s : State) (handle inode n : ℕ) (m : OpenFile) (views : List ModelView) → (n ≡ handle → ⊥)
+    → fresh_view (view_now s handle inode 0 ∷ views) n m 0 ≡ fresh_view views n m 0
 fresh-not_taken s handle inode n m views apart =
     let other : (handle == n) ≡ false = grind (arith, nat_tests) in
     ap (λ b. if b && (inode == m.inode) && true && nat_lt m.opened (s.count + 1) then Some (view_now s handle inode 0) else fresh_view views n m 0) other
@@ -251,7 +260,8 @@ looked-held s c store h handle m file view doing mine held is opened same stored
     }
 
 -- a reading in progress, by the handle and the file that the code names
-pub at_file : (h : ClientValue) (store : StoreValue) (handle offset len : ℕ) (file : Handle) (d : Doing) → h.doing ≡ Some d → d.does ≡ does.Reads offset len → IsReady store h → left h ≡ None
+pub at_file : (h : ClientValue) (store : StoreValue) (handle offset len : ℕ) (file : Handle) (d : Doing) → h.doing ≡ Some d → d.does ≡ does.Reads offset len
+    → IsReady store h → left h ≡ None
     → handle ≡ handle_of d.op → file_of h.handles handle ≡ Some file → IsAtFile h store handle offset len file d.progress d.has_moved
 at_file h store handle offset len file d busy of_does ready none names opened =
     let under = under_way h store d busy ready in
@@ -278,17 +288,20 @@ at_file h store handle offset len file d busy of_does ready none names opened =
 
 -- what is still known of the reading
 
-pub reading_on : {h : ClientValue} {store : StoreValue} {handle offset len : ℕ} {file : Handle} {progress : Progress} {moved : Bool} → IsAtFile h store handle offset len file progress moved
+pub reading_on : {h : ClientValue} {store : StoreValue} {handle offset len : ℕ} {file : Handle} {progress : Progress} {moved : Bool}
+    → IsAtFile h store handle offset len file progress moved
     → IsUnderWay h (reader handle offset len file.inode progress moved)
 reading_on {h} {store} {handle} {offset} {len} {file} {progress} {moved} at = under_way h store (reader handle offset len file.inode progress moved) at.busy at.ready
 
 -- the file of the model's client
-pub opened_in : (h : ClientValue) (store : StoreValue) (c : ModelClient) (count handle : ℕ) (file : Handle) → file_of h.handles handle ≡ Some file → IsHeld c count store h
+pub opened_in : (h : ClientValue) (store : StoreValue) (c : ModelClient) (count handle : ℕ) (file : Handle) → file_of h.handles handle ≡ Some file
+    → IsHeld c count store h
     → (m : OpenFile) × (file_of c.handles handle ≡ Some m) × IsHandle c.views count store handle m file
 opened_in h store c count handle file opened held =
     there_in (IsHandle c.views count store handle) (file_of c.handles handle) (file_of h.handles handle) file opened (file-same (IsHandle c.views count store) c.handles h.handles held.handles handle)
 
-pub flushed_in : (h : ClientValue) (store : StoreValue) (c : ModelClient) (count inode : ℕ) → is_some (segment_left (flush.File inode) h.pending) ≡ false → IsHeld c count store h → is_flushed (OfFiles (inode ∷ [])) c.pending ≡ true
+pub flushed_in : (h : ClientValue) (store : StoreValue) (c : ModelClient) (count inode : ℕ) → is_some (segment_left (flush.File inode) h.pending) ≡ false
+    → IsHeld c count store h → is_flushed (OfFiles (inode ∷ [])) c.pending ≡ true
 flushed_in h store c count inode none held = ap (λ pending. is_flushed (OfFiles (inode ∷ [])) pending) held.pending ∙ ap not none
 
 -- a look, in the model

@@ -80,7 +80,8 @@ module _ (h : ClientValue) where
       (leb-true (offset + len) WINDOW short)
 
   write_form : (handle offset : ℕ) (bytes : List ℕ) → (nat_le (offset + length bytes) WINDOW || nat_lt FILE_END (offset + length bytes)) ≡ true
-      → nat_le (length h.pending + length bytes) (pending_limit h.limits) ≡ true → names_closed h.handles (profile (op.Write handle offset bytes)).handles ≡ false
+      → nat_le (length h.pending + length bytes) (pending_limit h.limits) ≡ true
+      → names_closed h.handles (profile (op.Write handle offset bytes)).handles ≡ false
       → nat_lt FILE_END (offset + length bytes) ≡ false → IsForm h (starts (op.Write handle offset bytes))
   write_form handle offset bytes form few opened short =
       let closed = or_parts _ _ opened in

@@ -41,7 +41,8 @@ pub record HasView (s : State) (h : ClientValue) (store : StoreValue) (handle : 
   pub fresh : fresh_view (s.clients h.id).views handle m 0 ≡ Some seen
   pub same : IsView store file.inode seen view
 
-has_view : (s : State) (h : ClientValue) (store : StoreValue) (handle : ℕ) (file : Handle) (view : View) → file_of h.handles handle ≡ Some file → file.view ≡ Some view → IsHeld (s.clients h.id) s.count store h
+has_view : (s : State) (h : ClientValue) (store : StoreValue) (handle : ℕ) (file : Handle) (view : View) → file_of h.handles handle ≡ Some file
+    → file.view ≡ Some view → IsHeld (s.clients h.id) s.count store h
     → HasView s h store handle file view
 has_view s h store handle file view opened e held =
     let c = s.clients h.id in
@@ -50,12 +51,14 @@ has_view s h store handle file view opened e held =
     record { m = mine.0; is = mine.1; seen = seen.0; fresh = seen.1; same = seen.2 }
 
 -- what a read returns by it
-returns-view : (c : ModelClient) (handle offset len entry : ℕ) (m : OpenFile) (seen : ModelView) (bytes : List ℕ) → fresh_view c.views handle m 0 ≡ Some seen → seen.entry ≡ entry → 0 < len → offset + len ≤ window_size
+returns-view : (c : ModelClient) (handle offset len entry : ℕ) (m : OpenFile) (seen : ModelView) (bytes : List ℕ) → fresh_view c.views handle m 0 ≡ Some seen
+    → seen.entry ≡ entry → 0 < len → offset + len ≤ window_size
     → bytes_between seen.content offset (offset + len) ≡ bytes → reading c.views handle m (asked_parts offset len) entry 0 ≡ Some bytes
 returns-view c handle offset len entry m seen bytes fresh number some short shows =
     ap (λ n. reading c.views handle m (asked_parts offset len) n 0) (sym number) ∙ reading-cited c.views handle m offset len seen some short fresh ∙ ap Some shows
 
-data-of : (views : List ModelView) (handle offset len entry : ℕ) (o : Option OpenFile) (m : OpenFile) (bytes : List ℕ) → o ≡ Some m → reading views handle m (asked_parts offset len) entry 0 ≡ Some bytes
+data-of : (views : List ModelView) (handle offset len entry : ℕ) (o : Option OpenFile) (m : OpenFile) (bytes : List ℕ) → o ≡ Some m
+    → reading views handle m (asked_parts offset len) entry 0 ≡ Some bytes
     → elim o as (λ _. List ℕ) [ None ↦ [] | Some file ↦ or_no_bytes (reading views handle file (asked_parts offset len) entry 0) ] ≡ bytes
 data-of views handle offset len entry o m bytes is reads =
     ap (λ o. elim o as (λ _. List ℕ) [ None ↦ [] | Some file ↦ or_no_bytes (reading views handle file (asked_parts offset len) entry 0) ]) is ∙ ap or_no_bytes reads
@@ -106,8 +109,10 @@ sees_in c handle None parts = false
 sees_in c handle (Some file) [] = false
 sees_in c handle (Some file) (asked ∷ others) = is_some (fresh_view c.views handle file asked.window)
 
-sees_view : (c : ModelClient) (handle offset len inode : ℕ) (progress : Progress) (moved : Bool) (m : OpenFile) (seen : ModelView) → 0 < len → offset + len ≤ window_size
-    → file_of c.handles handle ≡ Some m → fresh_view c.views handle m 0 ≡ Some seen → sees_first c (doing_of (reader handle offset len inode progress moved)) (asked_parts offset len) ≡ true
+sees_view : (c : ModelClient) (handle offset len inode : ℕ) (progress : Progress) (moved : Bool) (m : OpenFile) (seen : ModelView) → 0 < len
+    → offset + len ≤ window_size
+    → file_of c.handles handle ≡ Some m → fresh_view c.views handle m 0 ≡ Some seen
+    → sees_first c (doing_of (reader handle offset len inode progress moved)) (asked_parts offset len) ≡ true
 sees_view c handle offset len inode progress moved m seen some short is fresh =
     ap (sees_first c (doing_of (reader handle offset len inode progress moved))) (one_part offset len some short) ∙ ap (λ o. sees_in c handle o (first_part offset len ∷ [])) is ∙ ap is_some fresh
 
@@ -116,7 +121,8 @@ quiet_when true true gone e f = refl
 quiet_when true false gone e f = absurd (cc f)
 quiet_when false sees gone e f = refl
 
-reads_when : (flushed sees : Bool) (shown gone flushing : Stage) → flushed ≡ true → sees ≡ true → (if flushed then (if sees then shown else gone) else flushing) ≡ shown
+reads_when : (flushed sees : Bool) (shown gone flushing : Stage) → flushed ≡ true → sees ≡ true
+    → (if flushed then (if sees then shown else gone) else flushing) ≡ shown
 reads_when true true shown gone flushing e f = refl
 reads_when true false shown gone flushing e f = absurd (cc f)
 reads_when false sees shown gone flushing e f = absurd (cc e)
@@ -134,13 +140,15 @@ module _ (s : State) (client now : ℕ) (c : ModelClient) (handle offset len ino
   abbrev model_of : Progress → ModelDoing
   model_of progress = doing_of (reader handle offset len inode progress moved)
 
-  quiet-allowed : (start : Start) (progress : Progress) → AsksFirst progress → is_flushed (OfFiles (inode ∷ [])) c.pending ≡ true → sees_first c (model_of progress) (asked_parts offset len) ≡ true
+  quiet-allowed : (start : Start) (progress : Progress) → AsksFirst progress → is_flushed (OfFiles (inode ∷ [])) c.pending ≡ true
+      → sees_first c (model_of progress) (asked_parts offset len) ≡ true
       → may_be_quiet start s client now c (model_of progress) (stage_of progress) ≡ true
   quiet-allowed start (Working zero started) first flushed sees = quiet_when _ _ (is_some (look_refusal s.tree c (inode_at c handle))) flushed sees
   quiet-allowed start (Working (suc quiets) started) first flushed sees = absurd (omega (arith, first))
   quiet-allowed start Reading first flushed sees = refl
 
-  quieted-reads : (progress : Progress) → AsksFirst progress → is_flushed (OfFiles (inode ∷ [])) c.pending ≡ true → sees_first c (model_of progress) (asked_parts offset len) ≡ true
+  quieted-reads : (progress : Progress) → AsksFirst progress → is_flushed (OfFiles (inode ∷ [])) c.pending ≡ true
+      → sees_first c (model_of progress) (asked_parts offset len) ≡ true
       → quieted s client c now (model_of progress) (stage_of progress) ≡ ModelReading 0
   quieted-reads (Working zero started) first flushed sees =
       reads_when _ _ (ModelReading 0) (refused_look s c (inode_at c handle) (model_of (Working zero started)).stage) (flushing_on s c now zero started) flushed sees
@@ -193,7 +201,8 @@ pub record BeforeShow (h : ClientValue) (store : StoreValue) (offset len : ℕ) 
   pub busy : h.doing ≡ Some d
   pub at : IsAtFile h store handle offset len file d.progress d.has_moved
 
-pub before_show : (h : ClientValue) (store : StoreValue) (offset len : ℕ) (file : Handle) → does_of h.doing ≡ Some (does.Reads offset len) → IfSome h.doing (λ d. file_of h.handles (handle_of d.op) ≡ Some file)
+pub before_show : (h : ClientValue) (store : StoreValue) (offset len : ℕ) (file : Handle) → does_of h.doing ≡ Some (does.Reads offset len)
+    → IfSome h.doing (λ d. file_of h.handles (handle_of d.op) ≡ Some file)
     → IsReady store h → left h ≡ None → BeforeShow h store offset len file
 before_show h store offset len file reads opened ready flushed =
     let doing = that_does h.doing (does.Reads offset len) reads in
@@ -201,7 +210,8 @@ before_show h store offset len file reads opened ready flushed =
     let named = subst (λ o. IfSome o (λ d. file_of h.handles (handle_of d.op) ≡ Some file)) doing.1 opened in
     record { handle = handle_of d.op; d = d; busy = doing.1; at = at_file h store (handle_of d.op) offset len file d doing.1 doing.2 ready flushed refl named }
 
-pub shows_nothing : (now entry offset len : ℕ) (h after : ClientValue) (store : StoreValue) (file : Handle) (view : View) (told : Told) (bytes : List ℕ) → BeforeShow h store offset len file
+pub shows_nothing : (now entry offset len : ℕ) (h after : ClientValue) (store : StoreValue) (file : Handle) (view : View) (told : Told) (bytes : List ℕ)
+    → BeforeShow h store offset len file
     → file.view ≡ Some view → view.seen.length ≤ offset → after ≡ ended h → told ≡ Looks view.entry 0 0 → bytes ≡ []
     → Makes now entry h after store store (Answer told (Data bytes))
 shows_nothing now entry offset len h after store file view told bytes before e past of_after of_told of_bytes =
@@ -209,8 +219,10 @@ shows_nothing now entry offset len h after store file view told bytes before e p
     makes_as of_after refl made
     (show_none now entry before.handle offset len before.d.progress before.d.has_moved h store file view before.at e past (le-ltb offset view.seen.length past))
 
-pub shows_all : (now entry offset len : ℕ) (h after : ClientValue) (store : StoreValue) (file : Handle) (view : View) (told : Told) (bytes : List ℕ) → BeforeShow h store offset len file
-    → file.view ≡ Some view → IfSome (slice_get store.files.files (file.inode - 2)) (λ stored. bytes ≡ shown_between (as_seen view.seen stored) offset (offset + len))
+pub shows_all : (now entry offset len : ℕ) (h after : ClientValue) (store : StoreValue) (file : Handle) (view : View) (told : Told) (bytes : List ℕ)
+    → BeforeShow h store offset len file
+    → file.view ≡ Some view
+    → IfSome (slice_get store.files.files (file.inode - 2)) (λ stored. bytes ≡ shown_between (as_seen view.seen stored) offset (offset + len))
     → after ≡ ended h → told ≡ Looks view.entry 0 (length bytes)
     → Makes now entry h after store store (Both Quiet told (Data bytes))
 shows_all now entry offset len h after store file view told bytes before e shows of_after of_told =

@@ -24,7 +24,8 @@ use Rattle.jv_client.proofs.TableLaws.{there_in}
 
 -- what the model's client is doing
 
-pub with_stage-doing : (stage : Stage) (c : ModelClient) (d : ModelDoing) → c.doing ≡ Some d → with_stage stage c ≡ record c { doing = Some (record d { stage = stage; moved = true }) }
+pub with_stage-doing : (stage : Stage) (c : ModelClient) (d : ModelDoing) → c.doing ≡ Some d
+    → with_stage stage c ≡ record c { doing = Some (record d { stage = stage; moved = true }) }
 with_stage-doing stage c d e =
     ap (λ o. elim o as (λ _. ModelClient) [ None ↦ c | Some doing ↦ record c { doing = Some (record doing { stage = stage; moved = true }) } ]) e
 
@@ -43,7 +44,8 @@ doing-is m d h =
     ∙ ap (λ stage. record m { op = d.op; does = d.does; flush = flush_of_code d.flush; stage = stage }) h.stage
     ∙ ap (λ moved. record m { op = d.op; does = d.does; flush = flush_of_code d.flush; stage = stage_of d.progress; moved = moved }) h.moved
 
-pub client-doing : {m : ModelClient} {count : ℕ} {store : StoreValue} {h : ClientValue} (d : Doing) → h.doing ≡ Some d → IsClient m count store h → m.doing ≡ Some (doing_of d)
+pub client-doing : {m : ModelClient} {count : ℕ} {store : StoreValue} {h : ClientValue} (d : Doing) → h.doing ≡ Some d → IsClient m count store h
+    → m.doing ≡ Some (doing_of d)
 client-doing {m} {count} {store} {h} d busy is = let there = there_in IsDoing m.doing h.doing d busy is.doing in there.1 ∙ ap Some (doing-is there.0 d there.2)
 
 -- a request that changed nothing of the tree
@@ -72,13 +74,15 @@ answer_is : (c : ModelClient) (d : ModelDoing) (told : Told) (reply : Reply) →
 answer_is c d told reply busy says = ap (λ (o : Option ModelDoing). elim o as (λ _. Option Reply) [ None ↦ None | Some d ↦ Some (reply_of c d told) ]) busy ∙ ap Some says
 
 -- an answer of the operation in progress, and not of another
-answered_client-doing : (told : Told) (c : ModelClient) (d : ModelDoing) → c.doing ≡ Some d → is_of_another d.stage told ≡ false → answered_client told c ≡ after_told d.op told c
+answered_client-doing : (told : Told) (c : ModelClient) (d : ModelDoing) → c.doing ≡ Some d → is_of_another d.stage told ≡ false
+    → answered_client told c ≡ after_told d.op told c
 answered_client-doing told c d e own =
     ap (λ o. elim o as (λ _. ModelClient) [ None ↦ c | Some doing ↦ (if is_of_another doing.stage told then c else after_told doing.op told c) ]) e
     ∙ ap (λ b. if b then c else after_told d.op told c) own
 
 -- the client after its answer
-answered-is : (s : State) (client now : ℕ) (told : Told) (c : ModelClient) (d : ModelDoing) → s.clients client ≡ c → c.doing ≡ Some d → is_of_another d.stage told ≡ false
+answered-is : (s : State) (client now : ℕ) (told : Told) (c : ModelClient) (d : ModelDoing) → s.clients client ≡ c → c.doing ≡ Some d
+    → is_of_another d.stage told ≡ false
     → (stepped s client now (Answered told)).clients client ≡ after_told d.op told c
 answered-is s client now told c d at busy own = own_client s.clients client _ ∙ ap (answered_client told) at ∙ answered_client-doing told c d busy own
 
@@ -98,7 +102,8 @@ steps_alone s client now d told reply after store busy begins says has_store is 
 -- a request, and its answer
 pub steps_after : (s : State) (client now : ℕ) (kind : ActKind) (c : ModelClient) (d : ModelDoing) (told : Told) (reply : Reply) (after : ClientValue) (store : StoreValue)
     → ((start : Start) (alone : Bool) → IsEntry start alone s client now kind true) → is_answer kind ≡ false
-    → (stepped s client now kind).clients client ≡ c → c.doing ≡ Some d → begins_step d (Answered told) ≡ false → Says (stepped s client now kind) client now c d told reply
+    → (stepped s client now kind).clients client ≡ c → c.doing ≡ Some d → begins_step d (Answered told) ≡ false
+    → Says (stepped s client now kind) client now c d told reply
     → HasStore (stepped s client now kind).tree store → IsClient (after_told d.op told c) (s.count + 1 + 1) store after
     → StepsTo s client now (kind ∷ Answered told ∷ []) (Done reply) after store
 steps_after s client now kind c d told reply after store entry asks leads busy begins says has_store is = record {

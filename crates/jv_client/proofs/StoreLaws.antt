@@ -16,11 +16,13 @@ use Rattle.jv_client.specs.Held.{IsHeld}
 
 -- the session of a mounted client
 
-session_in : (t : Tree) (store : StoreValue) (session : Option ℕ) → HasStore t store → IfSome session (IsSession store) → is_some session ≡ true → is_some (get t.sessions (unwrap_or session 0)) ≡ true
+session_in : (t : Tree) (store : StoreValue) (session : Option ℕ) → HasStore t store → IfSome session (IsSession store) → is_some session ≡ true
+    → is_some (get t.sessions (unwrap_or session 0)) ≡ true
 session_in t store None has made some = absurd (cc some)
 session_in t store (Some sid) has made some = has.sessions sid made
 
-pub session-there : {m : ModelClient} {count : ℕ} {h : ClientValue} (t : Tree) (store : StoreValue) → HasStore t store → IsHeld m count store h → is_some h.session ≡ true → has_session t m ≡ true
+pub session-there : {m : ModelClient} {count : ℕ} {h : ClientValue} (t : Tree) (store : StoreValue) → HasStore t store → IsHeld m count store h
+    → is_some h.session ≡ true → has_session t m ≡ true
 session-there {m} {count} {h} t store has held some =
     ap (λ session. is_some (get t.sessions (unwrap_or session 0))) held.session ∙ session_in t store h.session has held.mounted some
 

@@ -25,7 +25,8 @@ module _ {X Y : Type 0} (P : ℕ → X → Y → Type 0) where
   closed-same xs ys h handle = ap not (some-same (P handle) _ _ (file-same P xs ys h handle))
 
   -- a handle that isn't open
-  pub names_closed-same : (xs : List (Option X)) (ys : List (Option Y)) → SameTable P 1 xs ys → (handles : Handles) → names_closed xs handles ≡ names_closed ys handles
+  pub names_closed-same : (xs : List (Option X)) (ys : List (Option Y)) → SameTable P 1 xs ys → (handles : Handles)
+      → names_closed xs handles ≡ names_closed ys handles
   names_closed-same xs ys h named.None = refl
   names_closed-same xs ys h (named.One handle) = ap (λ b. b || false) (closed-same xs ys h handle)
   names_closed-same xs ys h (named.Two first second) =
@@ -66,7 +67,8 @@ module _ (m : ModelClient) (count : ℕ) (store : StoreValue) (c : ClientValue) 
   full-same true = refl
   full-same false = refl
 
-  by-flushes : IsHeld m count store c → (row : Profile) (flushes : Flushes) → row.flushes ≡ flushes → flush_of c.limits.buffer m row ≡ flush_of_code (flush_here c row)
+  by-flushes : IsHeld m count store c → (row : Profile) (flushes : Flushes) → row.flushes ≡ flushes
+      → flush_of c.limits.buffer m row ≡ flush_of_code (flush_here c row)
   by-flushes h row Nothing e = rw e refl
   by-flushes h row ItsFiles e = rw e (files-same h row.handles)
   by-flushes h row (IfFull len) e = rw e (ap (λ (bytes : List PendingByte). if nat_lt c.limits.buffer (length bytes + len) then OfAll else OfFiles []) h.pending ∙ full-same (nat_lt c.limits.buffer (length c.pending + len)))

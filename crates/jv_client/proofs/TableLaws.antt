@@ -25,7 +25,8 @@ module _ {X : Type 0} (Q : X → Type 0) where
   all-by false k x xs q h = all-longer x xs q h
 
 -- what holds of all places, and of what a handle is given
-pub all-with_file : {X : Type 0} (Q : Option X → Type 0) (handle : ℕ) (file : Option X) (files : List (Option X)) → Q file → AllByRecursion Q files → AllByRecursion Q (with_file handle file files)
+pub all-with_file : {X : Type 0} (Q : Option X → Type 0) (handle : ℕ) (file : Option X) (files : List (Option X)) → Q file → AllByRecursion Q files
+    → AllByRecursion Q (with_file handle file files)
 all-with_file Q handle file files q h = all-by Q (nat_le handle (length files)) (handle - 1) file files q h
 
 -- an open handle: its place
@@ -51,7 +52,8 @@ open_at files zero file e = absurd (cc e)
 open_at files (suc k) file e = let is = sym (file_of-place files k) ∙ e in record { place = k; number = omega arith; is = is; inside = in_list files k file is }
 
 -- it stays in its place
-pub with_file-open : {X : Type 0} (files : List (Option X)) (handle : ℕ) (file : X) (new : Option X) (o : IsOpenAt files handle file) → with_file handle new files ≡ slice_set files o.place new
+pub with_file-open : {X : Type 0} (files : List (Option X)) (handle : ℕ) (file : X) (new : Option X) (o : IsOpenAt files handle file)
+    → with_file handle new files ≡ slice_set files o.place new
 with_file-open files handle file new o =
     let number = o.number in
     let inside = o.inside in
@@ -60,19 +62,22 @@ with_file-open files handle file new o =
     ap (λ b. if b then slice_set files (handle - 1) new else files ++ new ∷ []) low ∙ ap (λ k. slice_set files k new) index
 
 -- and names what it is given
-pub file_of-with_file : {X : Type 0} (files : List (Option X)) (handle : ℕ) (file : X) (new : Option X) → file_of files handle ≡ Some file → file_of (with_file handle new files) handle ≡ new
+pub file_of-with_file : {X : Type 0} (files : List (Option X)) (handle : ℕ) (file : X) (new : Option X) → file_of files handle ≡ Some file
+    → file_of (with_file handle new files) handle ≡ new
 file_of-with_file files handle file new e =
     let o = open_at files handle file e in
     ap (λ files. file_of files handle) (with_file-open files handle file new o) ∙ ap (λ n. file_of (slice_set files o.place new) n) o.number
     ∙ (let next : 1 + o.place ≡ suc o.place = omega arith in ap (λ n. file_of (slice_set files o.place new) n) next) ∙ file_of-place (slice_set files o.place new) o.place ∙ ap file_in (slice_get-set files o.place new o.inside)
 
 -- what holds of all places holds of an open handle
-all-in : {X : Type 0} (Q : Option X → Type 0) (files : List (Option X)) (k : ℕ) (file : X) → AllByRecursion Q files → file_in (slice_get files k) ≡ Some file → Q (Some file)
+all-in : {X : Type 0} (Q : Option X → Type 0) (files : List (Option X)) (k : ℕ) (file : X) → AllByRecursion Q files → file_in (slice_get files k) ≡ Some file
+    → Q (Some file)
 all-in Q [] k file h e = absurd (cc e)
 all-in Q (x ∷ xs) zero file h e = subst Q (let is : x ≡ Some file = e in is) h.0
 all-in Q (x ∷ xs) (suc k) file h e = all-in Q xs k file h.1 e
 
-pub all-at : {X : Type 0} (Q : Option X → Type 0) (files : List (Option X)) (handle : ℕ) (file : X) → AllByRecursion Q files → file_of files handle ≡ Some file → Q (Some file)
+pub all-at : {X : Type 0} (Q : Option X → Type 0) (files : List (Option X)) (handle : ℕ) (file : X) → AllByRecursion Q files → file_of files handle ≡ Some file
+    → Q (Some file)
 all-at Q files handle file h e = let o = open_at files handle file e in all-in Q files o.place file h o.is
 
 -- a table whose files all changed
@@ -132,7 +137,8 @@ module _ {X Y : Type 0} where
   same_table-by P Q n (x ∷ xs) [] f h = absurd h
   same_table-by P Q n (x ∷ xs) (y ∷ ys) f h = (same_place-by (P n) (Q n) x y (f n) h.0, same_table-by P Q (n + 1) xs ys f h.1)
 
-  same-above : (P Q : ℕ → X → Y → Type 0) (low n : ℕ) (xs : List (Option X)) (ys : List (Option Y)) → low < n → ((m : ℕ) (a : X) (b : Y) → (m ≡ low → ⊥) → P m a b → Q m a b)
+  same-above : (P Q : ℕ → X → Y → Type 0) (low n : ℕ) (xs : List (Option X)) (ys : List (Option Y)) → low < n
+      → ((m : ℕ) (a : X) (b : Y) → (m ≡ low → ⊥) → P m a b → Q m a b)
       → SameTable P n xs ys → SameTable Q n xs ys
   same-above P Q low n [] [] less f h = tt
   same-above P Q low n [] (y ∷ ys) less f h = absurd h
@@ -140,7 +146,8 @@ module _ {X Y : Type 0} where
   same-above P Q low n (x ∷ xs) (y ∷ ys) less f h =
       (same_place-by (P n) (Q n) x y (λ a b. f n a b (λ e. omega (arith, less, e))) h.0, same-above P Q low (n + 1) xs ys (omega (arith, less)) f h.1)
 
-  same-given : (P Q : ℕ → X → Y → Type 0) (at n k : ℕ) (xs : List (Option X)) (ys : List (Option Y)) (x : X) (new : Y) → at ≡ n + k → ((m : ℕ) (a : X) (b : Y) → (m ≡ at → ⊥) → P m a b → Q m a b)
+  same-given : (P Q : ℕ → X → Y → Type 0) (at n k : ℕ) (xs : List (Option X)) (ys : List (Option Y)) (x : X) (new : Y) → at ≡ n + k
+      → ((m : ℕ) (a : X) (b : Y) → (m ≡ at → ⊥) → P m a b → Q m a b)
       → file_in (slice_get xs k) ≡ Some x → Q at x new → SameTable P n xs ys → SameTable Q n xs (slice_set ys k (Some new))
   same-given P Q at n k [] [] x new number f e q h = tt
   same-given P Q at n k [] (y ∷ ys) x new number f e q h = absurd h
@@ -153,8 +160,10 @@ module _ {X Y : Type 0} where
       (same_place-by (P n) (Q n) x' y (λ a b. f n a b (λ e. omega (arith, number, e))) h.0, same-given P Q at (n + 1) k xs ys x new (omega (arith, number)) f e q h.1)
 
   -- a handle is given something that its file is related to, and all others stay related
-  pub same-with_file : (P Q : ℕ → X → Y → Type 0) (handle : ℕ) (xs : List (Option X)) (ys : List (Option Y)) (x : X) (old new : Y) → file_of xs handle ≡ Some x → file_of ys handle ≡ Some old
-      → ((m : ℕ) (a : X) (b : Y) → (m ≡ handle → ⊥) → P m a b → Q m a b) → Q handle x new → SameTable P 1 xs ys → SameTable Q 1 xs (with_file handle (Some new) ys)
+  pub same-with_file : (P Q : ℕ → X → Y → Type 0) (handle : ℕ) (xs : List (Option X)) (ys : List (Option Y)) (x : X) (old new : Y) → file_of xs handle ≡ Some x
+      → file_of ys handle ≡ Some old
+      → ((m : ℕ) (a : X) (b : Y) → (m ≡ handle → ⊥) → P m a b → Q m a b) → Q handle x new → SameTable P 1 xs ys
+      → SameTable Q 1 xs (with_file handle (Some new) ys)
   same-with_file P Q handle xs ys x old new e opened f q h =
       let o = open_at ys handle old opened in
       let number = o.number in
@@ -182,7 +191,8 @@ module _ {X Y : Type 0} (P : ℕ → X → Y → Type 0) where
   count-same number (Some x ∷ xs) (Some y ∷ ys) h = ap (λ n. 1 + n) (count-same (number + 1) xs ys h.1)
 
   -- what stands at an index
-  pub place-same : (number : ℕ) (xs : List (Option X)) (ys : List (Option Y)) → SameTable P number xs ys → (n : ℕ) → SamePlace (P (number + n)) (file_in (slice_get xs n)) (file_in (slice_get ys n))
+  pub place-same : (number : ℕ) (xs : List (Option X)) (ys : List (Option Y)) → SameTable P number xs ys → (n : ℕ)
+      → SamePlace (P (number + n)) (file_in (slice_get xs n)) (file_in (slice_get ys n))
   place-same number [] [] h n = tt
   place-same number [] (y ∷ ys) h n = absurd h
   place-same number (x ∷ xs) [] h n = absurd h
@@ -203,7 +213,8 @@ module _ {X Y : Type 0} (P : ℕ → X → Y → Type 0) where
   none-unless false m n x y same h = subst (λ k. SamePlace (P k) x y) (same refl) h
 
   -- what a handle names
-  pub file-same : (xs : List (Option X)) (ys : List (Option Y)) → SameTable P 1 xs ys → (handle : ℕ) → SamePlace (P handle) (file_of xs handle) (file_of ys handle)
+  pub file-same : (xs : List (Option X)) (ys : List (Option Y)) → SameTable P 1 xs ys → (handle : ℕ)
+      → SamePlace (P handle) (file_of xs handle) (file_of ys handle)
   file-same xs ys h handle = none-unless (handle == 0) (1 + (handle - 1)) handle _ _ (λ some. not_zero handle some) (place-same 1 xs ys h (handle - 1))
 
   -- a change at the same handle of both
@@ -215,7 +226,8 @@ module _ {X Y : Type 0} (P : ℕ → X → Y → Type 0) where
   length-same number (x ∷ xs) (y ∷ ys) h = ap suc (length-same (number + 1) xs ys h.1)
 
   module _ (x : Option X) (y : Option Y) (same : (n : ℕ) → SamePlace (P n) x y) where
-    same-set : (number k : ℕ) (xs : List (Option X)) (ys : List (Option Y)) → SameTable P number xs ys → SameTable P number (slice_set xs k x) (slice_set ys k y)
+    same-set : (number k : ℕ) (xs : List (Option X)) (ys : List (Option Y)) → SameTable P number xs ys
+        → SameTable P number (slice_set xs k x) (slice_set ys k y)
     same-set number k [] [] h = tt
     same-set number k [] (b ∷ ys) h = absurd h
     same-set number k (a ∷ xs) [] h = absurd h
@@ -233,7 +245,8 @@ module _ {X Y : Type 0} (P : ℕ → X → Y → Type 0) where
     set-by true k xs ys h = same-set 1 k xs ys h
     set-by false k xs ys h = same-longer 1 xs ys h
 
-    pub same-with_files : (handle : ℕ) (xs : List (Option X)) (ys : List (Option Y)) → SameTable P 1 xs ys → SameTable P 1 (with_file handle x xs) (with_file handle y ys)
+    pub same-with_files : (handle : ℕ) (xs : List (Option X)) (ys : List (Option Y)) → SameTable P 1 xs ys
+        → SameTable P 1 (with_file handle x xs) (with_file handle y ys)
     same-with_files handle xs ys h =
         subst (λ n. SameTable P 1 (with_file handle x xs) (if nat_le handle n then slice_set ys (handle - 1) y else ys ++ y ∷ [])) (length-same 1 xs ys h)
         (set-by (nat_le handle (length xs)) (handle - 1) xs ys h)

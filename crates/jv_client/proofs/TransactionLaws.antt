@@ -73,7 +73,8 @@ handle-opened count handle inode store views h = record {
   view = subst (λ (o : Option ModelView). SamePlace (IsView store inode) o None) (sym (fresh-before count handle inode views h)) tt;
 }
 
-pub held-given : {m : ModelClient} {count : ℕ} {store grown : StoreValue} {h : ClientValue} (what : Does) (gift : Gift) → Grows store grown → IsDirect what → IsGift grown h.handles gift
+pub held-given : {m : ModelClient} {count : ℕ} {store grown : StoreValue} {h : ClientValue} (what : Does) (gift : Gift) → Grows store grown → IsDirect what
+    → IsGift grown h.handles gift
     → IsHeld m count store h → IsHeld (given (count + 1) what gift m) (count + 1) grown (given_here (count + 1) gift h)
 held-given {m} {count} {store} {grown} {h} what (NewSession sid) g direct there held =
     let later = held-later {later = count + 1} g (omega arith) held in
@@ -114,7 +115,8 @@ never_both : (b : Bool) → (b && not b) ≡ false
 never_both true = refl
 never_both false = refl
 
-none_sustained : (now before : ℕ → Bool) (inodes : List ℕ) → ((inode : ℕ) → now inode ≡ before inode) → filter (λ inode. now inode && not (before inode)) inodes ≡ []
+none_sustained : (now before : ℕ → Bool) (inodes : List ℕ) → ((inode : ℕ) → now inode ≡ before inode)
+    → filter (λ inode. now inode && not (before inode)) inodes ≡ []
 none_sustained now before [] same = refl
 none_sustained now before (inode ∷ inodes) same =
     let none : (now inode && not (before inode)) ≡ false = ap (λ b. b && not (before inode)) (same inode) ∙ never_both (before inode) in
@@ -147,7 +149,8 @@ steps-by_gift s client now d (NewHandle handle inode) busy =
 steps-by_gift s client now d Nothing busy =
     ap (λ (o : Option ModelDoing). let t : State = record (of_doing s (entry_of 0 now client (entry_of_gift Nothing)) o) { count = s.count + 1 } in t) busy
 
-may-by_gift : (start : Start) (alone : Bool) (s : State) (client now : ℕ) (c : ModelClient) (d : ModelDoing) (gift : Gift) → Transaction s client now c d (entry_of_gift gift)
+may-by_gift : (start : Start) (alone : Bool) (s : State) (client now : ℕ) (c : ModelClient) (d : ModelDoing) (gift : Gift)
+    → Transaction s client now c d (entry_of_gift gift)
     → MayStep start alone s client now c d (entry_of_gift gift)
 may-by_gift start alone s client now c d (NewSession sid) h = h
 may-by_gift start alone s client now c d (NewHandle handle inode) h = h
@@ -196,7 +199,8 @@ module _ (s : State) (client now : ℕ) (d : ModelDoing) (reply : Reply) (grown 
   }
 
   -- it leads to where the answer ends the operation
-  pub meta-answers : (after : ClientValue) → IsClient (record (given (s.count + 1) d.does (gift_of reply) (s.clients client)) { doing = None }) (s.count + 1 + 1) grown after
+  pub meta-answers : (after : ClientValue)
+      → IsClient (record (given (s.count + 1) d.does (gift_of reply) (s.clients client)) { doing = None }) (s.count + 1 + 1) grown after
       → StepsTo s client now (first ∷ Answered (told_of reply) ∷ []) (Done reply) after grown
   meta-answers after is =
       steps_after s client now first (replying (s.count + 1) d reply (s.clients client)) settling (told_of reply) reply after grown meta-entry (no_answer-by_gift (gift_of reply)) between-client refl fine
@@ -273,7 +277,8 @@ meta-leads now h d store grown reply busy way one does_so s has is =
     (record { held = held-later (grows-same grown) (omega arith) (held-doing None None held); doing = tt })
 
 -- A metadata transaction is one step, which answers.
-pub meta-step : (now entry : ℕ) (h : ClientValue) (d : Doing) (store grown : StoreValue) (reply : Reply) → h.doing ≡ Some d → IsReady store h → IsTrue (makes_one d.does)
+pub meta-step : (now entry : ℕ) (h : ClientValue) (d : Doing) (store grown : StoreValue) (reply : Reply) → h.doing ≡ Some d → IsReady store h
+    → IsTrue (makes_one d.does)
     → Transacts d.op h.handles store grown reply
     → Makes now entry h (given_here entry (gift_of reply) h) store grown (Both (entry_of_gift (gift_of reply)) (told_of reply) reply)
 meta-step now entry h d store grown reply busy ready one does_so =
@@ -290,7 +295,8 @@ meta-step now entry h d store grown reply busy ready one does_so =
     }
 
 -- a transaction of a mounted client
-pub transact-makes : (now entry : ℕ) (h : ClientValue) (handles : List (Option Handle)) (d : Doing) (store grown : StoreValue) (reply : Reply) (made : Made) → h.doing ≡ Some d
+pub transact-makes : (now entry : ℕ) (h : ClientValue) (handles : List (Option Handle)) (d : Doing) (store grown : StoreValue) (reply : Reply) (made : Made)
+    → h.doing ≡ Some d
     → IsReady store h → IsTrue (transacts d.does) → Gives d.op entry h.handles handles store grown reply
     → made ≡ Both (entry_of_gift (gift_of reply)) (told_of reply) reply → Makes now entry h (record h { handles = handles; doing = None }) store grown made
 transact-makes now entry h handles d store grown reply made busy ready one gives is =
@@ -307,8 +313,10 @@ mount_of h d (FormTransacts o what first session) one = absurd (cc (sym one ∙ 
 mount_of h d (Writes handle offset bytes file o what first opened short few) one = absurd (cc (sym one ∙ ap mounts what))
 mount_of h d (Flushes handle file for first opened session) one = absurd (not_of_handle d handle for (or_left (mounts d.does) _ one))
 
-mount-makes : (now entry : ℕ) (h : ClientValue) (store grown : StoreValue) (reply : Reply) → IsSome h.doing → IsReady store h → IfSome h.doing (λ d. IsTrue (mounts d.does))
-    → Transacts (op.Mount false) h.handles store grown reply → Makes now entry h (given_here entry (gift_of reply) h) store grown (Both (entry_of_gift (gift_of reply)) (told_of reply) reply)
+mount-makes : (now entry : ℕ) (h : ClientValue) (store grown : StoreValue) (reply : Reply) → IsSome h.doing → IsReady store h
+    → IfSome h.doing (λ d. IsTrue (mounts d.does))
+    → Transacts (op.Mount false) h.handles store grown reply
+    → Makes now entry h (given_here entry (gift_of reply) h) store grown (Both (entry_of_gift (gift_of reply)) (told_of reply) reply)
 mount-makes now entry h store grown reply busy ready one does_so =
     let there = the_some h.doing busy in
     let d = there.0 in

@@ -76,19 +76,22 @@ module _ (inode count later : ℕ) (views : List ModelView) (store grown : Store
             })
       ]
 
-  place-committed : (n : ℕ) (file : Option OpenFile) (handle : Option Handle) → SamePlace (Before n) file handle → SamePlace (After n) file (unseen inode handle)
+  place-committed : (n : ℕ) (file : Option OpenFile) (handle : Option Handle) → SamePlace (Before n) file handle
+      → SamePlace (After n) file (unseen inode handle)
   place-committed n None None h = tt
   place-committed n None (Some handle) h = absurd h
   place-committed n (Some file) None h = absurd h
   place-committed n (Some file) (Some handle) h = handle-committed n file handle h
 
-  pub table-committed : (n : ℕ) (files : List (Option OpenFile)) (handles : List (Option Handle)) → SameTable Before n files handles → SameTable After n files (map (unseen inode) handles)
+  pub table-committed : (n : ℕ) (files : List (Option OpenFile)) (handles : List (Option Handle)) → SameTable Before n files handles
+      → SameTable After n files (map (unseen inode) handles)
   table-committed n [] [] h = tt
   table-committed n [] (handle ∷ handles) h = absurd h
   table-committed n (file ∷ files) [] h = absurd h
   table-committed n (file ∷ files) (handle ∷ handles) h = (place-committed n file handle h.0, table-committed (n + 1) files handles h.1)
 
-  pub views-committed : (some : List ModelView) → AllByRecursion (λ (v : ModelView). v.entry ≤ count) some → AllByRecursion (λ (v : ModelView). v.entry ≤ later) (views_without inode some)
+  pub views-committed : (some : List ModelView) → AllByRecursion (λ (v : ModelView). v.entry ≤ count) some
+      → AllByRecursion (λ (v : ModelView). v.entry ≤ later) (views_without inode some)
   views-committed [] h = tt
   views-committed (view ∷ some) h =
       let low = h.0 in
@@ -102,7 +105,8 @@ of_file-unseen : (store : StoreValue) (inode : ℕ) (handle : Option Handle) →
 of_file-unseen store inode None h = tt
 of_file-unseen store inode (Some handle) h = elim (handle.inode == inode) as (λ b. IsOfFile store (if b then Some (record handle { view = None }) else Some handle)) [ true ↦ h | false ↦ h ]
 
-pub all_of_file-unseen : (store : StoreValue) (inode : ℕ) (handles : List (Option Handle)) → AllByRecursion (IsOfFile store) handles → AllByRecursion (IsOfFile store) (map (unseen inode) handles)
+pub all_of_file-unseen : (store : StoreValue) (inode : ℕ) (handles : List (Option Handle)) → AllByRecursion (IsOfFile store) handles
+    → AllByRecursion (IsOfFile store) (map (unseen inode) handles)
 all_of_file-unseen store inode [] h = tt
 all_of_file-unseen store inode (handle ∷ handles) h = (of_file-unseen store inode handle h.0, all_of_file-unseen store inode handles h.1)
 
@@ -122,6 +126,7 @@ some-unseen inode handle = elim (handle.inode == inode) as (λ b. is_some (if b 
 view_here-none : (h : ClientValue) (d : Doing) (file : Handle) → file_of h.handles (handle_of d.op) ≡ Some file → file.view ≡ None → view_here h d ≡ None
 view_here-none h d file there none = rw there none
 
-pub reads-unseen : (h : ClientValue) (d : Doing) (offset len : ℕ) (file : Handle) → d.does ≡ does.Reads offset len → file_of h.handles (handle_of d.op) ≡ Some file → file.view ≡ None
+pub reads-unseen : (h : ClientValue) (d : Doing) (offset len : ℕ) (file : Handle) → d.does ≡ does.Reads offset len
+    → file_of h.handles (handle_of d.op) ≡ Some file → file.view ≡ None
     → reads_more h d ≡ true
 reads-unseen h d offset len file e there none = ap (λ does. reads_more h (record d { does = does })) e ∙ ap (shows_from offset) (view_here-none h d file there none)
