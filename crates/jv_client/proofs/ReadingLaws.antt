@@ -1,27 +1,27 @@
 -- Readings of the first window: which looks they make, and what they return.
 use Rattle.std.proofs.Common.{◌≡◌, ℕ, zero, suc, ◌+◌, ◌-◌, ◌*◌, ◌/◌, ◌≤◌, ◌<◌, min, Bool, true, false, cond, ◌&&◌, ◌||◌, not, List, [], ◌∷◌, length, slice_get, take, Option, None, Some, refl, sym, ap, subst, ◌∙◌, arith}
 use Rattle.std.proofs.Math.Seq.{take-length}
-use Rattle.std.specs.Prelude.{is_some, ◌==◌, nat_le, nat_lt, if◌then◌else◌, unwrap_or, IfSome, IsSomeAnd}
-use Rattle.std.proofs.lemmas.Bool.{le-leb}
+use Rattle.std.specs.Prelude.{is_some, ◌==◌, nat_le, nat_lt, if◌then◌else◌, IfSome, IsSomeAnd}
+use Rattle.std.proofs.lemmas.Bool.{le-leb, and_right}
 use Rattle.std.proofs.lemmas.Bool.Decides.{nat_tests}
 use Rattle.jv_model.specs.declared.limits.TheConstants.{FILE_END, WINDOW}
+use Rattle.jv_model.specs.declared.act.Act.{Act}
 use Rattle.jv_model.specs.declared.act.ActKind.TheVariants.{Look}
 use Rattle.jv_model.specs.declared.op.Op.TheVariants as op
 use Rattle.jv_model.specs.declared.profile.Does.TheVariants as does
-use Rattle.jv_model.specs.FiniteMap.{get}
-use Rattle.jv_model.specs.tree.Tree.{Tree, Node, Content, node_at, content_at, content_of}
+use Rattle.jv_model.specs.tree.Tree.{Content, node_at, content_at}
 use Rattle.jv_model.specs.client.Profile.{handle_of}
 use Rattle.jv_model.specs.client.Submission.{is_flushed}
 use Rattle.jv_model.specs.client.ModelClient.{ModelClient, OpenFile, View as ModelView, Doing as ModelDoing, Reading as ModelReading, OfFiles, file_of, with_file}
 use Rattle.jv_model.specs.journal.Steps.{Start, IsEntry, LooksAt, window_to_look}
 use Rattle.jv_model.specs.journal.Stepping.{stepped, entry_of}
 use Rattle.jv_model.specs.journal.Reading.{Asked, shows_all, asked_parts, bytes_from, bytes_between, is_fresh, fresh_view, cited_view, read_on, reading, part_to_look}
-use Rattle.jv_model.specs.journal.State.{State, has_session, or_empty, view_now, set_client, of_doing}
+use Rattle.jv_model.specs.journal.State.{State, has_session, or_empty, view_now, of_doing}
 use Rattle.jv_files.specs.declared.files.StoredFile.{StoredFile}
 use Rattle.jv_files.specs.Stored.{IsFile, stored_byte}
 use Rattle.jv_files.specs.Holds.{Keeps}
 use Rattle.jv_files.specs.Shown.{shown_between, as_seen}
-use Rattle.jv_files.proofs.FileLaws.{slice_get_inside}
+use Rattle.jv_model.proofs.ClientsLaws.{own_client}
 use Rattle.jv_client.specs.declared.doing.Doing.{Doing}
 use Rattle.jv_client.specs.declared.doing.Flush.TheVariants as flush
 use Rattle.jv_client.specs.declared.doing.Progress.{Progress}
@@ -29,13 +29,15 @@ use Rattle.jv_client.specs.declared.doing.Progress.TheVariants.{Working}
 use Rattle.jv_client.specs.declared.handles.Handle.{Handle}
 use Rattle.jv_client.specs.declared.handles.View.{View}
 use Rattle.jv_client.specs.ClientValue.{ClientValue}
-use Rattle.jv_client.specs.StoreValue.{StoreValue, IsSession, HasStore}
+use Rattle.jv_client.specs.StoreValue.{StoreValue, HasStore}
 use Rattle.jv_client.specs.Held.{SamePlace, ShowsContent, IsView, IsHandle, IsHeld, IsClient}
-use Rattle.jv_client.specs.UnderWay.{Closes, ReadsNothing, Reads, IsForm, Mounts, Transacts, Writes, Flushes, IsOfFile, IsReady, IsUnderWay, left, left_of, segment_left}
-use Rattle.jv_client.proofs.AnswerLaws.{client-doing, doing_of, under_way, written_out}
-use Rattle.jv_client.proofs.SubmissionLaws.{file-same}
-use Rattle.jv_client.proofs.HeldLaws.{with_stage-doing, views-later}
-use Rattle.jv_client.proofs.TableLaws.{all-at, same-with_file}
+use Rattle.jv_client.specs.UnderWay.{IsOfFile, IsReady, IsUnderWay, keeps, mounts, transacts, left, left_of, segment_left}
+use Rattle.jv_client.proofs.TableLaws.{all-at, file-same, same-with_file, there_in, none_in}
+use Rattle.jv_client.proofs.StoreLaws.{session-there, IsStored, is_stored, node-there}
+use Rattle.jv_client.proofs.HeldLaws.{views-later}
+use Rattle.jv_client.proofs.StepLaws.{with_stage-doing, doing_of, client-doing}
+use Rattle.jv_client.proofs.FormLaws.{flushes_otherwise, names_it, reads_here, under_way}
+use Rattle.jv_client.proofs.AnswerLaws.{written_out}
 
 -- the parts of a range in the first window
 
@@ -66,12 +68,9 @@ one_part offset len some short =
 
 -- views
 
-and_false : (b : Bool) → (b && false) ≡ false
-and_false true = refl
-and_false false = refl
-
 -- the latest fresh view is the one that its entry cites
-pub cited-fresh : (views : List ModelView) (handle : ℕ) (file : OpenFile) (view : ModelView) → fresh_view views handle file 0 ≡ Some view → cited_view views handle file 0 view.entry ≡ Some view
+pub cited-fresh : (views : List ModelView) (handle : ℕ) (file : OpenFile) (view : ModelView) → fresh_view views handle file 0 ≡ Some view
+    → cited_view views handle file 0 view.entry ≡ Some view
 cited-fresh [] handle file view e = absurd (cc e)
 cited-fresh (v ∷ vs) handle file view e =
     elim (is_fresh handle file 0 v) as (λ b. (if b then Some v else fresh_view vs handle file 0) ≡ Some view → (if (v.entry == view.entry) && b then Some v else cited_view vs handle file 0 view.entry) ≡ Some view) [
@@ -80,12 +79,13 @@ cited-fresh (v ∷ vs) handle file view e =
           let number : (v.entry == view.entry) ≡ true = (let entries = ap (λ (v : ModelView). v.entry) is in grind (arith, nat_tests)) in
           ap (λ b. if b && true then Some v else cited_view vs handle file 0 view.entry) number ∙ same
       | false ↦ λ later.
-          let none : ((v.entry == view.entry) && false) ≡ false = and_false (v.entry == view.entry) in
+          let none : ((v.entry == view.entry) && false) ≡ false = and_right (v.entry == view.entry) false refl in
           ap (λ b. if b then Some v else cited_view vs handle file 0 view.entry) none ∙ cited-fresh vs handle file view later
     ] e
 
 -- a read in the first window that cites its view
-pub reading-cited : (views : List ModelView) (handle : ℕ) (file : OpenFile) (offset len : ℕ) (view : ModelView) → 0 < len → offset + len ≤ WINDOW → fresh_view views handle file 0 ≡ Some view
+pub reading-cited : (views : List ModelView) (handle : ℕ) (file : OpenFile) (offset len : ℕ) (view : ModelView) → 0 < len → offset + len ≤ WINDOW
+    → fresh_view views handle file 0 ≡ Some view
     → reading views handle file (asked_parts offset len) view.entry 0 ≡ Some (bytes_between view.content offset (offset + len))
 reading-cited views handle file offset len view some short fresh =
     ap (λ parts. reading views handle file parts view.entry 0) (one_part offset len some short)
@@ -101,50 +101,20 @@ shows_bytes : (content : Content) (file : StoredFile) (from to : ℕ) → Keeps 
 shows_bytes content file from to h = ap (λ n. bytes_from content.byte from (min to n - from)) h.length ∙ same_bytes content.byte (stored_byte file.segments) h.bytes from (min to file.length - from)
 
 -- the bytes of a file as it was seen
-pub view_bytes : (view : View) (m : ModelView) (o : Option StoredFile) (bytes : List ℕ) (from to : ℕ) → IsSomeAnd o (ShowsContent view m) → IfSome o (λ file. bytes ≡ shown_between (as_seen view.seen file) from to)
+pub view_bytes : (view : View) (m : ModelView) (o : Option StoredFile) (bytes : List ℕ) (from to : ℕ) → IsSomeAnd o (ShowsContent view m)
+    → IfSome o (λ file. bytes ≡ shown_between (as_seen view.seen file) from to)
     → bytes_between m.content from to ≡ bytes
 view_bytes view m None bytes from to shows is = absurd shows
 view_bytes view m (Some file) bytes from to shows is = shows_bytes m.content (as_seen view.seen file) from to shows.keeps ∙ sym is
 
 -- none past its length
-pub no_bytes : (view : View) (m : ModelView) (o : Option StoredFile) (from to : ℕ) → IsSomeAnd o (ShowsContent view m) → view.seen.length ≤ from → bytes_between m.content from to ≡ []
+pub no_bytes : (view : View) (m : ModelView) (o : Option StoredFile) (from to : ℕ) → IsSomeAnd o (ShowsContent view m) → view.seen.length ≤ from
+    → bytes_between m.content from to ≡ []
 no_bytes view m None from to shows past = absurd shows
 no_bytes view m (Some file) from to shows past =
     let length : m.content.length ≡ view.seen.length = shows.keeps.length in
     let none : min to m.content.length - from ≡ 0 = omega (arith, length, past) in
     ap (bytes_from m.content.byte from) none
-
--- what the tree has
-
-session_in : (t : Tree) (store : StoreValue) (session : Option ℕ) → HasStore t store → IfSome session (IsSession store) → is_some session ≡ true → is_some (get t.sessions (unwrap_or session 0)) ≡ true
-session_in t store None h mounted some = absurd (cc some)
-session_in t store (Some sid) h mounted some = h.sessions sid mounted
-
--- the session of a mounted client
-pub session-there : {c : ModelClient} {count : ℕ} {h : ClientValue} (t : Tree) (store : StoreValue) → HasStore t store → IsHeld c count store h → is_some h.session ≡ true → has_session t c ≡ true
-session-there {c} {count} {h} t store has held mounted = ap (λ session. is_some (get t.sessions (unwrap_or session 0))) held.session ∙ session_in t store h.session has held.mounted mounted
-
--- the stored file of an inode, and its bytes in the tree
-pub record IsStored (t : Tree) (store : StoreValue) (inode : ℕ) : Type 0 where
-  pub file : StoredFile
-  pub stored : slice_get store.files.files (inode - 2) ≡ Some file
-  pub keeps : IsSomeAnd (content_at t inode) (Keeps file)
-
-pub is_stored : (t : Tree) (store : StoreValue) (inode : ℕ) → HasStore t store → IsFile (length store.files.files) inode → IsStored t store inode
-is_stored t store inode has is =
-    let low = is.low in
-    let high = is.high in
-    let file = slice_get_inside store.files.files (inode - 2) (omega (arith, low, high)) in
-    let here : 2 + (inode - 2) ≡ inode = omega (arith, low) in
-    let keeps = subst (λ o. IfSome o (λ file. IsSomeAnd (content_at t (2 + (inode - 2))) (Keeps file))) file.1 (has.files.files (inode - 2)) in
-    record { file = file.0; stored = file.1; keeps = subst (λ i. IsSomeAnd (content_at t i) (Keeps file.0)) here keeps }
-
-node_of : (o : Option Node) (P : Content → Type 0) → IsSomeAnd (content_of o) P → is_some o ≡ true
-node_of None P h = absurd h
-node_of (Some node) P h = refl
-
-pub node-there : (t : Tree) (store : StoreValue) (inode : ℕ) → IsStored t store inode → is_some (node_at t inode) ≡ true
-node-there t store inode h = node_of (node_at t inode) (Keeps h.file) h.keeps
 
 -- a reading
 
@@ -162,11 +132,6 @@ pub record IsAtFile (h : ClientValue) (store : StoreValue) (handle offset len : 
   pub is_file : IsFile (length store.files.files) file.inode
   pub ready : IsReady store h
 
--- the view that a handle keeps
-abbrev pub view_in : Option Handle → Option View
-view_in None = None
-view_in (Some file) = file.view
-
 -- what a look saw of the file
 abbrev pub HasSeen : StoreValue → ℕ → View → Type 0
 HasSeen store inode view = IfSome (slice_get store.files.files (inode - 2)) (λ file. (view.seen.length ≡ file.length) × (view.seen.commits ≡ length file.segments))
@@ -175,37 +140,21 @@ HasSeen store inode view = IfSome (slice_get store.files.files (inode - 2)) (λ 
 abbrev pub with_view : ℕ → Handle → View → Option Doing → ClientValue → ClientValue
 with_view handle file view doing h = record h { handles = with_file handle (Some (record file { view = Some view })) h.handles; doing = doing }
 
--- the model's open file
-pub open_in : (P : OpenFile → Handle → Type 0) (x : Option OpenFile) (y : Option Handle) (file : Handle) → y ≡ Some file → SamePlace P x y → (m : OpenFile) × (x ≡ Some m) × P m file
-open_in P None None file e h = absurd (cc e)
-open_in P None (Some y) file e h = absurd h
-open_in P (Some m) None file e h = absurd h
-open_in P (Some m) (Some y) file e h = (m, refl, subst (P m) (let same : y ≡ file = cc e in same) h)
-
-pub no_view : (P : ModelView → View → Type 0) (x : Option ModelView) (y : Option View) → y ≡ None → SamePlace P x y → x ≡ None
-no_view P None y e h = refl
-no_view P (Some m) None e h = absurd h
-no_view P (Some m) (Some view) e h = absurd (cc e)
-
-pub one_view : (P : ModelView → View → Type 0) (x : Option ModelView) (y : Option View) (view : View) → y ≡ Some view → SamePlace P x y → (m : ModelView) × (x ≡ Some m) × P m view
-one_view P None None view e h = absurd (cc e)
-one_view P None (Some y) view e h = absurd h
-one_view P (Some m) None view e h = absurd h
-one_view P (Some m) (Some y) view e h = (m, refl, subst (P m) (let same : y ≡ view = cc e in same) h)
-
 -- a look at the file
 
 abbrev window_of : Option Asked → Option ℕ
 window_of None = None
 window_of (Some asked) = Some asked.window
 
-first_window_to_look : (views : List ModelView) (handle offset len : ℕ) (file : OpenFile) → 0 < len → offset + len ≤ WINDOW → fresh_view views handle file 0 ≡ None
+first_window_to_look : (views : List ModelView) (handle offset len : ℕ) (file : OpenFile) → 0 < len → offset + len ≤ WINDOW
+    → fresh_view views handle file 0 ≡ None
     → window_of (part_to_look views handle file (asked_parts offset len)) ≡ Some 0
 first_window_to_look views handle offset len file some short none =
     ap (λ parts. window_of (part_to_look views handle file parts)) (one_part offset len some short)
     ∙ ap (λ o. window_of (elim o as (λ _. Option Asked) [ None ↦ Some (first_part offset len) | Some view ↦ (if shows_all (first_part offset len) view then None else None) ])) none
 
-looks_at : (s : State) (c : ModelClient) (handle offset len inode started : ℕ) (moved : Bool) (m : OpenFile) → is_flushed (OfFiles (inode ∷ [])) c.pending ≡ true → file_of c.handles handle ≡ Some m → inode ≡ m.inode
+looks_at : (s : State) (c : ModelClient) (handle offset len inode started : ℕ) (moved : Bool) (m : OpenFile)
+    → is_flushed (OfFiles (inode ∷ [])) c.pending ≡ true → file_of c.handles handle ≡ Some m → inode ≡ m.inode
     → fresh_view c.views handle m 0 ≡ None → 0 < len → offset + len ≤ WINDOW → has_session s.tree c ≡ true → is_some (node_at s.tree inode) ≡ true
     → LooksAt s c (doing_of (reader handle offset len inode (Working 0 started) moved)) inode 0
 looks_at s c handle offset len inode started moved m flushed is same none some short session there =
@@ -223,17 +172,18 @@ looking d = record d { stage = ModelReading 0; moved = true }
 abbrev pub looked_client : State → ℕ → ℕ → ModelDoing → ModelClient → ModelClient
 looked_client s handle inode d c = record c { views = view_now s handle inode 0 ∷ c.views; doing = Some (looking d) }
 
--- the state with this client after one more entry
-abbrev pub goes_to : State → ℕ → ModelClient → State
-goes_to s client c = record (set_client s client c) { count = s.count + 1 }
+module _ (s : State) (client now handle offset len inode started : ℕ) (moved : Bool) (busy : (s.clients client).doing ≡ Some (doing_of (reader handle offset len inode (Working 0 started) moved))) where
+  abbrev look : Act
+  look = entry_of 0 now client (Look inode 0)
 
-stepped-look : (s : State) (client now handle offset len inode started : ℕ) (moved : Bool) → (s.clients client).doing ≡ Some (doing_of (reader handle offset len inode (Working 0 started) moved))
-    → stepped s client now (Look inode 0) ≡ goes_to s client (looked_client s handle inode (doing_of (reader handle offset len inode (Working 0 started) moved)) (s.clients client))
-stepped-look s client now handle offset len inode started moved busy =
-    let d = doing_of (reader handle offset len inode (Working 0 started) moved) in
-    let c = s.clients client in
-    let seen : ModelClient = record c { views = view_now s handle inode 0 ∷ c.views } in
-    ap (λ o. record (of_doing s (entry_of 0 now client (Look inode 0)) o) { count = s.count + 1 }) busy ∙ ap (goes_to s client) (with_stage-doing (ModelReading 0) seen d busy)
+  tree-look : (stepped s client now (Look inode 0)).tree ≡ s.tree
+  tree-look = ap (λ o. (of_doing s look o).tree) busy
+
+  client-look : (stepped s client now (Look inode 0)).clients client ≡ looked_client s handle inode (doing_of (reader handle offset len inode (Working 0 started) moved)) (s.clients client)
+  client-look =
+      let c = s.clients client in
+      ap (λ o. (of_doing s look o).clients client) busy ∙ own_client s.clients client _
+      ∙ with_stage-doing (ModelReading 0) (record c { views = view_now s handle inode 0 ∷ c.views }) (doing_of (reader handle offset len inode (Working 0 started) moved)) busy
 
 -- the view that it takes
 
@@ -247,7 +197,8 @@ sees_all view file same all =
     ∙ ap (λ n. record { length = file.length; segments = take n file.segments }) all
     ∙ ap (λ segments. record { length = file.length; segments = segments }) (take-length file.segments)
 
-view-taken : (s : State) (store : StoreValue) (handle inode : ℕ) (view : View) → IsStored s.tree store inode → HasSeen store inode view → s.count + 1 ≡ view.entry → IsView store inode (view_now s handle inode 0) view
+view-taken : (s : State) (store : StoreValue) (handle inode : ℕ) (view : View) → IsStored s.tree store inode → HasSeen store inode view
+    → s.count + 1 ≡ view.entry → IsView store inode (view_now s handle inode 0) view
 view-taken s store handle inode view stored seen entry =
     let file = stored.file in
     let sees = subst (λ o. IfSome o (λ (file : StoredFile). (view.seen.length ≡ file.length) × (view.seen.commits ≡ length file.segments))) stored.stored seen in
@@ -261,7 +212,8 @@ view-taken s store handle inode view stored seen entry =
 
 -- it is the handle's latest one, and no other handle's
 
-fresh-taken : (s : State) (handle inode : ℕ) (m : OpenFile) (views : List ModelView) → m.inode ≡ inode → m.opened ≤ s.count → fresh_view (view_now s handle inode 0 ∷ views) handle m 0 ≡ Some (view_now s handle inode 0)
+fresh-taken : (s : State) (handle inode : ℕ) (m : OpenFile) (views : List ModelView) → m.inode ≡ inode → m.opened ≤ s.count
+    → fresh_view (view_now s handle inode 0 ∷ views) handle m 0 ≡ Some (view_now s handle inode 0)
 fresh-taken s handle inode m views same before =
     let mine : (handle == handle) ≡ true = grind (arith, nat_tests) in
     let equal : (inode == m.inode) ≡ true = grind (arith, nat_tests) in
@@ -270,8 +222,9 @@ fresh-taken s handle inode m views same before =
     ∙ ap (λ b. if b && true && nat_lt m.opened (s.count + 1) then Some (view_now s handle inode 0) else fresh_view views handle m 0) equal
     ∙ ap (λ b. if b then Some (view_now s handle inode 0) else fresh_view views handle m 0) later
 
-fresh-other : (s : State) (handle inode n : ℕ) (m : OpenFile) (views : List ModelView) → (n ≡ handle → ⊥) → fresh_view (view_now s handle inode 0 ∷ views) n m 0 ≡ fresh_view views n m 0
-fresh-other s handle inode n m views apart =
+fresh-not_taken : (s : State) (handle inode n : ℕ) (m : OpenFile) (views : List ModelView) → (n ≡ handle → ⊥)
+    → fresh_view (view_now s handle inode 0 ∷ views) n m 0 ≡ fresh_view views n m 0
+fresh-not_taken s handle inode n m views apart =
     let other : (handle == n) ≡ false = grind (arith, nat_tests) in
     ap (λ b. if b && (inode == m.inode) && true && nat_lt m.opened (s.count + 1) then Some (view_now s handle inode 0) else fresh_view views n m 0) other
 
@@ -293,7 +246,7 @@ looked-held s c store h handle m file view doing mine held is opened same stored
             inode = other.inode;
             opened = other.opened;
             before = (let early = other.before in omega (arith, early));
-            view = subst (λ o. SamePlace (IsView store b.inode) o b.view) (sym (fresh-other s handle file.inode n a c.views apart)) other.view;
+            view = subst (λ o. SamePlace (IsView store b.inode) o b.view) (sym (fresh-not_taken s handle file.inode n a c.views apart)) other.view;
           })
           (record {
             inode = same.inode;
@@ -306,59 +259,28 @@ looked-held s c store h handle m file view doing mine held is opened same stored
       pending = held.pending;
     }
 
--- a reading in progress
-
-record IsReader (h : ClientValue) (d : Doing) (offset len : ℕ) : Type 0 where
-  pub handle : ℕ
-  pub file : Handle
-  pub op : d.op ≡ op.Read handle offset len
-  pub first : d.flush ≡ flush.File file.inode
-  pub opened : file_of h.handles handle ≡ Some file
-  pub some : 0 < len
-  pub short : offset + len ≤ WINDOW
-  pub mounted : is_some h.session ≡ true
-
-read_form : (h : ClientValue) (d : Doing) (offset len : ℕ) → IsForm h d → d.does ≡ does.Reads offset len → IsReader h d offset len
-read_form h d offset len (Mounts of_op of_does none) e = absurd (cc (sym e ∙ of_does))
-read_form h d offset len (Transacts of_op of_does none mounted) e = absurd (cc (sym e ∙ of_does))
-read_form h d offset len (Writes handle from bytes file of_op of_does none opened short room) e = absurd (cc (sym e ∙ of_does))
-read_form h d offset len (Flushes handle file (Closes of_op of_does) first opened mounted) e = absurd (cc (sym e ∙ of_does))
-read_form h d offset len (Flushes handle file (ReadsNothing from n of_op of_does) first opened mounted) e = absurd (cc (sym e ∙ of_does))
-read_form h d offset len (Flushes handle file (Reads from n of_op of_does some short) first opened mounted) e =
-    let same : does.Reads from n ≡ does.Reads offset len = sym of_does ∙ e in
-    let start : from ≡ offset = cc same in
-    let long : n ≡ len = cc same in
-    record {
-      handle = handle;
-      file = file;
-      op = of_op ∙ ap (λ from. op.Read handle from n) start ∙ ap (op.Read handle offset) long;
-      first = first;
-      opened = opened;
-      some = (omega (arith, some, long));
-      short = (omega (arith, short, start, long));
-      mounted = mounted;
-    }
-
--- by the handle and the file that the code names
-pub at_file : (h : ClientValue) (store : StoreValue) (handle offset len : ℕ) (file : Handle) (d : Doing) → h.doing ≡ Some d → d.does ≡ does.Reads offset len → IsReady store h → left h ≡ None
+-- a reading in progress, by the handle and the file that the code names
+pub at_file : (h : ClientValue) (store : StoreValue) (handle offset len : ℕ) (file : Handle) (d : Doing) → h.doing ≡ Some d → d.does ≡ does.Reads offset len
+    → IsReady store h → left h ≡ None
     → handle ≡ handle_of d.op → file_of h.handles handle ≡ Some file → IsAtFile h store handle offset len file d.progress d.has_moved
 at_file h store handle offset len file d busy of_does ready none names opened =
     let under = under_way h store d busy ready in
-    let r = read_form h d offset len under.form of_does in
-    let own : handle ≡ r.handle = names ∙ ap handle_of r.op in
+    let r = flushes_otherwise h d under.form (ap mounts of_does) (ap transacts of_does) (ap keeps of_does) in
+    let is = reads_here d r.handle offset len r.reason of_does in
+    let own : handle ≡ r.handle = names ∙ names_it d r.handle r.reason in
     let both : Some file ≡ Some r.file = sym opened ∙ ap (file_of h.handles) own ∙ r.opened in
     let same : file ≡ r.file = cc both in
-    let reads : d.op ≡ op.Read handle offset len = r.op ∙ ap (λ handle. op.Read handle offset len) (sym own) in
-    let first : d.flush ≡ flush.File file.inode = r.first ∙ ap (λ (file : Handle). flush.File file.inode) (sym same) in
+    let reads : d.op ≡ op.Read handle offset len = is.0 ∙ ap (λ handle. op.Read handle offset len) (sym own) in
+    let first : d.flush ≡ flush.File file.inode = r.flushes ∙ ap (λ (file : Handle). flush.File file.inode) (sym same) in
     let spelt : d ≡ reader handle offset len file.inode d.progress d.has_moved =
     written_out d (op.Read handle offset len) (does.Reads offset len) d.progress d.has_moved reads of_does refl refl ∙ ap (λ first. record d { op = op.Read handle offset len; does = does.Reads offset len; flush = first }) first in
     let flushed : left_of h.pending (Some d) ≡ None = ap (left_of h.pending) (sym busy) ∙ none in
     record {
       busy = busy ∙ ap Some spelt;
       opened = opened;
-      some = r.some;
-      short = r.short;
-      mounted = r.mounted;
+      some = is.1;
+      short = is.2;
+      mounted = r.session;
       flushed = ap (λ first. is_some (segment_left first h.pending)) (sym first) ∙ ap is_some flushed;
       is_file = all-at (IsOfFile store) h.handles handle file ready.files opened;
       ready = ready;
@@ -366,17 +288,20 @@ at_file h store handle offset len file d busy of_does ready none names opened =
 
 -- what is still known of the reading
 
-pub reading_on : {h : ClientValue} {store : StoreValue} {handle offset len : ℕ} {file : Handle} {progress : Progress} {moved : Bool} → IsAtFile h store handle offset len file progress moved
+pub reading_on : {h : ClientValue} {store : StoreValue} {handle offset len : ℕ} {file : Handle} {progress : Progress} {moved : Bool}
+    → IsAtFile h store handle offset len file progress moved
     → IsUnderWay h (reader handle offset len file.inode progress moved)
 reading_on {h} {store} {handle} {offset} {len} {file} {progress} {moved} at = under_way h store (reader handle offset len file.inode progress moved) at.busy at.ready
 
 -- the file of the model's client
-pub opened_in : (h : ClientValue) (store : StoreValue) (c : ModelClient) (count handle : ℕ) (file : Handle) → file_of h.handles handle ≡ Some file → IsHeld c count store h
+pub opened_in : (h : ClientValue) (store : StoreValue) (c : ModelClient) (count handle : ℕ) (file : Handle) → file_of h.handles handle ≡ Some file
+    → IsHeld c count store h
     → (m : OpenFile) × (file_of c.handles handle ≡ Some m) × IsHandle c.views count store handle m file
 opened_in h store c count handle file opened held =
-    open_in (IsHandle c.views count store handle) (file_of c.handles handle) (file_of h.handles handle) file opened (file-same (IsHandle c.views count store) c.handles h.handles held.handles handle)
+    there_in (IsHandle c.views count store handle) (file_of c.handles handle) (file_of h.handles handle) file opened (file-same (IsHandle c.views count store) c.handles h.handles held.handles handle)
 
-pub flushed_in : (h : ClientValue) (store : StoreValue) (c : ModelClient) (count inode : ℕ) → is_some (segment_left (flush.File inode) h.pending) ≡ false → IsHeld c count store h → is_flushed (OfFiles (inode ∷ [])) c.pending ≡ true
+pub flushed_in : (h : ClientValue) (store : StoreValue) (c : ModelClient) (count inode : ℕ) → is_some (segment_left (flush.File inode) h.pending) ≡ false
+    → IsHeld c count store h → is_flushed (OfFiles (inode ∷ [])) c.pending ≡ true
 flushed_in h store c count inode none held = ap (λ pending. is_flushed (OfFiles (inode ∷ [])) pending) held.pending ∙ ap not none
 
 -- a look, in the model
@@ -384,7 +309,8 @@ pub record HasLooked (s : State) (h : ClientValue) (store : StoreValue) (now han
   pub m : OpenFile
   pub is : file_of (s.clients h.id).handles handle ≡ Some m
   pub allowed : (start : Start) (alone : Bool) → IsEntry start alone s h.id now (Look file.inode 0) true
-  pub leads : stepped s h.id now (Look file.inode 0) ≡ goes_to s h.id (looked_client s handle file.inode (doing_of (reader handle offset len file.inode (Working 0 started) moved)) (s.clients h.id))
+  pub leads : (stepped s h.id now (Look file.inode 0)).clients h.id ≡ looked_client s handle file.inode (doing_of (reader handle offset len file.inode (Working 0 started) moved)) (s.clients h.id)
+  pub tree : (stepped s h.id now (Look file.inode 0)).tree ≡ s.tree
   pub fresh : fresh_view (view_now s handle file.inode 0 ∷ (s.clients h.id).views) handle m 0 ≡ Some (view_now s handle file.inode 0)
   pub held : (doing : Option ModelDoing) (mine : Option Doing)
       → IsHeld (record (s.clients h.id) { views = view_now s handle file.inode 0 ∷ (s.clients h.id).views; doing = doing }) (s.count + 1) store (with_view handle file view mine h)
@@ -402,7 +328,7 @@ has_looked s h store now handle offset len started moved file view at none seen 
     let same = mine.2 in
     let busy = client-doing d at.busy client in
     let stored = is_stored s.tree store file.inode has_store at.is_file in
-    let unseen = no_view (IsView store file.inode) (fresh_view c.views handle m 0) file.view none same.view in
+    let unseen = none_in (IsView store file.inode) (fresh_view c.views handle m 0) file.view none same.view in
     record {
       m = m;
       is = mine.1;
@@ -413,7 +339,8 @@ has_looked s h store now handle offset len started moved file view at none seen 
         may = looks_at s c handle offset len file.inode started moved m (flushed_in h store c s.count file.inode at.flushed client.held) mine.1 (sym same.inode) unseen at.some at.short
             (session-there s.tree store has_store client.held at.mounted) (node-there s.tree store file.inode stored);
       };
-      leads = stepped-look s h.id now handle offset len file.inode started moved busy;
+      leads = client-look s h.id now handle offset len file.inode started moved busy;
+      tree = tree-look s h.id now handle offset len file.inode started moved busy;
       fresh = fresh-taken s handle file.inode m c.views same.inode same.before;
       held = λ doing own. looked-held s c store h handle m file view doing own client.held mine.1 at.opened same stored seen entry;
       taken = view-taken s store handle file.inode view stored seen entry;

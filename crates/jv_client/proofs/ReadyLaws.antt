@@ -1,9 +1,9 @@
 -- An operation that was begun goes on well.
 use Rattle.std.proofs.Common.{◌≡◌, ℕ, zero, suc, ◌+◌, ◌≤◌, ◌<◌, Bool, true, false, ◌&&◌, ◌||◌, not, List, [], ◌∷◌, length, Option, None, Some, inl, inr, refl, sym, ap, subst, ◌∙◌, arith}
 use Rattle.std.specs.Prelude.{nat_lt, nat_le, is_some, ◌==◌, if◌then◌else◌}
-use Rattle.std.proofs.lemmas.Bool.{and_parts, le-ltb}
+use Rattle.std.proofs.lemmas.Bool.{and_parts, le-ltb, leb-true, not-true, not-false, or_parts}
 use Rattle.std.proofs.Math.Nat.{min-le_left}
-use Rattle.std.proofs.lemmas.Bool.Decides.{eqb_tells, leb_tells}
+use Rattle.std.proofs.lemmas.Bool.Decides.{eqb_tells}
 use Rattle.jv_model.specs.declared.limits.TheConstants.{DEFAULT_BUFFER, FILE_END, MAX_HANDLES, WINDOW}
 use Rattle.jv_model.specs.declared.fault.Fault.TheVariants.{InProgress, NotConnected, BadHandle, TooManyHandles, FileTooLarge}
 use Rattle.jv_model.specs.declared.op.Op.{Op}
@@ -17,11 +17,11 @@ use Rattle.jv_model.specs.client.Submission.{first_refusal, is_mount, submission
 use Rattle.jv_model.specs.journal.Built.{has_form, may_hold, is_built_op, pending_limit}
 use Rattle.jv_client.specs.declared.doing.Doing.{Doing}
 use Rattle.jv_client.specs.declared.doing.Flush.TheVariants as flush
-use Rattle.jv_client.specs.declared.handles.Handle.{Handle}
 use Rattle.jv_client.specs.ClientValue.{ClientValue}
 use Rattle.jv_client.specs.StoreValue.{StoreValue}
 use Rattle.jv_client.specs.Held.{begun, flush_here, inode_here, inode_of_handle}
 use Rattle.jv_client.specs.UnderWay.{FlushesFor, Closes, ReadsNothing, Reads, IsForm, Mounts, Transacts, Writes, Flushes, IsUnderWay, IsReady}
+use Rattle.jv_client.proofs.TableLaws.{the_some}
 
 -- a submission that isn't refused
 
@@ -44,32 +44,13 @@ accepted busy mounted closed handles row e =
     let all = all_pass (busy || (is_mount row.does && mounted)) (row.needs_mount && not mounted) closed (row.opens && nat_le MAX_HANDLES handles) (nat_lt FILE_END row.end) e in
     record { mounted_is = all.0; opened = all.1; short = all.2 }
 
-not_false : (b : Bool) → not b ≡ false → b ≡ true
-not_false true e = refl
-not_false false e = absurd (cc e)
-
-not_true : (b : Bool) → not b ≡ true → b ≡ false
-not_true true e = absurd (cc e)
-not_true false e = refl
-
-either_false : (a b : Bool) → (a || b) ≡ false → (a ≡ false) × (b ≡ false)
-either_false true b e = absurd (cc e)
-either_false false b e = (refl, e)
-
-the_file : (handles : List (Option Handle)) (handle : ℕ) (o : Option Handle) → file_of handles handle ≡ o → is_some o ≡ true → (file : Handle) × (file_of handles handle ≡ Some file)
-the_file handles handle None e some = absurd (cc some)
-the_file handles handle (Some file) e some = (file, e)
-
 above : (n : ℕ) → (n ≡ 0 → ⊥) → 0 < n
 above zero some = absurd (some refl)
 above (suc n) some = omega arith
 
-within : (a b : ℕ) → nat_le a b ≡ true → a ≤ b
-within a b e = elim (leb_tells a b) [ inl le ↦ le.1 | inr less ↦ absurd (cc (sym less.0 ∙ e)) ]
-
-or_left : (a b : Bool) → (a || b) ≡ true → b ≡ false → a ≡ true
-or_left true b e none = refl
-or_left false b e none = absurd (cc (sym e ∙ none))
+first_of_or : (a b : Bool) → (a || b) ≡ true → b ≡ false → a ≡ true
+first_of_or true b e none = refl
+first_of_or false b e none = absurd (cc (sym e ∙ none))
 
 module _ (h : ClientValue) where
   abbrev pub starts : Op → Doing
@@ -77,8 +58,8 @@ module _ (h : ClientValue) where
 
   mount_form : (writeback : Bool) → not (writeback || h.limits.writeback) ≡ true → IsForm h (starts (op.Mount writeback))
   mount_form writeback e =
-      let none = not_true _ e in
-      let both = either_false writeback h.limits.writeback none in
+      let none = not-true _ e in
+      let both = or_parts writeback h.limits.writeback none in
       Mounts (ap op.Mount both.0) (ap does.Mounts none) refl
 
   -- the file of a handle that is flushed first
@@ -86,38 +67,39 @@ module _ (h : ClientValue) where
       → names_closed h.handles (profile o).handles ≡ names_closed h.handles (profile (op.Close handle)).handles
       → is_some h.session ≡ true → names_closed h.handles (profile o).handles ≡ false → IsForm h (starts o)
   flushes_form o handle first for same session opened =
-      let closed = either_false _ _ (sym same ∙ opened) in
-      let file = the_file h.handles handle (file_of h.handles handle) refl (not_false _ closed.0) in
+      let closed = or_parts _ _ (sym same ∙ opened) in
+      let file = the_some (file_of h.handles handle) (not-false _ closed.0) in
       Flushes handle file.0 for (first ∙ ap (λ f. flush.File (inode_of_handle f)) file.1) file.1 session
 
   read_for : (handle offset len : ℕ) (none : Bool) → ((len == 0) || nat_le FILE_END offset) ≡ none → nat_le (offset + len) WINDOW ≡ true
       → FlushesFor (begun (op.Read handle offset len) (by_limits h.limits (if none then does.Answers answer.NoData else does.Reads offset len)) (flush.File (inode_here h.handles handle))) handle
   read_for handle offset len true e short = ReadsNothing offset len refl refl
   read_for handle offset len false e short =
-      let some = (either_false (len == 0) _ e).0 in
+      let some = (or_parts (len == 0) _ e).0 in
       Reads offset len refl refl (elim (eqb_tells len 0) [ inl same ↦ absurd (cc (sym same.0 ∙ some)) | inr other ↦ above len other.1 ])
-      (within (offset + len) WINDOW short)
+      (leb-true (offset + len) WINDOW short)
 
   write_form : (handle offset : ℕ) (bytes : List ℕ) → (nat_le (offset + length bytes) WINDOW || nat_lt FILE_END (offset + length bytes)) ≡ true
-      → nat_le (length h.pending + length bytes) (pending_limit h.limits) ≡ true → names_closed h.handles (profile (op.Write handle offset bytes)).handles ≡ false
+      → nat_le (length h.pending + length bytes) (pending_limit h.limits) ≡ true
+      → names_closed h.handles (profile (op.Write handle offset bytes)).handles ≡ false
       → nat_lt FILE_END (offset + length bytes) ≡ false → IsForm h (starts (op.Write handle offset bytes))
   write_form handle offset bytes form few opened short =
-      let closed = either_false _ _ opened in
-      let file = the_file h.handles handle (file_of h.handles handle) refl (not_false _ closed.0) in
-      let fits : length h.pending + length bytes ≤ pending_limit h.limits = within _ _ few in
+      let closed = or_parts _ _ opened in
+      let file = the_some (file_of h.handles handle) (not-false _ closed.0) in
+      let fits : length h.pending + length bytes ≤ pending_limit h.limits = leb-true _ _ few in
       let small : pending_limit h.limits ≤ h.limits.buffer = min-le_left h.limits.buffer DEFAULT_BUFFER in
       Writes handle offset bytes file.0 refl refl
       (ap (λ b. if b then flush.All else flush.Nothing) (le-ltb h.limits.buffer (length h.pending + length bytes) (omega (arith, fits, small))))
-      file.1 (within _ _ (or_left _ _ form short)) fits
+      file.1 (leb-true _ _ (first_of_or _ _ form short)) fits
 
   form_of : (o : Op) → has_form h.limits o ≡ true → may_hold h.limits (length h.pending) o ≡ true
       → IsAccepted (is_some h.session) (names_closed h.handles (profile o).handles) (profile o) → IsForm h (starts o)
   form_of (op.Mount writeback) form few a = mount_form writeback form
-  form_of (op.Create path mode) form few a = Transacts form refl refl (not_false _ a.mounted_is)
-  form_of (op.Open path) form few a = Transacts form refl refl (not_false _ a.mounted_is)
-  form_of (op.Close handle) form few a = flushes_form (op.Close handle) handle refl (Closes refl refl) refl (not_false _ a.mounted_is) a.opened
+  form_of (op.Create path mode) form few a = Transacts form refl refl (not-false _ a.mounted_is)
+  form_of (op.Open path) form few a = Transacts form refl refl (not-false _ a.mounted_is)
+  form_of (op.Close handle) form few a = flushes_form (op.Close handle) handle refl (Closes refl refl) refl (not-false _ a.mounted_is) a.opened
   form_of (op.Read handle offset len) form few a =
-      flushes_form (op.Read handle offset len) handle refl (read_for handle offset len _ refl form) refl (not_false _ a.mounted_is) a.opened
+      flushes_form (op.Read handle offset len) handle refl (read_for handle offset len _ refl form) refl (not-false _ a.mounted_is) a.opened
   form_of (op.Write handle offset bytes) form few a = write_form handle offset bytes form few a.opened a.short
   form_of _ form few a = absurd (cc form)
 
@@ -133,7 +115,7 @@ pub begun-ready : (h : ClientValue) (store : StoreValue) (o : Op) (d : Doing) �
     → d ≡ starts h o → IsReady store (record h { doing = Some d })
 begun-ready h store o d ready built none same =
     let both = and_parts (has_form h.limits o) _ built in
-    let form = form_of h o both.0 both.1 (accepted _ _ _ _ _ none) in
+    let form = form_of h o both.0 both.1 (accepted (is_some h.doing) (is_some h.session) (names_closed h.handles (profile o).handles) (open_count h.handles) (profile o) none) in
     let way : IsUnderWay (record h { doing = Some d }) (starts h o) =
     record {
       form = still_form h (starts h o) (Some d) form;

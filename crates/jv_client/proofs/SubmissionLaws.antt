@@ -1,6 +1,6 @@
 -- A client in memory is refused, and flushes, as the client of the model that it stands for.
-use Rattle.std.proofs.Common.{◌≡◌, ℕ, zero, suc, ◌+◌, ◌-◌, Bool, true, false, cond, not, List, [], ◌∷◌, length, slice_get, map, Option, None, Some, refl, sym, ap, subst, ◌∙◌, arith}
-use Rattle.std.specs.Prelude.{is_some, ◌||◌, ◌==◌, nat_lt, if◌then◌else◌}
+use Rattle.std.proofs.Common.{◌≡◌, ℕ, ◌+◌, Bool, true, false, not, List, [], ◌∷◌, length, map, Option, None, Some, refl, sym, ap, ◌∙◌}
+use Rattle.std.specs.Prelude.{is_some, ◌||◌, nat_lt, if◌then◌else◌}
 use Rattle.jv_model.specs.declared.fault.Fault.{Fault}
 use Rattle.jv_model.specs.declared.op.Op.{Op}
 use Rattle.jv_model.specs.declared.profile.Profile.{Profile}
@@ -9,57 +9,24 @@ use Rattle.jv_model.specs.declared.profile.Flushes.TheVariants.{Nothing, ItsFile
 use Rattle.jv_model.specs.declared.profile.Handles.{Handles}
 use Rattle.jv_model.specs.declared.profile.Handles.TheVariants as named
 use Rattle.jv_model.specs.client.Pending.{PendingByte}
-use Rattle.jv_model.specs.client.ModelClient.{ModelClient, OpenFile, OfFiles, OfAll, file_in, file_of, open_count, inode_in, inode_at}
+use Rattle.jv_model.specs.client.ModelClient.{ModelClient, OpenFile, OfFiles, OfAll, open_count, inode_in, inode_at}
 use Rattle.jv_model.specs.client.Profile.{profile, handle_list}
 use Rattle.jv_model.specs.client.Submission.{submission, submission_of, submitted, names_closed, is_closed, flush_of, by_limits}
 use Rattle.jv_client.specs.declared.doing.Flush.TheVariants as flush
 use Rattle.jv_client.specs.declared.handles.Handle.{Handle}
 use Rattle.jv_client.specs.ClientValue.{ClientValue}
 use Rattle.jv_client.specs.StoreValue.{StoreValue}
-use Rattle.jv_client.proofs.HeldLaws.{held-doing}
 use Rattle.jv_client.specs.Held.{SamePlace, SameTable, IsHandle, IsDoing, IsHeld, IsClient, inode_of_handle, inode_here, files_here, flush_here, begun, flush_of_code}
-
-pub some-same : {X Y : Type 0} (P : X → Y → Type 0) (x : Option X) (y : Option Y) → SamePlace P x y → is_some x ≡ is_some y
-some-same P None None h = refl
-some-same P None (Some y) h = absurd h
-some-same P (Some x) None h = absurd h
-some-same P (Some x) (Some y) h = refl
-
-not_zero : (n : ℕ) → (n == 0) ≡ false → 1 + (n - 1) ≡ n
-not_zero zero e = absurd (cc e)
-not_zero (suc n) e = omega arith
+use Rattle.jv_client.proofs.HeldLaws.{held-doing}
+use Rattle.jv_client.proofs.TableLaws.{some-same, count-same, file-same}
 
 module _ {X Y : Type 0} (P : ℕ → X → Y → Type 0) where
-  pub count-same : (number : ℕ) (xs : List (Option X)) (ys : List (Option Y)) → SameTable P number xs ys → open_count xs ≡ open_count ys
-  count-same number [] [] h = refl
-  count-same number [] (y ∷ ys) h = absurd h
-  count-same number (x ∷ xs) [] h = absurd h
-  count-same number (None ∷ xs) (None ∷ ys) h = count-same (number + 1) xs ys h.1
-  count-same number (None ∷ xs) (Some y ∷ ys) h = absurd h.0
-  count-same number (Some x ∷ xs) (None ∷ ys) h = absurd h.0
-  count-same number (Some x ∷ xs) (Some y ∷ ys) h = ap (λ n. 1 + n) (count-same (number + 1) xs ys h.1)
-
-  -- what stands at an index
-  pub place-same : (number : ℕ) (xs : List (Option X)) (ys : List (Option Y)) → SameTable P number xs ys → (n : ℕ) → SamePlace (P (number + n)) (file_in (slice_get xs n)) (file_in (slice_get ys n))
-  place-same number [] [] h n = tt
-  place-same number [] (y ∷ ys) h n = absurd h
-  place-same number (x ∷ xs) [] h n = absurd h
-  place-same number (x ∷ xs) (y ∷ ys) h zero = subst (λ k. SamePlace (P k) x y) (omega arith) h.0
-  place-same number (x ∷ xs) (y ∷ ys) h (suc n) = subst (λ k. SamePlace (P k) (file_in (slice_get xs n)) (file_in (slice_get ys n))) (omega arith) (place-same (number + 1) xs ys h.1 n)
-
-  none-unless : (b : Bool) (m n : ℕ) (x : Option X) (y : Option Y) → (b ≡ false → m ≡ n) → SamePlace (P m) x y → SamePlace (P n) (cond b None x) (cond b None y)
-  none-unless true m n x y same h = tt
-  none-unless false m n x y same h = subst (λ k. SamePlace (P k) x y) (same refl) h
-
-  -- what a handle names
-  pub file-same : (xs : List (Option X)) (ys : List (Option Y)) → SameTable P 1 xs ys → (handle : ℕ) → SamePlace (P handle) (file_of xs handle) (file_of ys handle)
-  file-same xs ys h handle = none-unless (handle == 0) (1 + (handle - 1)) handle _ _ (λ some. not_zero handle some) (place-same 1 xs ys h (handle - 1))
-
   closed-same : (xs : List (Option X)) (ys : List (Option Y)) → SameTable P 1 xs ys → (handle : ℕ) → is_closed xs handle ≡ is_closed ys handle
-  closed-same xs ys h handle = ap not (some-same (P handle) _ _ (file-same xs ys h handle))
+  closed-same xs ys h handle = ap not (some-same (P handle) _ _ (file-same P xs ys h handle))
 
   -- a handle that isn't open
-  pub names_closed-same : (xs : List (Option X)) (ys : List (Option Y)) → SameTable P 1 xs ys → (handles : Handles) → names_closed xs handles ≡ names_closed ys handles
+  pub names_closed-same : (xs : List (Option X)) (ys : List (Option Y)) → SameTable P 1 xs ys → (handles : Handles)
+      → names_closed xs handles ≡ names_closed ys handles
   names_closed-same xs ys h named.None = refl
   names_closed-same xs ys h (named.One handle) = ap (λ b. b || false) (closed-same xs ys h handle)
   names_closed-same xs ys h (named.Two first second) =
@@ -100,7 +67,8 @@ module _ (m : ModelClient) (count : ℕ) (store : StoreValue) (c : ClientValue) 
   full-same true = refl
   full-same false = refl
 
-  by-flushes : IsHeld m count store c → (row : Profile) (flushes : Flushes) → row.flushes ≡ flushes → flush_of c.limits.buffer m row ≡ flush_of_code (flush_here c row)
+  by-flushes : IsHeld m count store c → (row : Profile) (flushes : Flushes) → row.flushes ≡ flushes
+      → flush_of c.limits.buffer m row ≡ flush_of_code (flush_here c row)
   by-flushes h row Nothing e = rw e refl
   by-flushes h row ItsFiles e = rw e (files-same h row.handles)
   by-flushes h row (IfFull len) e = rw e (ap (λ (bytes : List PendingByte). if nat_lt c.limits.buffer (length bytes + len) then OfAll else OfFiles []) h.pending ∙ full-same (nat_lt c.limits.buffer (length c.pending + len)))

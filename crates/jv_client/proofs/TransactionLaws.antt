@@ -1,8 +1,8 @@
 -- A step that is one metadata transaction: its entry, and the answer that it settles.
-use Rattle.std.proofs.Common.{◌≡◌, ℕ, zero, suc, ◌+◌, ◌≤◌, Bool, true, false, ◌&&◌, not, IsTrue, List, [], ◌∷◌, ◌++◌, filter, Option, None, Some, refl, sym, ap, subst, ◌∙◌, arith}
-use Rattle.std.specs.Prelude.{◌||◌, nat_lt, is_some, unwrap_or, IfSome, IsSome, if◌then◌else◌}
+use Rattle.std.proofs.Common.{◌≡◌, ℕ, ◌+◌, ◌≤◌, Bool, true, false, ◌&&◌, not, IsTrue, List, [], ◌∷◌, ◌++◌, filter, Option, None, Some, refl, sym, ap, subst, ◌∙◌, arith}
+use Rattle.std.specs.Prelude.{◌||◌, nat_lt, is_some, IfSome, IsSome, if◌then◌else◌}
 use Rattle.std.specs.List.{AllByRecursion}
-use Rattle.std.proofs.lemmas.Bool.{le-ltb}
+use Rattle.std.proofs.lemmas.Bool.{le-ltb, and_right, or_left, or_right}
 use Rattle.jv_model.specs.declared.act.ActKind.{ActKind}
 use Rattle.jv_model.specs.declared.act.ActKind.TheVariants.{Answered, Mounted, Meta}
 use Rattle.jv_model.specs.declared.act.Told.TheVariants.{Fine, Refused as ToldRefused}
@@ -18,27 +18,28 @@ use Rattle.jv_model.specs.tree.Tree.{Tree, is_sustained}
 use Rattle.jv_model.specs.client.ModelClient.{ModelClient, OpenFile, View as ModelView, Doing as ModelDoing, Flush as ModelFlush, Stage, Replying, Working, OfFiles, session_of, held_inodes}
 use Rattle.jv_model.specs.client.Profile.{profile}
 use Rattle.jv_model.specs.journal.Reading.{fresh_view, first_that, is_fresh}
-use Rattle.jv_model.specs.journal.State.{State, Gift, NewSession, NewHandle, Nothing, caller, transacted, newly_sustained, gift_of, given, replied, after_transaction, of_doing, answered_client, after_told}
-use Rattle.jv_model.specs.journal.Steps.{Start, MayStep, Transaction, Settles, entry_of_gift, told_of, is_failure, is_ready, transacts as transacts_in, begins_step}
-use Rattle.jv_model.specs.journal.Stepping.{AllowsStep, AnswersAfter, answer_of, is_answer, entry_of, stepped}
+use Rattle.jv_model.specs.journal.State.{State, has_session, Gift, NewSession, NewHandle, Nothing, caller, transacted, newly_sustained, gift_of, given, replied, after_transaction, of_doing, after_told}
+use Rattle.jv_model.specs.journal.Steps.{Start, IsEntry, MayStep, Transaction, Settles, entry_of_gift, told_of, is_failure, is_ready, transacts as transacts_in, begins_step}
+use Rattle.jv_model.specs.journal.Stepping.{is_answer, entry_of, stepped}
+use Rattle.jv_model.proofs.ClientsLaws.{own_client, doing_given}
 use Rattle.jv_client.specs.declared.doing.Doing.{Doing}
-use Rattle.jv_client.specs.declared.doing.Flush.{Flush}
 use Rattle.jv_client.specs.declared.doing.Flush.TheVariants as flush
-use Rattle.jv_client.specs.declared.doing.Progress.{Progress}
 use Rattle.jv_client.specs.declared.doing.Progress.TheVariants as progress
 use Rattle.jv_client.specs.declared.handles.Handle.{Handle}
 use Rattle.jv_client.specs.declared.made.Made.{Made}
 use Rattle.jv_client.specs.declared.made.Made.TheVariants.{Both}
 use Rattle.jv_client.specs.ClientValue.{ClientValue}
-use Rattle.jv_client.specs.StoreValue.{StoreValue, IsSession, HasStore, Grows, MakesSession}
-use Rattle.jv_client.specs.Held.{SamePlace, SameTable, IsView, IsHandle, IsHeld, IsDoing, IsClient, stage_of, flush_of_code}
-use Rattle.jv_client.specs.UnderWay.{IsForm, Mounts, Transacts as FormTransacts, Writes, Flushes, FlushesFor, Closes, ReadsNothing, Reads, IsUnderWay, IsOfFile, IsAt, IsReady, mounts, transacts, has_segment, reads_more}
+use Rattle.jv_client.specs.StoreValue.{StoreValue, HasStore, Grows, MakesSession}
+use Rattle.jv_client.specs.Held.{SamePlace, IsView, IsHandle, IsHeld, IsClient, stage_of, flush_of_code}
+use Rattle.jv_client.specs.UnderWay.{IsForm, Mounts, Transacts as FormTransacts, Writes, Flushes, FlushesFor, Closes, ReadsNothing, Reads, IsUnderWay, IsOfFile, IsReady, mounts, transacts, reads_more}
 use Rattle.jv_client.specs.Makes.{Makes, StepsTo}
 use Rattle.jv_client.specs.Transacting.{Transacts, LeadsTo, Gives, IsGift, given_here, handles_given, new_handle}
-use Rattle.jv_client.proofs.HeldLaws.{own_client, with_stage-doing, answered_client-doing, held-later, held-doing, grows-same, all_of_file-later}
-use Rattle.jv_client.proofs.FailureLaws.{doing-of}
-use Rattle.jv_client.proofs.TreeSide.{mount_made, mount_full}
-use Rattle.jv_client.proofs.HandleTableLaws.{with_file-free, all-at_free, free-same, same-with_free}
+use Rattle.jv_client.proofs.TableLaws.{all-with_file, free-same, same-with_files, the_some}
+use Rattle.jv_client.proofs.StoreLaws.{session-there}
+use Rattle.jv_client.proofs.HeldLaws.{held-later, held-doing, grows-same, all_of_file-later}
+use Rattle.jv_client.proofs.StepLaws.{with_stage-doing, doing_of, client-doing, steps_after, makes_as}
+use Rattle.jv_client.proofs.FormLaws.{no_segment, not_begun, under_way}
+use Rattle.jv_client.proofs.TransactingLaws.{mount_made, mount_full}
 
 -- a client with a gift
 
@@ -53,19 +54,15 @@ direct-given entry _ (NewSession sid) m h e = refl
 direct-given entry what (NewHandle handle inode) m h e = e
 direct-given entry what Nothing m h e = e
 
-last_of_and : (a b : Bool) → b ≡ false → (a && b) ≡ false
-last_of_and true b e = e
-last_of_and false b e = refl
-
 -- no view that was taken by now is fresh for a file that is opened by the next entry
-none_fresh : (count handle inode : ℕ) (views : List ModelView) → AllByRecursion (λ (view : ModelView). view.entry ≤ count) views
+fresh-before : (count handle inode : ℕ) (views : List ModelView) → AllByRecursion (λ (view : ModelView). view.entry ≤ count) views
     → fresh_view views handle (record { inode = inode; opened = count + 1 }) 0 ≡ None
-none_fresh count handle inode [] h = refl
-none_fresh count handle inode (view ∷ views) h =
+fresh-before count handle inode [] h = refl
+fresh-before count handle inode (view ∷ views) h =
     let file : OpenFile = record { inode = inode; opened = count + 1 } in
     let old : nat_lt (count + 1) view.entry ≡ false = le-ltb (count + 1) view.entry (let low = h.0 in omega (arith, low)) in
-    ap (λ b. if b then Some view else first_that (is_fresh handle file 0) views) (last_of_and _ _ old)
-    ∙ none_fresh count handle inode views h.1
+    ap (λ b. if b then Some view else first_that (is_fresh handle file 0) views) (and_right _ _ old)
+    ∙ fresh-before count handle inode views h.1
 
 handle-opened : (count handle inode : ℕ) (store : StoreValue) (views : List ModelView) → AllByRecursion (λ (view : ModelView). view.entry ≤ count) views
     → IsHandle views (count + 1) store handle (record { inode = inode; opened = count + 1 }) (new_handle inode (count + 1))
@@ -73,10 +70,11 @@ handle-opened count handle inode store views h = record {
   inode = refl;
   opened = refl;
   before = omega arith;
-  view = subst (λ (o : Option ModelView). SamePlace (IsView store inode) o None) (sym (none_fresh count handle inode views h)) tt;
+  view = subst (λ (o : Option ModelView). SamePlace (IsView store inode) o None) (sym (fresh-before count handle inode views h)) tt;
 }
 
-pub held-given : {m : ModelClient} {count : ℕ} {store grown : StoreValue} {h : ClientValue} (what : Does) (gift : Gift) → Grows store grown → IsDirect what → IsGift grown h.handles gift
+pub held-given : {m : ModelClient} {count : ℕ} {store grown : StoreValue} {h : ClientValue} (what : Does) (gift : Gift) → Grows store grown → IsDirect what
+    → IsGift grown h.handles gift
     → IsHeld m count store h → IsHeld (given (count + 1) what gift m) (count + 1) grown (given_here (count + 1) gift h)
 held-given {m} {count} {store} {grown} {h} what (NewSession sid) g direct there held =
     let later = held-later {later = count + 1} g (omega arith) held in
@@ -96,10 +94,8 @@ held-given {m} {count} {store} {grown} {h} what (NewHandle handle inode) g direc
       mounted = later.mounted;
       direct = held.direct;
       none_removed = held.none_removed;
-      handles = subst (λ n. SameTable (IsHandle m.views (count + 1) grown) 1 (given (count + 1) what (NewHandle n inode) m).handles (handles_given (count + 1) (NewHandle n inode) h.handles))
-          (sym there.0)
-          (same-with_free (IsHandle m.views (count + 1) grown) (record { inode = inode; opened = count + 1 }) (new_handle inode (count + 1)) m.handles h.handles
-          (λ n. handle-opened count n inode grown m.views held.views) later.handles);
+      handles = same-with_files (IsHandle m.views (count + 1) grown) (Some (record { inode = inode; opened = count + 1 })) (Some (new_handle inode (count + 1)))
+          (λ n. handle-opened count n inode grown m.views held.views) handle m.handles h.handles later.handles;
       views = later.views;
       pending = held.pending;
     }
@@ -110,8 +106,7 @@ files-given : (store grown : StoreValue) (handles : List (Option Handle)) (entry
     → AllByRecursion (IsOfFile store) handles → AllByRecursion (IsOfFile grown) (handles_given entry gift handles)
 files-given store grown handles entry (NewSession sid) g there h = all_of_file-later store grown handles g.count h
 files-given store grown handles entry (NewHandle handle inode) g there h =
-    subst (AllByRecursion (IsOfFile grown)) (sym (ap (λ n. handles_given entry (NewHandle n inode) handles) there.0 ∙ with_file-free (Some (new_handle inode entry)) handles))
-    (all-at_free (IsOfFile grown) (Some (new_handle inode entry)) handles there.1 (all_of_file-later store grown handles g.count h))
+    all-with_file (IsOfFile grown) handle (Some (new_handle inode entry)) handles there.1 (all_of_file-later store grown handles g.count h)
 files-given store grown handles entry Nothing g there h = all_of_file-later store grown handles g.count h
 
 -- the entry of a transaction
@@ -120,7 +115,8 @@ never_both : (b : Bool) → (b && not b) ≡ false
 never_both true = refl
 never_both false = refl
 
-none_sustained : (now before : ℕ → Bool) (inodes : List ℕ) → ((inode : ℕ) → now inode ≡ before inode) → filter (λ inode. now inode && not (before inode)) inodes ≡ []
+none_sustained : (now before : ℕ → Bool) (inodes : List ℕ) → ((inode : ℕ) → now inode ≡ before inode)
+    → filter (λ inode. now inode && not (before inode)) inodes ≡ []
 none_sustained now before [] same = refl
 none_sustained now before (inode ∷ inodes) same =
     let none : (now inode && not (before inode)) ≡ false = ap (λ b. b && not (before inode)) (same inode) ∙ never_both (before inode) in
@@ -132,11 +128,6 @@ newly_sustained-none before after c same =
     none_sustained (is_sustained after (session_of c)) (is_sustained before (session_of c)) (held_inodes c.handles)
     (λ inode. ap (λ sustained. is_some (get sustained (record { sid = session_of c; inode = inode }))) same)
 
-given-doing : (entry : ℕ) (what : Does) (gift : Gift) (c : ModelClient) → (given entry what gift c).doing ≡ c.doing
-given-doing entry what (NewSession sid) c = refl
-given-doing entry what (NewHandle handle inode) c = refl
-given-doing entry what Nothing c = refl
-
 -- the client between the transaction and its answer
 abbrev pub replying : ℕ → ModelDoing → Reply → ModelClient → ModelClient
 replying entry d reply c = record (given entry d.does (gift_of reply) c) { doing = Some (record d { stage = Replying reply; moved = true }) }
@@ -146,7 +137,7 @@ replied-is : (entry : ℕ) (d : ModelDoing) (answer reply : Reply) (gone : List 
 replied-is entry d answer reply gone c busy same none =
     ap (λ (inodes : List ℕ). replied entry d.does answer (record c { sustained = inodes ++ c.sustained })) none
     ∙ ap (λ (r : Reply). replied entry d.does r c) same
-    ∙ with_stage-doing (Replying reply) (given entry d.does (gift_of reply) c) d (given-doing entry d.does (gift_of reply) c ∙ busy)
+    ∙ with_stage-doing (Replying reply) (given entry d.does (gift_of reply) c) d (doing_given entry d.does (gift_of reply) c ∙ busy)
 
 -- whatever entry it makes, it is a transaction's
 steps-by_gift : (s : State) (client now : ℕ) (d : ModelDoing) (gift : Gift) → (s.clients client).doing ≡ Some d
@@ -158,7 +149,8 @@ steps-by_gift s client now d (NewHandle handle inode) busy =
 steps-by_gift s client now d Nothing busy =
     ap (λ (o : Option ModelDoing). let t : State = record (of_doing s (entry_of 0 now client (entry_of_gift Nothing)) o) { count = s.count + 1 } in t) busy
 
-may-by_gift : (start : Start) (alone : Bool) (s : State) (client now : ℕ) (c : ModelClient) (d : ModelDoing) (gift : Gift) → Transaction s client now c d (entry_of_gift gift)
+may-by_gift : (start : Start) (alone : Bool) (s : State) (client now : ℕ) (c : ModelClient) (d : ModelDoing) (gift : Gift)
+    → Transaction s client now c d (entry_of_gift gift)
     → MayStep start alone s client now c d (entry_of_gift gift)
 may-by_gift start alone s client now c d (NewSession sid) h = h
 may-by_gift start alone s client now c d (NewHandle handle inode) h = h
@@ -197,57 +189,41 @@ module _ (s : State) (client now : ℕ) (d : ModelDoing) (reply : Reply) (grown 
   abbrev settling : ModelDoing
   settling = record d { stage = Replying reply; moved = true }
 
-  pub meta-allowed : (start : Start) (alone : Bool) → AllowsStep start alone s client now (first ∷ Answered (told_of reply) ∷ []) (Done reply)
-  meta-allowed start alone = AnswersAfter first (told_of reply) reply refl refl
-      (record {
-        doing = d;
-        busy = busy;
-        begins_is = begins-by_gift d (gift_of reply);
-        may = may-by_gift start alone s client now (s.clients client) d (gift_of reply)
-            (record { ready = ready; transacts = of_tree; same = ap (λ (r : Reply). entry_of_gift (gift_of r)) (sym leads.same) });
-      })
-      (no_answer-by_gift (gift_of reply))
-      (record { doing = settling; busy = ap (λ (c : ModelClient). c.doing) between-client; begins_is = fine; may = Settles reply refl refl })
-      (ap (λ (c : ModelClient). answer_of c (told_of reply)) between-client)
+  meta-entry : (start : Start) (alone : Bool) → IsEntry start alone s client now first true
+  meta-entry start alone = record {
+    doing = d;
+    busy = busy;
+    begins_is = begins-by_gift d (gift_of reply);
+    may = may-by_gift start alone s client now (s.clients client) d (gift_of reply)
+        (record { ready = ready; transacts = of_tree; same = ap (λ (r : Reply). entry_of_gift (gift_of r)) (sym leads.same) });
+  }
 
-  abbrev answered : State
-  answered = stepped between client now (Answered (told_of reply))
-
-  pub meta-tree : HasStore answered.tree grown
-  meta-tree = subst (λ t. HasStore t grown) (sym between-tree) leads.has_store
-
-  pub meta-client : answered.clients client ≡ record (given (s.count + 1) d.does (gift_of reply) (s.clients client)) { doing = None }
-  meta-client =
-      own_client between.clients client _
-      ∙ ap (answered_client (told_of reply)) between-client
-      ∙ answered_client-doing (told_of reply) (replying (s.count + 1) d reply (s.clients client)) settling refl refl
-      ∙ ends (replying (s.count + 1) d reply (s.clients client))
+  -- it leads to where the answer ends the operation
+  pub meta-answers : (after : ClientValue)
+      → IsClient (record (given (s.count + 1) d.does (gift_of reply) (s.clients client)) { doing = None }) (s.count + 1 + 1) grown after
+      → StepsTo s client now (first ∷ Answered (told_of reply) ∷ []) (Done reply) after grown
+  meta-answers after is =
+      steps_after s client now first (replying (s.count + 1) d reply (s.clients client)) settling (told_of reply) reply after grown meta-entry (no_answer-by_gift (gift_of reply)) between-client refl fine
+      (record { may = λ start alone. Settles reply refl refl; own = refl; says = refl })
+      (subst (λ t. HasStore t grown) (sym between-tree) leads.has_store)
+      (subst (λ c. IsClient c (s.count + 1 + 1) grown after) (sym (ends (replying (s.count + 1) d reply (s.clients client)))) is)
 
 -- an operation of this kind is at its first step
-
-pub record IsFirst (h : ClientValue) (d : Doing) : Type 0 where
-  pub nothing : d.flush ≡ flush.Nothing
-  pub started : ℕ
-  pub progress : d.progress ≡ progress.Working 0 started
-  pub direct : IsDirect d.does
-  pub session : (profile d.op).needs_mount ≡ true → IsTrue (is_some h.session)
-
-left_of : (a b : Bool) → IsTrue a → IsTrue (a || b)
-left_of true b h = refl
-left_of false b h = absurd (cc h)
-
-right_of : (a b : Bool) → IsTrue b → IsTrue (a || b)
-right_of true b h = refl
-right_of false b h = h
 
 abbrev makes_one : Does → Bool
 makes_one what = mounts what || transacts what
 
-record HasForm (h : ClientValue) (d : Doing) : Type 0 where
-  nothing : d.flush ≡ flush.Nothing
-  reads : reads_more h d ≡ false
-  direct : IsDirect d.does
-  session : (profile d.op).needs_mount ≡ true → IsTrue (is_some h.session)
+-- its form: it flushes nothing, and reads nothing
+pub record HasForm (h : ClientValue) (d : Doing) : Type 0 where
+  pub nothing : d.flush ≡ flush.Nothing
+  pub reads : reads_more h d ≡ false
+  pub direct : IsDirect d.does
+  pub session : (profile d.op).needs_mount ≡ true → IsTrue (is_some h.session)
+
+pub record IsFirst (h : ClientValue) (d : Doing) : Type 0 where
+  pub form : HasForm h d
+  pub started : ℕ
+  pub progress : d.progress ≡ progress.Working 0 started
 
 not_of_handle : (d : Doing) (handle : ℕ) → FlushesFor d handle → IsTrue (makes_one d.does) → ⊥
 not_of_handle d handle (Closes o what) one = absurd (cc (sym one ∙ ap makes_one what))
@@ -270,19 +246,11 @@ has_form h d (FormTransacts o what first session) one = record {
 has_form h d (Writes handle offset bytes file o what first opened short few) one = absurd (cc (sym one ∙ ap makes_one what))
 has_form h d (Flushes handle file for first opened session) one = absurd (not_of_handle d handle for one)
 
-no_segment : (h : ClientValue) (d : Doing) → d.flush ≡ flush.Nothing → has_segment h d ≡ false
-no_segment h d first = ap (λ (x : Flush). has_segment h (record d { flush = x })) first
-
-at_first : (h : ClientValue) (d : Doing) (at : Progress) → IsAt h d at → has_segment h d ≡ false → reads_more h d ≡ false → (started : ℕ) × (at ≡ progress.Working 0 started)
-at_first h d (progress.Working zero started) is none reads = (started, refl)
-at_first h d (progress.Working (suc quiets) started) is none reads = absurd (cc (sym none ∙ is.segment (omega arith)))
-at_first h d progress.Reading is none reads = absurd (cc (sym reads ∙ is.reads))
-
 pub is_first : (h : ClientValue) (d : Doing) → IsUnderWay h d → IsTrue (makes_one d.does) → IsFirst h d
 is_first h d way one =
     let form = has_form h d way.form one in
-    let at = at_first h d d.progress way.at (no_segment h d form.nothing) form.reads in
-    record { nothing = form.nothing; started = at.0; progress = at.1; direct = form.direct; session = form.session }
+    let at = not_begun h d d.progress way.at (no_segment h d form.nothing) form.reads in
+    record { form = form; started = at.0; progress = at.1 }
 
 transacts-by : (c : ModelClient) (m : ModelDoing) (what : Does) → m.does ≡ what → IsTrue (makes_one what) → IsTrue (transacts_in c m)
 transacts-by c m (does.Mounts writeback) same one = ap (λ (x : Does). transacts_in c (record m { does = x })) same
@@ -294,44 +262,27 @@ ready-by c m started stage first =
     ap (λ (x : Stage). is_ready c (record m { stage = x })) stage
     ∙ ap (λ (x : ModelFlush). is_ready c (record m { stage = Working 0 started; flush = x })) first
 
--- a client's session is in the tree
-in_session : (t : Tree) (store : StoreValue) (session : Option ℕ) → HasStore t store → IfSome session (IsSession store) → IsTrue (is_some session) → IsTrue (is_some (get t.sessions (unwrap_or session 0)))
-in_session t store None h made some = absurd (cc some)
-in_session t store (Some sid) h made some = h.sessions sid made
-
 meta-leads : (now : ℕ) (h : ClientValue) (d : Doing) (store grown : StoreValue) (reply : Reply) → h.doing ≡ Some d → IsUnderWay h d → IsTrue (makes_one d.does)
     → Transacts d.op h.handles store grown reply → (s : State) → HasStore s.tree store → IsClient (s.clients h.id) s.count store h
     → StepsTo s h.id now (entry_of_gift (gift_of reply) ∷ Answered (told_of reply) ∷ []) (Done reply) (given_here (s.count + 1) (gift_of reply) h) grown
 meta-leads now h d store grown reply busy way one does_so s has is =
     let c = s.clients h.id in
     let first = is_first h d way one in
-    let doing = doing-of c.doing h.doing d is.doing busy in
-    let m = doing.0 in
-    let here : IsDoing m d = doing.2 in
-    let all : Transacts m.op h.handles store grown reply = subst (λ o. Transacts o h.handles store grown reply) (sym here.op) does_so in
-    let needs : (profile m.op).needs_mount ≡ true → IsTrue (is_some (get s.tree.sessions (session_of c))) = λ needed.
-    subst (λ x. IsTrue (is_some (get s.tree.sessions (unwrap_or x 0)))) (sym is.held.session)
-    (in_session s.tree store h.session has is.held.mounted (first.session (sym (ap (λ o. (profile o).needs_mount) here.op) ∙ needed))) in
-    let leads = all.leads s.tree (caller c h.id now m.op) has needs (free-same (IsHandle c.views s.count store) 1 1 c.handles h.handles is.held.handles) in
-    let ready = ready-by c m first.started (here.stage ∙ ap stage_of first.progress) (here.flush ∙ ap flush_of_code first.nothing) in
-    let of_tree = transacts-by c m d.does here.does one in
-    let direct : IsDirect m.does = subst IsDirect (sym here.does) first.direct in
-    let held = held-given m.does (gift_of reply) all.grows direct all.gift is.held in
-    record {
-      allows = meta-allowed s h.id now m reply grown doing.1 ready of_tree leads all.fine all.ends;
-      count = omega arith;
-      has_store = meta-tree s h.id now m reply grown doing.1 ready of_tree leads all.fine all.ends;
-      is_client = subst (λ x. IsClient x (s.count + 1 + 1) grown (given_here (s.count + 1) (gift_of reply) h))
-          (sym (meta-client s h.id now m reply grown doing.1 ready of_tree leads all.fine all.ends))
-          (record { held = held-later (grows-same grown) (omega arith) (held-doing None None held); doing = tt });
-    }
+    let there = client-doing d busy is in
+    let needs : (profile d.op).needs_mount ≡ true → IsTrue (has_session s.tree c) = λ needed. session-there s.tree store has is.held (first.form.session needed) in
+    let leads = does_so.leads s.tree (caller c h.id now d.op) has needs (free-same (IsHandle c.views s.count store) 1 1 c.handles h.handles is.held.handles) in
+    let ready = ready-by c (doing_of d) first.started (ap stage_of first.progress) (ap flush_of_code first.form.nothing) in
+    let held = held-given d.does (gift_of reply) does_so.grows first.form.direct does_so.gift is.held in
+    meta-answers s h.id now (doing_of d) reply grown there ready (transacts-by c (doing_of d) d.does refl one) leads does_so.fine does_so.ends (given_here (s.count + 1) (gift_of reply) h)
+    (record { held = held-later (grows-same grown) (omega arith) (held-doing None None held); doing = tt })
 
 -- A metadata transaction is one step, which answers.
-pub meta-step : (now entry : ℕ) (h : ClientValue) (d : Doing) (store grown : StoreValue) (reply : Reply) → h.doing ≡ Some d → IsReady store h → IsTrue (makes_one d.does)
+pub meta-step : (now entry : ℕ) (h : ClientValue) (d : Doing) (store grown : StoreValue) (reply : Reply) → h.doing ≡ Some d → IsReady store h
+    → IsTrue (makes_one d.does)
     → Transacts d.op h.handles store grown reply
     → Makes now entry h (given_here entry (gift_of reply) h) store grown (Both (entry_of_gift (gift_of reply)) (told_of reply) reply)
 meta-step now entry h d store grown reply busy ready one does_so =
-    let way : IsUnderWay h d = subst (λ o. IfSome o (IsUnderWay h)) busy ready.doing in
+    let way : IsUnderWay h d = under_way h store d busy ready in
     record {
       id = refl;
       limits = refl;
@@ -343,44 +294,35 @@ meta-step now entry h d store grown reply busy ready one does_so =
           (meta-leads now h d store grown reply busy way one does_so s has is);
     }
 
--- the same under other names
-meta-as : (now entry : ℕ) (h after : ClientValue) (store grown : StoreValue) (reply : Reply) (made : Made) → after ≡ given_here entry (gift_of reply) h
-    → made ≡ Both (entry_of_gift (gift_of reply)) (told_of reply) reply
-    → Makes now entry h (given_here entry (gift_of reply) h) store grown (Both (entry_of_gift (gift_of reply)) (told_of reply) reply) → Makes now entry h after store grown made
-meta-as now entry h after store grown reply made same is makes =
-    subst (λ x. Makes now entry h after store grown x) (sym is)
-    (subst (λ x. Makes now entry h x store grown (Both (entry_of_gift (gift_of reply)) (told_of reply) reply)) (sym same) makes)
-
 -- a transaction of a mounted client
-pub transact-makes : (now entry : ℕ) (h : ClientValue) (handles : List (Option Handle)) (d : Doing) (store grown : StoreValue) (reply : Reply) (made : Made) → h.doing ≡ Some d
+pub transact-makes : (now entry : ℕ) (h : ClientValue) (handles : List (Option Handle)) (d : Doing) (store grown : StoreValue) (reply : Reply) (made : Made)
+    → h.doing ≡ Some d
     → IsReady store h → IsTrue (transacts d.does) → Gives d.op entry h.handles handles store grown reply
     → made ≡ Both (entry_of_gift (gift_of reply)) (told_of reply) reply → Makes now entry h (record h { handles = handles; doing = None }) store grown made
 transact-makes now entry h handles d store grown reply made busy ready one gives is =
-    meta-as now entry h (record h { handles = handles; doing = None }) store grown reply made
+    makes_as
     (ap (λ hs. let c : ClientValue = record h { handles = hs; doing = None } in c) gives.given
     ∙ ap (λ session. let c : ClientValue = record h { session = session; handles = handles_given entry (gift_of reply) h.handles; doing = None } in c) (sym (gives.mounts_none h.session)))
-    is (meta-step now entry h d store grown reply busy ready (right_of (mounts d.does) _ one) gives.done)
+    refl is (meta-step now entry h d store grown reply busy ready (or_right (mounts d.does) _ one) gives.done)
 
 -- a mount
-
-doing_there : (o : Option Doing) → IsSome o → (d : Doing) × (o ≡ Some d)
-doing_there None some = absurd (cc some)
-doing_there (Some d) some = (d, refl)
 
 mount_of : (h : ClientValue) (d : Doing) → IsForm h d → IsTrue (mounts d.does) → d.op ≡ op.Mount false
 mount_of h d (Mounts o what first) one = o
 mount_of h d (FormTransacts o what first session) one = absurd (cc (sym one ∙ ap mounts what))
 mount_of h d (Writes handle offset bytes file o what first opened short few) one = absurd (cc (sym one ∙ ap mounts what))
-mount_of h d (Flushes handle file for first opened session) one = absurd (not_of_handle d handle for (left_of (mounts d.does) _ one))
+mount_of h d (Flushes handle file for first opened session) one = absurd (not_of_handle d handle for (or_left (mounts d.does) _ one))
 
-mount-makes : (now entry : ℕ) (h : ClientValue) (store grown : StoreValue) (reply : Reply) → IsSome h.doing → IsReady store h → IfSome h.doing (λ d. IsTrue (mounts d.does))
-    → Transacts (op.Mount false) h.handles store grown reply → Makes now entry h (given_here entry (gift_of reply) h) store grown (Both (entry_of_gift (gift_of reply)) (told_of reply) reply)
+mount-makes : (now entry : ℕ) (h : ClientValue) (store grown : StoreValue) (reply : Reply) → IsSome h.doing → IsReady store h
+    → IfSome h.doing (λ d. IsTrue (mounts d.does))
+    → Transacts (op.Mount false) h.handles store grown reply
+    → Makes now entry h (given_here entry (gift_of reply) h) store grown (Both (entry_of_gift (gift_of reply)) (told_of reply) reply)
 mount-makes now entry h store grown reply busy ready one does_so =
-    let there = doing_there h.doing busy in
+    let there = the_some h.doing busy in
     let d = there.0 in
-    let way : IsUnderWay h d = subst (λ o. IfSome o (IsUnderWay h)) there.1 ready.doing in
+    let way : IsUnderWay h d = under_way h store d there.1 ready in
     let mine : IsTrue (mounts d.does) = subst (λ o. IfSome o (λ x. IsTrue (mounts x.does))) there.1 one in
-    meta-step now entry h d store grown reply there.1 ready (left_of (mounts d.does) _ mine)
+    meta-step now entry h d store grown reply there.1 ready (or_left (mounts d.does) _ mine)
     (subst (λ o. Transacts o h.handles store grown reply) (sym (mount_of h d way.form mine)) does_so)
 
 pub mounted : (now entry : ℕ) (h after : ClientValue) (store grown : StoreValue) (sid : ℕ) (made : Made) → IsSome h.doing → IsReady store h
@@ -393,7 +335,7 @@ mounted now entry h after store grown sid made busy ready one makes low same is 
     let here : Transacts (op.Mount false) h.handles store grown (SessionMade sid) =
     subst (λ g. Transacts (op.Mount false) h.handles store g (SessionMade sid)) (sym makes.2)
     (subst (λ n. Transacts (op.Mount false) h.handles store (record store { next_session = store.next_session + 1 }) (SessionMade n)) (sym makes.0) does_so) in
-    meta-as now entry h after store grown (SessionMade sid) made same is (mount-makes now entry h store grown (SessionMade sid) busy ready one here)
+    makes_as same refl is (mount-makes now entry h store grown (SessionMade sid) busy ready one here)
 
 pub mount_refused : (now entry : ℕ) (h after : ClientValue) (store grown : StoreValue) (made : Made) → IsSome h.doing → IsReady store h
     → IfSome h.doing (λ d. IsTrue (mounts d.does)) → MakesSession store grown None → after ≡ record h { doing = None }
@@ -401,4 +343,4 @@ pub mount_refused : (now entry : ℕ) (h after : ClientValue) (store grown : Sto
 mount_refused now entry h after store grown made busy ready one makes same is =
     let here : Transacts (op.Mount false) h.handles store grown (Refused NoSpace) =
     subst (λ g. Transacts (op.Mount false) h.handles store g (Refused NoSpace)) (sym makes.1) (mount_full h.handles store makes.0) in
-    meta-as now entry h after store grown (Refused NoSpace) made same is (mount-makes now entry h store grown (Refused NoSpace) busy ready one here)
+    makes_as same refl is (mount-makes now entry h store grown (Refused NoSpace) busy ready one here)

@@ -39,7 +39,7 @@ abbrev pub has_segment : ClientValue → Doing → Bool
 has_segment h d = is_some (segment_left d.flush h.pending)
 
 -- what the handle of an operation saw of its file
-abbrev view_of : Option Handle → Option View
+abbrev pub view_of : Option Handle → Option View
 view_of None = None
 view_of (Some handle) = handle.view
 

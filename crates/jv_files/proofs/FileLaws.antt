@@ -33,6 +33,11 @@ module _ {X : Type 0} where
   slice_get_inside (x ∷ xs) zero h = (x, refl)
   slice_get_inside (x ∷ xs) (suc k) h = slice_get_inside xs k (omega (arith, h))
 
+  pub slice_get-set : (xs : List X) (k : ℕ) (x : X) → k < length xs → slice_get (slice_set xs k x) k ≡ Some x
+  slice_get-set [] k x h = absurd (omega (arith, h))
+  slice_get-set (y ∷ ys) zero x h = refl
+  slice_get-set (y ∷ ys) (suc k) x h = slice_get-set ys k x (omega (arith, h))
+
   pub some_and : (o : Option X) (P : X → Type 0) → IsSomeAnd o P → (x : X) × (o ≡ Some x) × P x
   some_and None P h = absurd h
   some_and (Some x) P h = (x, refl, h)

@@ -41,6 +41,7 @@ use Rattle.jv_model.specs.journal.Legal.{Allowed, AllAllowed, Refuses as Refuses
 use Rattle.jv_laws.specs.Laws.{NothingPending, HasCommitted, flushed_handles, is_fine_answer}
 use Rattle.jv_laws.proofs.JournalGrowthLaws.{AllAllowed-parts, own_client, others_kept}
 use Rattle.jv_laws.proofs.JournalStates.{Entry, Steps, RefusedSubmission, LacksMemory, Crashes, Publishes, OfDrain, Ticks, entry_of, holds_on}
+pub use Rattle.jv_model.proofs.ClientsLaws.{doing_given}
 
 -- tests
 
@@ -337,11 +338,6 @@ files_of handles d = (profile d.op).flushes ≡ ItsFiles → d.flush ≡ OfFiles
 
 handles_given : (entry : ℕ) (does : Does) (gift : Gift) (c : ModelClient) → gift ≡ Nothing → (given entry does gift c).handles ≡ c.handles
 handles_given entry does gift c e = ap (λ g. (given entry does g c).handles) e
-
-pub doing_given : (entry : ℕ) (does : Does) (gift : Gift) (c : ModelClient) → (given entry does gift c).doing ≡ c.doing
-doing_given entry does (NewSession sid) c = refl
-doing_given entry does (NewHandle handle inode) c = refl
-doing_given entry does Nothing c = refl
 
 pending_given : (entry : ℕ) (does : Does) (gift : Gift) (c : ModelClient) → (given entry does gift c).pending ≡ c.pending
 pending_given entry does (NewSession sid) c = refl

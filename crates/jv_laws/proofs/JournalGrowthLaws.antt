@@ -2,7 +2,7 @@
 use Rattle.std.proofs.Common.{◌≡◌, ℕ, zero, suc, ◌+◌, ◌-◌, ◌≤◌, ◌<◌, Bool, true, false, if◌then◌else◌, IfSome, MatchBool, MatchOption, inl, inr, List, [], ◌∷◌, ◌++◌, length, slice_get, Option, None, Some, refl, sym, ap, subst, ◌∙◌, arith, append_assoc, ◌&&◌}
 use Rattle.std.specs.List.{AllByRecursion}
 use Rattle.std.proofs.lemmas.List.{append-nil}
-use Rattle.std.proofs.lemmas.Bool.Decides.{leb_tells, eqb_tells}
+use Rattle.std.proofs.lemmas.Bool.Decides.{leb_tells}
 use Rattle.jv_model.specs.declared.limits.TheConstants.{LAST_MOMENT}
 use Rattle.jv_model.specs.declared.act.Act.{Act}
 use Rattle.jv_model.specs.declared.act.ActKind.{ActKind}
@@ -11,12 +11,13 @@ use Rattle.jv_model.specs.declared.fault.Fault.{Fault}
 use Rattle.jv_model.specs.declared.op.Op.{Op}
 use Rattle.jv_model.specs.declared.op.Line.{Line}
 use Rattle.jv_model.specs.declared.op.Line.TheVariants.{Empty, Do, Begin, Step, Run, Crash, Drain, Tick}
-use Rattle.jv_model.specs.client.ModelClient.{ModelClient, Doing}
+use Rattle.jv_model.specs.client.ModelClient.{Doing}
 use Rattle.jv_model.specs.client.Submission.{submission}
-use Rattle.jv_model.specs.journal.State.{State, with_client, after_step, of_doing, changed, effect}
+use Rattle.jv_model.specs.journal.State.{State, after_step, of_doing, changed, effect}
 use Rattle.jv_model.specs.journal.Past.{Past, Due, at_start, begun, begun_by, begun_by_due, begun_to, begin_from, begin_next, turned, is_busy, is_workers, lined, asks_clock, after, advance, past, reached, is_over}
 use Rattle.jv_model.specs.journal.Legal.{Allowed, AllAllowed, IsMoment, clock_moment, tick_of}
 use Rattle.jv_laws.specs.Laws.{JournalsGrow, EarlierTextStays, FollowsClock, Follows, OthersStay, EntriesAreCounted, text_to}
+pub use Rattle.jv_model.proofs.ClientsLaws.{own_client, other_client}
 
 -- what a line that begins leaves
 
@@ -384,18 +385,6 @@ pub counted : EntriesAreCounted
 counted run journal = let e = count_past (at_start run) journal in omega (arith, e)
 
 -- an entry changes nothing of another client
-
-pub other_client : (clients : ℕ → ModelClient) (at : ℕ) (c : ModelClient) (q : ℕ) → (q ≡ at → ⊥) → with_client clients at c q ≡ clients q
-other_client clients at c q h = elim (eqb_tells q at) [
-  | inl same ↦ absurd (h same.1)
-  | inr other ↦ subst (λ b. (if b then c else clients q) ≡ clients q) (sym other.0) refl
-]
-
-pub own_client : (clients : ℕ → ModelClient) (at : ℕ) (c : ModelClient) → with_client clients at c at ≡ c
-own_client clients at c = elim (eqb_tells at at) [
-  | inl same ↦ subst (λ b. (if b then c else clients at) ≡ c) (sym same.0) refl
-  | inr other ↦ absurd (other.1 refl)
-]
 
 others_step : (s : State) (act : Act) (d : Doing) (kind : ActKind) (q : ℕ) → (q ≡ act.client → ⊥) → (after_step s act d kind).clients q ≡ s.clients q
 others_step s act d (Mounted sid) q h = other_client s.clients act.client _ q h

@@ -3,6 +3,7 @@ pub mod PrintedExamples
 pub mod GrammarExamples
 pub mod ReplyTextExamples
 pub mod FiniteMapLaws
+pub mod ClientsLaws
 pub mod TreeComputes
 pub mod BlockNamesExamples
 pub mod SlicesExamples

@@ -3,30 +3,24 @@ use Rattle.std.proofs.Common.{◌≡◌, ℕ, ◌<◌, true, false, List, length
 use Rattle.std.specs.Prelude.{is_some, IfSome}
 use Rattle.jv_model.specs.declared.op.Op.{Op}
 use Rattle.jv_model.specs.client.ModelClient.{ModelClient, Doing}
-use Rattle.jv_model.specs.journal.Steps.{must_answer}
 use Rattle.jv_model.specs.journal.Past.{Past, ends_in_step}
 use Rattle.jv_files.proofs.FileLaws.{slice_get_inside}
 use Rattle.jv_client.specs.declared.doing.Doing.{Doing as ClientDoing}
-use Rattle.jv_client.specs.declared.doing.Progress.{Progress}
-use Rattle.jv_client.specs.declared.doing.Progress.TheVariants.{Working, Reading}
 use Rattle.jv_client.specs.ClientValue.{ClientValue}
-use Rattle.jv_client.specs.Held.{IsClient, IsDoing, SamePlace, stage_of}
+use Rattle.jv_client.specs.Held.{IsClient, IsDoing, SamePlace}
 use Rattle.jv_model.specs.declared.basics.Limits.{Limits}
 use Rattle.jv_model.specs.client.Pending.{PendingByte}
 use Rattle.jv_model.specs.journal.Built.{is_built_op}
+use Rattle.jv_client.proofs.AnswerLaws.{not_ending as own_answer}
 use Rattle.jv_session.specs.Stands.{ScheduleValue, Stands, built_op_here, held_in}
 
 -- an operation that stands for one in memory hasn't settled its answer
-
-not_must : (m : Doing) (p : Progress) → m.stage ≡ stage_of p → must_answer m ≡ false
-not_must m (Working quiets started) e = ap (λ stage. must_answer (record m { stage = stage })) e
-not_must m Reading e = ap (λ stage. must_answer (record m { stage = stage })) e
 
 by_doing : (c : ModelClient) (o : Option Doing) (mine : Option ClientDoing) → c.doing ≡ o → SamePlace IsDoing o mine → ends_in_step c ≡ false
 by_doing c None None e h = ap (λ doing. ends_in_step (record c { doing = doing })) e
 by_doing c None (Some d) e h = absurd h
 by_doing c (Some m) None e h = absurd h
-by_doing c (Some m) (Some d) e h = ap (λ doing. ends_in_step (record c { doing = doing })) e ∙ not_must m d.progress h.stage
+by_doing c (Some m) (Some d) e h = ap (λ doing. ends_in_step (record c { doing = doing })) e ∙ own_answer m d.progress h.stage
 
 pub not_ending : (c : ModelClient) (mine : Option ClientDoing) → SamePlace IsDoing c.doing mine → ends_in_step c ≡ false
 not_ending c mine h = by_doing c c.doing mine refl h

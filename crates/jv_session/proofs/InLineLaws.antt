@@ -1,8 +1,9 @@
 -- A line in progress goes on: a step of its client, an entry of its own, and where it stops.
-use Rattle.std.proofs.Common.{◌≡◌, ℕ, zero, suc, ◌+◌, ◌≤◌, ◌<◌, min, max, Bool, true, false, ◌||◌, List, [], ◌∷◌, ◌++◌, length, map, slice_get, slice_set, Option, None, Some, Result, Ok, Err, refl, sym, ap, subst, ◌∙◌, arith, length-append}
+use Rattle.std.proofs.Common.{◌≡◌, ℕ, ◌+◌, ◌≤◌, ◌<◌, min, max, Bool, true, false, ◌||◌, List, [], ◌++◌, length, map, slice_get, slice_set, Option, None, Some, Result, Ok, Err, refl, sym, ap, subst, ◌∙◌, arith, length-append}
 use Rattle.std.specs.Prelude.{IfSome, MatchOption, is_some, IfOk}
 use Rattle.std.specs.declared.alloc.AllocError.{AllocError}
-use Rattle.std.proofs.lemmas.List.{append-nil, append_assoc}
+use Rattle.std.proofs.lemmas.List.{append-nil, append_assoc, length-map}
+use Rattle.std.proofs.lemmas.Bool.{or_left}
 use Rattle.std.proofs.lemmas.Option.{slice_get_within}
 use Rattle.jv_model.specs.declared.limits.TheConstants.{LAST_MOMENT}
 use Rattle.jv_model.specs.declared.act.Act.{Act}
@@ -23,7 +24,7 @@ use Rattle.jv_laws.proofs.StepsOnLines.{RunsClient, ToItsEnd, OneStepOnly, Steps
 use Rattle.jv_outside.specs.Causes.{Rose}
 use Rattle.jv_outside.specs.Ticks.{Ticks, Passes}
 use Rattle.jv_outside.proofs.TicksLaws.{Passes-zero, Passes-trans}
-use Rattle.jv_files.proofs.FileLaws.{each-set, in_place}
+use Rattle.jv_files.proofs.FileLaws.{each-set, in_place, slice_get-set}
 use Rattle.jv_client.specs.ClientValue.{ClientValue}
 use Rattle.jv_client.specs.StoreValue.{StoreValue, HasStore, Grows}
 use Rattle.jv_client.specs.Held.{IsClient}
@@ -65,13 +66,13 @@ is_now q s by now n before mid final h m passes for =
 
 -- clients
 
--- a client of the schedule at its place
-pub member : (q : State) (s : ScheduleValue) (k : ℕ) (c : ClientValue) → IsState q s.clients s.store → slice_get s.clients k ≡ Some c → IsClient (q.clients k) q.count s.store c
-member q s k c h found = subst (λ o. IfSome o (IsClient (q.clients k) q.count s.store)) found (h.clients_are k)
+-- one of them, at its place
+pub client_at : (q : State) (clients : List ClientValue) (store : StoreValue) (k : ℕ) (c : ClientValue) → IsState q clients store → slice_get clients k ≡ Some c → IsClient (q.clients k) q.count store c
+client_at q clients store k c h found = subst (λ o. IfSome o (IsClient (q.clients k) q.count store)) found (h.clients_are k)
 
 -- no operation waits for its answer alone
 pub goes_on : (q : State) (s : ScheduleValue) (k : ℕ) (c : ClientValue) → IsState q s.clients s.store → slice_get s.clients k ≡ Some c → ends_in_step (q.clients k) ≡ false
-goes_on q s k c h found = not_ending (q.clients k) c.doing (member q s k c h found).doing
+goes_on q s k c h found = not_ending (q.clients k) c.doing (client_at q s.clients s.store k c h found).doing
 
 -- one client went on, and the others stay
 pub state-stepped : (q t : State) (s : ScheduleValue) (client : ℕ) (new : ClientValue) (grown : StoreValue) → IsState q s.clients s.store → Grows s.store grown → q.count ≤ t.count
@@ -93,15 +94,11 @@ pub record StepMade (due : Due) (q : Past) (s' : ScheduleValue) (client : ℕ) (
   pub goes : Goes q 1 journal more (map (entry_of q.line now client) kinds) end
   pub in_line : InLine end s'
 
-length-map : {X Y : Type 0} (f : X → Y) (xs : List X) → length (map f xs) ≡ length xs
-length-map f [] = refl
-length-map f (x ∷ xs) = ap suc (length-map f xs)
-
 pub step_made : (due : Due) (q : Past) (s s' : ScheduleValue) (number client n : ℕ) (before after : Ticks) (final : Option (ℕ → ℕ)) (journal more : List Act) (step : Step)
     → RunsClient client due → q.due ≡ due → InLine q s → q.line ≡ number → q.state.count ≡ length journal → Passes before.answers final n → ClockFor q.run.clock q.asked before.answers final
     → HasStepped s s' number client before after journal more step → StepMade due q s' client journal more step
 step_made due q s s' number client n before after final journal more step runs is h line count passes for m =
-    let leads = m.steps.leads q.state count h.state.has_store (subst (λ k. IsClient (q.state.clients k) q.state.count s.store m.old) (sym m.id) (member q.state s client m.old h.state m.found)) in
+    let leads = m.steps.leads q.state count h.state.has_store (subst (λ k. IsClient (q.state.clients k) q.state.count s.store m.old) (sym m.id) (client_at q.state s.clients s.store client m.old h.state m.found)) in
     let to : StepsTo q.state client m.now m.steps.kinds step m.new m.grown = subst (λ k. StepsTo q.state k m.now m.steps.kinds step m.new m.grown) m.id leads in
     let now = is_now q s 0 m.now n before after final h m.moment passes for in
     let ran = step_ran q client m.now m.steps.kinds step due h.alone h.complete runs is (subst (λ t. IsNow q t m.now) (let e : q.ticks + 0 ≡ q.ticks = omega arith in e) now) (to.allows q.run.start _) in
@@ -109,7 +106,7 @@ step_made due q s s' number client n before after final journal more step runs i
     let on = ran.1 in
     let entries = map (entry_of q.line m.now client) m.steps.kinds in
     let grows : more ≡ journal ++ entries = m.steps.appends ∙ ap (λ k. journal ++ entries_of number m.now k m.steps.kinds) m.id ∙ ap (λ l. journal ++ entries_of l m.now client m.steps.kinds) (sym line) in
-    let long : length more ≡ length journal + length m.steps.kinds = ap length grows ∙ length-append journal entries ∙ ap (λ k. length journal + k) (length-map (entry_of q.line m.now client) m.steps.kinds) in
+    let long : length more ≡ length journal + length m.steps.kinds = ap length grows ∙ length-append journal entries ∙ ap (λ k. length journal + k) (length-map m.steps.kinds (entry_of q.line m.now client)) in
     let counted : r.state.count ≡ q.state.count + length m.steps.kinds = ap (λ (t : State). t.count) on.state ∙ to.count in
     let last : m.now ≤ LAST_MOMENT = omega (arith, m.moment.is) in
     let after_step = record s { at = m.now; clients = slice_set s.clients client m.new; store = m.grown } in
@@ -134,11 +131,8 @@ step_made due q s s' number client n before after final journal more step runs i
 
 -- a line that is done, and whose text there was memory for or not
 
-over_stops : (q : Past) → is_over q ≡ true → (is_over q || may_stop q) ≡ true
-over_stops q e = ap (λ b. b || may_stop q) e
-
 breaks_after : (q : Past) (asks : ℕ) (before after : List Act) (text : List ℕ) (s : ScheduleValue) → Finish q asks before after text s → Break q asks before after s
-breaks_after q asks before after text s f = record { acts = f.acts; end = f.end; goes = f.goes; in_line = f.in_line; stops = over_stops f.end f.over }
+breaks_after q asks before after text s f = record { acts = f.acts; end = f.end; goes = f.goes; in_line = f.in_line; stops = or_left (is_over f.end) (may_stop f.end) f.over }
 
 finish_says : (q : Past) (asks : ℕ) (before after : List Act) (text said : List ℕ) (s : ScheduleValue) → said ≡ text → Finish q asks before after text s → Finish q asks before after said s
 finish_says q asks before after text said s e f = record { acts = f.acts; end = f.end; goes = f.goes; in_line = f.in_line; over = f.over; said = f.said ∙ sym e }
@@ -166,7 +160,7 @@ says Where number asks before after text (Err e) end passes calm goes is said = 
 abbrev pub MayBreak : (Past → Type 0) → ScheduleValue → Type 0
 MayBreak Where s = (q : Past) → Where q → InLine q s → (is_over q || may_stop q) ≡ true
 
-goes_none : (q : Past) (journal : List Act) → q.state.count ≡ length journal → Goes q 0 journal journal [] q
+pub goes_none : (q : Past) (journal : List Act) → q.state.count ≡ length journal → Goes q 0 journal journal [] q
 goes_none q journal count = record {
   grows = sym (append-nil journal);
   leads = leads_none q;
@@ -248,13 +242,8 @@ step_more client number asks n start now later step final q due line sofar clock
     (subst (λ (run : Setup). ClockFor run.clock (q.asked + asks) now.clock.answers final) (sym f.goes.same.run) told) in
     step_made (ToAnswer client) there now.schedule later.schedule number client n now.clock later.clock final now.journal later.journal step (ToItsEnd refl) f.due f.in_line (f.goes.same.line ∙ line) f.goes.count passes told_there m
 
-get-set : {X : Type 0} (xs : List X) (k : ℕ) (x : X) → k < length xs → slice_get (slice_set xs k x) k ≡ Some x
-get-set [] k x h = absurd (omega (arith, h))
-get-set (y ∷ ys) zero x h = refl
-get-set (y ∷ ys) (suc k) x h = get-set ys k x (omega (arith, h))
-
 busy_set : (clients : List ClientValue) (k : ℕ) (old new : ClientValue) → slice_get clients k ≡ Some old → is_some new.doing ≡ true → busy_in (slice_get (slice_set clients k new) k) ≡ true
-busy_set clients k old new found busy = ap busy_in (get-set clients k new (slice_get_within clients k old found)) ∙ busy
+busy_set clients k old new found busy = ap busy_in (slice_get-set clients k new (slice_get_within clients k old found)) ∙ busy
 
 pub reached_more : (client number : ℕ) (start now later : LineState) → Reached client number start now
     → HasStepped now.schedule later.schedule number client now.clock later.clock now.journal later.journal More → Reached client number start later
@@ -337,7 +326,7 @@ steps_at s client = steps_in (slice_get s.clients client)
 pub falls_at : (s s' : ScheduleValue) (number client : ℕ) (before after : Ticks) (journal more : List Act) → HasStepped s s' number client before after journal more More → steps_at s' client < steps_at s client
 falls_at s s' number client before after journal more m =
     let was : steps_at s client ≡ steps_left m.old = ap steps_in m.found in
-    let is : steps_at s' client ≡ steps_left m.new = ap (λ (v : ScheduleValue). steps_at v client) m.same ∙ ap steps_in (get-set s.clients client m.new (slice_get_within s.clients client m.old m.found)) in
+    let is : steps_at s' client ≡ steps_left m.new = ap (λ (v : ScheduleValue). steps_at v client) m.same ∙ ap steps_in (slice_get-set s.clients client m.new (slice_get_within s.clients client m.old m.found)) in
     let falls = m.steps.falls.0 in
     omega (arith, was, is, falls)
 

@@ -1,6 +1,7 @@
 -- Eight clients, of which one changes.
-use Rattle.std.proofs.Common.{◌≡◌, ℕ, zero, suc, ◌<◌, IsTrue, List, [], ◌∷◌, length, slice_get, slice_set, get_or, None, Some, Result, Ok, Err, refl, sym, ap, subst, ◌∙◌, arith, length-set}
+use Rattle.std.proofs.Common.{◌≡◌, ℕ, zero, suc, IsTrue, List, [], ◌∷◌, length, slice_get, slice_set, Some, Result, Ok, Err, refl, sym, ap, subst, ◌∙◌, length-set}
 use Rattle.std.specs.Prelude.{IfSome, IsSome, OnOk, OnErr}
+use Rattle.std.proofs.lemmas.Option.{same_Some}
 use Rattle.jv_model.specs.declared.basics.Limits.{Limits}
 use Rattle.jv_model.specs.declared.fault.Fault.{Fault}
 use Rattle.jv_model.specs.declared.op.Op.{Op}
@@ -15,14 +16,6 @@ use Rattle.jv_client.specs.UnderWay.{IsReady}
 use Rattle.jv_session.specs.Stands.{ScheduleValue, IsMember, IsSchedule}
 use Rattle.jv_session.specs.InLine.{Submits}
 
-some_is : {X : Type 0} (x y : X) → Some x ≡ Some y → x ≡ y
-some_is x y e = ap (λ o. elim o as (λ _. _) [ None ↦ x | Some z ↦ z ]) e
-
-pub found_at : {X : Type 0} (xs : List X) (k : ℕ) (x : X) → k < length xs → slice_get xs k ≡ Some (get_or xs k x)
-found_at [] k x h = absurd (omega (arith, h))
-found_at (y ∷ ys) zero x h = refl
-found_at (y ∷ ys) (suc k) x h = found_at ys k x (omega (arith, h))
-
 pub schedule_with : (limits : Limits) (at ticks : ℕ) (clients : List ClientValue) (store : StoreValue) (k : ℕ) (new : ClientValue) → IsSchedule limits at ticks clients store → IsMember limits store k new
     → IsSchedule limits at ticks (slice_set clients k new) store
 schedule_with limits at ticks clients store k new h m = record {
@@ -34,7 +27,7 @@ schedule_with limits at ticks clients store k new h m = record {
 
 set_found : {X : Type 0} (xs : List X) (k : ℕ) (x : X) → slice_get xs k ≡ Some x → slice_set xs k x ≡ xs
 set_found [] k x e = refl
-set_found (y ∷ ys) zero x e = ap (λ z. z ∷ ys) (sym (some_is y x e))
+set_found (y ∷ ys) zero x e = ap (λ z. z ∷ ys) (sym (same_Some y x e))
 set_found (y ∷ ys) (suc k) x e = ap (λ zs. y ∷ zs) (set_found ys k x e)
 
 -- the member at a place

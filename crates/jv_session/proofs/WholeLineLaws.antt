@@ -1,8 +1,8 @@
 -- From a line in progress to a whole line: where the line begun stands, and what its call comes to from there.
-use Rattle.std.proofs.Common.{◌≡◌, ℕ, ◌+◌, ◌≤◌, ◌<◌, min, Bool, true, false, ◌||◌, List, [], ◌∷◌, length, slice_get, slice_set, Option, None, Some, Result, Ok, Err, refl, sym, ap, subst, ◌∙◌, arith}
+use Rattle.std.proofs.Common.{◌≡◌, ℕ, ◌+◌, ◌≤◌, ◌<◌, min, true, false, List, [], ◌∷◌, length, slice_get, slice_set, Option, None, Some, Result, Ok, Err, refl, sym, ap, subst, ◌∙◌}
 use Rattle.std.specs.Prelude.{is_some, IfSome, IfOk, codes}
 use Rattle.std.specs.declared.alloc.AllocError.{AllocError}
-use Rattle.std.proofs.lemmas.List.{append-nil}
+use Rattle.std.proofs.lemmas.Bool.{or_left}
 use Rattle.jv_model.specs.declared.limits.TheConstants.{LAST_MOMENT}
 use Rattle.jv_model.specs.declared.basics.Limits.{Limits}
 use Rattle.jv_model.specs.declared.act.Act.{Act}
@@ -10,27 +10,29 @@ use Rattle.jv_model.specs.declared.fault.Fault.{Fault}
 use Rattle.jv_model.specs.declared.op.Op.{Op}
 use Rattle.jv_model.specs.declared.op.Line.{Line}
 use Rattle.jv_model.specs.declared.op.Line.TheVariants.{Do, Begin, Step, Run, Crash, Tick}
-use Rattle.jv_model.specs.client.ModelClient.{ModelClient, Doing}
+use Rattle.jv_model.specs.client.ModelClient.{ModelClient}
 use Rattle.jv_model.specs.client.Submission.{submission, submitted}
 use Rattle.jv_model.specs.journal.State.{State, set_client, with_client}
 use Rattle.jv_model.specs.journal.Past.{Setup, Past, Due, NoMore, Refusal, MayLack, ToAnswer, OneStep, CrashEntry, TickEntry, begun_to, is_busy, is_over, idle_text, with_feed}
 use Rattle.jv_model.specs.journal.Legal.{may_stop}
-use Rattle.jv_laws.proofs.JournalGrowthLaws.{begun_frame, other_client, own_client}
-use Rattle.jv_laws.proofs.EntriesOfLines.{alone_at, leads_none}
+use Rattle.jv_model.proofs.ClientsLaws.{own_client, other_client}
+use Rattle.jv_laws.proofs.JournalGrowthLaws.{begun_frame}
+use Rattle.jv_laws.proofs.EntriesOfLines.{alone_at}
 use Rattle.jv_laws.proofs.BegunLines.{IsNext, IsBegun, submitted_in, do_begun, do_refused, begin_begun, begin_refused, step_begun, run_begun, step_idle, run_idle, crash_begun, tick_begun}
 use Rattle.jv_laws.proofs.EndedLines.{is_over_at, joins}
 use Rattle.jv_outside.specs.Ticks.{Ticks}
 use Rattle.jv_outside.proofs.TicksLaws.{Passes-zero}
 use Rattle.jv_files.proofs.FileLaws.{each-set, slice_get_inside}
-use Rattle.jv_client.specs.declared.doing.Doing.{Doing as ClientDoing}
 use Rattle.jv_client.specs.ClientValue.{ClientValue}
 use Rattle.jv_client.specs.StoreValue.{StoreValue}
-use Rattle.jv_client.specs.Held.{IsClient, IsDoing, SamePlace}
+use Rattle.jv_client.specs.Held.{IsClient, IsDoing}
+use Rattle.jv_client.proofs.TableLaws.{some-same}
 use Rattle.jv_session.specs.declared.line_end.LineEnd.{LineEnd}
 use Rattle.jv_session.specs.declared.line_end.LineEnd.TheVariants.{Said, Quiet, ClockFailed, Memory}
 use Rattle.jv_session.specs.Stands.{ScheduleValue, Stands, IsState, ClockFor, busy_in, client_is_busy, InLine}
 use Rattle.jv_session.specs.Lines.{LineState, line_state, Appends, Ran, Cut, SaysLine, CutsLine, LineRuns}
 use Rattle.jv_session.specs.InLine.{Goes, Finish, Break, FromLine, Finishes, Breaks, LineGoes, LineSays, RunsToEnd, StepsOnce, IsRefused, Crashes, Passing, HasBegun, HasRefused}
+use Rattle.jv_session.proofs.InLineLaws.{client_at, goes_none}
 
 -- where the line begun stands for the call that goes on with it
 pub record StandsIn (p : Past) (more : List Line) (Where : Past → Type 0) (s : ScheduleValue) (q : Past) : Type 0 where
@@ -62,9 +64,6 @@ in_line p q s more due said state clients st b is_state = record {
 }
 
 -- one client of a state
-
-client_at : (q : State) (clients : List ClientValue) (store : StoreValue) (k : ℕ) (c : ClientValue) → IsState q clients store → slice_get clients k ≡ Some c → IsClient (q.clients k) q.count store c
-client_at q clients store k c h found = subst (λ o. IfSome o (IsClient (q.clients k) q.count store)) found (h.clients_are k)
 
 set_state : (q : State) (clients : List ClientValue) (store : StoreValue) (k : ℕ) (m : ModelClient) (c : ClientValue) → IsState q clients store → IsClient m q.count store c
     → IsState (set_client q k m) (slice_set clients k c) store
@@ -99,15 +98,9 @@ refuses p s s1 client o fault st h = h.refused (p.state.clients client) p.state.
 
 -- whether an operation of the client is in progress is the same of both
 
-same_some : (o : Option Doing) (mine : Option ClientDoing) → SamePlace IsDoing o mine → is_some o ≡ is_some mine
-same_some None None h = refl
-same_some None (Some d) h = absurd h
-same_some (Some m) None h = absurd h
-same_some (Some m) (Some d) h = refl
-
 busy_of : (m : ModelClient) (count : ℕ) (store : StoreValue) (o : Option ClientValue) → is_some o ≡ true → IfSome o (IsClient m count store) → is_some m.doing ≡ busy_in o
 busy_of m count store None some h = absurd (cc some)
-busy_of m count store (Some c) some h = same_some m.doing c.doing h.doing
+busy_of m count store (Some c) some h = some-same IsDoing m.doing c.doing h.doing
 
 busy_same : (p : Past) (s : ScheduleValue) (client : ℕ) → client < length s.clients → Stands p s → is_busy p client ≡ client_is_busy s client
 busy_same p s client inside st =
@@ -319,15 +312,6 @@ module _ (line : Line) (number : ℕ) (before after : LineState) (s1 : ScheduleV
 
 -- a line without an entry, which says a text
 
-goes_none : (q : Past) (journal : List Act) → q.state.count ≡ length journal → Goes q 0 journal journal [] q
-goes_none q journal count = record {
-  grows = sym (append-nil journal);
-  leads = leads_none q;
-  same = record { line = refl; run = refl; rest = refl; printed = refl; complete = refl };
-  count = count;
-  asked = omega arith;
-}
-
 says_text : (text : List ℕ) (number : ℕ) (clock : Ticks) (journal : List Act) (s : ScheduleValue) → LineGoes (SaysAlone text) number (line_state clock journal s) (line_state clock journal s) (Said text)
 says_text text number clock journal s = record {
   asks = 0;
@@ -337,16 +321,13 @@ says_text text number clock journal s = record {
       record { acts = []; end = q; goes = goes_none q journal count; in_line = i; over = alone.over; said = alone.said };
 }
 
-either_true : (a b : Bool) → a ≡ true → (a || b) ≡ true
-either_true a b e = ap (λ x. x || b) e
-
 lacks_text : (text : List ℕ) (number : ℕ) (clock : Ticks) (journal : List Act) (s : ScheduleValue) → LineGoes (SaysAlone text) number (line_state clock journal s) (line_state clock journal s) Memory
 lacks_text text number clock journal s = (
   record {
     asks = 0;
     passes = Passes-zero clock.answers;
     goes = λ q alone i at count tells.
-        record { acts = []; end = q; goes = goes_none q journal count; in_line = i; stops = either_true (is_over q) (may_stop q) alone.over };
+        record { acts = []; end = q; goes = goes_none q journal count; in_line = i; stops = or_left (is_over q) (may_stop q) alone.over };
   },
   refl,
 )

@@ -1,5 +1,5 @@
 -- A line in progress: what a call makes of it, wherever the line stands.
-use Rattle.std.specs.Prelude.{◌≡◌, ℕ, ◌+◌, ◌≤◌, min, max, true, ◌||◌, IsSome, List, [], ◌∷◌, ◌++◌, length, slice_get, slice_set, None, Some, Result, Ok, Err}
+use Rattle.std.specs.Prelude.{◌≡◌, ℕ, ◌+◌, min, max, true, ◌||◌, IsSome, List, [], ◌∷◌, ◌++◌, length, slice_get, slice_set, None, Some, Result, Ok, Err}
 use Rattle.jv_model.specs.declared.limits.TheConstants.{LAST_MOMENT}
 use Rattle.jv_model.specs.declared.act.Act.{Act}
 use Rattle.jv_model.specs.declared.act.ActKind.{ActKind}

@@ -10,12 +10,9 @@ use Rattle.jv_files.specs.Holds.{has_room}
 use Rattle.jv_client.specs.StoreValue.{StoreValue}
 use Rattle.jv_client.specs.Transacting.{Transacts}
 use Rattle.jv_client.specs.contracts.store.Store.{the_view}
-use Rattle.jv_client.proofs.TreeSide.{create_exists, create_full, create_made, gives_none, gives_handle}
+use Rattle.jv_client.proofs.TableLaws.{the_some}
+use Rattle.jv_client.proofs.TransactingLaws.{create_exists, create_full, create_made, gives_none, gives_handle}
 use Rattle.jv_client.proofs.transactions.create.Goals as goal
-
-some_of : (o : Option ℕ) → is_some o ≡ true → (n : ℕ) × (o ≡ Some n)
-some_of None h = absurd (cc h)
-some_of (Some n) h = (n, refl)
 
 none_of : (o : Option ℕ) → is_some o ≡ false → o ≡ None
 none_of None h = refl
@@ -26,7 +23,7 @@ returns-then-is_some c mode =
     let path = c.args.path.now in
     let store = c.args.store.now in
     let handles = c.args.handles.now.items in
-    let some = some_of c.find.result (sym c.is_some.ensures ∙ c.if-is_some.true) in
+    let some = the_some c.find.result (sym c.is_some.ensures ∙ c.if-is_some.true) in
     let there : inode_named store.files.names path ≡ Some some.0 =
     sym (ap (λ (w : StoreValue). inode_named w.files.names path) c.store.view_is) ∙ sym c.find.ensures.inode ∙ some.1 in
     gives_none (Create path mode) c.args.entry handles store AlreadyExists (create_exists path mode some.0 handles store c.requires there)

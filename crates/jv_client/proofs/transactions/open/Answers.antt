@@ -6,7 +6,7 @@ use Rattle.jv_model.specs.declared.op.Op.TheVariants.{Open}
 use Rattle.jv_model.specs.client.ModelClient.{free_handle}
 use Rattle.jv_files.specs.Stored.{IsFile, inode_named}
 use Rattle.jv_client.specs.StoreValue.{StoreValue}
-use Rattle.jv_client.proofs.TreeSide.{open_absent, open_found, gives_none, gives_handle}
+use Rattle.jv_client.proofs.TransactingLaws.{open_absent, open_found, gives_none, gives_handle}
 use Rattle.jv_client.proofs.transactions.open.Goals as goal
 
 pub returns-in_default : goal.returns-in_default

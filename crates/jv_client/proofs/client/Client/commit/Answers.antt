@@ -5,13 +5,15 @@ use Rattle.jv_model.specs.declared.act.ActKind.TheVariants.{Commit}
 use Rattle.jv_pending.specs.At.{segment_at}
 use Rattle.jv_client.specs.Flushing.{FitsIf, Follows}
 use Rattle.jv_client.specs.UnderWay.{ended}
-use Rattle.jv_client.proofs.FlushLaws.{ends_failed}
+use Rattle.jv_client.proofs.TableLaws.{the_some}
+use Rattle.jv_client.proofs.AnswerLaws.{fails_as}
 use Rattle.jv_client.proofs.CommitLaws.{commits_by, names_still}
 use Rattle.jv_client.proofs.client.Client.commit.Goals as goal
 
 pub returns-in_default : goal.returns-in_default
 returns-in_default c now entry started at in_time room =
-    ends_failed c.args.self.now c.fail.new.self c.args.store.now c.put.new.store now entry c.fail.result c.requires.ready c.requires.busy
+    let d = the_some c.args.self.now.doing c.requires.busy in
+    fails_as now entry c.args.self.now c.fail.new.self d.0 c.args.store.now c.put.new.store c.fail.result d.1 c.requires.ready
     (c.fail.ensures.ended ∙ ap ended c.in_default.ensures.still) c.in_default.ensures.kept c.fail.ensures.made
 
 pub after_commit-requires-clause-named : goal.after_commit-requires-clause-named

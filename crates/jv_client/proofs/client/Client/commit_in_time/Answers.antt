@@ -5,7 +5,8 @@ use Rattle.jv_pending.specs.At.{segment_at}
 use Rattle.jv_client.specs.declared.doing.Progress.TheVariants.{Working}
 use Rattle.jv_client.specs.ClientValue.{ClientValue}
 use Rattle.jv_client.specs.Flushing.{FitsIf, bytes_of}
-use Rattle.jv_client.proofs.FlushLaws.{in_progress, segment-of_file, ends_late, ends_large}
+use Rattle.jv_client.proofs.FormLaws.{in_progress}
+use Rattle.jv_client.proofs.FlushLaws.{segment-of_file, ends_late, ends_large}
 use Rattle.jv_client.proofs.client.Client.commit_in_time.Goals as goal
 
 pub returns-then-saturating_sub-ge-UPLOAD_LIFE : goal.returns-then-saturating_sub-ge-UPLOAD_LIFE

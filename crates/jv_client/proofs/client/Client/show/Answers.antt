@@ -1,14 +1,12 @@
 -- The bytes of the view, or out of memory.
-use Rattle.std.proofs.Common.{ap, sym, subst, ◌≡◌, ◌∙◌, ◌+◌, ◌-◌, length, slice_get}
+use Rattle.std.proofs.Common.{refl, ap, sym, subst, ◌≡◌, ◌∙◌, ◌+◌, ◌-◌, length, slice_get}
 use Rattle.std.specs.Prelude.{IfSome}
 use Rattle.jv_model.specs.declared.act.Told.TheVariants.{Looks}
 use Rattle.jv_files.specs.Stored.{IsFile}
 use Rattle.jv_files.specs.Shown.{shown_between, as_seen}
 use Rattle.jv_client.specs.ClientValue.{ClientValue}
 use Rattle.jv_client.specs.StoreValue.{StoreValue}
-use Rattle.jv_client.specs.UnderWay.{ended}
-use Rattle.jv_client.specs.Makes.{Makes}
-use Rattle.jv_client.proofs.AnswerLaws.{fails}
+use Rattle.jv_client.proofs.AnswerLaws.{fails_as}
 use Rattle.jv_client.proofs.ShowLaws.{before_show, shows_nothing, shows_all}
 use Rattle.jv_client.proofs.client.Client.show.Goals as goal
 
@@ -33,8 +31,7 @@ returns-in_default c now entry =
     let r = c.requires in
     let h = a.self.now in
     let before = before_show h a.store.now a.offset a.len a.file r.reads r.opened r.ready r.flushed in
-    subst (λ after. Makes now entry h after a.store.now a.store.now c.fail.result) (sym c.fail.ensures.ended)
-    (subst (λ made. Makes now entry h (ended h) a.store.now a.store.now made) (sym c.fail.ensures.made) (fails now entry h a.store.now before.d before.busy r.ready))
+    fails_as now entry h c.fail.new.self before.d a.store.now a.store.now c.fail.result before.busy r.ready c.fail.ensures.ended refl c.fail.ensures.made
 
 pub returns : goal.returns
 returns c now entry =

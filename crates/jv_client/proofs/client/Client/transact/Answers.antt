@@ -8,7 +8,7 @@ use Rattle.jv_client.specs.UnderWay.{ended, transacts}
 use Rattle.jv_client.specs.Makes.{Makes}
 use Rattle.jv_client.specs.Transacting.{Gives}
 use Rattle.jv_client.specs.contracts.client.Client.{the_view}
-use Rattle.jv_client.proofs.FailureLaws.{fails-as}
+use Rattle.jv_client.proofs.AnswerLaws.{fails_as}
 use Rattle.jv_client.proofs.TransactionLaws.{transact-makes}
 use Rattle.jv_client.proofs.client.Client.transact.Goals as goal
 
@@ -22,7 +22,7 @@ returns-in_default c now =
     c.fail.ensures.ended
     ∙ ap (λ (handles : List (Option Handle)). let v : ClientValue = record before { handles = handles; doing = None } in v) kept.0
     ∙ ap ended c.self.view_is in
-    fails-as now c.args.entry c.args.self.now c.fail.new.self d c.args.store.now c.transact-reply.new.store c.fail.result busy c.requires.ready end kept.1 c.fail.ensures.made
+    fails_as now c.args.entry c.args.self.now c.fail.new.self d c.args.store.now c.transact-reply.new.store c.fail.result busy c.requires.ready end kept.1 c.fail.ensures.made
 
 pub returns : goal.returns
 returns c now =

@@ -1,10 +1,9 @@
 -- The bytes are pending, or memory ran out.
-use Rattle.std.proofs.Common.{ap, sym, subst, ◌∙◌, None}
+use Rattle.std.proofs.Common.{refl, ap, sym, ◌∙◌, None}
 use Rattle.jv_pending.specs.Held.{PendingValue}
 use Rattle.jv_client.specs.ClientValue.{ClientValue}
 use Rattle.jv_client.specs.UnderWay.{ended}
-use Rattle.jv_client.specs.Makes.{Makes}
-use Rattle.jv_client.proofs.AnswerLaws.{fails, write_kept}
+use Rattle.jv_client.proofs.AnswerLaws.{fails_as, write_kept}
 use Rattle.jv_client.proofs.client.Client.write.Goals as goal
 
 pub returns-in_default : goal.returns-in_default
@@ -15,8 +14,7 @@ returns-in_default c now entry =
     let i = c.self.inside in
     let old = ap (λ (p : PendingValue). record { id = i.id; limits = i.limits; session = i.session; handles = i.handles.items; pending = p.bytes; doing = None }) c.in_default.ensures.err in
     let after = c.fail.ensures.ended ∙ old ∙ ap ended c.self.view_is in
-    subst (λ after. Makes now entry h after store store c.fail.result) (sym after)
-    (subst (λ made. Makes now entry h (ended h) store store made) (sym c.fail.ensures.made) (fails now entry h store c.in-Some.doing busy c.requires.ready))
+    fails_as now entry h c.fail.new.self c.in-Some.doing store store c.fail.result busy c.requires.ready after refl c.fail.ensures.made
 
 pub returns : goal.returns
 returns c now entry =

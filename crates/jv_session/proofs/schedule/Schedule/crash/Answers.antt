@@ -5,7 +5,7 @@ use Rattle.jv_session.specs.Lines.{line_state}
 use Rattle.jv_model.specs.declared.act.ActKind.TheVariants.{Crashed}
 use Rattle.jv_client.specs.ClientValue.{ClientValue, crashed}
 use Rattle.jv_session.specs.InLine.{Crashes, LineGoes, Notes}
-use Rattle.jv_session.proofs.MemberLaws.{found_at}
+use Rattle.std.proofs.lemmas.Option.{slice_get-get_or}
 use Rattle.jv_session.proofs.NoteLaws.{crash_says, stops_noted, crash_breaks}
 use Rattle.jv_session.proofs.schedule.Schedule.crash.Goals as goal
 
@@ -17,7 +17,7 @@ returns-in-Ok g c =
     let eight = c.self.invariant.eight in
     let k = c.number-in-Ok.result in
     let old : ClientValue = get_or c.self.inside.clients k c.index-self-number.result in
-    let inside = found_at c.self.inside.clients k c.index-self-number.result (omega (arith, low, eight)) in
+    let inside = slice_get-get_or c.self.inside.clients k c.index-self-number.result (omega (arith, low, eight)) in
     let found : slice_get noted.clients k ≡ Some old = subst (λ (v : ScheduleValue). slice_get v.clients k ≡ Some old) c.self.view_is inside in
     let last : ScheduleValue = record { limits = c.self.inside.limits; at = c.self.inside.at; ticks = c.self.inside.ticks; clients = slice_set c.self.inside.clients k c.crash.new.self; store = c.self.inside.store } in
     let after = line_state (g.C.Clock.seen c.note.new.clock) c.note.new.journal.acts last in

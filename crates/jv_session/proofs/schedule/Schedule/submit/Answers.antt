@@ -4,7 +4,8 @@ use Rattle.jv_model.specs.journal.Built.{is_built_op}
 use Rattle.jv_client.specs.ClientValue.{ClientValue}
 use Rattle.jv_session.specs.Stands.{ScheduleValue, built_op_here, held_in}
 use Rattle.jv_session.specs.InLine.{Submits}
-use Rattle.jv_session.proofs.MemberLaws.{found_at, schedule_with, member_at, submitted_member, begins_at, refuses_at}
+use Rattle.std.proofs.lemmas.Option.{slice_get-get_or}
+use Rattle.jv_session.proofs.MemberLaws.{schedule_with, member_at, submitted_member, begins_at, refuses_at}
 use Rattle.jv_session.proofs.schedule.Schedule.submit.Goals as goal
 use Rattle.jv_session.proofs.schedule.Schedule.submit.Goals.{in-Ok, in-Err}
 
@@ -14,7 +15,7 @@ invariant_of-self c =
     let eight = c.self.invariant.eight in
     let k = c.number.result in
     let old : ClientValue = get_or c.self.inside.clients k c.index-self-number.result in
-    let found = found_at c.self.inside.clients k c.index-self-number.result (omega (arith, low, eight)) in
+    let found = slice_get-get_or c.self.inside.clients k c.index-self-number.result (omega (arith, low, eight)) in
     let m = member_at c.self.inside.limits c.self.inside.at c.self.inside.ticks c.self.inside.clients c.self.inside.store k old c.self.invariant found in
     let seen = c.self.view_is in
     let built : IsTrue (built_op_here c.args.self.now c.args.client c.args.op) = c.requires.built in
@@ -32,7 +33,7 @@ returns c =
     let s : ScheduleValue = c.args.self.now in
     let old : ClientValue = get_or c.self.inside.clients k c.index-self-number.result in
     let new : ClientValue = c.submit.new.self in
-    let inside = found_at c.self.inside.clients k c.index-self-number.result (omega (arith, low, eight)) in
+    let inside = slice_get-get_or c.self.inside.clients k c.index-self-number.result (omega (arith, low, eight)) in
     let m = member_at c.self.inside.limits c.self.inside.at c.self.inside.ticks c.self.inside.clients c.self.inside.store k old c.self.invariant inside in
     let seen = c.self.view_is in
     let found : slice_get s.clients k ≡ Some old = subst (λ (v : ScheduleValue). slice_get v.clients k ≡ Some old) seen inside in

@@ -28,7 +28,8 @@ use Rattle.jv_client.specs.StoreValue.{StoreValue, HasStore, Continues, Grows}
 use Rattle.jv_client.specs.Transacting.{Transacts, LeadsTo, Gives, new_handle}
 use Rattle.jv_client.proofs.HeldLaws.{grows-same}
 
-leads_to : (t after : Tree) (reply : Reply) (grown : StoreValue) (done : Outcome) → done ≡ record { tree = after; reply = reply } → after.sustained ≡ t.sustained → HasStore after grown → LeadsTo t reply grown done
+leads_to : (t after : Tree) (reply : Reply) (grown : StoreValue) (done : Outcome) → done ≡ record { tree = after; reply = reply }
+    → after.sustained ≡ t.sustained → HasStore after grown → LeadsTo t reply grown done
 leads_to t after reply grown done is kept has = subst (LeadsTo t reply grown) (sym is) (record { same = refl; kept = kept; has_store = has })
 
 -- a mount
@@ -57,7 +58,8 @@ sessions-mounted t store who sid h low high = elim (eqb_tells sid store.next_ses
       ap is_some (get-other t.sessions t.next_session _ sid (λ e. other.1 (e ∙ h.next))) ∙ h.sessions sid (record { low = low; made = less })
 ]
 
-has_store-mounted : (t : Tree) (store : StoreValue) (who : Caller) → HasStore t store → HasStore (with_session t who) (record store { next_session = store.next_session + 1 })
+has_store-mounted : (t : Tree) (store : StoreValue) (who : Caller) → HasStore t store
+    → HasStore (with_session t who) (record store { next_session = store.next_session + 1 })
 has_store-mounted t store who h = record {
   setting = h.setting;
   files = has_files-mounted t store.files who h.files;
@@ -71,7 +73,8 @@ unfolding mount
 mount-is t who true e = ap (λ b. outcome t (require b NoSpace >>= λ _. answered (with_session t who) (SessionMade t.next_session))) e
 mount-is t who false e = ap (λ b. outcome t (require b NoSpace >>= λ _. answered (with_session t who) (SessionMade t.next_session))) e
 
-pub mount_full : (handles : List (Option Handle)) (store : StoreValue) → FULL_COUNT ≤ store.next_session → Transacts (Mount false) handles store store (Refused NoSpace)
+pub mount_full : (handles : List (Option Handle)) (store : StoreValue) → FULL_COUNT ≤ store.next_session
+    → Transacts (Mount false) handles store store (Refused NoSpace)
 mount_full handles store full = record {
   plain = refl;
   fine = refl;
@@ -101,10 +104,12 @@ mount_made handles store low less = record {
 -- a create
 
 -- an outcome that is the tree's own, with a refusal
-refuses : (t : Tree) (store : StoreValue) (fault : Fault) (result : Result Outcome Fault) → HasStore t store → result ≡ Err fault → LeadsTo t (Refused fault) store (outcome t result)
-refuses t store fault result h e = leads_to t t (Refused fault) store (outcome t result) (ap (outcome t) e) refl h
+refused_in : (t : Tree) (store : StoreValue) (fault : Fault) (result : Result Outcome Fault) → HasStore t store → result ≡ Err fault
+    → LeadsTo t (Refused fault) store (outcome t result)
+refused_in t store fault result h e = leads_to t t (Refused fault) store (outcome t result) (ap (outcome t) e) refl h
 
-pub create_exists : (path : List ℕ) (mode inode : ℕ) (handles : List (Option Handle)) (store : StoreValue) → IsTrue (is_root_path path) → inode_named store.files.names path ≡ Some inode
+pub create_exists : (path : List ℕ) (mode inode : ℕ) (handles : List (Option Handle)) (store : StoreValue) → IsTrue (is_root_path path)
+    → inode_named store.files.names path ≡ Some inode
     → Transacts (Create path mode) handles store store (Refused AlreadyExists)
 create_exists path mode inode handles store root named = record {
   plain = refl;
@@ -112,13 +117,14 @@ create_exists path mode inode handles store root named = record {
   ends = λ c. refl;
   grows = grows-same store;
   gift = tt;
-  leads = λ t who h session free. refuses t store AlreadyExists _ h (create-exists t store.files who path mode inode h.files (session refl) root named);
+  leads = λ t who h session free. refused_in t store AlreadyExists _ h (create-exists t store.files who path mode inode h.files (session refl) root named);
 }
 
 room-of : (t : Tree) (store : StoreValue) (room : Bool) → HasStore t store → has_room store.setting store.files ≡ room → has_room t.setting store.files ≡ room
 room-of t store room h e = ap (λ x. has_room x store.files) h.setting ∙ e
 
-pub create_full : (path : List ℕ) (mode : ℕ) (handles : List (Option Handle)) (store : StoreValue) → IsTrue (is_root_path path) → inode_named store.files.names path ≡ None
+pub create_full : (path : List ℕ) (mode : ℕ) (handles : List (Option Handle)) (store : StoreValue) → IsTrue (is_root_path path)
+    → inode_named store.files.names path ≡ None
     → has_room store.setting store.files ≡ false → Transacts (Create path mode) handles store store (Refused NoSpace)
 create_full path mode handles store root absent full = record {
   plain = refl;
@@ -126,36 +132,38 @@ create_full path mode handles store root absent full = record {
   ends = λ c. refl;
   grows = grows-same store;
   gift = tt;
-  leads = λ t who h session free. refuses t store NoSpace _ h
+  leads = λ t who h session free. refused_in t store NoSpace _ h
       (create-new t store.files who path mode h.files (session refl) root absent ∙ cond-false _ _ _ (room-of t store false h full));
 }
 
-still_there : (files : List StoredFile) (file : StoredFile) (k : ℕ) → IfSome (slice_get files k) (λ f. IsSomeAnd (slice_get (files ++ file ∷ []) k) (Continues f))
+still_there : (files : List StoredFile) (file : StoredFile) (k : ℕ)
+    → IfSome (slice_get files k) (λ f. IsSomeAnd (slice_get (files ++ file ∷ []) k) (Continues f))
 still_there [] file k = tt
 still_there (f ∷ files) file zero = record { more = []; segments = sym (append-nil f.segments) }
 still_there (f ∷ files) file (suc k) = still_there files file k
 
-abbrev no_bytes : StoredFile
-no_bytes = record { length = 0; segments = [] }
+abbrev empty_file : StoredFile
+empty_file = record { length = 0; segments = [] }
 
 grows-created : (path : List ℕ) (store : StoreValue) (files : FilesValue) → Creates store.files path files → Grows store (record store { files = files })
 grows-created path store files made =
-    let long : length files.files ≡ length store.files.files + 1 = ap length made.files ∙ length-append store.files.files (no_bytes ∷ []) in
+    let long : length files.files ≡ length store.files.files + 1 = ap length made.files ∙ length-append store.files.files (empty_file ∷ []) in
     record {
       setting = refl;
       next = omega arith;
       count = omega (arith, long);
-      files = λ k. subst (λ fs. IfSome (slice_get store.files.files k) (λ f. IsSomeAnd (slice_get fs k) (Continues f))) (sym made.files) (still_there store.files.files no_bytes k);
+      files = λ k. subst (λ fs. IfSome (slice_get store.files.files k) (λ f. IsSomeAnd (slice_get fs k) (Continues f))) (sym made.files) (still_there store.files.files empty_file k);
     }
 
-has_store-created : (t : Tree) (who : Caller) (path : List ℕ) (mode : ℕ) (store : StoreValue) (files : FilesValue) → HasStore t store → IsTrue (is_root_path path)
+has_store-created : (t : Tree) (who : Caller) (path : List ℕ) (mode : ℕ) (store : StoreValue) (files : FilesValue) → HasStore t store
+    → IsTrue (is_root_path path)
     → inode_named store.files.names path ≡ None → has_room store.setting store.files ≡ true → Creates store.files path files
     → HasStore (created t who path mode) (record store { files = files })
 has_store-created t who path mode store files h root absent room made =
     let v = store.files in
-    let same : files ≡ record { names = files.names; files = v.files ++ no_bytes ∷ []; used_space = v.used_space + 4096 } =
+    let same : files ≡ record { names = files.names; files = v.files ++ empty_file ∷ []; used_space = v.used_space + 4096 } =
     ap (λ fs. let r : FilesValue = record { names = files.names; files = fs; used_space = files.used_space } in r) made.files
-    ∙ ap (λ n. let r : FilesValue = record { names = files.names; files = v.files ++ no_bytes ∷ []; used_space = n } in r) made.space in
+    ∙ ap (λ n. let r : FilesValue = record { names = files.names; files = v.files ++ empty_file ∷ []; used_space = n } in r) made.space in
     record {
       setting = setting-created t who path mode ∙ h.setting;
       files = subst (HasFiles (created t who path mode)) (sym same)
@@ -164,11 +172,13 @@ has_store-created t who path mode store files h root absent room made =
       sessions = λ sid is. subst (λ sessions. IsTrue (is_some (get sessions sid))) (sym (sessions-created t who path mode)) (h.sessions sid (record { low = is.low; made = is.made }));
     }
 
-pub create_made : (path : List ℕ) (mode handle inode : ℕ) (handles : List (Option Handle)) (store : StoreValue) (files : FilesValue) → IsTrue (is_root_path path)
-    → inode_named store.files.names path ≡ None → has_room store.setting store.files ≡ true → Creates store.files path files → inode ≡ 2 + length store.files.files → handle ≡ free_handle handles
+pub create_made : (path : List ℕ) (mode handle inode : ℕ) (handles : List (Option Handle)) (store : StoreValue) (files : FilesValue)
+    → IsTrue (is_root_path path)
+    → inode_named store.files.names path ≡ None → has_room store.setting store.files ≡ true → Creates store.files path files
+    → inode ≡ 2 + length store.files.files → handle ≡ free_handle handles
     → Transacts (Create path mode) handles store (record store { files = files }) (FileOpened handle inode)
 create_made path mode handle inode handles store files root absent room made next least =
-    let long : length files.files ≡ length store.files.files + 1 = ap length made.files ∙ length-append store.files.files (no_bytes ∷ []) in
+    let long : length files.files ≡ length store.files.files + 1 = ap length made.files ∙ length-append store.files.files (empty_file ∷ []) in
     record {
       plain = refl;
       fine = refl;
@@ -193,10 +203,11 @@ open_absent path handles store root absent = record {
   ends = λ c. refl;
   grows = grows-same store;
   gift = tt;
-  leads = λ t who h session free. refuses t store NotFound _ h (open-absent t store.files who path h.files (session refl) root absent);
+  leads = λ t who h session free. refused_in t store NotFound _ h (open-absent t store.files who path h.files (session refl) root absent);
 }
 
-pub open_found : (path : List ℕ) (handle inode : ℕ) (handles : List (Option Handle)) (store : StoreValue) → IsTrue (is_root_path path) → inode_named store.files.names path ≡ Some inode
+pub open_found : (path : List ℕ) (handle inode : ℕ) (handles : List (Option Handle)) (store : StoreValue) → IsTrue (is_root_path path)
+    → inode_named store.files.names path ≡ Some inode
     → IsFile (length store.files.files) inode → handle ≡ free_handle handles → Transacts (Open path) handles store store (FileOpened handle inode)
 open_found path handle inode handles store root named file least = record {
   plain = refl;
@@ -217,7 +228,8 @@ pub gives_none : (o : Op) (entry : ℕ) (handles : List (Option Handle)) (store 
     → Gives o entry handles handles store store (Refused fault)
 gives_none o entry handles store fault h = record { done = h; given = refl; mounts_none = λ session. refl }
 
-gives_first : (o : Op) (entry : ℕ) (handles : List (Option Handle)) (store grown : StoreValue) (inode : ℕ) → Transacts o handles store grown (FileOpened (free_handle handles) inode)
+gives_first : (o : Op) (entry : ℕ) (handles : List (Option Handle)) (store grown : StoreValue) (inode : ℕ)
+    → Transacts o handles store grown (FileOpened (free_handle handles) inode)
     → Gives o entry handles (with_file (free_handle handles) (Some (new_handle inode entry)) handles) store grown (FileOpened (free_handle handles) inode)
 gives_first o entry handles store grown inode h = record { done = h; given = refl; mounts_none = λ session. refl }
 
