@@ -1,1 +1,2 @@
 -- What is proved of whole volumes.
+pub mod ShapeMapLaws
