@@ -1,2 +1,4 @@
 -- What is proved of whole volumes.
 pub mod ShapeMapLaws
+pub mod SameShapeLaws
+pub mod EnteredShapeLaws
