@@ -2,3 +2,5 @@
 pub mod ShapeMapLaws
 pub mod SameShapeLaws
 pub mod EnteredShapeLaws
+pub mod LinkedShapeLaws
+pub mod SessionShapeLaws
