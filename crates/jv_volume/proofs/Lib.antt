@@ -4,3 +4,4 @@ pub mod SameShapeLaws
 pub mod EnteredShapeLaws
 pub mod LinkedShapeLaws
 pub mod SessionShapeLaws
+pub mod HourNamesLaws
