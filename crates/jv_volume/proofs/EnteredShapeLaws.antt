@@ -181,11 +181,14 @@ new_below place may = leb-false trash_root place.dir ((or_parts _ _ (not-true _ 
 pub not_hour_below : (dir : ℕ) → dir < trash_root → is_hour dir ≡ false
 not_hour_below dir low = and_left _ _ (le-ltb trash_root dir (omega (arith, low)))
 
-shape-with_node : (t : Tree) (now : ℕ) (place : EntryKey) (inode : ℕ) (node : Node) (next : ℕ)
-    → shape_of (record (with_node t now place inode node) { next_inode = next }) ≡ with_new (shape_of t) place inode (form_of (Some node)) next
-shape-with_node t now place inode node next =
-    ap (λ (s : Shape). record s { next_inode = next }) (shape-put_entry (put_node t inode node) now place inode
-    ∙ ap (λ (s : Shape). with_entries s (insert t.entries place inode)) (shape-put_node t inode node))
+-- a new node under a new entry
+pub shape-with_node : (t : Tree) (now : ℕ) (place : EntryKey) (inode : ℕ) (node : Node)
+    → shape_of (with_node t now place inode node) ≡ with_new (shape_of t) place inode (form_of (Some node)) t.next_inode
+shape-with_node t now place inode node = shape-put_entry (put_node t inode node) now place inode ∙ ap (λ (s : Shape). with_entries s (insert t.entries place inode)) (shape-put_node t inode node)
+
+pub shape-with_next : (t : Tree) (now : ℕ) (place : EntryKey) (node : Node)
+    → shape_of (with_next t now place node) ≡ with_new (shape_of t) place t.next_inode (form_of (Some node)) (t.next_inode + 1)
+shape-with_next t now place node = ap (λ (s : Shape). record s { next_inode = t.next_inode + 1 }) (shape-with_node t now place t.next_inode node)
 
 module _ (t : Tree) (now : ℕ) (place : EntryKey) (w : WholeShape (shape_of t)) (free : named (shape_of t) place ≡ None) (within : is_directory t place.dir ≡ true) (may : may_be_new place ≡ true) (room : t.next_inode < full_count) where
   -- the next inode isn't there
@@ -199,7 +202,7 @@ module _ (t : Tree) (now : ℕ) (place : EntryKey) (w : WholeShape (shape_of t))
   pub whole-with_next : (node : Node) → ((parent : ℕ) → form_of (Some node) ≡ Dir parent → parent ≡ place.dir) → WholeShape (shape_of (with_next t now place node))
   whole-with_next node parent =
       let low : place.dir < trash_root = new_below place may in
-      subst WholeShape (sym (shape-with_node t now place t.next_inode node (t.next_inode + 1))) (whole-with_new (shape_of t) place t.next_inode (form_of (Some node)) (t.next_inode + 1) w (record {
+      subst WholeShape (sym (shape-with_next t now place node)) (whole-with_new (shape_of t) place t.next_inode (form_of (Some node)) (t.next_inode + 1) w (record {
         absent = next_absent;
         free = free;
         within = is_dir-form (node_at t place.dir) ∙ within;

@@ -5,3 +5,5 @@ pub mod EnteredShapeLaws
 pub mod LinkedShapeLaws
 pub mod SessionShapeLaws
 pub mod HourNamesLaws
+pub mod HourShapeLaws
+pub mod FreshShapeLaws
