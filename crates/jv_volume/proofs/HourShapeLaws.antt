@@ -1,70 +1,21 @@
 -- The directory of an hour keeps a tree whole, and is there afterwards.
-use Rattle.std.proofs.Common.{◌≡◌, ◌≢◌, ℕ, ◌+◌, ◌-◌, ◌/◌, ◌≤◌, ◌<◌, true, inl, inr, Option, None, Some, refl, sym, ap, subst, ◌∙◌, arith}
+use Rattle.std.proofs.Common.{◌≡◌, ◌≢◌, ℕ, ◌/◌, ◌≤◌, ◌<◌, true, Option, None, Some, refl, sym, ap, subst, ◌∙◌, arith}
 use Rattle.std.specs.Prelude.{IsTrue}
-use Rattle.std.proofs.lemmas.Bool.{and_from, and_parts, cond-true, cond-false, false≢true, eq-eqb, ne_eqb, lt-ltb, le-leb, leb-true, ltb-true, cases_eq}
+use Rattle.std.proofs.lemmas.Bool.{and_parts, false≢true, lt-ltb, ltb-true}
 use Rattle.jv_model.specs.declared.limits.TheConstants.{LAST_MOMENT}
-use Rattle.jv_model.specs.declared.lifetimes.TheConstants.{FIRST_HOUR, HOUR}
+use Rattle.jv_model.specs.declared.lifetimes.TheConstants.{HOUR}
 use Rattle.jv_model.specs.tree.Tree.{Tree, Node, Directory, EntryKey, entry_key, new_node, read_only_mode, trash_root, node_at}
 use Rattle.jv_model.specs.tree.Changes.{with_node}
-use Rattle.jv_model.specs.tree.HourNames.{hour_at, hour_name}
-use Rattle.jv_model.specs.tree.Trash.{hour_inode, hour_of, hour_place, with_hour}
-use Rattle.jv_volume.specs.Shape.{Absent, Dir, Shape, form_of, is_there, is_dir, shape_of, named, names, is_hour, WholeShape}
+use Rattle.jv_model.specs.tree.HourNames.{hour_name}
+use Rattle.jv_model.specs.tree.Trash.{hour_inode, hour_place, with_hour}
+use Rattle.jv_volume.specs.Shape.{Absent, Dir, Shape, form_of, is_there, is_dir, shape_of, named, names, WholeShape}
 use Rattle.jv_volume.proofs.ShapeMapLaws.{get-insert_apart, count-insert_apart, with_form-here, with_form-apart, is_there-form}
 use Rattle.jv_volume.proofs.EnteredShapeLaws.{MayEnter, with_new, whole-with_new, shape-with_node}
-use Rattle.jv_volume.proofs.HourNamesLaws.{last_hour, hour_name-same}
+use Rattle.jv_volume.proofs.HourNameLaws.{last_hour, is_hour-hour_inode, hour_of-hour_inode, hour_by_name}
 
--- hours and their inodes
-
-inode_first : (hour : ℕ) → hour ≡ 0 → hour_inode hour ≡ FIRST_HOUR
-inode_first hour e = cond-true _ _ _ (eq-eqb hour 0 e)
-
-inode_later : (hour : ℕ) → hour ≢ 0 → hour_inode hour ≡ trash_root + hour
-inode_later hour apart = cond-false _ _ _ (ne_eqb hour 0 apart)
-
-pub hour_inode_range : (hour : ℕ) → hour ≤ last_hour → (trash_root < hour_inode hour) × (hour_inode hour ≤ FIRST_HOUR)
-hour_inode_range hour low = elim (cases_eq hour 0) [
-  | inl e ↦ let at = inode_first hour e in (omega (arith, at), omega (arith, at))
-  | inr apart ↦ let at = inode_later hour apart in (omega (arith, at, apart), omega (arith, at, low))
-]
-
-pub is_hour-hour_inode : (hour : ℕ) → hour ≤ last_hour → IsTrue (is_hour (hour_inode hour))
-is_hour-hour_inode hour low =
-    let range = hour_inode_range hour low in
-    and_from _ _ (lt-ltb trash_root (hour_inode hour) range.0) (le-leb (hour_inode hour) FIRST_HOUR range.1)
-
-pub hour_of-hour_inode : (hour : ℕ) → hour ≤ last_hour → hour_of (hour_inode hour) ≡ hour
-hour_of-hour_inode hour low = elim (cases_eq hour 0) [
-  | inl e ↦ ap hour_of (inode_first hour e) ∙ sym e
-  | inr apart ↦
-      let at = inode_later hour apart in
-      ap hour_of at ∙ cond-false _ _ _ (ne_eqb (trash_root + hour) FIRST_HOUR (λ e. omega (arith, e, low))) ∙ omega arith
-]
-
-hour_parts : (inode : ℕ) → IsTrue (is_hour inode) → (trash_root < inode) × (inode ≤ FIRST_HOUR)
-hour_parts inode h = let both = and_parts _ _ h in (ltb-true trash_root inode both.0, leb-true inode FIRST_HOUR both.1)
-
-pub hour_of_range : (inode : ℕ) → IsTrue (is_hour inode) → hour_of inode ≤ last_hour
-hour_of_range inode h = elim (cases_eq inode FIRST_HOUR) [
-  | inl e ↦ let at : hour_of inode ≡ 0 = cond-true _ _ _ (eq-eqb inode FIRST_HOUR e) in omega (arith, at)
-  | inr apart ↦
-      let both = hour_parts inode h in
-      let a = both.0 in
-      let b = both.1 in
-      let at : hour_of inode ≡ inode - trash_root = cond-false _ _ _ (ne_eqb inode FIRST_HOUR apart) in
-      omega (arith, at, a, b, apart)
-]
-
-pub hour_inode-hour_of : (inode : ℕ) → IsTrue (is_hour inode) → hour_inode (hour_of inode) ≡ inode
-hour_inode-hour_of inode h = elim (cases_eq inode FIRST_HOUR) [
-  | inl e ↦ inode_first (hour_of inode) (cond-true _ _ _ (eq-eqb inode FIRST_HOUR e)) ∙ sym e
-  | inr apart ↦
-      let a = (hour_parts inode h).0 in
-      let at : hour_of inode ≡ inode - trash_root = cond-false _ _ _ (ne_eqb inode FIRST_HOUR apart) in
-      inode_later (hour_of inode) (λ e. omega (arith, at, a, e)) ∙ omega (arith, at, a)
-]
-
-pub hour_at_range : (now : ℕ) → now ≤ LAST_MOMENT → hour_at now ≤ last_hour
-hour_at_range now low = omega arith
+-- the inode of an hour's directory follows the trash's own
+pub hour_inode_high : (hour : ℕ) → hour ≤ last_hour → trash_root < hour_inode hour
+hour_inode_high hour low = ltb-true trash_root (hour_inode hour) (and_parts _ _ (is_hour-hour_inode hour low)).0
 
 -- the place of an hour that isn't there is free
 free_hour_at : (s : Shape) (hour : ℕ) (o : Option ℕ) → named s (hour_place hour) ≡ o → WholeShape s → hour ≤ last_hour → s.form (hour_inode hour) ≡ Absent → o ≡ None
@@ -72,8 +23,8 @@ free_hour_at s hour None e w low absent = refl
 free_hour_at s hour (Some inode) e w low absent =
     let n = w.entry (hour_place hour) inode e in
     let h = n.hour refl in
-    let same : hour ≡ hour_of inode = hour_name-same hour (hour_of inode) low (hour_of_range inode h.hour) h.name in
-    let there : is_there (s.form (hour_inode hour)) ≡ true = ap (λ i. is_there (s.form i)) (ap hour_inode same ∙ hour_inode-hour_of inode h.hour) ∙ n.there in
+    let same : inode ≡ hour_inode hour = hour_by_name inode hour h.hour low h.name in
+    let there : is_there (s.form (hour_inode hour)) ≡ true = ap (λ i. is_there (s.form i)) (sym same) ∙ n.there in
     absurd (false≢true (sym (ap is_there absent) ∙ there))
 
 pub free_hour : (s : Shape) (hour : ℕ) → WholeShape s → hour ≤ last_hour → s.form (hour_inode hour) ≡ Absent → named s (hour_place hour) ≡ None
@@ -85,7 +36,7 @@ with_hour_in s hour = with_new s (hour_place hour) (hour_inode hour) (Dir trash_
 
 pub may_enter_hour : (s : Shape) (hour : ℕ) → WholeShape s → hour ≤ last_hour → s.form (hour_inode hour) ≡ Absent → MayEnter s (hour_place hour) (hour_inode hour) (Dir trash_root) s.next_inode
 may_enter_hour s hour w low absent =
-    let high = (hour_inode_range hour low).0 in
+    let high = hour_inode_high hour low in
     record {
       absent = absent;
       free = free_hour s hour w low absent;
@@ -136,7 +87,7 @@ pub record KeepsButHour (s after : Shape) (hour : ℕ) : Type 0 where
 
 keeps_by : (s after : Shape) (hour : ℕ) → WithHour s hour after → WholeShape s → hour ≤ last_hour → KeepsButHour s after hour
 keeps_by s after hour (Was there same) w low = record {
-  is = ap (λ (x : Shape). x.form (hour_inode hour)) same ∙ (w.hours (hour_inode hour) there (lt-ltb trash_root (hour_inode hour) ((hour_inode_range hour low).0))).1;
+  is = ap (λ (x : Shape). x.form (hour_inode hour)) same ∙ (w.hours (hour_inode hour) there (lt-ltb trash_root (hour_inode hour) (hour_inode_high hour low))).1;
   forms = λ inode apart. ap (λ (x : Shape). x.form inode) same;
   entries = λ at apart. ap (λ (x : Shape). named x at) same;
   counts = λ inode apart. ap (λ (x : Shape). names x inode) same;

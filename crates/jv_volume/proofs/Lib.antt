@@ -4,6 +4,6 @@ pub mod SameShapeLaws
 pub mod EnteredShapeLaws
 pub mod LinkedShapeLaws
 pub mod SessionShapeLaws
-pub mod HourNamesLaws
+pub mod HourNameLaws
 pub mod HourShapeLaws
 pub mod FreshShapeLaws
