@@ -7,3 +7,4 @@ pub mod SessionShapeLaws
 pub mod HourNameLaws
 pub mod HourShapeLaws
 pub mod FreshShapeLaws
+pub mod BrokenExamples
