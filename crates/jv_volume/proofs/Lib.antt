@@ -8,3 +8,4 @@ pub mod HourNameLaws
 pub mod HourShapeLaws
 pub mod FreshShapeLaws
 pub mod BrokenExamples
+pub mod FreshWholeLaws
