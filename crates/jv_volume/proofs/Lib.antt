@@ -9,3 +9,4 @@ pub mod HourShapeLaws
 pub mod FreshShapeLaws
 pub mod BrokenExamples
 pub mod FreshWholeLaws
+pub mod BrokenRowsExamples
