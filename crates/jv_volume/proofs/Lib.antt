@@ -10,3 +10,4 @@ pub mod FreshShapeLaws
 pub mod BrokenExamples
 pub mod FreshWholeLaws
 pub mod BrokenRowsExamples
+pub mod WalkShapeLaws
