@@ -57,6 +57,9 @@ first_rows setting at = map_of (
     ∷ []
     )
 
+apart_by_table : (key other : RowKey) → key.tab ≢ other.tab → key ≢ other
+apart_by_table key other apart e = apart (ap (λ (k : RowKey). k.tab) e)
+
 row_as : (key k : RowKey) (cell x : Cell) → (key ≡ k) × (cell ≡ x) → IsRowAt k x → IsRowAt key cell
 row_as key k cell x e is = subst (λ q. IsRowAt q cell) (sym e.0) (subst (IsRowAt k) (sym e.1) is)
 
@@ -79,19 +82,22 @@ module _ (setting : Setting) (at : ℕ) where
   -- nothing stands elsewhere
   none_at : (key : RowKey) → key ≢ setting_key → key ≢ counters_key → key ≢ node_key root → key ≢ node_key trash_root → get rows key ≡ None
   none_at key a b c d = get-insert_apart row_key numbered setting_key _ key a ∙ get-insert_apart row_key node_rows counters_key _ key b
-      ∙ get-insert_apart row_key trash_row (node_key root) _ key c ∙ get-insert_apart row_key empty_map (node_key trash_root) _ key d ∙ get-empty_map row_key key
+      ∙ get-insert_apart row_key trash_row (node_key root) _ key c ∙ get-insert_apart row_key empty_map (node_key trash_root) _ key d
+      ∙ get-empty_map row_key key
 
   -- nor in other tables
   none_in : (key : RowKey) → 3 ≤ key.tab → get rows key ≡ None
-  none_in key high = none_at key (λ e. let tab = ap (λ (k : RowKey). k.tab) e in omega (arith, tab, high)) (λ e. let tab = ap (λ (k : RowKey). k.tab) e in omega (arith, tab, high))
-      (λ e. let tab = ap (λ (k : RowKey). k.tab) e in omega (arith, tab, high)) (λ e. let tab = ap (λ (k : RowKey). k.tab) e in omega (arith, tab, high))
+  none_in key high = none_at key (apart_by_table key setting_key (λ e. omega (arith, e, high))) (apart_by_table key counters_key (λ e. omega (arith, e, high)))
+      (apart_by_table key (node_key root) (λ e. omega (arith, e, high))) (apart_by_table key (node_key trash_root) (λ e. omega (arith, e, high)))
 
   none_of_node : (inode : ℕ) → inode ≢ root → inode ≢ trash_root → get rows (node_key inode) ≡ None
-  none_of_node inode a b = none_at (node_key inode) (λ e. let tab : 2 ≡ setting_key.tab = ap (λ (k : RowKey). k.tab) e in omega (arith, tab)) (λ e. let tab : 2 ≡ counters_key.tab = ap (λ (k : RowKey). k.tab) e in omega (arith, tab))
+  none_of_node inode a b = none_at (node_key inode) (apart_by_table (node_key inode) setting_key (λ e. omega (arith, e)))
+      (apart_by_table (node_key inode) counters_key (λ e. omega (arith, e)))
       (λ e. a (ap (λ (k : RowKey). k.a) e)) (λ e. b (ap (λ (k : RowKey). k.a) e))
 
   no_node : (inode : ℕ) → inode ≢ root → inode ≢ trash_root → node_at fresh inode ≡ None
-  no_node inode a b = get-insert_apart number_key (insert empty_map root _) trash_root _ inode b ∙ get-insert_apart number_key empty_map root _ inode a ∙ get-empty_map number_key inode
+  no_node inode a b = get-insert_apart number_key (insert empty_map root _) trash_root _ inode b ∙ get-insert_apart number_key empty_map root _ inode a
+      ∙ get-empty_map number_key inode
 
   fresh_cell : (key : RowKey) (cell : Cell) → get rows key ≡ Some cell → IsRowAt key cell
   fresh_cell key cell is = elim (was_inserted row_key numbered setting_key _ key cell is) [
@@ -143,8 +149,10 @@ module _ (setting : Setting) (at : ℕ) where
     setting = setting_is;
     counters = counters_is;
     node = node_is;
-    edge = λ place. none_in (edge_key place.dir place.name) (omega arith) ∙ sym (ap (option_map (λ inode. Ok (OfEdge (edge_row fresh inode)))) (get-empty_map entry_key place));
-    session = λ sid. none_in (session_key sid) (omega arith) ∙ sym (ap (option_map (λ entry. Ok (OfSession (session_row entry)))) (get-empty_map number_key sid));
+    edge = λ place. none_in (edge_key place.dir place.name) (omega arith)
+        ∙ sym (ap (option_map (λ inode. Ok (OfEdge (edge_row fresh inode)))) (get-empty_map entry_key place));
+    session = λ sid. none_in (session_key sid) (omega arith)
+        ∙ sym (ap (option_map (λ entry. Ok (OfSession (session_row entry)))) (get-empty_map number_key sid));
     sustained = λ sid inode small. none_in (sustained_key sid inode) (omega arith)
         ∙ sym (ap (option_map (λ unit. Ok OfSustained)) (get-empty_map pair_key (record { sid = sid; inode = inode })));
   }

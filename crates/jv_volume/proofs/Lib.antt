@@ -11,3 +11,4 @@ pub mod BrokenExamples
 pub mod FreshWholeLaws
 pub mod BrokenRowsExamples
 pub mod WalkShapeLaws
+pub mod OperationShapeLaws

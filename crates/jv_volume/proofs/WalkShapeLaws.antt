@@ -79,7 +79,8 @@ module _ (t : Tree) (w : WholeShape (shape_of t)) where
 
   stepped_reached : (inode : ℕ) (name : List ℕ) (next : ℕ) → stepped t inode name ≡ Ok next → IsReached t next
   stepped_reached inode name next h =
-      let parent = went_on (some_or (parent_at t inode) NotADirectory) (λ parent. require (nat_le (length name) MAX_NAME) NameTooLong >>= (λ _. named_from t inode parent name)) next h in
+      let from = λ (parent : ℕ). require (nat_le (length name) MAX_NAME) NameTooLong >>= (λ _. named_from t inode parent name) in
+      let parent = went_on (some_or (parent_at t inode) NotADirectory) from next h in
       let short = went_on (require (nat_le (length name) MAX_NAME) NameTooLong) (λ _. named_from t inode parent.0 name) next parent.2 in
       named_reached inode parent.0 name next (was_some _ NotADirectory parent.0 parent.1) short.2
 
@@ -95,13 +96,17 @@ module _ (t : Tree) (w : WholeShape (shape_of t)) where
   from_reached inode true r = Directory root_directory
   from_reached inode false r = r
 
-  onwards_reached : (again : ℕ → List (List ℕ) → Result ℕ Fault) (follow : Bool) (inode : ℕ) (names : List (List ℕ)) (next : ℕ) (o : Option (List ℕ)) (result : ℕ) → GoesOn again
-      → (walk_names again t follow next names ≡ Ok result → IsReached t result) → IsReached t inode → onwards again follow inode names next o ≡ Ok result → IsReached t result
+  onwards_reached : (again : ℕ → List (List ℕ) → Result ℕ Fault) (follow : Bool) (inode : ℕ) (names : List (List ℕ)) (next : ℕ)
+      (o : Option (List ℕ)) (result : ℕ) → GoesOn again
+      → (walk_names again t follow next names ≡ Ok result → IsReached t result) → IsReached t inode → onwards again follow inode names next o ≡ Ok result
+      → IsReached t result
   unfolding onwards
   onwards_reached again follow inode names next None result goes rest r h = rest h
-  onwards_reached again follow inode names next (Some target) result goes rest r h = goes (if is_absolute target then root else inode) (names_of target ++ names) result (from_reached inode (is_absolute target) r) h
+  onwards_reached again follow inode names next (Some target) result goes rest r h =
+      goes (if is_absolute target then root else inode) (names_of target ++ names) result (from_reached inode (is_absolute target) r) h
 
-  names_reached : (again : ℕ → List (List ℕ) → Result ℕ Fault) (follow : Bool) (inode : ℕ) (names : List (List ℕ)) (result : ℕ) → GoesOn again → IsReached t inode → walk_names again t follow inode names ≡ Ok result → IsReached t result
+  names_reached : (again : ℕ → List (List ℕ) → Result ℕ Fault) (follow : Bool) (inode : ℕ) (names : List (List ℕ)) (result : ℕ) → GoesOn again
+      → IsReached t inode → walk_names again t follow inode names ≡ Ok result → IsReached t result
   unfolding walk_names onwards
   names_reached again follow inode [] result goes r h = subst (IsReached t) (same_Ok inode result h) r
   names_reached again follow inode (name ∷ names) result goes r h =
@@ -109,10 +114,14 @@ module _ (t : Tree) (w : WholeShape (shape_of t)) where
       onwards_reached again follow inode names next.0 (way_on t follow names next.0) result goes
       (λ g. names_reached again follow next.0 names result goes (stepped_reached inode name next.0 next.1) g) r next.2
 
-  walk_reached : (left : ℕ) (follow : Bool) (inode : ℕ) (names : List (List ℕ)) (result : ℕ) → IsReached t inode → walk left t follow inode names ≡ Ok result → IsReached t result
+  walk_reached : (left : ℕ) (follow : Bool) (inode : ℕ) (names : List (List ℕ)) (result : ℕ) → IsReached t inode → walk left t follow inode names ≡ Ok result
+      → IsReached t result
   unfolding walk
-  walk_reached zero follow inode names result r h = names_reached (λ at rest. Err SymlinkLoop) follow inode names result (λ dir rest end from e. absurd (cc)) r h
-  walk_reached (suc left) follow inode names result r h = names_reached (λ at rest. walk left t follow at rest) follow inode names result (λ dir rest end from e. walk_reached left follow dir rest end from e) r h
+  walk_reached zero follow inode names result r h =
+      names_reached (λ at rest. Err SymlinkLoop) follow inode names result (λ dir rest end from e. absurd (cc)) r h
+  walk_reached (suc left) follow inode names result r h =
+      names_reached (λ at rest. walk left t follow at rest) follow inode names result
+      (λ dir rest end from e. walk_reached left follow dir rest end from e) r h
 
   -- a path leads to a directory, or to what an entry names
   pub path_reached : (follow : Bool) (path : List ℕ) (inode : ℕ) → inode_by follow t path ≡ Ok inode → IsReached t inode
@@ -141,16 +150,19 @@ module _ (t : Tree) (path : List ℕ) where
   abbrev of_dir : List ℕ → ℕ → Result EntryKey Fault
   of_dir name dir = require (is_directory t dir) NotADirectory >>= (λ _. of_length name dir)
 
+  abbrev above : Result ℕ Fault
+  above = walk MAX_SYMLINKS t true root (all_but_last (names_of path))
+
   abbrev of_name : List ℕ → Result EntryKey Fault
-  of_name name = require (not (is_dot name || is_dot_dot name)) Invalid >>= (λ _. walk MAX_SYMLINKS t true root (all_but_last (names_of path)) >>= of_dir name)
+  of_name name = require (not (is_dot name || is_dot_dot name)) Invalid >>= (λ _. above >>= of_dir name)
 
   -- the entry of a path stands in a directory
   pub entry_within : (place : EntryKey) → entry_of t path ≡ Ok place → is_directory t place.dir ≡ true
   entry_within place h =
       let short = went_on (require (nat_le (length path) MAX_PATH) NameTooLong) (λ _. some_or (last_name (names_of path)) Invalid >>= of_name) place h in
       let name = went_on (some_or (last_name (names_of path)) Invalid) of_name place short.2 in
-      let plain = went_on (require (not (is_dot name.0 || is_dot_dot name.0)) Invalid) (λ _. walk MAX_SYMLINKS t true root (all_but_last (names_of path)) >>= of_dir name.0) place name.2 in
-      let dir = went_on (walk MAX_SYMLINKS t true root (all_but_last (names_of path))) (of_dir name.0) place plain.2 in
+      let plain = went_on (require (not (is_dot name.0 || is_dot_dot name.0)) Invalid) (λ _. above >>= of_dir name.0) place name.2 in
+      let dir = went_on above (of_dir name.0) place plain.2 in
       let within = went_on (require (is_directory t dir.0) NotADirectory) (λ _. of_length name.0 dir.0) place dir.2 in
       let fits = went_on (require (nat_le (length name.0) MAX_NAME) NameTooLong) (λ _. Ok (record { dir = dir.0; name = name.0 })) place within.2 in
       let same : record { dir = dir.0; name = name.0 } ≡ place = same_Ok _ place fits.2 in
