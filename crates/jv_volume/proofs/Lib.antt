@@ -12,3 +12,4 @@ pub mod FreshWholeLaws
 pub mod BrokenRowsExamples
 pub mod WalkShapeLaws
 pub mod OperationShapeLaws
+pub mod ReadingShapeLaws

@@ -6,7 +6,7 @@ use Rattle.jv_model.specs.declared.limits.TheConstants.{FILE_END, MAX_PATH}
 use Rattle.jv_model.specs.declared.fault.Fault.{Fault}
 use Rattle.jv_model.specs.declared.fault.Fault.TheVariants.{FileTooLarge, Invalid, NameTooLong, NoSpace, NotFound, NotPermitted, Stale}
 use Rattle.jv_model.specs.declared.fault.Gone.TheVariants.{Session}
-use Rattle.jv_model.specs.declared.op.Reply.TheVariants.{Found, FileOpened, Count, SessionMade}
+use Rattle.jv_model.specs.declared.op.Reply.TheVariants.{Done, Found, FileOpened, Count, SessionMade}
 use Rattle.jv_model.specs.FiniteMap.{get}
 use Rattle.jv_model.specs.tree.Attempt.{◌>>=◌, require, some_or}
 use Rattle.jv_model.specs.tree.Tree.{Tree, Node, Content, File, Directory, Symlink, EntryKey, new_node, full_mode, full_count, in_trash, node_at, is_directory, fits, links_fit}
@@ -107,7 +107,8 @@ module _ (t : Tree) (who : Caller) (w : WholeShape (shape_of t)) where
       let plain = neither (is_directory t inode.0) (is_trashed t inode.0) may.0 may.1 in
       let new = is_new_place t to place.0 place.1 in
       let named = path_named t w false path inode.0 inode.1 plain.0 in
-      whole_answer _ d fit.2 (whole-linked t who.now place.0 named.at inode.0 w new.free new.within new.may plain.0 plain.1 named.is))
+      whole_answer (record { tree = after inode.0 place.0; reply = Done }) d fit.2
+      (whole-linked t who.now place.0 named.at inode.0 w new.free new.within new.may plain.0 plain.1 named.is))
 
   -- attributes
 
