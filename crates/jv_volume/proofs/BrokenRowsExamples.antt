@@ -1,69 +1,21 @@
 -- Rows that aren't whole, each with one thing that is broken.
-use Rattle.std.specs.Prelude.{⊤, codes}
-use Rattle.std.proofs.Common.{◌≡◌, ℕ, List, [], ◌∷◌, Option, None, Some, Ok, Err, refl, sym, ap, arith}
+use Rattle.std.proofs.Common.{◌≡◌, ℕ, [], ◌∷◌, Option, None, Some, Ok, Err, refl, sym, ap, arith}
 use Rattle.std.proofs.lemmas.Bool.{false≢true}
 use Rattle.std.proofs.lemmas.Option.{none-some}
-use Rattle.jv_model.specs.declared.row.RowKey.{RowKey}
 use Rattle.jv_model.specs.declared.row.Counters.{Counters}
 use Rattle.jv_model.specs.declared.row.Node.{Node as NodeRow}
 use Rattle.jv_model.specs.declared.row.Edge.{Edge}
-use Rattle.jv_model.specs.declared.row.Row.TheVariants.{OfSetting, OfCounters, OfNode, OfEdge, OfList, OfSlice}
-use Rattle.jv_model.specs.declared.slice.Rec.{Rec}
+use Rattle.jv_model.specs.declared.row.Row.TheVariants.{OfNode, OfEdge, OfList, OfSlice}
 use Rattle.jv_model.specs.declared.slice.Spot.{Spot}
 use Rattle.jv_model.specs.declared.slice.Spot.TheVariants.{Zero, Slice}
-use Rattle.jv_model.specs.FiniteMap.{map_of}
-use Rattle.jv_model.specs.rows.RowPlaces.{setting_key, counters_key, node_key, edge_key, list_key, slice_key}
-use Rattle.jv_model.specs.blocks.Slices.{stored_place}
-use Rattle.jv_model.specs.tree.Tree.{root, trash_root, full_mode, read_only_mode}
-use Rattle.jv_model.proofs.TreeComputes.{maps_compute}
-use Rattle.jv_volume.specs.TypedRows.{Cell, Rows}
-use Rattle.jv_volume.specs.Views.{row_in, node_in, edge_in, counters_in, lists_of}
-use Rattle.jv_volume.specs.TreeOf.{tree_of, selected, nodes_of, entries_of, sessions_of, sustained_of}
-use Rattle.jv_volume.specs.Slices.{HasLists, OfFile, OfDropped, named_by, place_in}
+use Rattle.jv_model.specs.rows.RowPlaces.{node_key, edge_key, list_key, slice_key}
+use Rattle.jv_model.specs.tree.Tree.{root}
+use Rattle.jv_volume.specs.TypedRows.{Rows}
+use Rattle.jv_volume.specs.Views.{row_in, node_in, edge_in, counters_in}
+use Rattle.jv_volume.specs.Slices.{HasLists, OfFile, OfDropped}
 use Rattle.jv_volume.specs.Whole.{Whole}
-use Rattle.jv_volume.proofs.FreshWholeLaws.{first_counters, first_directory}
-use Rattle.jv_volume.proofs.BrokenExamples.{plain}
-
--- computes the tree of rows that are written out, and what their lists say
-unfoldable rows_compute : ⊤
-unfolding maps_compute tree_of selected nodes_of entries_of sessions_of sustained_of named_by place_in lists_of stored_place
-rows_compute = tt
-
--- a volume with these counters and this root, and more rows
-abbrev volume : Counters → NodeRow → List (RowKey × Cell) → Rows
-volume counters top more = map_of (
-    (setting_key, Ok (OfSetting plain))
-    ∷ (counters_key, Ok (OfCounters counters))
-    ∷ (node_key root, Ok (OfNode top))
-    ∷ (node_key trash_root, Ok (OfNode (first_directory read_only_mode 0)))
-    ∷ more
-    )
-
-abbrev top : NodeRow
-top = first_directory full_mode 0
-
--- the counters of a volume with one file of at most a unit of space, and one slice
-abbrev one_file : Counters
-one_file = record { inode = 3; slice = 2; session = 1; used_space = 4096; used_inodes = 1 }
-
-abbrev file : ℕ → NodeRow
-file length = record { kind = 1; mode = full_mode; uid = 0; gid = 0; nlink = 1; mtime = 0; ctime = 0; length = length; parent = 0; target = [] }
-
-abbrev name : List ℕ
-name = codes "a"
-
--- ten bytes of slice 1 at the start of a window
-abbrev ten : Rec
-ten = record { pos = 0; id = 1; size = 10; off = 0; len = 10 }
-
--- a file of a length, with ten bytes, and with how many records are said to name its slice
-abbrev with_file : ℕ → ℕ → List (RowKey × Cell)
-with_file length count =
-    (node_key 2, Ok (OfNode (file length)))
-    ∷ (edge_key root name, Ok (OfEdge (record { kind = 1; inode = 2 })))
-    ∷ (list_key 2 0, Ok (OfList (ten ∷ [])))
-    ∷ (slice_key 1, Ok (OfSlice (record { size = 10; count = count })))
-    ∷ []
+use Rattle.jv_volume.proofs.FreshWholeLaws.{first_counters}
+use Rattle.jv_volume.proofs.WholeRowsExamples.{rows_compute, volume, top, one_file, file, name, ten, with_file}
 
 -- a stored link count is off
 abbrev links_off : Rows

@@ -1,5 +1,5 @@
 -- The rows of a volume that was just formatted are whole.
-use Rattle.std.proofs.Common.{◌≡◌, ◌≢◌, ℕ, ◌+◌, ◌≤◌, inl, inr, [], ◌∷◌, None, Some, Ok, refl, sym, ap, subst, ◌∙◌, arith}
+use Rattle.std.proofs.Common.{List, ◌≡◌, ◌≢◌, ℕ, ◌+◌, inl, inr, [], ◌∷◌, None, Some, Ok, refl, sym, ap, subst, ◌∙◌, arith}
 use Rattle.std.specs.Option.{option_map}
 use Rattle.std.specs.List.{AllByRecursion}
 use Rattle.std.proofs.lemmas.Option.{none-some, same_Some}
@@ -12,7 +12,6 @@ use Rattle.jv_model.specs.declared.row.Row.TheVariants.{OfSetting, OfCounters, O
 use Rattle.jv_model.specs.declared.setting.Setting.{Setting}
 use Rattle.jv_model.specs.declared.slice.Rec.{Rec}
 use Rattle.jv_model.specs.FiniteMap.{number_key, empty_map, get, insert, map_of}
-use Rattle.jv_model.specs.rows.RowKeys.{row_key}
 use Rattle.jv_model.specs.rows.RowPlaces.{setting_key, counters_key, node_key, edge_key, session_key, sustained_key, slice_key, dropped_key, dead_key}
 use Rattle.jv_model.specs.tree.Tree.{Tree, entry_key, pair_key, root, trash_root, full_mode, read_only_mode, fresh_tree, node_at, link_count}
 use Rattle.jv_model.proofs.FiniteMapLaws.{get-empty_map}
@@ -25,7 +24,8 @@ use Rattle.jv_volume.specs.Shape.{WholeShape, shape_of}
 use Rattle.jv_volume.specs.Stored.{Stored, node_row, edge_row, session_row, counters_row}
 use Rattle.jv_volume.specs.Slices.{count_in, listed, ListsHave, named_by, next_slice, WholeSlices, WholeFiles}
 use Rattle.jv_volume.specs.Whole.{IsRowAt, no_bytes, Whole}
-use Rattle.jv_volume.proofs.ShapeMapLaws.{get-insert_apart, was_inserted}
+use Rattle.jv_volume.proofs.ShapeMapLaws.{get-insert_apart}
+use Rattle.jv_volume.proofs.WrittenRowsLaws.{none_at, rows_at}
 use Rattle.jv_volume.proofs.FreshShapeLaws.{whole-fresh_tree}
 
 -- the first inode after the root is next, and nothing counts as used
@@ -48,20 +48,16 @@ first_directory mode at = record {
 }
 
 -- the rows of a volume that is formatted at a moment: its setting, its counters, its root and its trash
-abbrev pub first_rows : Setting → ℕ → Rows
-first_rows setting at = map_of (
+abbrev first_entries : Setting → ℕ → List (RowKey × Cell)
+first_entries setting at =
     (setting_key, Ok (OfSetting setting))
     ∷ (counters_key, Ok (OfCounters first_counters))
     ∷ (node_key root, Ok (OfNode (first_directory full_mode at)))
     ∷ (node_key trash_root, Ok (OfNode (first_directory read_only_mode at)))
     ∷ []
-    )
 
-apart_by_table : (key other : RowKey) → key.tab ≢ other.tab → key ≢ other
-apart_by_table key other apart e = apart (ap (λ (k : RowKey). k.tab) e)
-
-row_as : (key k : RowKey) (cell x : Cell) → (key ≡ k) × (cell ≡ x) → IsRowAt k x → IsRowAt key cell
-row_as key k cell x e is = subst (λ q. IsRowAt q cell) (sym e.0) (subst (IsRowAt k) (sym e.1) is)
+abbrev pub first_rows : Setting → ℕ → Rows
+first_rows setting at = map_of (first_entries setting at)
 
 module _ (setting : Setting) (at : ℕ) where
   abbrev rows : Rows
@@ -70,49 +66,17 @@ module _ (setting : Setting) (at : ℕ) where
   abbrev fresh : Tree
   fresh = fresh_tree setting at
 
-  abbrev trash_row : Rows
-  trash_row = insert empty_map (node_key trash_root) (Ok (OfNode (first_directory read_only_mode at)))
-
-  abbrev node_rows : Rows
-  node_rows = insert trash_row (node_key root) (Ok (OfNode (first_directory full_mode at)))
-
-  abbrev numbered : Rows
-  numbered = insert node_rows counters_key (Ok (OfCounters first_counters))
-
   -- nothing stands elsewhere
-  none_at : (key : RowKey) → key ≢ setting_key → key ≢ counters_key → key ≢ node_key root → key ≢ node_key trash_root → get rows key ≡ None
-  none_at key a b c d = get-insert_apart row_key numbered setting_key _ key a ∙ get-insert_apart row_key node_rows counters_key _ key b
-      ∙ get-insert_apart row_key trash_row (node_key root) _ key c ∙ get-insert_apart row_key empty_map (node_key trash_root) _ key d
-      ∙ get-empty_map row_key key
-
-  -- nor in other tables
-  none_in : (key : RowKey) → 3 ≤ key.tab → get rows key ≡ None
-  none_in key high = none_at key (apart_by_table key setting_key (λ e. omega (arith, e, high))) (apart_by_table key counters_key (λ e. omega (arith, e, high)))
-      (apart_by_table key (node_key root) (λ e. omega (arith, e, high))) (apart_by_table key (node_key trash_root) (λ e. omega (arith, e, high)))
-
   none_of_node : (inode : ℕ) → inode ≢ root → inode ≢ trash_root → get rows (node_key inode) ≡ None
-  none_of_node inode a b = none_at (node_key inode) (apart_by_table (node_key inode) setting_key (λ e. omega (arith, e)))
-      (apart_by_table (node_key inode) counters_key (λ e. omega (arith, e)))
-      (λ e. a (ap (λ (k : RowKey). k.a) e)) (λ e. b (ap (λ (k : RowKey). k.a) e))
+  none_of_node inode a b = none_at 2 (node_key inode) (first_entries setting at) refl
+      ((λ e. a (ap (λ (k : RowKey). k.a) e)), ((λ e. b (ap (λ (k : RowKey). k.a) e)), tt))
 
   no_node : (inode : ℕ) → inode ≢ root → inode ≢ trash_root → node_at fresh inode ≡ None
   no_node inode a b = get-insert_apart number_key (insert empty_map root _) trash_root _ inode b ∙ get-insert_apart number_key empty_map root _ inode a
       ∙ get-empty_map number_key inode
 
   fresh_cell : (key : RowKey) (cell : Cell) → get rows key ≡ Some cell → IsRowAt key cell
-  fresh_cell key cell is = elim (was_inserted row_key numbered setting_key _ key cell is) [
-    | inl e ↦ row_as key setting_key cell _ e (record { key_is = refl; cell_is = refl })
-    | inr e ↦ elim (was_inserted row_key node_rows counters_key _ key cell e.1) [
-      | inl e ↦ row_as key counters_key cell _ e (record { key_is = refl; cell_is = refl })
-      | inr e ↦ elim (was_inserted row_key trash_row (node_key root) _ key cell e.1) [
-        | inl e ↦ row_as key (node_key root) cell _ e (record { key_is = refl; cell_is = refl })
-        | inr e ↦ elim (was_inserted row_key empty_map (node_key trash_root) _ key cell e.1) [
-          | inl e ↦ row_as key (node_key trash_root) cell _ e (record { key_is = refl; cell_is = refl })
-          | inr e ↦ absurd (none-some cell (sym (get-empty_map row_key key) ∙ e.1))
-        ]
-      ]
-    ]
-  ]
+  fresh_cell = rows_at (first_entries setting at) refl
 
   tree_is : tree_of no_bytes rows ≡ fresh
   unfolding maps_compute tree_of selected nodes_of entries_of sessions_of sustained_of
@@ -149,11 +113,11 @@ module _ (setting : Setting) (at : ℕ) where
     setting = setting_is;
     counters = counters_is;
     node = node_is;
-    edge = λ place. none_in (edge_key place.dir place.name) (omega arith)
+    edge = λ place. none_at 3 (edge_key place.dir place.name) (first_entries setting at) refl tt
         ∙ sym (ap (option_map (λ inode. Ok (OfEdge (edge_row fresh inode)))) (get-empty_map entry_key place));
-    session = λ sid. none_in (session_key sid) (omega arith)
+    session = λ sid. none_at 6 (session_key sid) (first_entries setting at) refl tt
         ∙ sym (ap (option_map (λ entry. Ok (OfSession (session_row entry)))) (get-empty_map number_key sid));
-    sustained = λ sid inode small. none_in (sustained_key sid inode) (omega arith)
+    sustained = λ sid inode small. none_at 7 (sustained_key sid inode) (first_entries setting at) refl tt
         ∙ sym (ap (option_map (λ unit. Ok OfSustained)) (get-empty_map pair_key (record { sid = sid; inode = inode })));
   }
 
@@ -161,7 +125,7 @@ module _ (setting : Setting) (at : ℕ) where
 
   no_list : (key : RowKey) → listed key (get rows key) ≡ []
   no_list key = elim (cases_eq key.tab 4) [
-    | inl e ↦ cond-true _ _ _ (eq-eqb key.tab 4 e) ∙ ap (λ o. records_in (row_in o)) (none_in key (omega (arith, e)))
+    | inl e ↦ cond-true _ _ _ (eq-eqb key.tab 4 e) ∙ ap (λ o. records_in (row_in o)) (none_at 4 key (first_entries setting at) e tt)
     | inr apart ↦ cond-false _ _ _ (ne_eqb key.tab 4 apart)
   ]
 
@@ -169,13 +133,13 @@ module _ (setting : Setting) (at : ℕ) where
   lists_have P key = subst (AllByRecursion P) (sym (no_list key)) tt
 
   no_slice : (id : ℕ) → slice_row_at rows id ≡ None
-  no_slice id = ap (λ o. slice_in (row_in o)) (none_in (slice_key id) (omega arith))
+  no_slice id = ap (λ o. slice_in (row_in o)) (none_at 5 (slice_key id) (first_entries setting at) refl tt)
 
   no_dead : (id : ℕ) → dead_at rows id ≡ None
-  no_dead id = ap (λ o. dead_in (row_in o)) (none_in (dead_key id) (omega arith))
+  no_dead id = ap (λ o. dead_in (row_in o)) (none_at 9 (dead_key id) (first_entries setting at) refl tt)
 
   no_dropped : (inode : ℕ) → dropped_at rows inode ≡ None
-  no_dropped inode = ap (λ o. dropped_in (row_in o)) (none_in (dropped_key inode) (omega arith))
+  no_dropped inode = ap (λ o. dropped_in (row_in o)) (none_at 8 (dropped_key inode) (first_entries setting at) refl tt)
 
   unnamed : (id : ℕ) → named_by rows id ≡ 0
   unfolding maps_compute named_by
@@ -222,7 +186,7 @@ module _ (setting : Setting) (at : ℕ) where
   files = record {
     small = λ inode node is file. (let kind = kind_is inode node is in absurd (omega (arith, kind, file)));
     past = λ inode node is file position past. (let kind = kind_is inode node is in absurd (omega (arith, kind, file)));
-    owned = λ key tab is. absurd (is (none_in key (omega (arith, tab))));
+    owned = λ key tab is. absurd (is (none_at 4 key (first_entries setting at) tab tt));
     gone = λ inode is. absurd (is (no_dropped inode));
   }
 

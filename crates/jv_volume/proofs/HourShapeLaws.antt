@@ -91,7 +91,8 @@ pub record KeepsButHour (s after : Shape) (hour : ℕ) : Type 0 where
 
 keeps_by : (s after : Shape) (hour : ℕ) → WithHour s hour after → WholeShape s → hour ≤ last_hour → KeepsButHour s after hour
 keeps_by s after hour (Was there same) w low = record {
-  is = ap (λ (x : Shape). x.form (hour_inode hour)) same ∙ (w.hours (hour_inode hour) there (lt-ltb trash_root (hour_inode hour) (hour_inode_high hour low))).1;
+  is = ap (λ (x : Shape). x.form (hour_inode hour)) same
+      ∙ (w.hours (hour_inode hour) there (lt-ltb trash_root (hour_inode hour) (hour_inode_high hour low))).1;
   forms = λ inode apart. ap (λ (x : Shape). x.form inode) same;
   entries = λ at apart. ap (λ (x : Shape). named x at) same;
   counts = λ inode apart. ap (λ (x : Shape). names x inode) same;

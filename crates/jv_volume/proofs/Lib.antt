@@ -8,7 +8,9 @@ pub mod HourNameLaws
 pub mod HourShapeLaws
 pub mod FreshShapeLaws
 pub mod BrokenExamples
+pub mod WrittenRowsLaws
 pub mod FreshWholeLaws
+pub mod WholeRowsExamples
 pub mod BrokenRowsExamples
 pub mod WalkShapeLaws
 pub mod OperationShapeLaws

@@ -65,7 +65,8 @@ module _ (t : Tree) (w : WholeShape (shape_of t)) where
             sym (is_dir-form (node_at t parent)) ∙ (w.entry (record { dir = parent; name = entered.name }) inode entered.is).within
       ]
 
-  named_reached : (inode parent : ℕ) (name : List ℕ) (next : ℕ) → parent_at t inode ≡ Some parent → named_from t inode parent name ≡ Ok next → IsReached t next
+  named_reached : (inode parent : ℕ) (name : List ℕ) (next : ℕ) → parent_at t inode ≡ Some parent → named_from t inode parent name ≡ Ok next
+      → IsReached t next
   named_reached inode parent name next is h = elim (cases_cond (is_dot name) _ _ (Ok next) (sym h)) [
     | inl e ↦ Directory (ap (is_directory t) (same_Ok next inode e) ∙ ap is_some is)
     | inr e ↦ elim (cases_cond (is_dot_dot name) _ _ (Ok next) e) [
