@@ -11,6 +11,7 @@ use Rattle.jv_model.specs.tree.Trash.{hour_inode, trash_name}
 use Rattle.jv_model.proofs.TreeComputes.{maps_compute, names_compute}
 use Rattle.jv_volume.specs.Shape.{Dir, Reaches, WholeShape, shape_of}
 
+-- a setting, of no meaning here
 abbrev pub plain : Setting
 plain = record { version = 1; block = 4194304; trash_days = 1; capacity = 0; inodes = 0; hash = 0; name = codes "broken"; bucket = codes ":memory:" }
 

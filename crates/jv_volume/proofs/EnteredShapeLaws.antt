@@ -179,6 +179,7 @@ module _ (s : Shape) (place : EntryKey) (new : ℕ) (f : Form) (next : ℕ) (w :
 pub new_below : (place : EntryKey) → may_be_new place ≡ true → place.dir < trash_root
 new_below place may = leb-false trash_root place.dir ((or_parts _ _ (not-true _ may)).0)
 
+-- what lies below the trash is no hour
 pub not_hour_below : (dir : ℕ) → dir < trash_root → is_hour dir ≡ false
 not_hour_below dir low = and_left _ _ (le-ltb trash_root dir (omega (arith, low)))
 
@@ -188,6 +189,7 @@ pub shape-with_node : (t : Tree) (now : ℕ) (place : EntryKey) (inode : ℕ) (n
 shape-with_node t now place inode node = shape-put_entry (put_node t inode node) now place inode
     ∙ ap (λ (s : Shape). with_entries s (insert t.entries place inode)) (shape-put_node t inode node)
 
+-- the next inode under a new entry
 pub shape-with_next : (t : Tree) (now : ℕ) (place : EntryKey) (node : Node)
     → shape_of (with_next t now place node) ≡ with_new (shape_of t) place t.next_inode (form_of (Some node)) (t.next_inode + 1)
 shape-with_next t now place node = ap (λ (s : Shape). record s { next_inode = t.next_inode + 1 }) (shape-with_node t now place t.next_inode node)
@@ -221,11 +223,14 @@ module _ (t : Tree) (now : ℕ) (place : EntryKey) (w : WholeShape (shape_of t))
         ends = omega (arith, room);
       }))
 
+  -- a file
   pub whole-with_next_file : (content : Content) (mode : ℕ) → WholeShape (shape_of (with_next t now place (new_node (File content) mode now)))
   whole-with_next_file content mode = whole-with_next (new_node (File content) mode now) (λ parent e. absurd (cc))
 
+  -- a symlink
   pub whole-with_next_symlink : (target : List ℕ) (mode : ℕ) → WholeShape (shape_of (with_next t now place (new_node (Symlink target) mode now)))
   whole-with_next_symlink target mode = whole-with_next (new_node (Symlink target) mode now) (λ parent e. absurd (cc))
 
+  -- a directory
   pub whole-with_next_directory : (mode : ℕ) → WholeShape (shape_of (with_next t now place (new_node (Directory place.dir) mode now)))
   whole-with_next_directory mode = whole-with_next (new_node (Directory place.dir) mode now) (λ parent e. let same : Dir place.dir ≡ Dir parent = e in cc)

@@ -71,6 +71,7 @@ module _ (setting : Setting) (now : ℕ) where
       let low = ltb-true inode trash_root below in
       elim (one_of inode there (is_fresh inode)) [ inl e ↦ omega (arith, e) | inr e ↦ absurd (omega (arith, e, low)) ]
 
+  -- the tree of a volume that was just formatted
   pub whole-fresh_tree : WholeShape (shape_of (fresh_tree setting now))
   whole-fresh_tree = record {
     root_there = root_is;

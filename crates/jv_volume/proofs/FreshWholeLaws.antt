@@ -56,6 +56,7 @@ first_entries setting at =
     ∷ (node_key trash_root, Ok (OfNode (first_directory read_only_mode at)))
     ∷ []
 
+-- the same as a map
 abbrev pub first_rows : Setting → ℕ → Rows
 first_rows setting at = map_of (first_entries setting at)
 
@@ -190,6 +191,7 @@ module _ (setting : Setting) (at : ℕ) where
     gone = λ inode is. absurd (is (no_dropped inode));
   }
 
+  -- rows that were just formatted are whole
   pub whole-first_rows : Whole (first_rows setting at)
   whole-first_rows = record {
     cells = fresh_cell;

@@ -28,6 +28,7 @@ free_hour_at s hour (Some inode) e w low absent =
     let there : is_there (s.form (hour_inode hour)) ≡ true = ap (λ i. is_there (s.form i)) (sym same) ∙ n.there in
     absurd (false≢true (sym (ap is_there absent) ∙ there))
 
+-- the same, of what stands there
 pub free_hour : (s : Shape) (hour : ℕ) → WholeShape s → hour ≤ last_hour → s.form (hour_inode hour) ≡ Absent → named s (hour_place hour) ≡ None
 free_hour s hour w low absent = free_hour_at s hour (named s (hour_place hour)) refl w low absent
 
@@ -35,6 +36,7 @@ free_hour s hour w low absent = free_hour_at s hour (named s (hour_place hour)) 
 abbrev pub with_hour_in : Shape → ℕ → Shape
 with_hour_in s hour = with_new s (hour_place hour) (hour_inode hour) (Dir trash_root) s.next_inode
 
+-- an hour that is not there may come
 pub may_enter_hour : (s : Shape) (hour : ℕ) → WholeShape s → hour ≤ last_hour → s.form (hour_inode hour) ≡ Absent
     → MayEnter s (hour_place hour) (hour_inode hour) (Dir trash_root) s.next_inode
 may_enter_hour s hour w low absent =
@@ -67,6 +69,7 @@ hour_by t now hour None e = Comes (ap form_of e)
     (shape-with_node t now (hour_place hour) (hour_inode hour) (new_node (Directory trash_root) read_only_mode now))
 hour_by t now hour (Some node) e = Was (ap (λ o. is_there (form_of o)) e ∙ is_there-form (Some node)) refl
 
+-- the shape after `with_hour`
 pub shape-with_hour : (t : Tree) (now hour : ℕ) → WithHour (shape_of t) hour (shape_of (with_hour t now hour))
 unfolding with_hour
 shape-with_hour t now hour = hour_by t now hour (node_at t (hour_inode hour)) refl
@@ -110,6 +113,7 @@ keeps_by s after hour (Comes absent same) w low = record {
   next = ap (λ (x : Shape). x.next_inode) same;
 }
 
+-- what `with_hour` leaves as it was
 pub keeps-with_hour : (t : Tree) (now hour : ℕ) → WholeShape (shape_of t) → hour ≤ LAST_MOMENT / HOUR
     → KeepsButHour (shape_of t) (shape_of (with_hour t now hour)) hour
 keeps-with_hour t now hour w low = keeps_by (shape_of t) (shape_of (with_hour t now hour)) hour (shape-with_hour t now hour) w low

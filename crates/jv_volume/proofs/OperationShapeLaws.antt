@@ -58,6 +58,7 @@ neither : (a b : Bool) (u : Unit {0}) → require (not (a || b)) NotPermitted �
 neither a b u h = or_parts a b (not-true (a || b) (required (not (a || b)) NotPermitted u h))
 
 module _ (t : Tree) (who : Caller) (w : WholeShape (shape_of t)) where
+  -- a new file
   pub whole-create : (path : List ℕ) (mode : ℕ) → WholeShape (shape_of (outcome t (create t who path mode)).tree)
   unfolding create
   whole-create path mode = whole_outcome t (create t who path mode) w (λ d h.
@@ -68,6 +69,7 @@ module _ (t : Tree) (who : Caller) (w : WholeShape (shape_of t)) where
       let after = went_on (entered t who.now place.0 node) said d place.2 in
       whole_answer _ d after.2 (whole-entered t who.now place.0 node after.0 w (is_new_place t path place.0 place.1) after.1 (λ parent e. absurd (cc))))
 
+  -- a new directory
   pub whole-mkdir : (path : List ℕ) (mode : ℕ) → WholeShape (shape_of (outcome t (mkdir t who path mode)).tree)
   unfolding mkdir
   whole-mkdir path mode = whole_outcome t (mkdir t who path mode) w (λ d h.
@@ -81,6 +83,7 @@ module _ (t : Tree) (who : Caller) (w : WholeShape (shape_of t)) where
       let own : (parent : ℕ) → Dir place.0.dir ≡ Dir parent → parent ≡ place.0.dir = λ parent e. (cc) in
       whole_answer _ d fit.2 (whole-entered t who.now place.0 (made place.0) after.0 w (is_new_place t path place.0 place.1) after.1 own))
 
+  -- a new symlink
   pub whole-symlink : (target path : List ℕ) → WholeShape (shape_of (outcome t (symlink t who target path)).tree)
   unfolding symlink
   whole-symlink target path = whole_outcome t (symlink t who target path) w (λ d h.
@@ -93,6 +96,7 @@ module _ (t : Tree) (who : Caller) (w : WholeShape (shape_of t)) where
       let after = went_on (entered t who.now place.0 node) said d place.2 in
       whole_answer _ d after.2 (whole-entered t who.now place.0 node after.0 w (is_new_place t path place.0 place.1) after.1 (λ parent e. absurd (cc))))
 
+  -- a further entry of a file or a symlink
   pub whole-link : (path to : List ℕ) → WholeShape (shape_of (outcome t (link t who path to)).tree)
   unfolding link
   whole-link path to = whole_outcome t (link t who path to) w (λ d h.
@@ -125,20 +129,24 @@ module _ (t : Tree) (who : Caller) (w : WholeShape (shape_of t)) where
       let there = was_some _ NotFound node.0 node.1 in
       whole_answer _ d left.2 (whole-attributes t inode.0 node.0 (status_changed who.now (change node.0)) there (keeps_kind node.0) w))
 
+  -- other permission bits
   pub whole-chmod : (path : List ℕ) (mode : ℕ) → WholeShape (shape_of (outcome t (chmod t who path mode)).tree)
   unfolding chmod
   whole-chmod path mode = whole-with_attributes path (λ (node : Node). record node { mode = mode }) (λ node. refl)
 
+  -- other owners
   pub whole-chown : (path : List ℕ) (uid gid : ℕ) → WholeShape (shape_of (outcome t (chown t who path uid gid)).tree)
   unfolding chown
   whole-chown path uid gid = whole-with_attributes path (λ (node : Node). record node { uid = uid; gid = gid }) (λ node. refl)
 
+  -- another time
   pub whole-utimes : (path : List ℕ) (mtime : ℕ) → WholeShape (shape_of (outcome t (utimes t who path mtime)).tree)
   unfolding utimes
   whole-utimes path mtime = whole-with_attributes path (λ (node : Node). record node { mtime = mtime }) (λ node. refl)
 
   -- bytes
 
+  -- a file cut to a length, or with zeros up to it
   pub whole-truncate : (len : ℕ) → WholeShape (shape_of (outcome t (truncate t who len)).tree)
   unfolding truncate
   whole-truncate len = whole_outcome t (truncate t who len) w (λ d h.
@@ -161,6 +169,7 @@ module _ (t : Tree) (who : Caller) (w : WholeShape (shape_of t)) where
       let fit = went_on (require (fits t after) NoSpace) (λ _. answered after (Count len)) d short.2 in
       whole_answer _ d fit.2 (whole_as _ _ (shape-copied t who.now who.inode from who.other to len) w)
 
+  -- bytes of one file put into another
   pub whole-copy : (from to len : ℕ) → WholeShape (shape_of (outcome t (copy t who from to len)).tree)
   unfolding copy
   whole-copy from to len = whole_outcome t (copy t who from to len) w (λ d h.
@@ -173,24 +182,28 @@ module _ (t : Tree) (who : Caller) (w : WholeShape (shape_of t)) where
 
   -- sessions
 
+  -- a new session, which has a number from 1 on
   pub whole-mount : 1 ≤ t.next_session → WholeShape (shape_of (outcome t (mount t who)).tree)
   unfolding mount
   whole-mount first = whole_outcome t (mount t who) w (λ d h.
       let room = went_on (require (nat_lt t.next_session full_count) NoSpace) (λ _. answered (with_session t who) (SessionMade t.next_session)) d h in
       whole_answer _ d room.2 (whole-with_session t who w first (ltb-true _ _ (required _ NoSpace room.0 room.1))))
 
+  -- a session that shows a sign of life
   pub whole-beat : WholeShape (shape_of (outcome t (beat t who)).tree)
   unfolding beat
   whole-beat = whole_outcome t (beat t who) w (λ d h.
       let session = went_on (some_or (get t.sessions who.sid) (Stale (Session who.sid))) (λ session. done (kept_alive t who session)) d h in
       whole_answer _ d session.2 (whole-kept_alive t who session.0 (was_some _ (Stale (Session who.sid)) session.0 session.1) w))
 
+  -- a session that ends
   pub whole-umount : WholeShape (shape_of (outcome t (umount t who)).tree)
   unfolding umount
   whole-umount = whole_outcome t (umount t who) w (λ d h.
       let inside = went_on (in_session t who) (λ _. done (without_session t who.sid)) d h in
       whole_answer _ d inside.2 (whole-without_session t who.sid w))
 
+  -- the end of the last handle on a file
   pub whole-release : WholeShape (shape_of (outcome t (release t who)).tree)
   unfolding release
   whole-release = whole_outcome t (release t who) w (λ d h.

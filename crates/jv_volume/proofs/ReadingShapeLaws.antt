@@ -23,6 +23,7 @@ reads_in : (t : Tree) (who : Caller) (next : Result Outcome Fault) → Reads t n
 reads_in t who next h = reads_then t (in_session t who) (λ _. next) (λ _. h)
 
 module _ (t : Tree) (who : Caller) where
+  -- an inode looked up
   pub reads-lookup : (path : List ℕ) → (outcome t (lookup t who path)).tree ≡ t
   unfolding lookup
   reads-lookup path =
@@ -32,14 +33,17 @@ module _ (t : Tree) (who : Caller) where
   reads_described : (inode : ℕ) → Reads t (described t inode)
   reads_described inode = reads_then t (some_or (node_at t inode) NotFound) (λ node. answered t (Described (attr_of t inode node))) (λ node. refl)
 
+  -- attributes behind symlinks
   pub reads-stat : (path : List ℕ) → (outcome t (stat t who path)).tree ≡ t
   unfolding stat
   reads-stat path = reads_in t who (inode_of t path >>= described t) (reads_then t (inode_of t path) (described t) reads_described)
 
+  -- attributes of a symlink itself
   pub reads-lstat : (path : List ℕ) → (outcome t (lstat t who path)).tree ≡ t
   unfolding lstat
   reads-lstat path = reads_in t who (unfollowed_inode_of t path >>= described t) (reads_then t (unfollowed_inode_of t path) (described t) reads_described)
 
+  -- attributes of an open file
   pub reads-fstat : (outcome t (fstat t who)).tree ≡ t
   unfolding fstat
   reads-fstat =
@@ -47,14 +51,17 @@ module _ (t : Tree) (who : Caller) where
       let node = some_or (node_at t who.inode) (Stale (GoneNode who.inode)) in
       reads_in t who (node >>= next) (reads_then t node next (λ node. refl))
 
+  -- a compaction
   pub reads-compact : (path : List ℕ) → (outcome t (compact t who path)).tree ≡ t
   unfolding compact
   reads-compact path = reads_then t (compact_inode t who path) (λ inode. done t) (λ inode. refl)
 
+  -- a file opened
   pub reads-open_file : (path : List ℕ) → (outcome t (open_file t who path)).tree ≡ t
   unfolding open_file
   reads-open_file path = reads_then t (file_inode t who path) (λ inode. answered t (FileOpened who.free_handle inode)) (λ inode. refl)
 
+  -- a directory listed
   pub reads-readdir : (path : List ℕ) → (outcome t (readdir t who path)).tree ≡ t
   unfolding readdir
   reads-readdir path =
@@ -63,6 +70,7 @@ module _ (t : Tree) (who : Caller) where
       reads_in t who (inode_of t path >>= next) (reads_then t (inode_of t path) next (λ dir.
       reads_then t (require (is_directory t dir) NotADirectory) (λ _. said dir) (λ _. refl)))
 
+  -- the target of a symlink
   pub reads-readlink : (path : List ℕ) → (outcome t (readlink t who path)).tree ≡ t
   unfolding readlink
   reads-readlink path =
@@ -71,6 +79,7 @@ module _ (t : Tree) (who : Caller) where
       reads_in t who (unfollowed_inode_of t path >>= next) (reads_then t (unfollowed_inode_of t path) next (λ inode.
       reads_then t (some_or (target_at t inode) Invalid) said (λ target. refl)))
 
+  -- the usage of a volume
   pub reads-statfs : (outcome t (statfs t who)).tree ≡ t
   unfolding statfs
   reads-statfs = reads_in t who (answered t (Usage (usage_of t))) refl

@@ -22,6 +22,7 @@ pub shape-attributes : (t : Tree) (inode : ℕ) (node after : Node) → node_at 
 shape-attributes t inode node after there same = shape-put_node_same t inode after
     (form-kind after ∙ ap kind_form same ∙ sym (form-kind node) ∙ sym (ap form_of there))
 
+-- so a whole tree stays whole
 pub whole-attributes : (t : Tree) (inode : ℕ) (node after : Node) → node_at t inode ≡ Some node → after.kind ≡ node.kind → WholeShape (shape_of t)
     → WholeShape (shape_of (put_node t inode after))
 whole-attributes t inode node after there same = whole_as _ _ (shape-attributes t inode node after there same)
@@ -44,6 +45,7 @@ pub shape-with_content : (t : Tree) (now inode : ℕ) (old content : Content) �
     → shape_of (with_content t now inode content) ≡ shape_of t
 shape-with_content t now inode old content is = file_again t now inode old content (node_at t inode) refl is
 
+-- bytes committed to a file
 pub shape-committed : (t : Tree) (now inode from : ℕ) (bytes : List ℕ) → shape_of (committed t now inode from bytes) ≡ shape_of t
 shape-committed t now inode from bytes = elim (content_at t inode) as (λ o. content_at t inode ≡ o → shape_of (elim o as (λ _. Tree) [
   | None ↦ t
@@ -53,6 +55,7 @@ shape-committed t now inode from bytes = elim (content_at t inode) as (λ o. con
   | Some content ↦ λ e. shape-with_content t now inode content (overwritten content from bytes) e
 ] refl
 
+-- a file cut to a length, or with zeros up to it
 pub shape-truncated : (t : Tree) (now inode len : ℕ) → shape_of (truncated t now inode len) ≡ shape_of t
 shape-truncated t now inode len = elim (content_at t inode) as (λ o. content_at t inode ≡ o → shape_of (elim o as (λ _. Tree) [
   | None ↦ t
@@ -77,6 +80,7 @@ unless : (b : Bool) (t after : Tree) → shape_of after ≡ shape_of t → shape
 unless true t after same = refl
 unless false t after same = same
 
+-- bytes of one file put into another
 pub shape-copied : (t : Tree) (now source from target to len : ℕ) → shape_of (copied t now source from target to len) ≡ shape_of t
 shape-copied t now source from target to len = unless (len == 0) t (between t now (content_at t source) from target (content_at t target) to len)
     (between_same t now (content_at t source) from target (content_at t target) to len refl)

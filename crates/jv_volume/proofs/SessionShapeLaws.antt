@@ -62,6 +62,7 @@ whole-with_session t who w first room =
       | inr apart ↦ inr (sym (ap is_some (get-insert_apart number_key t.sessions t.next_session _ sid apart)) ∙ is)
     ])
 
+-- the model's `beat`
 pub whole-kept_alive : (t : Tree) (who : Caller) (session : SessionEntry) → get t.sessions who.sid ≡ Some session → WholeShape (shape_of t)
     → WholeShape (shape_of (kept_alive t who session))
 whole-kept_alive t who session there = whole_as _ _ (shape-kept_alive t who session there)

@@ -23,12 +23,15 @@ tied_is Equal p = refl
 tied_is Greater p = absurd (false≢true p)
 
 module _ {K : Type 0} (order : KeyOrder K) where
+  -- a key ties with itself
   pub tied_here : (k : K) → eq_by_cmp order.cmp k k ≡ true
   tied_here k = (eq_by_cmp_equiv order.total).refl k
 
+  -- keys that tie are one
   pub tied_same : (k q : K) → eq_by_cmp order.cmp q k ≡ true → q ≡ k
   tied_same k q p = order.same q k (tied_is _ p)
 
+  -- keys that are apart don't tie
   pub tied_apart : (k q : K) → q ≢ k → eq_by_cmp order.cmp q k ≡ false
   tied_apart k q apart = false_from_ne_true _ (λ p. apart (tied_same k q p))
 
@@ -42,15 +45,19 @@ module _ {K : Type 0} (order : KeyOrder K) where
 -- what stands at a key after an insert or a removal
 
 module _ {K X : Type 0} (order : KeyOrder K) where
+  -- what was inserted stands there
   pub get-inserted : (m : Map order X) (k : K) (v : X) → get (insert m k v) k ≡ Some v
   get-inserted m k v = get-insert m k v k ∙ cond-true _ _ _ (tied_here order k)
 
+  -- an insert leaves what stands elsewhere
   pub get-insert_apart : (m : Map order X) (k : K) (v : X) (q : K) → q ≢ k → get (insert m k v) q ≡ get m q
   get-insert_apart m k v q apart = get-insert m k v q ∙ cond-false _ _ _ (tied_apart order k q apart)
 
+  -- nothing stands at a removed key
   pub get-removed : (m : Map order X) (k : K) → get (remove m k) k ≡ None
   get-removed m k = get-remove m k k ∙ cond-true _ _ _ (tied_here order k)
 
+  -- a removal leaves what stands elsewhere
   pub get-remove_apart : (m : Map order X) (k q : K) → q ≢ k → get (remove m k) q ≡ get m q
   get-remove_apart m k q apart = get-remove m k q ∙ cond-false _ _ _ (tied_apart order k q apart)
 
@@ -87,6 +94,7 @@ module _ {K X : Type 0} (order : KeyOrder K) (test : K → X → Bool) where
   none_passes [] k x h there passes = absurd (cc)
   none_passes (e ∷ es) k x h there passes = none_passes_at e es k x (test e.0 e.1) refl (none_passes es k x) h there passes
 
+  -- where no first entry passes a test, none does
   pub first_where-none : (m : Map order X) (k : K) (x : X) → first_where test m ≡ None → get m k ≡ Some x → test k x ≡ true → ⊥
   unfolding first_where get
   first_where-none m k x h there passes = none_passes m.list k x h there passes
@@ -106,9 +114,11 @@ Entries = Map entry_key ℕ
 abbrev pub count_of : Entries → ℕ → ℕ
 count_of m inode = sum_over (naming inode) m
 
+-- an entry of the inode counts
 pub naming_same : (inode : ℕ) (at : EntryKey) → naming inode at inode ≡ 1
 naming_same inode at = cond-true _ _ _ (eq-eqb inode inode refl)
 
+-- an entry of another one doesn't
 pub naming_apart : (inode : ℕ) (at : EntryKey) (other : ℕ) → other ≢ inode → naming inode at other ≡ 0
 naming_apart inode at other apart = cond-false _ _ _ (ne_eqb other inode apart)
 
@@ -119,9 +129,11 @@ count-insert m at i inode free =
     let nothing : share (naming inode) at (get m at) ≡ 0 = ap (share (naming inode) at) free in
     omega (arith, all, nothing)
 
+-- an entry of the inode more
 pub count-insert_same : (m : Entries) (at : EntryKey) (inode : ℕ) → get m at ≡ None → count_of (insert m at inode) inode ≡ count_of m inode + 1
 count-insert_same m at inode free = count-insert m at inode inode free ∙ ap (λ n. count_of m inode + n) (naming_same inode at)
 
+-- an entry of another inode more
 pub count-insert_apart : (m : Entries) (at : EntryKey) (i inode : ℕ) → get m at ≡ None → i ≢ inode → count_of (insert m at i) inode ≡ count_of m inode
 count-insert_apart m at i inode free apart =
     let all = count-insert m at i inode free in
@@ -132,9 +144,11 @@ count-insert_apart m at i inode free apart =
 pub count-remove : (m : Entries) (at : EntryKey) (i inode : ℕ) → get m at ≡ Some i → count_of (remove m at) inode + naming inode at i ≡ count_of m inode
 count-remove m at i inode there = ap (λ o. count_of (remove m at) inode + share (naming inode) at o) (sym there) ∙ sum-remove entry_key (naming inode) m at
 
+-- an entry of the inode less
 pub count-remove_same : (m : Entries) (at : EntryKey) (inode : ℕ) → get m at ≡ Some inode → count_of (remove m at) inode + 1 ≡ count_of m inode
 count-remove_same m at inode there = ap (λ n. count_of (remove m at) inode + n) (sym (naming_same inode at)) ∙ count-remove m at inode inode there
 
+-- an entry of another inode less
 pub count-remove_apart : (m : Entries) (at : EntryKey) (i inode : ℕ) → get m at ≡ Some i → i ≢ inode → count_of (remove m at) inode ≡ count_of m inode
 count-remove_apart m at i inode there apart =
     let all = count-remove m at i inode there in
@@ -145,6 +159,7 @@ count-remove_apart m at i inode there apart =
 pub counted_once : (m : Entries) (at : EntryKey) (inode : ℕ) → get m at ≡ Some inode → 1 ≤ count_of m inode
 counted_once m at inode there = let all = count-remove_same m at inode there in omega (arith, all)
 
+-- no entry names an inode that has none
 pub uncounted : (m : Entries) (at : EntryKey) (inode : ℕ) → count_of m inode ≡ 0 → get m at ≢ Some inode
 uncounted m at inode none there = let one = counted_once m at inode there in absurd (omega (arith, one, none))
 
@@ -190,6 +205,7 @@ named_by_found m inode (Some found) h =
 pub count_cases : (m : Entries) (inode : ℕ) → (count_of m inode ≡ 0) ⊎ IsNamed m inode
 count_cases m inode = named_by_found m inode (first_where (λ at i. i == inode) m) refl
 
+-- an inode that no entry names has none
 pub count_none : (m : Entries) (inode : ℕ) → ((at : EntryKey) → get m at ≢ Some inode) → count_of m inode ≡ 0
 count_none m inode none = elim (count_cases m inode) [
   | inl e ↦ e
@@ -212,9 +228,11 @@ count_one m at inode there only =
 abbrev pub with_form : (ℕ → Form) → ℕ → Form → ℕ → Form
 with_form form inode f other = (if other == inode then f else form other)
 
+-- the form that was put
 pub with_form-here : (form : ℕ → Form) (inode : ℕ) (f : Form) → with_form form inode f inode ≡ f
 with_form-here form inode f = cond-true _ _ _ (eq-eqb inode inode refl)
 
+-- the forms of other inodes
 pub with_form-apart : (form : ℕ → Form) (inode : ℕ) (f : Form) (other : ℕ) → other ≢ inode → with_form form inode f other ≡ form other
 with_form-apart form inode f other apart = cond-false _ _ _ (ne_eqb other inode apart)
 
@@ -229,6 +247,7 @@ with_form-same form inode other = elim (cases_eq other inode) [
 pub apart_by_form : (form : ℕ → Form) (i j : ℕ) → form i ≡ Absent → IsTrue (is_there (form j)) → j ≢ i
 apart_by_form form i j absent there same = false≢true (sym (ap is_there (ap form same ∙ absent)) ∙ there)
 
+-- a directory is there
 pub there_of_dir : (f : Form) → IsTrue (is_dir f) → IsTrue (is_there f)
 there_of_dir Absent h = absurd (false≢true h)
 there_of_dir Regular h = absurd (false≢true h)
@@ -254,9 +273,11 @@ reaches_lift form after stays (suc steps) dir h = (h.0, stays dir h.0 h.1, reach
 abbrev pub with_forms : Shape → (ℕ → Form) → Shape
 with_forms s form = record s { form = form }
 
+-- a shape with other entries
 abbrev pub with_entries : Shape → Entries → Shape
 with_entries s entries = record s { entries = entries }
 
+-- the forms after a node was put
 pub form-put_node : (t : Tree) (inode : ℕ) (node : Node) (other : ℕ)
     → (shape_of (put_node t inode node)).form other ≡ with_form (shape_of t).form inode (form_of (Some node)) other
 form-put_node t inode node other = elim (cases_eq other inode) [
@@ -265,6 +286,7 @@ form-put_node t inode node other = elim (cases_eq other inode) [
   | inr apart ↦ ap form_of (get-insert_apart number_key t.nodes inode node other apart) ∙ sym (with_form-apart (shape_of t).form inode _ other apart)
 ]
 
+-- the forms after a node is gone
 pub form-drop_node : (t : Tree) (inode other : ℕ) → (shape_of (drop_node t inode)).form other ≡ with_form (shape_of t).form inode Absent other
 form-drop_node t inode other = elim (cases_eq other inode) [
   | inl e ↦ ap form_of (ap (get (remove t.nodes inode)) e ∙ get-removed number_key t.nodes inode)
@@ -272,10 +294,12 @@ form-drop_node t inode other = elim (cases_eq other inode) [
   | inr apart ↦ ap form_of (get-remove_apart number_key t.nodes inode other apart) ∙ sym (with_form-apart (shape_of t).form inode Absent other apart)
 ]
 
+-- a node put
 pub shape-put_node : (t : Tree) (inode : ℕ) (node : Node)
     → shape_of (put_node t inode node) ≡ with_forms (shape_of t) (with_form (shape_of t).form inode (form_of (Some node)))
 shape-put_node t inode node = λ i. record (shape_of t) { form = λ other. form-put_node t inode node other i }
 
+-- a node gone
 pub shape-drop_node : (t : Tree) (inode : ℕ) → shape_of (drop_node t inode) ≡ with_forms (shape_of t) (with_form (shape_of t).form inode Absent)
 shape-drop_node t inode = λ i. record (shape_of t) { form = λ other. form-drop_node t inode other i }
 
@@ -304,15 +328,18 @@ shape-change_node t inode change node there = ap (λ o. shape_of (set_node t ino
 pub shape-touch : (t : Tree) (now dir : ℕ) → shape_of (touch t now dir) ≡ shape_of t
 shape-touch t now dir = shape-change_node_same t dir (touched now) (λ node. refl)
 
+-- an entry put
 pub shape-put_entry : (t : Tree) (now : ℕ) (place : EntryKey) (inode : ℕ)
     → shape_of (put_entry t now place inode) ≡ with_entries (shape_of t) (insert t.entries place inode)
 shape-put_entry t now place inode = ap (λ (s : Shape). with_entries s (insert t.entries place inode)) (shape-touch t now place.dir)
 
+-- an entry gone
 pub shape-take_entry : (t : Tree) (now : ℕ) (place : EntryKey) → shape_of (take_entry t now place) ≡ with_entries (shape_of t) (remove t.entries place)
 shape-take_entry t now place = ap (λ (s : Shape). with_entries s (remove t.entries place)) (shape-touch t now place.dir)
 
 -- forms by nodes
 
+-- an inode is there or absent
 pub there_or_absent : (f : Form) → (f ≡ Absent) ⊎ IsTrue (is_there f)
 there_or_absent Absent = inl refl
 there_or_absent Regular = inr refl
@@ -323,6 +350,7 @@ there_or_absent (Dir parent) = inr refl
 abbrev of_kind : Node → Kind → Option Node
 of_kind node kind = Some (record node { kind = kind })
 
+-- an inode is there where it has a node
 pub is_there-form : (o : Option Node) → is_there (form_of o) ≡ is_some o
 is_there-form None = refl
 is_there-form (Some node) = elim node.kind as (λ kind. is_there (form_of (of_kind node kind)) ≡ true) [
@@ -331,6 +359,7 @@ is_there-form (Some node) = elim node.kind as (λ kind. is_there (form_of (of_ki
   | Symlink target ↦ refl
 ]
 
+-- it is a directory where its node has a parent
 pub is_dir-form : (o : Option Node) → is_dir (form_of o) ≡ is_some (parent_of o)
 is_dir-form None = refl
 is_dir-form (Some node) = elim node.kind as (λ kind. is_dir (form_of (of_kind node kind)) ≡ is_some (parent_of (of_kind node kind))) [
@@ -345,6 +374,7 @@ kind_form (File content) = Regular
 kind_form (Directory parent) = Dir parent
 kind_form (Symlink target) = Link
 
+-- a node has the form of its kind
 pub form-kind : (node : Node) → form_of (Some node) ≡ kind_form node.kind
 form-kind node = elim node.kind as (λ kind. form_of (of_kind node kind) ≡ kind_form kind) [
   | File content ↦ refl
@@ -352,6 +382,7 @@ form-kind node = elim node.kind as (λ kind. form_of (of_kind node kind) ≡ kin
   | Symlink target ↦ refl
 ]
 
+-- a directory, by its parent
 pub form-parent : (o : Option Node) (parent : ℕ) → parent_of o ≡ Some parent → form_of o ≡ Dir parent
 form-parent None parent h = absurd (cc)
 form-parent (Some node) parent h = elim node.kind as (λ kind. parent_of (of_kind node kind) ≡ Some parent → form_of (of_kind node kind) ≡ Dir parent) [
@@ -360,6 +391,7 @@ form-parent (Some node) parent h = elim node.kind as (λ kind. parent_of (of_kin
   | Symlink target ↦ λ e. absurd (cc)
 ] h
 
+-- a file, by its bytes
 pub form-content : (o : Option Node) (content : Content) → content_of o ≡ Some content → form_of o ≡ Regular
 form-content None content h = absurd (cc)
 form-content (Some node) content h = elim node.kind as (λ kind. content_of (of_kind node kind) ≡ Some content → form_of (of_kind node kind) ≡ Regular) [

@@ -15,18 +15,22 @@ use Rattle.jv_volume.proofs.ShapeMapLaws.{IsNamed, is_dir-form, form-parent}
 
 -- steps of an attempt that was made
 
+-- a step that was made, and the attempt after it
 pub went_on : {A B : Type 0} (x : Result A Fault) (next : A → Result B Fault) (y : B) → (x >>= next) ≡ Ok y → (a : A) × (x ≡ Ok a) × (next a ≡ Ok y)
 went_on (Ok a) next y h = (a, refl, h)
 went_on (Err fault) next y h = absurd (cc)
 
+-- a test that was required passed
 pub required : (b : Bool) (fault : Fault) (u : Unit {0}) → require b fault ≡ Ok u → b ≡ true
 required true fault u h = refl
 required false fault u h = absurd (cc)
 
+-- a value that was required was there
 pub was_some : {A : Type 0} (o : Option A) (fault : Fault) (x : A) → some_or o fault ≡ Ok x → o ≡ Some x
 was_some None fault x h = absurd (cc)
 was_some (Some a) fault x h = (let same : a ≡ x = cc in ap Some same)
 
+-- answers that are the same have one value
 pub same_Ok : {A : Type 0} (x y : A) → ◌≡◌ {A = Result A Fault} (Ok x) (Ok y) → x ≡ y
 same_Ok x y h = cc
 
@@ -41,9 +45,11 @@ module _ (t : Tree) (w : WholeShape (shape_of t)) where
   directory_by_form : (inode parent : ℕ) → (shape_of t).form inode ≡ Dir parent → is_directory t inode ≡ true
   directory_by_form inode parent is = sym (is_dir-form (node_at t inode)) ∙ ap is_dir is
 
+  -- the root is a directory
   pub root_directory : is_directory t root ≡ true
   root_directory = directory_by_form root root w.root_there
 
+  -- and so is the trash
   pub trash_directory : is_directory t trash_root ≡ true
   trash_directory = directory_by_form trash_root root w.trash_there
 
@@ -175,6 +181,7 @@ pub record IsNewPlace (t : Tree) (place : EntryKey) : Type 0 where
   pub within : is_directory t place.dir ≡ true
   pub may : may_be_new place ≡ true
 
+-- what the tests of a new place say
 pub is_new_place : (t : Tree) (path : List ℕ) (place : EntryKey) → new_place t path ≡ Ok place → IsNewPlace t place
 is_new_place t path place h =
     let free_at = λ (p : EntryKey). require (not (is_some (get t.entries p))) AlreadyExists >>= (λ _. Ok p) in

@@ -51,6 +51,7 @@ volume counters top more = map_of (
     ∷ more
     )
 
+-- its root
 abbrev pub top : NodeRow
 top = first_directory full_mode 0
 
@@ -58,9 +59,11 @@ top = first_directory full_mode 0
 abbrev pub one_file : Counters
 one_file = record { inode = 3; slice = 2; session = 1; used_space = 4096; used_inodes = 1 }
 
+-- a file of a length
 abbrev pub file : ℕ → NodeRow
 file length = record { kind = 1; mode = full_mode; uid = 0; gid = 0; nlink = 1; mtime = 0; ctime = 0; length = length; parent = 0; target = [] }
 
+-- the file's name
 abbrev pub name : List ℕ
 name = codes "a"
 
@@ -369,6 +372,7 @@ files = record {
   gone = λ inode is. absurd (is (no_dropped inode));
 }
 
+-- these rows are whole
 pub whole-rows : Whole rows
 whole-rows = record {
   cells = all_rows;
