@@ -1,2 +1,3 @@
 -- What is proved of whole volumes.
 pub mod ShapeMapLaws
+pub mod ClimbLaws
