@@ -1,3 +1,4 @@
 -- What is proved of whole volumes.
 pub mod ShapeMapLaws
 pub mod ClimbLaws
+pub mod HourNameLaws
