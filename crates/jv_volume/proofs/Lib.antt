@@ -2,3 +2,4 @@
 pub mod ShapeMapLaws
 pub mod ClimbLaws
 pub mod HourNameLaws
+pub mod TrashNameLaws
