@@ -156,14 +156,21 @@ or_true : (a b : Bool) → (a || b) ≡ true → (a ≡ true) ⊎ (b ≡ true)
 or_true true b h = inl refl
 or_true false b h = inr h
 
+-- what is at the top
+pub top_cases : (dir : ℕ) → IsTrue (is_top dir) → (dir ≡ root) ⊎ (dir ≡ trash_root)
+top_cases dir h = elim (or_true (dir == root) (dir == trash_root) h) [
+  | inl e ↦ inl (eqb-true dir root e)
+  | inr e ↦ inr (eqb-true dir trash_root e)
+]
+
 -- no directory on the way up is a file or a symlink
 avoids_leaf : (s : Shape) (inode steps dir : ℕ) → WholeShape s → is_dir (s.form inode) ≡ false → Reaches s.form steps dir → Avoids s.form inode steps dir
 avoids_leaf s inode zero dir whole leaf h = (top_apart, h)
   where
     top_dir : IsTrue (is_dir (s.form dir))
-    top_dir = elim (or_true (dir == root) (dir == trash_root) h) [
-      | inl e ↦ ap (λ q. is_dir (s.form q)) (eqb-true dir root e) ∙ ap is_dir whole.root_there
-      | inr e ↦ ap (λ q. is_dir (s.form q)) (eqb-true dir trash_root e) ∙ ap is_dir whole.trash_there
+    top_dir = elim (top_cases dir h) [
+      | inl e ↦ ap (λ q. is_dir (s.form q)) e ∙ ap is_dir whole.root_there
+      | inr e ↦ ap (λ q. is_dir (s.form q)) e ∙ ap is_dir whole.trash_there
     ]
 
     top_apart : dir ≢ inode
@@ -202,9 +209,9 @@ unfolding is_within
 top_outside t zero dir above whole low apart h = ne_eqb dir above apart
 top_outside t (suc steps) dir above whole low apart h =
     let free : root ≢ above = λ e. false≢true (sym low ∙ ap is_top (sym e)) in
-    elim (or_true (dir == root) (dir == trash_root) h) [
-      | inl e ↦ ap (λ q. is_within (suc steps) t q above) (eqb-true dir root e) ∙ root_outside t (suc steps) above whole free
-      | inr e ↦ let same : dir ≡ trash_root = eqb-true dir trash_root e in
+    elim (top_cases dir h) [
+      | inl e ↦ ap (λ q. is_within (suc steps) t q above) e ∙ root_outside t (suc steps) above whole free
+      | inr same ↦
           stays_out t steps dir above root apart (ap (parent_at t) same ∙ parent_at-form t trash_root root whole.trash_there) (and_right (not (dir == root)) _ (root_outside t steps above whole free))
     ]
 

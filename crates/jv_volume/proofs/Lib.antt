@@ -3,3 +3,4 @@ pub mod ShapeMapLaws
 pub mod ClimbLaws
 pub mod HourNameLaws
 pub mod TrashNameLaws
+pub mod ShapeLossLaws

@@ -1,0 +1,115 @@
+-- A shape stays whole where an entry goes: with its inode, without it, or with a session that keeps the file.
+use Rattle.std.proofs.Common.{◌≡◌, ◌≢◌, ℕ, zero, suc, ◌+◌, ◌≤◌, ◌<◌, Bool, true, false, ◌||◌, ◌==◌, ◌⊎◌, inl, inr, Option, None, Some, is_some, refl, sym, ap, subst, ◌∙◌, arith}
+use Rattle.std.specs.Prelude.{IsTrue, nat_lt}
+use Rattle.std.proofs.lemmas.Bool.{false≢true, eqb-true, cases_Bool, cases_eq}
+use Rattle.std.proofs.lemmas.Option.{same_Some}
+use Rattle.jv_model.specs.FiniteMap.{Map, get, insert, remove}
+use Rattle.jv_model.specs.tree.Tree.{EntryKey, entry_key, pair_key, SustainedFile, root, trash_root}
+use Rattle.jv_volume.specs.Shape.{Form, Absent, Regular, Link, Dir, Shape, WholeShape, Names, NamesTrashed, Entered, Keeps, IsKept, is_there, is_dir, named, keeps, names, is_top, is_hour, Reaches}
+use Rattle.jv_volume.proofs.ShapeMapLaws.{same_or_apart, get-inserted, get-insert_apart, get-remove_apart, was_kept, count-remove_same, count-remove_apart, counted_once, with_form, with_form-here, with_form-apart, with_forms, with_entries, reaches_lift}
+use Rattle.jv_volume.proofs.ClimbLaws.{dir_parent, top_cases}
+
+-- the root's own parent, and the trash's, is the root
+pub top_parent : (s : Shape) (dir parent : ℕ) → WholeShape s → IsTrue (is_top dir) → s.form dir ≡ Dir parent → parent ≡ root
+top_parent s dir parent whole top is = elim (top_cases dir top) [
+  | inl e ↦ dir_parent parent root (sym is ∙ ap s.form e ∙ whole.root_there)
+  | inr e ↦ dir_parent parent root (sym is ∙ ap s.form e ∙ whole.trash_there)
+]
+
+-- an entry that stays where its inode and its directory are what they were
+pub names_kept : (s after : Shape) (at : EntryKey) (inode : ℕ) → is_there (after.form inode) ≡ is_there (s.form inode) → is_dir (after.form inode) ≡ is_dir (s.form inode)
+    → is_dir (after.form at.dir) ≡ is_dir (s.form at.dir) → (names s inode ≡ 1 → names after inode ≡ 1) → Names s at inode → Names after at inode
+names_kept s after at inode there leaf within one h = record {
+  there = there ∙ h.there;
+  free = h.free;
+  within = within ∙ h.within;
+  hour = h.hour;
+  trashed = λ e. let t = h.trashed e in record { leaf = leaf ∙ t.leaf; only = one t.only; place = t.place; name = t.name };
+}
+
+-- a directory's entry that stays, and stays alone
+pub entered_kept : (s after : Shape) (dir parent : ℕ) → ((at : EntryKey) → named s at ≡ Some dir → named after at ≡ Some dir) → ((at : EntryKey) → named after at ≡ Some dir → named s at ≡ Some dir)
+    → Entered s dir parent → Entered after dir parent
+entered_kept s after dir parent to from h = record { name = h.name; is = to _ h.is; only = λ at e. h.only at (from at e) }
+
+-- what stands at the only entry of an inode
+same_named : (s : Shape) (at : EntryKey) (i inode : ℕ) → named s at ≡ Some i → i ≡ inode → named s at ≡ Some inode
+same_named s at i inode is e = is ∙ ap Some e
+
+-- without an inode and its entry
+abbrev pub without_inode : Shape → EntryKey → ℕ → Shape
+without_inode s place inode = record s { form = with_form s.form inode Absent; entries = remove s.entries place }
+
+module _ (s : Shape) (place : EntryKey) (inode : ℕ) (whole : WholeShape s) (is : named s place ≡ Some inode)
+    (only : (at : EntryKey) → named s at ≡ Some inode → at ≡ place) (empty : (at : EntryKey) (i : ℕ) → named s at ≡ Some i → at.dir ≢ inode) where
+  abbrev after_loss : Shape
+  after_loss = without_inode s place inode
+
+  low : is_top inode ≡ false
+  low = (whole.entry place inode is).free
+
+  form_apart : (i : ℕ) → i ≢ inode → after_loss.form i ≡ s.form i
+  form_apart i apart = with_form-apart s.form inode Absent i apart
+
+  there_apart : (i : ℕ) → IsTrue (is_there (after_loss.form i)) → i ≢ inode
+  there_apart i there e = false≢true (sym (ap is_there (ap after_loss.form e ∙ with_form-here s.form inode Absent)) ∙ there)
+
+  dir_apart : (i parent : ℕ) → after_loss.form i ≡ Dir parent → i ≢ inode
+  dir_apart i parent e = there_apart i (ap is_there e)
+
+  named_apart : (at : EntryKey) (i : ℕ) → named after_loss at ≡ Some i → (i ≢ inode) × (named s at ≡ Some i)
+  named_apart at i h =
+      let kept : (at ≢ place) × (named s at ≡ Some i) = was_kept entry_key s.entries place at i h in
+      (λ e. kept.0 (only at (same_named s at i inode kept.1 e)), kept.1)
+
+  named_still : (at : EntryKey) (i : ℕ) → i ≢ inode → named s at ≡ Some i → named after_loss at ≡ Some i
+  named_still at i apart h = get-remove_apart entry_key s.entries place at (λ e. apart (same_Some _ _ (sym h ∙ ap (named s) e ∙ is))) ∙ h
+
+  names_apart : (i : ℕ) → i ≢ inode → names after_loss i ≡ names s i
+  names_apart i apart = count-remove_apart s.entries place inode i is (λ e. apart (sym e))
+
+  parent_apart : (dir parent : ℕ) → s.form dir ≡ Dir parent → parent ≢ inode
+  parent_apart dir parent e = elim (cases_Bool (is_top dir)) [
+    | inl top ↦ λ same. false≢true (sym low ∙ ap is_top (sym same ∙ top_parent s dir parent whole top e))
+    | inr deep ↦ empty (record { dir = parent; name = (whole.entered dir parent e deep).name }) dir (whole.entered dir parent e deep).is
+  ]
+
+  reaches_still : (steps dir : ℕ) → dir ≢ inode → Reaches s.form steps dir → Reaches after_loss.form steps dir
+  reaches_still zero dir apart h = h
+  reaches_still (suc steps) dir apart h = (h.0, form_apart dir apart ∙ h.1, reaches_still steps h.0 (parent_apart dir h.0 h.1) h.2)
+
+  -- a shape stays whole without an inode that has one entry, and no entries in it
+  pub whole-without_inode : WholeShape (without_inode s place inode)
+  whole-without_inode = record {
+    root_there = form_apart root (λ e. false≢true (sym low ∙ ap is_top (sym e))) ∙ whole.root_there;
+    trash_there = form_apart trash_root (λ e. false≢true (sym low ∙ ap is_top (sym e))) ∙ whole.trash_there;
+    entry = λ at i h.
+        let k = named_apart at i h in
+        names_kept s after_loss at i (ap is_there (form_apart i k.0)) (ap is_dir (form_apart i k.0)) (ap is_dir (form_apart at.dir (empty at i k.1))) (λ one. names_apart i k.0 ∙ one) (whole.entry at i k.1);
+    entered = λ dir parent e deep.
+        let apart = dir_apart dir parent e in
+        entered_kept s after_loss dir parent (λ at h. named_still at dir apart h) (λ at h. (named_apart at dir h).1) (whole.entered dir parent (sym (form_apart dir apart) ∙ e) deep);
+    rooted = λ dir parent e.
+        let apart = dir_apart dir parent e in
+        let up = whole.rooted dir parent (sym (form_apart dir apart) ∙ e) in
+        (up.0, reaches_still up.0 dir apart up.1);
+    held = λ i there leaf none.
+        let apart = there_apart i there in
+        let kept = whole.held i (sym (ap is_there (form_apart i apart)) ∙ there) (sym (ap is_dir (form_apart i apart)) ∙ leaf) (sym (names_apart i apart) ∙ none) in
+        record { sid = kept.sid; is = kept.is };
+    sustains = λ sid i h.
+        let k = whole.sustains sid i h in
+        let apart : i ≢ inode = λ e. unnamed_apart i k.unnamed e in
+        record { session = k.session; file = form_apart i apart ∙ k.file; unnamed = names_apart i apart ∙ k.unnamed; one = k.one };
+    hours = λ i there more.
+        let apart = there_apart i there in
+        let h = whole.hours i (sym (ap is_there (form_apart i apart)) ∙ there) more in
+        (h.0, form_apart i apart ∙ h.1);
+    below = λ i there less. let apart = there_apart i there in whole.below i (sym (ap is_there (form_apart i apart)) ∙ there) less;
+    sessions = whole.sessions;
+    inodes_end = whole.inodes_end;
+    sessions_end = whole.sessions_end;
+  }
+    where
+      unnamed_apart : (i : ℕ) → names s i ≡ 0 → i ≢ inode
+      unnamed_apart i none e = let one = counted_once s.entries place i (same_named s place inode i is (sym e)) in absurd (omega (arith, one, none))
