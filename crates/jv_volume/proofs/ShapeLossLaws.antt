@@ -113,3 +113,161 @@ module _ (s : Shape) (place : EntryKey) (inode : ℕ) (whole : WholeShape s) (is
     where
       unnamed_apart : (i : ℕ) → names s i ≡ 0 → i ≢ inode
       unnamed_apart i none e = let one = counted_once s.entries place i (same_named s place inode i is (sym e)) in absurd (omega (arith, one, none))
+
+-- what stays where a file's or a symlink's entry goes, and its inode stays
+module _ (s : Shape) (place : EntryKey) (inode : ℕ) (whole : WholeShape s) (is : named s place ≡ Some inode) (leaf : is_dir (s.form inode) ≡ false) where
+  abbrev less : Shape
+  less = with_entries s (remove s.entries place)
+
+  dir_not_it : (dir parent : ℕ) → s.form dir ≡ Dir parent → dir ≢ inode
+  dir_not_it dir parent e same = false≢true (sym leaf ∙ ap is_dir (ap s.form (sym same) ∙ e))
+
+  named_before : (at : EntryKey) (i : ℕ) → named less at ≡ Some i → named s at ≡ Some i
+  named_before at i h = (was_kept entry_key s.entries place at i h).1
+
+  named_after : (at : EntryKey) (i : ℕ) → i ≢ inode → named s at ≡ Some i → named less at ≡ Some i
+  named_after at i apart h = get-remove_apart entry_key s.entries place at (λ e. apart (same_Some _ _ (sym h ∙ ap (named s) e ∙ is))) ∙ h
+
+  names_less : (i : ℕ) → i ≢ inode → names less i ≡ names s i
+  names_less i apart = count-remove_apart s.entries place inode i is (λ e. apart (sym e))
+
+  entered_less : (dir parent : ℕ) → s.form dir ≡ Dir parent → is_top dir ≡ false → Entered less dir parent
+  entered_less dir parent e deep =
+      entered_kept s less dir parent (λ at h. named_after at dir (dir_not_it dir parent e) h) (λ at h. named_before at dir h) (whole.entered dir parent e deep)
+
+  -- a shape stays whole without one of several entries of a file or a symlink
+  pub whole-without_entry : 1 < names s inode → WholeShape (with_entries s (remove s.entries place))
+  whole-without_entry several = record {
+    root_there = whole.root_there;
+    trash_there = whole.trash_there;
+    entry = λ at i h. names_kept s less at i refl refl refl (one_still i) (whole.entry at i (named_before at i h));
+    entered = entered_less;
+    rooted = whole.rooted;
+    held = λ i there is_leaf none.
+        let kept = whole.held i there is_leaf (none_before i none) in
+        record { sid = kept.sid; is = kept.is };
+    sustains = λ sid i h.
+        let k = whole.sustains sid i h in
+        record { session = k.session; file = k.file; unnamed = names_less i (unnamed_apart i k.unnamed) ∙ k.unnamed; one = k.one };
+    hours = whole.hours;
+    below = whole.below;
+    sessions = whole.sessions;
+    inodes_end = whole.inodes_end;
+    sessions_end = whole.sessions_end;
+  }
+    where
+      one_apart : (i : ℕ) → names s i ≡ 1 → i ≢ inode
+      one_apart i one e = absurd (omega (arith, several, ap (names s) e, one))
+
+      one_still : (i : ℕ) → names s i ≡ 1 → names less i ≡ 1
+      one_still i one = names_less i (one_apart i one) ∙ one
+
+      none_before : (i : ℕ) → names less i ≡ 0 → names s i ≡ 0
+      none_before i none = elim (cases_eq i inode) [
+        | inl e ↦ absurd (omega (arith, several, ap (names less) e, none, count-remove_same s.entries place inode is))
+        | inr apart ↦ sym (names_less i apart) ∙ none
+      ]
+
+      unnamed_apart : (i : ℕ) → names s i ≡ 0 → i ≢ inode
+      unnamed_apart i none e = absurd (omega (arith, several, ap (names s) e, none))
+
+pair_of : ℕ → ℕ → SustainedFile
+pair_of sid inode = record { sid = sid; inode = inode }
+
+-- without an entry of a file that a session keeps from then on
+abbrev pub sustained_shape : Shape → EntryKey → ℕ → ℕ → Shape
+sustained_shape s place sid inode = record s { entries = remove s.entries place; sustained = insert s.sustained (record { sid = sid; inode = inode }) tt }
+
+-- what a session keeps then
+keeps_cases : (s : Shape) (place : EntryKey) (sid inode other i : ℕ) → IsTrue (keeps (sustained_shape s place sid inode) other i) → ((other ≡ sid) × (i ≡ inode)) ⊎ IsTrue (keeps s other i)
+unfolding pair_of
+keeps_cases s place sid inode other i h = elim (same_or_apart pair_key (pair_of other i) (pair_of sid inode)) [
+  | inl e ↦ inl (ap (λ (p : SustainedFile). p.sid) e, ap (λ (p : SustainedFile). p.inode) e)
+  | inr apart ↦ inr (sym (ap is_some (get-insert_apart pair_key s.sustained (pair_of sid inode) tt (pair_of other i) apart)) ∙ h)
+]
+
+keeps_new : (s : Shape) (place : EntryKey) (sid inode : ℕ) → IsTrue (keeps (sustained_shape s place sid inode) sid inode)
+unfolding pair_of
+keeps_new s place sid inode = ap is_some (get-inserted pair_key s.sustained (pair_of sid inode) tt)
+
+keeps_old : (s : Shape) (place : EntryKey) (sid inode other i : ℕ) → IsTrue (keeps s other i) → IsTrue (keeps (sustained_shape s place sid inode) other i)
+unfolding pair_of
+keeps_old s place sid inode other i h = elim (same_or_apart pair_key (pair_of other i) (pair_of sid inode)) [
+  | inl e ↦ ap (λ p. is_some (get (insert s.sustained (pair_of sid inode) tt) p)) e ∙ keeps_new s place sid inode
+  | inr apart ↦ ap is_some (get-insert_apart pair_key s.sustained (pair_of sid inode) tt (pair_of other i) apart) ∙ h
+]
+
+module _ (s : Shape) (place : EntryKey) (sid inode : ℕ) (whole : WholeShape s) (is : named s place ≡ Some inode) (file : s.form inode ≡ Regular)
+    (one : names s inode ≡ 1) (session : IsTrue (s.in_session sid)) where
+  abbrev kept : Shape
+  kept = sustained_shape s place sid inode
+
+  file_leaf : is_dir (s.form inode) ≡ false
+  file_leaf = ap is_dir file
+
+  names_kept_apart : (i : ℕ) → i ≢ inode → names kept i ≡ names s i
+  names_kept_apart = names_less s place inode whole is file_leaf
+
+  unnamed_now : names kept inode ≡ 0
+  unnamed_now = omega (arith, count-remove_same s.entries place inode is, one)
+
+  unnamed_other : (i : ℕ) → names s i ≡ 0 → i ≢ inode
+  unnamed_other i none e = absurd (omega (arith, one, ap (names s) e, none))
+
+  kept_by_none : (other : ℕ) → IsTrue (keeps s other inode) → ⊥
+  kept_by_none other h = unnamed_other inode (whole.sustains other inode h).unnamed refl
+
+  keeps_it : (other i : ℕ) → (other ≡ sid) × (i ≡ inode) → Keeps kept other i
+  keeps_it other i e = record {
+    session = ap s.in_session e.0 ∙ session;
+    file = ap s.form e.1 ∙ file;
+    unnamed = ap (names kept) e.1 ∙ unnamed_now;
+    one = λ third h. elim (keeps_cases s place sid inode third i h) [
+      | inl same ↦ same.0 ∙ sym e.0
+      | inr old ↦ absurd (kept_by_none third (ap (keeps s third) (sym e.1) ∙ old))
+    ];
+  }
+
+  keeps_other : (other i : ℕ) → IsTrue (keeps s other i) → Keeps kept other i
+  keeps_other other i h =
+      let k = whole.sustains other i h in
+      let apart = unnamed_other i k.unnamed in
+      record {
+        session = k.session;
+        file = k.file;
+        unnamed = names_kept_apart i apart ∙ k.unnamed;
+        one = λ third g. elim (keeps_cases s place sid inode third i g) [
+          | inl same ↦ absurd (apart same.1)
+          | inr old ↦ k.one third old
+        ];
+      }
+
+  -- a shape stays whole where a session keeps a file that lost its last entry
+  pub whole-sustained : WholeShape (sustained_shape s place sid inode)
+  whole-sustained = record {
+    root_there = whole.root_there;
+    trash_there = whole.trash_there;
+    entry = λ at i h.
+        let apart : i ≢ inode = λ e. unnamed_named at i h e in
+        names_kept s kept at i refl refl refl (λ e. names_kept_apart i apart ∙ e) (whole.entry at i (named_before s place inode whole is file_leaf at i h));
+    entered = λ dir parent e deep. let old = entered_less s place inode whole is file_leaf dir parent e deep in record { name = old.name; is = old.is; only = old.only };
+    rooted = whole.rooted;
+    held = λ i there leaf none. elim (cases_eq i inode) [
+      | inl e ↦ record { sid = sid; is = ap (keeps kept sid) e ∙ keeps_new s place sid inode }
+      | inr apart ↦
+          let old = whole.held i there leaf (sym (names_kept_apart i apart) ∙ none) in
+          record { sid = old.sid; is = keeps_old s place sid inode old.sid i old.is }
+    ];
+    sustains = λ other i h. elim (keeps_cases s place sid inode other i h) [
+      | inl e ↦ keeps_it other i e
+      | inr old ↦ keeps_other other i old
+    ];
+    hours = whole.hours;
+    below = whole.below;
+    sessions = whole.sessions;
+    inodes_end = whole.inodes_end;
+    sessions_end = whole.sessions_end;
+  }
+    where
+      unnamed_named : (at : EntryKey) (i : ℕ) → named kept at ≡ Some i → i ≢ inode
+      unnamed_named at i h e = let some = counted_once kept.entries at inode (h ∙ ap Some e) in absurd (omega (arith, some, unnamed_now))
