@@ -1,13 +1,13 @@
 -- No two hours of the clock have one name, and no two of their directories.
-use Rattle.std.proofs.Common.{◌≡◌, ◌≢◌, ℕ, ◌+◌, ◌-◌, ◌*◌, ◌/◌, ◌%◌, ◌≤◌, ◌<◌, ◌⊎◌, inl, inr, List, get_or, refl, sym, ap, subst, ◌∙◌, arith}
+use Rattle.std.proofs.Common.{◌≡◌, ◌≢◌, ℕ, ◌+◌, ◌-◌, ◌*◌, ◌/◌, ◌%◌, ◌≤◌, ◌<◌, false, ◌⊎◌, inl, inr, List, get_or, refl, sym, ap, subst, ◌∙◌, arith}
 use Rattle.std.specs.Prelude.{IsTrue, nat_lt, nat_le}
-use Rattle.std.proofs.lemmas.Bool.{cases_lt, cases_eq, cond-true, cond-false, lt-ltb, le-ltb, le-leb, ltb-true, leb-true, and_parts, and_from, ne_eqb}
+use Rattle.std.proofs.lemmas.Bool.{cases_lt, cases_eq, cond-true, cond-false, lt-ltb, le-ltb, le-leb, ltb-true, leb-true, and_parts, and_from, or_from, ne_eqb}
 use Rattle.jv_model.specs.declared.limits.TheConstants.{LAST_MOMENT}
 use Rattle.jv_model.specs.declared.lifetimes.TheConstants.{FIRST_HOUR}
-use Rattle.jv_model.specs.tree.Tree.{trash_root}
+use Rattle.jv_model.specs.tree.Tree.{root, trash_root}
 use Rattle.jv_model.specs.tree.HourNames.{year_in_era, days_before_year, month_in_year, days_before_month, date_in_era, date_of, era_days, days_before_1970, day_hours, hour_name, hour_at}
 use Rattle.jv_model.specs.tree.Trash.{hour_inode, hour_of}
-use Rattle.jv_volume.specs.Shape.{is_hour}
+use Rattle.jv_volume.specs.Shape.{is_hour, is_top}
 
 -- A year of an era has at most 366 days, and a month begins on a day of its year.
 
@@ -197,3 +197,13 @@ pub hour_by_name : (inode hour : ℕ) → IsTrue (is_hour inode) → hour ≤ la
 hour_by_name inode hour h low same =
     let own = hour_inode-hour_of inode h in
     sym own.is ∙ ap hour_inode (sym (hour_name_injective hour (hour_of inode) low own.low same))
+
+-- the inodes of hours follow the trash's own
+pub hour_after_trash : (inode : ℕ) → IsTrue (is_hour inode) → trash_root < inode
+hour_after_trash inode h = ltb-true trash_root inode (and_parts (nat_lt trash_root inode) (nat_le inode FIRST_HOUR) h).0
+
+-- so an hour's directory is neither the root nor the trash
+pub hour_is_deep : (inode : ℕ) → IsTrue (is_hour inode) → is_top inode ≡ false
+hour_is_deep inode h =
+    let more = hour_after_trash inode h in
+    or_from _ _ (ne_eqb inode root (λ e. omega arith)) (ne_eqb inode trash_root (λ e. omega arith))

@@ -4,3 +4,4 @@ pub mod ClimbLaws
 pub mod HourNameLaws
 pub mod TrashNameLaws
 pub mod ShapeLossLaws
+pub mod ShapeMoveLaws
