@@ -164,7 +164,7 @@ top_cases dir h = elim (or_true (dir == root) (dir == trash_root) h) [
 ]
 
 -- no directory on the way up is a file or a symlink
-avoids_leaf : (s : Shape) (inode steps dir : ℕ) → WholeShape s → is_dir (s.form inode) ≡ false → Reaches s.form steps dir → Avoids s.form inode steps dir
+pub avoids_leaf : (s : Shape) (inode steps dir : ℕ) → WholeShape s → is_dir (s.form inode) ≡ false → Reaches s.form steps dir → Avoids s.form inode steps dir
 avoids_leaf s inode zero dir whole leaf h = (top_apart, h)
   where
     top_dir : IsTrue (is_dir (s.form dir))
@@ -178,7 +178,8 @@ avoids_leaf s inode zero dir whole leaf h = (top_apart, h)
 avoids_leaf s inode (suc steps) dir whole leaf h =
     (λ e. false≢true (sym leaf ∙ sym (ap (λ q. is_dir (s.form q)) e) ∙ ap is_dir h.1), (h.0, h.1, avoids_leaf s inode steps h.0 whole leaf h.2))
 
-reaches_dir : (s : Shape) (dir : ℕ) → WholeShape s → IsTrue (is_dir (s.form dir)) → (steps : ℕ) × Reaches s.form steps dir
+-- the way up from a directory
+pub reaches_dir : (s : Shape) (dir : ℕ) → WholeShape s → IsTrue (is_dir (s.form dir)) → (steps : ℕ) × Reaches s.form steps dir
 reaches_dir s dir whole is = let own = parent_of_dir (s.form dir) is in whole.rooted dir own.0 own.1
 
 -- A directory that isn't inside another one has a way up that avoids that one. A file or a symlink is on no way up.

@@ -5,3 +5,5 @@ pub mod HourNameLaws
 pub mod TrashNameLaws
 pub mod ShapeLossLaws
 pub mod ShapeMoveLaws
+pub mod HourLaws
+pub mod TrashLaws

@@ -1,12 +1,12 @@
 -- A shape stays whole where an entry goes: with its inode, without it, or with a session that keeps the file.
-use Rattle.std.proofs.Common.{◌≡◌, ◌≢◌, ℕ, zero, suc, ◌+◌, ◌≤◌, ◌<◌, Bool, true, false, ◌||◌, ◌==◌, ◌⊎◌, inl, inr, Option, None, Some, is_some, refl, sym, ap, subst, ◌∙◌, arith}
-use Rattle.std.specs.Prelude.{IsTrue, nat_lt}
-use Rattle.std.proofs.lemmas.Bool.{false≢true, eqb-true, cases_Bool, cases_eq}
+use Rattle.std.proofs.Common.{◌≡◌, ◌≢◌, ℕ, zero, suc, ◌<◌, false, ◌⊎◌, inl, inr, Some, is_some, refl, sym, ap, ◌∙◌, arith}
+use Rattle.std.specs.Prelude.{IsTrue}
+use Rattle.std.proofs.lemmas.Bool.{false≢true, cases_Bool, cases_eq}
 use Rattle.std.proofs.lemmas.Option.{same_Some}
-use Rattle.jv_model.specs.FiniteMap.{Map, get, insert, remove}
+use Rattle.jv_model.specs.FiniteMap.{get, insert, remove}
 use Rattle.jv_model.specs.tree.Tree.{EntryKey, entry_key, pair_key, SustainedFile, root, trash_root}
-use Rattle.jv_volume.specs.Shape.{Form, Absent, Regular, Link, Dir, Shape, WholeShape, Names, NamesTrashed, Entered, Keeps, IsKept, is_there, is_dir, named, keeps, names, is_top, is_hour, Reaches}
-use Rattle.jv_volume.proofs.ShapeMapLaws.{same_or_apart, get-inserted, get-insert_apart, get-remove_apart, was_kept, count-remove_same, count-remove_apart, counted_once, with_form, with_form-here, with_form-apart, with_forms, with_entries, reaches_lift}
+use Rattle.jv_volume.specs.Shape.{Absent, Regular, Dir, Shape, WholeShape, Names, Entered, Keeps, is_there, is_dir, named, keeps, names, is_top, Reaches}
+use Rattle.jv_volume.proofs.ShapeMapLaws.{same_or_apart, get-inserted, get-insert_apart, get-remove_apart, was_kept, count-remove_same, count-remove_apart, counted_once, with_form, with_form-here, with_form-apart, with_entries}
 use Rattle.jv_volume.proofs.ClimbLaws.{dir_parent, top_cases}
 
 -- the root's own parent, and the trash's, is the root

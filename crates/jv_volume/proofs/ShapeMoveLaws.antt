@@ -1,11 +1,11 @@
 -- A shape stays whole where an inode moves from one entry to another.
-use Rattle.std.proofs.Common.{◌≡◌, ◌≢◌, ℕ, zero, suc, ◌+◌, ◌≤◌, ◌<◌, Bool, true, false, ◌⊎◌, inl, inr, Option, None, Some, is_some, refl, sym, ap, subst, ◌∙◌, arith}
+use Rattle.std.proofs.Common.{◌≡◌, ◌≢◌, ℕ, zero, suc, Bool, false, ◌⊎◌, inl, inr, None, Some, refl, sym, ap, subst, ◌∙◌}
 use Rattle.std.specs.Prelude.{IsTrue}
 use Rattle.std.proofs.lemmas.Bool.{false≢true, cases_eq}
 use Rattle.std.proofs.lemmas.Option.{same_Some, none-some}
-use Rattle.jv_model.specs.FiniteMap.{Map, get, insert, remove}
+use Rattle.jv_model.specs.FiniteMap.{get, insert, remove}
 use Rattle.jv_model.specs.tree.Tree.{EntryKey, entry_key, root, trash_root}
-use Rattle.jv_volume.specs.Shape.{Form, Absent, Regular, Link, Dir, Shape, WholeShape, Names, NamesTrashed, Entered, Keeps, IsKept, is_there, is_dir, named, keeps, names, is_top, is_hour, Reaches}
+use Rattle.jv_volume.specs.Shape.{Form, Absent, Regular, Link, Dir, Shape, WholeShape, Names, NamesTrashed, Entered, is_there, is_dir, named, names, is_top, is_hour, Reaches}
 use Rattle.jv_volume.proofs.ShapeMapLaws.{get-inserted, get-insert_apart, get-remove_apart, was_inserted, was_kept, count-insert, count-remove, with_form, with_form-here, with_form-apart, parent_of_dir}
 use Rattle.jv_volume.proofs.ClimbLaws.{Avoids, dir_parent, reaches_beside}
 use Rattle.jv_volume.proofs.ShapeLossLaws.{names_kept, entered_kept}
