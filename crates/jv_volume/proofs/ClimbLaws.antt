@@ -7,7 +7,7 @@ use Rattle.jv_model.specs.tree.Tree.{Tree, Node, Kind, File, Directory, Symlink,
 use Rattle.jv_model.specs.tree.Renaming.{is_within, is_inside}
 use Rattle.jv_model.proofs.FiniteMapLaws.{share, sum-remove}
 use Rattle.jv_volume.specs.Shape.{Form, Absent, Regular, Link, Dir, Shape, WholeShape, form_of, is_dir, shape_of, is_top, Reaches}
-use Rattle.jv_volume.proofs.ShapeMapLaws.{get-remove_apart, parent_of_dir}
+use Rattle.jv_volume.proofs.ShapeMapLaws.{get-remove_apart, parent_of_dir, is_dir-form}
 
 parent_in : Form → ℕ → ℕ
 parent_in Absent other = other
@@ -98,18 +98,9 @@ parent_of_form : (o : Option Node) (parent : ℕ) → form_of o ≡ Dir parent �
 parent_of_form None parent h = absurd (false≢true (ap is_dir h))
 parent_of_form (Some node) parent h = parent_of_kind node node.kind parent h
 
-directory_of_kind : (node : Node) (kind : Kind) → is_some (parent_of (Some (record node { kind = kind }))) ≡ is_dir (form_of (Some (record node { kind = kind })))
-directory_of_kind node (File content) = refl
-directory_of_kind node (Directory parent) = refl
-directory_of_kind node (Symlink target) = refl
-
-directory_of_form : (o : Option Node) → is_some (parent_of o) ≡ is_dir (form_of o)
-directory_of_form None = refl
-directory_of_form (Some node) = directory_of_kind node node.kind
-
 -- a directory of the tree is one of its shape
 pub is_directory-form : (t : Tree) (inode : ℕ) → is_directory t inode ≡ is_dir ((shape_of t).form inode)
-is_directory-form t inode = directory_of_form (node_at t inode)
+is_directory-form t inode = sym (is_dir-form (node_at t inode))
 
 pub parent_at-form : (t : Tree) (dir parent : ℕ) → (shape_of t).form dir ≡ Dir parent → parent_at t dir ≡ Some parent
 parent_at-form t dir parent h = parent_of_form (node_at t dir) parent h

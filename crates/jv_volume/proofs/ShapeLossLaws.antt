@@ -17,9 +17,9 @@ top_parent s dir parent whole top is = elim (top_cases dir top) [
 ]
 
 -- an entry that stays where its inode and its directory are what they were
-pub names_kept : (s after : Shape) (at : EntryKey) (inode : ℕ) → is_there (after.form inode) ≡ is_there (s.form inode) → is_dir (after.form inode) ≡ is_dir (s.form inode)
+pub entry_kept : (s after : Shape) (at : EntryKey) (inode : ℕ) → is_there (after.form inode) ≡ is_there (s.form inode) → is_dir (after.form inode) ≡ is_dir (s.form inode)
     → is_dir (after.form at.dir) ≡ is_dir (s.form at.dir) → (names s inode ≡ 1 → names after inode ≡ 1) → Names s at inode → Names after at inode
-names_kept s after at inode there leaf within one h = record {
+entry_kept s after at inode there leaf within one h = record {
   there = there ∙ h.there;
   free = h.free;
   within = within ∙ h.within;
@@ -85,7 +85,7 @@ module _ (s : Shape) (place : EntryKey) (inode : ℕ) (whole : WholeShape s) (is
     trash_there = form_apart trash_root (λ e. false≢true (sym low ∙ ap is_top (sym e))) ∙ whole.trash_there;
     entry = λ at i h.
         let k = named_apart at i h in
-        names_kept s after_loss at i (ap is_there (form_apart i k.0)) (ap is_dir (form_apart i k.0)) (ap is_dir (form_apart at.dir (empty at i k.1))) (λ one. names_apart i k.0 ∙ one) (whole.entry at i k.1);
+        entry_kept s after_loss at i (ap is_there (form_apart i k.0)) (ap is_dir (form_apart i k.0)) (ap is_dir (form_apart at.dir (empty at i k.1))) (λ one. names_apart i k.0 ∙ one) (whole.entry at i k.1);
     entered = λ dir parent e deep.
         let apart = dir_apart dir parent e in
         entered_kept s after_loss dir parent (λ at h. named_still at dir apart h) (λ at h. (named_apart at dir h).1) (whole.entered dir parent (sym (form_apart dir apart) ∙ e) deep);
@@ -140,7 +140,7 @@ module _ (s : Shape) (place : EntryKey) (inode : ℕ) (whole : WholeShape s) (is
   whole-without_entry several = record {
     root_there = whole.root_there;
     trash_there = whole.trash_there;
-    entry = λ at i h. names_kept s less at i refl refl refl (one_still i) (whole.entry at i (named_before at i h));
+    entry = λ at i h. entry_kept s less at i refl refl refl (one_still i) (whole.entry at i (named_before at i h));
     entered = entered_less;
     rooted = whole.rooted;
     held = λ i there is_leaf none.
@@ -249,7 +249,7 @@ module _ (s : Shape) (place : EntryKey) (sid inode : ℕ) (whole : WholeShape s)
     trash_there = whole.trash_there;
     entry = λ at i h.
         let apart : i ≢ inode = λ e. unnamed_named at i h e in
-        names_kept s kept at i refl refl refl (λ e. names_kept_apart i apart ∙ e) (whole.entry at i (named_before s place inode whole is file_leaf at i h));
+        entry_kept s kept at i refl refl refl (λ e. names_kept_apart i apart ∙ e) (whole.entry at i (named_before s place inode whole is file_leaf at i h));
     entered = λ dir parent e deep. let old = entered_less s place inode whole is file_leaf dir parent e deep in record { name = old.name; is = old.is; only = old.only };
     rooted = whole.rooted;
     held = λ i there leaf none. elim (cases_eq i inode) [

@@ -1,5 +1,5 @@
 -- What stands in a shape after one change of its maps: entries that are looked up and counted, and the forms of inodes.
-use Rattle.std.proofs.Common.{◌≡◌, ◌≢◌, ℕ, zero, suc, ◌+◌, ◌≤◌, Bool, true, false, ◌==◌, if◌then◌else◌, ◌⊎◌, inl, inr, List, [], ◌∷◌, Option, None, Some, refl, sym, ap, ◌∙◌, arith}
+use Rattle.std.proofs.Common.{◌≡◌, ◌≢◌, ℕ, zero, suc, ◌+◌, ◌≤◌, Bool, true, false, ◌==◌, if◌then◌else◌, ◌⊎◌, inl, inr, List, [], ◌∷◌, Option, None, Some, is_some, refl, sym, ap, ◌∙◌, arith}
 use Rattle.std.specs.Prelude.{IsTrue}
 use Rattle.std.specs.declared.cmp.Ordering.{Ordering}
 use Rattle.std.specs.declared.cmp.Ordering.TheVariants.{Less, Equal, Greater}
@@ -7,12 +7,13 @@ use Rattle.std.specs.Option.{option_map}
 use Rattle.std.specs.Ordering.{eq_by_cmp, is_eq}
 use Rattle.std.specs.Cmp.{eq_by_cmp_equiv}
 use Rattle.std.specs.FinMap.Entries.{find}
-use Rattle.std.proofs.lemmas.Bool.{cases_Bool, cond-true, cond-false, false_from_ne_true, false≢true, eq-eqb, ne_eqb, eqb-true, cases_eq}
+use Rattle.std.proofs.lemmas.Option.{same_Some}
+use Rattle.std.proofs.lemmas.Bool.{or_from, cases_Bool, cond-true, cond-false, false_from_ne_true, false≢true, eq-eqb, ne_eqb, eqb-true, cases_eq}
 use Rattle.jv_model.specs.FiniteMap.{KeyOrder, Map, number_key, get, insert, remove, first_passing, first_where, sum_over, total_over}
-use Rattle.jv_model.specs.tree.Tree.{Tree, Node, EntryKey, entry_key, node_at}
+use Rattle.jv_model.specs.tree.Tree.{Tree, Node, Kind, File, Directory, Symlink, Content, EntryKey, entry_key, root, trash_root, node_at, content_of, parent_of}
 use Rattle.jv_model.specs.tree.Changes.{touched, put_node, drop_node, set_node, change_node, touch, put_entry, take_entry}
 use Rattle.jv_model.proofs.FiniteMapLaws.{share, get-insert, get-remove, sum-insert, sum-remove, IsFound, first_where-found}
-use Rattle.jv_volume.specs.Shape.{Form, Absent, Regular, Link, Dir, Shape, form_of, is_there, is_dir, shape_of, naming, Reaches}
+use Rattle.jv_volume.specs.Shape.{Form, Absent, Regular, Link, Dir, Shape, form_of, is_there, is_dir, shape_of, naming, names, is_top, is_hour, Reaches, Names}
 
 -- keys of finite maps
 
@@ -74,7 +75,8 @@ module _ {K X : Type 0} (order : KeyOrder K) (test : K → X → Bool) where
   none_passes_at e es k x true t rest h there passes = absurd (cc)
   none_passes_at e es k x false t rest h there passes = elim (same_or_apart order k e.0) [
     | inl same ↦
-        let value : e.1 ≡ x = (let here : find order.cmp k (e ∷ es) ≡ Some e.1 = cond-true _ _ _ (ap (λ q. eq_by_cmp order.cmp q e.0) same ∙ tied_here order e.0) in cc) in
+        let here : find order.cmp k (e ∷ es) ≡ Some e.1 = cond-true _ _ _ (ap (λ q. eq_by_cmp order.cmp q e.0) same ∙ tied_here order e.0) in
+        let value : e.1 ≡ x = same_Some e.1 x (sym here ∙ there) in
         let again : test k x ≡ test e.0 e.1 = ap (λ q. test q x) same ∙ ap (test e.0) (sym value) in
         absurd (false≢true (sym t ∙ sym again ∙ passes))
     | inr apart ↦ rest h (sym (cond-false _ _ _ (tied_apart order e.0 k apart)) ∙ there) passes
@@ -291,3 +293,69 @@ shape-put_entry t now place inode = ap (λ (s : Shape). with_entries s (insert t
 
 pub shape-take_entry : (t : Tree) (now : ℕ) (place : EntryKey) → shape_of (take_entry t now place) ≡ with_entries (shape_of t) (remove t.entries place)
 shape-take_entry t now place = ap (λ (s : Shape). with_entries s (remove t.entries place)) (shape-touch t now place.dir)
+
+-- forms by nodes
+
+pub there_or_absent : (f : Form) → (f ≡ Absent) ⊎ IsTrue (is_there f)
+there_or_absent Absent = inl refl
+there_or_absent Regular = inr refl
+there_or_absent Link = inr refl
+there_or_absent (Dir parent) = inr refl
+
+pub is_there-form : (o : Option Node) → is_there (form_of o) ≡ is_some o
+is_there-form None = refl
+is_there-form (Some node) = elim node.kind as (λ kind. is_there (form_of (Some (record node { kind = kind }))) ≡ true) [ File content ↦ refl | Directory parent ↦ refl | Symlink target ↦ refl ]
+
+pub is_dir-form : (o : Option Node) → is_dir (form_of o) ≡ is_some (parent_of o)
+is_dir-form None = refl
+is_dir-form (Some node) = elim node.kind as (λ kind. is_dir (form_of (Some (record node { kind = kind }))) ≡ is_some (parent_of (Some (record node { kind = kind })))) [
+  | File content ↦ refl
+  | Directory parent ↦ refl
+  | Symlink target ↦ refl
+]
+
+-- a form by the kind of a node
+abbrev pub kind_form : Kind → Form
+kind_form (File content) = Regular
+kind_form (Directory parent) = Dir parent
+kind_form (Symlink target) = Link
+
+pub form-kind : (node : Node) → form_of (Some node) ≡ kind_form node.kind
+form-kind node = elim node.kind as (λ kind. form_of (Some (record node { kind = kind })) ≡ kind_form kind) [ File content ↦ refl | Directory parent ↦ refl | Symlink target ↦ refl ]
+
+pub form-parent : (o : Option Node) (parent : ℕ) → parent_of o ≡ Some parent → form_of o ≡ Dir parent
+form-parent None parent h = absurd (cc)
+form-parent (Some node) parent h = elim node.kind as (λ kind. parent_of (Some (record node { kind = kind })) ≡ Some parent → form_of (Some (record node { kind = kind })) ≡ Dir parent) [
+  | File content ↦ λ e. absurd (cc)
+  | Directory other ↦ λ e. ap Dir (same_Some other parent e)
+  | Symlink target ↦ λ e. absurd (cc)
+] h
+
+pub form-content : (o : Option Node) (content : Content) → content_of o ≡ Some content → form_of o ≡ Regular
+form-content None content h = absurd (cc)
+form-content (Some node) content h = elim node.kind as (λ kind. content_of (Some (record node { kind = kind })) ≡ Some content → form_of (Some (record node { kind = kind })) ≡ Regular) [
+  | File own ↦ λ e. refl
+  | Directory other ↦ λ e. absurd (cc)
+  | Symlink target ↦ λ e. absurd (cc)
+] h
+
+-- an entry after a change that leaves what it names, and that it stands in a directory
+pub names_kept : (s after : Shape) (at : EntryKey) (inode : ℕ) → after.form inode ≡ s.form inode → IsTrue (is_dir (after.form at.dir))
+    → (IsTrue (is_hour at.dir) → names s inode ≡ 1 → names after inode ≡ 1) → Names s at inode → Names after at inode
+names_kept s after at inode same within once n = record {
+  there = ap is_there same ∙ n.there;
+  free = n.free;
+  within = within;
+  hour = n.hour;
+  trashed = λ hour.
+      let old = n.trashed hour in
+      record { leaf = ap is_dir same ∙ old.leaf; only = once hour old.only; place = old.place; name = old.name };
+}
+
+-- a leaf is neither the root nor the trash, nor one of its hours
+pub leaf_apart : (s : Shape) (dir parent inode : ℕ) → s.form dir ≡ Dir parent → is_dir (s.form inode) ≡ false → inode ≢ dir
+leaf_apart s dir parent inode is leaf same = false≢true (sym leaf ∙ ap (λ i. is_dir (s.form i)) same ∙ ap is_dir is)
+
+-- what is neither the root nor the trash
+pub not_top : (inode : ℕ) → inode ≢ root → inode ≢ trash_root → is_top inode ≡ false
+not_top inode a b = or_from _ _ (ne_eqb inode root a) (ne_eqb inode trash_root b)

@@ -8,7 +8,7 @@ use Rattle.jv_model.specs.tree.Tree.{EntryKey, entry_key, root, trash_root}
 use Rattle.jv_volume.specs.Shape.{Form, Absent, Regular, Link, Dir, Shape, WholeShape, Names, NamesTrashed, Entered, is_there, is_dir, named, names, is_top, is_hour, Reaches}
 use Rattle.jv_volume.proofs.ShapeMapLaws.{get-inserted, get-insert_apart, get-remove_apart, was_inserted, was_kept, count-insert, count-remove, with_form, with_form-here, with_form-apart, parent_of_dir}
 use Rattle.jv_volume.proofs.ClimbLaws.{Avoids, dir_parent, reaches_beside}
-use Rattle.jv_volume.proofs.ShapeLossLaws.{names_kept, entered_kept}
+use Rattle.jv_volume.proofs.ShapeLossLaws.{entry_kept, entered_kept}
 use Rattle.jv_volume.proofs.HourNameLaws.{hour_is_deep}
 
 -- what an inode is under another directory
@@ -155,7 +155,7 @@ module _ (s : Shape) (from : EntryKey) (inode : ℕ) (to : EntryKey) (whole : Wh
     trash_there = form_apart trash_root (top_apart trash_root refl) ∙ whole.trash_there;
     entry = λ at i h. elim (named_cases at i h) [
       | inl e ↦ subst (Names after at) (sym e.1) (subst (λ q. Names after q inode) (sym e.0) moved_entry)
-      | inr old ↦ names_kept s after at i (there_same i) (dir_same i) (dir_same at.dir) (λ one. names_same i ∙ one) (whole.entry at i old.1)
+      | inr old ↦ entry_kept s after at i (there_same i) (dir_same i) (dir_same at.dir) (λ one. names_same i ∙ one) (whole.entry at i old.1)
     ];
     entered = λ dir parent e deep. elim (cases_eq dir inode) [
       | inl same ↦ subst (λ q. Entered after q parent) (sym same) (entered_moved parent (ap after.form (sym same) ∙ e))

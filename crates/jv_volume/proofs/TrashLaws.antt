@@ -1,20 +1,20 @@
 -- A shape stays whole where a file or a symlink goes to the trash.
 use Rattle.std.proofs.Common.{◌≡◌, ◌≢◌, ℕ, ◌≤◌, ◌<◌, false, inl, inr, Option, None, Some, refl, sym, ap, subst, ◌∙◌, arith}
-use Rattle.std.specs.Prelude.{IsTrue}
 use Rattle.std.proofs.lemmas.Bool.{false≢true, lt-ltb, le-leb}
+use Rattle.jv_model.specs.declared.limits.TheConstants.{LAST_MOMENT}
 use Rattle.jv_model.specs.FiniteMap.{KeyOrder, Map, get, insert, remove}
-use Rattle.jv_model.specs.tree.Tree.{Tree, EntryKey, entry_key, trash_root, in_trash}
+use Rattle.jv_model.specs.tree.Tree.{Tree, EntryKey, entry_key, trash_root, in_trash, is_directory, node_at}
 use Rattle.jv_model.specs.tree.HourNames.{hour_at}
 use Rattle.jv_model.specs.tree.Trash.{hour_inode, hour_place, with_hour, trash_place, trashed}
 use Rattle.jv_model.specs.tree.Changes.{status_changed, put_entry, take_entry}
 use Rattle.jv_model.proofs.FiniteMapLaws.{same_maps}
-use Rattle.jv_volume.specs.Shape.{Form, Absent, Regular, Link, Dir, Shape, WholeShape, Names, is_dir, shape_of, named, names}
-use Rattle.jv_volume.proofs.ShapeMapLaws.{same_or_apart, get-inserted, get-insert_apart, get-removed, get-remove_apart, only_one, with_form, with_form-same, with_entries, there_of_dir, shape-put_entry, shape-take_entry, shape-change_node_same}
+use Rattle.jv_volume.specs.Shape.{Form, Absent, Regular, Link, Dir, Shape, WholeShape, Names, is_there, is_dir, shape_of, named, names}
+use Rattle.jv_volume.proofs.ShapeMapLaws.{same_or_apart, get-inserted, get-insert_apart, get-removed, get-remove_apart, only_one, with_form, with_form-same, with_entries, there_of_dir, shape-put_entry, shape-take_entry, shape-change_node_same, is_dir-form}
 use Rattle.jv_volume.proofs.ClimbLaws.{avoids_leaf, reaches_dir}
 use Rattle.jv_volume.proofs.ShapeMoveLaws.{form_under, moved_shape, MayMove, whole-moved}
-use Rattle.jv_volume.proofs.HourNameLaws.{last_hour, is_hour-hour_inode, hour_after_trash}
+use Rattle.jv_volume.proofs.HourNameLaws.{last_hour, is_hour-hour_inode}
 use Rattle.jv_volume.proofs.TrashNameLaws.{trash_name_inode, inode_low}
-use Rattle.jv_volume.proofs.HourLaws.{hour_shape, or_hour, HourMade, hour_made, shape-with_hour}
+use Rattle.jv_volume.proofs.HourShapeLaws.{hour_inode_high, with_hour_in, WithHour, Was, Comes, shape-with_hour, whole-with_hour, KeepsButHour, keeps-with_hour}
 
 -- an insert and a removal at different keys, in the other order
 pub insert-remove : {K X : Type 0} (order : KeyOrder K) (m : Map order X) (a b : K) (v : X) → a ≢ b → insert (remove m a) b v ≡ remove (insert m b v) a
@@ -52,83 +52,107 @@ moved_leaf s from inode to leaf =
     ap (λ f. record s { form = with_form s.form inode f; entries = insert (remove s.entries from) to inode }) (leaf_under to.dir (s.form inode) leaf)
     ∙ (λ i. record s { form = λ other. with_form-same s.form inode other i; entries = insert (remove s.entries from) to inode })
 
-or_hour-taken : (f : Form) (s : Shape) (hour : ℕ) (place : EntryKey) → place ≢ hour_place hour → or_hour f (taken s place) hour ≡ taken (or_hour f s hour) place
-or_hour-taken Absent s hour place apart = ap (with_entries (hour_shape s hour)) (insert-remove entry_key s.entries place (hour_place hour) (hour_inode hour) apart)
-or_hour-taken Regular s hour place apart = refl
-or_hour-taken Link s hour place apart = refl
-or_hour-taken (Dir parent) s hour place apart = refl
+-- The directory of an hour, and an entry that goes elsewhere: in either order they leave one shape.
+hour_taken : (s less after final : Shape) (hour : ℕ) (place : EntryKey) → less ≡ taken s place → place ≢ hour_place hour → WithHour s hour after → WithHour less hour final → final ≡ taken after place
+hour_taken s less after final hour place same apart (Was there e) (Was there' e') = e' ∙ same ∙ ap (λ (q : Shape). taken q place) (sym e)
+hour_taken s less after final hour place same apart (Was there e) (Comes absent e') =
+    absurd (false≢true (sym (ap is_there (sym (ap (λ (q : Shape). q.form (hour_inode hour)) same) ∙ absent)) ∙ there))
+hour_taken s less after final hour place same apart (Comes absent e) (Was there' e') =
+    absurd (false≢true (sym (ap is_there (ap (λ (q : Shape). q.form (hour_inode hour)) same ∙ absent)) ∙ there'))
+hour_taken s less after final hour place same apart (Comes absent e) (Comes absent' e') =
+    e' ∙ ap (λ (q : Shape). with_hour_in q hour) same
+    ∙ ap (with_entries (with_hour_in s hour)) (insert-remove entry_key s.entries place (hour_place hour) (hour_inode hour) apart)
+    ∙ ap (λ (q : Shape). taken q place) (sym e)
 
--- the shape with an inode in the trash that had its last entry at a place
-abbrev pub trashed_shape : Shape → ℕ → EntryKey → ℕ → Shape
-trashed_shape s hour place inode = put_in (or_hour (s.form (hour_inode hour)) (taken s place) hour) (trash_place hour place inode) inode
+-- a place outside the trash is none in it
+place_apart : (place at : EntryKey) → in_trash place.dir ≡ false → trash_root ≤ at.dir → place ≢ at
+place_apart place at outside high e = false≢true (sym outside ∙ ap (λ (q : EntryKey). in_trash q.dir) e ∙ le-leb trash_root at.dir high)
 
-module _ (s : Shape) (hour : ℕ) (place : EntryKey) (inode : ℕ) (whole : WholeShape s) (low : hour ≤ last_hour) (is : named s place ≡ Some inode)
-    (leaf : is_dir (s.form inode) ≡ false) (one : names s inode ≡ 1) (outside : in_trash place.dir ≡ false) where
+module _ (t : Tree) (now : ℕ) (place : EntryKey) (inode : ℕ) (whole : WholeShape (shape_of t)) (clock : now ≤ LAST_MOMENT) (is : named (shape_of t) place ≡ Some inode)
+    (leaf : is_directory t inode ≡ false) (one : names (shape_of t) inode ≡ 1) (outside : in_trash place.dir ≡ false) where
+  abbrev s : Shape
+  s = shape_of t
+
+  abbrev hour : ℕ
+  hour = hour_at now
+
   abbrev made : Shape
-  made = or_hour (s.form (hour_inode hour)) s hour
+  made = shape_of (with_hour t now (hour_at now))
 
   abbrev at_trash : EntryKey
-  at_trash = trash_place hour place inode
+  at_trash = trash_place (hour_at now) place inode
 
-  hour_is : HourMade s made hour
-  hour_is = hour_made s hour whole low
+  low : hour_at now ≤ last_hour
+  low = omega (arith, clock)
+
+  made_whole : WholeShape made
+  made_whole = whole-with_hour t now hour whole low
+
+  beside : KeepsButHour s made hour
+  beside = keeps-with_hour t now hour whole low
 
   after_trash : trash_root < hour_inode hour
-  after_trash = hour_after_trash (hour_inode hour) (is_hour-hour_inode hour low)
+  after_trash = hour_inode_high hour low
 
   own : Names s place inode
   own = whole.entry place inode is
 
-  place_apart : (at : EntryKey) → trash_root ≤ at.dir → place ≢ at
-  place_apart at high e = false≢true (sym outside ∙ ap (λ (q : EntryKey). in_trash q.dir) e ∙ le-leb trash_root at.dir high)
+  leaf_form : is_dir (s.form inode) ≡ false
+  leaf_form = is_dir-form (node_at t inode) ∙ leaf
 
-  own_made : Names made place inode
-  own_made = hour_is.whole.entry place inode (hour_is.still place inode is)
+  no_hour : inode ≢ hour_inode hour
+  no_hour e =
+      let hours = whole.hours inode own.there (lt-ltb trash_root inode (omega (arith, after_trash, e))) in
+      false≢true (sym leaf_form ∙ ap is_dir hours.1)
+
+  place_off : place.dir ≢ trash_root
+  place_off e = false≢true (sym outside ∙ ap in_trash e)
+
+  is_made : named made place ≡ Some inode
+  is_made = beside.entries place place_off ∙ is
+
+  form_made : made.form inode ≡ s.form inode
+  form_made = beside.forms inode no_hour
+
+  one_made : names made inode ≡ 1
+  one_made = beside.counts inode no_hour ∙ one
 
   -- An entry of the hour under that name would be another one of the same inode, and inodes of the trash have one.
   free_at : (o : Option ℕ) → named made at_trash ≡ o → o ≡ None
   free_at None e = refl
   free_at (Some other) e =
-      let names_it = hour_is.whole.entry at_trash other e in
+      let names_it = made_whole.entry at_trash other e in
       let trashed_it = names_it.trashed (is_hour-hour_inode hour low) in
       let same : inode ≡ other = trash_name_inode place trashed_it.place inode other
-          (inode_low s place.dir whole (there_of_dir (s.form place.dir) own.within)) (inode_low s inode whole own.there) (inode_low made other hour_is.whole names_it.there) trashed_it.name in
-      let once : names made inode ≡ 1 = hour_is.count inode own.there ∙ one in
-      absurd (place_apart at_trash (omega (arith, after_trash)) (only_one (made).entries at_trash place inode once (e ∙ ap Some (sym same)) (hour_is.still place inode is)))
-
-  hour_is_dir : IsTrue (is_dir (made.form (hour_inode hour)))
-  hour_is_dir = ap is_dir (hour_is.whole.hours (hour_inode hour) hour_is.there (lt-ltb trash_root (hour_inode hour) after_trash)).1
+          (inode_low s place.dir whole (there_of_dir (s.form place.dir) own.within)) (inode_low s inode whole own.there) (inode_low made other made_whole names_it.there) trashed_it.name in
+      absurd (place_apart place at_trash outside (omega (arith, after_trash)) (only_one (made).entries at_trash place inode one_made (e ∙ ap Some (sym same)) is_made))
 
   leaf_made : is_dir (made.form inode) ≡ false
-  leaf_made = ap is_dir (hour_is.form inode own.there) ∙ leaf
+  leaf_made = ap is_dir form_made ∙ leaf_form
 
   may_trash : MayMove made place inode at_trash
   may_trash =
-      let up = reaches_dir made (hour_inode hour) hour_is.whole hour_is_dir in record {
-        is = hour_is.still place inode is;
+      let up = reaches_dir made (hour_inode hour) made_whole (ap is_dir beside.is) in record {
+        is = is_made;
         free = free_at (named made at_trash) refl;
-        within = hour_is_dir;
-        leaves = λ e. absurd (false≢true (sym outside ∙ ap in_trash e));
+        within = ap is_dir beside.is;
+        leaves = place_off;
         enters = λ e. absurd (omega (arith, after_trash, e));
-        trashed = λ e. record { leaf = leaf_made; only = hour_is.count inode own.there ∙ one; place = place; name = refl };
+        trashed = λ e. record { leaf = leaf_made; only = one_made; place = place; name = refl };
         steps = up.0;
-        avoids = avoids_leaf made inode up.0 (hour_inode hour) hour_is.whole leaf_made up.1;
+        avoids = avoids_leaf made inode up.0 (hour_inode hour) made_whole leaf_made up.1;
       }
 
-  -- a shape stays whole where a file or a symlink outside the trash goes there with its last entry
-  pub whole-trashed_shape : WholeShape (trashed_shape s hour place inode)
-  whole-trashed_shape =
-      let same : trashed_shape s hour place inode ≡ put_in (taken made place) at_trash inode =
-          ap (λ (q : Shape). put_in q at_trash inode) (or_hour-taken (s.form (hour_inode hour)) s hour place (place_apart (hour_place hour) (omega arith))) in
-      subst WholeShape (sym (same ∙ sym (moved_leaf made place inode at_trash leaf_made))) (whole-moved made place inode at_trash hour_is.whole may_trash)
+  shape-trashed : shape_of (trashed (take_entry t now place) now place inode) ≡ moved_shape made place inode at_trash
+  shape-trashed =
+      let less = take_entry t now place in
+      shape-change_node_same (put_entry (with_hour less now hour) now at_trash inode) inode (status_changed now) (λ node. refl)
+      ∙ shape-put_entry (with_hour less now hour) now at_trash inode
+      ∙ ap (λ (q : Shape). put_in q at_trash inode)
+          (hour_taken s (shape_of less) made (shape_of (with_hour less now hour)) hour place (shape-take_entry t now place) (place_apart place (hour_place hour) outside (omega arith))
+          (shape-with_hour t now hour) (shape-with_hour less now hour))
+      ∙ sym (moved_leaf made place inode at_trash leaf_made)
 
--- the shape of a tree with an inode in the trash
-pub shape-trashed : (t : Tree) (now : ℕ) (place : EntryKey) (inode : ℕ) → shape_of (trashed (take_entry t now place) now place inode) ≡ trashed_shape (shape_of t) (hour_at now) place inode
-shape-trashed t now place inode =
-    let hour = hour_at now in
-    let less = take_entry t now place in
-    let at = trash_place hour place inode in
-    shape-change_node_same (put_entry (with_hour less now hour) now at inode) inode (status_changed now) (λ node. refl)
-    ∙ shape-put_entry (with_hour less now hour) now at inode
-    ∙ ap (λ (q : Shape). put_in q at inode) (shape-with_hour less now hour)
-    ∙ ap (λ (q : Shape). put_in (or_hour (q.form (hour_inode hour)) q hour) at inode) (shape-take_entry t now place)
+  -- A tree stays whole where a file or a symlink outside the trash goes there with its last entry. The clock has the moment.
+  pub whole-trashed : WholeShape (shape_of (trashed (take_entry t now place) now place inode))
+  whole-trashed = subst WholeShape (sym shape-trashed) (whole-moved made place inode at_trash made_whole may_trash)
