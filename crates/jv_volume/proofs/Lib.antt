@@ -13,3 +13,4 @@ pub mod TrashNameLaws
 pub mod ShapeLossLaws
 pub mod ShapeMoveLaws
 pub mod TrashLaws
+pub mod RemovalLaws
