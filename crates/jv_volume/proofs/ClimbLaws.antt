@@ -236,12 +236,24 @@ above_avoids form dir parent steps low is h =
     let once = once_from form (λ q. Unit {0}) (λ q p e. tt) steps dir h in
     above_once form dir parent once.0 low is once.1
 
--- a way up that avoids two inodes stays where only they have another form
-pub reaches_beside : (form after : ℕ → Form) (a b : ℕ) → ((q parent : ℕ) → q ≢ a → q ≢ b → form q ≡ Dir parent → after q ≡ Dir parent)
-    → (n m dir : ℕ) → Avoids form a n dir → Avoids form b m dir → (steps : ℕ) × Reaches after steps dir
-reaches_beside form after a b stays zero m dir h k = (0, h.1)
-reaches_beside form after a b stays (suc n) zero dir h k = (0, k.1)
-reaches_beside form after a b stays (suc n) (suc m) dir h k =
+-- a way up that avoids two inodes still does where only they have another form
+pub avoids_beside : (form after : ℕ → Form) (a b : ℕ) → ((q parent : ℕ) → q ≢ a → q ≢ b → form q ≡ Dir parent → after q ≡ Dir parent)
+    → (n m dir : ℕ) → Avoids form a n dir → Avoids form b m dir → (k : ℕ) × Avoids after a k dir
+avoids_beside form after a b stays zero m dir h k = (0, h)
+avoids_beside form after a b stays (suc n) zero dir h k = (0, (h.0, k.1))
+avoids_beside form after a b stays (suc n) (suc m) dir h k =
     let same : k.1.0 ≡ h.1.0 = dir_parent _ _ (sym k.1.1 ∙ h.1.1) in
-    let rest = reaches_beside form after a b stays n m h.1.0 h.1.2 (subst (Avoids form b m) same k.1.2) in
-    (suc rest.0, (h.1.0, stays dir h.1.0 h.0 k.0 h.1.1, rest.1))
+    let rest = avoids_beside form after a b stays n m h.1.0 h.1.2 (subst (Avoids form b m) same k.1.2) in
+    (suc rest.0, (h.0, (h.1.0, stays dir h.1.0 h.0 k.0 h.1.1, rest.1)))
+
+-- a way up that avoids an inode is one
+pub reaches_avoiding : (form : ℕ → Form) (inode n dir : ℕ) → Avoids form inode n dir → Reaches form n dir
+reaches_avoiding form inode zero dir h = h.1
+reaches_avoiding form inode (suc n) dir h = (h.1.0, h.1.1, reaches_avoiding form inode n h.1.0 h.1.2)
+
+-- a way up stays, and what it avoids, where an inode goes that is no directory's parent
+pub avoids_without : (form after : ℕ → Form) (gone inode : ℕ) → ((q parent : ℕ) → form q ≡ Dir parent → q ≢ gone → after q ≡ Dir parent)
+    → ((q parent : ℕ) → form q ≡ Dir parent → parent ≢ gone) → (n dir : ℕ) → dir ≢ gone → Avoids form inode n dir → Avoids after inode n dir
+avoids_without form after gone inode stays childless zero dir apart h = h
+avoids_without form after gone inode stays childless (suc n) dir apart h =
+    (h.0, (h.1.0, stays dir h.1.0 h.1.1 apart, avoids_without form after gone inode stays childless n h.1.0 (childless dir h.1.0 h.1.1) h.1.2))

@@ -10,13 +10,13 @@ use Rattle.jv_model.specs.FiniteMap.{get, insert, remove, first_where}
 use Rattle.jv_model.specs.tree.Tree.{Tree, EntryKey, entry_key, trash_root, in_trash, is_directory, has_entries, entry_count, trash_entry, node_at}
 use Rattle.jv_model.specs.tree.Changes.{status_changed, drop_node, take_entry}
 use Rattle.jv_model.specs.tree.Caller.{Caller}
-use Rattle.jv_model.specs.tree.Removing.{Fate, Linked, Trashed, Sustained, Dropped, with_fate, remove_entry, remove_directory}
+use Rattle.jv_model.specs.tree.Removing.{fate_of, Fate, Linked, Trashed, Sustained, Dropped, with_fate, remove_entry, remove_directory}
 use Rattle.jv_model.specs.tree.Trash.{first_in, due_purge, purged, is_due, hour_of}
 use Rattle.jv_model.proofs.FiniteMapLaws.{IsFound, first_where-found}
 use Rattle.jv_volume.specs.Shape.{Absent, Regular, Dir, Shape, WholeShape, is_there, is_dir, shape_of, named, names, is_hour}
-use Rattle.jv_volume.proofs.ShapeMapLaws.{first_where-none, only_one, counted_once, with_form, with_forms, with_entries, parent_of_dir, is_dir-form, shape-drop_node, shape-take_entry, shape-change_node_same}
-use Rattle.jv_volume.proofs.ShapeLossLaws.{without_inode, whole-without_inode, whole-without_entry, sustained_shape, whole-sustained}
-use Rattle.jv_volume.proofs.TrashLaws.{whole-trashed}
+use Rattle.jv_volume.proofs.ShapeMapLaws.{first_where-none, only_one, counted_once, with_form, with_form-apart, with_forms, with_entries, parent_of_dir, is_dir-form, shape-drop_node, shape-take_entry, shape-change_node_same}
+use Rattle.jv_volume.proofs.ShapeLossLaws.{Without, without_only, without_inode, whole-without_inode, whole-without_entry, sustained_shape, whole-sustained}
+use Rattle.jv_volume.proofs.TrashLaws.{whole-trashed, without-trashed}
 
 -- whether there is one, by a test
 none_if : {A : Type 0} (o : Option A) → is_some o ≡ false → o ≡ None
@@ -67,6 +67,11 @@ pub whole-remove_directory : (t : Tree) (now : ℕ) (place : EntryKey) (inode : 
 whole-remove_directory t now place inode whole is dir vacant =
     subst WholeShape (sym (shape-remove_directory t now place inode)) (whole-gone (shape_of t) place inode whole (directory_may_go t place inode whole is dir vacant))
 
+pub without-remove_directory : (t : Tree) (now : ℕ) (place : EntryKey) (inode : ℕ) → Without (shape_of t) (shape_of (remove_directory t now place inode)) place inode
+without-remove_directory t now place inode =
+    subst (λ q. Without (shape_of t) q place inode) (sym (shape-remove_directory t now place inode))
+        (without_only (shape_of t) _ place inode refl (λ i apart. with_form-apart (shape_of t).form inode Absent i apart))
+
 -- what a client has open of a tree's inodes are files
 abbrev pub HoldsFiles : Shape → List ℕ → Type 0
 HoldsFiles s held = (inode : ℕ) → IsTrue (list_any (λ h. h == inode) held) → IsTrue (is_there (s.form inode)) → s.form inode ≡ Regular
@@ -107,29 +112,46 @@ module _ (t : Tree) (who : Caller) (place : EntryKey) (inode : ℕ) (whole : Who
       let least : 1 ≤ names s inode = counted_once s.entries place inode may.is in
       omega (arith, most, least)
 
-  abbrev StaysWhole : Fate → Type 0
-  StaysWhole fate = WholeShape (shape_of (with_fate fate less who place inode))
+  -- the tree after a fate is whole, and keeps other entries
+  abbrev Survives : Fate → Type 0
+  Survives fate = WholeShape (shape_of (with_fate fate less who place inode)) × Without s (shape_of (with_fate fate less who place inode)) place inode
 
-  fate_linked : nat_lt 1 (entry_count t inode) ≡ true → StaysWhole Linked
-  fate_linked several = subst WholeShape (sym shape-linked) (whole-without_entry s place inode whole may.is leaf_form (ltb-true 1 (entry_count t inode) several))
+  survives_as : (fate : Fate) (after : Shape) → shape_of (with_fate fate less who place inode) ≡ after → WholeShape after → Without s after place inode → Survives fate
+  survives_as fate after same kept beside = (subst WholeShape (sym same) kept, subst (λ q. Without s q place inode) (sym same) beside)
 
-  fate_trashed : names s inode ≡ 1 → (nat_lt 0 t.setting.trash_days && not (in_trash place.dir)) ≡ true → StaysWhole Trashed
-  fate_trashed one days = whole-trashed t who.now place inode whole may.clock may.is may.leaf one (not-true (in_trash place.dir) (and_parts _ _ days).1)
+  fate_linked : nat_lt 1 (entry_count t inode) ≡ true → Survives Linked
+  fate_linked several = survives_as Linked (with_entries s (remove s.entries place)) shape-linked
+      (whole-without_entry s place inode whole may.is leaf_form (ltb-true 1 (entry_count t inode) several)) (without_only s _ place inode refl (λ i apart. refl))
 
-  fate_sustained : names s inode ≡ 1 → list_any (λ held. held == inode) who.held ≡ true → StaysWhole Sustained
+  fate_trashed : names s inode ≡ 1 → (nat_lt 0 t.setting.trash_days && not (in_trash place.dir)) ≡ true → Survives Trashed
+  fate_trashed one days =
+      let outside : in_trash place.dir ≡ false = not-true (in_trash place.dir) (and_parts _ _ days).1 in
+      (whole-trashed t who.now place inode whole may.clock may.is may.leaf one outside, without-trashed t who.now place inode whole may.clock may.is may.leaf one outside)
+
+  fate_sustained : names s inode ≡ 1 → list_any (λ held. held == inode) who.held ≡ true → Survives Sustained
   fate_sustained one used =
       let file : s.form inode ≡ Regular = may.held inode used (whole.entry place inode may.is).there in
-      subst WholeShape (sym shape-sustained) (whole-sustained s place who.sid inode whole may.is file one may.session)
+      survives_as Sustained (sustained_shape s place who.sid inode) shape-sustained
+          (whole-sustained s place who.sid inode whole may.is file one may.session) (without_only s _ place inode refl (λ i apart. refl))
 
-  fate_dropped : names s inode ≡ 1 → StaysWhole Dropped
-  fate_dropped one = subst WholeShape (sym shape-dropped) (whole-gone s place inode whole (leaf_may_go s place inode whole may.is leaf_form one))
+  fate_dropped : names s inode ≡ 1 → Survives Dropped
+  fate_dropped one = survives_as Dropped (without_inode s place inode) shape-dropped
+      (whole-gone s place inode whole (leaf_may_go s place inode whole may.is leaf_form one)) (without_only s _ place inode refl (λ i apart. with_form-apart s.form inode Absent i apart))
+
+  survives : Survives (fate_of t who place inode)
+  survives = cond_both (nat_lt 1 (entry_count t inode)) _ _ Survives fate_linked (λ few.
+      cond_both (nat_lt 0 t.setting.trash_days && not (in_trash place.dir)) _ _ Survives (fate_trashed (one_entry few)) (λ keeps_none.
+        cond_both (list_any (λ held. held == inode) who.held) _ _ Survives (fate_sustained (one_entry few)) (λ closed. fate_dropped (one_entry few))))
 
   -- a tree stays whole without an entry of a file or a symlink
   pub whole-remove_entry : WholeShape (shape_of (remove_entry t who place inode))
   unfolding remove_entry
-  whole-remove_entry = cond_both (nat_lt 1 (entry_count t inode)) _ _ StaysWhole fate_linked (λ few.
-      cond_both (nat_lt 0 t.setting.trash_days && not (in_trash place.dir)) _ _ StaysWhole (fate_trashed (one_entry few)) (λ keeps_none.
-        cond_both (list_any (λ held. held == inode) who.held) _ _ StaysWhole (fate_sustained (one_entry few)) (λ closed. fate_dropped (one_entry few))))
+  whole-remove_entry = survives.0
+
+  -- and keeps other entries and its directories
+  pub without-remove_entry : Without s (shape_of (remove_entry t who place inode)) place inode
+  unfolding remove_entry
+  without-remove_entry = survives.1
 
 -- what a cleaning purges
 

@@ -1,12 +1,12 @@
 -- A shape stays whole where an entry goes: with its inode, without it, or with a session that keeps the file.
-use Rattle.std.proofs.Common.{◌≡◌, ◌≢◌, ℕ, zero, suc, ◌<◌, false, ◌⊎◌, inl, inr, Some, is_some, refl, sym, ap, ◌∙◌, arith}
+use Rattle.std.proofs.Common.{◌≡◌, ◌≢◌, ℕ, zero, suc, ◌<◌, false, ◌⊎◌, None, inl, inr, Some, is_some, refl, sym, ap, ◌∙◌, arith}
 use Rattle.std.specs.Prelude.{IsTrue}
 use Rattle.std.proofs.lemmas.Bool.{false≢true, cases_Bool, cases_eq}
 use Rattle.std.proofs.lemmas.Option.{same_Some}
 use Rattle.jv_model.specs.FiniteMap.{get, insert, remove}
 use Rattle.jv_model.specs.tree.Tree.{EntryKey, entry_key, pair_key, SustainedFile, root, trash_root}
 use Rattle.jv_volume.specs.Shape.{Absent, Regular, Dir, Shape, WholeShape, Names, Entered, Keeps, is_there, is_dir, named, keeps, names, is_top, Reaches}
-use Rattle.jv_volume.proofs.ShapeMapLaws.{same_or_apart, get-inserted, get-insert_apart, get-remove_apart, was_kept, count-remove_same, count-remove_apart, counted_once, with_form, with_form-here, with_form-apart, with_entries}
+use Rattle.jv_volume.proofs.ShapeMapLaws.{same_or_apart, get-inserted, get-insert_apart, get-removed, get-remove_apart, was_kept, count-remove_same, count-remove_apart, counted_once, with_form, with_form-here, with_form-apart, with_entries}
 use Rattle.jv_volume.proofs.ClimbLaws.{dir_parent, top_cases}
 
 -- the root's own parent, and the trash's, is the root
@@ -31,6 +31,28 @@ entry_kept s after at inode there leaf within one h = record {
 pub entered_kept : (s after : Shape) (dir parent : ℕ) → ((at : EntryKey) → named s at ≡ Some dir → named after at ≡ Some dir) → ((at : EntryKey) → named after at ≡ Some dir → named s at ≡ Some dir)
     → Entered s dir parent → Entered after dir parent
 entered_kept s after dir parent to from h = record { name = h.name; is = to _ h.is; only = λ at e. h.only at (from at e) }
+
+-- an inode in which no entry stands is no directory's parent
+pub parent_apart : (s : Shape) (inode : ℕ) → WholeShape s → is_top inode ≡ false → ((at : EntryKey) (i : ℕ) → named s at ≡ Some i → at.dir ≢ inode)
+    → (dir parent : ℕ) → s.form dir ≡ Dir parent → parent ≢ inode
+parent_apart s inode whole low empty dir parent e = elim (cases_Bool (is_top dir)) [
+  | inl top ↦ λ same. false≢true (sym low ∙ ap is_top (sym same ∙ top_parent s dir parent whole top e))
+  | inr deep ↦ empty (record { dir = parent; name = (whole.entered dir parent e deep).name }) dir (whole.entered dir parent e deep).is
+]
+
+-- what a shape keeps where an inode loses an entry: other entries, at least those outside the trash itself, and other directories
+pub record Without (s after : Shape) (place : EntryKey) (inode : ℕ) : Type 0 where
+  pub gone : named after place ≡ None
+  pub still : (at : EntryKey) (i : ℕ) → at ≢ place → at.dir ≢ trash_root → named s at ≡ Some i → named after at ≡ Some i
+  pub dirs : (dir parent : ℕ) → s.form dir ≡ Dir parent → dir ≢ inode → after.form dir ≡ Dir parent
+
+-- where nothing but the entry went, or its inode with it
+pub without_only : (s after : Shape) (place : EntryKey) (inode : ℕ) → after.entries ≡ remove s.entries place → ((i : ℕ) → i ≢ inode → after.form i ≡ s.form i) → Without s after place inode
+without_only s after place inode same forms = record {
+  gone = ap (λ m. get m place) same ∙ get-removed entry_key s.entries place;
+  still = λ at i apart off h. ap (λ m. get m at) same ∙ get-remove_apart entry_key s.entries place at apart ∙ h;
+  dirs = λ dir parent is apart. forms dir apart ∙ is;
+}
 
 -- what stands at the only entry of an inode
 same_named : (s : Shape) (at : EntryKey) (i inode : ℕ) → named s at ≡ Some i → i ≡ inode → named s at ≡ Some inode
@@ -68,15 +90,9 @@ module _ (s : Shape) (place : EntryKey) (inode : ℕ) (whole : WholeShape s) (is
   names_apart : (i : ℕ) → i ≢ inode → names after_loss i ≡ names s i
   names_apart i apart = count-remove_apart s.entries place inode i is (λ e. apart (sym e))
 
-  parent_apart : (dir parent : ℕ) → s.form dir ≡ Dir parent → parent ≢ inode
-  parent_apart dir parent e = elim (cases_Bool (is_top dir)) [
-    | inl top ↦ λ same. false≢true (sym low ∙ ap is_top (sym same ∙ top_parent s dir parent whole top e))
-    | inr deep ↦ empty (record { dir = parent; name = (whole.entered dir parent e deep).name }) dir (whole.entered dir parent e deep).is
-  ]
-
   reaches_still : (steps dir : ℕ) → dir ≢ inode → Reaches s.form steps dir → Reaches after_loss.form steps dir
   reaches_still zero dir apart h = h
-  reaches_still (suc steps) dir apart h = (h.0, form_apart dir apart ∙ h.1, reaches_still steps h.0 (parent_apart dir h.0 h.1) h.2)
+  reaches_still (suc steps) dir apart h = (h.0, form_apart dir apart ∙ h.1, reaches_still steps h.0 (parent_apart s inode whole low empty dir h.0 h.1) h.2)
 
   -- a shape stays whole without an inode that has one entry, and no entries in it
   pub whole-without_inode : WholeShape (without_inode s place inode)

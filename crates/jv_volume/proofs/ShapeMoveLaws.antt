@@ -7,7 +7,7 @@ use Rattle.jv_model.specs.FiniteMap.{get, insert, remove}
 use Rattle.jv_model.specs.tree.Tree.{EntryKey, entry_key, root, trash_root}
 use Rattle.jv_volume.specs.Shape.{Form, Absent, Regular, Link, Dir, Shape, WholeShape, Names, NamesTrashed, Entered, is_there, is_dir, named, names, is_top, is_hour, Reaches}
 use Rattle.jv_volume.proofs.ShapeMapLaws.{get-inserted, get-insert_apart, get-remove_apart, was_inserted, was_kept, count-insert, count-remove, with_form, with_form-here, with_form-apart, parent_of_dir}
-use Rattle.jv_volume.proofs.ClimbLaws.{Avoids, dir_parent, reaches_beside}
+use Rattle.jv_volume.proofs.ClimbLaws.{Avoids, dir_parent, avoids_beside, reaches_avoiding}
 use Rattle.jv_volume.proofs.ShapeLossLaws.{entry_kept, entered_kept}
 use Rattle.jv_volume.proofs.HourNameLaws.{hour_is_deep}
 
@@ -133,7 +133,9 @@ module _ (s : Shape) (from : EntryKey) (inode : ℕ) (to : EntryKey) (whole : Wh
       subst (Entered after inode) (sym same) (record { name = to.name; is = named_moved; only = moved_only (sym (dir_same inode) ∙ ap is_dir e) })
 
   reaches_there : (steps : ℕ) × Reaches after.form steps to.dir
-  reaches_there = reaches_beside s.form after.form inode inode (λ q parent apart away e. form_apart q apart ∙ e) may.steps may.steps to.dir may.avoids may.avoids
+  reaches_there =
+      let up = avoids_beside s.form after.form inode inode (λ q parent apart away e. form_apart q apart ∙ e) may.steps may.steps to.dir may.avoids may.avoids in
+      (up.0, reaches_avoiding after.form inode up.0 to.dir up.1)
 
   reaches_moved : (steps dir : ℕ) → Reaches s.form steps dir → (n : ℕ) × Reaches after.form n dir
   reaches_moved zero dir h = (0, h)

@@ -1,6 +1,6 @@
 -- A shape stays whole where a file or a symlink goes to the trash.
 use Rattle.std.proofs.Common.{◌≡◌, ◌≢◌, ℕ, ◌≤◌, ◌<◌, false, inl, inr, Option, None, Some, refl, sym, ap, subst, ◌∙◌, arith}
-use Rattle.std.proofs.lemmas.Bool.{false≢true, lt-ltb, le-leb}
+use Rattle.std.proofs.lemmas.Bool.{false≢true, cases_eq, lt-ltb, le-leb}
 use Rattle.jv_model.specs.declared.limits.TheConstants.{LAST_MOMENT}
 use Rattle.jv_model.specs.FiniteMap.{KeyOrder, Map, get, insert, remove}
 use Rattle.jv_model.specs.tree.Tree.{Tree, EntryKey, entry_key, trash_root, in_trash, is_directory, node_at}
@@ -9,8 +9,10 @@ use Rattle.jv_model.specs.tree.Trash.{hour_inode, hour_place, with_hour, trash_p
 use Rattle.jv_model.specs.tree.Changes.{status_changed, put_entry, take_entry}
 use Rattle.jv_model.proofs.FiniteMapLaws.{same_maps}
 use Rattle.jv_volume.specs.Shape.{Form, Absent, Regular, Link, Dir, Shape, WholeShape, Names, is_there, is_dir, shape_of, named, names}
-use Rattle.jv_volume.proofs.ShapeMapLaws.{same_or_apart, get-inserted, get-insert_apart, get-removed, get-remove_apart, only_one, with_form, with_form-same, with_entries, there_of_dir, shape-put_entry, shape-take_entry, shape-change_node_same, is_dir-form}
+use Rattle.jv_volume.proofs.ShapeMapLaws.{same_or_apart, get-inserted, get-insert_apart, get-removed, get-remove_apart, only_one, with_form, with_form-same, with_form-apart, with_entries, there_of_dir, shape-put_entry, shape-take_entry, shape-change_node_same, is_dir-form}
 use Rattle.jv_volume.proofs.ClimbLaws.{avoids_leaf, reaches_dir}
+use Rattle.std.proofs.lemmas.Option.{none-some}
+use Rattle.jv_volume.proofs.ShapeLossLaws.{Without}
 use Rattle.jv_volume.proofs.ShapeMoveLaws.{form_under, moved_shape, MayMove, whole-moved}
 use Rattle.jv_volume.proofs.HourNameLaws.{last_hour, is_hour-hour_inode}
 use Rattle.jv_volume.proofs.TrashNameLaws.{trash_name_inode, inode_low}
@@ -156,3 +158,22 @@ module _ (t : Tree) (now : ℕ) (place : EntryKey) (inode : ℕ) (whole : WholeS
   -- A tree stays whole where a file or a symlink outside the trash goes there with its last entry. The clock has the moment.
   pub whole-trashed : WholeShape (shape_of (trashed (take_entry t now place) now place inode))
   whole-trashed = subst WholeShape (sym shape-trashed) (whole-moved made place inode at_trash made_whole may_trash)
+
+  -- what such a move leaves
+  pub without-trashed : Without s (shape_of (trashed (take_entry t now place) now place inode)) place inode
+  without-trashed = subst (λ after. Without s after place inode) (sym shape-trashed) (record {
+    gone = get-insert_apart entry_key (remove (made).entries place) at_trash inode place (place_apart place at_trash outside (omega (arith, after_trash))) ∙ get-removed entry_key (made).entries place;
+    still = λ at i apart off h.
+        let there : named made at ≡ Some i = beside.entries at off ∙ h in
+        get-insert_apart entry_key (remove (made).entries place) at_trash inode at (λ e. none-some _ (sym (free_at (named made at_trash) refl) ∙ ap (named made) (sym e) ∙ there))
+        ∙ get-remove_apart entry_key (made).entries place at apart ∙ there;
+    dirs = λ dir parent is_it apart. with_form-apart (made).form inode _ dir apart ∙ dir_made dir parent is_it;
+  })
+    where
+      dir_made : (dir parent : ℕ) → s.form dir ≡ Dir parent → made.form dir ≡ Dir parent
+      dir_made dir parent is_it = elim (cases_eq dir (hour_inode hour)) [
+        | inl e ↦
+            let own_hour = whole.hours dir (ap is_there is_it) (lt-ltb trash_root dir (omega (arith, after_trash, e))) in
+            ap (made).form e ∙ beside.is ∙ sym own_hour.1 ∙ is_it
+        | inr off ↦ beside.forms dir off ∙ is_it
+      ]
