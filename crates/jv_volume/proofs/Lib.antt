@@ -14,3 +14,4 @@ pub mod ShapeLossLaws
 pub mod ShapeMoveLaws
 pub mod TrashLaws
 pub mod RemovalLaws
+pub mod MoveLaws

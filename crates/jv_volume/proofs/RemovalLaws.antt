@@ -70,7 +70,7 @@ whole-remove_directory t now place inode whole is dir vacant =
 pub without-remove_directory : (t : Tree) (now : ℕ) (place : EntryKey) (inode : ℕ) → Without (shape_of t) (shape_of (remove_directory t now place inode)) place inode
 without-remove_directory t now place inode =
     subst (λ q. Without (shape_of t) q place inode) (sym (shape-remove_directory t now place inode))
-        (without_only (shape_of t) _ place inode refl (λ i apart. with_form-apart (shape_of t).form inode Absent i apart))
+    (without_only (shape_of t) _ place inode refl (λ i apart. with_form-apart (shape_of t).form inode Absent i apart))
 
 -- what a client has open of a tree's inodes are files
 abbrev pub HoldsFiles : Shape → List ℕ → Type 0
@@ -132,7 +132,7 @@ module _ (t : Tree) (who : Caller) (place : EntryKey) (inode : ℕ) (whole : Who
   fate_sustained one used =
       let file : s.form inode ≡ Regular = may.held inode used (whole.entry place inode may.is).there in
       survives_as Sustained (sustained_shape s place who.sid inode) shape-sustained
-          (whole-sustained s place who.sid inode whole may.is file one may.session) (without_only s _ place inode refl (λ i apart. refl))
+      (whole-sustained s place who.sid inode whole may.is file one may.session) (without_only s _ place inode refl (λ i apart. refl))
 
   fate_dropped : names s inode ≡ 1 → Survives Dropped
   fate_dropped one = survives_as Dropped (without_inode s place inode) shape-dropped
@@ -141,7 +141,7 @@ module _ (t : Tree) (who : Caller) (place : EntryKey) (inode : ℕ) (whole : Who
   survives : Survives (fate_of t who place inode)
   survives = cond_both (nat_lt 1 (entry_count t inode)) _ _ Survives fate_linked (λ few.
       cond_both (nat_lt 0 t.setting.trash_days && not (in_trash place.dir)) _ _ Survives (fate_trashed (one_entry few)) (λ keeps_none.
-        cond_both (list_any (λ held. held == inode) who.held) _ _ Survives (fate_sustained (one_entry few)) (λ closed. fate_dropped (one_entry few))))
+      cond_both (list_any (λ held. held == inode) who.held) _ _ Survives (fate_sustained (one_entry few)) (λ closed. fate_dropped (one_entry few))))
 
   -- a tree stays whole without an entry of a file or a symlink
   pub whole-remove_entry : WholeShape (shape_of (remove_entry t who place inode))
@@ -189,7 +189,7 @@ due_at : (t : Tree) (now inode : ℕ) (o : Option (EntryKey × ℕ))
 due_at t now inode None found due whole = absurd (none-some _ due)
 due_at t now inode (Some e) found due whole =
     let first : IsFound (λ key inode. (key.dir == trash_root) && is_due t.setting now (hour_of inode)) t.entries e.0 e.1 =
-        first_where-found entry_key (λ key inode. (key.dir == trash_root) && is_due t.setting now (hour_of inode)) t.entries e found in
+    first_where-found entry_key (λ key inode. (key.dir == trash_root) && is_due t.setting now (hour_of inode)) t.entries e found in
     let dir : (e.0).dir ≡ trash_root = eqb-true (e.0).dir trash_root (and_parts _ _ first.passes).0 in
     let hour : IsDueHour t e.1 = record { name = (e.0).name; is = subst (λ d. named (shape_of t) (record { dir = d; name = (e.0).name }) ≡ Some e.1) dir first.there } in
     subst (Loose t) (same_Some _ _ due) (loose_in t e.1 (first_in t e.1) refl whole hour)

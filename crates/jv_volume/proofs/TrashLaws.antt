@@ -126,7 +126,7 @@ module _ (t : Tree) (now : ℕ) (place : EntryKey) (inode : ℕ) (whole : WholeS
       let names_it = made_whole.entry at_trash other e in
       let trashed_it = names_it.trashed (is_hour-hour_inode hour low) in
       let same : inode ≡ other = trash_name_inode place trashed_it.place inode other
-          (inode_low s place.dir whole (there_of_dir (s.form place.dir) own.within)) (inode_low s inode whole own.there) (inode_low made other made_whole names_it.there) trashed_it.name in
+      (inode_low s place.dir whole (there_of_dir (s.form place.dir) own.within)) (inode_low s inode whole own.there) (inode_low made other made_whole names_it.there) trashed_it.name in
       absurd (place_apart place at_trash outside (omega (arith, after_trash)) (only_one (made).entries at_trash place inode one_made (e ∙ ap Some (sym same)) is_made))
 
   leaf_made : is_dir (made.form inode) ≡ false
@@ -151,8 +151,8 @@ module _ (t : Tree) (now : ℕ) (place : EntryKey) (inode : ℕ) (whole : WholeS
       shape-change_node_same (put_entry (with_hour less now hour) now at_trash inode) inode (status_changed now) (λ node. refl)
       ∙ shape-put_entry (with_hour less now hour) now at_trash inode
       ∙ ap (λ (q : Shape). put_in q at_trash inode)
-          (hour_taken s (shape_of less) made (shape_of (with_hour less now hour)) hour place (shape-take_entry t now place) (place_apart place (hour_place hour) outside (omega arith))
-          (shape-with_hour t now hour) (shape-with_hour less now hour))
+      (hour_taken s (shape_of less) made (shape_of (with_hour less now hour)) hour place (shape-take_entry t now place) (place_apart place (hour_place hour) outside (omega arith))
+      (shape-with_hour t now hour) (shape-with_hour less now hour))
       ∙ sym (moved_leaf made place inode at_trash leaf_made)
 
   -- A tree stays whole where a file or a symlink outside the trash goes there with its last entry. The clock has the moment.
