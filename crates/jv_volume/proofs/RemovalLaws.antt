@@ -48,12 +48,16 @@ directory_may_go t place inode whole is dir vacant = record {
   empty = λ at i h e. first_where-none entry_key (λ key named. key.dir == inode) t.entries at i (none_if _ vacant) h (eq-eqb at.dir inode e);
 }
 
+-- no entry stands in a file or a symlink
+pub leaf_empty : (s : Shape) (inode : ℕ) → WholeShape s → is_dir (s.form inode) ≡ false → (at : EntryKey) (i : ℕ) → named s at ≡ Some i → at.dir ≢ inode
+leaf_empty s inode whole leaf at i h e = false≢true (sym leaf ∙ ap (λ q. is_dir (s.form q)) (sym e) ∙ (whole.entry at i h).within)
+
 -- so may a file or a symlink that has one entry
 leaf_may_go : (s : Shape) (place : EntryKey) (inode : ℕ) → WholeShape s → named s place ≡ Some inode → is_dir (s.form inode) ≡ false → names s inode ≡ 1 → MayGo s place inode
 leaf_may_go s place inode whole is leaf one = record {
   is = is;
   only = λ at also. only_one s.entries place at inode one is also;
-  empty = λ at i h e. false≢true (sym leaf ∙ ap (λ q. is_dir (s.form q)) (sym e) ∙ (whole.entry at i h).within);
+  empty = leaf_empty s inode whole leaf;
 }
 
 pub shape-remove_directory : (t : Tree) (now : ℕ) (place : EntryKey) (inode : ℕ) → shape_of (remove_directory t now place inode) ≡ without_inode (shape_of t) place inode

@@ -78,7 +78,7 @@ module _ (s : Shape) (from : EntryKey) (inode : ℕ) (to : EntryKey) (whole : Wh
   there_same : (i : ℕ) → is_there (after.form i) ≡ is_there (s.form i)
   there_same = same_of is_there (there_under to.dir (s.form inode))
 
-  dir_same : (i : ℕ) → is_dir (after.form i) ≡ is_dir (s.form i)
+  pub dir_same : (i : ℕ) → is_dir (after.form i) ≡ is_dir (s.form i)
   dir_same = same_of is_dir (dir_under to.dir (s.form inode))
 
   file_same : (i : ℕ) → s.form i ≡ Regular → after.form i ≡ Regular
