@@ -7,7 +7,7 @@ use Rattle.jv_model.specs.tree.Tree.{Tree, Node, Content, File, Directory, Symli
 use Rattle.jv_model.specs.tree.Changes.{put_node, with_node}
 use Rattle.jv_model.specs.tree.Making.{may_be_new, with_next}
 use Rattle.jv_volume.specs.Shape.{Form, Absent, Dir, Shape, form_of, is_there, is_dir, shape_of, named, keeps, names, is_top, is_hour, Reaches, NamesHour, Names, Entered, Keeps, IsKept, WholeShape}
-use Rattle.jv_volume.proofs.ShapeMapLaws.{get-inserted, get-insert_apart, was_inserted, count-insert_apart, uncounted, with_form, with_form-here, with_form-apart, apart_by_form, there_of_dir, parent_of_dir, reaches_lift, with_entries, shape-put_node, shape-put_entry, there_or_absent, is_there-form, is_dir-form, names_kept, not_top}
+use Rattle.jv_volume.proofs.ShapeMapLaws.{stays_at, get-inserted, was_inserted, count-insert_apart, uncounted, with_form, with_form-here, with_form-apart, apart_by_form, there_of_dir, parent_of_dir, reaches_lift, with_entries, shape-put_node, shape-put_entry, there_or_absent, is_there-form, is_dir-form, names_kept, not_top}
 
 -- a shape with a new inode under a new entry, and a next inode
 abbrev pub with_new : Shape → EntryKey → ℕ → Form → ℕ → Shape
@@ -91,7 +91,7 @@ module _ (s : Shape) (place : EntryKey) (new : ℕ) (f : Form) (next : ℕ) (w :
   old_entered : (dir parent : ℕ) → dir ≢ new → Entered s dir parent → Entered after dir parent
   old_entered dir parent apart old = record {
     name = old.name;
-    is = get-insert_apart entry_key s.entries place new (record { dir = parent; name = old.name }) (λ e. let free = h.free in let is = old.is in let both = ap (named s) e in absurd (cc)) ∙ old.is;
+    is = stays_at entry_key s.entries place new (record { dir = parent; name = old.name }) dir h.free old.is;
     only = λ at is. elim (was_inserted entry_key s.entries place new at dir is) [
       | inl e ↦ absurd (apart e.1)
       | inr e ↦ old.only at e.1
@@ -136,7 +136,8 @@ module _ (s : Shape) (place : EntryKey) (new : ℕ) (f : Form) (next : ℕ) (w :
       let apart : inode ≢ new = was_there inode (ap is_there old.file) in
       record { session = old.session; file = form_after inode apart ∙ old.file; unnamed = names_after inode apart ∙ old.unnamed; one = old.one }
 
-  hours_after : (inode : ℕ) → IsTrue (is_there (after.form inode)) → IsTrue (nat_lt trash_root inode) → IsTrue (is_hour inode) × (after.form inode ≡ Dir trash_root)
+  hours_after : (inode : ℕ) → IsTrue (is_there (after.form inode)) → IsTrue (nat_lt trash_root inode)
+      → IsTrue (is_hour inode) × (after.form inode ≡ Dir trash_root)
   hours_after inode there above = elim (cases_eq inode new) [
     | inl e ↦
         let both = h.hours (ap (nat_lt trash_root) (sym e) ∙ above) in
@@ -184,13 +185,15 @@ not_hour_below dir low = and_left _ _ (le-ltb trash_root dir (omega (arith, low)
 -- a new node under a new entry
 pub shape-with_node : (t : Tree) (now : ℕ) (place : EntryKey) (inode : ℕ) (node : Node)
     → shape_of (with_node t now place inode node) ≡ with_new (shape_of t) place inode (form_of (Some node)) t.next_inode
-shape-with_node t now place inode node = shape-put_entry (put_node t inode node) now place inode ∙ ap (λ (s : Shape). with_entries s (insert t.entries place inode)) (shape-put_node t inode node)
+shape-with_node t now place inode node = shape-put_entry (put_node t inode node) now place inode
+    ∙ ap (λ (s : Shape). with_entries s (insert t.entries place inode)) (shape-put_node t inode node)
 
 pub shape-with_next : (t : Tree) (now : ℕ) (place : EntryKey) (node : Node)
     → shape_of (with_next t now place node) ≡ with_new (shape_of t) place t.next_inode (form_of (Some node)) (t.next_inode + 1)
 shape-with_next t now place node = ap (λ (s : Shape). record s { next_inode = t.next_inode + 1 }) (shape-with_node t now place t.next_inode node)
 
-module _ (t : Tree) (now : ℕ) (place : EntryKey) (w : WholeShape (shape_of t)) (free : named (shape_of t) place ≡ None) (within : is_directory t place.dir ≡ true) (may : may_be_new place ≡ true) (room : t.next_inode < full_count) where
+module _ (t : Tree) (now : ℕ) (place : EntryKey) (w : WholeShape (shape_of t)) (free : named (shape_of t) place ≡ None)
+    (within : is_directory t place.dir ≡ true) (may : may_be_new place ≡ true) (room : t.next_inode < full_count) where
   -- the next inode isn't there
   next_absent : (shape_of t).form t.next_inode ≡ Absent
   next_absent = elim (there_or_absent ((shape_of t).form t.next_inode)) [
@@ -199,10 +202,12 @@ module _ (t : Tree) (now : ℕ) (place : EntryKey) (w : WholeShape (shape_of t))
   ]
 
   -- the next inode, of any kind that has this parent where it is a directory
-  pub whole-with_next : (node : Node) → ((parent : ℕ) → form_of (Some node) ≡ Dir parent → parent ≡ place.dir) → WholeShape (shape_of (with_next t now place node))
+  pub whole-with_next : (node : Node) → ((parent : ℕ) → form_of (Some node) ≡ Dir parent → parent ≡ place.dir)
+      → WholeShape (shape_of (with_next t now place node))
   whole-with_next node parent =
       let low : place.dir < trash_root = new_below place may in
-      subst WholeShape (sym (shape-with_next t now place node)) (whole-with_new (shape_of t) place t.next_inode (form_of (Some node)) (t.next_inode + 1) w (record {
+      let new = whole-with_new (shape_of t) place t.next_inode (form_of (Some node)) (t.next_inode + 1) w in
+      subst WholeShape (sym (shape-with_next t now place node)) (new (record {
         absent = next_absent;
         free = free;
         within = is_dir-form (node_at t place.dir) ∙ within;

@@ -35,7 +35,7 @@ module _ (setting : Setting) (now : ℕ) where
     | inl e ↦ Top (ap is_top e) (ap fresh.form e ∙ trash_is) (inr e)
     | inr apart ↦ elim (cases_eq inode root) [
       | inl e ↦ Top (ap is_top e) (ap fresh.form e ∙ root_is) (inl e)
-      | inr other ↦ Free (not_trash inode apart ∙ ap form_of (get-insert_apart number_key empty_map root _ inode other) ∙ ap form_of (get-empty_map number_key inode))
+      | inr other ↦ Free (not_trash inode apart ∙ ap form_of (get-insert_apart number_key empty_map root _ inode other ∙ get-empty_map number_key inode))
     ]
   ]
 

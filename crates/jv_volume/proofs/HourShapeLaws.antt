@@ -18,7 +18,8 @@ pub hour_inode_high : (hour : ℕ) → hour ≤ last_hour → trash_root < hour_
 hour_inode_high hour low = ltb-true trash_root (hour_inode hour) (and_parts _ _ (is_hour-hour_inode hour low)).0
 
 -- the place of an hour that isn't there is free
-free_hour_at : (s : Shape) (hour : ℕ) (o : Option ℕ) → named s (hour_place hour) ≡ o → WholeShape s → hour ≤ last_hour → s.form (hour_inode hour) ≡ Absent → o ≡ None
+free_hour_at : (s : Shape) (hour : ℕ) (o : Option ℕ) → named s (hour_place hour) ≡ o → WholeShape s → hour ≤ last_hour → s.form (hour_inode hour) ≡ Absent
+    → o ≡ None
 free_hour_at s hour None e w low absent = refl
 free_hour_at s hour (Some inode) e w low absent =
     let n = w.entry (hour_place hour) inode e in
@@ -34,7 +35,8 @@ free_hour s hour w low absent = free_hour_at s hour (named s (hour_place hour)) 
 abbrev pub with_hour_in : Shape → ℕ → Shape
 with_hour_in s hour = with_new s (hour_place hour) (hour_inode hour) (Dir trash_root) s.next_inode
 
-pub may_enter_hour : (s : Shape) (hour : ℕ) → WholeShape s → hour ≤ last_hour → s.form (hour_inode hour) ≡ Absent → MayEnter s (hour_place hour) (hour_inode hour) (Dir trash_root) s.next_inode
+pub may_enter_hour : (s : Shape) (hour : ℕ) → WholeShape s → hour ≤ last_hour → s.form (hour_inode hour) ≡ Absent
+    → MayEnter s (hour_place hour) (hour_inode hour) (Dir trash_root) s.next_inode
 may_enter_hour s hour w low absent =
     let high = hour_inode_high hour low in
     record {
@@ -61,7 +63,8 @@ hour_by : (t : Tree) (now hour : ℕ) (o : Option Node) → node_at t (hour_inod
       | None ↦ with_node t now (hour_place hour) (hour_inode hour) (new_node (Directory trash_root) read_only_mode now)
       | Some node ↦ t
     ]))
-hour_by t now hour None e = Comes (ap form_of e) (shape-with_node t now (hour_place hour) (hour_inode hour) (new_node (Directory trash_root) read_only_mode now))
+hour_by t now hour None e = Comes (ap form_of e)
+    (shape-with_node t now (hour_place hour) (hour_inode hour) (new_node (Directory trash_root) read_only_mode now))
 hour_by t now hour (Some node) e = Was (ap (λ o. is_there (form_of o)) e ∙ is_there-form (Some node)) refl
 
 pub shape-with_hour : (t : Tree) (now hour : ℕ) → WithHour (shape_of t) hour (shape_of (with_hour t now hour))
@@ -70,7 +73,8 @@ shape-with_hour t now hour = hour_by t now hour (node_at t (hour_inode hour)) re
 
 whole_by : (s after : Shape) (hour : ℕ) → WithHour s hour after → WholeShape s → hour ≤ last_hour → WholeShape after
 whole_by s after hour (Was there same) w low = subst WholeShape (sym same) w
-whole_by s after hour (Comes absent same) w low = subst WholeShape (sym same) (whole-with_new s (hour_place hour) (hour_inode hour) (Dir trash_root) s.next_inode w (may_enter_hour s hour w low absent))
+whole_by s after hour (Comes absent same) w low = subst WholeShape (sym same)
+    (whole-with_new s (hour_place hour) (hour_inode hour) (Dir trash_root) s.next_inode w (may_enter_hour s hour w low absent))
 
 -- the directory of an hour of a moment
 pub whole-with_hour : (t : Tree) (now hour : ℕ) → WholeShape (shape_of t) → hour ≤ LAST_MOMENT / HOUR → WholeShape (shape_of (with_hour t now hour))
@@ -97,12 +101,14 @@ keeps_by s after hour (Was there same) w low = record {
 keeps_by s after hour (Comes absent same) w low = record {
   is = ap (λ (x : Shape). x.form (hour_inode hour)) same ∙ with_form-here s.form (hour_inode hour) (Dir trash_root);
   forms = λ inode apart. ap (λ (x : Shape). x.form inode) same ∙ with_form-apart s.form (hour_inode hour) (Dir trash_root) inode apart;
-  entries = λ at apart. ap (λ (x : Shape). named x at) same ∙ get-insert_apart entry_key s.entries (hour_place hour) (hour_inode hour) at (λ e. apart (ap (λ (x : EntryKey). x.dir) e));
+  entries = λ at apart. ap (λ (x : Shape). named x at) same
+      ∙ get-insert_apart entry_key s.entries (hour_place hour) (hour_inode hour) at (λ e. apart (ap (λ (x : EntryKey). x.dir) e));
   counts = λ inode apart. ap (λ (x : Shape). names x inode) same
       ∙ count-insert_apart s.entries (hour_place hour) (hour_inode hour) inode (free_hour s hour w low absent) (λ e. apart (sym e));
   pairs = ap (λ (x : Shape). x.sustained) same;
   next = ap (λ (x : Shape). x.next_inode) same;
 }
 
-pub keeps-with_hour : (t : Tree) (now hour : ℕ) → WholeShape (shape_of t) → hour ≤ LAST_MOMENT / HOUR → KeepsButHour (shape_of t) (shape_of (with_hour t now hour)) hour
+pub keeps-with_hour : (t : Tree) (now hour : ℕ) → WholeShape (shape_of t) → hour ≤ LAST_MOMENT / HOUR
+    → KeepsButHour (shape_of t) (shape_of (with_hour t now hour)) hour
 keeps-with_hour t now hour w low = keeps_by (shape_of t) (shape_of (with_hour t now hour)) hour (shape-with_hour t now hour) w low

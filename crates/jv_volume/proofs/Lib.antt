@@ -15,3 +15,8 @@ pub mod ShapeMoveLaws
 pub mod TrashLaws
 pub mod RemovalLaws
 pub mod MoveLaws
+pub mod FreshWholeLaws
+pub mod BrokenRowsExamples
+pub mod WalkShapeLaws
+pub mod OperationShapeLaws
+pub mod ReadingShapeLaws

@@ -7,7 +7,7 @@ use Rattle.jv_model.specs.tree.Tree.{Tree, EntryKey, entry_key, root, trash_root
 use Rattle.jv_model.specs.tree.Changes.{put_entry}
 use Rattle.jv_model.specs.tree.Making.{may_be_new, is_trashed, linked}
 use Rattle.jv_volume.specs.Shape.{Dir, Shape, is_there, is_dir, shape_of, named, keeps, names, is_top, is_hour, Names, Entered, Keeps, IsKept, WholeShape}
-use Rattle.jv_volume.proofs.ShapeMapLaws.{get-insert_apart, was_inserted, first_where-none, count-insert_same, count-insert_apart, counted_once, with_entries, shape-put_entry, is_dir-form, names_kept, leaf_apart, not_top}
+use Rattle.jv_volume.proofs.ShapeMapLaws.{stays_at, was_inserted, first_where-none, count-insert_same, count-insert_apart, counted_once, with_entries, shape-put_entry, is_dir-form, names_kept, leaf_apart, not_top}
 use Rattle.jv_volume.proofs.SameShapeLaws.{shape-status_changed}
 use Rattle.jv_volume.proofs.EnteredShapeLaws.{new_below, not_hour_below}
 
@@ -58,7 +58,7 @@ module _ (s : Shape) (place : EntryKey) (inode : ℕ) (w : WholeShape s) (h : Ma
       let old = w.entered dir parent is top in
       record {
         name = old.name;
-        is = get-insert_apart entry_key s.entries place inode (record { dir = parent; name = old.name }) (λ e. let free = h.free in let was = old.is in let both = ap (named s) e in absurd (cc)) ∙ old.is;
+        is = stays_at entry_key s.entries place inode (record { dir = parent; name = old.name }) dir h.free old.is;
         only = λ at there. elim (was_inserted entry_key s.entries place inode at dir there) [
           | inl e ↦ absurd (leaf_apart s dir parent inode is h.leaf (sym e.1))
           | inr e ↦ old.only at e.1
@@ -110,10 +110,12 @@ untrashed_entry t inode at untrashed is = false_from_ne_true _ (λ hour.
 
 -- The model's `link`. That some entry names the inode comes of the walk that led to it.
 pub whole-linked : (t : Tree) (now : ℕ) (place at : EntryKey) (inode : ℕ) → WholeShape (shape_of t)
-    → named (shape_of t) place ≡ None → is_directory t place.dir ≡ true → may_be_new place ≡ true → is_directory t inode ≡ false → is_trashed t inode ≡ false → named (shape_of t) at ≡ Some inode
+    → named (shape_of t) place ≡ None → is_directory t place.dir ≡ true → may_be_new place ≡ true → is_directory t inode ≡ false → is_trashed t inode ≡ false
+    → named (shape_of t) at ≡ Some inode
     → WholeShape (shape_of (linked t now place inode))
 whole-linked t now place at inode w free within may leaf untrashed is =
-    subst WholeShape (sym (shape-status_changed (put_entry t now place inode) now inode ∙ shape-put_entry t now place inode)) (whole-with_entry (shape_of t) place inode w (record {
+    let shape = shape-status_changed (put_entry t now place inode) now inode ∙ shape-put_entry t now place inode in
+    subst WholeShape (sym shape) (whole-with_entry (shape_of t) place inode w (record {
       free = free;
       within = is_dir-form (node_at t place.dir) ∙ within;
       low = new_below place may;

@@ -17,10 +17,13 @@ whole_as s after same w = subst WholeShape (sym same) w
 -- attributes
 
 -- a node in place of one of its kind, as chmod, chown and utimes put it
-pub shape-attributes : (t : Tree) (inode : ℕ) (node after : Node) → node_at t inode ≡ Some node → after.kind ≡ node.kind → shape_of (put_node t inode after) ≡ shape_of t
-shape-attributes t inode node after there same = shape-put_node_same t inode after (form-kind after ∙ ap kind_form same ∙ sym (form-kind node) ∙ sym (ap form_of there))
+pub shape-attributes : (t : Tree) (inode : ℕ) (node after : Node) → node_at t inode ≡ Some node → after.kind ≡ node.kind
+    → shape_of (put_node t inode after) ≡ shape_of t
+shape-attributes t inode node after there same = shape-put_node_same t inode after
+    (form-kind after ∙ ap kind_form same ∙ sym (form-kind node) ∙ sym (ap form_of there))
 
-pub whole-attributes : (t : Tree) (inode : ℕ) (node after : Node) → node_at t inode ≡ Some node → after.kind ≡ node.kind → WholeShape (shape_of t) → WholeShape (shape_of (put_node t inode after))
+pub whole-attributes : (t : Tree) (inode : ℕ) (node after : Node) → node_at t inode ≡ Some node → after.kind ≡ node.kind → WholeShape (shape_of t)
+    → WholeShape (shape_of (put_node t inode after))
 whole-attributes t inode node after there same = whole_as _ _ (shape-attributes t inode node after there same)
 
 -- a node whose attributes or links changed
@@ -29,14 +32,16 @@ shape-status_changed t now inode = shape-change_node_same t inode (status_change
 
 -- bytes
 
-file_again : (t : Tree) (now inode : ℕ) (old content : Content) (o : Option Node) → node_at t inode ≡ o → content_at t inode ≡ Some old → shape_of (with_content t now inode content) ≡ shape_of t
+file_again : (t : Tree) (now inode : ℕ) (old content : Content) (o : Option Node) → node_at t inode ≡ o → content_at t inode ≡ Some old
+    → shape_of (with_content t now inode content) ≡ shape_of t
 file_again t now inode old content None e is = absurd (let none : content_at t inode ≡ None = ap content_of e in cc)
 file_again t now inode old content (Some node) e is = shape-change_node t inode _ node e
     ∙ ap (λ f. with_forms (shape_of t) (with_form (shape_of t).form inode f)) (sym (form-content (node_at t inode) old is))
     ∙ (λ i. record (shape_of t) { form = λ other. with_form-same (shape_of t).form inode other i })
 
 -- a file with other bytes
-pub shape-with_content : (t : Tree) (now inode : ℕ) (old content : Content) → content_at t inode ≡ Some old → shape_of (with_content t now inode content) ≡ shape_of t
+pub shape-with_content : (t : Tree) (now inode : ℕ) (old content : Content) → content_at t inode ≡ Some old
+    → shape_of (with_content t now inode content) ≡ shape_of t
 shape-with_content t now inode old content is = file_again t now inode old content (node_at t inode) refl is
 
 pub shape-committed : (t : Tree) (now inode from : ℕ) (bytes : List ℕ) → shape_of (committed t now inode from bytes) ≡ shape_of t
@@ -62,7 +67,8 @@ abbrev between : Tree → ℕ → Option Content → ℕ → ℕ → Option Cont
 between t now (Some source) from target (Some content) to len = with_content t now target (copied_over source from content to len)
 between t now _ from target _ to len = t
 
-between_same : (t : Tree) (now : ℕ) (source : Option Content) (from target : ℕ) (content : Option Content) (to len : ℕ) → content_at t target ≡ content → shape_of (between t now source from target content to len) ≡ shape_of t
+between_same : (t : Tree) (now : ℕ) (source : Option Content) (from target : ℕ) (content : Option Content) (to len : ℕ) → content_at t target ≡ content
+    → shape_of (between t now source from target content to len) ≡ shape_of t
 between_same t now None from target content to len e = refl
 between_same t now (Some source) from target None to len e = refl
 between_same t now (Some source) from target (Some content) to len e = shape-with_content t now target content (copied_over source from content to len) e
@@ -77,7 +83,8 @@ shape-copied t now source from target to len = unless (len == 0) t (between t no
 
 -- sessions
 
-alive_again : (t : Tree) (who : Caller) (session : SessionEntry) (sid : ℕ) → get t.sessions who.sid ≡ Some session → is_some (get (insert t.sessions who.sid (record session { expiry = who.now + SESSION_LIFE })) sid) ≡ is_some (get t.sessions sid)
+alive_again : (t : Tree) (who : Caller) (session : SessionEntry) (sid : ℕ) → get t.sessions who.sid ≡ Some session
+    → is_some (get (insert t.sessions who.sid (record session { expiry = who.now + SESSION_LIFE })) sid) ≡ is_some (get t.sessions sid)
 alive_again t who session sid there = elim (same_or_apart number_key sid who.sid) [
   | inl same ↦ ap (λ k. is_some (get (insert t.sessions who.sid (record session { expiry = who.now + SESSION_LIFE })) k)) same
       ∙ ap is_some (get-inserted number_key t.sessions who.sid _) ∙ ap is_some (sym there) ∙ ap (λ k. is_some (get t.sessions k)) (sym same)
@@ -85,5 +92,6 @@ alive_again t who session sid there = elim (same_or_apart number_key sid who.sid
 ]
 
 -- a session that showed a sign of life
-pub shape-kept_alive : (t : Tree) (who : Caller) (session : SessionEntry) → get t.sessions who.sid ≡ Some session → shape_of (kept_alive t who session) ≡ shape_of t
+pub shape-kept_alive : (t : Tree) (who : Caller) (session : SessionEntry) → get t.sessions who.sid ≡ Some session
+    → shape_of (kept_alive t who session) ≡ shape_of t
 shape-kept_alive t who session there = λ i. record (shape_of t) { in_session = λ sid. alive_again t who session sid there i }

@@ -15,7 +15,8 @@ use Rattle.jv_volume.proofs.SameShapeLaws.{whole_as, shape-kept_alive}
 -- a session that comes
 
 module _ (s : Shape) (present : ℕ → Bool) (w : WholeShape s) (first : 1 ≤ s.next_session) (room : s.next_session < full_count)
-    (stays : (sid : ℕ) → IsTrue (s.in_session sid) → IsTrue (present sid)) (comes : (sid : ℕ) → IsTrue (present sid) → (sid ≡ s.next_session) ⊎ IsTrue (s.in_session sid)) where
+    (stays : (sid : ℕ) → IsTrue (s.in_session sid) → IsTrue (present sid))
+    (comes : (sid : ℕ) → IsTrue (present sid) → (sid ≡ s.next_session) ⊎ IsTrue (s.in_session sid)) where
   sessions_after : (sid : ℕ) → IsTrue (present sid) → (1 ≤ sid) × (sid < s.next_session + 1)
   sessions_after sid is = elim (comes sid is) [
     | inl e ↦ (omega (arith, e, first), omega (arith, e))
@@ -23,7 +24,9 @@ module _ (s : Shape) (present : ℕ → Bool) (w : WholeShape s) (first : 1 ≤ 
   ]
 
   entry_kept : (at : EntryKey) (inode : ℕ) → named s at ≡ Some inode → Names (record s { in_session = present; next_session = s.next_session + 1 }) at inode
-  entry_kept at inode is = let n = w.entry at inode is in names_kept s (record s { in_session = present; next_session = s.next_session + 1 }) at inode refl n.within (λ hour one. one) n
+  entry_kept at inode is =
+      let n = w.entry at inode is in
+      names_kept s (record s { in_session = present; next_session = s.next_session + 1 }) at inode refl n.within (λ hour one. one) n
 
   -- with the next session
   pub whole-next_session : WholeShape (record s { in_session = present; next_session = s.next_session + 1 })
@@ -34,7 +37,9 @@ module _ (s : Shape) (present : ℕ → Bool) (w : WholeShape s) (first : 1 ≤ 
     entered = λ dir parent is top. let old = w.entered dir parent is top in record { name = old.name; is = old.is; only = old.only };
     rooted = w.rooted;
     held = λ inode there leaf none. let kept = w.held inode there leaf none in record { sid = kept.sid; is = kept.is };
-    sustains = λ sid inode is. let old = w.sustains sid inode is in record { session = stays sid old.session; file = old.file; unnamed = old.unnamed; one = old.one };
+    sustains = λ sid inode is.
+        let old = w.sustains sid inode is in
+        record { session = stays sid old.session; file = old.file; unnamed = old.unnamed; one = old.one };
     hours = w.hours;
     below = w.below;
     sessions = sessions_after;
@@ -43,7 +48,8 @@ module _ (s : Shape) (present : ℕ → Bool) (w : WholeShape s) (first : 1 ≤ 
   }
 
 -- The model's `mount`. The next session is 1 or more: the shape doesn't say so where no session is there.
-pub whole-with_session : (t : Tree) (who : Caller) → WholeShape (shape_of t) → 1 ≤ t.next_session → t.next_session < full_count → WholeShape (shape_of (with_session t who))
+pub whole-with_session : (t : Tree) (who : Caller) → WholeShape (shape_of t) → 1 ≤ t.next_session → t.next_session < full_count
+    → WholeShape (shape_of (with_session t who))
 whole-with_session t who w first room =
     let added = (with_session t who).sessions in
     whole-next_session (shape_of t) (λ sid. is_some (get added sid)) w first room
@@ -56,7 +62,8 @@ whole-with_session t who w first room =
       | inr apart ↦ inr (sym (ap is_some (get-insert_apart number_key t.sessions t.next_session _ sid apart)) ∙ is)
     ])
 
-pub whole-kept_alive : (t : Tree) (who : Caller) (session : SessionEntry) → get t.sessions who.sid ≡ Some session → WholeShape (shape_of t) → WholeShape (shape_of (kept_alive t who session))
+pub whole-kept_alive : (t : Tree) (who : Caller) (session : SessionEntry) → get t.sessions who.sid ≡ Some session → WholeShape (shape_of t)
+    → WholeShape (shape_of (kept_alive t who session))
 whole-kept_alive t who session there = whole_as _ _ (shape-kept_alive t who session there)
 
 -- files that a session kept go
@@ -72,7 +79,8 @@ pub record MayGo (s after : Shape) (sid : ℕ) (gone : ℕ → Bool) : Type 0 wh
   pub stays : (other inode : ℕ) → IsTrue (keeps s other inode) → gone inode ≡ false → IsTrue (keeps after other inode)
   pub fewer : (other : ℕ) → IsTrue (after.in_session other) → IsTrue (s.in_session other)
 
-module _ (s : Shape) (sid : ℕ) (gone present : ℕ → Bool) (pairs : Map pair_key (Unit {0})) (w : WholeShape s) (h : MayGo s (without_files s gone present pairs) sid gone) where
+module _ (s : Shape) (sid : ℕ) (gone present : ℕ → Bool) (pairs : Map pair_key (Unit {0})) (w : WholeShape s)
+    (h : MayGo s (without_files s gone present pairs) sid gone) where
   abbrev after : Shape
   after = without_files s gone present pairs
 
@@ -117,9 +125,15 @@ module _ (s : Shape) (sid : ℕ) (gone present : ℕ → Bool) (pairs : Map pair
   sustains_after other inode is =
       let left = h.left other inode is in
       let old = w.sustains other inode left.0 in
-      record { session = left.2; file = form_after inode left.1 ∙ old.file; unnamed = old.unnamed; one = λ another also. old.one another ((h.left another inode also).0) }
+      record {
+        session = left.2;
+        file = form_after inode left.1 ∙ old.file;
+        unnamed = old.unnamed;
+        one = λ another also. old.one another (h.left another inode also).0;
+      }
 
-  hours_after : (inode : ℕ) → IsTrue (is_there (after.form inode)) → IsTrue (nat_lt trash_root inode) → IsTrue (is_hour inode) × (after.form inode ≡ Dir trash_root)
+  hours_after : (inode : ℕ) → IsTrue (is_there (after.form inode)) → IsTrue (nat_lt trash_root inode)
+      → IsTrue (is_hour inode) × (after.form inode ≡ Dir trash_root)
   hours_after inode there above =
       let same = form_after inode (there_stays inode there) in
       let both = w.hours inode (ap is_there (sym same) ∙ there) above in
@@ -163,10 +177,12 @@ module _ (t : Tree) (sid : ℕ) where
   gone_files inode = ap form_of (get-retain_keys t.nodes (λ i. not (is_sustained t sid i)) inode) ∙ form_retained (is_sustained t sid inode) (node_at t inode)
 
   shape-without_session : shape_of (without_session t sid)
-      ≡ without_files (shape_of t) (keeps (shape_of t) sid) (λ other. is_some (get (remove t.sessions sid) other)) (retain_keys (λ pair. not (pair.sid == sid)) t.sustained)
+      ≡ without_files (shape_of t) (keeps (shape_of t) sid) (λ other. is_some (get (remove t.sessions sid) other))
+      (retain_keys (λ pair. not (pair.sid == sid)) t.sustained)
   shape-without_session = λ i. record (shape_of (without_session t sid)) { form = λ inode. gone_files inode i }
 
-  kept_pair : (other inode : ℕ) → IsTrue (is_some (get (retain_keys (λ pair. not (pair.sid == sid)) t.sustained) (pair_of other inode))) → (other ≢ sid) × IsTrue (keeps (shape_of t) other inode)
+  kept_pair : (other inode : ℕ) → IsTrue (is_some (get (retain_keys (λ pair. not (pair.sid == sid)) t.sustained) (pair_of other inode)))
+      → (other ≢ sid) × IsTrue (keeps (shape_of t) other inode)
   kept_pair other inode is =
       let both = if_some _ _ (ap is_some (sym (get-retain_keys t.sustained (λ pair. not (pair.sid == sid)) (pair_of other inode))) ∙ is) in
       ((λ e. false≢true (sym (not_from_true _ (eq-eqb other sid e)) ∙ both.0)), both.1)
@@ -199,16 +215,19 @@ module _ (t : Tree) (sid inode : ℕ) where
   abbrev without_pair : Map pair_key (Unit {0})
   without_pair = remove t.sustained (pair_of sid inode)
 
-  shape-without_file : shape_of (record (drop_node t inode) { sustained = without_pair }) ≡ without_files (shape_of t) (λ other. other == inode) (shape_of t).in_session without_pair
+  shape-without_file : shape_of (record (drop_node t inode) { sustained = without_pair })
+      ≡ without_files (shape_of t) (λ other. other == inode) (shape_of t).in_session without_pair
   shape-without_file = λ i. record (shape_of t) { form = λ other. form-drop_node t inode other i; sustained = without_pair }
 
-  pair_before : (other file : ℕ) → IsTrue (is_some (get without_pair (pair_of other file))) → (pair_of other file ≢ pair_of sid inode) × IsTrue (keeps (shape_of t) other file)
+  pair_before : (other file : ℕ) → IsTrue (is_some (get without_pair (pair_of other file)))
+      → (pair_of other file ≢ pair_of sid inode) × IsTrue (keeps (shape_of t) other file)
   pair_before other file is =
       let apart : pair_of other file ≢ pair_of sid inode =
       λ e. false≢true (sym (ap is_some (ap (get without_pair) e ∙ get-removed pair_key t.sustained (pair_of sid inode))) ∙ is) in
       (apart, ap is_some (sym (get-remove_apart pair_key t.sustained (pair_of sid inode) (pair_of other file) apart)) ∙ is)
 
-  whole-without_file : WholeShape (shape_of t) → IsTrue (is_sustained t sid inode) → WholeShape (shape_of (record (drop_node t inode) { sustained = without_pair }))
+  whole-without_file : WholeShape (shape_of t) → IsTrue (is_sustained t sid inode)
+      → WholeShape (shape_of (record (drop_node t inode) { sustained = without_pair }))
   whole-without_file w is = subst WholeShape (sym shape-without_file) (whole-without_files (shape_of t) sid (λ other. other == inode) _ _ w (record {
     kept = λ file e. ap (keeps (shape_of t) sid) (eqb-true file inode e) ∙ is;
     left = λ other file also.

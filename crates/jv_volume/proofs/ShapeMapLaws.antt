@@ -70,7 +70,8 @@ module _ {K X : Type 0} (order : KeyOrder K) where
 
 -- no entry passes a test where none is found
 module _ {K X : Type 0} (order : KeyOrder K) (test : K → X → Bool) where
-  none_passes_at : (e : K × X) (es : List (K × X)) (k : K) (x : X) (b : Bool) → test e.0 e.1 ≡ b → (first_passing test es ≡ None → find order.cmp k es ≡ Some x → test k x ≡ true → ⊥)
+  none_passes_at : (e : K × X) (es : List (K × X)) (k : K) (x : X) (b : Bool) → test e.0 e.1 ≡ b
+      → (first_passing test es ≡ None → find order.cmp k es ≡ Some x → test k x ≡ true → ⊥)
       → (elim b as (λ _. Option (K × X)) [ true ↦ Some e | false ↦ first_passing test es ]) ≡ None → find order.cmp k (e ∷ es) ≡ Some x → test k x ≡ true → ⊥
   none_passes_at e es k x true t rest h there passes = absurd (cc)
   none_passes_at e es k x false t rest h there passes = elim (same_or_apart order k e.0) [
@@ -89,6 +90,11 @@ module _ {K X : Type 0} (order : KeyOrder K) (test : K → X → Bool) where
   pub first_where-none : (m : Map order X) (k : K) (x : X) → first_where test m ≡ None → get m k ≡ Some x → test k x ≡ true → ⊥
   unfolding first_where get
   first_where-none m k x h there passes = none_passes m.list k x h there passes
+
+-- what stands elsewhere than at a free key stays
+pub stays_at : {K X : Type 0} (order : KeyOrder K) (m : Map order X) (k : K) (v : X) (q : K) (x : X) → get m k ≡ None → get m q ≡ Some x
+    → get (insert m k v) q ≡ Some x
+stays_at order m k v q x free there = get-insert_apart order m k v q (λ e. (let both = ap (get m) e in absurd (cc))) ∙ there
 
 -- how many entries name an inode
 
@@ -109,7 +115,7 @@ naming_apart inode at other apart = cond-false _ _ _ (ne_eqb other inode apart)
 -- after an entry in a free place
 pub count-insert : (m : Entries) (at : EntryKey) (i inode : ℕ) → get m at ≡ None → count_of (insert m at i) inode ≡ count_of m inode + naming inode at i
 count-insert m at i inode free =
-    let all : count_of (insert m at i) inode + share (naming inode) at (get m at) ≡ count_of m inode + naming inode at i = sum-insert entry_key (naming inode) m at i in
+    let all = sum-insert entry_key (naming inode) m at i in
     let nothing : share (naming inode) at (get m at) ≡ 0 = ap (share (naming inode) at) free in
     omega (arith, all, nothing)
 
@@ -154,8 +160,10 @@ only_one m at other inode one there also = elim (same_or_apart entry_key other a
 
 -- an inode that no entry names has none
 
-total_none_at : (inode : ℕ) (e : EntryKey × ℕ) (es : List (EntryKey × ℕ)) (b : Bool) → (e.1 == inode) ≡ b → (first_passing (λ at i. i == inode) es ≡ None → total_over (naming inode) es ≡ 0)
-    → (elim b as (λ _. Option (EntryKey × ℕ)) [ true ↦ Some e | false ↦ first_passing (λ at i. i == inode) es ]) ≡ None → (if b then 1 else 0) + total_over (naming inode) es ≡ 0
+total_none_at : (inode : ℕ) (e : EntryKey × ℕ) (es : List (EntryKey × ℕ)) (b : Bool) → (e.1 == inode) ≡ b
+    → (first_passing (λ at i. i == inode) es ≡ None → total_over (naming inode) es ≡ 0)
+    → (elim b as (λ _. Option (EntryKey × ℕ)) [ true ↦ Some e | false ↦ first_passing (λ at i. i == inode) es ]) ≡ None
+    → (if b then 1 else 0) + total_over (naming inode) es ≡ 0
 total_none_at inode e es true t rest h = absurd (cc)
 total_none_at inode e es false t rest h = omega (arith, rest h)
 
@@ -189,7 +197,8 @@ count_none m inode none = elim (count_cases m inode) [
 ]
 
 -- an inode with only one entry has one
-pub count_one : (m : Entries) (at : EntryKey) (inode : ℕ) → get m at ≡ Some inode → ((other : EntryKey) → get m other ≡ Some inode → other ≡ at) → count_of m inode ≡ 1
+pub count_one : (m : Entries) (at : EntryKey) (inode : ℕ) → get m at ≡ Some inode → ((other : EntryKey) → get m other ≡ Some inode → other ≡ at)
+    → count_of m inode ≡ 1
 count_one m at inode there only =
     let rest : count_of (remove m at) inode ≡ 0 = count_none (remove m at) inode (λ other h.
     let kept : (other ≢ at) × (get m other ≡ Some inode) = was_kept entry_key m at other inode h in
@@ -234,7 +243,8 @@ parent_of_dir Link h = absurd (false≢true h)
 parent_of_dir (Dir parent) h = (parent, refl)
 
 -- where each directory of the way up keeps its parent, the way up stays
-pub reaches_lift : (form after : ℕ → Form) → ((dir parent : ℕ) → form dir ≡ Dir parent → after dir ≡ Dir parent) → (steps dir : ℕ) → Reaches form steps dir → Reaches after steps dir
+pub reaches_lift : (form after : ℕ → Form) → ((dir parent : ℕ) → form dir ≡ Dir parent → after dir ≡ Dir parent) → (steps dir : ℕ) → Reaches form steps dir
+    → Reaches after steps dir
 reaches_lift form after stays zero dir h = h
 reaches_lift form after stays (suc steps) dir h = (h.0, stays dir h.0 h.1, reaches_lift form after stays steps h.0 h.2)
 
@@ -247,19 +257,23 @@ with_forms s form = record s { form = form }
 abbrev pub with_entries : Shape → Entries → Shape
 with_entries s entries = record s { entries = entries }
 
-pub form-put_node : (t : Tree) (inode : ℕ) (node : Node) (other : ℕ) → (shape_of (put_node t inode node)).form other ≡ with_form (shape_of t).form inode (form_of (Some node)) other
+pub form-put_node : (t : Tree) (inode : ℕ) (node : Node) (other : ℕ)
+    → (shape_of (put_node t inode node)).form other ≡ with_form (shape_of t).form inode (form_of (Some node)) other
 form-put_node t inode node other = elim (cases_eq other inode) [
-  | inl e ↦ ap form_of (ap (get (insert t.nodes inode node)) e ∙ get-inserted number_key t.nodes inode node) ∙ sym (ap (with_form (shape_of t).form inode (form_of (Some node))) e ∙ with_form-here (shape_of t).form inode _)
+  | inl e ↦ ap form_of (ap (get (insert t.nodes inode node)) e ∙ get-inserted number_key t.nodes inode node)
+      ∙ sym (ap (with_form (shape_of t).form inode (form_of (Some node))) e ∙ with_form-here (shape_of t).form inode _)
   | inr apart ↦ ap form_of (get-insert_apart number_key t.nodes inode node other apart) ∙ sym (with_form-apart (shape_of t).form inode _ other apart)
 ]
 
 pub form-drop_node : (t : Tree) (inode other : ℕ) → (shape_of (drop_node t inode)).form other ≡ with_form (shape_of t).form inode Absent other
 form-drop_node t inode other = elim (cases_eq other inode) [
-  | inl e ↦ ap form_of (ap (get (remove t.nodes inode)) e ∙ get-removed number_key t.nodes inode) ∙ sym (ap (with_form (shape_of t).form inode Absent) e ∙ with_form-here (shape_of t).form inode Absent)
+  | inl e ↦ ap form_of (ap (get (remove t.nodes inode)) e ∙ get-removed number_key t.nodes inode)
+      ∙ sym (ap (with_form (shape_of t).form inode Absent) e ∙ with_form-here (shape_of t).form inode Absent)
   | inr apart ↦ ap form_of (get-remove_apart number_key t.nodes inode other apart) ∙ sym (with_form-apart (shape_of t).form inode Absent other apart)
 ]
 
-pub shape-put_node : (t : Tree) (inode : ℕ) (node : Node) → shape_of (put_node t inode node) ≡ with_forms (shape_of t) (with_form (shape_of t).form inode (form_of (Some node)))
+pub shape-put_node : (t : Tree) (inode : ℕ) (node : Node)
+    → shape_of (put_node t inode node) ≡ with_forms (shape_of t) (with_form (shape_of t).form inode (form_of (Some node)))
 shape-put_node t inode node = λ i. record (shape_of t) { form = λ other. form-put_node t inode node other i }
 
 pub shape-drop_node : (t : Tree) (inode : ℕ) → shape_of (drop_node t inode) ≡ with_forms (shape_of t) (with_form (shape_of t).form inode Absent)
@@ -270,13 +284,15 @@ pub shape-put_node_same : (t : Tree) (inode : ℕ) (node : Node) → form_of (So
 shape-put_node_same t inode node same = shape-put_node t inode node ∙ ap (λ f. with_forms (shape_of t) (with_form (shape_of t).form inode f)) same
     ∙ (λ i. record (shape_of t) { form = λ other. with_form-same (shape_of t).form inode other i })
 
-change_node_at : (t : Tree) (inode : ℕ) (change : Node → Node) (o : Option Node) → node_at t inode ≡ o → ((node : Node) → form_of (Some (change node)) ≡ form_of (Some node))
+change_node_at : (t : Tree) (inode : ℕ) (change : Node → Node) (o : Option Node) → node_at t inode ≡ o
+    → ((node : Node) → form_of (Some (change node)) ≡ form_of (Some node))
     → shape_of (set_node t inode (option_map change o)) ≡ shape_of t
 change_node_at t inode change None e keeps_form = refl
 change_node_at t inode change (Some node) e keeps_form = shape-put_node_same t inode (change node) (keeps_form node ∙ sym (ap form_of e))
 
 -- a change that keeps forms
-pub shape-change_node_same : (t : Tree) (inode : ℕ) (change : Node → Node) → ((node : Node) → form_of (Some (change node)) ≡ form_of (Some node)) → shape_of (change_node t inode change) ≡ shape_of t
+pub shape-change_node_same : (t : Tree) (inode : ℕ) (change : Node → Node) → ((node : Node) → form_of (Some (change node)) ≡ form_of (Some node))
+    → shape_of (change_node t inode change) ≡ shape_of t
 shape-change_node_same t inode change keeps_form = change_node_at t inode change (node_at t inode) refl keeps_form
 
 -- a change of a node that is there
@@ -288,7 +304,8 @@ shape-change_node t inode change node there = ap (λ o. shape_of (set_node t ino
 pub shape-touch : (t : Tree) (now dir : ℕ) → shape_of (touch t now dir) ≡ shape_of t
 shape-touch t now dir = shape-change_node_same t dir (touched now) (λ node. refl)
 
-pub shape-put_entry : (t : Tree) (now : ℕ) (place : EntryKey) (inode : ℕ) → shape_of (put_entry t now place inode) ≡ with_entries (shape_of t) (insert t.entries place inode)
+pub shape-put_entry : (t : Tree) (now : ℕ) (place : EntryKey) (inode : ℕ)
+    → shape_of (put_entry t now place inode) ≡ with_entries (shape_of t) (insert t.entries place inode)
 shape-put_entry t now place inode = ap (λ (s : Shape). with_entries s (insert t.entries place inode)) (shape-touch t now place.dir)
 
 pub shape-take_entry : (t : Tree) (now : ℕ) (place : EntryKey) → shape_of (take_entry t now place) ≡ with_entries (shape_of t) (remove t.entries place)
@@ -302,13 +319,21 @@ there_or_absent Regular = inr refl
 there_or_absent Link = inr refl
 there_or_absent (Dir parent) = inr refl
 
+-- a node of another kind
+abbrev of_kind : Node → Kind → Option Node
+of_kind node kind = Some (record node { kind = kind })
+
 pub is_there-form : (o : Option Node) → is_there (form_of o) ≡ is_some o
 is_there-form None = refl
-is_there-form (Some node) = elim node.kind as (λ kind. is_there (form_of (Some (record node { kind = kind }))) ≡ true) [ File content ↦ refl | Directory parent ↦ refl | Symlink target ↦ refl ]
+is_there-form (Some node) = elim node.kind as (λ kind. is_there (form_of (of_kind node kind)) ≡ true) [
+  | File content ↦ refl
+  | Directory parent ↦ refl
+  | Symlink target ↦ refl
+]
 
 pub is_dir-form : (o : Option Node) → is_dir (form_of o) ≡ is_some (parent_of o)
 is_dir-form None = refl
-is_dir-form (Some node) = elim node.kind as (λ kind. is_dir (form_of (Some (record node { kind = kind }))) ≡ is_some (parent_of (Some (record node { kind = kind })))) [
+is_dir-form (Some node) = elim node.kind as (λ kind. is_dir (form_of (of_kind node kind)) ≡ is_some (parent_of (of_kind node kind))) [
   | File content ↦ refl
   | Directory parent ↦ refl
   | Symlink target ↦ refl
@@ -321,11 +346,15 @@ kind_form (Directory parent) = Dir parent
 kind_form (Symlink target) = Link
 
 pub form-kind : (node : Node) → form_of (Some node) ≡ kind_form node.kind
-form-kind node = elim node.kind as (λ kind. form_of (Some (record node { kind = kind })) ≡ kind_form kind) [ File content ↦ refl | Directory parent ↦ refl | Symlink target ↦ refl ]
+form-kind node = elim node.kind as (λ kind. form_of (of_kind node kind) ≡ kind_form kind) [
+  | File content ↦ refl
+  | Directory parent ↦ refl
+  | Symlink target ↦ refl
+]
 
 pub form-parent : (o : Option Node) (parent : ℕ) → parent_of o ≡ Some parent → form_of o ≡ Dir parent
 form-parent None parent h = absurd (cc)
-form-parent (Some node) parent h = elim node.kind as (λ kind. parent_of (Some (record node { kind = kind })) ≡ Some parent → form_of (Some (record node { kind = kind })) ≡ Dir parent) [
+form-parent (Some node) parent h = elim node.kind as (λ kind. parent_of (of_kind node kind) ≡ Some parent → form_of (of_kind node kind) ≡ Dir parent) [
   | File content ↦ λ e. absurd (cc)
   | Directory other ↦ λ e. ap Dir (same_Some other parent e)
   | Symlink target ↦ λ e. absurd (cc)
@@ -333,7 +362,7 @@ form-parent (Some node) parent h = elim node.kind as (λ kind. parent_of (Some (
 
 pub form-content : (o : Option Node) (content : Content) → content_of o ≡ Some content → form_of o ≡ Regular
 form-content None content h = absurd (cc)
-form-content (Some node) content h = elim node.kind as (λ kind. content_of (Some (record node { kind = kind })) ≡ Some content → form_of (Some (record node { kind = kind })) ≡ Regular) [
+form-content (Some node) content h = elim node.kind as (λ kind. content_of (of_kind node kind) ≡ Some content → form_of (of_kind node kind) ≡ Regular) [
   | File own ↦ λ e. refl
   | Directory other ↦ λ e. absurd (cc)
   | Symlink target ↦ λ e. absurd (cc)
