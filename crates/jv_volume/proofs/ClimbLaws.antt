@@ -1,7 +1,7 @@
 -- The way up from a directory to the root or the trash, and the model's test whether a directory lies in another one.
 use Rattle.std.proofs.Common.{◌≡◌, ◌≢◌, ℕ, zero, suc, ◌+◌, ◌≤◌, Bool, true, false, not, ◌&&◌, ◌||◌, ◌==◌, ◌⊎◌, inl, inr, List, [], ◌∷◌, length, Option, None, Some, is_some, refl, sym, ap, subst, ◌∙◌, arith}
 use Rattle.std.specs.Prelude.{IsTrue}
-use Rattle.std.proofs.lemmas.Bool.{cases_eq, eqb-true, eqb-false, ne_eqb, false≢true, or_parts, or_from, and_right, and_cases}
+use Rattle.std.proofs.lemmas.Bool.{cases_eq, eqb-true, eqb-false, ne_eqb, false≢true, or_parts, or_from, and_right, and_cases, true_from_ne_false}
 use Rattle.jv_model.specs.FiniteMap.{Map, number_key, get, remove, key_count, sum_over, total_over}
 use Rattle.jv_model.specs.tree.Tree.{Tree, Node, Kind, File, Directory, Symlink, root, trash_root, node_at, parent_of, parent_at, is_directory}
 use Rattle.jv_model.specs.tree.Renaming.{is_within, is_inside}
@@ -154,6 +154,13 @@ top_cases dir h = elim (or_true (dir == root) (dir == trash_root) h) [
   | inr e ↦ inr (eqb-true dir trash_root e)
 ]
 
+-- the root's own parent, and the trash's, is the root
+pub top_parent : (s : Shape) (dir parent : ℕ) → WholeShape s → IsTrue (is_top dir) → s.form dir ≡ Dir parent → parent ≡ root
+top_parent s dir parent whole top is = elim (top_cases dir top) [
+  | inl e ↦ dir_parent parent root (sym is ∙ ap s.form e ∙ whole.root_there)
+  | inr e ↦ dir_parent parent root (sym is ∙ ap s.form e ∙ whole.trash_there)
+]
+
 -- no directory on the way up is a file or a symlink
 pub avoids_leaf : (s : Shape) (inode steps dir : ℕ) → WholeShape s → is_dir (s.form inode) ≡ false → Reaches s.form steps dir → Avoids s.form inode steps dir
 avoids_leaf s inode zero dir whole leaf h = (top_apart, h)
@@ -217,6 +224,34 @@ avoided t above (suc n) (suc steps) dir whole low h =
 -- A directory with a way up that avoids another one isn't inside that one. The root itself may be on no way, and all are inside it.
 pub outside_avoids : (t : Tree) (dir inode n : ℕ) → WholeShape (shape_of t) → is_top inode ≡ false → Avoids (shape_of t).form inode n dir → is_inside t dir inode ≡ false
 outside_avoids t dir inode n whole low h = and_right (is_directory t inode) _ (avoided t inode n (key_count t.nodes) dir whole low h)
+
+-- so many steps up lead from a directory to an inode
+abbrev pub Meets : (ℕ → Form) → ℕ → ℕ → ℕ → Type 0
+Meets form inode zero dir = dir ≡ inode
+Meets form inode (suc steps) dir = (parent : ℕ) × (form dir ≡ Dir parent) × Meets form inode steps parent
+
+root_meets : (s : Shape) (inode n dir : ℕ) → WholeShape s → is_top inode ≡ false → dir ≡ root → Meets s.form inode n dir → ⊥
+root_meets s inode zero dir whole low e h = false≢true (sym low ∙ ap is_top (sym h ∙ e))
+root_meets s inode (suc n) dir whole low e h =
+    root_meets s inode n h.0 whole low (dir_parent h.0 root (sym h.1 ∙ ap s.form e ∙ whole.root_there)) h.2
+
+top_meets : (s : Shape) (inode n dir : ℕ) → WholeShape s → is_top inode ≡ false → IsTrue (is_top dir) → Meets s.form inode n dir → ⊥
+top_meets s inode zero dir whole low top h = false≢true (sym low ∙ ap is_top (sym h) ∙ top)
+top_meets s inode (suc n) dir whole low top h = root_meets s inode n h.0 whole low (top_parent s dir h.0 whole top h.1) h.2
+
+meets_avoided : (s : Shape) (inode n m dir : ℕ) → WholeShape s → is_top inode ≡ false → Meets s.form inode n dir → Avoids s.form inode m dir → ⊥
+meets_avoided s inode zero m dir whole low h k = apart_avoids s.form inode m dir k h
+meets_avoided s inode (suc n) zero dir whole low h k = top_meets s inode (suc n) dir whole low k.1 h
+meets_avoided s inode (suc n) (suc m) dir whole low h k =
+    let same : h.0 ≡ k.1.0 = dir_parent _ _ (sym h.1 ∙ k.1.1) in
+    meets_avoided s inode n m k.1.0 whole low (subst (Meets s.form inode n) same h.2) k.1.2
+
+-- a directory from which a way up leads to another one, or to itself, is inside that one
+pub inside_meets : (t : Tree) (dir inode n : ℕ) → WholeShape (shape_of t) → IsTrue (is_dir ((shape_of t).form dir)) → is_top inode ≡ false
+    → Meets (shape_of t).form inode n dir → is_inside t dir inode ≡ true
+inside_meets t dir inode n whole is low h = true_from_ne_false (is_inside t dir inode) (λ outside.
+    let up = avoids_outside t dir inode whole is outside in
+    meets_avoided (shape_of t) inode n up.0 dir whole low h up.1)
 
 -- a way up that comes by no directory twice avoids where it began
 

@@ -20,3 +20,4 @@ pub mod BrokenRowsExamples
 pub mod WalkShapeLaws
 pub mod OperationShapeLaws
 pub mod ReadingShapeLaws
+pub mod RenamingOperationLaws

@@ -7,14 +7,7 @@ use Rattle.jv_model.specs.FiniteMap.{get, insert, remove}
 use Rattle.jv_model.specs.tree.Tree.{EntryKey, entry_key, pair_key, SustainedFile, root, trash_root}
 use Rattle.jv_volume.specs.Shape.{Absent, Regular, Dir, Shape, WholeShape, Names, Entered, Keeps, is_there, is_dir, named, keeps, names, is_top, Reaches}
 use Rattle.jv_volume.proofs.ShapeMapLaws.{same_or_apart, get-inserted, get-insert_apart, get-removed, get-remove_apart, was_kept, count-remove_same, count-remove_apart, counted_once, with_form, with_form-here, with_form-apart, with_entries}
-use Rattle.jv_volume.proofs.ClimbLaws.{dir_parent, top_cases}
-
--- the root's own parent, and the trash's, is the root
-pub top_parent : (s : Shape) (dir parent : ℕ) → WholeShape s → IsTrue (is_top dir) → s.form dir ≡ Dir parent → parent ≡ root
-top_parent s dir parent whole top is = elim (top_cases dir top) [
-  | inl e ↦ dir_parent parent root (sym is ∙ ap s.form e ∙ whole.root_there)
-  | inr e ↦ dir_parent parent root (sym is ∙ ap s.form e ∙ whole.trash_there)
-]
+use Rattle.jv_volume.proofs.ClimbLaws.{top_parent}
 
 -- an entry that stays where its inode and its directory are what they were
 pub entry_kept : (s after : Shape) (at : EntryKey) (inode : ℕ) → is_there (after.form inode) ≡ is_there (s.form inode) → is_dir (after.form inode) ≡ is_dir (s.form inode)

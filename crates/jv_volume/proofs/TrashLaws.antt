@@ -129,6 +129,13 @@ module _ (t : Tree) (now : ℕ) (place : EntryKey) (inode : ℕ) (whole : WholeS
       (inode_low s place.dir whole (there_of_dir (s.form place.dir) own.within)) (inode_low s inode whole own.there) (inode_low made other made_whole names_it.there) trashed_it.name in
       absurd (place_apart place at_trash outside (omega (arith, after_trash)) (only_one (made).entries at_trash place inode one_made (e ∙ ap Some (sym same)) is_made))
 
+  -- the place in the trash is free, once the hour's directory is made, and before
+  pub made_place_free : named (shape_of (with_hour t now (hour_at now))) (trash_place (hour_at now) place inode) ≡ None
+  made_place_free = free_at (named made at_trash) refl
+
+  pub trash_place_free : named (shape_of t) (trash_place (hour_at now) place inode) ≡ None
+  trash_place_free = sym (beside.entries at_trash (λ e. absurd (omega (arith, after_trash, e)))) ∙ made_place_free
+
   leaf_made : is_dir (made.form inode) ≡ false
   leaf_made = ap is_dir form_made ∙ leaf_form
 
@@ -136,7 +143,7 @@ module _ (t : Tree) (now : ℕ) (place : EntryKey) (inode : ℕ) (whole : WholeS
   may_trash =
       let up = reaches_dir made (hour_inode hour) made_whole (ap is_dir beside.is) in record {
         is = is_made;
-        free = free_at (named made at_trash) refl;
+        free = made_place_free;
         within = ap is_dir beside.is;
         leaves = place_off;
         enters = λ e. absurd (omega (arith, after_trash, e));
@@ -165,7 +172,7 @@ module _ (t : Tree) (now : ℕ) (place : EntryKey) (inode : ℕ) (whole : WholeS
     gone = get-insert_apart entry_key (remove (made).entries place) at_trash inode place (place_apart place at_trash outside (omega (arith, after_trash))) ∙ get-removed entry_key (made).entries place;
     still = λ at i apart off h.
         let there : named made at ≡ Some i = beside.entries at off ∙ h in
-        get-insert_apart entry_key (remove (made).entries place) at_trash inode at (λ e. none-some _ (sym (free_at (named made at_trash) refl) ∙ ap (named made) (sym e) ∙ there))
+        get-insert_apart entry_key (remove (made).entries place) at_trash inode at (λ e. none-some _ (sym made_place_free ∙ ap (named made) (sym e) ∙ there))
         ∙ get-remove_apart entry_key (made).entries place at apart ∙ there;
     dirs = λ dir parent is_it apart. with_form-apart (made).form inode _ dir apart ∙ dir_made dir parent is_it;
   })
