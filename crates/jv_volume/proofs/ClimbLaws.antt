@@ -81,15 +81,19 @@ one_less m k there =
     omega (arith, all, counted_once k (get m k) there, key_count_sum m, key_count_sum (remove m k))
 
 -- a way up by different directories is no longer than their number
-steps_within : (form : ℕ → Form) (m : Map number_key Node) (P : ℕ → Type 0) → ((q : ℕ) → P q → IsTrue (is_some (get m q))) → (steps dir : ℕ) → Once form P steps dir → steps ≤ key_count m
+steps_within : (form : ℕ → Form) (m : Map number_key Node) (P : ℕ → Type 0) → ((q : ℕ) → P q → IsTrue (is_some (get m q))) → (steps dir : ℕ)
+    → Once form P steps dir → steps ≤ key_count m
 steps_within form m P there zero dir h = omega arith
 steps_within form m P there (suc steps) dir h =
-    let rest = steps_within form (remove m dir) (λ q. P q × (q ≢ dir)) (λ q p. ap is_some (get-remove_apart number_key m dir q p.1) ∙ there q p.0) steps h.0 h.3 in
+    let still : (q : ℕ) → P q × (q ≢ dir) → IsTrue (is_some (get (remove m dir) q)) =
+    λ q p. ap is_some (get-remove_apart number_key m dir q p.1) ∙ there q p.0 in
+    let rest = steps_within form (remove m dir) (λ q. P q × (q ≢ dir)) still steps h.0 h.3 in
     omega (arith, rest, one_less m dir (there dir h.2))
 
 -- the model's test
 
-parent_of_kind : (node : Node) (kind : Kind) (parent : ℕ) → form_of (Some (record node { kind = kind })) ≡ Dir parent → parent_of (Some (record node { kind = kind })) ≡ Some parent
+parent_of_kind : (node : Node) (kind : Kind) (parent : ℕ) → form_of (Some (record node { kind = kind })) ≡ Dir parent
+    → parent_of (Some (record node { kind = kind })) ≡ Some parent
 parent_of_kind node (File content) parent h = absurd (false≢true (ap is_dir h))
 parent_of_kind node (Directory own) parent h = ap Some (dir_parent own parent h)
 parent_of_kind node (Symlink target) parent h = absurd (false≢true (ap is_dir h))
@@ -102,6 +106,7 @@ parent_of_form (Some node) parent h = parent_of_kind node node.kind parent h
 pub is_directory-form : (t : Tree) (inode : ℕ) → is_directory t inode ≡ is_dir ((shape_of t).form inode)
 is_directory-form t inode = sym (is_dir-form (node_at t inode))
 
+-- and has the same parent there
 pub parent_at-form : (t : Tree) (dir parent : ℕ) → (shape_of t).form dir ≡ Dir parent → parent_at t dir ≡ Some parent
 parent_at-form t dir parent h = parent_of_form (node_at t dir) parent h
 
@@ -118,14 +123,16 @@ unfolding is_within
 apart_within t zero dir above h = eqb-false dir above h
 apart_within t (suc steps) dir above h = eqb-false dir above (or_parts (dir == above) _ h).0
 
-goes_up : (t : Tree) (steps dir above parent : ℕ) → parent_at t dir ≡ Some parent → is_within (suc steps) t dir above ≡ false → (not (dir == root) && is_within steps t parent above) ≡ false
+goes_up : (t : Tree) (steps dir above parent : ℕ) → parent_at t dir ≡ Some parent → is_within (suc steps) t dir above ≡ false
+    → (not (dir == root) && is_within steps t parent above) ≡ false
 unfolding is_within step_up
 goes_up t steps dir above parent e h = sym (ap (step_up t steps dir above) e) ∙ (or_parts (dir == above) (step_up t steps dir above (parent_at t dir)) h).1
 
 top_root : (dir : ℕ) → dir ≡ root → IsTrue (is_top dir)
 top_root dir e = ap is_top e
 
-climbed : (t : Tree) (above steps count dir : ℕ) → steps ≤ count → Reaches (shape_of t).form steps dir → is_within count t dir above ≡ false → (n : ℕ) × Avoids (shape_of t).form above n dir
+climbed : (t : Tree) (above steps count dir : ℕ) → steps ≤ count → Reaches (shape_of t).form steps dir → is_within count t dir above ≡ false
+    → (n : ℕ) × Avoids (shape_of t).form above n dir
 climbed t above zero count dir less h test = (0, (apart_within t count dir above test, h))
 climbed t above (suc steps) zero dir less h test = absurd (omega arith)
 climbed t above (suc steps) (suc count) dir less h test = elim (cases_eq dir root) [
@@ -140,8 +147,11 @@ climbed t above (suc steps) (suc count) dir less h test = elim (cases_eq dir roo
 -- the way up from a directory has at most as many steps as there are nodes
 few_steps : (t : Tree) (steps dir : ℕ) → Reaches (shape_of t).form steps dir → (n : ℕ) × (n ≤ key_count t.nodes) × Reaches (shape_of t).form n dir
 few_steps t steps dir h =
-    let once = once_from (shape_of t).form (λ q. IsTrue (is_some (node_at t q))) (λ q parent e. node_of_form (node_at t q) parent e) steps dir h in
-    (once.0, steps_within (shape_of t).form t.nodes (λ q. IsTrue (is_some (node_at t q))) (λ q p. p) once.0 dir once.1, reaches_once (shape_of t).form _ once.0 dir once.1)
+    let once = once_from (shape_of t).form (λ q. IsTrue (is_some (node_at t q))) (λ q parent e. node_of_form (node_at t q) parent e) steps dir h in (
+      once.0,
+      steps_within (shape_of t).form t.nodes (λ q. IsTrue (is_some (node_at t q))) (λ q p. p) once.0 dir once.1,
+      reaches_once (shape_of t).form _ once.0 dir once.1,
+    )
 
 or_true : (a b : Bool) → (a || b) ≡ true → (a ≡ true) ⊎ (b ≡ true)
 or_true true b h = inl refl
@@ -194,16 +204,19 @@ apart_avoids : (form : ℕ → Form) (inode n dir : ℕ) → Avoids form inode n
 apart_avoids form inode zero dir h = h.0
 apart_avoids form inode (suc n) dir h = h.0
 
-stays_out : (t : Tree) (steps dir above parent : ℕ) → dir ≢ above → parent_at t dir ≡ Some parent → (not (dir == root) && is_within steps t parent above) ≡ false → is_within (suc steps) t dir above ≡ false
+stays_out : (t : Tree) (steps dir above parent : ℕ) → dir ≢ above → parent_at t dir ≡ Some parent
+    → (not (dir == root) && is_within steps t parent above) ≡ false → is_within (suc steps) t dir above ≡ false
 unfolding is_within step_up
-stays_out t steps dir above parent apart e up = or_from (dir == above) (step_up t steps dir above (parent_at t dir)) (ne_eqb dir above apart) (ap (step_up t steps dir above) e ∙ up)
+stays_out t steps dir above parent apart e up = or_from (dir == above) (step_up t steps dir above (parent_at t dir)) (ne_eqb dir above apart)
+    (ap (step_up t steps dir above) e ∙ up)
 
 root_outside : (t : Tree) (steps above : ℕ) → WholeShape (shape_of t) → root ≢ above → is_within steps t root above ≡ false
 unfolding is_within
 root_outside t zero above whole apart = ne_eqb root above apart
 root_outside t (suc steps) above whole apart = stays_out t steps root above root apart (parent_at-form t root root whole.root_there) refl
 
-top_outside : (t : Tree) (steps dir above : ℕ) → WholeShape (shape_of t) → is_top above ≡ false → dir ≢ above → IsTrue (is_top dir) → is_within steps t dir above ≡ false
+top_outside : (t : Tree) (steps dir above : ℕ) → WholeShape (shape_of t) → is_top above ≡ false → dir ≢ above → IsTrue (is_top dir)
+    → is_within steps t dir above ≡ false
 unfolding is_within
 top_outside t zero dir above whole low apart h = ne_eqb dir above apart
 top_outside t (suc steps) dir above whole low apart h =
@@ -211,10 +224,12 @@ top_outside t (suc steps) dir above whole low apart h =
     elim (top_cases dir h) [
       | inl e ↦ ap (λ q. is_within (suc steps) t q above) e ∙ root_outside t (suc steps) above whole free
       | inr same ↦
-          stays_out t steps dir above root apart (ap (parent_at t) same ∙ parent_at-form t trash_root root whole.trash_there) (and_right (not (dir == root)) _ (root_outside t steps above whole free))
+          let parent : parent_at t dir ≡ Some root = ap (parent_at t) same ∙ parent_at-form t trash_root root whole.trash_there in
+          stays_out t steps dir above root apart parent (and_right (not (dir == root)) _ (root_outside t steps above whole free))
     ]
 
-avoided : (t : Tree) (above n steps dir : ℕ) → WholeShape (shape_of t) → is_top above ≡ false → Avoids (shape_of t).form above n dir → is_within steps t dir above ≡ false
+avoided : (t : Tree) (above n steps dir : ℕ) → WholeShape (shape_of t) → is_top above ≡ false → Avoids (shape_of t).form above n dir
+    → is_within steps t dir above ≡ false
 unfolding is_within
 avoided t above zero steps dir whole low h = top_outside t steps dir above whole low h.0 h.1
 avoided t above (suc n) zero dir whole low h = ne_eqb dir above h.0
@@ -222,7 +237,8 @@ avoided t above (suc n) (suc steps) dir whole low h =
     stays_out t steps dir above h.1.0 h.0 (parent_at-form t dir h.1.0 h.1.1) (and_right (not (dir == root)) _ (avoided t above n steps h.1.0 whole low h.1.2))
 
 -- A directory with a way up that avoids another one isn't inside that one. The root itself may be on no way, and all are inside it.
-pub outside_avoids : (t : Tree) (dir inode n : ℕ) → WholeShape (shape_of t) → is_top inode ≡ false → Avoids (shape_of t).form inode n dir → is_inside t dir inode ≡ false
+pub outside_avoids : (t : Tree) (dir inode n : ℕ) → WholeShape (shape_of t) → is_top inode ≡ false → Avoids (shape_of t).form inode n dir
+    → is_inside t dir inode ≡ false
 outside_avoids t dir inode n whole low h = and_right (is_directory t inode) _ (avoided t inode n (key_count t.nodes) dir whole low h)
 
 -- so many steps up lead from a directory to an inode
@@ -259,14 +275,16 @@ avoid_once : (form : ℕ → Form) (P : ℕ → Type 0) (d : ℕ) → ((x : ℕ)
 avoid_once form P d apart low zero q h = (λ e. false≢true (sym low ∙ sym (ap is_top e) ∙ h), h)
 avoid_once form P d apart low (suc n) q h = (apart q h.2, (h.0, h.1, avoid_once form _ d (λ x p. apart x p.0) low n h.0 h.3))
 
-above_once : (form : ℕ → Form) (dir parent n : ℕ) → is_top dir ≡ false → form dir ≡ Dir parent → Once form (λ q. Unit {0}) n dir → (m : ℕ) × Avoids form dir m parent
+above_once : (form : ℕ → Form) (dir parent n : ℕ) → is_top dir ≡ false → form dir ≡ Dir parent → Once form (λ q. Unit {0}) n dir
+    → (m : ℕ) × Avoids form dir m parent
 above_once form dir parent zero low is h = absurd (false≢true (sym low ∙ h))
 above_once form dir parent (suc n) low is h =
     let same : h.0 ≡ parent = dir_parent _ _ (sym h.1 ∙ is) in
     (n, subst (Avoids form dir n) same (avoid_once form _ dir (λ x p. p.1) low n h.0 h.3))
 
 -- the way up from a directory's parent avoids the directory
-pub above_avoids : (form : ℕ → Form) (dir parent steps : ℕ) → is_top dir ≡ false → form dir ≡ Dir parent → Reaches form steps dir → (n : ℕ) × Avoids form dir n parent
+pub above_avoids : (form : ℕ → Form) (dir parent steps : ℕ) → is_top dir ≡ false → form dir ≡ Dir parent → Reaches form steps dir
+    → (n : ℕ) × Avoids form dir n parent
 above_avoids form dir parent steps low is h =
     let once = once_from form (λ q. Unit {0}) (λ q p e. tt) steps dir h in
     above_once form dir parent once.0 low is once.1

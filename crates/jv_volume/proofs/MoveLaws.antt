@@ -27,7 +27,8 @@ use Rattle.jv_volume.proofs.ShapeMoveLaws.{form_under, moved_shape, MayMove, dir
 abbrev pub moved_in : Shape → EntryKey → ℕ → Shape
 moved_in s place inode = record s { form = with_form s.form inode (form_under place.dir (s.form inode)); entries = insert s.entries place inode }
 
-form-moved_node : (now dir : ℕ) (node : Node) (kind : Kind) → form_of (Some (moved_node now dir (record node { kind = kind }))) ≡ form_under dir (form_of (Some (record node { kind = kind })))
+form-moved_node : (now dir : ℕ) (node : Node) (kind : Kind)
+    → form_of (Some (moved_node now dir (record node { kind = kind }))) ≡ form_under dir (form_of (Some (record node { kind = kind })))
 form-moved_node now dir node (File content) = refl
 form-moved_node now dir node (Directory parent) = refl
 form-moved_node now dir node (Symlink target) = refl
@@ -43,18 +44,23 @@ moved_node_at t inode now dir (Some node) e =
     ∙ ap (λ f. with_forms (shape_of t) (with_form (shape_of t).form inode f)) (form-moved_node now dir node node.kind)
 
 shape-moved_node : (t : Tree) (inode now dir : ℕ)
-    → shape_of (change_node t inode (moved_node now dir)) ≡ with_forms (shape_of t) (with_form (shape_of t).form inode (form_under dir ((shape_of t).form inode)))
+    → shape_of (change_node t inode (moved_node now dir)) ≡ with_forms (shape_of t)
+    (with_form (shape_of t).form inode (form_under dir ((shape_of t).form inode)))
 shape-moved_node t inode now dir = moved_node_at t inode now dir (node_at t inode) refl
 
+-- the shape of each move
 pub shape-move_in : (t : Tree) (now : ℕ) (place : EntryKey) (inode : ℕ) → shape_of (move_in t now place inode) ≡ moved_in (shape_of t) place inode
 shape-move_in t now place inode =
     shape-moved_node (put_entry t now place inode) inode now place.dir
     ∙ ap (λ (q : Shape). with_forms q (with_form q.form inode (form_under place.dir (q.form inode)))) (shape-put_entry t now place inode)
 
-pub shape-moved : (t : Tree) (now : ℕ) (from : EntryKey) (inode : ℕ) (to : EntryKey) → shape_of (moved t now from inode to) ≡ moved_shape (shape_of t) from inode to
+-- from one entry to another
+pub shape-moved : (t : Tree) (now : ℕ) (from : EntryKey) (inode : ℕ) (to : EntryKey)
+    → shape_of (moved t now from inode to) ≡ moved_shape (shape_of t) from inode to
 shape-moved t now from inode to =
     shape-move_in (take_entry t now from) now to inode ∙ ap (λ (q : Shape). moved_in q to inode) (shape-take_entry t now from)
 
+-- and back
 pub shape-exchanged : (t : Tree) (now : ℕ) (from : EntryKey) (source : ℕ) (to : EntryKey) (other : ℕ)
     → shape_of (exchanged t now from source to other) ≡ moved_in (moved_in (shape_of t) to source) from other
 shape-exchanged t now from source to other =
@@ -62,8 +68,9 @@ shape-exchanged t now from source to other =
 
 -- to a free place
 
-pub stays_in_trash : (place : EntryKey) → may_go place ≡ true → place.dir ≢ trash_root
-stays_in_trash place may e = false≢true (sym (or_parts (place.dir == trash_root) _ (not-true _ may)).0 ∙ eq-eqb place.dir trash_root e)
+-- what may go is none of the trash's own entries
+pub not_trash_root : (place : EntryKey) → may_go place ≡ true → place.dir ≢ trash_root
+not_trash_root place may e = false≢true (sym (or_parts (place.dir == trash_root) _ (not-true _ may)).0 ∙ eq-eqb place.dir trash_root e)
 
 -- An entry that may be renamed to a place: it isn't an hour of the trash, the place may have a new entry, and stands in a
 -- directory that isn't inside the inode.
@@ -84,7 +91,8 @@ no_trash_below : (place : EntryKey) → may_be_new place ≡ true → place.dir 
 no_trash_below place may e = absurd (omega (arith, new_below place may, e))
 
 -- a tree stays whole where an entry is renamed to a free place
-pub whole-moved_free : (t : Tree) (now : ℕ) (from : EntryKey) (inode : ℕ) (to : EntryKey) → WholeShape (shape_of t) → MayRename t from inode to → named (shape_of t) to ≡ None
+pub whole-moved_free : (t : Tree) (now : ℕ) (from : EntryKey) (inode : ℕ) (to : EntryKey) → WholeShape (shape_of t) → MayRename t from inode to
+    → named (shape_of t) to ≡ None
     → WholeShape (shape_of (moved t now from inode to))
 whole-moved_free t now from inode to whole may free =
     let up = avoids_outside t to.dir inode whole (dir_within t to.dir may.within) may.outside in
@@ -92,7 +100,7 @@ whole-moved_free t now from inode to whole may free =
       is = may.is;
       free = free;
       within = dir_within t to.dir may.within;
-      leaves = stays_in_trash from may.leaves;
+      leaves = not_trash_root from may.leaves;
       enters = no_trash_below to may.enters;
       trashed = λ hour. absurd (no_hour_below to may.enters hour);
       steps = up.0;
@@ -128,6 +136,7 @@ module _ (t : Tree) (who : Caller) (to : EntryKey) (other : ℕ) (whole : WholeS
   pub whole-without_target : WholeShape (shape_of (without_target t who to other))
   whole-without_target = (survives (is_directory t other) refl).0
 
+  -- and keeps other entries and its directories
   pub beside-without_target : Without (shape_of t) (shape_of (without_target t who to other)) to other
   beside-without_target = (survives (is_directory t other) refl).1
 
@@ -139,17 +148,19 @@ module _ (t : Tree) (who : Caller) (to : EntryKey) (other : ℕ) (whole : WholeS
   ]
 
   -- a tree stays whole where an entry is renamed over another one
-  pub whole-replaced : (from : EntryKey) (source : ℕ) → MayRename t from source to → source ≢ other → WholeShape (shape_of (moved (without_target t who to other) who.now from source to))
+  pub whole-replaced : (from : EntryKey) (source : ℕ) → MayRename t from source to → source ≢ other
+      → WholeShape (shape_of (moved (without_target t who to other) who.now from source to))
   whole-replaced from source rename apart =
       let s = shape_of t in
       let after = shape_of (without_target t who to other) in
       let beside = beside-without_target in
       let dir = dir_within t to.dir rename.within in
       let parent = parent_of_dir (s.form to.dir) dir in
-      let off = stays_in_trash from rename.leaves in
+      let off = not_trash_root from rename.leaves in
       let up = avoids_outside t to.dir source whole dir rename.outside in
       let away : to.dir ≢ other = target_empty to other may.is in
-      subst WholeShape (sym (shape-moved (without_target t who to other) who.now from source to)) (whole-moved after from source to whole-without_target (record {
+      subst WholeShape (sym (shape-moved (without_target t who to other) who.now from source to))
+      (whole-moved after from source to whole-without_target (record {
         is = beside.still from source (λ e. apart (same_Some _ _ (sym rename.is ∙ ap (named s) e ∙ may.is))) off rename.is;
         free = beside.gone;
         within = ap is_dir (beside.dirs to.dir parent.0 parent.1 away);
@@ -222,7 +233,8 @@ no_trash dir low e = absurd (omega (arith, low, e))
 no_hour : (dir : ℕ) → dir < trash_root → IsTrue (is_hour dir) → ⊥
 no_hour dir low hour = false≢true (sym (not_hour_below dir low) ∙ hour)
 
-module _ (s : Shape) (from : EntryKey) (source : ℕ) (to : EntryKey) (other : ℕ) (name : List ℕ) (whole : WholeShape s) (may : MayExchange s from source to other)
+module _ (s : Shape) (from : EntryKey) (source : ℕ) (to : EntryKey) (other : ℕ) (name : List ℕ) (whole : WholeShape s)
+    (may : MayExchange s from source to other)
     (vacant : named s (record { dir = root; name = name }) ≡ None) where
   abbrev between : EntryKey
   between = record { dir = root; name = name }
@@ -330,8 +342,10 @@ module _ (s : Shape) (from : EntryKey) (source : ℕ) (to : EntryKey) (other : �
     | inr off ↦ elim (same_or_apart entry_key q to) [
       | inl e ↦
           get-insert_apart entry_key (remove second.entries between) from other q off
-          ∙ ap (get (remove second.entries between)) e ∙ get-remove_apart entry_key second.entries between to to_between ∙ get-inserted entry_key (remove first.entries from) to source
-          ∙ sym (get-insert_apart entry_key (insert s.entries to source) from other q off ∙ ap (get (insert s.entries to source)) e ∙ get-inserted entry_key s.entries to source)
+          ∙ ap (get (remove second.entries between)) e ∙ get-remove_apart entry_key second.entries between to to_between
+          ∙ get-inserted entry_key (remove first.entries from) to source
+          ∙ sym (get-insert_apart entry_key (insert s.entries to source) from other q off ∙ ap (get (insert s.entries to source)) e
+          ∙ get-inserted entry_key s.entries to source)
       | inr away ↦ entries_elsewhere q off away
     ]
   ]
@@ -343,7 +357,8 @@ module _ (s : Shape) (from : EntryKey) (source : ℕ) (to : EntryKey) (other : �
   other_source e = may.apart (sym e)
 
   second_other : second.form other ≡ form_under root (s.form other)
-  second_other = with_form-apart first.form source (form_under to.dir (first.form source)) other other_source ∙ with_form-here s.form other (form_under root (s.form other))
+  second_other = with_form-apart first.form source (form_under to.dir (first.form source)) other other_source
+      ∙ with_form-here s.form other (form_under root (s.form other))
 
   forms_at : (j : ℕ) → third.form j ≡ final.form j
   forms_at j = elim (cases_eq j other) [
@@ -363,7 +378,8 @@ module _ (s : Shape) (from : EntryKey) (source : ℕ) (to : EntryKey) (other : �
             ap second.form e ∙ with_form-here first.form source (form_under to.dir (first.form source)) ∙ ap (form_under to.dir) first_source
             ∙ sym (ap (moved_in s to source).form e ∙ with_form-here s.form source (form_under to.dir (s.form source)))
         | inr off ↦
-            with_form-apart first.form source (form_under to.dir (first.form source)) q off ∙ with_form-apart s.form other (form_under root (s.form other)) q away
+            with_form-apart first.form source (form_under to.dir (first.form source)) q off
+            ∙ with_form-apart s.form other (form_under root (s.form other)) q away
             ∙ sym (with_form-apart s.form source (form_under to.dir (s.form source)) q off)
       ]
 
@@ -376,12 +392,15 @@ module _ (s : Shape) (from : EntryKey) (source : ℕ) (to : EntryKey) (other : �
   whole-exchanged_by = subst WholeShape third_is (whole-moved second between other from second_whole may_third)
 
 -- a shape stays whole where two entries change places
-whole-exchanged_shape : (s : Shape) (from : EntryKey) (source : ℕ) (to : EntryKey) (other : ℕ) → WholeShape s → MayExchange s from source to other → WholeShape (moved_in (moved_in s to source) from other)
+whole-exchanged_shape : (s : Shape) (from : EntryKey) (source : ℕ) (to : EntryKey) (other : ℕ) → WholeShape s → MayExchange s from source to other
+    → WholeShape (moved_in (moved_in s to source) from other)
 unfolding free_place
-whole-exchanged_shape s from source to other whole may = whole-exchanged_by s from source to other (free_place s.entries).name whole may (free_place-free s.entries)
+whole-exchanged_shape s from source to other whole may = whole-exchanged_by s from source to other (free_place s.entries).name whole may
+    (free_place-free s.entries)
 
 -- a tree stays whole where two entries change places, of which none is in the trash
-pub whole-exchanged : (t : Tree) (now : ℕ) (from : EntryKey) (source : ℕ) (to : EntryKey) (other : ℕ) → WholeShape (shape_of t) → named (shape_of t) from ≡ Some source → named (shape_of t) to ≡ Some other
+pub whole-exchanged : (t : Tree) (now : ℕ) (from : EntryKey) (source : ℕ) (to : EntryKey) (other : ℕ) → WholeShape (shape_of t)
+    → named (shape_of t) from ≡ Some source → named (shape_of t) to ≡ Some other
     → source ≢ other → may_be_new from ≡ true → may_be_new to ≡ true → (is_inside t to.dir source || is_inside t from.dir other) ≡ false
     → WholeShape (shape_of (exchanged t now from source to other))
 whole-exchanged t now from source to other whole is also apart leaves enters outside =

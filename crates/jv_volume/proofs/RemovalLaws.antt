@@ -33,14 +33,16 @@ whole-gone : (s : Shape) (place : EntryKey) (inode : ℕ) → WholeShape s → M
 whole-gone s place inode whole may = whole-without_inode s place inode whole may.is may.only may.empty
 
 -- a directory's only entry
-dir_only : (s : Shape) (place : EntryKey) (inode : ℕ) → WholeShape s → named s place ≡ Some inode → IsTrue (is_dir (s.form inode)) → (at : EntryKey) → named s at ≡ Some inode → at ≡ place
+dir_only : (s : Shape) (place : EntryKey) (inode : ℕ) → WholeShape s → named s place ≡ Some inode → IsTrue (is_dir (s.form inode)) → (at : EntryKey)
+    → named s at ≡ Some inode → at ≡ place
 dir_only s place inode whole is dir at also =
     let parent = parent_of_dir (s.form inode) dir in
     let entered = whole.entered inode parent.0 parent.1 (whole.entry place inode is).free in
     entered.only at also ∙ sym (entered.only place is)
 
 -- an empty directory may go
-pub directory_may_go : (t : Tree) (place : EntryKey) (inode : ℕ) → WholeShape (shape_of t) → named (shape_of t) place ≡ Some inode → is_directory t inode ≡ true → has_entries t inode ≡ false
+pub directory_may_go : (t : Tree) (place : EntryKey) (inode : ℕ) → WholeShape (shape_of t) → named (shape_of t) place ≡ Some inode
+    → is_directory t inode ≡ true → has_entries t inode ≡ false
     → MayGo (shape_of t) place inode
 directory_may_go t place inode whole is dir vacant = record {
   is = is;
@@ -53,14 +55,17 @@ pub leaf_empty : (s : Shape) (inode : ℕ) → WholeShape s → is_dir (s.form i
 leaf_empty s inode whole leaf at i h e = false≢true (sym leaf ∙ ap (λ q. is_dir (s.form q)) (sym e) ∙ (whole.entry at i h).within)
 
 -- so may a file or a symlink that has one entry
-leaf_may_go : (s : Shape) (place : EntryKey) (inode : ℕ) → WholeShape s → named s place ≡ Some inode → is_dir (s.form inode) ≡ false → names s inode ≡ 1 → MayGo s place inode
+leaf_may_go : (s : Shape) (place : EntryKey) (inode : ℕ) → WholeShape s → named s place ≡ Some inode → is_dir (s.form inode) ≡ false → names s inode ≡ 1
+    → MayGo s place inode
 leaf_may_go s place inode whole is leaf one = record {
   is = is;
   only = λ at also. only_one s.entries place at inode one is also;
   empty = leaf_empty s inode whole leaf;
 }
 
-pub shape-remove_directory : (t : Tree) (now : ℕ) (place : EntryKey) (inode : ℕ) → shape_of (remove_directory t now place inode) ≡ without_inode (shape_of t) place inode
+-- the shape without a directory
+pub shape-remove_directory : (t : Tree) (now : ℕ) (place : EntryKey) (inode : ℕ)
+    → shape_of (remove_directory t now place inode) ≡ without_inode (shape_of t) place inode
 shape-remove_directory t now place inode =
     shape-drop_node (take_entry t now place) inode
     ∙ ap (λ (q : Shape). with_forms q (with_form q.form inode Absent)) (shape-take_entry t now place)
@@ -69,9 +74,12 @@ shape-remove_directory t now place inode =
 pub whole-remove_directory : (t : Tree) (now : ℕ) (place : EntryKey) (inode : ℕ) → WholeShape (shape_of t) → named (shape_of t) place ≡ Some inode
     → is_directory t inode ≡ true → has_entries t inode ≡ false → WholeShape (shape_of (remove_directory t now place inode))
 whole-remove_directory t now place inode whole is dir vacant =
-    subst WholeShape (sym (shape-remove_directory t now place inode)) (whole-gone (shape_of t) place inode whole (directory_may_go t place inode whole is dir vacant))
+    subst WholeShape (sym (shape-remove_directory t now place inode))
+    (whole-gone (shape_of t) place inode whole (directory_may_go t place inode whole is dir vacant))
 
-pub without-remove_directory : (t : Tree) (now : ℕ) (place : EntryKey) (inode : ℕ) → Without (shape_of t) (shape_of (remove_directory t now place inode)) place inode
+-- what the removal of a directory leaves
+pub without-remove_directory : (t : Tree) (now : ℕ) (place : EntryKey) (inode : ℕ)
+    → Without (shape_of t) (shape_of (remove_directory t now place inode)) place inode
 without-remove_directory t now place inode =
     subst (λ q. Without (shape_of t) q place inode) (sym (shape-remove_directory t now place inode))
     (without_only (shape_of t) _ place inode refl (λ i apart. with_form-apart (shape_of t).form inode Absent i apart))
@@ -99,14 +107,18 @@ module _ (t : Tree) (who : Caller) (place : EntryKey) (inode : ℕ) (whole : Who
   leaf_form : is_dir (s.form inode) ≡ false
   leaf_form = is_dir-form (node_at t inode) ∙ may.leaf
 
+  -- the shape of each fate but the trash
   pub shape-linked : shape_of (with_fate Linked less who place inode) ≡ with_entries s (remove s.entries place)
   shape-linked = shape-change_node_same less inode (status_changed who.now) (λ node. refl) ∙ shape-take_entry t who.now place
 
+  -- where the session keeps the file
   pub shape-sustained : shape_of (with_fate Sustained less who place inode) ≡ sustained_shape s place who.sid inode
   shape-sustained =
-      ap (λ (q : Shape). record q { sustained = insert (less).sustained (record { sid = who.sid; inode = inode }) tt }) (shape-change_node_same less inode (status_changed who.now) (λ node. refl))
+      ap (λ (q : Shape). record q { sustained = insert (less).sustained (record { sid = who.sid; inode = inode }) tt })
+      (shape-change_node_same less inode (status_changed who.now) (λ node. refl))
       ∙ ap (λ (q : Shape). record q { sustained = insert q.sustained (record { sid = who.sid; inode = inode }) tt }) (shape-take_entry t who.now place)
 
+  -- where the inode goes
   pub shape-dropped : shape_of (with_fate Dropped less who place inode) ≡ without_inode s place inode
   shape-dropped = shape-remove_directory t who.now place inode
 
@@ -120,17 +132,20 @@ module _ (t : Tree) (who : Caller) (place : EntryKey) (inode : ℕ) (whole : Who
   abbrev Survives : Fate → Type 0
   Survives fate = WholeShape (shape_of (with_fate fate less who place inode)) × Without s (shape_of (with_fate fate less who place inode)) place inode
 
-  survives_as : (fate : Fate) (after : Shape) → shape_of (with_fate fate less who place inode) ≡ after → WholeShape after → Without s after place inode → Survives fate
+  survives_as : (fate : Fate) (after : Shape) → shape_of (with_fate fate less who place inode) ≡ after → WholeShape after → Without s after place inode
+      → Survives fate
   survives_as fate after same kept beside = (subst WholeShape (sym same) kept, subst (λ q. Without s q place inode) (sym same) beside)
 
   fate_linked : nat_lt 1 (entry_count t inode) ≡ true → Survives Linked
   fate_linked several = survives_as Linked (with_entries s (remove s.entries place)) shape-linked
-      (whole-without_entry s place inode whole may.is leaf_form (ltb-true 1 (entry_count t inode) several)) (without_only s _ place inode refl (λ i apart. refl))
+      (whole-without_entry s place inode whole may.is leaf_form (ltb-true 1 (entry_count t inode) several))
+      (without_only s _ place inode refl (λ i apart. refl))
 
   fate_trashed : names s inode ≡ 1 → (nat_lt 0 t.setting.trash_days && not (in_trash place.dir)) ≡ true → Survives Trashed
   fate_trashed one days =
       let outside : in_trash place.dir ≡ false = not-true (in_trash place.dir) (and_parts _ _ days).1 in
-      (whole-trashed t who.now place inode whole may.clock may.is may.leaf one outside, without-trashed t who.now place inode whole may.clock may.is may.leaf one outside)
+      let kept = whole-trashed t who.now place inode whole may.clock may.is may.leaf one outside in
+      (kept, without-trashed t who.now place inode whole may.clock may.is may.leaf one outside)
 
   fate_sustained : names s inode ≡ 1 → list_any (λ held. held == inode) who.held ≡ true → Survives Sustained
   fate_sustained one used =
@@ -140,7 +155,8 @@ module _ (t : Tree) (who : Caller) (place : EntryKey) (inode : ℕ) (whole : Who
 
   fate_dropped : names s inode ≡ 1 → Survives Dropped
   fate_dropped one = survives_as Dropped (without_inode s place inode) shape-dropped
-      (whole-gone s place inode whole (leaf_may_go s place inode whole may.is leaf_form one)) (without_only s _ place inode refl (λ i apart. with_form-apart s.form inode Absent i apart))
+      (whole-gone s place inode whole (leaf_may_go s place inode whole may.is leaf_form one))
+      (without_only s _ place inode refl (λ i apart. with_form-apart s.form inode Absent i apart))
 
   survives : Survives (fate_of t who place inode)
   survives = cond_both (nat_lt 1 (entry_count t inode)) _ _ Survives fate_linked (λ few.
@@ -189,13 +205,15 @@ loose_in t hour (Some e) found whole due place is =
 
 due_at : (t : Tree) (now inode : ℕ) (o : Option (EntryKey × ℕ))
     → first_where (λ key inode. (key.dir == trash_root) && is_due t.setting now (hour_of inode)) t.entries ≡ o
-    → option_map (λ hour. elim (first_in t hour) as (λ _. ℕ) [ None ↦ hour | Some e ↦ e.1 ]) (option_map (λ (e : EntryKey × ℕ). e.1) o) ≡ Some inode → WholeShape (shape_of t) → Loose t inode
+    → option_map (λ hour. elim (first_in t hour) as (λ _. ℕ) [ None ↦ hour | Some e ↦ e.1 ]) (option_map (λ (e : EntryKey × ℕ). e.1) o) ≡ Some inode
+    → WholeShape (shape_of t) → Loose t inode
 due_at t now inode None found due whole = absurd (none-some _ due)
 due_at t now inode (Some e) found due whole =
     let first : IsFound (λ key inode. (key.dir == trash_root) && is_due t.setting now (hour_of inode)) t.entries e.0 e.1 =
     first_where-found entry_key (λ key inode. (key.dir == trash_root) && is_due t.setting now (hour_of inode)) t.entries e found in
     let dir : (e.0).dir ≡ trash_root = eqb-true (e.0).dir trash_root (and_parts _ _ first.passes).0 in
-    let hour : IsDueHour t e.1 = record { name = (e.0).name; is = subst (λ d. named (shape_of t) (record { dir = d; name = (e.0).name }) ≡ Some e.1) dir first.there } in
+    let at_trash = λ (d : ℕ). named (shape_of t) (record { dir = d; name = (e.0).name }) ≡ Some e.1 in
+    let hour : IsDueHour t e.1 = record { name = (e.0).name; is = subst at_trash dir first.there } in
     subst (Loose t) (same_Some _ _ due) (loose_in t e.1 (first_in t e.1) refl whole hour)
 
 due_loose : (t : Tree) (now inode : ℕ) → due_purge t now ≡ Some inode → WholeShape (shape_of t) → Loose t inode
@@ -205,9 +223,11 @@ purged_at : (t : Tree) (inode : ℕ) (o : Option (EntryKey × ℕ)) → trash_en
     → WholeShape (shape_of (elim o as (λ _. Tree) [ None ↦ t | Some e ↦ record (drop_node t inode) { entries = remove t.entries e.0 } ]))
 purged_at t inode None found whole loose = whole
 purged_at t inode (Some e) found whole loose =
-    let first : IsFound (λ key named. (named == inode) && in_trash key.dir) t.entries e.0 e.1 = first_where-found entry_key (λ key named. (named == inode) && in_trash key.dir) t.entries e found in
+    let first : IsFound (λ key named. (named == inode) && in_trash key.dir) t.entries e.0 e.1 =
+    first_where-found entry_key (λ key named. (named == inode) && in_trash key.dir) t.entries e found in
     let is : named (shape_of t) e.0 ≡ Some inode = first.there ∙ ap Some (eqb-true e.1 inode (and_parts _ _ first.passes).0) in
-    subst WholeShape (sym (ap (λ (q : Shape). with_entries q (remove t.entries e.0)) (shape-drop_node t inode))) (whole-gone (shape_of t) e.0 inode whole (loose e.0 is))
+    subst WholeShape (sym (ap (λ (q : Shape). with_entries q (remove t.entries e.0)) (shape-drop_node t inode)))
+    (whole-gone (shape_of t) e.0 inode whole (loose e.0 is))
 
 -- a tree stays whole without what a cleaning purges next
 pub whole-purged : (t : Tree) (now inode : ℕ) → due_purge t now ≡ Some inode → WholeShape (shape_of t) → WholeShape (shape_of (purged t inode))

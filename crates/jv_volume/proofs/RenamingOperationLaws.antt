@@ -36,6 +36,7 @@ module _ (t : Tree) (who : Caller) (w : WholeShape (shape_of t)) (held : HoldsFi
   in_its_session : (u : Unit {0}) → in_session t who ≡ Ok u → IsTrue (is_some (get t.sessions who.sid))
   in_its_session u h = required _ (Stale (Session who.sid)) u h
 
+  -- an unlink leaves a whole tree whole
   pub whole-unlink : (path : List ℕ) → WholeShape (shape_of (outcome t (unlink t who path)).tree)
   unfolding unlink
   whole-unlink path = whole_outcome t (unlink t who path) w (λ d h.
@@ -55,10 +56,12 @@ module _ (t : Tree) (who : Caller) (w : WholeShape (shape_of t)) (held : HoldsFi
         clock = clock;
       })))
 
+  -- so does the removal of a directory
   pub whole-rmdir : (path : List ℕ) → WholeShape (shape_of (outcome t (rmdir t who path)).tree)
   unfolding rmdir
   whole-rmdir path = whole_outcome t (rmdir t who path) w (λ d h.
-      let vacant = λ (place : EntryKey) (inode : ℕ). require (not (has_entries t inode)) DirectoryNotEmpty >>= (λ _. done (remove_directory t who.now place inode)) in
+      let gone = λ (place : EntryKey) (inode : ℕ). done (remove_directory t who.now place inode) in
+      let vacant = λ (place : EntryKey) (inode : ℕ). require (not (has_entries t inode)) DirectoryNotEmpty >>= (λ _. gone place inode) in
       let dir = λ (place : EntryKey) (inode : ℕ). require (is_directory t inode) NotADirectory >>= (λ _. vacant place inode) in
       let there = λ (place : EntryKey). some_or (get t.entries place) NotFound >>= dir place in
       let going = λ (place : EntryKey). require (may_go place) NotPermitted >>= (λ _. there place) in
@@ -68,12 +71,14 @@ module _ (t : Tree) (who : Caller) (w : WholeShape (shape_of t)) (held : HoldsFi
       let inode = went_on (some_or (get t.entries place.0) NotFound) (dir place.0) d may.2 in
       let is_dir = went_on (require (is_directory t inode.0) NotADirectory) (λ _. vacant place.0 inode.0) d inode.2 in
       let free = went_on (require (not (has_entries t inode.0)) DirectoryNotEmpty) (λ _. done (remove_directory t who.now place.0 inode.0)) d is_dir.2 in
-      whole_answer (record { tree = remove_directory t who.now place.0 inode.0; reply = Done }) d free.2 (whole-remove_directory t who.now place.0 inode.0 w (was_some _ NotFound inode.0 inode.1)
-      (required _ NotADirectory is_dir.0 is_dir.1) (refuted (has_entries t inode.0) DirectoryNotEmpty free.0 free.1)))
+      whole_answer (record { tree = remove_directory t who.now place.0 inode.0; reply = Done }) d free.2
+      (whole-remove_directory t who.now place.0 inode.0 w (was_some _ NotFound inode.0 inode.1)
+      (required (is_directory t inode.0) NotADirectory is_dir.0 is_dir.1) (refuted (has_entries t inode.0) DirectoryNotEmpty free.0 free.1)))
 
   -- renames
 
-  whole_within_links : (from to : EntryKey) (after : Tree) (d : Outcome) → within_links from to after ≡ Ok d → WholeShape (shape_of after) → WholeShape (shape_of d.tree)
+  whole_within_links : (from to : EntryKey) (after : Tree) (d : Outcome) → within_links from to after ≡ Ok d → WholeShape (shape_of after)
+      → WholeShape (shape_of d.tree)
   whole_within_links from to after d h whole =
       let fit = went_on (require (links_fit after from.dir && links_fit after to.dir) NoSpace) (λ _. done after) d h in
       whole_answer (record { tree = after; reply = Done }) d fit.2 whole
@@ -85,7 +90,8 @@ module _ (t : Tree) (who : Caller) (w : WholeShape (shape_of t)) (held : HoldsFi
       whole_within_links from to (moved t who.now from source to) d outside.2 (whole-moved_free t who.now from source to w
       (record { is = is; leaves = leaves; enters = enters; within = within; outside = refuted _ Invalid outside.0 outside.1 }) free)
 
-  whole_replacing : (from : EntryKey) (source : ℕ) (to : EntryKey) (other : ℕ) (d : Outcome) → IsTrue (is_some (get t.sessions who.sid)) → get t.entries from ≡ Some source
+  whole_replacing : (from : EntryKey) (source : ℕ) (to : EntryKey) (other : ℕ) (d : Outcome) → IsTrue (is_some (get t.sessions who.sid))
+      → get t.entries from ≡ Some source
       → may_go from ≡ true → may_be_new to ≡ true → is_directory t to.dir ≡ true → get t.entries to ≡ Some other → source ≢ other
       → replacing t who from source to other ≡ Ok d → WholeShape (shape_of d.tree)
   whole_replacing from source to other d session is leaves enters within there apart h =
@@ -101,25 +107,32 @@ module _ (t : Tree) (who : Caller) (w : WholeShape (shape_of t)) (held : HoldsFi
       (record { is = there; vacant = refuted _ DirectoryNotEmpty third.0 third.1; session = session; held = held; clock = clock }) from source
       (record { is = is; leaves = leaves; enters = enters; within = within; outside = refuted _ Invalid outside.0 outside.1 }) apart)
 
-  whole_exchanging : (from : EntryKey) (source : ℕ) (to : EntryKey) (other : ℕ) (d : Outcome) → get t.entries from ≡ Some source → may_be_new from ≡ true → may_be_new to ≡ true
+  whole_exchanging : (from : EntryKey) (source : ℕ) (to : EntryKey) (other : ℕ) (d : Outcome) → get t.entries from ≡ Some source → may_be_new from ≡ true
+      → may_be_new to ≡ true
       → get t.entries to ≡ Some other → source ≢ other → exchanging t who from source to other ≡ Ok d → WholeShape (shape_of d.tree)
   whole_exchanging from source to other d is leaves enters there apart h =
-      let outside = went_on (require (not (is_inside t to.dir source || is_inside t from.dir other)) Invalid) (λ _. within_links from to (exchanged t who.now from source to other)) d h in
-      whole_within_links from to (exchanged t who.now from source to other) d outside.2 (whole-exchanged t who.now from source to other w is there apart leaves enters (refuted _ Invalid outside.0 outside.1))
+      let outside = went_on (require (not (is_inside t to.dir source || is_inside t from.dir other)) Invalid)
+      (λ _. within_links from to (exchanged t who.now from source to other)) d h in
+      whole_within_links from to (exchanged t who.now from source to other) d outside.2
+      (whole-exchanged t who.now from source to other w is there apart leaves enters (refuted _ Invalid outside.0 outside.1))
 
   whole_unless_at : (b : Bool) (source other : ℕ) (otherwise : Unit {0} → Result Outcome Fault) (d : Outcome) → (source == other) ≡ b
-      → (source ≢ other → otherwise tt ≡ Ok d → WholeShape (shape_of d.tree)) → (elim b as (λ _. Result Outcome Fault) [ true ↦ done t | false ↦ otherwise tt ]) ≡ Ok d
+      → (source ≢ other → otherwise tt ≡ Ok d → WholeShape (shape_of d.tree))
+      → (elim b as (λ _. Result Outcome Fault) [ true ↦ done t | false ↦ otherwise tt ]) ≡ Ok d
       → WholeShape (shape_of d.tree)
   whole_unless_at true source other otherwise d e rest h = whole_answer (record { tree = t; reply = Done }) d h w
   whole_unless_at false source other otherwise d e rest h = rest (eqb-false source other e) h
 
-  whole_unless_same : (source other : ℕ) (otherwise : Unit {0} → Result Outcome Fault) (d : Outcome) → (source ≢ other → otherwise tt ≡ Ok d → WholeShape (shape_of d.tree))
+  whole_unless_same : (source other : ℕ) (otherwise : Unit {0} → Result Outcome Fault) (d : Outcome)
+      → (source ≢ other → otherwise tt ≡ Ok d → WholeShape (shape_of d.tree))
       → unless_same t source other otherwise ≡ Ok d → WholeShape (shape_of d.tree)
   whole_unless_same source other otherwise d rest h = whole_unless_at (source == other) source other otherwise d refl rest h
 
-  module _ (from : EntryKey) (source : ℕ) (to : EntryKey) (d : Outcome) (session : IsTrue (is_some (get t.sessions who.sid))) (is : get t.entries from ≡ Some source)
+  module _ (from : EntryKey) (source : ℕ) (to : EntryKey) (d : Outcome) (session : IsTrue (is_some (get t.sessions who.sid)))
+      (is : get t.entries from ≡ Some source)
       (enters : may_be_new to ≡ true) (within : is_directory t to.dir ≡ true) where
-    whole_renamed_over : (o : Option ℕ) → get t.entries to ≡ o → may_go from ≡ true → renamed_over t who from source to o ≡ Ok d → WholeShape (shape_of d.tree)
+    whole_renamed_over : (o : Option ℕ) → get t.entries to ≡ o → may_go from ≡ true → renamed_over t who from source to o ≡ Ok d
+        → WholeShape (shape_of d.tree)
     whole_renamed_over None free leaves h = whole_renamed from source to d is leaves enters within free h
     whole_renamed_over (Some other) there leaves h = whole_unless_same source other (λ _. replacing t who from source to other) d
         (λ apart g. whole_replacing from source to other d session is leaves enters within there apart g) h
@@ -133,8 +146,9 @@ module _ (t : Tree) (who : Caller) (w : WholeShape (shape_of t)) (held : HoldsFi
         let other = went_on (some_or (get t.entries to) NotFound) (λ other. unless_same t source other (λ _. exchanging t who from source to other)) d h in
         let there : get t.entries to ≡ Some other.0 = was_some _ NotFound other.0 other.1 in
         whole_unless_same source other.0 (λ _. exchanging t who from source to other.0) d
-            (λ apart g. whole_exchanging from source to other.0 d is (and_parts _ _ leaves).1 enters there apart g) other.2
+        (λ apart g. whole_exchanging from source to other.0 d is (and_parts _ _ leaves).1 enters there apart g) other.2
 
+  -- and so does a rename of each kind
   pub whole-rename : (path to : List ℕ) (how : How) → WholeShape (shape_of (outcome t (rename t who path to how)).tree)
   unfolding rename
   whole-rename path to how = whole_outcome t (rename t who path to how) w (λ d h.
@@ -147,6 +161,7 @@ module _ (t : Tree) (who : Caller) (w : WholeShape (shape_of t)) (held : HoldsFi
       let target = went_on (entry_of t to) (may from.0) d from.2 in
       let tests = went_on (require (may_leave how from.0 && may_be_new target.0) NotPermitted) (λ _. there from.0 target.0) d target.2 in
       let source = went_on (some_or (get t.entries from.0) NotFound) (last from.0 target.0) d tests.2 in
-      let both = and_parts (may_leave how from.0) (may_be_new target.0) (required _ NotPermitted tests.0 tests.1) in
+      let both = and_parts (may_leave how from.0) (may_be_new target.0)
+      (required (may_leave how from.0 && may_be_new target.0) NotPermitted tests.0 tests.1) in
       whole_renamed_by from.0 source.0 target.0 d (in_its_session inside.0 inside.1) (was_some _ NotFound source.0 source.1) both.1
       (entry_within t to target.0 target.1) how both.0 source.2)

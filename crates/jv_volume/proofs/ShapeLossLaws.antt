@@ -10,7 +10,8 @@ use Rattle.jv_volume.proofs.ShapeMapLaws.{same_or_apart, get-inserted, get-inser
 use Rattle.jv_volume.proofs.ClimbLaws.{top_parent}
 
 -- an entry that stays where its inode and its directory are what they were
-pub entry_kept : (s after : Shape) (at : EntryKey) (inode : ℕ) → is_there (after.form inode) ≡ is_there (s.form inode) → is_dir (after.form inode) ≡ is_dir (s.form inode)
+pub entry_kept : (s after : Shape) (at : EntryKey) (inode : ℕ) → is_there (after.form inode) ≡ is_there (s.form inode)
+    → is_dir (after.form inode) ≡ is_dir (s.form inode)
     → is_dir (after.form at.dir) ≡ is_dir (s.form at.dir) → (names s inode ≡ 1 → names after inode ≡ 1) → Names s at inode → Names after at inode
 entry_kept s after at inode there leaf within one h = record {
   there = there ∙ h.there;
@@ -21,7 +22,8 @@ entry_kept s after at inode there leaf within one h = record {
 }
 
 -- a directory's entry that stays, and stays alone
-pub entered_kept : (s after : Shape) (dir parent : ℕ) → ((at : EntryKey) → named s at ≡ Some dir → named after at ≡ Some dir) → ((at : EntryKey) → named after at ≡ Some dir → named s at ≡ Some dir)
+pub entered_kept : (s after : Shape) (dir parent : ℕ) → ((at : EntryKey) → named s at ≡ Some dir → named after at ≡ Some dir)
+    → ((at : EntryKey) → named after at ≡ Some dir → named s at ≡ Some dir)
     → Entered s dir parent → Entered after dir parent
 entered_kept s after dir parent to from h = record { name = h.name; is = to _ h.is; only = λ at e. h.only at (from at e) }
 
@@ -40,7 +42,8 @@ pub record Without (s after : Shape) (place : EntryKey) (inode : ℕ) : Type 0 w
   pub dirs : (dir parent : ℕ) → s.form dir ≡ Dir parent → dir ≢ inode → after.form dir ≡ Dir parent
 
 -- where nothing but the entry went, or its inode with it
-pub without_only : (s after : Shape) (place : EntryKey) (inode : ℕ) → after.entries ≡ remove s.entries place → ((i : ℕ) → i ≢ inode → after.form i ≡ s.form i) → Without s after place inode
+pub without_only : (s after : Shape) (place : EntryKey) (inode : ℕ) → after.entries ≡ remove s.entries place
+    → ((i : ℕ) → i ≢ inode → after.form i ≡ s.form i) → Without s after place inode
 without_only s after place inode same forms = record {
   gone = ap (λ m. get m place) same ∙ get-removed entry_key s.entries place;
   still = λ at i apart off h. ap (λ m. get m at) same ∙ get-remove_apart entry_key s.entries place at apart ∙ h;
@@ -94,17 +97,20 @@ module _ (s : Shape) (place : EntryKey) (inode : ℕ) (whole : WholeShape s) (is
     trash_there = form_apart trash_root (λ e. false≢true (sym low ∙ ap is_top (sym e))) ∙ whole.trash_there;
     entry = λ at i h.
         let k = named_apart at i h in
-        entry_kept s after_loss at i (ap is_there (form_apart i k.0)) (ap is_dir (form_apart i k.0)) (ap is_dir (form_apart at.dir (empty at i k.1))) (λ one. names_apart i k.0 ∙ one) (whole.entry at i k.1);
+        entry_kept s after_loss at i (ap is_there (form_apart i k.0)) (ap is_dir (form_apart i k.0)) (ap is_dir (form_apart at.dir (empty at i k.1)))
+        (λ one. names_apart i k.0 ∙ one) (whole.entry at i k.1);
     entered = λ dir parent e deep.
         let apart = dir_apart dir parent e in
-        entered_kept s after_loss dir parent (λ at h. named_still at dir apart h) (λ at h. (named_apart at dir h).1) (whole.entered dir parent (sym (form_apart dir apart) ∙ e) deep);
+        entered_kept s after_loss dir parent (λ at h. named_still at dir apart h) (λ at h. (named_apart at dir h).1)
+        (whole.entered dir parent (sym (form_apart dir apart) ∙ e) deep);
     rooted = λ dir parent e.
         let apart = dir_apart dir parent e in
         let up = whole.rooted dir parent (sym (form_apart dir apart) ∙ e) in
         (up.0, reaches_still up.0 dir apart up.1);
     held = λ i there leaf none.
         let apart = there_apart i there in
-        let kept = whole.held i (sym (ap is_there (form_apart i apart)) ∙ there) (sym (ap is_dir (form_apart i apart)) ∙ leaf) (sym (names_apart i apart) ∙ none) in
+        let kept = whole.held i (sym (ap is_there (form_apart i apart)) ∙ there) (sym (ap is_dir (form_apart i apart)) ∙ leaf) (sym (names_apart i apart)
+        ∙ none) in
         record { sid = kept.sid; is = kept.is };
     sustains = λ sid i h.
         let k = whole.sustains sid i h in
@@ -142,7 +148,8 @@ module _ (s : Shape) (place : EntryKey) (inode : ℕ) (whole : WholeShape s) (is
 
   entered_less : (dir parent : ℕ) → s.form dir ≡ Dir parent → is_top dir ≡ false → Entered less dir parent
   entered_less dir parent e deep =
-      entered_kept s less dir parent (λ at h. named_after at dir (dir_not_it dir parent e) h) (λ at h. named_before at dir h) (whole.entered dir parent e deep)
+      entered_kept s less dir parent (λ at h. named_after at dir (dir_not_it dir parent e) h) (λ at h. named_before at dir h)
+      (whole.entered dir parent e deep)
 
   -- a shape stays whole without one of several entries of a file or a symlink
   pub whole-without_entry : 1 < names s inode → WholeShape (with_entries s (remove s.entries place))
@@ -188,7 +195,8 @@ abbrev pub sustained_shape : Shape → EntryKey → ℕ → ℕ → Shape
 sustained_shape s place sid inode = record s { entries = remove s.entries place; sustained = insert s.sustained (record { sid = sid; inode = inode }) tt }
 
 -- what a session keeps then
-keeps_cases : (s : Shape) (place : EntryKey) (sid inode other i : ℕ) → IsTrue (keeps (sustained_shape s place sid inode) other i) → ((other ≡ sid) × (i ≡ inode)) ⊎ IsTrue (keeps s other i)
+keeps_cases : (s : Shape) (place : EntryKey) (sid inode other i : ℕ) → IsTrue (keeps (sustained_shape s place sid inode) other i)
+    → ((other ≡ sid) × (i ≡ inode)) ⊎ IsTrue (keeps s other i)
 unfolding pair_of
 keeps_cases s place sid inode other i h = elim (same_or_apart pair_key (pair_of other i) (pair_of sid inode)) [
   | inl e ↦ inl (ap (λ (p : SustainedFile). p.sid) e, ap (λ (p : SustainedFile). p.inode) e)
@@ -259,7 +267,8 @@ module _ (s : Shape) (place : EntryKey) (sid inode : ℕ) (whole : WholeShape s)
     entry = λ at i h.
         let apart : i ≢ inode = λ e. unnamed_named at i h e in
         entry_kept s kept at i refl refl refl (λ e. names_kept_apart i apart ∙ e) (whole.entry at i (named_before s place inode whole is file_leaf at i h));
-    entered = λ dir parent e deep. let old = entered_less s place inode whole is file_leaf dir parent e deep in record { name = old.name; is = old.is; only = old.only };
+    entered = λ dir parent e deep. let old = entered_less s place inode whole is file_leaf dir parent e deep in
+        record { name = old.name; is = old.is; only = old.only };
     rooted = whole.rooted;
     held = λ i there leaf none. elim (cases_eq i inode) [
       | inl e ↦ record { sid = sid; is = ap (keeps kept sid) e ∙ keeps_new s place sid inode }

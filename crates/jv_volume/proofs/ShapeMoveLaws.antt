@@ -78,6 +78,7 @@ module _ (s : Shape) (from : EntryKey) (inode : ℕ) (to : EntryKey) (whole : Wh
   there_same : (i : ℕ) → is_there (after.form i) ≡ is_there (s.form i)
   there_same = same_of is_there (there_under to.dir (s.form inode))
 
+  -- directories stay directories
   pub dir_same : (i : ℕ) → is_dir (after.form i) ≡ is_dir (s.form i)
   dir_same = same_of is_dir (dir_under to.dir (s.form inode))
 
@@ -134,7 +135,8 @@ module _ (s : Shape) (from : EntryKey) (inode : ℕ) (to : EntryKey) (whole : Wh
 
   reaches_there : (steps : ℕ) × Reaches after.form steps to.dir
   reaches_there =
-      let up = avoids_beside s.form after.form inode inode (λ q parent apart away e. form_apart q apart ∙ e) may.steps may.steps to.dir may.avoids may.avoids in
+      let up = avoids_beside s.form after.form inode inode (λ q parent apart away e. form_apart q apart
+      ∙ e) may.steps may.steps to.dir may.avoids may.avoids in
       (up.0, reaches_avoiding after.form inode up.0 to.dir up.1)
 
   reaches_moved : (steps dir : ℕ) → Reaches s.form steps dir → (n : ℕ) × Reaches after.form n dir
@@ -162,7 +164,8 @@ module _ (s : Shape) (from : EntryKey) (inode : ℕ) (to : EntryKey) (whole : Wh
     entered = λ dir parent e deep. elim (cases_eq dir inode) [
       | inl same ↦ subst (λ q. Entered after q parent) (sym same) (entered_moved parent (ap after.form (sym same) ∙ e))
       | inr apart ↦
-          entered_kept s after dir parent (λ at h. named_other at dir apart h) (λ at h. named_before at dir apart h) (whole.entered dir parent (sym (form_apart dir apart) ∙ e) deep)
+          entered_kept s after dir parent (λ at h. named_other at dir apart h) (λ at h. named_before at dir apart h)
+          (whole.entered dir parent (sym (form_apart dir apart) ∙ e) deep)
     ];
     rooted = λ dir parent e.
         let before = parent_of_dir (s.form dir) (sym (dir_same dir) ∙ ap is_dir e) in

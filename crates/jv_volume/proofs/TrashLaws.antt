@@ -55,7 +55,8 @@ moved_leaf s from inode to leaf =
     ∙ (λ i. record s { form = λ other. with_form-same s.form inode other i; entries = insert (remove s.entries from) to inode })
 
 -- The directory of an hour, and an entry that goes elsewhere: in either order they leave one shape.
-hour_taken : (s less after final : Shape) (hour : ℕ) (place : EntryKey) → less ≡ taken s place → place ≢ hour_place hour → WithHour s hour after → WithHour less hour final → final ≡ taken after place
+hour_taken : (s less after final : Shape) (hour : ℕ) (place : EntryKey) → less ≡ taken s place → place ≢ hour_place hour → WithHour s hour after
+    → WithHour less hour final → final ≡ taken after place
 hour_taken s less after final hour place same apart (Was there e) (Was there' e') = e' ∙ same ∙ ap (λ (q : Shape). taken q place) (sym e)
 hour_taken s less after final hour place same apart (Was there e) (Comes absent e') =
     absurd (false≢true (sym (ap is_there (sym (ap (λ (q : Shape). q.form (hour_inode hour)) same) ∙ absent)) ∙ there))
@@ -70,7 +71,8 @@ hour_taken s less after final hour place same apart (Comes absent e) (Comes abse
 place_apart : (place at : EntryKey) → in_trash place.dir ≡ false → trash_root ≤ at.dir → place ≢ at
 place_apart place at outside high e = false≢true (sym outside ∙ ap (λ (q : EntryKey). in_trash q.dir) e ∙ le-leb trash_root at.dir high)
 
-module _ (t : Tree) (now : ℕ) (place : EntryKey) (inode : ℕ) (whole : WholeShape (shape_of t)) (clock : now ≤ LAST_MOMENT) (is : named (shape_of t) place ≡ Some inode)
+module _ (t : Tree) (now : ℕ) (place : EntryKey) (inode : ℕ) (whole : WholeShape (shape_of t)) (clock : now ≤ LAST_MOMENT)
+    (is : named (shape_of t) place ≡ Some inode)
     (leaf : is_directory t inode ≡ false) (one : names (shape_of t) inode ≡ 1) (outside : in_trash place.dir ≡ false) where
   abbrev s : Shape
   s = shape_of t
@@ -126,13 +128,16 @@ module _ (t : Tree) (now : ℕ) (place : EntryKey) (inode : ℕ) (whole : WholeS
       let names_it = made_whole.entry at_trash other e in
       let trashed_it = names_it.trashed (is_hour-hour_inode hour low) in
       let same : inode ≡ other = trash_name_inode place trashed_it.place inode other
-      (inode_low s place.dir whole (there_of_dir (s.form place.dir) own.within)) (inode_low s inode whole own.there) (inode_low made other made_whole names_it.there) trashed_it.name in
-      absurd (place_apart place at_trash outside (omega (arith, after_trash)) (only_one (made).entries at_trash place inode one_made (e ∙ ap Some (sym same)) is_made))
+      (inode_low s place.dir whole (there_of_dir (s.form place.dir) own.within)) (inode_low s inode whole own.there)
+      (inode_low made other made_whole names_it.there) trashed_it.name in
+      absurd (place_apart place at_trash outside (omega (arith, after_trash)) (only_one (made).entries at_trash place inode one_made (e
+      ∙ ap Some (sym same)) is_made))
 
   -- the place in the trash is free, once the hour's directory is made, and before
   pub made_place_free : named (shape_of (with_hour t now (hour_at now))) (trash_place (hour_at now) place inode) ≡ None
   made_place_free = free_at (named made at_trash) refl
 
+  -- and before it is made
   pub trash_place_free : named (shape_of t) (trash_place (hour_at now) place inode) ≡ None
   trash_place_free = sym (beside.entries at_trash (λ e. absurd (omega (arith, after_trash, e)))) ∙ made_place_free
 
@@ -158,7 +163,8 @@ module _ (t : Tree) (now : ℕ) (place : EntryKey) (inode : ℕ) (whole : WholeS
       shape-change_node_same (put_entry (with_hour less now hour) now at_trash inode) inode (status_changed now) (λ node. refl)
       ∙ shape-put_entry (with_hour less now hour) now at_trash inode
       ∙ ap (λ (q : Shape). put_in q at_trash inode)
-      (hour_taken s (shape_of less) made (shape_of (with_hour less now hour)) hour place (shape-take_entry t now place) (place_apart place (hour_place hour) outside (omega arith))
+      (hour_taken s (shape_of less) made (shape_of (with_hour less now hour)) hour place (shape-take_entry t now place)
+      (place_apart place (hour_place hour) outside (omega arith))
       (shape-with_hour t now hour) (shape-with_hour less now hour))
       ∙ sym (moved_leaf made place inode at_trash leaf_made)
 
@@ -169,7 +175,8 @@ module _ (t : Tree) (now : ℕ) (place : EntryKey) (inode : ℕ) (whole : WholeS
   -- what such a move leaves
   pub without-trashed : Without s (shape_of (trashed (take_entry t now place) now place inode)) place inode
   without-trashed = subst (λ after. Without s after place inode) (sym shape-trashed) (record {
-    gone = get-insert_apart entry_key (remove (made).entries place) at_trash inode place (place_apart place at_trash outside (omega (arith, after_trash))) ∙ get-removed entry_key (made).entries place;
+    gone = get-insert_apart entry_key (remove (made).entries place) at_trash inode place (place_apart place at_trash outside (omega (arith, after_trash)))
+        ∙ get-removed entry_key (made).entries place;
     still = λ at i apart off h.
         let there : named made at ≡ Some i = beside.entries at off ∙ h in
         get-insert_apart entry_key (remove (made).entries place) at_trash inode at (λ e. none-some _ (sym made_place_free ∙ ap (named made) (sym e) ∙ there))

@@ -57,12 +57,15 @@ unfolding trash_name
 trash_name-is place inode = ap (take MAX_NAME) (dashed (decimal place.dir) (decimal inode) place.name)
 
 -- names of inodes of the trash, of which the directory of one is a number of 64 bits
-pub trash_name_inode : (place other : EntryKey) (inode j : ℕ) → place.dir < 2 ^ 64 → inode < 2 ^ 64 → j < 2 ^ 64 → trash_name place inode ≡ trash_name other j → inode ≡ j
+pub trash_name_inode : (place other : EntryKey) (inode j : ℕ) → place.dir < 2 ^ 64 → inode < 2 ^ 64 → j < 2 ^ 64
+    → trash_name place inode ≡ trash_name other j → inode ≡ j
 trash_name_inode place other inode j low low' low'' e =
     let few = short_decimal place.dir low in
     let first : SameFront MAX_NAME (decimal place.dir) (decimal other.dir) (decimal inode ++ 45 ∷ place.name) (decimal j ++ 45 ∷ other.name) =
-    same_front MAX_NAME _ _ _ _ (decimal_free place.dir) (decimal_free other.dir) (omega (arith, few)) (sym (trash_name-is place inode) ∙ e ∙ trash_name-is other j) in
-    let second = same_front first.left (decimal inode) (decimal j) place.name other.name (decimal_free inode) (decimal_free j) (omega (arith, few, first.count, short_decimal inode low')) first.rest in
+    same_front MAX_NAME _ _ _ _ (decimal_free place.dir) (decimal_free other.dir) (omega (arith, few)) (sym (trash_name-is place inode) ∙ e
+    ∙ trash_name-is other j) in
+    let second = same_front first.left (decimal inode) (decimal j) place.name other.name (decimal_free inode) (decimal_free j)
+    (omega (arith, few, first.count, short_decimal inode low')) first.rest in
     decimal_injective inode j low' low'' second.same
 
 -- inodes that are there are numbers of 64 bits
