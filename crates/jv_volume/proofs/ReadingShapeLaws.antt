@@ -25,7 +25,9 @@ reads_in t who next h = reads_then t (in_session t who) (λ _. next) (λ _. h)
 module _ (t : Tree) (who : Caller) where
   pub reads-lookup : (path : List ℕ) → (outcome t (lookup t who path)).tree ≡ t
   unfolding lookup
-  reads-lookup path = reads_in t who (unfollowed_inode_of t path >>= (λ inode. answered t (Found inode))) (reads_then t (unfollowed_inode_of t path) _ (λ inode. refl))
+  reads-lookup path =
+      let said = λ (inode : ℕ). answered t (Found inode) in
+      reads_in t who (unfollowed_inode_of t path >>= said) (reads_then t (unfollowed_inode_of t path) said (λ inode. refl))
 
   reads_described : (inode : ℕ) → Reads t (described t inode)
   reads_described inode = reads_then t (some_or (node_at t inode) NotFound) (λ node. answered t (Described (attr_of t inode node))) (λ node. refl)
@@ -42,7 +44,8 @@ module _ (t : Tree) (who : Caller) where
   unfolding fstat
   reads-fstat =
       let next = λ (node : Node). answered t (Described (attr_of t who.inode node)) in
-      reads_in t who (some_or (node_at t who.inode) (Stale (GoneNode who.inode)) >>= next) (reads_then t (some_or (node_at t who.inode) (Stale (GoneNode who.inode))) next (λ node. refl))
+      let node = some_or (node_at t who.inode) (Stale (GoneNode who.inode)) in
+      reads_in t who (node >>= next) (reads_then t node next (λ node. refl))
 
   pub reads-compact : (path : List ℕ) → (outcome t (compact t who path)).tree ≡ t
   unfolding compact
@@ -57,14 +60,16 @@ module _ (t : Tree) (who : Caller) where
   reads-readdir path =
       let said = λ (dir : ℕ). answered t (Entries (entries_of t dir)) in
       let next = λ (dir : ℕ). require (is_directory t dir) NotADirectory >>= (λ _. said dir) in
-      reads_in t who (inode_of t path >>= next) (reads_then t (inode_of t path) next (λ dir. reads_then t (require (is_directory t dir) NotADirectory) (λ _. said dir) (λ _. refl)))
+      reads_in t who (inode_of t path >>= next) (reads_then t (inode_of t path) next (λ dir.
+      reads_then t (require (is_directory t dir) NotADirectory) (λ _. said dir) (λ _. refl)))
 
   pub reads-readlink : (path : List ℕ) → (outcome t (readlink t who path)).tree ≡ t
   unfolding readlink
   reads-readlink path =
       let said = λ (target : List ℕ). answered t (Target target) in
       let next = λ (inode : ℕ). some_or (target_at t inode) Invalid >>= said in
-      reads_in t who (unfollowed_inode_of t path >>= next) (reads_then t (unfollowed_inode_of t path) next (λ inode. reads_then t (some_or (target_at t inode) Invalid) said (λ target. refl)))
+      reads_in t who (unfollowed_inode_of t path >>= next) (reads_then t (unfollowed_inode_of t path) next (λ inode.
+      reads_then t (some_or (target_at t inode) Invalid) said (λ target. refl)))
 
   pub reads-statfs : (outcome t (statfs t who)).tree ≡ t
   unfolding statfs
