@@ -145,7 +145,7 @@ climbed t above (suc steps) (suc count) dir less h test = elim (cases_eq dir roo
 ]
 
 -- the way up from a directory has at most as many steps as there are nodes
-few_steps : (t : Tree) (steps dir : ℕ) → Reaches (shape_of t).form steps dir → (n : ℕ) × (n ≤ key_count t.nodes) × Reaches (shape_of t).form n dir
+pub few_steps : (t : Tree) (steps dir : ℕ) → Reaches (shape_of t).form steps dir → (n : ℕ) × (n ≤ key_count t.nodes) × Reaches (shape_of t).form n dir
 few_steps t steps dir h =
     let once = once_from (shape_of t).form (λ q. IsTrue (is_some (node_at t q))) (λ q parent e. node_of_form (node_at t q) parent e) steps dir h in (
       once.0,

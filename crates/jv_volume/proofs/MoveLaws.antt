@@ -84,11 +84,11 @@ pub record MayRename (t : Tree) (from : EntryKey) (inode : ℕ) (to : EntryKey) 
 dir_within : (t : Tree) (dir : ℕ) → is_directory t dir ≡ true → IsTrue (is_dir ((shape_of t).form dir))
 dir_within t dir is = is_dir-form (node_at t dir) ∙ is
 
-no_hour_below : (place : EntryKey) → may_be_new place ≡ true → IsTrue (is_hour place.dir) → ⊥
-no_hour_below place may hour = false≢true (sym (not_hour_below place.dir (new_below place may)) ∙ hour)
+no_trash : (dir : ℕ) → dir < trash_root → dir ≢ trash_root
+no_trash dir low e = absurd (omega (arith, low, e))
 
-no_trash_below : (place : EntryKey) → may_be_new place ≡ true → place.dir ≢ trash_root
-no_trash_below place may e = absurd (omega (arith, new_below place may, e))
+no_hour : (dir : ℕ) → dir < trash_root → IsTrue (is_hour dir) → ⊥
+no_hour dir low hour = false≢true (sym (not_hour_below dir low) ∙ hour)
 
 -- a tree stays whole where an entry is renamed to a free place
 pub whole-moved_free : (t : Tree) (now : ℕ) (from : EntryKey) (inode : ℕ) (to : EntryKey) → WholeShape (shape_of t) → MayRename t from inode to
@@ -101,8 +101,8 @@ whole-moved_free t now from inode to whole may free =
       free = free;
       within = dir_within t to.dir may.within;
       leaves = not_trash_root from may.leaves;
-      enters = no_trash_below to may.enters;
-      trashed = λ hour. absurd (no_hour_below to may.enters hour);
+      enters = no_trash to.dir (new_below to may.enters);
+      trashed = λ hour. absurd (no_hour to.dir (new_below to may.enters) hour);
       steps = up.0;
       avoids = up.1;
     }))
@@ -165,8 +165,8 @@ module _ (t : Tree) (who : Caller) (to : EntryKey) (other : ℕ) (whole : WholeS
         free = beside.gone;
         within = ap is_dir (beside.dirs to.dir parent.0 parent.1 away);
         leaves = off;
-        enters = no_trash_below to rename.enters;
-        trashed = λ hour. absurd (no_hour_below to rename.enters hour);
+        enters = no_trash to.dir (new_below to rename.enters);
+        trashed = λ hour. absurd (no_hour to.dir (new_below to rename.enters) hour);
         steps = up.0;
         avoids = avoids_without s.form (after).form other source (λ q p is not_it. beside.dirs q p is not_it)
             (parent_apart s other whole (whole.entry to other may.is).free target_empty) up.0 to.dir away up.1;
@@ -226,12 +226,6 @@ pub record MayExchange (s : Shape) (from : EntryKey) (source : ℕ) (to : EntryK
   pub up : Avoids s.form source steps to.dir
   pub others : ℕ
   pub down : Avoids s.form other others from.dir
-
-no_trash : (dir : ℕ) → dir < trash_root → dir ≢ trash_root
-no_trash dir low e = absurd (omega (arith, low, e))
-
-no_hour : (dir : ℕ) → dir < trash_root → IsTrue (is_hour dir) → ⊥
-no_hour dir low hour = false≢true (sym (not_hour_below dir low) ∙ hour)
 
 module _ (s : Shape) (from : EntryKey) (source : ℕ) (to : EntryKey) (other : ℕ) (name : List ℕ) (whole : WholeShape s)
     (may : MayExchange s from source to other)

@@ -18,8 +18,8 @@ use Rattle.jv_volume.proofs.ShapeMapLaws.{first_where-none, only_one, counted_on
 use Rattle.jv_volume.proofs.ShapeLossLaws.{Without, without_only, without_inode, whole-without_inode, whole-without_entry, sustained_shape, whole-sustained}
 use Rattle.jv_volume.proofs.TrashLaws.{whole-trashed, without-trashed}
 
--- whether there is one, by a test
-none_if : {A : Type 0} (o : Option A) → is_some o ≡ false → o ≡ None
+-- there is none where the test says so
+pub none_if : {A : Type 0} (o : Option A) → is_some o ≡ false → o ≡ None
 none_if None e = refl
 none_if (Some x) e = absurd (false≢true (sym e))
 

@@ -1,7 +1,7 @@
 -- The operations that remove or rename an entry leave a whole tree whole, whatever they answer.
-use Rattle.std.proofs.Common.{◌≡◌, ◌≢◌, ℕ, ◌≤◌, Bool, true, false, not, ◌&&◌, ◌||◌, ◌==◌, List, Option, None, Some, is_some, Result, Ok, refl, sym}
+use Rattle.std.proofs.Common.{◌≡◌, ◌≢◌, ℕ, ◌≤◌, Bool, true, false, not, ◌&&◌, ◌||◌, ◌==◌, List, Option, None, Some, is_some, Result, Ok, refl}
 use Rattle.std.specs.Prelude.{IsTrue}
-use Rattle.std.proofs.lemmas.Bool.{and_parts, not-true, eqb-false, false≢true}
+use Rattle.std.proofs.lemmas.Bool.{and_parts, not-true, eqb-false}
 use Rattle.jv_model.specs.declared.limits.TheConstants.{LAST_MOMENT}
 use Rattle.jv_model.specs.declared.basics.How.{How}
 use Rattle.jv_model.specs.declared.basics.How.TheVariants.{Plain, NoReplace, Exchange}
@@ -20,16 +20,12 @@ use Rattle.jv_model.specs.tree.Renaming.{may_leave, is_inside, moved, exchanged,
 use Rattle.jv_volume.specs.Shape.{WholeShape, shape_of}
 use Rattle.jv_volume.proofs.WalkShapeLaws.{went_on, required, was_some, entry_within}
 use Rattle.jv_volume.proofs.OperationShapeLaws.{whole_outcome, whole_answer}
-use Rattle.jv_volume.proofs.RemovalLaws.{HoldsFiles, whole-remove_entry, whole-remove_directory}
+use Rattle.jv_volume.proofs.RemovalLaws.{none_if, HoldsFiles, whole-remove_entry, whole-remove_directory}
 use Rattle.jv_volume.proofs.MoveLaws.{whole-moved_free, whole-replaced, whole-exchanged}
 
 -- a test that has to fail
 refuted : (b : Bool) (fault : Fault) (u : Unit {0}) → require (not b) fault ≡ Ok u → b ≡ false
 refuted b fault u h = not-true b (required (not b) fault u h)
-
-none_at : {A : Type 0} (o : Option A) → is_some o ≡ false → o ≡ None
-none_at None h = refl
-none_at (Some x) h = absurd (false≢true (sym h))
 
 module _ (t : Tree) (who : Caller) (w : WholeShape (shape_of t)) (held : HoldsFiles (shape_of t) who.held) (clock : who.now ≤ LAST_MOMENT) where
   -- a caller's session is there
@@ -141,7 +137,7 @@ module _ (t : Tree) (who : Caller) (w : WholeShape (shape_of t)) (held : HoldsFi
     whole_renamed_by Plain leaves h = whole_renamed_over (get t.entries to) refl leaves h
     whole_renamed_by NoReplace leaves h =
         let free = went_on (require (not (is_some (get t.entries to))) AlreadyExists) (λ _. renamed t who from source to) d h in
-        whole_renamed from source to d is leaves enters within (none_at (get t.entries to) (refuted _ AlreadyExists free.0 free.1)) free.2
+        whole_renamed from source to d is leaves enters within (none_if (get t.entries to) (refuted _ AlreadyExists free.0 free.1)) free.2
     whole_renamed_by Exchange leaves h =
         let other = went_on (some_or (get t.entries to) NotFound) (λ other. unless_same t source other (λ _. exchanging t who from source to other)) d h in
         let there : get t.entries to ≡ Some other.0 = was_some _ NotFound other.0 other.1 in
