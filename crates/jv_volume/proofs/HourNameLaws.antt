@@ -1,13 +1,13 @@
 -- No two hours of the clock have one name, and no two of their directories.
-use Rattle.std.proofs.Common.{◌≡◌, ◌≢◌, ℕ, ◌+◌, ◌-◌, ◌*◌, ◌/◌, ◌%◌, ◌≤◌, ◌<◌, ◌⊎◌, inl, inr, List, get_or, refl, sym, ap, subst, ◌∙◌, arith}
+use Rattle.std.proofs.Common.{◌≡◌, ◌≢◌, ℕ, ◌+◌, ◌-◌, ◌*◌, ◌/◌, ◌%◌, ◌≤◌, ◌<◌, false, ◌⊎◌, inl, inr, List, get_or, refl, sym, ap, subst, ◌∙◌, arith}
 use Rattle.std.specs.Prelude.{IsTrue, nat_lt, nat_le}
-use Rattle.std.proofs.lemmas.Bool.{cases_lt, cases_eq, cond-true, cond-false, lt-ltb, le-ltb, le-leb, ltb-true, leb-true, and_parts, and_from, ne_eqb}
+use Rattle.std.proofs.lemmas.Bool.{cases_lt, cases_eq, cond-true, cond-false, lt-ltb, le-ltb, le-leb, ltb-true, leb-true, and_parts, and_from, or_from, ne_eqb}
 use Rattle.jv_model.specs.declared.limits.TheConstants.{LAST_MOMENT}
 use Rattle.jv_model.specs.declared.lifetimes.TheConstants.{FIRST_HOUR}
-use Rattle.jv_model.specs.tree.Tree.{trash_root}
+use Rattle.jv_model.specs.tree.Tree.{root, trash_root}
 use Rattle.jv_model.specs.tree.HourNames.{year_in_era, days_before_year, month_in_year, days_before_month, date_in_era, date_of, era_days, days_before_1970, day_hours, hour_name, hour_at}
 use Rattle.jv_model.specs.tree.Trash.{hour_inode, hour_of}
-use Rattle.jv_volume.specs.Shape.{is_hour}
+use Rattle.jv_volume.specs.Shape.{is_hour, is_top}
 
 -- A year of an era has at most 366 days, and a month begins on a day of its year.
 
@@ -37,10 +37,12 @@ record SameDate (era year month day era' year' month' day' : ℕ) : Type 0 where
   month_is : month ≡ month'
   day_is : day ≡ day'
 
-month_early : (era year month day : ℕ) → month < 10 → ((date_in_era era year month day).month ≡ month + 3) × ((date_in_era era year month day).year ≡ 400 * era + year + 0)
+month_early : (era year month day : ℕ) → month < 10
+    → ((date_in_era era year month day).month ≡ month + 3) × ((date_in_era era year month day).year ≡ 400 * era + year + 0)
 month_early era year month day early = (cond-true _ _ _ (lt-ltb month 10 early), ap (λ n. 400 * era + year + n) (cond-true _ 0 1 (lt-ltb month 10 early)))
 
-month_late : (era year month day : ℕ) → 10 ≤ month → ((date_in_era era year month day).month ≡ month - 9) × ((date_in_era era year month day).year ≡ 400 * era + year + 1)
+month_late : (era year month day : ℕ) → 10 ≤ month
+    → ((date_in_era era year month day).month ≡ month - 9) × ((date_in_era era year month day).year ≡ 400 * era + year + 1)
 month_late era year month day late = (cond-false _ _ _ (le-ltb month 10 late), ap (λ n. 400 * era + year + n) (cond-false _ 0 1 (le-ltb month 10 late)))
 
 same_parts : (era year month day era' year' month' day' y m y' m' : ℕ) → month ≤ 11 → month' ≤ 11 → year ≤ 399 → year' ≤ 399
@@ -63,7 +65,8 @@ same_date : (era year month day era' year' month' day' : ℕ) → month ≤ 11 �
     → (date_in_era era year month day).month ≡ (date_in_era era' year' month' day').month
     → day + 1 ≡ day' + 1 → SameDate era year month day era' year' month' day'
 same_date era year month day era' year' month' day' few few' low low' same_y same_m same_d =
-    same_parts era year month day era' year' month' day' _ _ _ _ few few' low low' (by_month era year month day) (by_month era' year' month' day') same_y same_m same_d
+    same_parts era year month day era' year' month' day' _ _ _ _ few few' low low' (by_month era year month day)
+    (by_month era' year' month' day') same_y same_m same_d
 
 -- the parts of a day
 abbrev era_of : ℕ → ℕ
@@ -88,14 +91,18 @@ date_is : (day : ℕ) → date_of day ≡ date_in_era (era_of day) (year_in_era 
 date_is day = refl
 
 -- days that have one date are one
-date_injective : (day other : ℕ) → (date_of day).year ≡ (date_of other).year → (date_of day).month ≡ (date_of other).month → (date_of day).day ≡ (date_of other).day → day ≡ other
+date_injective : (day other : ℕ) → (date_of day).year ≡ (date_of other).year → (date_of day).month ≡ (date_of other).month
+    → (date_of day).day ≡ (date_of other).day → day ≡ other
 date_injective day other y m d =
-    let same = same_date (era_of day) (year_in_era (in_era day)) (month_in_year (in_year day)) (in_month day) (era_of other) (year_in_era (in_era other)) (month_in_year (in_year other)) (in_month other)
-    (month_few (in_year day) (in_year_few day)) (month_few (in_year other) (in_year_few other)) (year_few (in_era day) (in_era_few day)) (year_few (in_era other) (in_era_few other)) y m d in
+    let same = same_date (era_of day) (year_in_era (in_era day)) (month_in_year (in_year day)) (in_month day) (era_of other) (year_in_era (in_era other))
+    (month_in_year (in_year other)) (in_month other)
+    (month_few (in_year day) (in_year_few day)) (month_few (in_year other) (in_year_few other)) (year_few (in_era day) (in_era_few day))
+    (year_few (in_era other) (in_era_few other)) y m d in
     let years : days_before_year (year_in_era (in_era day)) ≡ days_before_year (year_in_era (in_era other)) = ap days_before_year same.year_is in
     let months : days_before_month (month_in_year (in_year day)) ≡ days_before_month (month_in_year (in_year other)) = ap days_before_month same.month_is in
     let whole_year : in_year day ≡ in_year other = sum_parts _ _ _ _ months same.day_is (month_begins (in_year day)) (month_begins (in_year other)) in
-    let whole_era : in_era day ≡ in_era other = sum_parts _ _ _ _ years whole_year (year_begins (in_era day) (in_era_few day)) (year_begins (in_era other) (in_era_few other)) in
+    let whole_era : in_era day ≡ in_era other = sum_parts _ _ _ _ years whole_year (year_begins (in_era day) (in_era_few day))
+    (year_begins (in_era other) (in_era_few other)) in
     omega (arith, divided (day + days_before_1970) (other + days_before_1970) same.era_is whole_era)
   where
     sum_parts : (a b p q : ℕ) → p ≡ q → a - p ≡ b - q → p ≤ a → q ≤ b → a ≡ b
@@ -170,7 +177,8 @@ pub hour_of-hour_inode : (hour : ℕ) → hour ≤ last_hour → hour_of (hour_i
 hour_of-hour_inode hour low = elim (cases_eq hour 0) [
   | inl e ↦ ap (λ h. hour_of (hour_inode h)) e ∙ sym e
   | inr apart ↦
-      let later : hour_of (trash_root + hour) ≡ trash_root + hour - trash_root = cond-false _ _ _ (ne_eqb (trash_root + hour) FIRST_HOUR (λ e. omega arith)) in
+      let later : hour_of (trash_root + hour) ≡ trash_root + hour - trash_root = cond-false _ _ _
+      (ne_eqb (trash_root + hour) FIRST_HOUR (λ e. omega arith)) in
       ap hour_of (later_inode hour apart) ∙ later ∙ omega arith
 ]
 
@@ -197,3 +205,13 @@ pub hour_by_name : (inode hour : ℕ) → IsTrue (is_hour inode) → hour ≤ la
 hour_by_name inode hour h low same =
     let own = hour_inode-hour_of inode h in
     sym own.is ∙ ap hour_inode (sym (hour_name_injective hour (hour_of inode) low own.low same))
+
+-- the inodes of hours follow the trash's own
+pub hour_after_trash : (inode : ℕ) → IsTrue (is_hour inode) → trash_root < inode
+hour_after_trash inode h = ltb-true trash_root inode (and_parts (nat_lt trash_root inode) (nat_le inode FIRST_HOUR) h).0
+
+-- so an hour's directory is neither the root nor the trash
+pub hour_is_deep : (inode : ℕ) → IsTrue (is_hour inode) → is_top inode ≡ false
+hour_is_deep inode h =
+    let more = hour_after_trash inode h in
+    or_from _ _ (ne_eqb inode root (λ e. omega arith)) (ne_eqb inode trash_root (λ e. omega arith))

@@ -8,6 +8,13 @@ pub mod HourNameLaws
 pub mod HourShapeLaws
 pub mod FreshShapeLaws
 pub mod BrokenExamples
+pub mod ClimbLaws
+pub mod TrashNameLaws
+pub mod ShapeLossLaws
+pub mod ShapeMoveLaws
+pub mod TrashLaws
+pub mod RemovalLaws
+pub mod MoveLaws
 pub mod WrittenRowsLaws
 pub mod FreshWholeLaws
 pub mod WholeRowsExamples
@@ -15,3 +22,4 @@ pub mod BrokenRowsExamples
 pub mod WalkShapeLaws
 pub mod OperationShapeLaws
 pub mod ReadingShapeLaws
+pub mod RenamingOperationLaws

@@ -31,7 +31,7 @@ whole_outcome t (Ok d) w h = h d refl
 whole_outcome t (Err fault) w h = w
 
 -- what is answered with a whole tree
-whole_answer : (given d : Outcome) → ◌≡◌ {A = Result Outcome Fault} (Ok given) (Ok d) → WholeShape (shape_of given.tree) → WholeShape (shape_of d.tree)
+pub whole_answer : (given d : Outcome) → ◌≡◌ {A = Result Outcome Fault} (Ok given) (Ok d) → WholeShape (shape_of given.tree) → WholeShape (shape_of d.tree)
 whole_answer given d e w = subst (λ (o : Outcome). WholeShape (shape_of o.tree)) (same_Ok given d e) w
 
 -- new nodes
