@@ -23,3 +23,4 @@ pub mod WalkShapeLaws
 pub mod OperationShapeLaws
 pub mod ReadingShapeLaws
 pub mod RenamingOperationLaws
+pub mod TreeActLaws
