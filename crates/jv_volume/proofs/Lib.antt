@@ -1,1 +1,5 @@
 -- What is proved of whole volumes.
+pub mod MapLaws
+pub mod FreshExamples
+pub mod TypedLaws
+pub mod SelectLaws
