@@ -3,3 +3,4 @@ pub mod MapLaws
 pub mod FreshExamples
 pub mod TypedLaws
 pub mod SelectLaws
+pub mod TableLaws
