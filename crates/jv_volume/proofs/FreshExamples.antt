@@ -1,19 +1,18 @@
 -- The rows of a volume that was just formatted, by their types and as a tree.
-use Rattle.std.specs.Prelude.{◌≡◌, ℕ, ◌+◌, List, [], ◌∷◌, codes, Some, Ok}
+use Rattle.std.specs.Prelude.{◌≡◌, ℕ, ◌+◌, [], ◌∷◌, codes, Ok}
 use Rattle.std.proofs.Common.{refl}
 use Rattle.std.specs.Str.{is_utf8, chars}
 use Rattle.jv_model.specs.declared.limits.TheConstants.{ROOT, TRASH_ROOT, SPACE_UNIT, DEFAULT_BLOCK}
-use Rattle.jv_model.specs.declared.row.RowKey.{RowKey}
 use Rattle.jv_model.specs.declared.row.Row.TheVariants.{OfSetting, OfCounters, OfNode}
 use Rattle.jv_model.specs.declared.row.Counters.{Counters}
 use Rattle.jv_model.specs.declared.row.Node.{Node}
 use Rattle.jv_model.specs.declared.setting.Setting.{Setting}
-use Rattle.jv_model.specs.FiniteMap.{Map, empty_map, get, insert}
+use Rattle.jv_model.specs.FiniteMap.{empty_map, get, insert}
 use Rattle.jv_model.specs.rows.RowGrammar.{setting_bytes, setting_of, counters_bytes, counters_of, node_bytes, node_of, row_of}
 use Rattle.jv_model.specs.rows.RowKeys.{RowMap, row_map}
 use Rattle.jv_model.specs.rows.RowPlaces.{setting_key, counters_key, node_key}
-use Rattle.jv_model.specs.tree.Tree.{Tree, fresh_tree}
-use Rattle.jv_volume.specs.TypedRows.{Cell, Rows, typed}
+use Rattle.jv_model.specs.tree.Tree.{fresh_tree}
+use Rattle.jv_volume.specs.TypedRows.{Rows, typed}
 use Rattle.jv_volume.specs.TreeOf.{selected, nodes_of, entries_of, sessions_of, sustained_of, tree_of}
 use Rattle.jv_volume.specs.Whole.{no_bytes}
 

@@ -4,3 +4,4 @@ pub mod FreshExamples
 pub mod TypedLaws
 pub mod SelectLaws
 pub mod TableLaws
+pub mod TreeOfLaws

@@ -1,12 +1,10 @@
 -- A table's rows as a map of their own: what it answers at a key, and what a put or a delete does to it.
-use Rattle.std.proofs.Common.{◌≡◌, ℕ, ◌<◌, ◌^◌, Bool, true, false, cond, T, ◌&&◌, List, [], ◌∷◌, Option, None, Some, option_and_then, refl, sym, ap, subst, ◌∙◌, arith, lt-ltb, ltb-true, eqb-true, eq-eqb, true≢false}
-use Rattle.std.specs.Prelude.{◌==◌, nat_lt, if◌then◌else◌}
-use Rattle.std.specs.Option.{option_map}
-use Rattle.std.specs.Ordering.{eq_by_cmp, is_eq}
+use Rattle.std.proofs.Common.{◌≡◌, Bool, true, false, cond, T, List, [], ◌∷◌, Option, None, Some, option_and_then, refl, sym, ap, subst, ◌∙◌, true≢false}
+use Rattle.std.specs.Ordering.{eq_by_cmp}
 use Rattle.std.specs.FinMap.Entries.{find, below_all, is_sorted}
 use Rattle.jv_model.specs.declared.row.RowKey.{RowKey}
 use Rattle.jv_model.specs.declared.row.Row.{Row}
-use Rattle.jv_model.specs.FiniteMap.{KeyOrder, Map, get, insert, remove, alter}
+use Rattle.jv_model.specs.FiniteMap.{KeyOrder, get, alter}
 use Rattle.jv_model.specs.rows.RowKeys.{row_key, row_cmp}
 use Rattle.jv_model.proofs.FiniteMapLaws.{get-alter, get-map_of, same_maps}
 use Rattle.jv_volume.specs.TypedRows.{Cell, Rows}
@@ -84,7 +82,7 @@ module _ {K X : Type 0} (order : KeyOrder K) (key_of : RowKey → Option K) (val
 module _ {K X : Type 0} (order : KeyOrder K) (key_of : RowKey → Option K) (place : K → Option RowKey) (table : IsTable key_of place)
     (value_of : K → Option Row → Option X) (none : (k : K) → value_of k None ≡ None) where
   -- the value of the row at a place, if there is a place
-  abbrev value_at : Rows → K → Option RowKey → Option X
+  abbrev pub value_at : Rows → K → Option RowKey → Option X
   value_at rows k None = None
   value_at rows k (Some q) = value_of k (row_at rows q)
 

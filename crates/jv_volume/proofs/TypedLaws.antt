@@ -1,14 +1,13 @@
 -- Rows by their types, key by key: what stands at a key, and what a put or a delete does.
-use Rattle.std.proofs.Common.{◌≡◌, ℕ, Bool, true, false, cond, List, map, Option, None, Some, Ok, ok_or, option_map, refl, sym, ap, ◌∙◌}
+use Rattle.std.proofs.Common.{◌≡◌, ℕ, Bool, true, false, cond, List, Option, None, Some, Ok, ok_or, option_map, refl, sym, ap, ◌∙◌}
 use Rattle.std.specs.Ordering.{eq_by_cmp}
-use Rattle.std.specs.FinMap.Entries.{find}
 use Rattle.jv_model.specs.declared.row.RowKey.{RowKey}
 use Rattle.jv_model.specs.declared.row.Row.{Row}
-use Rattle.jv_model.specs.FiniteMap.{get, insert, remove, alter, map_of}
+use Rattle.jv_model.specs.FiniteMap.{get, insert, remove, alter}
 use Rattle.jv_model.specs.rows.RowGrammar.{row_of}
 use Rattle.jv_model.specs.rows.RowKeys.{row_key, row_cmp, RowMap}
 use Rattle.jv_model.proofs.FiniteMapLaws.{get-alter, get-map_of, same_maps}
-use Rattle.jv_volume.specs.TypedRows.{Cell, Rows, cell_of, typed_entries, typed}
+use Rattle.jv_volume.specs.TypedRows.{cell_of, typed_entries, typed}
 use Rattle.jv_volume.proofs.MapLaws.{find-map, same_key}
 
 -- what stands at a key is what its bytes spell there
