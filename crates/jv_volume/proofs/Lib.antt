@@ -5,3 +5,4 @@ pub mod TypedLaws
 pub mod SelectLaws
 pub mod TableLaws
 pub mod TreeOfLaws
+pub mod StoredLaws

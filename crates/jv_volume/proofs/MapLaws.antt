@@ -1,12 +1,12 @@
 -- Finite maps: entries by key, and what a map of changed values answers.
-use Rattle.std.proofs.Common.{◌≡◌, Bool, true, false, cond, T, ◌&&◌, List, [], ◌∷◌, map, Option, None, Some, option_map, refl, sym, ap, subst, ◌∙◌, ◌⊎◌, inl, inr}
+use Rattle.std.proofs.Common.{◌≡◌, ℕ, ◌+◌, Bool, true, false, cond, T, ◌&&◌, List, [], ◌∷◌, map, Option, None, Some, option_map, refl, sym, ap, subst, ◌∙◌, ◌⊎◌, inl, inr}
 use Rattle.std.specs.declared.cmp.Ordering.{Ordering}
 use Rattle.std.specs.declared.cmp.Ordering.TheVariants.{Less, Equal, Greater}
 use Rattle.std.specs.Ordering.{eq_by_cmp, is_eq, is_lt}
 use Rattle.std.specs.Cmp.{eq_by_cmp_equiv}
-use Rattle.std.specs.FinMap.Entries.{find, below_all}
-use Rattle.jv_model.specs.FiniteMap.{KeyOrder, Map, get, insert, remove, alter}
-use Rattle.jv_model.proofs.FiniteMapLaws.{get-insert, get-remove, get-alter}
+use Rattle.std.specs.FinMap.Entries.{find, below_all, is_sorted}
+use Rattle.jv_model.specs.FiniteMap.{KeyOrder, Map, get, insert, remove, alter, sum_over, total_over}
+use Rattle.jv_model.proofs.FiniteMapLaws.{get-insert, get-remove, get-alter, same_maps}
 
 equal_is : (o : Ordering) → is_eq o ≡ true → o ≡ Equal
 equal_is Less e = absurd (cc)
@@ -86,3 +86,42 @@ module _ {K X : Type 0} {order : KeyOrder K} where
 
   pub get-alter-apart : (m : Map order X) (k : K) (v : Option X) (q : K) → (q ≡ k → ⊥) → get (alter m k v) q ≡ get m q
   get-alter-apart m k v q apart = get-alter m k v q ∙ ap (λ b. cond b v (get m q)) (key_apart order q k apart)
+
+-- ---- sums of maps that have the same keys
+
+module _ {K X Y : Type 0} (order : KeyOrder K) (f : K → X → Y) where
+  abbrev changed_entries : List (K × X) → List (K × Y)
+  changed_entries es = map (λ e. (e.0, f e.0 e.1)) es
+
+  below_all-changed : (x : K) (es : List (K × X)) → below_all order.cmp x (changed_entries es) ≡ below_all order.cmp x es
+  below_all-changed x [] = refl
+  below_all-changed x (e ∷ es) = ap (λ b. is_lt (order.cmp x e.0) && b) (below_all-changed x es)
+
+  pub is_sorted-changed : (es : List (K × X)) → is_sorted order.cmp (changed_entries es) ≡ is_sorted order.cmp es
+  is_sorted-changed [] = refl
+  is_sorted-changed (e ∷ es) = λ i. below_all-changed e.0 es i && is_sorted-changed es i
+
+  -- the map of the same keys with changed values
+  unfoldable pub changed_values : Map order X → Map order Y
+  changed_values m = record { list = changed_entries m.list; sorted = subst T (sym (is_sorted-changed m.list)) m.sorted }
+
+  pub get-changed_values : (m : Map order X) (k : K) → get (changed_values m) k ≡ option_map (f k) (get m k)
+  unfolding get changed_values
+  get-changed_values m k = find-map order f k m.list
+
+module _ {K X : Type 0} (order : KeyOrder K) (f : K → X → ℕ) where
+  total-changed : (es : List (K × X)) → total_over (λ k n. n) (changed_entries order f es) ≡ total_over f es
+  total-changed [] = refl
+  total-changed (e ∷ es) = ap (λ n. f e.0 e.1 + n) (total-changed es)
+
+  sum-changed_values : (m : Map order X) → sum_over (λ k n. n) (changed_values order f m) ≡ sum_over f m
+  unfolding sum_over changed_values
+  sum-changed_values m = total-changed m.list
+
+-- maps that have the same keys, with as much at each, have the same sum
+pub sum-alike : {K X Y : Type 0} (order : KeyOrder K) (f : K → X → ℕ) (g : K → Y → ℕ) (m : Map order X) (n : Map order Y)
+    → ((k : K) → option_map (f k) (get m k) ≡ option_map (g k) (get n k)) → sum_over f m ≡ sum_over g n
+sum-alike order f g m n same =
+    sym (sum-changed_values order f m)
+    ∙ ap (sum_over (λ k n. n)) (same_maps (changed_values order f m) (changed_values order g n) (λ k. get-changed_values order f m k ∙ same k ∙ sym (get-changed_values order g n k)))
+    ∙ sum-changed_values order g n
