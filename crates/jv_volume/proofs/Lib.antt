@@ -1,4 +1,5 @@
 -- What is proved of whole volumes.
+pub mod ShapeMapLaws
 pub mod MapLaws
 pub mod FreshExamples
 pub mod TypedLaws

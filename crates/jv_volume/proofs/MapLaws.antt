@@ -1,17 +1,12 @@
 -- Finite maps: entries by key, and what a map of changed values answers.
-use Rattle.std.proofs.Common.{◌≡◌, ℕ, ◌+◌, Bool, true, false, cond, T, ◌&&◌, List, [], ◌∷◌, map, Option, None, Some, option_map, refl, sym, ap, subst, ◌∙◌, ◌⊎◌, inl, inr}
+use Rattle.std.proofs.Common.{◌≡◌, ℕ, ◌+◌, Bool, true, false, cond, T, ◌&&◌, List, [], ◌∷◌, map, Option, None, Some, option_map, refl, sym, ap, subst, ◌∙◌}
 use Rattle.std.specs.declared.cmp.Ordering.{Ordering}
 use Rattle.std.specs.declared.cmp.Ordering.TheVariants.{Less, Equal, Greater}
 use Rattle.std.specs.Ordering.{eq_by_cmp, is_eq, is_lt}
-use Rattle.std.specs.Cmp.{eq_by_cmp_equiv}
 use Rattle.std.specs.FinMap.Entries.{find, below_all, is_sorted}
-use Rattle.jv_model.specs.FiniteMap.{KeyOrder, Map, get, insert, remove, alter, sum_over, total_over}
-use Rattle.jv_model.proofs.FiniteMapLaws.{get-insert, get-remove, get-alter, same_maps}
-
-equal_is : (o : Ordering) → is_eq o ≡ true → o ≡ Equal
-equal_is Less e = absurd (cc)
-equal_is Equal e = refl
-equal_is Greater e = absurd (cc)
+use Rattle.jv_model.specs.FiniteMap.{KeyOrder, Map, get, alter, sum_over, total_over}
+use Rattle.jv_model.proofs.FiniteMapLaws.{get-alter, same_maps}
+use Rattle.jv_volume.proofs.ShapeMapLaws.{tied_here, tied_same}
 
 pub first_of_both : (a b : Bool) → T (a && b) → T a
 first_of_both true b p = tt
@@ -26,30 +21,9 @@ less_ties_not Less p = refl
 less_ties_not Equal p = absurd p
 less_ties_not Greater p = absurd p
 
--- a value is there, or none is
-pub option_cases : {X : Type 0} (o : Option X) → ((x : X) × (o ≡ Some x)) ⊎ (o ≡ None)
-option_cases None = inr refl
-option_cases (Some x) = inl (x, refl)
-
-module _ {K : Type 0} (order : KeyOrder K) where
-  -- keys that tie are the same
-  pub same_key : (x y : K) → eq_by_cmp order.cmp x y ≡ true → x ≡ y
-  same_key x y e = order.same x y (equal_is _ e)
-
-  pub key_itself : (x : K) → eq_by_cmp order.cmp x x ≡ true
-  key_itself x = (eq_by_cmp_equiv order.total).refl x
-
-  -- keys that are the same tie
-  pub key_ties : (x y : K) → x ≡ y → eq_by_cmp order.cmp x y ≡ true
-  key_ties x y e = subst (λ z. eq_by_cmp order.cmp x z ≡ true) e (key_itself x)
-
-  key_apart_at : (x y : K) (b : Bool) → eq_by_cmp order.cmp x y ≡ b → (x ≡ y → ⊥) → b ≡ false
-  key_apart_at x y true e apart = absurd (apart (same_key x y e))
-  key_apart_at x y false e apart = refl
-
-  -- other keys don't tie
-  pub key_apart : (x y : K) → (x ≡ y → ⊥) → eq_by_cmp order.cmp x y ≡ false
-  key_apart x y apart = key_apart_at x y (eq_by_cmp order.cmp x y) refl apart
+-- keys that are the same tie
+pub key_ties : {K : Type 0} (order : KeyOrder K) (x y : K) → x ≡ y → eq_by_cmp order.cmp x y ≡ true
+key_ties order x y e = subst (λ z. eq_by_cmp order.cmp x z ≡ true) e (tied_here order x)
 
 -- a key below all others isn't among them
 pub find-below_all : {K X : Type 0} (order : KeyOrder K) (k : K) (es : List (K × X)) → T (below_all order.cmp k es) → find order.cmp k es ≡ None
@@ -60,7 +34,7 @@ find-below_all order k (e ∷ es) h =
 module _ {K X Y : Type 0} (order : KeyOrder K) (f : K → X → Y) where
   find-map_at : (q : K) (e : K × X) (es : List (K × X)) (b : Bool) → eq_by_cmp order.cmp q e.0 ≡ b
       → cond b (Some (f e.0 e.1)) (option_map (f q) (find order.cmp q es)) ≡ option_map (f q) (cond b (Some e.1) (find order.cmp q es))
-  find-map_at q e es true p = ap (λ k. Some (f k e.1)) (sym (same_key order q e.0 p))
+  find-map_at q e es true p = ap (λ k. Some (f k e.1)) (sym (tied_same order e.0 q p))
   find-map_at q e es false p = refl
 
   -- the value at a key among entries whose values were changed
@@ -68,24 +42,9 @@ module _ {K X Y : Type 0} (order : KeyOrder K) (f : K → X → Y) where
   find-map q [] = refl
   find-map q (e ∷ es) = ap (cond (eq_by_cmp order.cmp q e.0) (Some (f e.0 e.1))) (find-map q es) ∙ find-map_at q e es (eq_by_cmp order.cmp q e.0) refl
 
-module _ {K X : Type 0} {order : KeyOrder K} where
-  pub get-insert-here : (m : Map order X) (k : K) (v : X) → get (insert m k v) k ≡ Some v
-  get-insert-here m k v = get-insert m k v k ∙ ap (λ b. cond b (Some v) (get m k)) (key_itself order k)
-
-  pub get-remove-here : (m : Map order X) (k : K) → get (remove m k) k ≡ None
-  get-remove-here m k = get-remove m k k ∙ ap (λ b. cond b None (get m k)) (key_itself order k)
-
-  pub get-alter-here : (m : Map order X) (k : K) (v : Option X) → get (alter m k v) k ≡ v
-  get-alter-here m k v = get-alter m k v k ∙ ap (λ b. cond b v (get m k)) (key_itself order k)
-
-  pub get-insert-apart : (m : Map order X) (k : K) (v : X) (q : K) → (q ≡ k → ⊥) → get (insert m k v) q ≡ get m q
-  get-insert-apart m k v q apart = get-insert m k v q ∙ ap (λ b. cond b (Some v) (get m q)) (key_apart order q k apart)
-
-  pub get-remove-apart : (m : Map order X) (k q : K) → (q ≡ k → ⊥) → get (remove m k) q ≡ get m q
-  get-remove-apart m k q apart = get-remove m k q ∙ ap (λ b. cond b None (get m q)) (key_apart order q k apart)
-
-  pub get-alter-apart : (m : Map order X) (k : K) (v : Option X) (q : K) → (q ≡ k → ⊥) → get (alter m k v) q ≡ get m q
-  get-alter-apart m k v q apart = get-alter m k v q ∙ ap (λ b. cond b v (get m q)) (key_apart order q k apart)
+-- what stands at a changed key
+pub get-alter-here : {K X : Type 0} (order : KeyOrder K) (m : Map order X) (k : K) (v : Option X) → get (alter m k v) k ≡ v
+get-alter-here order m k v = get-alter m k v k ∙ ap (λ b. cond b v (get m k)) (tied_here order k)
 
 -- ---- sums of maps that have the same keys
 

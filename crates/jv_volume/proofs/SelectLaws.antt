@@ -10,7 +10,8 @@ use Rattle.jv_model.proofs.FiniteMapLaws.{get-alter, get-map_of, same_maps}
 use Rattle.jv_volume.specs.TypedRows.{Cell, Rows}
 use Rattle.jv_volume.specs.Views.{row_in, row_at}
 use Rattle.jv_volume.specs.TreeOf.{entry_selected, entries_selected, selected}
-use Rattle.jv_volume.proofs.MapLaws.{same_key, key_itself, key_apart, key_ties, get-alter-here, find-below_all, first_of_both, second_of_both}
+use Rattle.jv_volume.proofs.MapLaws.{key_ties, get-alter-here, find-below_all, first_of_both, second_of_both}
+use Rattle.jv_volume.proofs.ShapeMapLaws.{tied_here, tied_same, tied_apart}
 
 -- A table: which rows are of it, by which keys, and where the row of a key stands, where it can stand.
 pub record IsTable {K : Type 0} (key_of : RowKey → Option K) (place : K → Option RowKey) : Type 0 where
@@ -28,7 +29,7 @@ module _ {K X : Type 0} (order : KeyOrder K) (key_of : RowKey → Option K) (val
   other_entry k q cell others (Some j) e apart =
       elim (value_of j (row_in (Some cell))) as (λ x. find order.cmp k (elim x [ None ↦ others | Some x ↦ (j, x) ∷ others ]) ≡ find order.cmp k others) [
         | None ↦ refl
-        | Some x ↦ ap (λ b. cond b (Some x) (find order.cmp k others)) (key_apart order k j (λ same. apart (e ∙ ap (λ i. Some i) (sym same))))
+        | Some x ↦ ap (λ b. cond b (Some x) (find order.cmp k others)) (tied_apart order j k (λ same. apart (e ∙ ap (λ i. Some i) (sym same))))
       ]
 
   -- no row has the key
@@ -42,19 +43,19 @@ module _ {K X : Type 0} (order : KeyOrder K) (key_of : RowKey → Option K) (val
     here cell others none =
         elim (value_of k (row_in (Some cell))) as (λ x. find order.cmp k (elim x [ None ↦ others | Some x ↦ (k, x) ∷ others ]) ≡ x) [
           | None ↦ none
-          | Some x ↦ ap (λ b. cond b (Some x) (find order.cmp k others)) (key_itself order k)
+          | Some x ↦ ap (λ b. cond b (Some x) (find order.cmp k others)) (tied_here order k)
         ]
 
     found_at : (e : RowKey × Cell) (es : List (RowKey × Cell)) (b : Bool) → eq_by_cmp row_cmp at e.0 ≡ b → T (below_all row_cmp e.0 es)
         → find order.cmp k (entries_selected key_of value_of es) ≡ value_in value_of k (find row_cmp at es)
         → find order.cmp k (entries_selected key_of value_of (e ∷ es)) ≡ value_in value_of k (cond b (Some e.1) (find row_cmp at es))
     found_at e es true p below rest =
-        let same : at ≡ e.0 = same_key row_key at e.0 p in
+        let same : at ≡ e.0 = tied_same row_key e.0 at p in
         let none : find row_cmp at es ≡ None = subst (λ q. find row_cmp q es ≡ None) (sym same) (find-below_all row_key e.0 es below) in
         ap (λ o. find order.cmp k (entry_selected value_of o e.1 (entries_selected key_of value_of es))) (subst (λ q. key_of q ≡ Some k) same is)
         ∙ here e.1 (entries_selected key_of value_of es) (rest ∙ ap (value_in value_of k) none)
     found_at e es false p below rest =
-        other_entry k e.0 e.1 _ (key_of e.0) refl (λ has. absurd (not_itself (sym (ap (eq_by_cmp row_cmp at) (only e.0 has)) ∙ key_itself row_key at) p)) ∙ rest
+        other_entry k e.0 e.1 _ (key_of e.0) refl (λ has. absurd (not_itself (sym (ap (eq_by_cmp row_cmp at) (only e.0 has)) ∙ tied_here row_key at) p)) ∙ rest
       where
         not_itself : eq_by_cmp row_cmp at e.0 ≡ true → eq_by_cmp row_cmp at e.0 ≡ false → ⊥
         not_itself ties not_ties = cc
@@ -107,7 +108,7 @@ module _ {K X : Type 0} (order : KeyOrder K) (key_of : RowKey → Option K) (pla
   kept rows q cell k apart None e = refl
   kept rows q cell k apart (Some r) e =
       ap (λ c. value_of k (row_in c)) (get-alter rows q cell r
-      ∙ ap (λ b. cond b cell (get rows r)) (key_apart row_key r q (λ same. apart (subst (λ x. key_of x ≡ Some k) same (table.back r k e)))))
+      ∙ ap (λ b. cond b cell (get rows r)) (tied_apart row_key q r (λ same. apart (subst (λ x. key_of x ≡ Some k) same (table.back r k e)))))
 
   kept_at : (rows : Rows) (q : RowKey) (cell : Option Cell) (k : K) → (key_of q ≡ Some k → ⊥)
       → get (selected {order = order} key_of value_of (alter rows q cell)) k ≡ get (selected {order = order} key_of value_of rows) k
@@ -121,9 +122,9 @@ module _ {K X : Type 0} (order : KeyOrder K) (key_of : RowKey → Option K) (pla
   changed_at : (rows : Rows) (q : RowKey) (cell : Option Cell) (k j : K) → key_of q ≡ Some k → (b : Bool) → eq_by_cmp order.cmp j k ≡ b
       → get (selected {order = order} key_of value_of (alter rows q cell)) j ≡ cond b (value_of k (row_in cell)) (get (selected {order = order} key_of value_of rows) j)
   changed_at rows q cell k j is true e =
-      let same : j ≡ k = same_key order j k e in
+      let same : j ≡ k = tied_same order k j e in
       subst (λ i. get (selected {order = order} key_of value_of (alter rows q cell)) i ≡ value_of k (row_in cell)) (sym same)
-      (get-selected_by (alter rows q cell) k (Some q) (table.there q k is) ∙ ap (λ c. value_of k (row_in c)) (get-alter-here rows q cell))
+      (get-selected_by (alter rows q cell) k (Some q) (table.there q k is) ∙ ap (λ c. value_of k (row_in c)) (get-alter-here row_key rows q cell))
   changed_at rows q cell k j is false e =
       kept_at rows q cell j (λ has. not_itself (same_some (sym has ∙ is)) e)
     where

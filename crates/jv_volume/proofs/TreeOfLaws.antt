@@ -12,7 +12,7 @@ use Rattle.jv_model.specs.declared.row.Session.{Session}
 use Rattle.jv_model.specs.declared.row.Row.TheVariants.{OfSetting, OfCounters, OfNode, OfEdge, OfSession, OfSustained}
 use Rattle.jv_model.specs.declared.setting.Setting.{Setting}
 use Rattle.jv_model.specs.FiniteMap.{number_key, get, insert, remove, alter}
-use Rattle.jv_model.specs.rows.RowKeys.{row_cmp}
+use Rattle.jv_model.specs.rows.RowKeys.{row_key, row_cmp}
 use Rattle.jv_model.specs.rows.RowPlaces.{setting_key, counters_key, node_key, edge_key, session_key, sustained_key}
 use Rattle.jv_model.specs.tree.Tree.{Node, EntryKey, entry_key, SessionEntry, pair_key, node_at, is_sustained}
 use Rattle.jv_model.specs.tree.Changes.{put_node, drop_node}
@@ -280,7 +280,7 @@ unfolding tree_of
 tree_of-put_counters bytes rows counters =
     let q = counters_key in
     let cell : Option Cell = Some (Ok (OfCounters counters)) in
-    let new : counters_of (insert rows q (Ok (OfCounters counters))) ≡ counters = ap (λ c. or_no_counters (counters_in (row_in c))) (get-alter-here rows q cell) in
+    let new : counters_of (insert rows q (Ok (OfCounters counters))) ≡ counters = ap (λ c. or_no_counters (counters_in (row_in c))) (get-alter-here row_key rows q cell) in
     λ i. record {
       setting = setting_kept rows q cell refl i;
       nodes = nodes_kept rows q cell bytes refl i;
@@ -297,7 +297,7 @@ unfolding tree_of
 tree_of-put_setting bytes rows setting =
     let q = setting_key in
     let cell : Option Cell = Some (Ok (OfSetting setting)) in
-    let new : or_no_setting (setting_at (insert rows q (Ok (OfSetting setting)))) ≡ setting = ap (λ c. or_no_setting (setting_in (row_in c))) (get-alter-here rows q cell) in
+    let new : or_no_setting (setting_at (insert rows q (Ok (OfSetting setting)))) ≡ setting = ap (λ c. or_no_setting (setting_in (row_in c))) (get-alter-here row_key rows q cell) in
     λ i. record {
       setting = new i;
       nodes = nodes_kept rows q cell bytes refl i;

@@ -8,7 +8,8 @@ use Rattle.jv_model.specs.rows.RowGrammar.{row_of}
 use Rattle.jv_model.specs.rows.RowKeys.{row_key, row_cmp, RowMap}
 use Rattle.jv_model.proofs.FiniteMapLaws.{get-alter, get-map_of, same_maps}
 use Rattle.jv_volume.specs.TypedRows.{cell_of, typed_entries, typed}
-use Rattle.jv_volume.proofs.MapLaws.{find-map, same_key}
+use Rattle.jv_volume.proofs.MapLaws.{find-map}
+use Rattle.jv_volume.proofs.ShapeMapLaws.{tied_same}
 
 -- what stands at a key is what its bytes spell there
 pub get-typed : (rows : RowMap) (key : RowKey) → get (typed rows) key ≡ option_map (cell_of key) (get rows key)
@@ -17,7 +18,7 @@ get-typed rows key = get-map_of row_key (typed_entries rows.list) key ∙ find-m
 
 typed-alter_at : (key : RowKey) (bytes : Option (List ℕ)) (q : RowKey) (o : Option (List ℕ)) → (b : Bool) → eq_by_cmp row_cmp q key ≡ b
     → option_map (cell_of q) (cond b bytes o) ≡ cond b (option_map (cell_of key) bytes) (option_map (cell_of q) o)
-typed-alter_at key bytes q o true e = ap (λ k. option_map (cell_of k) bytes) (same_key row_key q key e)
+typed-alter_at key bytes q o true e = ap (λ k. option_map (cell_of k) bytes) (tied_same row_key key q e)
 typed-alter_at key bytes q o false e = refl
 
 -- a put or a delete of bytes is one of what they spell
