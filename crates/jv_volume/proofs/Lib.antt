@@ -7,3 +7,4 @@ pub mod SelectLaws
 pub mod TableLaws
 pub mod TreeOfLaws
 pub mod StoredLaws
+pub mod SumLaws

@@ -1,11 +1,11 @@
 -- Finite maps: entries by key, and what a map of changed values answers.
-use Rattle.std.proofs.Common.{◌≡◌, ℕ, ◌+◌, Bool, true, false, cond, T, ◌&&◌, List, [], ◌∷◌, map, Option, None, Some, option_map, refl, sym, ap, subst, ◌∙◌}
+use Rattle.std.proofs.Common.{◌≡◌, ℕ, ◌+◌, Bool, true, false, cond, T, ◌&&◌, List, [], ◌∷◌, map, Option, None, Some, option_map, refl, sym, ap, subst, ◌∙◌, arith}
 use Rattle.std.specs.declared.cmp.Ordering.{Ordering}
 use Rattle.std.specs.declared.cmp.Ordering.TheVariants.{Less, Equal, Greater}
 use Rattle.std.specs.Ordering.{eq_by_cmp, is_eq, is_lt}
 use Rattle.std.specs.FinMap.Entries.{find, below_all, is_sorted}
-use Rattle.jv_model.specs.FiniteMap.{KeyOrder, Map, get, alter, sum_over, total_over}
-use Rattle.jv_model.proofs.FiniteMapLaws.{get-alter, same_maps}
+use Rattle.jv_model.specs.FiniteMap.{KeyOrder, Map, get, insert, remove, alter, sum_over, total_over}
+use Rattle.jv_model.proofs.FiniteMapLaws.{share, get-alter, same_maps, sum-insert, sum-remove}
 use Rattle.jv_volume.proofs.ShapeMapLaws.{tied_here, tied_same}
 
 pub first_of_both : (a b : Bool) → T (a && b) → T a
@@ -84,3 +84,42 @@ sum-alike order f g m n same =
     sym (sum-changed_values order f m)
     ∙ ap (sum_over (λ k n. n)) (same_maps (changed_values order f m) (changed_values order g n) (λ k. get-changed_values order f m k ∙ same k ∙ sym (get-changed_values order g n k)))
     ∙ sum-changed_values order g n
+
+zeros : {K X : Type 0} (es : List (K × X)) → total_over (λ k x. 0) es ≡ 0
+zeros [] = refl
+zeros (e ∷ es) = omega (arith, zeros es)
+
+sum-zeros : {K X : Type 0} (order : KeyOrder K) (m : Map order X) → sum_over (λ k x. 0) m ≡ 0
+unfolding sum_over
+sum-zeros order m = zeros m.list
+
+nothing_alike : {K X : Type 0} (f : K → X → ℕ) (k : K) (o : Option X) → ((x : X) → o ≡ Some x → f k x ≡ 0) → option_map (f k) o ≡ option_map (λ x. 0) o
+nothing_alike f k None none = refl
+nothing_alike f k (Some x) none = ap (λ n. Some n) (none x refl)
+
+-- a sum of nothing but zeros
+pub sum-nothing : {K X : Type 0} (order : KeyOrder K) (f : K → X → ℕ) (m : Map order X) → ((k : K) (x : X) → get m k ≡ Some x → f k x ≡ 0) → sum_over f m ≡ 0
+sum-nothing order f m none = sum-alike order f (λ k x. 0) m m (λ k. nothing_alike f k (get m k) (none k)) ∙ sum-zeros order m
+
+entry_alike : {K X : Type 0} (f g : K → X → ℕ) (k : K) (o : Option X) → ((x : X) → o ≡ Some x → f k x ≡ g k x) → option_map (f k) o ≡ option_map (g k) o
+entry_alike f g k None same = refl
+entry_alike f g k (Some x) same = ap (λ n. Some n) (same x refl)
+
+-- two functions that agree on the entries of a map have the same sum
+pub sum-agree : {K X : Type 0} (order : KeyOrder K) (f g : K → X → ℕ) (m : Map order X) → ((k : K) (x : X) → get m k ≡ Some x → f k x ≡ g k x) → sum_over f m ≡ sum_over g m
+sum-agree order f g m same = sum-alike order f g m m (λ k. entry_alike f g k (get m k) (same k))
+
+module _ {K X : Type 0} (order : KeyOrder K) (f : K → X → ℕ) (m : Map order X) (k : K) where
+  -- a sum with an entry at a free key
+  pub sum-new : (x : X) → get m k ≡ None → sum_over f (insert m k x) ≡ sum_over f m + f k x
+  sum-new x free =
+      let all = ap (λ o. sum_over f (insert m k x) + share f k o) (sym free) ∙ sum-insert order f m k x in
+      omega (arith, all)
+
+  -- with another value at a key
+  pub sum-over : (old x : X) → get m k ≡ Some old → sum_over f (insert m k x) + f k old ≡ sum_over f m + f k x
+  sum-over old x there = ap (λ o. sum_over f (insert m k x) + share f k o) (sym there) ∙ sum-insert order f m k x
+
+  -- without an entry
+  pub sum-gone : (old : X) → get m k ≡ Some old → sum_over f (remove m k) + f k old ≡ sum_over f m
+  sum-gone old there = ap (λ o. sum_over f (remove m k) + share f k o) (sym there) ∙ sum-remove order f m k
