@@ -7,4 +7,8 @@ pub mod SelectLaws
 pub mod TableLaws
 pub mod TreeOfLaws
 pub mod StoredLaws
+pub mod NodeRowLaws
+pub mod StoringLaws
+pub mod ChangeLaws
 pub mod SumLaws
+pub mod LinkLaws

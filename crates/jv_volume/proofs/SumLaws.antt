@@ -9,7 +9,7 @@ use Rattle.jv_model.specs.tree.Making.{with_next}
 use Rattle.jv_model.specs.tree.Removing.{remove_directory}
 use Rattle.jv_model.specs.tree.Renaming.{kind_under, moved_node, move_in, moved, exchanged}
 use Rattle.jv_volume.proofs.MapLaws.{sum-new, sum-over, sum-gone}
-use Rattle.jv_volume.proofs.ShapeMapLaws.{get-insert_apart}
+use Rattle.jv_volume.proofs.ChangeLaws.{change_node-apart}
 
 -- ---- what holds of the sum of any function that sees of a node the space of its kind alone
 
@@ -72,11 +72,7 @@ module _ (f : ℕ → Node → ℕ) (by_space : BySpace f) where
 
 -- the node after its directory's entries changed, which is another directory
 pub node_at-touch : (t : Tree) (now dir inode : ℕ) (node : Node) → node_at t inode ≡ Some node → (inode ≡ dir → ⊥) → node_at (touch t now dir) inode ≡ Some node
-node_at-touch t now dir inode node there apart = touch_at (node_at t dir)
-  where
-    touch_at : (o : Option Node) → node_at (set_node t dir (option_map (touched now) o)) inode ≡ Some node
-    touch_at None = there
-    touch_at (Some old) = get-insert_apart number_key t.nodes dir (touched now old) inode apart ∙ there
+node_at-touch t now dir inode node there apart = change_node-apart t dir (touched now) inode apart ∙ there
 
 -- ---- used space
 
