@@ -11,4 +11,5 @@ pub mod NodeRowLaws
 pub mod StoringLaws
 pub mod ChangeLaws
 pub mod SumLaws
+pub mod MadeRowsLaws
 pub mod LinkLaws
