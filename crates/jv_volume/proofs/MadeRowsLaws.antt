@@ -13,7 +13,7 @@ use Rattle.jv_model.specs.declared.row.Row.TheVariants.{OfSetting, OfCounters, O
 use Rattle.jv_model.specs.FiniteMap.{number_key, get, insert}
 use Rattle.jv_model.specs.rows.RowKeys.{row_key, row_cmp}
 use Rattle.jv_model.specs.rows.RowPlaces.{setting_key, counters_key, node_key, edge_key, session_key, sustained_key}
-use Rattle.jv_model.specs.tree.Tree.{Tree, Node, EntryKey, entry_key, node_at, is_directory, link_count, used_space, used_inodes, node_space, node_count}
+use Rattle.jv_model.specs.tree.Tree.{Tree, Node, EntryKey, entry_key, node_at, is_directory, link_count, used_space, used_inodes, kind_space, is_counted}
 use Rattle.jv_model.specs.tree.Changes.{touched, put_node}
 use Rattle.jv_model.specs.tree.Making.{with_next}
 use Rattle.jv_volume.specs.TypedRows.{Cell, Rows}
@@ -28,8 +28,8 @@ use Rattle.jv_volume.proofs.StoredLaws.{HasNode, HasCounters, found_node, found_
 use Rattle.jv_volume.proofs.StoringLaws.{AreStored, IsNodeCell, IsEdgeCell, are_stored, stored-by}
 use Rattle.jv_volume.proofs.TreeOfLaws.{get-entries, tree_of-put_node, tree_of-put_edge, tree_of-put_counters}
 use Rattle.jv_volume.proofs.ChangeLaws.{with_node-there}
-use Rattle.jv_volume.proofs.LinkLaws.{standing, standing_here, standing_apart, IsFree, free_inode, next_absent, link_count-new_leaf, link_count-beside_leaf, link_count-new_dir, link_count-beside_dir}
-use Rattle.jv_volume.proofs.SumLaws.{used_space-with_next, used_inodes-with_next}
+use Rattle.jv_volume.proofs.LinkLaws.{next_low, standing, standing_here, standing_apart, IsFree, free_inode, next_absent, link_count-new_leaf, link_count-beside_leaf, link_count-new_dir, link_count-beside_dir}
+use Rattle.jv_volume.proofs.SumLaws.{counted, node_space-counted, node_count-counted, used_space-with_next, used_inodes-with_next}
 
 -- the directory's row after an entry came, and the counters after a node came
 abbrev pub touched_row : ℕ → ℕ → NodeRow → NodeRow
@@ -112,17 +112,16 @@ module _ (bytes : ℕ → ℕ → ℕ) (rows : Rows) (now : ℕ) (place : EntryK
   tree_of-made = by_rows ∙ sym (by_model ∙ (λ i. made_tree (c_is.next_inode i) (c_is.next_session i)))
 
 -- The premises on the new rows, by whether the new node is a directory.
-pub record IsMade (t : Tree) (place : EntryKey) (row dir : NodeRow) (byte : ℕ → ℕ) (links : ℕ) (c : Counters) (space : ℕ) : Type 0 where
+pub record IsMade (t : Tree) (place : EntryKey) (row dir : NodeRow) (byte : ℕ → ℕ) (links space : ℕ) : Type 0 where
   pub free : get t.entries place ≡ None
   pub within : is_directory t place.dir ≡ true
   pub new_row : IsNodeRow (if is_dir (form_of (Some (node_of byte row))) then 2 else 1) byte row
   pub dir_links : links ≡ dir.nlink + (if is_dir (form_of (Some (node_of byte row))) then 1 else 0)
-  pub space_is : space ≡ node_space c.inode (node_of byte row)
-  pub count_is : node_count c.inode (node_of byte row) ≡ 1
+  pub space_is : space ≡ kind_space (node_of byte row).kind
 
 module _ (bytes : ℕ → ℕ → ℕ) (rows : Rows) (now : ℕ) (place : EntryKey) (row dir : NodeRow) (links : ℕ) (c : Counters) (space : ℕ)
     (s : Stored rows (tree_of bytes rows)) (shape : WholeShape (shape_of (tree_of bytes rows)))
-    (there : node_row_at rows place.dir ≡ Some dir) (counters : counters_at rows ≡ Some c) (made : IsMade (tree_of bytes rows) place row dir (bytes c.inode) links c space) where
+    (there : node_row_at rows place.dir ≡ Some dir) (counters : counters_at rows ≡ Some c) (made : IsMade (tree_of bytes rows) place row dir (bytes c.inode) links space) where
   abbrev before_it : Tree
   before_it = tree_of bytes rows
 
@@ -290,15 +289,18 @@ module _ (bytes : ℕ → ℕ → ℕ) (rows : Rows) (now : ℕ) (place : EntryK
       ∙ ap (λ x. cond x (Some (Ok (OfEdge (record { kind = row.kind; inode = c.inode })))) (get r1 q)) d
       ∙ get-insert rows (node_key c.inode) (Ok (OfNode row)) q ∙ ap (λ x. cond x (Some (Ok (OfNode row))) (get rows q)) e
 
+  counted_next : is_counted before_it.next_inode ≡ true
+  counted_next = (let low = next_low before_it shape in counted before_it.next_inode low.0 low.1)
+
   space_after : used_space (tree_of bytes done_rows) ≡ c.used_space + space
   space_after =
       ap used_space is_tree ∙ used_space-with_next before_it now place new free_next.absent
-      ∙ (λ i. c_found.space i + (ap (λ inode. node_space inode new) c_found.next_inode ∙ sym made.space_is) i)
+      ∙ (λ i. c_found.space i + (node_space-counted before_it.next_inode new counted_next ∙ sym made.space_is) i)
 
   inodes_after : used_inodes (tree_of bytes done_rows) ≡ c.used_inodes + 1
   inodes_after =
       ap used_inodes is_tree ∙ used_inodes-with_next before_it now place new free_next.absent
-      ∙ (λ i. c_found.inodes i + (ap (λ inode. node_count inode new) c_found.next_inode ∙ made.count_is) i)
+      ∙ (λ i. c_found.inodes i + node_count-counted before_it.next_inode new counted_next i)
 
   counters_after : grown space c ≡ counters_row (tree_of bytes done_rows) c.slice
   counters_after = λ i. record {

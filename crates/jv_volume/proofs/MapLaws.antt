@@ -1,5 +1,5 @@
 -- Finite maps: entries by key, and what a map of changed values answers.
-use Rattle.std.proofs.Common.{◌≡◌, ℕ, ◌+◌, Bool, true, false, cond, T, ◌&&◌, List, [], ◌∷◌, map, Option, None, Some, option_map, refl, sym, ap, subst, ◌∙◌, arith}
+use Rattle.std.proofs.Common.{◌≡◌, ◌≢◌, ℕ, ◌+◌, Bool, true, false, cond, T, ◌&&◌, List, [], ◌∷◌, map, Option, None, Some, option_map, refl, sym, ap, subst, ◌∙◌, arith}
 use Rattle.std.specs.declared.cmp.Ordering.{Ordering}
 use Rattle.std.specs.declared.cmp.Ordering.TheVariants.{Less, Equal, Greater}
 use Rattle.std.specs.Ordering.{eq_by_cmp, is_eq, is_lt}
@@ -123,3 +123,48 @@ module _ {K X : Type 0} (order : KeyOrder K) (f : K → X → ℕ) (m : Map orde
   -- without an entry
   pub sum-gone : (old : X) → get m k ≡ Some old → sum_over f (remove m k) + f k old ≡ sum_over f m
   sum-gone old there = ap (λ o. sum_over f (remove m k) + share f k o) (sym there) ∙ sum-remove order f m k
+
+-- ---- changes after one another: an insert is a change to some value, a removal one to none
+
+module _ {K X : Type 0} (order : KeyOrder K) (m : Map order X) where
+  -- the later of two changes at one key stands
+  pub alter-again : (k : K) (v w : Option X) → alter (alter m k v) k w ≡ alter m k w
+  alter-again k v w =
+      same_maps (alter (alter m k v) k w) (alter m k w) (λ q.
+      get-alter (alter m k v) k w q ∙ ap (cond (eq_by_cmp order.cmp q k) w) (get-alter m k v q)
+      ∙ later (eq_by_cmp order.cmp q k) w v (get m q) ∙ sym (get-alter m k w q))
+    where
+      later : (b : Bool) (x y z : Option X) → cond b x (cond b y z) ≡ cond b x z
+      later true x y z = refl
+      later false x y z = refl
+
+  -- changes at two keys in either order
+  pub alter-swap : (k j : K) (v w : Option X) → j ≢ k → alter (alter m k v) j w ≡ alter (alter m j w) k v
+  alter-swap k j v w apart =
+      same_maps (alter (alter m k v) j w) (alter (alter m j w) k v) (λ q.
+      get-alter (alter m k v) j w q ∙ ap (cond (eq_by_cmp order.cmp q j) w) (get-alter m k v q)
+      ∙ either (eq_by_cmp order.cmp q j) (eq_by_cmp order.cmp q k) w v (get m q) (λ e f. apart (sym (tied_same order j q e) ∙ tied_same order k q f))
+      ∙ sym (get-alter (alter m j w) k v q ∙ ap (cond (eq_by_cmp order.cmp q k) v) (get-alter m j w q)))
+    where
+      either : (b c : Bool) (x y z : Option X) → (b ≡ true → c ≡ true → ⊥) → cond b x (cond c y z) ≡ cond c y (cond b x z)
+      either true true x y z both = absurd (both refl refl)
+      either true false x y z both = refl
+      either false c x y z both = refl
+
+  -- what stands there already changes nothing
+  pub alter-same : (k : K) (v : Option X) → get m k ≡ v → alter m k v ≡ m
+  alter-same k v there =
+      same_maps (alter m k v) m (λ q. get-alter m k v q ∙ by_tie q (eq_by_cmp order.cmp q k) refl)
+    where
+      by_tie : (q : K) (b : Bool) → eq_by_cmp order.cmp q k ≡ b → cond b v (get m q) ≡ get m q
+      by_tie q true e = sym (ap (get m) (tied_same order k q e) ∙ there)
+      by_tie q false e = refl
+
+  pub insert-again : (k : K) (v w : X) → insert (insert m k v) k w ≡ insert m k w
+  insert-again k v w = alter-again k (Some v) (Some w)
+
+  pub insert-swap : (k j : K) (v w : X) → j ≢ k → insert (insert m k v) j w ≡ insert (insert m j w) k v
+  insert-swap k j v w apart = alter-swap k j (Some v) (Some w) apart
+
+  pub remove-absent : (k : K) → get m k ≡ None → remove m k ≡ m
+  remove-absent k none = alter-same k None none
