@@ -13,3 +13,4 @@ pub mod ChangeLaws
 pub mod SumLaws
 pub mod MadeRowsLaws
 pub mod LinkLaws
+pub mod GoneRowsLaws
