@@ -14,3 +14,4 @@ pub mod SumLaws
 pub mod MadeRowsLaws
 pub mod LinkLaws
 pub mod GoneRowsLaws
+pub mod StoredStepLaws
