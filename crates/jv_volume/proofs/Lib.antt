@@ -15,3 +15,4 @@ pub mod MadeRowsLaws
 pub mod LinkLaws
 pub mod GoneRowsLaws
 pub mod StoredStepLaws
+pub mod EntryStepLaws

@@ -176,10 +176,10 @@ module _ (t : Tree) (now : ℕ) (at : EntryKey) (inode j : ℕ) where
       ap (λ n. link_count (take_entry t now at) j + n) (sym (share-dir (dirs_of (shape_of t)) at inode j (sym (dirs-shape t inode) ∙ is) (sym (dirs-shape t at.dir) ∙ within)))
       ∙ link_count-take_entry there
 
--- Trees whose nodes are directories as before, but for those that no entry names.
-agree : (t after : Tree) (j : ℕ) → after.entries ≡ t.entries → is_directory after j ≡ is_directory t j
+-- trees whose nodes are directories as before, but for those that no entry names
+pub link_count-agree : (t after : Tree) (j : ℕ) → after.entries ≡ t.entries → is_directory after j ≡ is_directory t j
     → ((at : EntryKey) (inode : ℕ) → get t.entries at ≡ Some inode → is_directory after inode ≡ is_directory t inode) → link_count after j ≡ link_count t j
-agree t after j entries here same =
+link_count-agree t after j entries here same =
     link_count-shape after j ∙ ap (λ m. links_in (dirs_of (shape_of after)) m j) entries
     ∙ links-agree (dirs_of (shape_of t)) (dirs_of (shape_of after)) t.entries j (as_dirs j here) (λ at inode e. as_dirs inode (same at inode e)) ∙ sym (link_count-shape t j)
   where
@@ -189,7 +189,7 @@ agree t after j entries here same =
 -- a node put at an inode that no entry names
 pub link_count-put_unnamed : (t : Tree) (inode : ℕ) (node : Node) (j : ℕ) → ((at : EntryKey) → get t.entries at ≢ Some inode) → j ≢ inode → link_count (put_node t inode node) j ≡ link_count t j
 link_count-put_unnamed t inode node j unnamed apart =
-    agree t (put_node t inode node) j refl (kept j apart) (λ at other e. kept other (λ same. unnamed at (e ∙ ap (λ i. Some i) same)))
+    link_count-agree t (put_node t inode node) j refl (kept j apart) (λ at other e. kept other (λ same. unnamed at (e ∙ ap (λ i. Some i) same)))
   where
     kept : (k : ℕ) → k ≢ inode → is_directory (put_node t inode node) k ≡ is_directory t k
     kept k other = ap (λ o. is_some (parent_of o)) (get-insert_apart number_key t.nodes inode node k other)
@@ -197,7 +197,7 @@ link_count-put_unnamed t inode node j unnamed apart =
 -- a node dropped that no entry names
 pub link_count-drop_unnamed : (t : Tree) (inode j : ℕ) → ((at : EntryKey) → get t.entries at ≢ Some inode) → j ≢ inode → link_count (drop_node t inode) j ≡ link_count t j
 link_count-drop_unnamed t inode j unnamed apart =
-    agree t (drop_node t inode) j refl (kept j apart) (λ at other e. kept other (λ same. unnamed at (e ∙ ap (λ i. Some i) same)))
+    link_count-agree t (drop_node t inode) j refl (kept j apart) (λ at other e. kept other (λ same. unnamed at (e ∙ ap (λ i. Some i) same)))
   where
     kept : (k : ℕ) → k ≢ inode → is_directory (drop_node t inode) k ≡ is_directory t k
     kept k other = ap (λ o. is_some (parent_of o)) (get-remove_apart number_key t.nodes inode k other)
@@ -215,7 +215,7 @@ module _ (t : Tree) (inode : ℕ) (change : Node → Node) (keeps : (node : Node
   ]
 
   pub link_count-change_node : (j : ℕ) → link_count (change_node t inode change) j ≡ link_count t j
-  link_count-change_node j = agree t (change_node t inode change) j (change_node-entries t inode change) (is_directory-change_node j) (λ at other e. is_directory-change_node other)
+  link_count-change_node j = link_count-agree t (change_node t inode change) j (change_node-entries t inode change) (is_directory-change_node j) (λ at other e. is_directory-change_node other)
 
 -- ---- which inodes are directories after a small change
 
@@ -270,14 +270,16 @@ next_absent t whole = by_node (node_at t t.next_inode) refl
 pub next_low : (t : Tree) → WholeShape (shape_of t) → (root < t.next_inode) × (t.next_inode < trash_root)
 next_low t whole = (whole.below root (ap is_there whole.root_there) refl, omega (arith, whole.inodes_end))
 
+-- a new node has no link before its entry comes, or those of an empty directory
+pub link_count-put_alone : (t : Tree) (inode : ℕ) (node : Node) → IsFree t inode → link_count (put_node t inode node) inode ≡ (if is_dir (form_of (Some node)) then 2 else 0)
+link_count-put_alone t inode node free =
+    link_count-shape (put_node t inode node) inode
+    ∙ links-alone (dirs_of (shape_of (put_node t inode node))) t.entries inode (λ at other e. (λ same. free.unnamed at (e ∙ ap (λ i. Some i) same), free.empty at other e))
+    ∙ ap (λ b. if b then 2 else 0) (sym (dirs-shape (put_node t inode node) inode) ∙ is_directory-put_here t inode node)
+
 module _ (t : Tree) (now : ℕ) (place : EntryKey) (inode : ℕ) (node : Node) (free : IsFree t inode) (vacant : get t.entries place ≡ None) where
   abbrev with_it : Tree
   with_it = put_node t inode node
-
-  alone : link_count with_it inode ≡ (if is_dir (form_of (Some node)) then 2 else 0)
-  alone =
-      link_count-shape with_it inode ∙ links-alone (dirs_of (shape_of with_it)) t.entries inode (λ at other e. (λ same. free.unnamed at (e ∙ ap (λ i. Some i) same), free.empty at other e))
-      ∙ ap (λ b. if b then 2 else 0) (sym (dirs-shape with_it inode) ∙ is_directory-put_here t inode node)
 
   apart_of : (k : ℕ) → is_directory t k ≡ true → k ≢ inode
   apart_of k is same = absurd (false≢true (sym (is_directory-none t inode free.absent) ∙ ap (is_directory t) (sym same) ∙ is))
@@ -286,7 +288,7 @@ module _ (t : Tree) (now : ℕ) (place : EntryKey) (inode : ℕ) (node : Node) (
   pub link_count-new_leaf : is_dir (form_of (Some node)) ≡ false → link_count (with_node t now place inode node) inode ≡ 1
   link_count-new_leaf leaf =
       link_count-put_entry-leaf with_it now place inode inode vacant (is_directory-put_here t inode node ∙ leaf)
-      ∙ (λ i. (alone ∙ ap (λ b. if b then 2 else 0) leaf) i + naming_same inode place i)
+      ∙ (λ i. (link_count-put_alone t inode node free ∙ ap (λ b. if b then 2 else 0) leaf) i + naming_same inode place i)
 
   pub link_count-beside_leaf : is_dir (form_of (Some node)) ≡ false → (j : ℕ) → j ≢ inode → link_count (with_node t now place inode node) j ≡ link_count t j
   link_count-beside_leaf leaf j other =
@@ -299,7 +301,7 @@ module _ (t : Tree) (now : ℕ) (place : EntryKey) (inode : ℕ) (node : Node) (
   pub link_count-new_dir : is_dir (form_of (Some node)) ≡ true → is_directory t place.dir ≡ true → link_count (with_node t now place inode node) inode ≡ 2
   link_count-new_dir is within =
       link_count-put_entry-dir with_it now place inode inode vacant (is_directory-put_here t inode node ∙ is) (is_directory-put_apart t inode node place.dir (apart_of place.dir within) ∙ within)
-      ∙ (λ i. (alone ∙ ap (λ b. if b then 2 else 0) is) i + standing_apart inode place (apart_of place.dir within) i)
+      ∙ (λ i. (link_count-put_alone t inode node free ∙ ap (λ b. if b then 2 else 0) is) i + standing_apart inode place (apart_of place.dir within) i)
 
   pub link_count-beside_dir : is_dir (form_of (Some node)) ≡ true → is_directory t place.dir ≡ true → (j : ℕ) → j ≢ inode → link_count (with_node t now place inode node) j ≡ link_count t j + standing j place
   link_count-beside_dir is within j other =

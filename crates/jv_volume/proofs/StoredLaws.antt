@@ -300,7 +300,8 @@ pub record HasCounters (t : Tree) (counters : Counters) : Type 0 where
   pub space : used_space t ≡ counters.used_space
   pub inodes : used_inodes t ≡ counters.used_inodes
 
-directory_number : (node : Option Node) → is_some (parent_of node) ≡ (number_of_node node == 2)
+-- directories have the number 2
+pub directory_number : (node : Option Node) → is_some (parent_of node) ≡ (number_of_node node == 2)
 directory_number None = refl
 directory_number (Some node) = by_kind node.kind
   where

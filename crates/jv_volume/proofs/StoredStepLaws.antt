@@ -1,7 +1,7 @@
 -- Rows stay those of their tree with each small change of it: a node that is put, changed or dropped, an entry that comes or
 -- goes, the counters, a session, a sustained file. Operations are made of these.
-use Rattle.std.proofs.Common.{◌≡◌, ◌≢◌, ℕ, ◌+◌, ◌<◌, ◌^◌, Bool, true, false, cond, List, inl, inr, Option, None, Some, Ok, refl, sym, ap, subst, ◌∙◌, arith}
-use Rattle.std.specs.Prelude.{IsTrue, if◌then◌else◌}
+use Rattle.std.proofs.Common.{◌≡◌, ◌≢◌, ℕ, ◌+◌, ◌-◌, ◌<◌, ◌^◌, Bool, true, false, cond, List, inl, inr, Option, None, Some, Ok, refl, sym, ap, subst, ◌∙◌, arith}
+use Rattle.std.specs.Prelude.{◌==◌, IsTrue, if◌then◌else◌}
 use Rattle.std.specs.Option.{option_map}
 use Rattle.std.specs.Ordering.{eq_by_cmp}
 use Rattle.std.proofs.lemmas.Bool.{cases_eq}
@@ -20,14 +20,18 @@ use Rattle.jv_model.proofs.FiniteMapLaws.{get-insert, get-remove}
 use Rattle.jv_volume.specs.TypedRows.{Cell, Rows}
 use Rattle.jv_volume.specs.Views.{row_in, edge_in, counters_at, node_row_at}
 use Rattle.jv_volume.specs.TreeOf.{node_of, session_of, tree_of}
-use Rattle.jv_volume.specs.Shape.{form_of, is_dir}
+use Rattle.jv_volume.specs.Shape.{naming, form_of, is_dir}
 use Rattle.jv_volume.specs.Stored.{Stored, number_of_node, counters_row}
-use Rattle.jv_volume.proofs.ShapeMapLaws.{same_or_apart, get-inserted, get-insert_apart, get-removed, get-remove_apart}
+use Rattle.jv_volume.proofs.ShapeMapLaws.{naming_same, naming_apart, same_or_apart, get-inserted, get-insert_apart, get-removed, get-remove_apart}
+use Rattle.jv_volume.proofs.MapLaws.{alter-same}
 use Rattle.jv_volume.proofs.NodeRowLaws.{IsNodeRow, IsNodeRow-touched}
-use Rattle.jv_volume.proofs.StoredLaws.{HasNode, HasCounters, found_node, found_counters}
+use Rattle.jv_volume.proofs.StoredLaws.{HasNode, HasCounters, directory_number, found_node, found_counters}
 use Rattle.jv_volume.proofs.StoringLaws.{AreStored, IsNodeCell, IsEdgeCell, IsSessionCell, are_stored, stored-by}
 use Rattle.jv_volume.proofs.TreeOfLaws.{get-entries, tree_of-put_node, tree_of-drop_node, tree_of-put_edge, tree_of-drop_edge, tree_of-put_counters, tree_of-put_session, tree_of-drop_session, tree_of-put_sustained, tree_of-drop_sustained}
-use Rattle.jv_volume.proofs.ChangeLaws.{put_entry-there, take_entry-there}
+use Rattle.jv_volume.proofs.ChangeLaws.{change_node-setting, change_node-next_inode, change_node-next_session, change_node-here, change_node-apart, put_entry-there, take_entry-there}
+use Rattle.jv_volume.proofs.LinkLaws.{IsFree, standing, standing_here, standing_apart, link_count-agree, link_count-put_alone, link_count-put_unnamed, link_count-drop_unnamed, link_count-put_entry-leaf, link_count-put_entry-dir, link_count-take_entry-leaf, link_count-take_entry-dir}
+use Rattle.jv_volume.proofs.SumLaws.{space_by_kind, used_space-put_new, used_space-put_over, used_space-drop_node, used_space-put_entry, used_space-take_entry, used_inodes-put_new, used_inodes-put_over, used_inodes-drop_node, used_inodes-put_entry, used_inodes-take_entry}
+use Rattle.jv_volume.proofs.MadeRowsLaws.{touched_row}
 
 -- ---- what becomes of rows
 
@@ -106,4 +110,239 @@ module _ (bytes : ℕ → ℕ → ℕ) (rows after : Rows) (u : Tree) (slice : �
     edge = λ at cell e. edge_after at cell e (g.edge at);
     session = λ sid cell e. cell_after (session_key sid) IsSessionCell cell e (old.session sid cell) (g.session sid);
     sustained = λ sid inode less cell e. cell_after (sustained_key sid inode) IsSustainedCell cell e (old.sustained sid inode less cell) (g.sustained sid inode less);
+  })
+
+-- ---- what trees keep
+
+-- a node that is changed and keeps its number
+pub number-change_node : (t : Tree) (inode : ℕ) (change : Node → Node) → ((node : Node) → number_of_node (Some (change node)) ≡ number_of_node (Some node))
+    → (k : ℕ) → number_of_node (node_at (change_node t inode change) k) ≡ number_of_node (node_at t k)
+number-change_node t inode change keeps k = elim (cases_eq k inode) [
+  | inl same ↦ ap number_of_node (ap (node_at (change_node t inode change)) same ∙ change_node-here t inode change) ∙ changed (node_at t inode) ∙ sym (ap number_of_node (ap (node_at t) same))
+  | inr apart ↦ ap number_of_node (change_node-apart t inode change k apart)
+]
+  where
+    changed : (o : Option Node) → number_of_node (option_map change o) ≡ number_of_node o
+    changed None = refl
+    changed (Some node) = keeps node
+
+-- a node that is put over one of its number
+pub number-put_over : (t : Tree) (inode : ℕ) (was node : Node) → node_at t inode ≡ Some was → number_of_node (Some node) ≡ number_of_node (Some was)
+    → (k : ℕ) → number_of_node (node_at (put_node t inode node) k) ≡ number_of_node (node_at t k)
+number-put_over t inode was node there same_number k = elim (cases_eq k inode) [
+  | inl same ↦ ap number_of_node (ap (node_at (put_node t inode node)) same ∙ get-inserted number_key t.nodes inode node) ∙ same_number ∙ sym (ap number_of_node (ap (node_at t) same ∙ there))
+  | inr apart ↦ ap number_of_node (get-insert_apart number_key t.nodes inode node k apart)
+]
+
+-- trees of the same numbers and entries have the same link counts
+pub links-number : (t u : Tree) → u.entries ≡ t.entries → ((k : ℕ) → number_of_node (node_at u k) ≡ number_of_node (node_at t k)) → (j : ℕ) → link_count u j ≡ link_count t j
+links-number t u entries same j = link_count-agree t u j entries (dir j) (λ at inode e. dir inode)
+  where
+    dir : (k : ℕ) → is_directory u k ≡ is_directory t k
+    dir k = directory_number (node_at u k) ∙ ap (λ n. n == 2) (same k) ∙ sym (directory_number (node_at t k))
+
+pub number-put_entry : (t : Tree) (now : ℕ) (at : EntryKey) (inode k : ℕ) → number_of_node (node_at (put_entry t now at inode) k) ≡ number_of_node (node_at t k)
+number-put_entry t now at inode k = number-change_node t at.dir (touched now) (λ node. refl) k
+
+pub number-take_entry : (t : Tree) (now : ℕ) (at : EntryKey) (k : ℕ) → number_of_node (node_at (take_entry t now at) k) ≡ number_of_node (node_at t k)
+number-take_entry t now at k = number-change_node t at.dir (touched now) (λ node. refl) k
+
+pub row_number : (links : ℕ) (byte : ℕ → ℕ) (row : NodeRow) → IsNodeRow links byte row → number_of_node (Some (node_of byte row)) ≡ row.kind
+row_number links byte row is = sym (ap (λ (r : NodeRow). r.kind) is)
+
+-- ---- changes of one row, and of the counters
+
+-- counters that say what the tree's are
+pub record CountsFor (u : Tree) (c : Counters) : Type 0 where
+  pub inode : u.next_inode ≡ c.inode
+  pub session : u.next_session ≡ c.session
+  pub space : used_space u ≡ c.used_space
+  pub inodes : used_inodes u ≡ c.used_inodes
+
+pub counters_as : (u : Tree) (c : Counters) → CountsFor u c → c ≡ counters_row u c.slice
+counters_as u c h = λ i. record { inode = sym h.inode i; slice = c.slice; session = sym h.session i; used_space = sym h.space i; used_inodes = sym h.inodes i }
+
+module _ (rows : Rows) (q : RowKey) (cell : Cell) where
+  -- a row that was put leaves the others
+  pub put_kept : (k : RowKey) → eq_by_cmp row_cmp k q ≡ false → get (insert rows q cell) k ≡ get rows k
+  put_kept k apart = get-insert rows q cell k ∙ ap (λ b. cond b (Some cell) (get rows k)) apart
+
+pub drop_kept : (rows : Rows) (q k : RowKey) → eq_by_cmp row_cmp k q ≡ false → get (remove rows q) k ≡ get rows k
+drop_kept rows q k apart = get-remove rows q k ∙ ap (λ b. cond b None (get rows k)) apart
+
+pub node_apart : (rows : Rows) (i : ℕ) (cell : Cell) (k : ℕ) → k ≢ i → get (insert rows (node_key i) cell) (node_key k) ≡ get rows (node_key k)
+node_apart rows i cell k apart = get-insert_apart row_key rows (node_key i) cell (node_key k) (λ same. apart (ap (λ (q : RowKey). q.a) same))
+
+-- a node's row changed: its kind, its space and the links stay
+pub stored-change_node : (bytes : ℕ → ℕ → ℕ) (rows : Rows) (inode : ℕ) (row new : NodeRow) → Stored rows (tree_of bytes rows) → node_row_at rows inode ≡ Some row
+    → IsNodeRow row.nlink (bytes inode) new → new.kind ≡ row.kind → kind_space (node_of (bytes inode) new).kind ≡ kind_space (node_of (bytes inode) row).kind
+    → Stored (insert rows (node_key inode) (Ok (OfNode new))) (tree_of bytes (insert rows (node_key inode) (Ok (OfNode new))))
+stored-change_node bytes rows inode row new s here new_row same_kind same_space =
+    let t = tree_of bytes rows in
+    let node = node_of (bytes inode) new in
+    let u : Tree = put_node t inode node in
+    let q = node_key inode in
+    let cell : Cell = Ok (OfNode new) in
+    let is : HasNode t inode row (bytes inode) = found_node bytes rows s inode row here in
+    let numbers : (k : ℕ) → number_of_node (node_at u k) ≡ number_of_node (node_at t k) =
+    number-put_over t inode (node_of (bytes inode) row) node is.there (row_number row.nlink (bytes inode) new new_row ∙ same_kind ∙ sym (row_number (link_count t inode) (bytes inode) row is.row_is)) in
+    let links : (j : ℕ) → link_count u j ≡ link_count t j = links-number t u refl numbers in
+    let space_over = used_space-put_over t inode (node_of (bytes inode) row) node is.there in
+    let one : node_space inode node ≡ node_space inode (node_of (bytes inode) row) = space_by_kind inode (node_of (bytes inode) row) node same_space in
+    let space : used_space u ≡ used_space t = omega (arith, space_over, one) in
+    let inodes : used_inodes u ≡ used_inodes t = used_inodes-put_over t inode (node_of (bytes inode) row) node is.there in
+    stored-goes bytes rows (insert rows q cell) u s.slice s (record {
+      tree = tree_of-put_node bytes rows inode new;
+      setting = put_kept rows q cell setting_key refl;
+      same_setting = refl;
+      counters = put_kept rows q cell counters_key refl ∙ s.counters ∙ (λ i. Some (Ok (OfCounters (record (counters_row t s.slice) { used_space = sym space i; used_inodes = sym inodes i }))));
+      node = λ k. elim (cases_eq k inode) [
+        | inl same ↦ NodePut new (ap (λ i. get (insert rows q cell) (node_key i)) same ∙ get-inserted row_key rows q cell)
+            (subst (λ i. IsNodeRow (link_count u i) (bytes i) new) (sym same) (subst (λ l. IsNodeRow l (bytes inode) new) (is.links ∙ sym (links inode)) new_row))
+        | inr apart ↦ NodeKept (node_apart rows inode cell k apart) (links k)
+      ];
+      edge = λ at. EdgeKept (put_kept rows q cell (edge_key at.dir at.name) refl) (λ i e. numbers i);
+      session = λ sid. CellKept (put_kept rows q cell (session_key sid) refl);
+      sustained = λ sid i less. CellKept (put_kept rows q cell (sustained_key sid i) refl);
+    })
+
+-- what is put at an inode's key
+pub node_here : (rows : Rows) (i : ℕ) (cell : Cell) (k : ℕ) → k ≡ i → get (insert rows (node_key i) cell) (node_key k) ≡ Some cell
+node_here rows i cell k same = ap (λ j. get (insert rows (node_key i) cell) (node_key j)) same ∙ get-inserted row_key rows (node_key i) cell
+
+abbrev pub counters_cell : Counters → Cell
+counters_cell c = Ok (OfCounters c)
+
+-- the counters with another next inode, where the sums stay
+pub stored-put_counters : (bytes : ℕ → ℕ → ℕ) (rows : Rows) (c : Counters) → Stored rows (tree_of bytes rows) → used_space (tree_of bytes rows) ≡ c.used_space → used_inodes (tree_of bytes rows) ≡ c.used_inodes
+    → Stored (insert rows counters_key (counters_cell c)) (tree_of bytes (insert rows counters_key (counters_cell c)))
+stored-put_counters bytes rows c s space inodes =
+    let t = tree_of bytes rows in
+    let u : Tree = record t { next_inode = c.inode; next_session = c.session } in
+    let counts : CountsFor u c = record { inode = refl; session = refl; space = space; inodes = inodes } in
+    stored-goes bytes rows (insert rows counters_key (counters_cell c)) u c.slice s (record {
+      tree = tree_of-put_counters bytes rows c;
+      setting = put_kept rows counters_key (counters_cell c) setting_key refl;
+      same_setting = refl;
+      counters = get-inserted row_key rows counters_key (counters_cell c) ∙ ap (λ x. Some (Ok (OfCounters x))) (counters_as u c counts);
+      node = λ k. NodeKept (put_kept rows counters_key (counters_cell c) (node_key k) refl) refl;
+      edge = λ at. EdgeKept (put_kept rows counters_key (counters_cell c) (edge_key at.dir at.name) refl) (λ i e. refl);
+      session = λ sid. CellKept (put_kept rows counters_key (counters_cell c) (session_key sid) refl);
+      sustained = λ sid i less. CellKept (put_kept rows counters_key (counters_cell c) (sustained_key sid i) refl);
+    })
+
+-- ---- a node that comes, and one that goes
+
+module _ (bytes : ℕ → ℕ → ℕ) (rows : Rows) (inode : ℕ) (row : NodeRow) (c : Counters) (next : ℕ) (s : Stored rows (tree_of bytes rows)) (counters : counters_at rows ≡ Some c)
+    (free : IsFree (tree_of bytes rows) inode) (new_row : IsNodeRow (if is_dir (form_of (Some (node_of (bytes inode) row))) then 2 else 0) (bytes inode) row) where
+  abbrev new : Node
+  new = node_of (bytes inode) row
+
+  abbrev node_cell : Cell
+  node_cell = Ok (OfNode row)
+
+  abbrev pub counters_with_node : Counters
+  counters_with_node = record c { inode = next; used_space = c.used_space + node_space inode new; used_inodes = c.used_inodes + node_count inode new }
+
+  abbrev pub rows_with_node : Rows
+  rows_with_node = insert (insert rows (node_key inode) node_cell) counters_key (counters_cell counters_with_node)
+
+  abbrev pub tree_with_node : Tree
+  tree_with_node = record (put_node (tree_of bytes rows) inode new) { next_inode = next }
+
+  c_is : HasCounters (tree_of bytes rows) c
+  c_is = found_counters bytes rows s c counters
+
+  pub tree_of-new_node : tree_of bytes rows_with_node ≡ tree_with_node
+  tree_of-new_node =
+      tree_of-put_counters bytes (insert rows (node_key inode) node_cell) counters_with_node
+      ∙ ap (λ (x : Tree). record x { next_inode = next; next_session = c.session }) (tree_of-put_node bytes rows inode row)
+      ∙ (λ i. record (put_node (tree_of bytes rows) inode new) { next_inode = next; next_session = sym c_is.next_session i })
+
+  counts : CountsFor tree_with_node counters_with_node
+  counts = record {
+    inode = refl;
+    session = c_is.next_session;
+    space = used_space-put_new (tree_of bytes rows) inode new free.absent ∙ ap (λ n. n + node_space inode new) c_is.space;
+    inodes = used_inodes-put_new (tree_of bytes rows) inode new free.absent ∙ ap (λ n. n + node_count inode new) c_is.inodes;
+  }
+
+  last_kept : (q : RowKey) → eq_by_cmp row_cmp q counters_key ≡ false → get rows_with_node q ≡ get (insert rows (node_key inode) node_cell) q
+  last_kept q apart = put_kept (insert rows (node_key inode) node_cell) counters_key (counters_cell counters_with_node) q apart
+
+  both_kept : (q : RowKey) → eq_by_cmp row_cmp q counters_key ≡ false → eq_by_cmp row_cmp q (node_key inode) ≡ false → get rows_with_node q ≡ get rows q
+  both_kept q apart other = last_kept q apart ∙ put_kept rows (node_key inode) node_cell q other
+
+  -- a node that no entry names yet
+  pub stored-new_node : Stored rows_with_node (tree_of bytes rows_with_node)
+  stored-new_node = stored-goes bytes rows rows_with_node tree_with_node c.slice s (record {
+    tree = tree_of-new_node;
+    setting = both_kept setting_key refl refl;
+    same_setting = refl;
+    counters = get-inserted row_key (insert rows (node_key inode) node_cell) counters_key (counters_cell counters_with_node) ∙ ap (λ x. Some (Ok (OfCounters x))) (counters_as tree_with_node counters_with_node counts);
+    node = λ k. elim (cases_eq k inode) [
+      | inl same ↦ NodePut row (last_kept (node_key k) refl ∙ node_here rows inode node_cell k same)
+          (subst (λ i. IsNodeRow (link_count tree_with_node i) (bytes i) row) (sym same) (subst (λ l. IsNodeRow l (bytes inode) row) (sym (link_count-put_alone (tree_of bytes rows) inode new free)) new_row))
+      | inr apart ↦ NodeKept (last_kept (node_key k) refl ∙ node_apart rows inode node_cell k apart) (link_count-put_unnamed (tree_of bytes rows) inode new k free.unnamed apart)
+    ];
+    edge = λ at. EdgeKept (both_kept (edge_key at.dir at.name) refl refl)
+        (λ i e. ap number_of_node (get-insert_apart number_key (tree_of bytes rows).nodes inode new i (λ same. free.unnamed at (e ∙ ap (λ j. Some j) same))));
+    session = λ sid. CellKept (both_kept (session_key sid) refl refl);
+    sustained = λ sid i less. CellKept (both_kept (sustained_key sid i) refl refl);
+  })
+
+module _ (bytes : ℕ → ℕ → ℕ) (rows : Rows) (inode : ℕ) (row : NodeRow) (c : Counters) (s : Stored rows (tree_of bytes rows)) (counters : counters_at rows ≡ Some c)
+    (here : node_row_at rows inode ≡ Some row) (unnamed : (at : EntryKey) → get (tree_of bytes rows).entries at ≢ Some inode) where
+  abbrev gone : Node
+  gone = node_of (bytes inode) row
+
+  abbrev pub counters_without_node : Counters
+  counters_without_node = record c { used_space = c.used_space - node_space inode gone; used_inodes = c.used_inodes - node_count inode gone }
+
+  abbrev pub rows_without_node : Rows
+  rows_without_node = insert (remove rows (node_key inode)) counters_key (counters_cell counters_without_node)
+
+  abbrev pub tree_without_node : Tree
+  tree_without_node = drop_node (tree_of bytes rows) inode
+
+  has : HasCounters (tree_of bytes rows) c
+  has = found_counters bytes rows s c counters
+
+  pub tree_of-old_node : tree_of bytes rows_without_node ≡ tree_without_node
+  tree_of-old_node =
+      tree_of-put_counters bytes (remove rows (node_key inode)) counters_without_node
+      ∙ ap (λ (x : Tree). record x { next_inode = c.inode; next_session = c.session }) (tree_of-drop_node bytes rows inode)
+      ∙ (λ i. record (drop_node (tree_of bytes rows) inode) { next_inode = sym has.next_inode i; next_session = sym has.next_session i })
+
+  gone_is : HasNode (tree_of bytes rows) inode row (bytes inode)
+  gone_is = found_node bytes rows s inode row here
+
+  counts_without_node : CountsFor tree_without_node counters_without_node
+  counts_without_node =
+      let space = used_space-drop_node (tree_of bytes rows) inode gone gone_is.there in
+      let inodes = used_inodes-drop_node (tree_of bytes rows) inode gone gone_is.there in
+      record { inode = has.next_inode; session = has.next_session; space = omega (arith, space, has.space); inodes = omega (arith, inodes, has.inodes) }
+
+  put_last : (q : RowKey) → eq_by_cmp row_cmp q counters_key ≡ false → get rows_without_node q ≡ get (remove rows (node_key inode)) q
+  put_last q apart = put_kept (remove rows (node_key inode)) counters_key (counters_cell counters_without_node) q apart
+
+  other_kept : (q : RowKey) → eq_by_cmp row_cmp q counters_key ≡ false → eq_by_cmp row_cmp q (node_key inode) ≡ false → get rows_without_node q ≡ get rows q
+  other_kept q apart other = put_last q apart ∙ drop_kept rows (node_key inode) q other
+
+  -- a node that no entry names any counters_with_node
+  pub stored-old_node : Stored rows_without_node (tree_of bytes rows_without_node)
+  stored-old_node = stored-goes bytes rows rows_without_node tree_without_node c.slice s (record {
+    tree = tree_of-old_node;
+    setting = other_kept setting_key refl refl;
+    same_setting = refl;
+    counters = get-inserted row_key (remove rows (node_key inode)) counters_key (counters_cell counters_without_node) ∙ ap (λ x. Some (Ok (OfCounters x))) (counters_as tree_without_node counters_without_node counts_without_node);
+    node = λ k. elim (cases_eq k inode) [
+      | inl same ↦ NodeGone (put_last (node_key k) refl ∙ ap (λ i. get (remove rows (node_key inode)) (node_key i)) same ∙ get-removed row_key rows (node_key inode))
+      | inr apart ↦ NodeKept (put_last (node_key k) refl ∙ get-remove_apart row_key rows (node_key inode) (node_key k) (λ same. apart (ap (λ (q : RowKey). q.a) same)))
+          (link_count-drop_unnamed (tree_of bytes rows) inode k unnamed apart)
+    ];
+    edge = λ at. EdgeKept (other_kept (edge_key at.dir at.name) refl refl)
+        (λ i e. ap number_of_node (get-remove_apart number_key (tree_of bytes rows).nodes inode i (λ same. unnamed at (e ∙ ap (λ j. Some j) same))));
+    session = λ sid. CellKept (other_kept (session_key sid) refl refl);
+    sustained = λ sid i small. CellKept (other_kept (sustained_key sid i) refl refl);
   })
