@@ -1,37 +1,32 @@
 -- Rows stay those of their tree when an entry comes, and when one goes.
-use Rattle.std.proofs.Common.{◌≡◌, ◌≢◌, ℕ, ◌+◌, ◌-◌, ◌<◌, ◌^◌, Bool, true, false, cond, List, inl, inr, Option, None, Some, Ok, refl, sym, ap, subst, ◌∙◌, arith}
-use Rattle.std.specs.Prelude.{◌==◌, IsTrue, if◌then◌else◌}
-use Rattle.std.specs.Option.{option_map}
+use Rattle.std.proofs.Common.{◌≡◌, ◌≢◌, ℕ, ◌+◌, ◌-◌, Bool, true, false, inl, inr, None, Some, Ok, refl, sym, ap, subst, ◌∙◌, arith}
+use Rattle.std.specs.Prelude.{◌==◌, if◌then◌else◌}
 use Rattle.std.specs.Ordering.{eq_by_cmp}
 use Rattle.std.proofs.lemmas.Bool.{cases_eq}
 use Rattle.jv_model.specs.declared.row.RowKey.{RowKey}
-use Rattle.jv_model.specs.declared.row.Counters.{Counters}
 use Rattle.jv_model.specs.declared.row.Node.{Node as NodeRow}
 use Rattle.jv_model.specs.declared.row.Edge.{Edge}
-use Rattle.jv_model.specs.declared.row.Session.{Session}
-use Rattle.jv_model.specs.declared.row.Row.TheVariants.{OfSetting, OfCounters, OfNode, OfEdge, OfSession, OfSustained}
-use Rattle.jv_model.specs.FiniteMap.{number_key, get, insert, remove, alter}
+use Rattle.jv_model.specs.declared.row.Row.TheVariants.{OfCounters, OfNode, OfEdge}
+use Rattle.jv_model.specs.FiniteMap.{number_key, get, insert, remove}
 use Rattle.jv_model.specs.rows.RowKeys.{row_key, row_cmp}
 use Rattle.jv_model.specs.rows.RowPlaces.{setting_key, counters_key, node_key, edge_key, session_key, sustained_key}
-use Rattle.jv_model.specs.tree.Tree.{Tree, Node, EntryKey, entry_key, node_at, is_directory, link_count, used_space, used_inodes, kind_space, node_space, node_count}
-use Rattle.jv_model.specs.tree.Changes.{touched, put_node, drop_node, change_node, put_entry, take_entry}
-use Rattle.jv_model.proofs.FiniteMapLaws.{get-insert, get-remove}
+use Rattle.jv_model.specs.tree.Tree.{Tree, EntryKey, entry_key, is_directory, link_count}
+use Rattle.jv_model.specs.tree.Changes.{touched, put_node, put_entry, take_entry}
 use Rattle.jv_volume.specs.TypedRows.{Cell, Rows}
-use Rattle.jv_volume.specs.Views.{row_in, edge_in, counters_at, node_row_at}
-use Rattle.jv_volume.specs.TreeOf.{node_of, session_of, tree_of}
-use Rattle.jv_volume.specs.Shape.{naming, form_of, is_dir}
-use Rattle.jv_volume.specs.Stored.{Stored, number_of_node, counters_row}
+use Rattle.jv_volume.specs.Views.{node_row_at}
+use Rattle.jv_volume.specs.TreeOf.{node_of, tree_of}
+use Rattle.jv_volume.specs.Shape.{naming}
+use Rattle.jv_volume.specs.Stored.{Stored, number_of_node}
 use Rattle.jv_volume.proofs.ShapeMapLaws.{naming_same, naming_apart, same_or_apart, get-inserted, get-insert_apart, get-removed, get-remove_apart}
 use Rattle.jv_volume.proofs.MapLaws.{alter-same}
 use Rattle.jv_volume.proofs.NodeRowLaws.{IsNodeRow, IsNodeRow-touched}
-use Rattle.jv_volume.proofs.StoredLaws.{HasNode, HasCounters, directory_number, found_node, found_counters}
-use Rattle.jv_volume.proofs.StoringLaws.{AreStored, IsNodeCell, IsEdgeCell, IsSessionCell, are_stored, stored-by}
-use Rattle.jv_volume.proofs.TreeOfLaws.{get-entries, tree_of-put_node, tree_of-drop_node, tree_of-put_edge, tree_of-drop_edge, tree_of-put_counters, tree_of-put_session, tree_of-drop_session, tree_of-put_sustained, tree_of-drop_sustained}
-use Rattle.jv_volume.proofs.ChangeLaws.{change_node-setting, change_node-next_inode, change_node-next_session, change_node-here, change_node-apart, put_entry-there, take_entry-there}
-use Rattle.jv_volume.proofs.LinkLaws.{IsFree, standing, standing_here, standing_apart, link_count-agree, link_count-put_alone, link_count-put_unnamed, link_count-drop_unnamed, link_count-put_entry-leaf, link_count-put_entry-dir, link_count-take_entry-leaf, link_count-take_entry-dir}
-use Rattle.jv_volume.proofs.SumLaws.{space_by_kind, used_space-put_new, used_space-put_over, used_space-drop_node, used_space-put_entry, used_space-take_entry, used_inodes-put_new, used_inodes-put_over, used_inodes-drop_node, used_inodes-put_entry, used_inodes-take_entry}
+use Rattle.jv_volume.proofs.StoredLaws.{HasNode, found_node}
+use Rattle.jv_volume.proofs.TreeOfLaws.{tree_of-put_node, tree_of-put_edge, tree_of-drop_edge}
+use Rattle.jv_volume.proofs.ChangeLaws.{change_node-setting, change_node-next_inode, change_node-next_session, put_entry-there, take_entry-there}
+use Rattle.jv_volume.proofs.LinkLaws.{standing, standing_here, standing_apart, link_count-put_entry-leaf, link_count-put_entry-dir, link_count-take_entry-leaf, link_count-take_entry-dir}
+use Rattle.jv_volume.proofs.SumLaws.{used_space-put_entry, used_space-take_entry, used_inodes-put_entry, used_inodes-take_entry}
 use Rattle.jv_volume.proofs.MadeRowsLaws.{touched_row}
-use Rattle.jv_volume.proofs.StoredStepLaws.{NodeGoes, NodeKept, NodePut, NodeGone, EdgeGoes, EdgeKept, EdgePut, EdgeGone, CellGoes, CellKept, CellPut, CellGone, Goes, stored-goes, number-put_entry, number-take_entry, row_number, put_kept, drop_kept, node_apart, node_here}
+use Rattle.jv_volume.proofs.StoredStepLaws.{NodeGoes, NodeKept, NodePut, EdgeGoes, EdgeKept, EdgePut, EdgeGone, CellKept, stored-goes, number-put_entry, number-take_entry, row_number, put_kept, drop_kept, node_apart, node_here}
 
 -- what an entry adds to the link count of its directory, and to that of its inode, by the inode's kind
 abbrev pub to_dir : NodeRow → ℕ
@@ -183,4 +178,88 @@ module _ (bytes : ℕ → ℕ → ℕ) (rows : Rows) (now : ℕ) (at : EntryKey)
     edge = edge_with;
     session = λ sid. CellKept (entry_kept (session_key sid) refl refl refl);
     sustained = λ sid i small. CellKept (entry_kept (sustained_key sid i) refl refl refl);
+  })
+
+  -- the rows without the entry
+
+  abbrev without_it : Tree
+  without_it = take_entry t now at
+
+  abbrev dir_less : Cell
+  dir_less = Ok (OfNode (touched_row now (dir.nlink - to_dir row) dir))
+
+  abbrev row_less : NodeRow
+  row_less = record row { nlink = row.nlink - to_inode row }
+
+  abbrev l1 : Rows
+  l1 = remove rows (edge_key at.dir at.name)
+
+  abbrev l2 : Rows
+  l2 = insert l1 (node_key at.dir) dir_less
+
+  abbrev pub rows_without_entry : Rows
+  rows_without_entry = insert l2 (node_key inode) (Ok (OfNode row_less))
+
+  by_no_entry : tree_of bytes rows_without_entry ≡ record t { nodes = insert (insert t.nodes at.dir (touched now (node_of (bytes at.dir) dir))) inode (node_of (bytes inode) row); entries = remove t.entries at }
+  by_no_entry =
+      tree_of-put_node bytes l2 inode row_less
+      ∙ ap (λ (x : Tree). put_node x inode (node_of (bytes inode) row)) (tree_of-put_node bytes l1 at.dir (touched_row now (dir.nlink - to_dir row) dir)
+      ∙ ap (λ (x : Tree). put_node x at.dir (touched now (node_of (bytes at.dir) dir))) (tree_of-drop_edge bytes rows at.dir at.name))
+
+  pub tree_of-entry_out : tree_of bytes rows_without_entry ≡ take_entry t now at
+  tree_of-entry_out =
+      by_no_entry
+      ∙ ap (λ nodes. record t { nodes = nodes; entries = remove t.entries at })
+      (alter-same number_key (insert t.nodes at.dir (touched now (node_of (bytes at.dir) dir))) inode (Some (node_of (bytes inode) row)) still_node)
+      ∙ sym (take_entry-there t now at (node_of (bytes at.dir) dir) at_is.there)
+
+  no_entry_kept : (q : RowKey) → eq_by_cmp row_cmp q (node_key inode) ≡ false → eq_by_cmp row_cmp q (node_key at.dir) ≡ false → eq_by_cmp row_cmp q (edge_key at.dir at.name) ≡ false
+      → get rows_without_entry q ≡ get rows q
+  no_entry_kept q a b d = put_kept l2 (node_key inode) (Ok (OfNode row_less)) q a ∙ put_kept l1 (node_key at.dir) dir_less q b ∙ drop_kept rows (edge_key at.dir at.name) q d
+
+  links_less : get t.entries at ≡ Some inode → (j n share : ℕ) → n ≡ link_count t j → share_by j ≡ share → link_count without_it j ≡ n - share
+  links_less named j n share links same = (let all = take_share named j in omega (arith, all, links, same))
+
+  node_without : get t.entries at ≡ Some inode → (k : ℕ) → NodeGoes rows rows_without_entry t without_it bytes k
+  node_without named k = elim (cases_eq k inode) [
+    | inl same ↦ NodePut row_less (node_here l2 inode (Ok (OfNode row_less)) k same)
+        (subst (λ i. IsNodeRow (link_count without_it i) (bytes i) row_less) (sym same)
+        (subst (λ l. IsNodeRow l (bytes inode) row_less) (sym (links_less named inode row.nlink (to_inode row) inode_is.links share_inode))
+        (ap (λ (r : NodeRow). record r { nlink = row.nlink - to_inode row }) inode_is.row_is)))
+    | inr other ↦ elim (cases_eq k at.dir) [
+      | inl same ↦ NodePut (touched_row now (dir.nlink - to_dir row) dir) (node_apart l2 inode (Ok (OfNode row_less)) k other ∙ node_here l1 at.dir dir_less k same)
+          (subst (λ i. IsNodeRow (link_count without_it i) (bytes i) (touched_row now (dir.nlink - to_dir row) dir)) (sym same)
+          (subst (λ l. IsNodeRow l (bytes at.dir) (touched_row now (dir.nlink - to_dir row) dir)) (sym (links_less named at.dir dir.nlink (to_dir row) at_is.links share_dir))
+          (IsNodeRow-touched (bytes at.dir) dir now (link_count t at.dir) (dir.nlink - to_dir row) at_is.row_is)))
+      | inr aside ↦ NodeKept (node_apart l2 inode (Ok (OfNode row_less)) k other ∙ node_apart l1 at.dir dir_less k aside ∙ drop_kept rows (edge_key at.dir at.name) (node_key k) refl)
+          (let all = take_share named k in let nothing = share_other k aside other in omega (arith, all, nothing))
+    ]
+  ]
+
+  edge_without : (k : EntryKey) → EdgeGoes rows rows_without_entry t without_it k
+  edge_without k = elim (same_or_apart entry_key k at) [
+    | inl same ↦ EdgeGone (put_kept l2 (node_key inode) (Ok (OfNode row_less)) (edge_key k.dir k.name) refl ∙ put_kept l1 (node_key at.dir) dir_less (edge_key k.dir k.name) refl
+        ∙ ap (λ (x : EntryKey). get l1 (edge_key x.dir x.name)) same ∙ get-removed row_key rows (edge_key at.dir at.name))
+    | inr aside ↦ EdgeKept (put_kept l2 (node_key inode) (Ok (OfNode row_less)) (edge_key k.dir k.name) refl ∙ put_kept l1 (node_key at.dir) dir_less (edge_key k.dir k.name) refl
+        ∙ get-remove_apart row_key rows (edge_key at.dir at.name) (edge_key k.dir k.name) (λ same. aside (λ i. record { dir = (same i).a; name = (same i).b })))
+        (λ i e. number-take_entry t now at i)
+  ]
+
+  -- an entry gone, whose inode stays
+  pub stored-entry_out : get t.entries at ≡ Some inode → Stored rows_without_entry (tree_of bytes rows_without_entry)
+  stored-entry_out named = stored-goes bytes rows rows_without_entry without_it s.slice s (record {
+    tree = tree_of-entry_out;
+    setting = no_entry_kept setting_key refl refl refl;
+    same_setting = change_node-setting t at.dir (touched now);
+    counters = no_entry_kept counters_key refl refl refl ∙ s.counters ∙ (λ i. Some (Ok (OfCounters (record {
+      inode = sym (change_node-next_inode t at.dir (touched now)) i;
+      slice = s.slice;
+      session = sym (change_node-next_session t at.dir (touched now)) i;
+      used_space = sym (used_space-take_entry t now at) i;
+      used_inodes = sym (used_inodes-take_entry t now at) i;
+    }))));
+    node = node_without named;
+    edge = edge_without;
+    session = λ sid. CellKept (no_entry_kept (session_key sid) refl refl refl);
+    sustained = λ sid i small. CellKept (no_entry_kept (sustained_key sid i) refl refl refl);
   })

@@ -1,7 +1,7 @@
 -- Rows stay those of their tree with each small change of it: a node that is put, changed or dropped, an entry that comes or
 -- goes, the counters, a session, a sustained file. Operations are made of these.
-use Rattle.std.proofs.Common.{◌≡◌, ◌≢◌, ℕ, ◌+◌, ◌-◌, ◌<◌, ◌^◌, Bool, true, false, cond, List, inl, inr, Option, None, Some, Ok, refl, sym, ap, subst, ◌∙◌, arith}
-use Rattle.std.specs.Prelude.{◌==◌, IsTrue, if◌then◌else◌}
+use Rattle.std.proofs.Common.{◌≡◌, ◌≢◌, ℕ, ◌+◌, ◌-◌, ◌<◌, ◌^◌, false, cond, inl, inr, Option, None, Some, Ok, refl, sym, ap, subst, ◌∙◌, arith}
+use Rattle.std.specs.Prelude.{◌==◌, if◌then◌else◌}
 use Rattle.std.specs.Option.{option_map}
 use Rattle.std.specs.Ordering.{eq_by_cmp}
 use Rattle.std.proofs.lemmas.Bool.{cases_eq}
@@ -9,29 +9,26 @@ use Rattle.jv_model.specs.declared.row.RowKey.{RowKey}
 use Rattle.jv_model.specs.declared.row.Counters.{Counters}
 use Rattle.jv_model.specs.declared.row.Node.{Node as NodeRow}
 use Rattle.jv_model.specs.declared.row.Edge.{Edge}
-use Rattle.jv_model.specs.declared.row.Session.{Session}
-use Rattle.jv_model.specs.declared.row.Row.TheVariants.{OfSetting, OfCounters, OfNode, OfEdge, OfSession, OfSustained}
-use Rattle.jv_model.specs.FiniteMap.{number_key, get, insert, remove, alter}
+use Rattle.jv_model.specs.declared.row.Row.TheVariants.{OfSetting, OfCounters, OfNode, OfEdge, OfSustained}
+use Rattle.jv_model.specs.FiniteMap.{number_key, get, insert, remove}
 use Rattle.jv_model.specs.rows.RowKeys.{row_key, row_cmp}
 use Rattle.jv_model.specs.rows.RowPlaces.{setting_key, counters_key, node_key, edge_key, session_key, sustained_key}
-use Rattle.jv_model.specs.tree.Tree.{Tree, Node, EntryKey, entry_key, node_at, is_directory, link_count, used_space, used_inodes, kind_space, node_space, node_count}
+use Rattle.jv_model.specs.tree.Tree.{Tree, Node, EntryKey, node_at, is_directory, link_count, used_space, used_inodes, kind_space, node_space, node_count}
 use Rattle.jv_model.specs.tree.Changes.{touched, put_node, drop_node, change_node, put_entry, take_entry}
 use Rattle.jv_model.proofs.FiniteMapLaws.{get-insert, get-remove}
 use Rattle.jv_volume.specs.TypedRows.{Cell, Rows}
 use Rattle.jv_volume.specs.Views.{row_in, edge_in, counters_at, node_row_at}
-use Rattle.jv_volume.specs.TreeOf.{node_of, session_of, tree_of}
-use Rattle.jv_volume.specs.Shape.{naming, form_of, is_dir}
+use Rattle.jv_volume.specs.TreeOf.{node_of, tree_of}
+use Rattle.jv_volume.specs.Shape.{form_of, is_dir}
 use Rattle.jv_volume.specs.Stored.{Stored, number_of_node, counters_row}
-use Rattle.jv_volume.proofs.ShapeMapLaws.{naming_same, naming_apart, same_or_apart, get-inserted, get-insert_apart, get-removed, get-remove_apart}
-use Rattle.jv_volume.proofs.MapLaws.{alter-same}
-use Rattle.jv_volume.proofs.NodeRowLaws.{IsNodeRow, IsNodeRow-touched}
+use Rattle.jv_volume.proofs.ShapeMapLaws.{get-inserted, get-insert_apart, get-removed, get-remove_apart}
+use Rattle.jv_volume.proofs.NodeRowLaws.{IsNodeRow}
 use Rattle.jv_volume.proofs.StoredLaws.{HasNode, HasCounters, directory_number, found_node, found_counters}
 use Rattle.jv_volume.proofs.StoringLaws.{AreStored, IsNodeCell, IsEdgeCell, IsSessionCell, are_stored, stored-by}
-use Rattle.jv_volume.proofs.TreeOfLaws.{get-entries, tree_of-put_node, tree_of-drop_node, tree_of-put_edge, tree_of-drop_edge, tree_of-put_counters, tree_of-put_session, tree_of-drop_session, tree_of-put_sustained, tree_of-drop_sustained}
-use Rattle.jv_volume.proofs.ChangeLaws.{change_node-setting, change_node-next_inode, change_node-next_session, change_node-here, change_node-apart, put_entry-there, take_entry-there}
-use Rattle.jv_volume.proofs.LinkLaws.{IsFree, standing, standing_here, standing_apart, link_count-agree, link_count-put_alone, link_count-put_unnamed, link_count-drop_unnamed, link_count-put_entry-leaf, link_count-put_entry-dir, link_count-take_entry-leaf, link_count-take_entry-dir}
-use Rattle.jv_volume.proofs.SumLaws.{space_by_kind, used_space-put_new, used_space-put_over, used_space-drop_node, used_space-put_entry, used_space-take_entry, used_inodes-put_new, used_inodes-put_over, used_inodes-drop_node, used_inodes-put_entry, used_inodes-take_entry}
-use Rattle.jv_volume.proofs.MadeRowsLaws.{touched_row}
+use Rattle.jv_volume.proofs.TreeOfLaws.{get-entries, tree_of-put_node, tree_of-drop_node, tree_of-put_counters}
+use Rattle.jv_volume.proofs.ChangeLaws.{change_node-here, change_node-apart}
+use Rattle.jv_volume.proofs.LinkLaws.{IsFree, link_count-agree, link_count-put_alone, link_count-put_unnamed, link_count-drop_unnamed}
+use Rattle.jv_volume.proofs.SumLaws.{space_by_kind, used_space-put_new, used_space-put_over, used_space-drop_node, used_inodes-put_new, used_inodes-put_over, used_inodes-drop_node}
 
 -- ---- what becomes of rows
 
