@@ -16,3 +16,4 @@ pub mod LinkLaws
 pub mod GoneRowsLaws
 pub mod StoredStepLaws
 pub mod EntryStepLaws
+pub mod TableStepLaws

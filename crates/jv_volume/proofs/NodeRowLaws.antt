@@ -1,9 +1,10 @@
 -- Nodes and their rows: the row of a node has that node again, and a changed row has the changed node.
-use Rattle.std.proofs.Common.{◌≡◌, ℕ, List, refl, ap, arith, le-ltb}
-use Rattle.std.specs.Prelude.{nat_lt, if◌then◌else◌}
+use Rattle.std.proofs.Common.{◌≡◌, ℕ, Bool, true, false, List, refl, sym, ap, subst, arith, le-ltb}
+use Rattle.std.specs.Prelude.{◌==◌, nat_lt, if◌then◌else◌}
 use Rattle.jv_model.specs.declared.row.Node.{Node as NodeRow}
 use Rattle.jv_model.specs.tree.Tree.{Node, Kind, File, Directory, Symlink, new_node}
 use Rattle.jv_model.specs.tree.Changes.{touched, status_changed, empty_content}
+use Rattle.jv_model.specs.tree.Renaming.{kind_under, moved_node}
 use Rattle.jv_volume.specs.TreeOf.{content_of, node_of}
 use Rattle.jv_volume.specs.Stored.{node_row}
 
@@ -52,3 +53,34 @@ IsNodeRow-touched byte row now before links is = ap (λ (r : NodeRow). record r 
 
 pub IsNodeRow-status_changed : (byte : ℕ → ℕ) (row : NodeRow) (now before links : ℕ) → IsNodeRow before byte row → IsNodeRow links byte (record row { ctime = now; nlink = links })
 IsNodeRow-status_changed byte row now before links is = ap (λ (r : NodeRow). record r { ctime = now; nlink = links }) is
+
+-- the row of a file with another length
+pub IsNodeRow-length : (byte : ℕ → ℕ) (row : NodeRow) (now before links length : ℕ) → row.kind ≡ 1 → IsNodeRow before byte row
+    → IsNodeRow links byte (record row { length = length; mtime = now; ctime = now; nlink = links })
+IsNodeRow-length byte row now before links length file is =
+    subst (λ k. IsNodeRow before byte (record row { kind = k }) → IsNodeRow links byte (record row { kind = k; length = length; mtime = now; ctime = now; nlink = links })) (sym file)
+    (λ as_file. ap (λ (r : NodeRow). record r { length = length; mtime = now; ctime = now; nlink = links }) as_file) is
+
+-- the row of what moved to another directory: a directory has another parent now
+abbrev pub moved_row : ℕ → ℕ → NodeRow → NodeRow
+moved_row now dir row = record row { ctime = now; parent = if row.kind == 2 then dir else row.parent }
+
+pub node_of-moved : (byte : ℕ → ℕ) (row : NodeRow) (now dir : ℕ) → node_of byte (moved_row now dir row) ≡ moved_node now dir (node_of byte row)
+node_of-moved byte row now dir = by_kind (row.kind == 1) (row.kind == 2)
+  where
+    by_kind : (file is_dir : Bool)
+        → record (node_of byte row) { ctime = now; kind = if file then File (content_of row.length byte) else if is_dir then Directory (if is_dir then dir else row.parent) else Symlink row.target }
+        ≡ record (node_of byte row) { ctime = now; kind = kind_under dir (if file then File (content_of row.length byte) else if is_dir then Directory row.parent else Symlink row.target) }
+    by_kind true is_dir = refl
+    by_kind false true = refl
+    by_kind false false = refl
+
+pub IsNodeRow-moved_dir : (byte : ℕ → ℕ) (row : NodeRow) (now dir before links : ℕ) → row.kind ≡ 2 → IsNodeRow before byte row → IsNodeRow links byte (record (moved_row now dir row) { nlink = links })
+IsNodeRow-moved_dir byte row now dir before links is_dir is =
+    subst (λ k. IsNodeRow before byte (record row { kind = k }) → IsNodeRow links byte (record (moved_row now dir (record row { kind = k })) { nlink = links })) (sym is_dir)
+    (λ as_dir. ap (λ (r : NodeRow). record r { ctime = now; parent = dir; nlink = links }) as_dir) is
+
+pub IsNodeRow-moved_leaf : (byte : ℕ → ℕ) (row : NodeRow) (now dir before links : ℕ) → (row.kind == 2) ≡ false → IsNodeRow before byte row → IsNodeRow links byte (record (moved_row now dir row) { nlink = links })
+IsNodeRow-moved_leaf byte row now dir before links leaf is =
+    subst (λ (b : Bool). IsNodeRow links byte (record row { ctime = now; parent = if b then dir else row.parent; nlink = links })) (sym leaf)
+    (ap (λ (r : NodeRow). record r { ctime = now; nlink = links }) is)

@@ -343,3 +343,73 @@ module _ (bytes : ℕ → ℕ → ℕ) (rows : Rows) (inode : ℕ) (row : NodeRo
     session = λ sid. CellKept (other_kept (session_key sid) refl refl);
     sustained = λ sid i small. CellKept (other_kept (sustained_key sid i) refl refl);
   })
+
+-- ---- a node that takes another space, as a file of another length
+
+module _ (bytes : ℕ → ℕ → ℕ) (rows : Rows) (inode : ℕ) (row new_row : NodeRow) (c : Counters) (space : ℕ) (s : Stored rows (tree_of bytes rows)) (counters : counters_at rows ≡ Some c)
+    (here : node_row_at rows inode ≡ Some row) (is_row : IsNodeRow row.nlink (bytes inode) new_row) (same_kind : new_row.kind ≡ row.kind)
+    (space_is : space + node_space inode (node_of (bytes inode) row) ≡ c.used_space + node_space inode (node_of (bytes inode) new_row)) where
+  abbrev then_node : Node
+  then_node = node_of (bytes inode) new_row
+
+  abbrev then_cell : Cell
+  then_cell = Ok (OfNode new_row)
+
+  abbrev pub rows_with_length : Rows
+  rows_with_length = insert (insert rows (node_key inode) then_cell) counters_key (counters_cell (record c { used_space = space }))
+
+  abbrev tree_then : Tree
+  tree_then = put_node (tree_of bytes rows) inode then_node
+
+  c_has : HasCounters (tree_of bytes rows) c
+  c_has = found_counters bytes rows s c counters
+
+  row_is : HasNode (tree_of bytes rows) inode row (bytes inode)
+  row_is = found_node bytes rows s inode row here
+
+  pub tree_of-length : tree_of bytes rows_with_length ≡ put_node (tree_of bytes rows) inode then_node
+  tree_of-length =
+      tree_of-put_counters bytes (insert rows (node_key inode) then_cell) (record c { used_space = space })
+      ∙ ap (λ (x : Tree). record x { next_inode = c.inode; next_session = c.session }) (tree_of-put_node bytes rows inode new_row)
+      ∙ (λ i. record (put_node (tree_of bytes rows) inode then_node) { next_inode = sym c_has.next_inode i; next_session = sym c_has.next_session i })
+
+  numbers_then : (k : ℕ) → number_of_node (node_at tree_then k) ≡ number_of_node (node_at (tree_of bytes rows) k)
+  numbers_then =
+      number-put_over (tree_of bytes rows) inode (node_of (bytes inode) row) then_node row_is.there
+      (row_number row.nlink (bytes inode) new_row is_row ∙ same_kind ∙ sym (row_number (link_count (tree_of bytes rows) inode) (bytes inode) row row_is.row_is))
+
+  links_then : (j : ℕ) → link_count tree_then j ≡ link_count (tree_of bytes rows) j
+  links_then = links-number (tree_of bytes rows) tree_then refl numbers_then
+
+  counts_then : CountsFor tree_then (record c { used_space = space })
+  counts_then =
+      let all = used_space-put_over (tree_of bytes rows) inode (node_of (bytes inode) row) then_node row_is.there in
+      record {
+        inode = c_has.next_inode;
+        session = c_has.next_session;
+        space = omega (arith, all, c_has.space, space_is);
+        inodes = used_inodes-put_over (tree_of bytes rows) inode (node_of (bytes inode) row) then_node row_is.there ∙ c_has.inodes;
+      }
+
+  then_last : (q : RowKey) → eq_by_cmp row_cmp q counters_key ≡ false → get rows_with_length q ≡ get (insert rows (node_key inode) then_cell) q
+  then_last q apart = put_kept (insert rows (node_key inode) then_cell) counters_key (counters_cell (record c { used_space = space })) q apart
+
+  then_kept : (q : RowKey) → eq_by_cmp row_cmp q counters_key ≡ false → eq_by_cmp row_cmp q (node_key inode) ≡ false → get rows_with_length q ≡ get rows q
+  then_kept q apart other = then_last q apart ∙ put_kept rows (node_key inode) then_cell q other
+
+  pub stored-length : Stored rows_with_length (tree_of bytes rows_with_length)
+  stored-length = stored-goes bytes rows rows_with_length tree_then c.slice s (record {
+    tree = tree_of-length;
+    setting = then_kept setting_key refl refl;
+    same_setting = refl;
+    counters = get-inserted row_key (insert rows (node_key inode) then_cell) counters_key (counters_cell (record c { used_space = space }))
+        ∙ ap (λ x. Some (Ok (OfCounters x))) (counters_as tree_then (record c { used_space = space }) counts_then);
+    node = λ k. elim (cases_eq k inode) [
+      | inl same ↦ NodePut new_row (then_last (node_key k) refl ∙ node_here rows inode then_cell k same)
+          (subst (λ i. IsNodeRow (link_count tree_then i) (bytes i) new_row) (sym same) (subst (λ l. IsNodeRow l (bytes inode) new_row) (row_is.links ∙ sym (links_then inode)) is_row))
+      | inr apart ↦ NodeKept (then_last (node_key k) refl ∙ node_apart rows inode then_cell k apart) (links_then k)
+    ];
+    edge = λ at. EdgeKept (then_kept (edge_key at.dir at.name) refl refl) (λ i e. numbers_then i);
+    session = λ sid. CellKept (then_kept (session_key sid) refl refl);
+    sustained = λ sid i small. CellKept (then_kept (sustained_key sid i) refl refl);
+  })
