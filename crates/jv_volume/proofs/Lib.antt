@@ -17,3 +17,5 @@ pub mod GoneRowsLaws
 pub mod StoredStepLaws
 pub mod EntryStepLaws
 pub mod TableStepLaws
+pub mod SelectOrderLaws
+pub mod ReadLaws
