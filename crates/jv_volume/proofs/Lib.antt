@@ -19,3 +19,4 @@ pub mod EntryStepLaws
 pub mod TableStepLaws
 pub mod SelectOrderLaws
 pub mod ReadLaws
+pub mod ReleaseLaws
