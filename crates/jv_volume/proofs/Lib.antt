@@ -20,3 +20,4 @@ pub mod TableStepLaws
 pub mod SelectOrderLaws
 pub mod ReadLaws
 pub mod ReleaseLaws
+pub mod QuietLaws
