@@ -21,3 +21,4 @@ pub mod SelectOrderLaws
 pub mod ReadLaws
 pub mod ReleaseLaws
 pub mod QuietLaws
+pub mod SeenLaws

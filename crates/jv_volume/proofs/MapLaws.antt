@@ -6,7 +6,7 @@ use Rattle.std.specs.Ordering.{eq_by_cmp, is_eq, is_lt}
 use Rattle.std.specs.FinMap.Entries.{find, below_all, is_sorted}
 use Rattle.jv_model.specs.FiniteMap.{KeyOrder, Map, get, insert, remove, alter, sum_over, total_over}
 use Rattle.jv_model.proofs.FiniteMapLaws.{share, get-alter, same_maps, sum-insert, sum-remove}
-use Rattle.jv_volume.proofs.ShapeMapLaws.{tied_here, tied_same}
+use Rattle.jv_volume.proofs.ShapeMapLaws.{tied_here, tied_same, tied_apart}
 
 pub first_of_both : (a b : Bool) → T (a && b) → T a
 first_of_both true b p = tt
@@ -168,3 +168,7 @@ module _ {K X : Type 0} (order : KeyOrder K) (m : Map order X) where
 
   pub remove-absent : (k : K) → get m k ≡ None → remove m k ≡ m
   remove-absent k none = alter-same k None none
+
+-- what stands at another key than the changed one
+pub get-alter-apart : {K X : Type 0} (order : KeyOrder K) (m : Map order X) (k : K) (v : Option X) (q : K) → q ≢ k → get (alter m k v) q ≡ get m q
+get-alter-apart order m k v q apart = get-alter m k v q ∙ ap (λ b. cond b v (get m q)) (tied_apart order k q apart)
