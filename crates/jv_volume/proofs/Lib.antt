@@ -22,3 +22,4 @@ pub mod ReadLaws
 pub mod ReleaseLaws
 pub mod QuietLaws
 pub mod SeenLaws
+pub mod FilesLaws
