@@ -8,7 +8,8 @@ use Rattle.jv_model.specs.tree.Renaming.{moved_node, move_in}
 use Rattle.jv_volume.proofs.ShapeMapLaws.{get-inserted, get-insert_apart}
 
 -- a change of a node that is there is a put
-pub change_node-there : (t : Tree) (inode : ℕ) (change : Node → Node) (node : Node) → node_at t inode ≡ Some node → change_node t inode change ≡ put_node t inode (change node)
+pub change_node-there : (t : Tree) (inode : ℕ) (change : Node → Node) (node : Node) → node_at t inode ≡ Some node
+    → change_node t inode change ≡ put_node t inode (change node)
 change_node-there t inode change node there = ap (λ o. set_node t inode (option_map change o)) there
 
 pub change_node-none : (t : Tree) (inode : ℕ) (change : Node → Node) → node_at t inode ≡ None → change_node t inode change ≡ t

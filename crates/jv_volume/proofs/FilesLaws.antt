@@ -16,9 +16,11 @@ use Rattle.jv_volume.specs.Whole.{Quiet}
 use Rattle.jv_volume.proofs.QuietLaws.{quiet-lists_of}
 
 -- an inode that was never given has no lists
-pub fresh_lists : (rows : Rows) (inode window : ℕ) → WholeFiles rows → node_row_at rows inode ≡ None → (counters_of rows).inode ≤ inode → lists_of rows inode window ≡ []
+pub fresh_lists : (rows : Rows) (inode window : ℕ) → WholeFiles rows → node_row_at rows inode ≡ None → (counters_of rows).inode ≤ inode
+    → lists_of rows inode window ≡ []
 unfolding lists_of
-fresh_lists rows inode window w none high = ap (λ b. if nat_lt window (2 ^ 32) then b else []) (by_cell (get rows (list_key inode window)) refl) ∙ either (nat_lt window (2 ^ 32))
+fresh_lists rows inode window w none high = ap (λ b. if nat_lt window (2 ^ 32) then b else []) (by_cell (get rows (list_key inode window)) refl)
+    ∙ either (nat_lt window (2 ^ 32))
   where
     none_has : HasLists rows inode → ⊥
     none_has (OfFile node there file) = absurd (cc)
@@ -58,7 +60,8 @@ module _ (rows after : Rows) (quiet : Quiet rows after) (w : WholeFiles rows) (g
   past_after : (inode : ℕ) (node : NodeRow) (position : ℕ) → node.length ≤ position → FileIs rows inode node → place_in (lists_of after inode) position ≡ Zero
   past_after inode node position past (AsBefore was there file same) =
       ap (λ lists. place_in lists position) (same_lists inode) ∙ w.past inode was there file position (subst (λ n. n ≤ position) same past)
-  past_after inode node position past (IsNew small none) = ap (λ lists. place_in lists position) (same_lists inode) ∙ nothing_shown (lists_of rows inode) position none
+  past_after inode node position past (IsNew small none) = ap (λ lists. place_in lists position) (same_lists inode)
+      ∙ nothing_shown (lists_of rows inode) position none
 
   has_lists : (inode : ℕ) → HasLists rows inode → HasLists after inode
   has_lists inode (OfFile was there file) = g.owner inode was there file

@@ -82,7 +82,8 @@ pub sum-alike : {K X Y : Type 0} (order : KeyOrder K) (f : K → X → ℕ) (g :
     → ((k : K) → option_map (f k) (get m k) ≡ option_map (g k) (get n k)) → sum_over f m ≡ sum_over g n
 sum-alike order f g m n same =
     sym (sum-changed_values order f m)
-    ∙ ap (sum_over (λ k n. n)) (same_maps (changed_values order f m) (changed_values order g n) (λ k. get-changed_values order f m k ∙ same k ∙ sym (get-changed_values order g n k)))
+    ∙ ap (sum_over (λ k n. n)) (same_maps (changed_values order f m) (changed_values order g n) (λ k. get-changed_values order f m k ∙ same k
+    ∙ sym (get-changed_values order g n k)))
     ∙ sum-changed_values order g n
 
 zeros : {K X : Type 0} (es : List (K × X)) → total_over (λ k x. 0) es ≡ 0
@@ -106,7 +107,8 @@ entry_alike f g k None same = refl
 entry_alike f g k (Some x) same = ap (λ n. Some n) (same x refl)
 
 -- two functions that agree on the entries of a map have the same sum
-pub sum-agree : {K X : Type 0} (order : KeyOrder K) (f g : K → X → ℕ) (m : Map order X) → ((k : K) (x : X) → get m k ≡ Some x → f k x ≡ g k x) → sum_over f m ≡ sum_over g m
+pub sum-agree : {K X : Type 0} (order : KeyOrder K) (f g : K → X → ℕ) (m : Map order X) → ((k : K) (x : X) → get m k ≡ Some x → f k x ≡ g k x)
+    → sum_over f m ≡ sum_over g m
 sum-agree order f g m same = sum-alike order f g m m (λ k. entry_alike f g k (get m k) (same k))
 
 module _ {K X : Type 0} (order : KeyOrder K) (f : K → X → ℕ) (m : Map order X) (k : K) where

@@ -31,7 +31,8 @@ node-seen rows inode found e = ap (λ c. node_in (row_in c)) e ∙ back found
     back None = refl
     back (Some row) = refl
 
-pub edge-seen : (rows : Rows) (dir : ℕ) (name : List ℕ) (found : Option Edge) → get rows (edge_key dir name) ≡ option_map of_edge found → edge_at rows dir name ≡ found
+pub edge-seen : (rows : Rows) (dir : ℕ) (name : List ℕ) (found : Option Edge) → get rows (edge_key dir name) ≡ option_map of_edge found
+    → edge_at rows dir name ≡ found
 edge-seen rows dir name found e = ap (λ c. edge_in (row_in c)) e ∙ back found
   where
     back : (o : Option Edge) → edge_in (row_in (option_map of_edge o)) ≡ o
@@ -68,7 +69,8 @@ setting-seen rows found e = ap (λ c. setting_in (row_in c)) e ∙ back found
 abbrev pub of_dropped : Dropped → Cell
 of_dropped dropped = Ok (OfDropped dropped)
 
-pub dropped-seen : (rows : Rows) (inode : ℕ) (found : Option Dropped) → get rows (dropped_key inode) ≡ option_map of_dropped found → dropped_at rows inode ≡ found
+pub dropped-seen : (rows : Rows) (inode : ℕ) (found : Option Dropped) → get rows (dropped_key inode) ≡ option_map of_dropped found
+    → dropped_at rows inode ≡ found
 dropped-seen rows inode found e = ap (λ c. dropped_in (row_in c)) e ∙ back found
   where
     back : (o : Option Dropped) → dropped_in (row_in (option_map of_dropped o)) ≡ o

@@ -47,7 +47,8 @@ module _ (bytes : ℕ → ℕ → ℕ) (rows : Rows) where
   abbrev of_rows : Tree
   of_rows = tree_of bytes rows
 
-  node_here : (inode : ℕ) (o : Option Cell) → get rows (node_key inode) ≡ o → ((cell : Cell) → o ≡ Some cell → IsNodeCell (link_count of_rows inode) (bytes inode) cell)
+  node_here : (inode : ℕ) (o : Option Cell) → get rows (node_key inode) ≡ o
+      → ((cell : Cell) → o ≡ Some cell → IsNodeCell (link_count of_rows inode) (bytes inode) cell)
       → o ≡ option_map (λ node. Ok (OfNode (node_row (link_count of_rows inode) node))) (option_map (node_of (bytes inode)) (node_in (row_in o)))
   node_here inode None e h = refl
   node_here inode (Some cell) e h =
@@ -85,9 +86,12 @@ module _ (bytes : ℕ → ℕ → ℕ) (rows : Rows) where
     counters = s.counters;
     node = λ inode. node_here inode (get rows (node_key inode)) refl (s.node inode)
         ∙ ap (option_map (λ node. Ok (OfNode (node_row (link_count of_rows inode) node)))) (sym (node_at-tree_of bytes rows inode));
-    edge = λ at. edge_here (get rows (edge_key at.dir at.name)) (s.edge at) ∙ ap (option_map (λ inode. Ok (OfEdge (edge_row of_rows inode)))) (sym (get-entries bytes rows at));
-    session = λ sid. session_here (get rows (session_key sid)) (s.session sid) ∙ ap (option_map (λ entry. Ok (OfSession (session_row entry)))) (sym (get-sessions bytes rows sid));
-    sustained = λ sid inode less. sustained_here (get rows (sustained_key sid inode)) (s.sustained sid inode less) ∙ ap (option_map (λ unit. Ok OfSustained)) (sym (get-sustained bytes rows sid inode less));
+    edge = λ at. edge_here (get rows (edge_key at.dir at.name)) (s.edge at)
+        ∙ ap (option_map (λ inode. Ok (OfEdge (edge_row of_rows inode)))) (sym (get-entries bytes rows at));
+    session = λ sid. session_here (get rows (session_key sid)) (s.session sid)
+        ∙ ap (option_map (λ entry. Ok (OfSession (session_row entry)))) (sym (get-sessions bytes rows sid));
+    sustained = λ sid inode less. sustained_here (get rows (sustained_key sid inode)) (s.sustained sid inode less)
+        ∙ ap (option_map (λ unit. Ok OfSustained)) (sym (get-sustained bytes rows sid inode less));
   }
 
   -- and rows of the tree are such rows
@@ -102,7 +106,8 @@ module _ (bytes : ℕ → ℕ → ℕ) (rows : Rows) where
     sustained = λ sid inode less cell e. sustained_cell cell (sustained_at rows sid inode) (sym e ∙ sustained_stands rows of_rows s sid inode less);
   }
     where
-      node_cell : (inode : ℕ) (cell : Cell) (o : Option NodeRow) → node_row_at rows inode ≡ o → Some cell ≡ option_map of_node o → IsNodeCell (link_count of_rows inode) (bytes inode) cell
+      node_cell : (inode : ℕ) (cell : Cell) (o : Option NodeRow) → node_row_at rows inode ≡ o → Some cell ≡ option_map of_node o
+          → IsNodeCell (link_count of_rows inode) (bytes inode) cell
       node_cell inode cell None e h = absurd (cc)
       node_cell inode cell (Some row) e h = record { row = row; is = cc; row_is = (found_node bytes rows s inode row e).row_is }
 

@@ -65,7 +65,8 @@ entry_table = record {
 
 -- ---- the table of sustained files, whose keys have inodes of 64 bits
 
-below_64 : (bytes : List ℕ) → get_or bytes 0 0 < 256 → get_or bytes 1 0 < 256 → get_or bytes 2 0 < 256 → get_or bytes 3 0 < 256 → get_or bytes 4 0 < 256 → get_or bytes 5 0 < 256
+below_64 : (bytes : List ℕ) → get_or bytes 0 0 < 256 → get_or bytes 1 0 < 256 → get_or bytes 2 0 < 256 → get_or bytes 3 0 < 256 → get_or bytes 4 0 < 256
+    → get_or bytes 5 0 < 256
     → get_or bytes 6 0 < 256 → get_or bytes 7 0 < 256 → from_be_bytes w64 bytes < 2 ^ 64
 below_64 bytes a b c d e f g h = omega (arith, a, b, c, d, e, f, g, h)
 
@@ -77,7 +78,8 @@ abbrev pub pair_place : SustainedFile → Option RowKey
 pair_place pair = (if nat_lt pair.inode (2 ^ 64) then Some (sustained_key pair.sid pair.inode) else None)
 
 -- over any spelling of numbers
-module _ (spelled : ℕ → List ℕ) (read : List ℕ → ℕ) (limit : ℕ) (below : (n : ℕ) → read (spelled n) < limit) (again : (n : ℕ) → n < limit → read (spelled n) ≡ n) where
+module _ (spelled : ℕ → List ℕ) (read : List ℕ → ℕ) (limit : ℕ) (below : (n : ℕ) → read (spelled n) < limit) (again : (n : ℕ) → n < limit
+    → read (spelled n) ≡ n) where
   abbrev pair_by : RowKey → Option SustainedFile
   pair_by key = (if key.tab == 7 && is_text (spelled (read key.b)) key.b then Some (record { sid = key.a; inode = read key.b }) else None)
 
