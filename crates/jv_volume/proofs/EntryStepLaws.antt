@@ -116,7 +116,11 @@ module _ (bytes : ℕ → ℕ → ℕ) (rows : Rows) (now : ℕ) (at : EntryKey)
   abbrev pub rows_with_entry : Rows
   rows_with_entry = insert e2 (node_key inode) (Ok (OfNode row_more))
 
-  by_entry : tree_of bytes rows_with_entry ≡ record t { nodes = insert (insert t.nodes at.dir (touched now (node_of (bytes at.dir) dir))) inode (node_of (bytes inode) row); entries = insert t.entries at inode }
+  by_entry : tree_of bytes rows_with_entry ≡ record t {
+    nodes = insert (insert t.nodes at.dir (touched now (node_of (bytes at.dir) dir))) inode
+        (node_of (bytes inode) row);
+    entries = insert t.entries at inode;
+  }
   by_entry =
       tree_of-put_node bytes e2 inode row_more
       ∙ ap (λ (x : Tree). put_node x inode (node_of (bytes inode) row)) (tree_of-put_node bytes e1 at.dir (touched_row now (dir.nlink + to_dir row) dir)
@@ -165,7 +169,8 @@ module _ (bytes : ℕ → ℕ → ℕ) (rows : Rows) (now : ℕ) (at : EntryKey)
         (sym (number-put_entry t now at inode inode ∙ ap number_of_node inode_is.there ∙ row_number (link_count t inode) (bytes inode) row inode_is.row_is))
     | inr aside ↦ EdgeKept (put_kept e2 (node_key inode) (Ok (OfNode row_more)) (edge_key k.dir k.name) refl
         ∙ put_kept e1 (node_key at.dir) dir_more (edge_key k.dir k.name) refl
-        ∙ get-insert_apart row_key rows (edge_key at.dir at.name) edge_cell (edge_key k.dir k.name) (λ same. aside (λ i. record { dir = (same i).a; name = (same i).b })))
+        ∙ get-insert_apart row_key rows (edge_key at.dir at.name) edge_cell (edge_key k.dir k.name)
+        (λ same. aside (λ i. record { dir = (same i).a; name = (same i).b })))
         (λ i e. number-put_entry t now at inode i)
   ]
 
@@ -208,7 +213,11 @@ module _ (bytes : ℕ → ℕ → ℕ) (rows : Rows) (now : ℕ) (at : EntryKey)
   abbrev pub rows_without_entry : Rows
   rows_without_entry = insert l2 (node_key inode) (Ok (OfNode row_less))
 
-  by_no_entry : tree_of bytes rows_without_entry ≡ record t { nodes = insert (insert t.nodes at.dir (touched now (node_of (bytes at.dir) dir))) inode (node_of (bytes inode) row); entries = remove t.entries at }
+  by_no_entry : tree_of bytes rows_without_entry ≡ record t {
+    nodes = insert (insert t.nodes at.dir (touched now (node_of (bytes at.dir) dir))) inode
+        (node_of (bytes inode) row);
+    entries = remove t.entries at;
+  }
   by_no_entry =
       tree_of-put_node bytes l2 inode row_less
       ∙ ap (λ (x : Tree). put_node x inode (node_of (bytes inode) row)) (tree_of-put_node bytes l1 at.dir (touched_row now (dir.nlink - to_dir row) dir)
@@ -240,7 +249,8 @@ module _ (bytes : ℕ → ℕ → ℕ) (rows : Rows) (now : ℕ) (at : EntryKey)
       | inl same ↦ NodePut (touched_row now (dir.nlink - to_dir row) dir) (node_apart l2 inode (Ok (OfNode row_less)) k other
           ∙ node_here l1 at.dir dir_less k same)
           (subst (λ i. IsNodeRow (link_count without_it i) (bytes i) (touched_row now (dir.nlink - to_dir row) dir)) (sym same)
-          (subst (λ l. IsNodeRow l (bytes at.dir) (touched_row now (dir.nlink - to_dir row) dir)) (sym (links_less named at.dir dir.nlink (to_dir row) at_is.links share_dir))
+          (subst (λ l. IsNodeRow l (bytes at.dir) (touched_row now (dir.nlink - to_dir row) dir))
+          (sym (links_less named at.dir dir.nlink (to_dir row) at_is.links share_dir))
           (IsNodeRow-touched (bytes at.dir) dir now (link_count t at.dir) (dir.nlink - to_dir row) at_is.row_is)))
       | inr aside ↦ NodeKept (node_apart l2 inode (Ok (OfNode row_less)) k other ∙ node_apart l1 at.dir dir_less k aside
           ∙ drop_kept rows (edge_key at.dir at.name) (node_key k) refl)

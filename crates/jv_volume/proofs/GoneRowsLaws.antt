@@ -108,7 +108,8 @@ module _ (bytes : ℕ → ℕ → ℕ) (rows : Rows) (now : ℕ) (place : EntryK
   by_model : remove_directory t now place inode ≡ gone_tree t.next_inode t.next_session
   by_model =
       ap (λ (u : Tree). drop_node u inode) (take_entry-there t now place (node_of (bytes place.dir) dir) dir_is.there)
-      ∙ ap (λ nodes. record t { nodes = nodes; entries = remove t.entries place }) (alter-swap number_key t.nodes place.dir inode (Some touched_dir) None (λ same. going.apart (sym same)))
+      ∙ ap (λ nodes. record t { nodes = nodes; entries = remove t.entries place })
+      (alter-swap number_key t.nodes place.dir inode (Some touched_dir) None (λ same. going.apart (sym same)))
 
   -- the tree of the rows after an inode went
   pub tree_of-gone : tree_of bytes after ≡ remove_directory t now place inode
@@ -163,7 +164,8 @@ module _ (bytes : ℕ → ℕ → ℕ) (rows : Rows) (now : ℕ) (place : EntryK
       record {
         row = touched_row now links dir;
         is = cc;
-        row_is = subst (λ l. IsNodeRow l (bytes place.dir) (touched_row now links dir)) (sym dir_links) (IsNodeRow-touched (bytes place.dir) dir now (link_count t place.dir) links dir_is.row_is);
+        row_is = subst (λ l. IsNodeRow l (bytes place.dir) (touched_row now links dir)) (sym dir_links)
+            (IsNodeRow-touched (bytes place.dir) dir now (link_count t place.dir) links dir_is.row_is);
       }
 
   no_cell : get after (node_key inode) ≡ None
@@ -171,7 +173,8 @@ module _ (bytes : ℕ → ℕ → ℕ) (rows : Rows) (now : ℕ) (place : EntryK
 
   node_after : (i : ℕ) (cell : Cell) → get after (node_key i) ≡ Some cell → IsNodeCell (link_count (tree_of bytes after) i) (bytes i) cell
   node_after i cell e = elim (cases_eq i place.dir) [
-    | inl same ↦ subst (λ k. IsNodeCell (link_count (tree_of bytes after) k) (bytes k) cell) (sym same) (dir_cell cell (sym (ap (λ k. get after (node_key k)) same) ∙ e))
+    | inl same ↦ subst (λ k. IsNodeCell (link_count (tree_of bytes after) k) (bytes k) cell) (sym same)
+        (dir_cell cell (sym (ap (λ k. get after (node_key k)) same) ∙ e))
     | inr aside ↦ elim (cases_eq i inode) [
       | inl same ↦ let none : get after (node_key i) ≡ None = ap (λ k. get after (node_key k)) same ∙ no_cell in absurd (cc)
       | inr apart ↦
@@ -204,7 +207,8 @@ module _ (bytes : ℕ → ℕ → ℕ) (rows : Rows) (now : ℕ) (place : EntryK
     | inr aside ↦
         let was : get rows (edge_key at.dir at.name) ≡ Some cell =
         sym (edge_put at
-        ∙ get-remove_apart row_key r1 (edge_key place.dir place.name) (edge_key at.dir at.name) (λ same. aside (λ i. record { dir = (same i).a; name = (same i).b }))
+        ∙ get-remove_apart row_key r1 (edge_key place.dir place.name) (edge_key at.dir at.name)
+        (λ same. aside (λ i. record { dir = (same i).a; name = (same i).b }))
         ∙ get-remove rows (node_key inode) (edge_key at.dir at.name)) ∙ e in
         let old = before_stored.edge at cell was in
         let named : get t.entries at ≡ Some old.edge.inode = get-entries bytes rows at

@@ -67,7 +67,8 @@ module _ (dirs : ℕ → Bool) (m : Entries) (at : EntryKey) (inode j : ℕ) whe
   links-insert free = insert_by (dirs j) free
 
   over_by : (b : Bool) (old : ℕ) → get m at ≡ Some old
-      → cond b (2 + sum_over (within_of dirs j) (insert m at inode)) (count_of (insert m at inode) j) + cond b (within_of dirs j at old) (if old == j then 1 else 0)
+      → cond b (2 + sum_over (within_of dirs j) (insert m at inode)) (count_of (insert m at inode) j) + cond b (within_of dirs j at old)
+      (if old == j then 1 else 0)
       ≡ cond b (2 + sum_over (within_of dirs j) m) (count_of m j) + cond b (within_of dirs j at inode) (if inode == j then 1 else 0)
   over_by true old there = let all = sum-over entry_key (within_of dirs j) m at old inode there in omega (arith, all)
   over_by false old there = sum-over entry_key (naming j) m at old inode there
@@ -233,7 +234,8 @@ module _ (t : Tree) (inode : ℕ) (change : Node → Node) (keeps : (node : Node
   ]
 
   pub link_count-change_node : (j : ℕ) → link_count (change_node t inode change) j ≡ link_count t j
-  link_count-change_node j = link_count-agree t (change_node t inode change) j (change_node-entries t inode change) (is_directory-change_node j) (λ at other e. is_directory-change_node other)
+  link_count-change_node j = link_count-agree t (change_node t inode change) j (change_node-entries t inode change) (is_directory-change_node j)
+      (λ at other e. is_directory-change_node other)
 
 -- ---- which inodes are directories after a small change
 
@@ -340,7 +342,8 @@ module _ (t : Tree) (now : ℕ) (place : EntryKey) (inode : ℕ) (node : Node) (
 module _ (t : Tree) (now : ℕ) (place : EntryKey) (inode : ℕ) (there : get t.entries place ≡ Some inode) (only : (at : EntryKey)
     → get t.entries at ≡ Some inode → at ≡ place) (j : ℕ) (other : j ≢ inode) where
   dropped : link_count (drop_node (take_entry t now place) inode) j ≡ link_count (take_entry t now place) j
-  dropped = link_count-drop_unnamed (take_entry t now place) inode j (λ at e. let kept = was_kept entry_key t.entries place at inode e in kept.0 (only at kept.1)) other
+  dropped = link_count-drop_unnamed (take_entry t now place) inode j
+      (λ at e. let kept = was_kept entry_key t.entries place at inode e in kept.0 (only at kept.1)) other
 
   -- no other link count changes by a file or a symlink that goes
   pub link_count-without_leaf : is_directory t inode ≡ false → link_count (drop_node (take_entry t now place) inode) j ≡ link_count t j

@@ -40,7 +40,8 @@ grown space c = record c { inode = c.inode + 1; used_space = c.used_space + spac
 
 abbrev pub made_rows : Rows → ℕ → EntryKey → NodeRow → NodeRow → ℕ → Counters → ℕ → Rows
 made_rows rows now place row dir links c space =
-    insert (insert (insert (insert rows (node_key c.inode) (Ok (OfNode row))) (edge_key place.dir place.name) (Ok (OfEdge (record { kind = row.kind; inode = c.inode }))))
+    insert (insert (insert (insert rows (node_key c.inode) (Ok (OfNode row))) (edge_key place.dir place.name)
+    (Ok (OfEdge (record { kind = row.kind; inode = c.inode }))))
     (node_key place.dir) (Ok (OfNode (touched_row now links dir)))) counters_key (Ok (OfCounters (grown space c)))
 
 module _ (bytes : ℕ → ℕ → ℕ) (rows : Rows) (now : ℕ) (place : EntryKey) (row dir : NodeRow) (links : ℕ) (c : Counters) (space : ℕ)
@@ -208,7 +209,8 @@ module _ (bytes : ℕ → ℕ → ℕ) (rows : Rows) (now : ℕ) (place : EntryK
 
   node_beside : (inode : ℕ) → inode ≢ place.dir → get done_rows (node_key inode) ≡ get r1 (node_key inode)
   node_beside inode aside =
-      last_put (node_key inode) refl ∙ get-insert_apart row_key r2 (node_key place.dir) (Ok (OfNode (touched_row now links dir))) (node_key inode) (λ same. aside (ap (λ (q : RowKey). q.a) same))
+      last_put (node_key inode) refl ∙ get-insert_apart row_key r2 (node_key place.dir) (Ok (OfNode (touched_row now links dir))) (node_key inode)
+      (λ same. aside (ap (λ (q : RowKey). q.a) same))
       ∙ get-insert r1 (edge_key place.dir place.name) (Ok (OfEdge (record { kind = row.kind; inode = c.inode }))) (node_key inode)
 
   dir_cell : (cell : Cell) → get done_rows (node_key place.dir) ≡ Some cell → IsNodeCell (link_count (tree_of bytes done_rows) place.dir) (bytes place.dir) cell
@@ -218,7 +220,8 @@ module _ (bytes : ℕ → ℕ → ℕ) (rows : Rows) (now : ℕ) (place : EntryK
       record {
         row = touched_row now links dir;
         is = cc;
-        row_is = subst (λ l. IsNodeRow l (bytes place.dir) (touched_row now links dir)) (sym dir_links) (IsNodeRow-touched (bytes place.dir) dir now (link_count before_it place.dir) links dir_found.row_is);
+        row_is = subst (λ l. IsNodeRow l (bytes place.dir) (touched_row now links dir)) (sym dir_links)
+            (IsNodeRow-touched (bytes place.dir) dir now (link_count before_it place.dir) links dir_found.row_is);
       }
 
   new_cell : (cell : Cell) → get done_rows (node_key c.inode) ≡ Some cell → IsNodeCell (link_count (tree_of bytes done_rows) c.inode) (bytes c.inode) cell
@@ -230,12 +233,15 @@ module _ (bytes : ℕ → ℕ → ℕ) (rows : Rows) (now : ℕ) (place : EntryK
   node_after : (inode : ℕ) (cell : Cell) → get done_rows (node_key inode) ≡ Some cell
       → IsNodeCell (link_count (tree_of bytes done_rows) inode) (bytes inode) cell
   node_after inode cell e = elim (cases_eq inode place.dir) [
-    | inl same ↦ subst (λ i. IsNodeCell (link_count (tree_of bytes done_rows) i) (bytes i) cell) (sym same) (dir_cell cell (sym (ap (λ i. get done_rows (node_key i)) same) ∙ e))
+    | inl same ↦ subst (λ i. IsNodeCell (link_count (tree_of bytes done_rows) i) (bytes i) cell) (sym same)
+        (dir_cell cell (sym (ap (λ i. get done_rows (node_key i)) same) ∙ e))
     | inr aside ↦ elim (cases_eq inode c.inode) [
-      | inl same ↦ subst (λ i. IsNodeCell (link_count (tree_of bytes done_rows) i) (bytes i) cell) (sym same) (new_cell cell (sym (ap (λ i. get done_rows (node_key i)) same) ∙ e))
+      | inl same ↦ subst (λ i. IsNodeCell (link_count (tree_of bytes done_rows) i) (bytes i) cell) (sym same)
+          (new_cell cell (sym (ap (λ i. get done_rows (node_key i)) same) ∙ e))
       | inr apart ↦
           let was : get rows (node_key inode) ≡ Some cell =
-          sym (node_beside inode aside ∙ get-insert_apart row_key rows (node_key c.inode) (Ok (OfNode row)) (node_key inode) (λ same. apart (ap (λ (q : RowKey). q.a) same))) ∙ e in
+          sym (node_beside inode aside ∙ get-insert_apart row_key rows (node_key c.inode) (Ok (OfNode row)) (node_key inode)
+          (λ same. apart (ap (λ (q : RowKey). q.a) same))) ∙ e in
           subst (λ l. IsNodeCell l (bytes inode) cell) (sym (other_links inode aside apart)) (before_stored.node inode cell was)
     ]
   ]
@@ -247,7 +253,8 @@ module _ (bytes : ℕ → ℕ → ℕ) (rows : Rows) (now : ℕ) (place : EntryK
 
   new_number : number_of_node (node_at nodes_then c.inode) ≡ row.kind
   new_number =
-      ap number_of_node (get-insert_apart number_key (insert before_it.nodes c.inode new) place.dir (touched now (node_of (bytes place.dir) dir)) c.inode (λ same. place_apart (sym same))
+      ap number_of_node (get-insert_apart number_key (insert before_it.nodes c.inode new) place.dir
+      (touched now (node_of (bytes place.dir) dir)) c.inode (λ same. place_apart (sym same))
       ∙ get-inserted number_key before_it.nodes c.inode new)
       ∙ sym (ap (λ (r : NodeRow). r.kind) made.new_row)
 
@@ -256,7 +263,8 @@ module _ (bytes : ℕ → ℕ → ℕ) (rows : Rows) (now : ℕ) (place : EntryK
     | inl same ↦ ap number_of_node (ap (node_at nodes_then) same
         ∙ get-inserted number_key (insert before_it.nodes c.inode new) place.dir (touched now (node_of (bytes place.dir) dir)))
         ∙ sym (ap number_of_node (ap (node_at before_it) same ∙ dir_found.there))
-    | inr aside ↦ ap number_of_node (get-insert_apart number_key (insert before_it.nodes c.inode new) place.dir (touched now (node_of (bytes place.dir) dir)) inode aside
+    | inr aside ↦ ap number_of_node (get-insert_apart number_key (insert before_it.nodes c.inode new) place.dir
+        (touched now (node_of (bytes place.dir) dir)) inode aside
         ∙ get-insert_apart number_key before_it.nodes c.inode new inode apart)
   ]
 
@@ -276,7 +284,8 @@ module _ (bytes : ℕ → ℕ → ℕ) (rows : Rows) (now : ℕ) (place : EntryK
     | inr aside ↦
         let was : get rows (edge_key at.dir at.name) ≡ Some cell =
         sym (edge_put at
-        ∙ get-insert_apart row_key r1 (edge_key place.dir place.name) (Ok (OfEdge (record { kind = row.kind; inode = c.inode }))) (edge_key at.dir at.name) (λ same. aside (λ i. record { dir = (same i).a; name = (same i).b }))
+        ∙ get-insert_apart row_key r1 (edge_key place.dir place.name) (Ok (OfEdge (record { kind = row.kind; inode = c.inode })))
+        (edge_key at.dir at.name) (λ same. aside (λ i. record { dir = (same i).a; name = (same i).b }))
         ∙ get-insert rows (node_key c.inode) (Ok (OfNode row)) (edge_key at.dir at.name)) ∙ e in
         let old = before_stored.edge at cell was in
         let named : get before_it.entries at ≡ Some old.edge.inode = get-entries bytes rows at

@@ -78,8 +78,16 @@ pub node_of-moved : (byte : ℕ → ℕ) (row : NodeRow) (now dir : ℕ) → nod
 node_of-moved byte row now dir = by_kind (row.kind == 1) (row.kind == 2)
   where
     by_kind : (file is_dir : Bool)
-        → record (node_of byte row) { ctime = now; kind = if file then File (content_of row.length byte) else if is_dir then Directory (if is_dir then dir else row.parent) else Symlink row.target }
-        ≡ record (node_of byte row) { ctime = now; kind = kind_under dir (if file then File (content_of row.length byte) else if is_dir then Directory row.parent else Symlink row.target) }
+        → record (node_of byte row) {
+          ctime = now;
+          kind = if file then File (content_of row.length byte) else if is_dir then Directory
+              (if is_dir then dir else row.parent) else Symlink row.target;
+        }
+        ≡ record (node_of byte row) {
+          ctime = now;
+          kind = kind_under dir
+              (if file then File (content_of row.length byte) else if is_dir then Directory row.parent else Symlink row.target);
+        }
     by_kind true is_dir = refl
     by_kind false true = refl
     by_kind false false = refl

@@ -23,7 +23,8 @@ released-other t sid inode is = ap (λ b. elim b [ true ↦ released_tree t sid 
 
 module _ (t : Tree) (sid inode : ℕ) (is : is_sustained t sid inode ≡ true) where
   still_kept : (j : ℕ) → j ≢ inode → is_sustained (released_tree t sid inode) sid j ≡ is_sustained t sid j
-  still_kept j apart = ap is_some (get-remove_apart pair_key t.sustained (pair sid inode) (pair sid j) (λ same. apart (ap (λ (p : SustainedFile). p.inode) same)))
+  still_kept j apart = ap is_some (get-remove_apart pair_key t.sustained (pair sid inode) (pair sid j)
+      (λ same. apart (ap (λ (p : SustainedFile). p.inode) same)))
 
   node_alike : (j : ℕ) → get (retain_keys (λ i. not (is_sustained (released_tree t sid inode) sid i)) (remove t.nodes inode)) j
       ≡ get (retain_keys (λ i. not (is_sustained t sid i)) t.nodes) j
@@ -63,9 +64,11 @@ module _ (t : Tree) (sid inode : ℕ) (is : is_sustained t sid inode ≡ true) w
   without_session-released =
       ap (λ (u : Tree). without_session u sid) (released-kept t sid inode is)
       ∙ (λ i. record t {
-        nodes = same_maps (retain_keys (λ k. not (is_sustained (released_tree t sid inode) sid k)) (remove t.nodes inode)) (retain_keys (λ k. not (is_sustained t sid k)) t.nodes) node_alike i;
+        nodes = same_maps (retain_keys (λ k. not (is_sustained (released_tree t sid inode) sid k)) (remove t.nodes inode))
+            (retain_keys (λ k. not (is_sustained t sid k)) t.nodes) node_alike i;
         sessions = remove t.sessions sid;
-        sustained = same_maps (retain_keys (λ (q : SustainedFile). not (q.sid == sid)) (remove t.sustained (pair sid inode))) (retain_keys (λ (q : SustainedFile). not (q.sid == sid)) t.sustained) pair_alike i;
+        sustained = same_maps (retain_keys (λ (q : SustainedFile). not (q.sid == sid)) (remove t.sustained (pair sid inode)))
+            (retain_keys (λ (q : SustainedFile). not (q.sid == sid)) t.sustained) pair_alike i;
       })
 
 -- a session that keeps no file is only removed
@@ -75,7 +78,8 @@ without_session-alone t sid none = λ i. record t {
   nodes = same_maps (retain_keys (λ k. not (is_sustained t sid k)) t.nodes) t.nodes (λ j. get-retain_keys t.nodes (λ k. not (is_sustained t sid k)) j
       ∙ ap (λ b. cond (not b) (get t.nodes j) None) (none j)) i;
   sessions = remove t.sessions sid;
-  sustained = same_maps (retain_keys (λ (q : SustainedFile). not (q.sid == sid)) t.sustained) t.sustained (λ p. get-retain_keys t.sustained (λ q. not (q.sid == sid)) p ∙ by_sid p (p.sid == sid) refl) i;
+  sustained = same_maps (retain_keys (λ (q : SustainedFile). not (q.sid == sid)) t.sustained) t.sustained
+      (λ p. get-retain_keys t.sustained (λ q. not (q.sid == sid)) p ∙ by_sid p (p.sid == sid) refl) i;
 }
   where
     nothing : (o : Option (Unit {0})) → is_some o ≡ false → o ≡ None

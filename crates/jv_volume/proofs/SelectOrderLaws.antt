@@ -48,7 +48,8 @@ module _ {K X : Type 0} (order : KeyOrder K) (key_of : RowKey → Option K) (val
       → T (below_all order.cmp k (entries_selected key_of value_of es))
   below_selected q k is [] below = tt
   below_selected q k is (e ∷ es) below =
-      below_entry q k is e.0 e.1 (entries_selected key_of value_of es) (less_of (row_cmp q e.0) (first_of_both _ _ below)) (below_selected q k is es (second_of_both _ _ below)) (key_of e.0) refl
+      below_entry q k is e.0 e.1 (entries_selected key_of value_of es) (less_of (row_cmp q e.0) (first_of_both _ _ below))
+      (below_selected q k is es (second_of_both _ _ below)) (key_of e.0) refl
 
   put_first : (k : K) (x : X) (es : List (K × X)) → T (below_all order.cmp k es) → put order.cmp k x es ≡ (k, x) ∷ es
   put_first k x [] below = refl
@@ -74,7 +75,8 @@ module _ {K X : Type 0} (order : KeyOrder K) (key_of : RowKey → Option K) (val
   unfolding map_list
   listed [] sorted = refl
   listed (e ∷ es) sorted =
-      listed_entry e (entries_selected key_of value_of es) (key_of e.0) (listed es (second_of_both _ _ sorted)) (λ k is. below_selected e.0 k is es (first_of_both _ _ sorted))
+      listed_entry e (entries_selected key_of value_of es) (key_of e.0) (listed es (second_of_both _ _ sorted))
+      (λ k is. below_selected e.0 k is es (first_of_both _ _ sorted))
 
   -- the entries of the map are those of the rows, in the order of rows
   pub selected-list : (rows : Rows) → (selected {order = order} key_of value_of rows).list ≡ entries_selected key_of value_of rows.list

@@ -78,7 +78,8 @@ space_seen inode false false byte other row = refl
 
 -- the link count of an inode by the parents of directories
 abbrev links_by : (ℕ → Option ℕ) → Map entry_key ℕ → ℕ → ℕ
-links_by parents entries inode = (if is_some (parents inode) then 2 + sum_over (λ (key : EntryKey) named. if key.dir == inode && is_some (parents named) then 1 else 0) entries
+links_by parents entries inode = (if is_some (parents inode) then 2 + sum_over
+    (λ (key : EntryKey) named. if key.dir == inode && is_some (parents named) then 1 else 0) entries
     else sum_over (λ key named. if named == inode then 1 else 0) entries)
 
 module _ (bytes others : ℕ → ℕ → ℕ) (rows : Rows) where
@@ -117,11 +118,13 @@ module _ (bytes others : ℕ → ℕ → ℕ) (rows : Rows) where
 
   pub same_used_space : used_space (tree_of bytes rows) ≡ used_space (tree_of others rows)
   same_used_space =
-      sum-alike number_key node_space node_space (tree_of bytes rows).nodes (tree_of others rows).nodes (λ k. same_seen bytes others rows (option_map (node_space k)) (space_seen k) k)
+      sum-alike number_key node_space node_space (tree_of bytes rows).nodes (tree_of others rows).nodes
+      (λ k. same_seen bytes others rows (option_map (node_space k)) (space_seen k) k)
 
   pub same_used_inodes : used_inodes (tree_of bytes rows) ≡ used_inodes (tree_of others rows)
   same_used_inodes =
-      sum-alike number_key node_count node_count (tree_of bytes rows).nodes (tree_of others rows).nodes (λ k. same_seen bytes others rows (option_map (node_count k)) (λ file dir byte other row. refl) k)
+      sum-alike number_key node_count node_count (tree_of bytes rows).nodes (tree_of others rows).nodes
+      (λ k. same_seen bytes others rows (option_map (node_count k)) (λ file dir byte other row. refl) k)
 
   pub same_shape : shape_of (tree_of bytes rows) ≡ shape_of (tree_of others rows)
   same_shape = λ i. record {
@@ -138,10 +141,18 @@ module _ (bytes others : ℕ → ℕ → ℕ) (rows : Rows) where
   stored-again s = record {
     slice = s.slice;
     setting = s.setting ∙ ap (λ x. Some (Ok (OfSetting x))) same_setting;
-    counters = s.counters ∙ (λ i. Some (Ok (OfCounters (record { inode = same_next_inode i; slice = s.slice; session = same_next_session i; used_space = same_used_space i; used_inodes = same_used_inodes i }))));
+    counters = s.counters ∙ (λ i. Some (Ok (OfCounters (record {
+      inode = same_next_inode i;
+      slice = s.slice;
+      session = same_next_session i;
+      used_space = same_used_space i;
+      used_inodes = same_used_inodes i;
+    }))));
     node = λ inode. s.node inode ∙ ap (λ links. option_map (λ node. stored_node links node) (node_at (tree_of bytes rows) inode)) (same_link_count inode)
-        ∙ same_seen bytes others rows (option_map (stored_node (link_count (tree_of others rows) inode))) (cell_seen (link_count (tree_of others rows) inode)) inode;
-    edge = λ at. s.edge at ∙ (λ i. option_map (λ inode. Ok (OfEdge (record { kind = same_seen bytes others rows number_of_node number_seen inode i; inode = inode }))) (get (same_entries i) at));
+        ∙ same_seen bytes others rows (option_map (stored_node (link_count (tree_of others rows) inode)))
+        (cell_seen (link_count (tree_of others rows) inode)) inode;
+    edge = λ at. s.edge at ∙ (λ i. option_map (λ inode. Ok (OfEdge
+        (record { kind = same_seen bytes others rows number_of_node number_seen inode i; inode = inode }))) (get (same_entries i) at));
     session = λ sid. s.session sid ∙ ap (λ m. option_map (λ entry. Ok (OfSession (session_row entry))) (get m sid)) same_sessions;
     sustained = λ sid inode less. s.sustained sid inode less
         ∙ ap (λ m. option_map (λ unit. Ok OfSustained) (get m (record { sid = sid; inode = inode }))) same_sustained;
@@ -352,7 +363,13 @@ module _ (bytes : ℕ → ℕ → ℕ) (rows : Rows) (s : Stored rows (tree_of b
   pub found_counters : (counters : Counters) → counters_at rows ≡ Some counters → HasCounters (tree_of bytes rows) counters
   found_counters counters e =
       let is = some_is (sym (stored_counters rows (tree_of bytes rows) s) ∙ e) in
-      record { next_inode = ap (λ c. c.inode) is; next_session = ap (λ c. c.session) is; space = ap (λ c. c.used_space) is; inodes = ap (λ c. c.used_inodes) is }
+      record {
+        next_inode = ap (λ c. c.inode) is;
+        next_session = ap (λ c. c.session) is;
+        space = ap (λ c. c.used_space) is;
+        inodes = ap
+            (λ c. c.used_inodes) is;
+      }
 
   pub found_setting : (setting : Setting) → setting_at rows ≡ Some setting → (tree_of bytes rows).setting ≡ setting
   found_setting setting e = some_is (sym (stored_setting rows (tree_of bytes rows) s) ∙ e)

@@ -84,7 +84,12 @@ module _ (bytes : ℕ → ℕ → ℕ) (rows after : Rows) (u : Tree) (slice : �
       → IsNodeCell (link_count (tree_of bytes after) inode) (bytes inode) cell
   node_after inode cell e (NodeKept same links) = subst (λ l. IsNodeCell l (bytes inode) cell) (sym (links_are inode
       ∙ links)) (old.node inode cell (sym same ∙ e))
-  node_after inode cell e (NodePut row is row_is) = record { row = row; is = cc; row_is = subst (λ l. IsNodeRow l (bytes inode) row) (sym (links_are inode)) row_is }
+  node_after inode cell e (NodePut row is row_is) = record {
+    row = row;
+    is = cc;
+    row_is = subst (λ l. IsNodeRow l (bytes inode) row)
+        (sym (links_are inode)) row_is;
+  }
   node_after inode cell e (NodeGone gone) = absurd (cc)
 
   edge_after : (at : EntryKey) (cell : Cell) → get after (edge_key at.dir at.name) ≡ Some cell → EdgeGoes rows after t u at
@@ -113,7 +118,8 @@ module _ (bytes : ℕ → ℕ → ℕ) (rows after : Rows) (u : Tree) (slice : �
     node = λ inode cell e. node_after inode cell e (g.node inode);
     edge = λ at cell e. edge_after at cell e (g.edge at);
     session = λ sid cell e. cell_after (session_key sid) IsSessionCell cell e (old.session sid cell) (g.session sid);
-    sustained = λ sid inode less cell e. cell_after (sustained_key sid inode) IsSustainedCell cell e (old.sustained sid inode less cell) (g.sustained sid inode less);
+    sustained = λ sid inode less cell e. cell_after (sustained_key sid inode) IsSustainedCell cell e (old.sustained sid inode less cell)
+        (g.sustained sid inode less);
   })
 
 -- ---- what trees keep
@@ -245,8 +251,10 @@ stored-put_counters bytes rows c s space inodes =
 
 -- ---- a node that comes, and one that goes
 
-module _ (bytes : ℕ → ℕ → ℕ) (rows : Rows) (inode : ℕ) (row : NodeRow) (c : Counters) (next : ℕ) (s : Stored rows (tree_of bytes rows)) (counters : counters_at rows ≡ Some c)
-    (free : IsFree (tree_of bytes rows) inode) (new_row : IsNodeRow (if is_dir (form_of (Some (node_of (bytes inode) row))) then 2 else 0) (bytes inode) row) where
+module _ (bytes : ℕ → ℕ → ℕ) (rows : Rows) (inode : ℕ) (row : NodeRow) (c : Counters) (next : ℕ) (s : Stored rows (tree_of bytes rows))
+    (counters : counters_at rows ≡ Some c)
+    (free : IsFree (tree_of bytes rows) inode) (new_row : IsNodeRow (if is_dir (form_of (Some (node_of (bytes inode) row))) then 2 else 0)
+    (bytes inode) row) where
   abbrev new : Node
   new = node_of (bytes inode) row
 
@@ -295,7 +303,8 @@ module _ (bytes : ℕ → ℕ → ℕ) (rows : Rows) (inode : ℕ) (row : NodeRo
         ∙ ap (λ x. Some (Ok (OfCounters x))) (counters_as tree_with_node counters_with_node counts);
     node = λ k. elim (cases_eq k inode) [
       | inl same ↦ NodePut row (last_kept (node_key k) refl ∙ node_here rows inode node_cell k same)
-          (subst (λ i. IsNodeRow (link_count tree_with_node i) (bytes i) row) (sym same) (subst (λ l. IsNodeRow l (bytes inode) row) (sym (link_count-put_alone (tree_of bytes rows) inode new free)) new_row))
+          (subst (λ i. IsNodeRow (link_count tree_with_node i) (bytes i) row) (sym same)
+          (subst (λ l. IsNodeRow l (bytes inode) row) (sym (link_count-put_alone (tree_of bytes rows) inode new free)) new_row))
       | inr apart ↦ NodeKept (last_kept (node_key k) refl
           ∙ node_apart rows inode node_cell k apart) (link_count-put_unnamed (tree_of bytes rows) inode new k free.unnamed apart)
     ];
@@ -305,7 +314,8 @@ module _ (bytes : ℕ → ℕ → ℕ) (rows : Rows) (inode : ℕ) (row : NodeRo
     sustained = λ sid i less. CellKept (both_kept (sustained_key sid i) refl refl);
   })
 
-module _ (bytes : ℕ → ℕ → ℕ) (rows : Rows) (inode : ℕ) (row : NodeRow) (c : Counters) (s : Stored rows (tree_of bytes rows)) (counters : counters_at rows ≡ Some c)
+module _ (bytes : ℕ → ℕ → ℕ) (rows : Rows) (inode : ℕ) (row : NodeRow) (c : Counters) (s : Stored rows (tree_of bytes rows))
+    (counters : counters_at rows ≡ Some c)
     (here : node_row_at rows inode ≡ Some row) (unnamed : (at : EntryKey) → get (tree_of bytes rows).entries at ≢ Some inode) where
   abbrev gone : Node
   gone = node_of (bytes inode) row
@@ -354,7 +364,8 @@ module _ (bytes : ℕ → ℕ → ℕ) (rows : Rows) (inode : ℕ) (row : NodeRo
     node = λ k. elim (cases_eq k inode) [
       | inl same ↦ NodeGone (put_last (node_key k) refl ∙ ap (λ i. get (remove rows (node_key inode)) (node_key i)) same
           ∙ get-removed row_key rows (node_key inode))
-      | inr apart ↦ NodeKept (put_last (node_key k) refl ∙ get-remove_apart row_key rows (node_key inode) (node_key k) (λ same. apart (ap (λ (q : RowKey). q.a) same)))
+      | inr apart ↦ NodeKept (put_last (node_key k) refl ∙ get-remove_apart row_key rows (node_key inode) (node_key k)
+          (λ same. apart (ap (λ (q : RowKey). q.a) same)))
           (link_count-drop_unnamed (tree_of bytes rows) inode k unnamed apart)
     ];
     edge = λ at. EdgeKept (other_kept (edge_key at.dir at.name) refl refl)
@@ -365,7 +376,8 @@ module _ (bytes : ℕ → ℕ → ℕ) (rows : Rows) (inode : ℕ) (row : NodeRo
 
 -- ---- a node that takes another space, as a file of another length
 
-module _ (bytes : ℕ → ℕ → ℕ) (rows : Rows) (inode : ℕ) (row new_row : NodeRow) (c : Counters) (space : ℕ) (s : Stored rows (tree_of bytes rows)) (counters : counters_at rows ≡ Some c)
+module _ (bytes : ℕ → ℕ → ℕ) (rows : Rows) (inode : ℕ) (row new_row : NodeRow) (c : Counters) (space : ℕ) (s : Stored rows (tree_of bytes rows))
+    (counters : counters_at rows ≡ Some c)
     (here : node_row_at rows inode ≡ Some row) (is_row : IsNodeRow row.nlink (bytes inode) new_row) (same_kind : new_row.kind ≡ row.kind)
     (space_is : space + node_space inode (node_of (bytes inode) row) ≡ c.used_space + node_space inode (node_of (bytes inode) new_row)) where
   abbrev then_node : Node

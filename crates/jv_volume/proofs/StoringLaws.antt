@@ -53,18 +53,22 @@ module _ (bytes : ℕ → ℕ → ℕ) (rows : Rows) where
   node_here inode None e h = refl
   node_here inode (Some cell) e h =
       let c = h cell refl in
-      let goes : Some (Ok (OfNode c.row)) ≡ option_map (λ node. Ok (OfNode (node_row (link_count of_rows inode) node))) (option_map (node_of (bytes inode)) (node_in (row_in (Some (Ok (OfNode c.row)))))) =
+      let goes : Some (Ok (OfNode c.row)) ≡ option_map (λ node. Ok (OfNode (node_row (link_count of_rows inode) node)))
+      (option_map (node_of (bytes inode)) (node_in (row_in (Some (Ok (OfNode c.row)))))) =
       ap (λ row. Some (Ok (OfNode row))) c.row_is in
-      subst (λ x. Some x ≡ option_map (λ node. Ok (OfNode (node_row (link_count of_rows inode) node))) (option_map (node_of (bytes inode)) (node_in (row_in (Some x))))) (sym c.is) goes
+      subst (λ x. Some x ≡ option_map (λ node. Ok (OfNode (node_row (link_count of_rows inode) node)))
+      (option_map (node_of (bytes inode)) (node_in (row_in (Some x))))) (sym c.is) goes
 
   edge_here : (o : Option Cell) → ((cell : Cell) → o ≡ Some cell → IsEdgeCell of_rows cell)
       → o ≡ option_map (λ inode. Ok (OfEdge (edge_row of_rows inode))) (option_map (λ edge. edge.inode) (edge_in (row_in o)))
   edge_here None h = refl
   edge_here (Some cell) h =
       let c = h cell refl in
-      let goes : Some (Ok (OfEdge c.edge)) ≡ option_map (λ inode. Ok (OfEdge (edge_row of_rows inode))) (option_map (λ edge. edge.inode) (edge_in (row_in (Some (Ok (OfEdge c.edge)))))) =
+      let goes : Some (Ok (OfEdge c.edge)) ≡ option_map (λ inode. Ok (OfEdge (edge_row of_rows inode)))
+      (option_map (λ edge. edge.inode) (edge_in (row_in (Some (Ok (OfEdge c.edge)))))) =
       ap (λ kind. Some (Ok (OfEdge (record { kind = kind; inode = c.edge.inode })))) c.kind in
-      subst (λ x. Some x ≡ option_map (λ inode. Ok (OfEdge (edge_row of_rows inode))) (option_map (λ edge. edge.inode) (edge_in (row_in (Some x))))) (sym c.is) goes
+      subst (λ x. Some x ≡ option_map (λ inode. Ok (OfEdge (edge_row of_rows inode))) (option_map (λ edge. edge.inode) (edge_in (row_in (Some x)))))
+      (sym c.is) goes
 
   session_here : (o : Option Cell) → ((cell : Cell) → o ≡ Some cell → IsSessionCell cell)
       → o ≡ option_map (λ entry. Ok (OfSession (session_row entry))) (option_map session_of (session_in (row_in o)))

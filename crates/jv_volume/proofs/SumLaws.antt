@@ -66,7 +66,8 @@ module _ (f : ℕ → Node → ℕ) (by_space : BySpace f) where
   sum-drop_node t inode node there = sum-gone number_key f t.nodes inode node there
 
   pub sum-move_in : (t : Tree) (now : ℕ) (place : EntryKey) (inode : ℕ) → sum_of (move_in t now place inode) ≡ sum_of t
-  sum-move_in t now place inode = sum-change_node (put_entry t now place inode) inode (moved_node now place.dir) (λ node. same_space_under place.dir node.kind) ∙ sum-put_entry t now place inode
+  sum-move_in t now place inode = sum-change_node (put_entry t now place inode) inode (moved_node now place.dir)
+      (λ node. same_space_under place.dir node.kind) ∙ sum-put_entry t now place inode
 
   pub sum-moved : (t : Tree) (now : ℕ) (from : EntryKey) (inode : ℕ) (to : EntryKey) → sum_of (moved t now from inode to) ≡ sum_of t
   sum-moved t now from inode to = sum-move_in (take_entry t now from) now to inode ∙ sum-take_entry t now from

@@ -102,7 +102,8 @@ module _ (spelled : ℕ → List ℕ) (read : List ℕ → ℕ) (limit : ℕ) (b
   pair_here : (sid inode : ℕ) → inode < limit → pair_by (key_by sid inode) ≡ Some (record { sid = sid; inode = inode })
   pair_here sid inode less =
       let same : read (spelled inode) ≡ inode = again inode less in
-      ap (λ b. cond b (Some (record { sid = sid; inode = read (spelled inode) })) None) ((bytes_decides (spelled (read (spelled inode))) (spelled inode)).1 (ap spelled same))
+      ap (λ b. cond b (Some (record { sid = sid; inode = read (spelled inode) })) None)
+      ((bytes_decides (spelled (read (spelled inode))) (spelled inode)).1 (ap spelled same))
       ∙ ap (λ n. Some (record { sid = sid; inode = n })) same
 
   pair_back : (q : RowKey) (pair : SustainedFile) → place_by pair ≡ Some q → pair_by q ≡ Some pair
