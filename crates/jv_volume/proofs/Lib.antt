@@ -23,3 +23,4 @@ pub mod ReleaseLaws
 pub mod QuietLaws
 pub mod SeenLaws
 pub mod FilesLaws
+pub mod WholeLaws
