@@ -24,3 +24,4 @@ pub mod QuietLaws
 pub mod SeenLaws
 pub mod FilesLaws
 pub mod WholeLaws
+pub mod FileStepLaws
