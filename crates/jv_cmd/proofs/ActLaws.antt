@@ -7,27 +7,24 @@ use Rattle.jv_model.specs.declared.act.Act.{Act}
 use Rattle.jv_model.specs.declared.op.Line.{Line}
 use Rattle.jv_model.specs.journal.Legal.{Allowed, AllAllowed, OfLine, OfWorker}
 use Rattle.jv_model.specs.journal.Past.{Past, NoMore, is_workers, begun_to, advance, past}
-use Rattle.jv_laws.proofs.JournalGrowthLaws.{advanced, begun_to-begun}
+use Rattle.jv_laws.proofs.JournalGrowthLaws.{line_of_advance, begun_to-begun}
 use Rattle.jv_cmd.specs.Run.{up_to}
 use Rattle.jv_cmd.specs.Steps.{AreBetween}
 use Rattle.jv_cmd.proofs.StepLaws.{low}
-
-line-advance : (p : Past) (act : Act) → Allowed (begun_to act.line p) act → (advance p act).line ≡ act.line
-line-advance p act allowed = (advanced p act).line ∙ allowed.line
 
 -- the lines of entries that are allowed never fall
 rises : (p : Past) (acts : List Act) → AllAllowed p acts → p.line ≤ (past p acts).line
 rises p [] allowed = omega arith
 rises p (act ∷ acts) allowed =
     let later = rises (advance p act) acts allowed.1 in
-    let here = line-advance p act allowed.0 in
+    let here = line_of_advance p act allowed.0 in
     let below = low act.line p allowed.0.line in
     omega (arith, later, here, below)
 
 between : (p : Past) (acts : List Act) (n high : ℕ) → AllAllowed p acts → n ≤ p.line → (past p acts).line ≤ high → AreBetween n high acts
 between p [] n high allowed above below = tt
 between p (act ∷ acts) n high allowed above below =
-    let here = line-advance p act allowed.0 in
+    let here = line_of_advance p act allowed.0 in
     let before = low act.line p allowed.0.line in
     let after = rises (advance p act) acts allowed.1 in
     (omega (arith, above, before), omega (arith, here, after, below), between (advance p act) acts n high allowed.1 (omega (arith, above, before, here)) below)
@@ -48,7 +45,7 @@ AreBetween-own n p (act ∷ acts) here none alone allowed end =
       | inl e ↦ absurd (not_present p act none alone allowed.0 e)
       | inr apart ↦ let below = low act.line p allowed.0.line in omega (arith, here, apart, below)
     ] in
-    let next = line-advance p act allowed.0 in
+    let next = line_of_advance p act allowed.0 in
     let rest = rises (advance p act) acts allowed.1 in
     (later, omega (arith, next, rest, last), between (advance p act) acts (n + 1) (n + 1) allowed.1 (omega (arith, later, next)) last)
 

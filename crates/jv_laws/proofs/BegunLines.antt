@@ -1,5 +1,6 @@
 -- The next line, begun, where the line before has all its entries: what the line may have, by its form.
-use Rattle.std.proofs.Common.{◌≡◌, ℕ, ◌+◌, Bool, true, false, ◌&&◌, if◌then◌else◌, List, [], ◌∷◌, ◌++◌, None, Some, refl, sym, ap, ap₂, subst, ◌∙◌, codes}
+use Rattle.std.proofs.Common.{◌≡◌, ℕ, ◌+◌, Bool, true, false, if◌then◌else◌, List, [], ◌∷◌, ◌++◌, None, Some, refl, sym, ap, subst, ◌∙◌, codes}
+use Rattle.std.proofs.lemmas.Bool.{and_from}
 use Rattle.jv_model.specs.declared.fault.Fault.{Fault}
 use Rattle.jv_model.specs.declared.op.Op.{Op}
 use Rattle.jv_model.specs.declared.op.Line.{Line}
@@ -38,9 +39,6 @@ begun_line : (p : Past) (number : ℕ) (line : Line) (more : List Line) → p.li
 unfolding begin_next
 begun_line p number line more next rest = begun_to-next number p next ∙ ap (λ r. begin_from r p) rest
 
-complete_then : (a b : Bool) → a ≡ true → b ≡ true → (a && b) ≡ true
-complete_then a b e f = ap₂ (λ x y. x && y) e f
-
 begun_as : (p : Past) (number : ℕ) (line : Line) (more : List Line) (due : Due) (said : List ℕ) (state : State) → p.line + 1 ≡ number → IsNext p line more → begun (turned p more) line ≡ begins p more due said state
     → IsBegun p more due said state (begun_to number p)
 begun_as p number line more due said state next h e = subst (IsBegun p more due said state) (sym (begun_line p number line more next h.rest ∙ e)) (record {
@@ -48,7 +46,7 @@ begun_as p number line more due said state next h e = subst (IsBegun p more due 
   run = refl;
   rest = refl;
   printed = refl;
-  complete = complete_then p.complete (is_over p) h.complete h.over;
+  complete = and_from p.complete (is_over p) h.complete h.over;
   at = refl;
   ticks = refl;
   asked = refl;

@@ -1,5 +1,6 @@
 -- Where a line may end, and where the run may stop on it; a line's entries, after those of the lines before it.
-use Rattle.std.proofs.Common.{◌≡◌, ℕ, ◌+◌, ◌≤◌, Bool, true, false, ◌||◌, not, List, [], ◌∷◌, ◌++◌, length, refl, sym, ap, subst, ◌∙◌, arith}
+use Rattle.std.proofs.Common.{◌≡◌, ℕ, ◌+◌, ◌≤◌, true, false, ◌||◌, not, List, [], ◌∷◌, ◌++◌, length, refl, sym, ap, subst, ◌∙◌, arith}
+use Rattle.std.proofs.lemmas.Bool.{or_right}
 use Rattle.jv_model.specs.declared.act.Act.{Act}
 use Rattle.jv_model.specs.declared.op.Line.{Line}
 use Rattle.jv_model.specs.journal.State.{State}
@@ -61,12 +62,8 @@ stop_at q (DrainEntries client) h = refl
 pub stops : (q : Past) (due : Due) → q.due ≡ due → MayStop due q → may_stop q ≡ true
 stops q due e h = ap (λ d. may_stop (record q { due = d })) e ∙ stop_at q due h
 
-or_true : (b : Bool) → (b || true) ≡ true
-or_true true = refl
-or_true false = refl
-
 pub may_be_cut_at : (q : Past) (due : Due) → q.due ≡ due → MayStop due q → (is_over q || may_stop q) ≡ true
-may_be_cut_at q due e h = ap (λ b. is_over q || b) (stops q due e h) ∙ or_true (is_over q)
+may_be_cut_at q due e h = or_right (is_over q) (may_stop q) (stops q due e h)
 
 -- entries of the next line, on the past before it was begun
 

@@ -1,5 +1,6 @@
 -- An operation is answered as the tree answers its transaction.
-use Rattle.std.proofs.Common.{◌≡◌, ℕ, zero, suc, ◌-◌, ◌<◌, Bool, true, false, ◌&&◌, not, ◌==◌, if◌then◌else◌, IsTrue, MatchBool, inl, inr, List, [], ◌∷◌, ◌++◌, Option, None, Some, refl, sym, ap, subst, ◌∙◌, arith}
+use Rattle.std.proofs.Common.{◌≡◌, ℕ, zero, suc, ◌-◌, ◌<◌, Bool, true, false, not, ◌==◌, IsTrue, MatchBool, inl, inr, List, [], ◌∷◌, ◌++◌, Option, None, Some, refl, sym, ap, subst, ◌∙◌, arith}
+use Rattle.std.proofs.lemmas.Bool.{and_left, and_right}
 use Rattle.std.specs.List.{AllByRecursion}
 use Rattle.std.proofs.lemmas.Bool.Decides.{leb_tells}
 use Rattle.jv_model.specs.declared.act.TheConstants.{NO_CLIENT}
@@ -18,7 +19,9 @@ use Rattle.jv_model.specs.journal.Past.{Past, Due, NoMore, Refusal, MayLack, ToA
 use Rattle.jv_model.specs.journal.Legal.{Allowed, AllAllowed, Refuses as RefusesSubmission, LacksMemory as RefusalLacks, OfClient, OfLine, OfWorker}
 use Rattle.jv_laws.specs.Laws.{AnswersModel, AnswersAsTree, is_transaction}
 use Rattle.jv_laws.proofs.JournalGrowthLaws.{AllAllowed-parts, past-append, own_client, others_kept, turned_begin_next, begun_to-begun}
+use Rattle.jv_laws.proofs.JournalStates.{of_kind}
 use Rattle.jv_laws.proofs.JournalDoingLaws.{doing_given}
+use Rattle.jv_laws.proofs.JournalLineLaws.{due_at_worker, due_at_own}
 
 -- an operation whose answer is settled
 
@@ -120,17 +123,9 @@ not_over : (p : Past) (client : ℕ) (d : Doing) (r : Reply) (due : Due) → IsO
 not_over p client d r due (Answering e) busy = ap (λ x. is_over (record p { due = x })) e
 not_over p client d r due (Stepping e) busy = ap (λ x. is_over (record p { due = x })) e ∙ not_over_if p client d r (p.state.clients client).doing busy
 
-both_false : (a b : Bool) → b ≡ false → (a && b) ≡ false
-both_false true b e = e
-both_false false b e = refl
-
-first_false : (a b : Bool) → a ≡ false → (a && b) ≡ false
-first_false true b e = absurd (cc)
-first_false false b e = refl
-
 incomplete_by : (n : ℕ) (p : Past) → is_over p ≡ false → (begun_by (suc n) p).complete ≡ false
-incomplete_by zero p e = (turned_begin_next p).complete ∙ both_false p.complete (is_over p) e
-incomplete_by (suc n) p e = (turned_begin_next (begun_by (suc n) p)).complete ∙ first_false (begun_by (suc n) p).complete (is_over (begun_by (suc n) p)) (incomplete_by n p e)
+incomplete_by zero p e = (turned_begin_next p).complete ∙ and_right p.complete (is_over p) e
+incomplete_by (suc n) p e = (turned_begin_next (begun_by (suc n) p)).complete ∙ and_left (begun_by (suc n) p).complete (is_over (begun_by (suc n) p)) (incomplete_by n p e)
 
 incomplete_next : (k : ℕ) (p : Past) → 0 < k → is_over p ≡ false → (begun_by k p).complete ≡ false
 incomplete_next zero p h e = absurd (omega arith)
@@ -149,18 +144,6 @@ stays_on_line p client d r act w may = elim (leb_tells act.line p.line) [
 
 -- an entry of nobody's, by an uploading thread
 
-due_of_worker : (p q : Past) (act : Act) (asked : ℕ) (worker : Bool) → worker ≡ true → (if worker then p else record q { asked = asked }).due ≡ p.due
-due_of_worker p q act asked true e = refl
-due_of_worker p q act asked false e = absurd (cc)
-
-due_after_worker : (p : Past) (act : Act) → is_workers p ≡ true → (after p act).due ≡ p.due
-unfolding after
-due_after_worker p act e = due_of_worker p (lined p act act.kind) act _ (is_workers p) e
-
-due_of_other : (p q : Past) (asked : ℕ) (worker : Bool) → worker ≡ false → (if worker then p else record q { asked = asked }).due ≡ q.due
-due_of_other p q asked true e = absurd (cc)
-due_of_other p q asked false e = refl
-
 due_transaction : (p : Past) (act : Act) (kind : ActKind) → IsTrue (is_transaction kind) → (lined p act kind).due ≡ requested p.due
 due_transaction p act (Mounted sid) h = refl
 due_transaction p act Meta h = refl
@@ -168,8 +151,7 @@ due_transaction p act (Opened handle inode) h = refl
 due_transaction p act _ h = absurd (cc)
 
 due_after_transaction : (p : Past) (act : Act) → is_workers p ≡ false → IsTrue (is_transaction act.kind) → (after p act).due ≡ requested p.due
-unfolding after
-due_after_transaction p act e h = due_of_other p (lined p act act.kind) _ (is_workers p) e ∙ due_transaction p act act.kind h
+due_after_transaction p act e h = due_at_own p act e ∙ due_transaction p act act.kind h
 
 -- whose an entry of the present line is
 line_client : (p : Past) (act : Act) (client : ℕ) (due : Due) → IsOnLine client due → OfLine p act due → (begins : Bool) × OfClient p act client begins
@@ -183,7 +165,7 @@ worker_only p act client false on other h = absurd (other (line_client p act cli
 waits_here : (p : Past) (client : ℕ) (d : Doing) (r : Reply) (act : Act) → Waits p client d r → (act.client ≡ client → ⊥) → is_workers p ≡ true → Waits (after p act) client d r
 unfolding after
 waits_here p client d r act w other worker = record {
-  on_line = subst (IsOnLine client) (sym (due_after_worker p act worker)) w.on_line;
+  on_line = subst (IsOnLine client) (sym (due_at_worker p act worker)) w.on_line;
   busy = ap (λ (c : ModelClient). c.doing) (others_kept p.state act client (λ e. other (sym e))) ∙ w.busy;
 }
 
@@ -250,9 +232,6 @@ transaction_step s act d _ t e = absurd (cc)
 transaction_of : (s : State) (act : Act) (o : Option Doing) (d : Doing) → (s.clients act.client).doing ≡ Some d → o ≡ Some d → IsTrue (is_transaction act.kind) → ((of_doing s act o).clients act.client).doing ≡ Some (settled_doing d (transacted s act.client act.at d.op).reply)
 transaction_of s act None d e is t = absurd (cc)
 transaction_of s act (Some x) d e is t = let same : x ≡ d = cc in subst (λ y. ((after_step s act y act.kind).clients act.client).doing ≡ Some (settled_doing d (transacted s act.client act.at d.op).reply)) (sym same) (transaction_step s act d act.kind t e)
-
-abbrev of_kind : Act → ActKind → Act
-of_kind act kind = record act { kind = kind }
 
 transaction_effect : (s : State) (act : Act) (kind : ActKind) (d : Doing) → (s.clients act.client).doing ≡ Some d → IsTrue (is_transaction kind) → ((effect s (of_kind act kind)).clients act.client).doing ≡ Some (settled_doing d (transacted s act.client act.at d.op).reply)
 transaction_effect s act (Mounted sid) d e t = transaction_of s (of_kind act (Mounted sid)) (s.clients act.client).doing d e e t

@@ -1,5 +1,6 @@
 -- What a cleaning names is gone.
-use Rattle.std.proofs.Common.{◌≡◌, ℕ, ◌+◌, ◌≤◌, Bool, true, false, ◌&&◌, ◌||◌, not, ◌==◌, nat_le, if◌then◌else◌, IsTrue, IsSomeAnd, IfSome, inl, inr, List, [], ◌∷◌, ◌++◌, length, Option, None, Some, refl, sym, ap, subst, ◌∙◌, arith, length-append}
+use Rattle.std.proofs.Common.{◌≡◌, ℕ, ◌+◌, ◌≤◌, Bool, true, false, ◌&&◌, not, ◌==◌, nat_le, if◌then◌else◌, IsTrue, IsSomeAnd, IfSome, inl, inr, List, [], ◌∷◌, ◌++◌, length, Option, None, Some, refl, sym, ap, subst, ◌∙◌, arith, length-append}
+use Rattle.std.proofs.lemmas.Bool.{and_parts, or_left, or_right}
 use Rattle.std.specs.Option.{option_map}
 use Rattle.std.proofs.lemmas.Bool.Decides.{nat_tests, leb_tells}
 use Rattle.jv_model.specs.declared.act.Act.{Act}
@@ -18,18 +19,10 @@ use Rattle.jv_model.specs.journal.Looks.{entry_at}
 use Rattle.jv_laws.specs.Laws.{ExpiresOnlyGone, IsExpired, DropsOnlyGone}
 use Rattle.jv_model.proofs.FiniteMapLaws.{first_where-found}
 use Rattle.jv_laws.proofs.JournalGrowthLaws.{AllAllowed-parts}
-use Rattle.jv_laws.proofs.JournalStates.{Entry, Steps, RefusedSubmission, LacksMemory, Crashes, Publishes, OfDrain, Ticks, entry_of, entry_before, entry_last, entry_within, none_entered, holds_on}
+use Rattle.jv_laws.proofs.JournalStates.{Entry, Steps, RefusedSubmission, LacksMemory, Crashes, Publishes, OfDrain, Ticks, entry_of, entry_before, entry_last, entry_within, none_entered, holds_on, of_kind}
 use Rattle.jv_laws.proofs.JournalOwedLaws.{is_of_operation, has_operation}
 
 -- sessions
-
-and_left : (a b : Bool) → (a && b) ≡ true → a ≡ true
-and_left true b h = refl
-and_left false b h = absurd (cc)
-
-and_right : (a b : Bool) → (a && b) ≡ true → b ≡ true
-and_right true b h = h
-and_right false b h = absurd (cc)
 
 abbrev is_due : ℕ → ℕ → ℕ → SessionEntry → Bool
 is_due cleaner now sid entry = not (sid == cleaner) && nat_le entry.expiry now
@@ -39,8 +32,8 @@ expired_of t cleaner now sid None e h = absurd (cc)
 expired_of t cleaner now sid (Some found) e h =
     let f = first_where-found number_key (is_due cleaner now) t.sessions found e in
     let same : found.0 ≡ sid = cc in
-    let other = and_left (not (found.0 == cleaner)) (nat_le found.1.expiry now) f.passes in
-    let past = and_right (not (found.0 == cleaner)) (nat_le found.1.expiry now) f.passes in
+    let other = (and_parts (not (found.0 == cleaner)) (nat_le found.1.expiry now) f.passes).0 in
+    let past = (and_parts (not (found.0 == cleaner)) (nat_le found.1.expiry now) f.passes).1 in
     let late : found.1.expiry ≤ now = grind (arith, nat_tests) in
     subst (IsExpired t cleaner now) same (record { other = λ at. grind (arith, nat_tests); entry = subst (λ x. IsSomeAnd x (λ (s : SessionEntry). s.expiry ≤ now)) (sym f.there) late })
 
@@ -80,16 +73,8 @@ record Grows (kind : ActKind) (before after : List ℕ) : Type 0 where
 same_grows : (kind : ActKind) (xs : List ℕ) → ((inode : ℕ) → kind ≡ Cleaned 8 inode → ⊥) → Grows kind xs xs
 same_grows kind xs none = record { old = λ inode h. h; new = λ inode k. absurd (none inode k) }
 
-or_right : (a b : Bool) → IsTrue b → IsTrue (a || b)
-or_right true b h = refl
-or_right false b h = h
-
-or_first : (a b : Bool) → a ≡ true → IsTrue (a || b)
-or_first true b h = refl
-or_first false b h = absurd (cc)
-
 cleaned_grows : (table key : ℕ) (xs : List ℕ) (b : Bool) → (table == 8) ≡ b → Grows (Cleaned table key) xs (if b then key ∷ xs else xs)
-cleaned_grows table key xs true e = record { old = λ inode h. or_right (key == inode) (is_among inode xs) h; new = λ inode k. (let same : key ≡ inode = cc in or_first (key == inode) (is_among inode xs) (grind (arith, nat_tests))) }
+cleaned_grows table key xs true e = record { old = λ inode h. or_right (key == inode) (is_among inode xs) h; new = λ inode k. (let same : key ≡ inode = cc in or_left (key == inode) (is_among inode xs) (grind (arith, nat_tests))) }
 cleaned_grows table key xs false e = record { old = λ inode h. h; new = λ inode k. (let same : table ≡ 8 = cc in absurd (grind (arith, nat_tests))) }
 
 grows_step : (s : State) (act : Act) (d : Doing) (kind : ActKind) → Grows kind s.dropped (after_step s act d kind).dropped
@@ -104,9 +89,6 @@ grows_other s kind h = same_grows kind s.dropped (λ inode k. cc)
 grows_doing : (s : State) (act : Act) (o : Option Doing) → (o ≡ None → is_of_operation act.kind ≡ false) → Grows act.kind s.dropped (of_doing s act o).dropped
 grows_doing s act None h = grows_other s act.kind (h refl)
 grows_doing s act (Some d) h = grows_step s act d act.kind
-
-abbrev of_kind : Act → ActKind → Act
-of_kind act kind = record act { kind = kind }
 
 grows_changed : (s : State) (act : Act) (kind : ActKind) → ((s.clients act.client).doing ≡ None → is_of_operation kind ≡ false) → Grows kind s.dropped (changed s (of_kind act kind) kind).dropped
 grows_changed s act Crashed h = same_grows Crashed s.dropped (λ inode k. cc)

@@ -1,5 +1,6 @@
 -- What a write that is done wrote is committed before a close of the file is done.
 use Rattle.std.proofs.Common.{◌≡◌, ℕ, zero, suc, ◌+◌, ◌≤◌, ◌<◌, Bool, true, false, ◌&&◌, ◌||◌, not, ◌==◌, nat_lt, nat_le, if◌then◌else◌, IsTrue, IsSomeAnd, ◌⊎◌, inl, inr, List, [], ◌∷◌, ◌++◌, length, Option, None, Some, refl, sym, ap, subst, ◌∙◌, arith, append_assoc}
+use Rattle.std.proofs.lemmas.Bool.{or_left, or_right}
 use Rattle.std.proofs.lemmas.List.{append-nil}
 use Rattle.std.proofs.lemmas.Bool.Decides.{nat_tests, eqb_tells}
 use Rattle.jv_model.specs.declared.act.TheConstants.{NO_CLIENT}
@@ -25,7 +26,7 @@ use Rattle.jv_model.specs.journal.Legal.{Allowed, AllAllowed}
 use Rattle.jv_model.specs.journal.Looks.{entry_at}
 use Rattle.jv_laws.specs.Laws.{AnswersWrite, ClosesCommitWrites, ResolvesWrite, commits_position, loses_pending, is_fine_answer, HasCommitted}
 use Rattle.jv_laws.proofs.JournalGrowthLaws.{AllAllowed-append, AllAllowed-parts, own_client, others_kept}
-use Rattle.jv_laws.proofs.JournalStates.{entry_of, keeps_begun_to, reached-more, state-more, run_reached}
+use Rattle.jv_laws.proofs.JournalStates.{entry_of, keeps_begun_to, reached-more, state-more, run_reached, of_kind}
 use Rattle.jv_laws.proofs.JournalLooksLaws.{stage_files, transaction_files}
 use Rattle.jv_laws.proofs.JournalDoingLaws.{sound, fine_committed, nothing_pending}
 
@@ -58,22 +59,14 @@ module _ (i q : ℕ) where
   stands_here : (byte : ℕ) → IsTrue (stands_at i q (record { inode = i; position = q; byte = byte }))
   stands_here byte = grind (arith, nat_tests)
 
-  or_first : (a b : Bool) → IsTrue a → IsTrue (a || b)
-  or_first true b h = refl
-  or_first false b h = cc
-
-  or_second : (a b : Bool) → IsTrue b → IsTrue (a || b)
-  or_second true b h = refl
-  or_second false b h = h
-
   set_here_branch : (byte : ℕ) (b : PendingByte) (bs more : List PendingByte) (at before : Bool) → IsTrue (has_place i q more)
       → IsTrue (has_place i q (if at then record { inode = i; position = q; byte = byte } ∷ bs else if before then record { inode = i; position = q; byte = byte } ∷ b ∷ bs else b ∷ more))
-  set_here_branch byte b bs more true before h = or_first _ (has_place i q bs) (stands_here byte)
-  set_here_branch byte b bs more false true h = or_first _ (has_place i q (b ∷ bs)) (stands_here byte)
-  set_here_branch byte b bs more false false h = or_second (stands_at i q b) (has_place i q more) h
+  set_here_branch byte b bs more true before h = or_left _ (has_place i q bs) (stands_here byte)
+  set_here_branch byte b bs more false true h = or_left _ (has_place i q (b ∷ bs)) (stands_here byte)
+  set_here_branch byte b bs more false false h = or_right (stands_at i q b) (has_place i q more) h
 
   set_here : (byte : ℕ) (bs : List PendingByte) → IsTrue (has_place i q (byte_set i q byte bs))
-  set_here byte [] = or_first _ false (stands_here byte)
+  set_here byte [] = or_left _ false (stands_here byte)
   set_here byte (b ∷ bs) = set_here_branch byte b bs (byte_set i q byte bs) (stands_at i q b) (comes_before i q b) (set_here byte bs)
 
   written_keeps : (inode from : ℕ) (bytes : List ℕ) (bs : List PendingByte) → IsTrue (has_place i q bs) → IsTrue (has_place i q (written inode from bytes bs))
@@ -225,9 +218,6 @@ module _ (i q : ℕ) where
   doing_kept : (s : State) (act : Act) (o : Option Doing) → HasByte (s.clients act.client).pending → Kept act.kind ((of_doing s act o).clients act.client)
   doing_kept s act None h = other_kept s act.client act.kind h
   doing_kept s act (Some d) h = step_kept s act d act.kind h
-
-  abbrev of_kind : Act → ActKind → Act
-  of_kind act kind = record act { kind = kind }
 
   changed_kept : (s : State) (act : Act) (kind : ActKind) → ((d : Doing) → (s.clients act.client).doing ≡ Some d → IsTrue (is_fine_answer kind) → d.op ≡ op.Umount → (s.clients act.client).pending ≡ [])
       → HasByte (s.clients act.client).pending → Kept kind ((changed s (of_kind act kind) kind).clients act.client)

@@ -1,5 +1,7 @@
 -- What an operation in progress has committed, and what is pending where it is answered.
 use Rattle.std.proofs.Common.{◌≡◌, ℕ, ◌+◌, ◌-◌, Bool, true, false, ◌&&◌, ◌||◌, not, ◌==◌, nat_le, if◌then◌else◌, IsTrue, MatchBool, inl, inr, List, [], ◌∷◌, ◌++◌, map, is_some, min, Option, None, Some, Result, Ok, Err, refl, sym, ap, subst, ◌∙◌}
+use Rattle.std.proofs.Math.Bool.{or-false}
+use Rattle.std.proofs.lemmas.Bool.{and_parts, or_left}
 use Rattle.std.specs.List.{AllByRecursion}
 use Rattle.std.proofs.lemmas.Bool.Decides.{eqb_tells}
 use Rattle.jv_model.specs.declared.act.TheConstants.{NO_CLIENT}
@@ -40,26 +42,10 @@ use Rattle.jv_model.specs.journal.Past.{Setup, Past, at_start, begun_to, reached
 use Rattle.jv_model.specs.journal.Legal.{Allowed, AllAllowed, Refuses as RefusesSubmission, LacksMemory as RefusalLacks}
 use Rattle.jv_laws.specs.Laws.{NothingPending, HasCommitted, flushed_handles, is_fine_answer}
 use Rattle.jv_laws.proofs.JournalGrowthLaws.{AllAllowed-parts, own_client, others_kept}
-use Rattle.jv_laws.proofs.JournalStates.{Entry, Steps, RefusedSubmission, LacksMemory, Crashes, Publishes, OfDrain, Ticks, entry_of, holds_on}
+use Rattle.jv_laws.proofs.JournalStates.{Entry, Steps, RefusedSubmission, LacksMemory, Crashes, Publishes, OfDrain, Ticks, entry_of, holds_on, of_kind}
 pub use Rattle.jv_model.proofs.ClientsLaws.{doing_given}
 
 -- tests
-
-pub and_first : (a b : Bool) → IsTrue (a && b) → IsTrue a
-and_first true b h = refl
-and_first false b h = absurd (cc)
-
-pub and_second : (a b : Bool) → IsTrue (a && b) → IsTrue b
-and_second true b h = h
-and_second false b h = absurd (cc)
-
-or_more : (a b : Bool) → IsTrue a → IsTrue (a || b)
-or_more true b h = refl
-or_more false b h = absurd (cc)
-
-or_left : (a : Bool) → IsTrue (a || false) → IsTrue a
-or_left true h = refl
-or_left false h = absurd (cc)
 
 -- a stage, with what its operation does, and whether all that had to be committed is
 
@@ -214,10 +200,10 @@ abbrev with_doing_stage : Doing → Stage → Doing
 with_doing_stage d stage = record d { stage = stage }
 
 ready_flushed : (c : ModelClient) (d : Doing) → IsTrue (is_ready c d) → IsTrue (is_flushed d.flush c.pending)
-ready_flushed c d h = and_second _ _ h
+ready_flushed c d h = (and_parts _ _ h).1
 
 reading_flushed : (c : ModelClient) (d : Doing) (stage : Stage) → StageOk d.does (is_flushed d.flush c.pending) stage → IsTrue (may_read_on c (with_doing_stage d stage) || is_missing stage) → IsTrue (is_flushed d.flush c.pending)
-reading_flushed c d (Working quiets started) ok h = ready_flushed c (with_doing_stage d (Working quiets started)) (or_left _ h)
+reading_flushed c d (Working quiets started) ok h = ready_flushed c (with_doing_stage d (Working quiets started)) (sym (or-false _) ∙ h)
 reading_flushed c d (Reading misses) ok h = ok
 reading_flushed c d (Missing misses window owed) ok h = ok
 reading_flushed c d (LookedAgain misses window owed) ok h = ok
@@ -226,12 +212,12 @@ reading_flushed c d (Cleans k) ok h = ok
 reading_flushed c d (Requesting requests) ok h = ok
 reading_flushed c d (Replying r) ok h = absurd (cc)
 
-cleaning_branch : (b : Bool) (k : Cleaning) → ◌≡◌ {A = Option Cleaning} (if b then Some first_cleaning else None) (Some k) → IsTrue b
+pub cleaning_branch : (b : Bool) (k : Cleaning) → ◌≡◌ {A = Option Cleaning} (if b then Some first_cleaning else None) (Some k) → IsTrue b
 cleaning_branch true k e = refl
 cleaning_branch false k e = absurd (cc)
 
 cleaning_flushed : (c : ModelClient) (d : Doing) (stage : Stage) (k : Cleaning) → StageOk d.does (is_flushed d.flush c.pending) stage → cleaning_in c (with_doing_stage d stage) ≡ Some k → IsTrue (is_flushed d.flush c.pending)
-cleaning_flushed c d (Working quiets started) k ok e = ready_flushed c (with_doing_stage d (Working quiets started)) (and_first _ _ (cleaning_branch _ k e))
+cleaning_flushed c d (Working quiets started) k ok e = ready_flushed c (with_doing_stage d (Working quiets started)) (and_parts _ _ (cleaning_branch _ k e)).0
 cleaning_flushed c d (Reading misses) k ok e = ok
 cleaning_flushed c d (Missing misses window owed) k ok e = ok
 cleaning_flushed c d (LookedAgain misses window owed) k ok e = ok
@@ -254,7 +240,7 @@ module _ (s : State) (client now : ℕ) (start : Start) (c : ModelClient) (d : D
 
   miss_flushed : (inode window : ℕ) (compacts : Bool) → MatchBool compacts (CompactionMisses start s client d inode window) (MissesBlock start s client c d inode window) → IsTrue (is_flushed d.flush c.pending)
   miss_flushed inode window true h = stage_flushed c d (Compacting h.k) ok h.stage
-  miss_flushed inode window false h = reading_flushed c d d.stage ok (or_more _ _ h.goes_on)
+  miss_flushed inode window false h = reading_flushed c d d.stage ok (or_left _ _ h.goes_on)
 
   item_flushed : (part : Part) → CleansItem s c d part → IsTrue (is_flushed d.flush c.pending)
   item_flushed part h = cleaning_flushed c d d.stage h.k ok h.stage
@@ -462,9 +448,6 @@ sound_answered limits c told h = sound_answered_if limits c told c.doing h
 
 -- an entry of a client
 
-abbrev of_kind : Act → ActKind → Act
-of_kind act kind = record act { kind = kind }
-
 sound_doing : (limits : Limits) (start : Start) (alone : Bool) (s : State) (act : Act) (o : Option Doing) → (s.clients act.client).doing ≡ o → SoundClient limits (s.clients act.client) → (d : Doing) → o ≡ Some d
     → MayStep start alone s act.client act.at (s.clients act.client) d act.kind → SoundClient limits ((of_doing s act o).clients act.client)
 sound_doing limits start alone s act None e h d is may = absurd (cc)
@@ -530,7 +513,7 @@ sound run journal may line = holds_on run (λ pre s. AllSound run.limits s.clien
 
 -- what is committed where an operation is done
 
-fine_not_failure : (told : Told) → IsTrue (is_fine_answer (Answered told)) → IsTrue (is_failure told) → ⊥
+pub fine_not_failure : (told : Told) → IsTrue (is_fine_answer (Answered told)) → IsTrue (is_failure told) → ⊥
 fine_not_failure (Fine a b c d) fine h = cc
 fine_not_failure (Looks first second len) fine h = cc
 fine_not_failure (ToldRefused fault) fine h = cc
@@ -561,7 +544,7 @@ module _ (limits : Limits) (start : Start) (alone : Bool) (s : State) (client no
   answer_flushed (Settles r e same) = settled_flushed d.does (is_flushed d.flush c.pending) r told fine same (stage_flushed c d (Replying r) h.stage e)
   answer_flushed (AtOnce a) = ready_flushed c d a.ready
   answer_flushed (CountsCache hits misses cached ready first e same) = ready_flushed c d ready
-  answer_flushed (ReadsViews r) = reading_flushed c d d.stage h.stage (or_more _ _ r.goes_on)
+  answer_flushed (ReadsViews r) = reading_flushed c d d.stage h.stage (or_left _ _ r.goes_on)
   answer_flushed (CleanedUp e) = stage_flushed c d (Cleans e.k) h.stage e.stage
   answer_flushed (HasCompacted e) = compacted_flushed e
   answer_flushed (HasCollected count bytes j same) = judged_flushed d.does (is_flushed d.flush c.pending) d.stage h.stage j
@@ -628,7 +611,7 @@ fine_step : (limits : Limits) (start : Start) (alone : Bool) (s : State) (client
 fine_step limits start alone s client now c d (Answered told) fine h may = committed_all limits c d h (answer_flushed limits start alone s client now c d told fine h may)
 fine_step limits start alone s client now c d _ fine h may = absurd (cc)
 
-not_fine : (told : Told) (kind : ActKind) → IsTrue (is_fine_answer kind) → kind ≡ Answered told → is_fine_answer (Answered told) ≡ false → ⊥
+pub not_fine : (told : Told) (kind : ActKind) → IsTrue (is_fine_answer kind) → kind ≡ Answered told → is_fine_answer (Answered told) ≡ false → ⊥
 not_fine told kind fine e off = let same = ap is_fine_answer e in cc
 
 pub fine_committed : (limits : Limits) (p : Past) (act : Act) → Entry p act → (act.client ≡ NO_CLIENT → ⊥) → (d : Doing) → (p.state.clients act.client).doing ≡ Some d → IsTrue (is_fine_answer act.kind)

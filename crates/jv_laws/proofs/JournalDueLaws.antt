@@ -1,5 +1,6 @@
 -- What a cleaning has found that wasn't due, by how far it is.
 use Rattle.std.proofs.Common.{◌≡◌, ℕ, suc, ◌+◌, ◌≤◌, ◌<◌, Bool, true, false, ◌&&◌, ◌||◌, not, ◌==◌, nat_lt, if◌then◌else◌, IsTrue, IsSomeAnd, IfSome, MatchBool, inl, inr, List, [], ◌∷◌, ◌++◌, length, take, is_some, Option, None, Some, refl, sym, ap, subst, ◌∙◌, arith, length-append}
+use Rattle.std.proofs.lemmas.Bool.{and_parts}
 use Rattle.std.proofs.lemmas.List.{take-append-le, take_all}
 use Rattle.std.proofs.lemmas.Bool.Decides.{nat_tests, leb_tells, eqb_tells}
 use Rattle.jv_model.specs.declared.limits.TheConstants.{MAX_ITEMS, TRASH_ROOT}
@@ -153,10 +154,6 @@ or_not : (a b : Bool) → IsTrue (a || not b) → (b || false) ≡ true → IsTr
 or_not true b h e = refl
 or_not false true h e = absurd (cc)
 or_not false false h e = absurd (cc)
-
-and_right : (a b : Bool) → IsTrue (a && b) → IsTrue b
-and_right true b h = h
-and_right false b h = absurd (cc)
 
 first_of : (b : Bool) (k : Cleaning) → ◌≡◌ {A = Option Cleaning} (if b then Some first_cleaning else None) (Some k) → k.part ≡ Sessions
 first_of true k e = let same : first_cleaning ≡ k = cc in ap (λ (x : Cleaning). x.part) (sym same)
@@ -316,8 +313,8 @@ module _ (run : Setup) (pre : List Act) (act : Act) (start : Start) (alone : Boo
 
     then_cleaning : (k : Cleaning) (part : Part) → FoundBy run pre act.client part
         → IsTrue (may_be_quiet start s act.client act.at c d (Cleans (record k { part = part }))) → Then (cleaning_on s c (record k { part = part }))
-    then_cleaning k Sessions h may = then_if (has_session s.tree c || false) _ _ (λ e. sessions_now (or_not _ (has_session s.tree c) (and_right _ _ may) e)) tt
-    then_cleaning k Trash h may = then_if (has_session s.tree c || false) _ _ (λ e. hours_now (or_not _ (has_session s.tree c) (and_right _ _ may) e) h) tt
+    then_cleaning k Sessions h may = then_if (has_session s.tree c || false) _ _ (λ e. sessions_now (or_not _ (has_session s.tree c) (and_parts _ _ may).1 e)) tt
+    then_cleaning k Trash h may = then_if (has_session s.tree c || false) _ _ (λ e. hours_now (or_not _ (has_session s.tree c) (and_parts _ _ may).1 e) h) tt
     then_cleaning k Files h may = then_either (has_session s.tree c || false) _ _ (none_later run pre act act.client (λ own. on_quiet) h) tt
     then_cleaning k Slices h may = then_either (has_session s.tree c || false) _ _ (none_later run pre act act.client (λ own. on_quiet) h) tt
     then_cleaning k Blocks h may = then_either (has_session s.tree c || true) _ _ (none_later run pre act act.client (λ own. on_quiet) h) tt
@@ -336,7 +333,7 @@ module _ (run : Setup) (pre : List Act) (act : Act) (start : Start) (alone : Boo
     then_begun Compacts quiets started h f may = tt
     then_begun DoesClean quiets started h f may =
         let first = subst (λ b. IsTrue (if b then (quiets == 0) && (not (is_some (due_session s.tree (session_of c) act.at)) || not (has_session s.tree c)) else true)) f may in
-        then_if (has_session s.tree c || false) _ _ (λ e. sessions_now (or_not _ (has_session s.tree c) (and_right _ _ first) e)) tt
+        then_if (has_session s.tree c || false) _ _ (λ e. sessions_now (or_not _ (has_session s.tree c) (and_parts _ _ first).1 e)) tt
     then_begun (Collects delete) quiets started h f may = tt
     then_begun Uploads quiets started h f may = tt
 

@@ -179,6 +179,9 @@ pub advanced : (p : Past) (act : Act) → Entered (begun_to act.line p) act (adv
 unfolding advance
 advanced p act = entered (begun_to act.line p) act
 
+pub line_of_advance : (p : Past) (act : Act) → Allowed (begun_to act.line p) act → (advance p act).line ≡ act.line
+line_of_advance p act may = (advanced p act).line ∙ may.line
+
 -- the text before the present line only grows
 
 record IsPrefix (xs ys : List ℕ) : Type 0 where

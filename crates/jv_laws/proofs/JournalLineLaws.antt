@@ -1,5 +1,6 @@
 -- Each line of the script has its entries.
 use Rattle.std.proofs.Common.{◌≡◌, ℕ, zero, suc, ◌+◌, ◌-◌, ◌≤◌, ◌<◌, Bool, true, false, ◌&&◌, ◌||◌, not, ◌==◌, if◌then◌else◌, IsTrue, IfSome, ◌⊎◌, MatchBool, inl, inr, List, [], ◌∷◌, ◌++◌, length, slice_get, Option, None, Some, refl, sym, ap, subst, ◌∙◌, arith, append_assoc, length-append}
+use Rattle.std.proofs.lemmas.Bool.{cases_Bool}
 use Rattle.std.specs.List.{AllByRecursion}
 use Rattle.std.proofs.lemmas.List.{append-nil}
 use Rattle.std.proofs.lemmas.Option.{slice_get_past}
@@ -21,7 +22,7 @@ use Rattle.jv_model.specs.journal.Steps.{Start, MayStep, begins_step}
 use Rattle.jv_model.specs.journal.Past.{Setup, Past, Due, NoMore, Refusal, MayLack, ToAnswer, OneStep, StepMade, CrashEntry, TickEntry, DrainEntries, at_start, at_end, begun, begun_by, begun_by_due, begun_to, begin_from, begin_next, turned, is_busy, is_over, is_workers, lined, requested, after, advance, past, reached}
 use Rattle.jv_model.specs.journal.Legal.{IsRefusal, Allowed, AllAllowed, Refuses, LacksMemory, IsPublish, Drains, Sends, Ends, Fails, OfClient, OfLine, OfWorker, may_be_cut, may_stop}
 use Rattle.jv_laws.specs.Laws.{LinesHaveEntries, EndedLinesHaveEntries, RefusedLinesHaveOneEntry, FitsLine, EndsAnswered, IsOneStep, Idle, OneEntry, AndAnswer, is_answer, kinds_on, line_at}
-use Rattle.jv_laws.proofs.JournalGrowthLaws.{AllAllowed-parts, past-append, frame_begun, line-begun_to, begun_to-begun, line_allowed, entered, advanced}
+use Rattle.jv_laws.proofs.JournalGrowthLaws.{AllAllowed-parts, past-append, frame_begun, line-begun_to, begun_to-begun, line_allowed, entered, line_of_advance}
 use Rattle.jv_laws.proofs.JournalStates.{publish_of}
 
 -- entries so far of a line, by what it may still have
@@ -147,7 +148,7 @@ first_only : (kinds : List ActKind) (kind : ActKind) → kinds ≡ [] → kinds 
 first_only kinds kind e = ap (λ l. l ++ kind ∷ []) e
 
 -- an operation's entry is no crash and no tick
-abbrev is_aside : ActKind → Bool
+abbrev pub is_aside : ActKind → Bool
 is_aside Crashed = true
 is_aside (Ticked by) = true
 is_aside _ = false
@@ -162,10 +163,6 @@ due_of_answer : (p : Past) (act : Act) (kind : ActKind) → is_answer kind ≡ t
 due_of_answer p act (Answered told) a = refl
 due_of_answer p act _ a = absurd (cc)
 
-decided : (b : Bool) → (b ≡ true) ⊎ (b ≡ false)
-decided true = inl refl
-decided false = inr refl
-
 record IsAnswer (kind : ActKind) : Type 0 where
   told : Told
   same : kind ≡ Answered told
@@ -177,13 +174,13 @@ answer_of _ e = absurd (cc)
 ends_with : (kinds : List ActKind) (kind : ActKind) → Unanswered kinds → is_answer kind ≡ true → EndsAnswered (kinds ++ kind ∷ [])
 ends_with kinds kind h e = let a = answer_of kind e in record { before = kinds; told = a.told; whole = ap (λ k. kinds ++ k ∷ []) a.same; only = h }
 
-aside_not : (start : Start) (alone : Bool) (s : State) (client now : ℕ) (c : ModelClient) (d : Doing) (kind : ActKind) → MayStep start alone s client now c d kind → is_aside kind ≡ false
-aside_not start alone s client now c d Crashed may = absurd may
-aside_not start alone s client now c d (Ticked by) may = absurd may
-aside_not start alone s client now c d _ may = refl
+pub not_aside : (start : Start) (alone : Bool) (s : State) (client now : ℕ) (c : ModelClient) (d : Doing) (kind : ActKind) → MayStep start alone s client now c d kind → is_aside kind ≡ false
+not_aside start alone s client now c d Crashed may = absurd may
+not_aside start alone s client now c d (Ticked by) may = absurd may
+not_aside start alone s client now c d _ may = refl
 
 client_aside : (p : Past) (act : Act) (client : ℕ) (begins : Bool) → OfClient p act client begins → is_aside act.kind ≡ false
-client_aside p act client begins h = aside_not p.run.start (p.run.uploads == 0) p.state client act.at (p.state.clients client) h.may.doing act.kind h.may.may
+client_aside p act client begins h = not_aside p.run.start (p.run.uploads == 0) p.state client act.at (p.state.clients client) h.may.doing act.kind h.may.may
 
 step_ends : (d : Doing) (kind : ActKind) → begins_step d kind ≡ false → is_answer kind ≡ true
 step_ends d (Answered told) e = refl
@@ -226,11 +223,11 @@ module _ (p : Past) (act : Act) (line : Line) (kinds : List ActKind) where
   next (Refusal client fault) e s (own, Refuses k) = refused_next fault s.0 s.1 k
   next (Refusal client fault) e s (own, LacksMemory b k) = refused_next NoMemory s.0 s.1 k
   next (MayLack client) e s h = refused_next NoMemory (begin_submits line s.0) s.1 h.1
-  next (ToAnswer client) e s h = elim (decided (is_answer act.kind)) [
+  next (ToAnswer client) e s h = elim (cases_Bool (is_answer act.kind)) [
     | inl a ↦ to_end (due_of_answer p act act.kind a) (fits_answered line (kinds ++ act.kind ∷ []) s.0 (ends_with kinds act.kind s.1 a))
     | inr o ↦ to_due (ToAnswer client) (due_of_request p act act.kind o (client_aside p act client _ h) ∙ ap requested e) (s.0, unanswered_more kinds act.kind s.1 o)
   ]
-  next (OneStep client) e s h = elim (decided (is_answer act.kind)) [
+  next (OneStep client) e s h = elim (cases_Bool (is_answer act.kind)) [
     | inl a ↦ to_end (due_of_answer p act act.kind a) (fits_step line (kinds ++ act.kind ∷ []) s.0 (OneEntry act.kind (first_only kinds act.kind s.1)))
     | inr o ↦ to_due (StepMade client) (due_of_request p act act.kind o (client_aside p act client true h) ∙ ap requested e) (s.0, record { kind = act.kind; same = first_only kinds act.kind s.1; open_yet = o })
   ]
@@ -486,20 +483,17 @@ data IsDone (line : ℕ) (p : Past) : Type 0 where
   AtEnd : p.due ≡ NoMore → p.line ≡ line → IsDone line p
   Later : line < p.line → IsDone line p
 
-due_at_worker : (p : Past) (act : Act) → is_workers p ≡ true → (after p act).due ≡ p.due
+pub due_at_worker : (p : Past) (act : Act) → is_workers p ≡ true → (after p act).due ≡ p.due
 unfolding after
 due_at_worker p act e = due_of (is_workers p) p (lined p act act.kind) _ ∙ ap (λ b. if b then p.due else (lined p act act.kind).due) e
 
-due_at_own : (p : Past) (act : Act) → is_workers p ≡ false → (after p act).due ≡ (lined p act act.kind).due
+pub due_at_own : (p : Past) (act : Act) → is_workers p ≡ false → (after p act).due ≡ (lined p act act.kind).due
 unfolding after
 due_at_own p act e = due_of (is_workers p) p (lined p act act.kind) _ ∙ ap (λ b. if b then p.due else (lined p act act.kind).due) e
 
 worker_where_done : (p : Past) (act : Act) (worker : Bool) → p.due ≡ NoMore → MatchBool worker (OfWorker p act) (OfLine p act p.due) → worker ≡ true
 worker_where_done p act true e h = refl
 worker_where_done p act false e h = absurd (subst (OfLine p act) e h)
-
-line_of_advance : (p : Past) (act : Act) → Allowed (begun_to act.line p) act → (advance p act).line ≡ act.line
-line_of_advance p act may = (advanced p act).line ∙ may.line
 
 done_here : (p : Past) (act : Act) → p.due ≡ NoMore → p.line ≡ act.line → Allowed p act → IsDone p.line (advance p act)
 unfolding advance

@@ -24,7 +24,7 @@ use Rattle.jv_model.specs.journal.Legal.{Allowed, AllAllowed}
 use Rattle.jv_model.specs.journal.Looks.{entry_at, changes_file}
 use Rattle.jv_laws.specs.Laws.{FreshViewsAreFreshLooks, HasSeen}
 use Rattle.jv_laws.proofs.JournalGrowthLaws.{own_client, others_kept}
-use Rattle.jv_laws.proofs.JournalStates.{entry_of, entry_before, entry_last, entry_past, entry_within, holds_on, state-more}
+use Rattle.jv_laws.proofs.JournalStates.{entry_of, entry_before, entry_last, entry_past, entry_within, holds_on, state-more, of_kind}
 use Rattle.jv_laws.proofs.JournalOwedLaws.{is_of_operation, has_operation}
 
 -- what a client keeps where its stage changes
@@ -156,9 +156,6 @@ views_doing_step s act d kind = views_step s act d kind refl
 views_doing : (s : State) (act : Act) (o : Option Doing) → (o ≡ None → is_of_operation act.kind ≡ false) → ViewsAfter s act.client act.kind ((of_doing s act o).clients act.client).views
 views_doing s act None h = views_other s act.client act.kind (h refl)
 views_doing s act (Some d) h = views_doing_step s act d act.kind
-
-abbrev of_kind : Act → ActKind → Act
-of_kind act kind = record act { kind = kind }
 
 views_changed : (s : State) (act : Act) (kind : ActKind) → ((s.clients act.client).doing ≡ None → is_of_operation kind ≡ false) → ViewsAfter s act.client kind ((changed s (of_kind act kind) kind).clients act.client).views
 views_changed s act Crashed h = Dropped (own_views s.clients act.client unmounted [] refl)

@@ -1,5 +1,6 @@
 -- Owed commits by the journal's entries, and what cleaning and settling name.
-use Rattle.std.proofs.Common.{◌≡◌, ℕ, ◌+◌, ◌≤◌, ◌⊎◌, Bool, true, false, ◌&&◌, ◌||◌, not, ◌==◌, if◌then◌else◌, IsTrue, IsSomeAnd, IfSome, inl, inr, List, [], ◌∷◌, ◌++◌, length, filter, Option, None, Some, refl, sym, ap, subst, ◌∙◌, arith, length-append, MatchBool}
+use Rattle.std.proofs.Common.{◌≡◌, ℕ, ◌+◌, ◌≤◌, Bool, true, false, ◌&&◌, ◌||◌, not, ◌==◌, if◌then◌else◌, IsTrue, IsSomeAnd, IfSome, inl, inr, List, [], ◌∷◌, ◌++◌, length, filter, Option, None, Some, refl, sym, ap, subst, ◌∙◌, arith, length-append, MatchBool}
+use Rattle.std.proofs.lemmas.Bool.{cases_Bool, or_right}
 use Rattle.std.specs.List.{list_any}
 use Rattle.std.proofs.lemmas.Bool.Decides.{nat_tests, leb_tells, eqb_tells}
 use Rattle.jv_model.specs.declared.act.TheConstants.{NO_CLIENT}
@@ -20,7 +21,7 @@ use Rattle.jv_model.specs.journal.Looks.{entry_at}
 use Rattle.jv_laws.specs.Laws.{IsOwed, OwedCommits, SettlesOwed, DrainsSettleAll, leaves_staged, settles}
 use Rattle.jv_laws.proofs.JournalGrowthLaws.{AllAllowed-parts}
 use Rattle.jv_laws.proofs.JournalLineLaws.{workers_at}
-use Rattle.jv_laws.proofs.JournalStates.{owed_of, publish_of, Entry, Steps, RefusedSubmission, LacksMemory, Crashes, Publishes, OfDrain, Ticks, entry_of, entry_before, entry_last, entry_past, entry_within, none_entered, holds, holds_on}
+use Rattle.jv_laws.proofs.JournalStates.{owed_of, publish_of, Entry, Steps, RefusedSubmission, LacksMemory, Crashes, Publishes, OfDrain, Ticks, entry_of, entry_before, entry_last, entry_past, entry_within, none_entered, holds, holds_on, of_kind}
 
 -- what an entry does to what is owed
 pub data OwedAfter (s : State) (client : ℕ) (kind : ActKind) (owed : List Owed) : Type 0 where
@@ -56,9 +57,6 @@ owed_other s client _ h = absurd (cc)
 owed_doing : (s : State) (act : Act) (o : Option Doing) → (o ≡ None → is_of_operation act.kind ≡ false) → OwedAfter s act.client act.kind (of_doing s act o).owed
 owed_doing s act None h = owed_other s act.client act.kind (h refl)
 owed_doing s act (Some d) h = owed_step s act d act.kind
-
-abbrev of_kind : Act → ActKind → Act
-of_kind act kind = record act { kind = kind }
 
 owed_changed : (s : State) (act : Act) (kind : ActKind) → ((s.clients act.client).doing ≡ None → is_of_operation kind ≡ false) → OwedAfter s act.client kind (changed s (of_kind act kind) kind).owed
 owed_changed s act Crashed h = Spared refl (λ _. refl) refl
@@ -174,10 +172,6 @@ pub record Owing (pre : List Act) (s : State) : Type 0 where
   pub tells : (client commit : ℕ) → IsTrue (owes_commit client commit s.owed) → IsOwed pre client commit
   pub shows : (client commit : ℕ) → IsOwed pre client commit → IsTrue (owes_commit client commit s.owed)
 
-decided : (b : Bool) → (b ≡ true) ⊎ (b ≡ false)
-decided true = inl refl
-decided false = inr refl
-
 first_of : (a b c : Bool) → IsTrue ((a && b) || c) → c ≡ false → (a ≡ true) × (b ≡ true)
 first_of true true c h g = (refl, refl)
 first_of true false c h g = absurd (cc)
@@ -191,10 +185,6 @@ either_first false b c h g = absurd (cc)
 not_either : (a b c : Bool) → b ≡ false → c ≡ false → ((a && b) || c) ≡ false
 not_either true b c h g = cc
 not_either false b c h g = g
-
-either_second : (a c : Bool) → IsTrue c → IsTrue (a || c)
-either_second true c h = refl
-either_second false c h = h
 
 abbrev made : Bool → ℕ → ℕ → List Owed
 made none count client = (if none then [] else record { commit = count; client = client } ∷ [])
@@ -217,14 +207,14 @@ new_there false count client other commit os at own h = either_first (count == c
 
 old_there : (none : Bool) (count client other commit : ℕ) (os : List Owed) → IsTrue (owes_commit other commit os) → IsTrue (owes_commit other commit (made none count client ++ os))
 old_there true count client other commit os h = h
-old_there false count client other commit os h = either_second _ (owes_commit other commit os) h
+old_there false count client other commit os h = or_right _ (owes_commit other commit os) h
 
 module _ (pre : List Act) (e : Act) (s : State) (owed : List Owed) (o : Owing pre s) where
   tells_next : (client commit : ℕ) → OwedAfter s e.client e.kind owed → IsTrue (owes_commit client commit owed) → IsOwed (pre ++ e ∷ []) client commit
   tells_next client commit (Spared l n same) h = still pre e client commit (o.tells client commit (subst (λ os. IsTrue (owes_commit client commit os)) same h)) (n commit)
   tells_next client commit (Made inode from len staged k same) h =
       let there = subst (λ os. IsTrue (owes_commit client commit os)) same h in
-      elim (decided (owes_commit client commit s.owed)) [
+      elim (cases_Bool (owes_commit client commit s.owed)) [
         | inl old ↦ still pre e client commit (o.tells client commit old) (ap (settles commit) k)
         | inr fresh ↦ (
             let n = new_only (staged == 0) (s.count + 1) e.client client commit s.owed there fresh in
@@ -298,7 +288,7 @@ named_of commit [] h = absurd (cc)
 named_of commit (o ∷ os) h = elim (eqb_tells o.commit commit) [
   | inl same ↦ (let e = same.0 in record { client = o.client; owed = either_first (o.commit == commit) (o.client == o.client) (owes_commit o.client commit os) e (grind (arith, nat_tests)) })
   | inr apart ↦ (let rest = named_of commit os (subst (λ b. IsTrue (b || list_any (λ (x : Owed). x.commit == commit) os)) apart.0 h) in
-      record { client = rest.client; owed = either_second _ (owes_commit rest.client commit os) rest.owed })
+      record { client = rest.client; owed = or_right _ (owes_commit rest.client commit os) rest.owed })
 ]
 
 abbrev IsAmong : State → ℕ → Type 0

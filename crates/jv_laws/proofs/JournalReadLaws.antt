@@ -1,5 +1,6 @@
 -- What a read returns, by the fresh looks that it cites.
 use Rattle.std.proofs.Common.{◌≡◌, ℕ, ◌+◌, ◌-◌, ◌≤◌, min, Bool, true, false, ◌&&◌, ◌||◌, ◌==◌, nat_le, if◌then◌else◌, IsTrue, inl, inr, List, [], ◌∷◌, ◌++◌, length, take, Option, None, Some, refl, sym, ap, subst, ◌∙◌, arith}
+use Rattle.std.proofs.lemmas.Bool.{and_parts}
 use Rattle.std.specs.Option.{option_map}
 use Rattle.std.proofs.lemmas.Bool.Decides.{nat_tests, leb_tells, eqb_tells}
 use Rattle.jv_model.specs.declared.limits.TheConstants.{FILE_END}
@@ -8,7 +9,7 @@ use Rattle.jv_model.specs.declared.act.Act.{Act}
 use Rattle.jv_model.specs.declared.act.ActKind.{ActKind}
 use Rattle.jv_model.specs.declared.act.ActKind.TheVariants.{Answered}
 use Rattle.jv_model.specs.declared.act.Told.{Told}
-use Rattle.jv_model.specs.declared.act.Told.TheVariants.{Looks, Fine, Refused as ToldRefused}
+use Rattle.jv_model.specs.declared.act.Told.TheVariants.{Looks, Refused as ToldRefused}
 use Rattle.jv_model.specs.declared.basics.Limits.{Limits}
 use Rattle.jv_model.specs.declared.op.Op.{Op}
 use Rattle.jv_model.specs.declared.op.Op.TheVariants as op
@@ -23,7 +24,7 @@ use Rattle.jv_model.specs.client.ModelClient.{ModelClient, OpenFile, View, Doing
 use Rattle.jv_model.specs.client.Submission.{by_limits, is_flushed}
 use Rattle.jv_model.specs.journal.State.{State, or_empty, answer_then, reply_of_answer, is_cleaning, is_compaction}
 use Rattle.jv_model.specs.journal.Reading.{Asked, asked_parts, bytes_between, is_fresh, cited_view, part_read, is_full, only_if, joined, read_on, reading}
-use Rattle.jv_model.specs.journal.Steps.{Start, MayStep, MayAnswer, Fails, Settles, AtOnce, CountsCache, ReadsViews, CleanedUp, HasCompacted, HasCollected, HasUploaded, Refuses, TooShort, HasReplaced, Sent, FoundNone, asked_of, file_in_use, may_read_on, is_ready, ReadsFresh, told_of, is_failure, may_end_after, has_judged}
+use Rattle.jv_model.specs.journal.Steps.{Start, MayStep, MayAnswer, Fails, Settles, AtOnce, CountsCache, ReadsViews, CleanedUp, HasCompacted, HasCollected, HasUploaded, Refuses, TooShort, HasReplaced, Sent, FoundNone, asked_of, file_in_use, may_read_on, is_ready, ReadsFresh, told_of, may_end_after, has_judged}
 use Rattle.jv_model.specs.journal.Past.{Setup, Past, at_start, begun_to, reached, reply_of, settled_reply, told_reply, or_no_bytes}
 use Rattle.jv_model.specs.journal.Legal.{Refuses as RefusesSubmission, LacksMemory as RefusalLacks}
 use Rattle.jv_model.specs.journal.Looks.{IsFreshLook}
@@ -32,7 +33,7 @@ use Rattle.jv_laws.proofs.JournalStageLaws.{stage_fits, FitsIf, FitsClient, all_
 use Rattle.jv_laws.proofs.JournalGrowthLaws.{AllAllowed-parts}
 use Rattle.jv_laws.proofs.JournalStates.{Entry, Steps, RefusedSubmission, LacksMemory, Crashes, Publishes, OfDrain, Ticks, entry_of}
 use Rattle.jv_laws.proofs.JournalLooksLaws.{IsShown, AllShown, shown, view_seen, first_found}
-use Rattle.jv_laws.proofs.JournalDoingLaws.{Sound, SoundIf, SoundClient, IsSettled, IsRefusedReply, IsDoneReply, IsFineReply, sound, and_first, and_second, fine_not_refused, stage_flushed}
+use Rattle.jv_laws.proofs.JournalDoingLaws.{Sound, SoundIf, SoundClient, IsSettled, IsRefusedReply, IsDoneReply, IsFineReply, sound, fine_not_refused, fine_not_failure, not_fine, stage_flushed}
 
 -- parts
 
@@ -42,9 +43,9 @@ module _ (run : Setup) (journal : List Act) (client : ℕ) (views : List View) (
   part_of entry asked bytes None e h = absurd (cc)
   part_of entry asked bytes (Some v) e h =
       let found = first_found (λ (view : View). (view.entry == entry) && is_fresh handle file asked.window view) views v (IsShown run journal client) all e in
-      let at = and_first (v.entry == entry) (is_fresh handle file asked.window v) found.1 in
+      let at = (and_parts (v.entry == entry) (is_fresh handle file asked.window v) found.1).0 in
       let here : v.entry ≡ entry = grind (arith, nat_tests) in
-      let seen = view_seen run journal client handle file asked.window v found.0 (and_second (v.entry == entry) (is_fresh handle file asked.window v) found.1) in
+      let seen = view_seen run journal client handle file asked.window v found.0 (and_parts (v.entry == entry) (is_fresh handle file asked.window v) found.1).1 in
       let shows : bytes_between v.content asked.from asked.to ≡ bytes = cc in
       record {
         fresh = subst (λ n. IsFreshLook journal client file asked.window n) here seen.fresh;
@@ -244,11 +245,6 @@ reads_seen run journal act may some d busy handle offset len reads first second 
 cited : (first second number : ℕ) (t : Told) → t ≡ Looks first second number → CitesLooks (Answered t)
 cited first second number t e = record { first = first; second = second; number = number; kind = ap Answered e }
 
-not_done : (told : Told) → IsTrue (is_fine_answer (Answered told)) → IsTrue (is_failure told) → ⊥
-not_done (Fine a b c d) fine h = cc
-not_done (Looks first second len) fine h = cc
-not_done (ToldRefused fault) fine h = cc
-
 module _ (limits : Limits) (start : Start) (alone : Bool) (s : State) (client now : ℕ) (c : ModelClient) (d : Doing) (h : Sound limits c.handles c.pending d) (fits : IsTrue (stage_fits d.does d.stage)) (offset len : ℕ) (told : Told) (fine : IsTrue (is_fine_answer (Answered told))) where
   no_stage : DoesRead offset len d.does → (stage : Stage) → d.stage ≡ stage → ((does : Does) → IsTrue (stage_fits does stage) → DoesRead offset len does → ⊥) → ⊥
   no_stage does stage e off = off d.does (subst (λ st. IsTrue (stage_fits d.does st)) e fits) does
@@ -291,7 +287,7 @@ module _ (limits : Limits) (start : Start) (alone : Bool) (s : State) (client no
       cited 0 0 0 told (cc)
 
   answer_cites : DoesRead offset len d.does → MayAnswer start alone s client now c d told → CitesLooks (Answered told)
-  answer_cites does (Fails m f) = absurd (not_done told fine f)
+  answer_cites does (Fails m f) = absurd (fine_not_failure told fine f)
   answer_cites does (Settles r e same) = settled_cites r does same (stage_flushed c d (Replying r) h.stage e)
   answer_cites does (AtOnce a) = at_once_cites does a.same
   answer_cites does (CountsCache hits misses cached ready first e same) = absurd (not_counting e does)
@@ -308,9 +304,6 @@ step_cites : (limits : Limits) (start : Start) (alone : Bool) (s : State) (clien
 step_cites limits start alone s client now c d h fits offset len does (Answered told) fine may = answer_cites limits start alone s client now c d h fits offset len told fine does may
 step_cites limits start alone s client now c d h fits offset len does _ fine may = absurd (cc)
 
-fine_not : (told : Told) (kind : ActKind) → IsTrue (is_fine_answer kind) → kind ≡ Answered told → is_fine_answer (Answered told) ≡ false → ⊥
-fine_not told kind fine e off = let same = ap is_fine_answer e in cc
-
 entry_cites : (run : Setup) (p : Past) (act : Act) → Entry p act → (act.client ≡ NO_CLIENT → ⊥) → (d : Doing) → (p.state.clients act.client).doing ≡ Some d → (handle offset len : ℕ) → d.op ≡ op.Read handle offset len → IsTrue (is_fine_answer act.kind)
     → SoundClient run.limits (p.state.clients act.client) → FitsClient (p.state.clients act.client) → CitesLooks act.kind
 entry_cites run p act (Steps x e may) some d busy handle offset len reads fine ok fits =
@@ -318,9 +311,9 @@ entry_cites run p act (Steps x e may) some d busy handle offset len reads fine o
     let h = subst (SoundIf run.limits (p.state.clients act.client).handles (p.state.clients act.client).pending) busy ok in
     step_cites run.limits p.run.start (p.run.uploads == 0) p.state act.client act.at (p.state.clients act.client) d h (subst FitsIf busy fits) offset len (does_read run.limits d.op handle offset len d.does h.does reads) act.kind fine
     (subst (λ y. MayStep p.run.start (p.run.uploads == 0) p.state act.client act.at (p.state.clients act.client) y act.kind) same may)
-entry_cites run p act (RefusedSubmission fault e (RefusesSubmission k)) some d busy handle offset len reads fine ok fits = absurd (fine_not _ act.kind fine k refl)
-entry_cites run p act (RefusedSubmission fault e (RefusalLacks b k)) some d busy handle offset len reads fine ok fits = absurd (fine_not _ act.kind fine k refl)
-entry_cites run p act (LacksMemory e k) some d busy handle offset len reads fine ok fits = absurd (fine_not _ act.kind fine k refl)
+entry_cites run p act (RefusedSubmission fault e (RefusesSubmission k)) some d busy handle offset len reads fine ok fits = absurd (not_fine _ act.kind fine k refl)
+entry_cites run p act (RefusedSubmission fault e (RefusalLacks b k)) some d busy handle offset len reads fine ok fits = absurd (not_fine _ act.kind fine k refl)
+entry_cites run p act (LacksMemory e k) some d busy handle offset len reads fine ok fits = absurd (not_fine _ act.kind fine k refl)
 entry_cites run p act (Crashes e k) some d busy handle offset len reads fine ok fits = let off = ap is_fine_answer k in absurd (cc)
 entry_cites run p act (Publishes e k) some d busy handle offset len reads fine ok fits = absurd (some e)
 entry_cites run p act (OfDrain client e due k) some d busy handle offset len reads fine ok fits = absurd (some e)

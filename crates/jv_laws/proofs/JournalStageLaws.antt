@@ -27,8 +27,8 @@ use Rattle.jv_model.specs.journal.Past.{Setup, Past, at_start, begun_to, reached
 use Rattle.jv_model.specs.journal.Legal.{Allowed, AllAllowed, Refuses as RefusesSubmission, LacksMemory as RefusalLacks}
 use Rattle.jv_laws.specs.Laws.{CleansOnlyInClean, cleans}
 use Rattle.jv_laws.proofs.JournalGrowthLaws.{AllAllowed-parts, own_client, others_kept}
-use Rattle.jv_laws.proofs.JournalDoingLaws.{doing_given, Sound, SoundIf, sound}
-use Rattle.jv_laws.proofs.JournalStates.{Entry, Steps, RefusedSubmission, LacksMemory, Crashes, Publishes, OfDrain, Ticks, entry_of, holds_on}
+use Rattle.jv_laws.proofs.JournalDoingLaws.{doing_given, Sound, SoundIf, sound, cleaning_branch}
+use Rattle.jv_laws.proofs.JournalStates.{Entry, Steps, RefusedSubmission, LacksMemory, Crashes, Publishes, OfDrain, Ticks, entry_of, holds_on, of_kind}
 
 abbrev pub is_reading : Does → Bool
 is_reading (Reads offset len) = true
@@ -68,10 +68,6 @@ own_fit : (clients : ℕ → ModelClient) (at : ℕ) (c : ModelClient) → FitsC
 own_fit clients at c h = subst FitsClient (sym (own_client clients at c)) h
 
 -- stages that follow
-
-and_last : (a b : Bool) → IsTrue (a && b) → IsTrue b
-and_last true b h = h
-and_last false b h = absurd (cc)
 
 module _ (does : Does) where
   abbrev Fit : Stage → Type 0
@@ -165,12 +161,8 @@ part_reading : (c : ModelClient) (handle : ℕ) (file : OpenFile) (does : Does) 
 part_reading c handle file (Reads offset len) window asked e = refl
 part_reading c handle file _ window asked e = absurd (cc)
 
-cleaning_then : (b : Bool) (k : Cleaning) → ◌≡◌ {A = Option Cleaning} (if b then Some first_cleaning else None) (Some k) → IsTrue b
-cleaning_then true k e = refl
-cleaning_then false k e = absurd (cc)
-
 cleaning_if : (does : Does) (b : Bool) (k : Cleaning) → ◌≡◌ {A = Option Cleaning} (if b && is_cleaning does then Some first_cleaning else None) (Some k) → IsTrue (is_cleaning does)
-cleaning_if does true k e = cleaning_then (is_cleaning does) k e
+cleaning_if does true k e = cleaning_branch (is_cleaning does) k e
 cleaning_if does false k e = absurd (cc)
 
 cleaning_fits : (c : ModelClient) (d : Doing) (stage : Stage) (k : Cleaning) → IsTrue (stage_fits d.does stage) → cleaning_in c (record d { stage = stage }) ≡ Some k → IsTrue (is_cleaning d.does)
@@ -259,9 +251,6 @@ fit_of_answered : (c : ModelClient) (told : Told) → FitsClient c → FitsClien
 fit_of_answered c told h = fit_of_answered_if c told c.doing h
 
 -- an entry of a client
-
-abbrev of_kind : Act → ActKind → Act
-of_kind act kind = record act { kind = kind }
 
 fit_of_doing : (start : Start) (alone : Bool) (s : State) (act : Act) (o : Option Doing) → (s.clients act.client).doing ≡ o → FitsClient (s.clients act.client) → (d : Doing) → o ≡ Some d
     → MayStep start alone s act.client act.at (s.clients act.client) d act.kind → FitsClient ((of_doing s act o).clients act.client)

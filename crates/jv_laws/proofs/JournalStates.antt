@@ -112,6 +112,10 @@ of_stands p act false h = of_line p act p.due refl h
 pub entry_of : (p : Past) (act : Act) → Allowed p act → Entry p act
 entry_of p act h = of_stands p act (is_workers p) h.stands
 
+-- an entry's twin of another kind
+abbrev pub of_kind : Act → ActKind → Act
+of_kind act kind = record act { kind = kind }
+
 -- the journal and one more entry
 
 pub reached-more : (run : Setup) (pre : List Act) (e : Act) → reached run (pre ++ e ∷ []) ≡ advance (reached run pre) e

@@ -9,12 +9,13 @@ use Rattle.jv_model.specs.declared.op.Step.{Step}
 use Rattle.jv_model.specs.declared.op.Step.TheVariants.{More, Done, Broken}
 use Rattle.jv_model.specs.client.ModelClient.{ModelClient, Doing}
 use Rattle.jv_model.specs.journal.State.{State, of_doing, changed, effect}
-use Rattle.jv_model.specs.journal.Steps.{Start, MayStep, IsEntry}
+use Rattle.jv_model.specs.journal.Steps.{Start, IsEntry}
 use Rattle.jv_model.specs.journal.Past.{Past, Due, NoMore, ToAnswer, OneStep, lined, line_reply, reply_of, refusal_reply, requested, more_text, asks_clock, begins_in, ends_in_step}
 use Rattle.jv_model.specs.journal.Legal.{Allowed, OfLine, tick_of}
 use Rattle.jv_model.specs.journal.Stepping.{entry_of, stepped, stepped_by, is_answer, answer_of, AllowsStep, GoesOn, AnswersAlone, AnswersAfter}
 use Rattle.jv_model.specs.script.ReplyText.{printed_line}
 use Rattle.jv_laws.proofs.JournalGrowthLaws.{others_kept}
+use Rattle.jv_laws.proofs.JournalLineLaws.{is_aside, not_aside}
 use Rattle.jv_laws.specs.OnLines.{IsAlone, IsNow, Leads, SameLine}
 use Rattle.jv_laws.proofs.EntriesOfLines.{leads_none, leads_more, same_line-then, moment_asked, moment_kept, stands_on, entered, after_asking, after_kept, leads_one}
 
@@ -38,17 +39,6 @@ others_stepped s client now [] c apart = refl
 others_stepped s client now (kind ∷ kinds) c apart = others_stepped (stepped s client now kind) client now kinds c apart ∙ others_kept s (entry_of 0 now client kind) c apart
 
 -- what an entry makes of the line
-
--- an operation's entry is no crash and no tick
-abbrev is_aside : ActKind → Bool
-is_aside Crashed = true
-is_aside (Ticked by) = true
-is_aside _ = false
-
-not_aside : (start : Start) (alone : Bool) (s : State) (client now : ℕ) (c : ModelClient) (d : Doing) (kind : ActKind) → MayStep start alone s client now c d kind → is_aside kind ≡ false
-not_aside start alone s client now c d Crashed may = absurd may
-not_aside start alone s client now c d (Ticked by) may = absurd may
-not_aside start alone s client now c d _ may = refl
 
 no_ticks : (kind : ActKind) → is_aside kind ≡ false → tick_of kind ≡ 0
 no_ticks (Ticked by) e = absurd (cc)

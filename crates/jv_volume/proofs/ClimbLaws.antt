@@ -1,13 +1,13 @@
 -- The way up from a directory to the root or the trash, and the model's test whether a directory lies in another one.
-use Rattle.std.proofs.Common.{◌≡◌, ◌≢◌, ℕ, zero, suc, ◌+◌, ◌≤◌, Bool, true, false, not, ◌&&◌, ◌||◌, ◌==◌, ◌⊎◌, inl, inr, List, [], ◌∷◌, length, Option, None, Some, is_some, refl, sym, ap, subst, ◌∙◌, arith}
+use Rattle.std.proofs.Common.{◌≡◌, ◌≢◌, ℕ, zero, suc, ◌+◌, ◌≤◌, Bool, true, false, not, ◌&&◌, ◌==◌, ◌⊎◌, inl, inr, List, [], ◌∷◌, length, Option, None, Some, is_some, refl, sym, ap, subst, ◌∙◌, arith}
 use Rattle.std.specs.Prelude.{IsTrue}
-use Rattle.std.proofs.lemmas.Bool.{cases_eq, eqb-true, eqb-false, ne_eqb, false≢true, or_parts, or_from, and_right, and_cases, true_from_ne_false}
+use Rattle.std.proofs.lemmas.Bool.{cases_eq, eqb-true, eqb-false, ne_eqb, false≢true, or_parts, or_from, and_right, and_cases, true_from_ne_false, or_cases}
 use Rattle.jv_model.specs.FiniteMap.{Map, number_key, get, remove, key_count, sum_over, total_over}
 use Rattle.jv_model.specs.tree.Tree.{Tree, Node, Kind, File, Directory, Symlink, root, trash_root, node_at, parent_of, parent_at, is_directory}
 use Rattle.jv_model.specs.tree.Renaming.{is_within, is_inside}
 use Rattle.jv_model.proofs.FiniteMapLaws.{share, sum-remove}
-use Rattle.jv_volume.specs.Shape.{Form, Absent, Regular, Link, Dir, Shape, WholeShape, form_of, is_dir, shape_of, is_top, Reaches}
-use Rattle.jv_volume.proofs.ShapeMapLaws.{get-remove_apart, parent_of_dir, is_dir-form}
+use Rattle.jv_volume.specs.Shape.{Form, Absent, Regular, Link, Dir, Shape, WholeShape, form_of, is_dir, is_there, shape_of, is_top, Reaches}
+use Rattle.jv_volume.proofs.ShapeMapLaws.{get-remove_apart, parent_of_dir, is_directory-form, is_there-form}
 
 parent_in : Form → ℕ → ℕ
 parent_in Absent other = other
@@ -102,17 +102,12 @@ parent_of_form : (o : Option Node) (parent : ℕ) → form_of o ≡ Dir parent �
 parent_of_form None parent h = absurd (false≢true (ap is_dir h))
 parent_of_form (Some node) parent h = parent_of_kind node node.kind parent h
 
--- a directory of the tree is one of its shape
-pub is_directory-form : (t : Tree) (inode : ℕ) → is_directory t inode ≡ is_dir ((shape_of t).form inode)
-is_directory-form t inode = sym (is_dir-form (node_at t inode))
-
 -- and has the same parent there
 pub parent_at-form : (t : Tree) (dir parent : ℕ) → (shape_of t).form dir ≡ Dir parent → parent_at t dir ≡ Some parent
 parent_at-form t dir parent h = parent_of_form (node_at t dir) parent h
 
 node_of_form : (o : Option Node) (parent : ℕ) → form_of o ≡ Dir parent → IsTrue (is_some o)
-node_of_form None parent h = absurd (false≢true (ap is_dir h))
-node_of_form (Some node) parent h = refl
+node_of_form o parent h = sym (is_there-form o) ∙ ap is_there h
 
 -- what the test says of one directory on the way up
 step_up : Tree → ℕ → ℕ → ℕ → Option ℕ → Bool
@@ -153,13 +148,9 @@ few_steps t steps dir h =
       reaches_once (shape_of t).form _ once.0 dir once.1,
     )
 
-or_true : (a b : Bool) → (a || b) ≡ true → (a ≡ true) ⊎ (b ≡ true)
-or_true true b h = inl refl
-or_true false b h = inr h
-
 -- what is at the top
 pub top_cases : (dir : ℕ) → IsTrue (is_top dir) → (dir ≡ root) ⊎ (dir ≡ trash_root)
-top_cases dir h = elim (or_true (dir == root) (dir == trash_root) h) [
+top_cases dir h = elim (or_cases (dir == root) (dir == trash_root) h) [
   | inl e ↦ inl (eqb-true dir root e)
   | inr e ↦ inr (eqb-true dir trash_root e)
 ]

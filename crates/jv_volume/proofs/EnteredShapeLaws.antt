@@ -1,13 +1,13 @@
 -- A new inode under a new entry keeps a tree whole: a file, a symlink, a directory, the directory of an hour.
 use Rattle.std.proofs.Common.{◌≡◌, ◌≢◌, ℕ, suc, ◌+◌, ◌≤◌, ◌<◌, true, false, inl, inr, List, None, Some, sym, ap, subst, ◌∙◌, arith}
 use Rattle.std.specs.Prelude.{IsTrue, nat_lt}
-use Rattle.std.proofs.lemmas.Bool.{or_parts, and_left, not-true, false≢true, le-ltb, leb-false, ltb-true, lt-ltb, cases_eq}
+use Rattle.std.proofs.lemmas.Bool.{or_parts, and_left, not-true, false≢true, le-ltb, leb-false, ltb-true, lt-ltb, cases_eq, false_from_ne_true}
 use Rattle.jv_model.specs.FiniteMap.{insert}
 use Rattle.jv_model.specs.tree.Tree.{Tree, Node, Content, File, Directory, Symlink, EntryKey, entry_key, root, trash_root, full_count, new_node, node_at, is_directory}
 use Rattle.jv_model.specs.tree.Changes.{put_node, with_node}
 use Rattle.jv_model.specs.tree.Making.{may_be_new, with_next}
 use Rattle.jv_volume.specs.Shape.{Form, Absent, Dir, Shape, form_of, is_there, is_dir, shape_of, named, keeps, names, is_top, is_hour, Reaches, NamesHour, Names, Entered, Keeps, IsKept, WholeShape}
-use Rattle.jv_volume.proofs.ShapeMapLaws.{stays_at, get-inserted, was_inserted, count-insert_apart, uncounted, with_form, with_form-here, with_form-apart, apart_by_form, there_of_dir, parent_of_dir, reaches_lift, with_entries, shape-put_node, shape-put_entry, there_or_absent, is_there-form, is_dir-form, names_kept, not_top}
+use Rattle.jv_volume.proofs.ShapeMapLaws.{stays_at, get-inserted, was_inserted, count-insert_apart, uncounted, with_form, with_form-here, with_form-apart, apart_by_form, there_of_dir, parent_of_dir, reaches_lift, with_entries, shape-put_node, shape-put_entry, is_there-form, is_dir-form, names_kept, not_top, none_if}
 
 -- a shape with a new inode under a new entry, and a next inode
 abbrev pub with_new : Shape → EntryKey → ℕ → Form → ℕ → Shape
@@ -194,15 +194,14 @@ pub shape-with_next : (t : Tree) (now : ℕ) (place : EntryKey) (node : Node)
     → shape_of (with_next t now place node) ≡ with_new (shape_of t) place t.next_inode (form_of (Some node)) (t.next_inode + 1)
 shape-with_next t now place node = ap (λ (s : Shape). record s { next_inode = t.next_inode + 1 }) (shape-with_node t now place t.next_inode node)
 
+-- the next inode isn't there
+pub next_absent : (t : Tree) → WholeShape (shape_of t) → node_at t t.next_inode ≡ None
+next_absent t w = none_if (node_at t t.next_inode) (false_from_ne_true _ (λ there.
+    let less = w.below t.next_inode (is_there-form (node_at t t.next_inode) ∙ there) (lt-ltb t.next_inode trash_root (omega (arith, w.inodes_end))) in
+    absurd (omega (arith, less))))
+
 module _ (t : Tree) (now : ℕ) (place : EntryKey) (w : WholeShape (shape_of t)) (free : named (shape_of t) place ≡ None)
     (within : is_directory t place.dir ≡ true) (may : may_be_new place ≡ true) (room : t.next_inode < full_count) where
-  -- the next inode isn't there
-  next_absent : (shape_of t).form t.next_inode ≡ Absent
-  next_absent = elim (there_or_absent ((shape_of t).form t.next_inode)) [
-    | inl e ↦ e
-    | inr there ↦ let less = w.below t.next_inode there (lt-ltb t.next_inode trash_root (omega (arith, room))) in absurd (omega (arith, less))
-  ]
-
   -- the next inode, of any kind that has this parent where it is a directory
   pub whole-with_next : (node : Node) → ((parent : ℕ) → form_of (Some node) ≡ Dir parent → parent ≡ place.dir)
       → WholeShape (shape_of (with_next t now place node))
@@ -210,7 +209,7 @@ module _ (t : Tree) (now : ℕ) (place : EntryKey) (w : WholeShape (shape_of t))
       let low : place.dir < trash_root = new_below place may in
       let new = whole-with_new (shape_of t) place t.next_inode (form_of (Some node)) (t.next_inode + 1) w in
       subst WholeShape (sym (shape-with_next t now place node)) (new (record {
-        absent = next_absent;
+        absent = ap form_of (next_absent t w);
         free = free;
         within = is_dir-form (node_at t place.dir) ∙ within;
         there = is_there-form (Some node);

@@ -23,7 +23,7 @@ use Rattle.jv_volume.proofs.NodeRowLaws.{IsNodeRow, IsNodeRow-touched}
 use Rattle.jv_volume.proofs.StoredLaws.{HasNode, found_node}
 use Rattle.jv_volume.proofs.TreeOfLaws.{tree_of-put_node, tree_of-put_edge, tree_of-drop_edge}
 use Rattle.jv_volume.proofs.ChangeLaws.{change_node-setting, change_node-next_inode, change_node-next_session, put_entry-there, take_entry-there}
-use Rattle.jv_volume.proofs.LinkLaws.{standing, standing_here, standing_apart, link_count-put_entry-leaf, link_count-put_entry-dir, link_count-take_entry-leaf, link_count-take_entry-dir}
+use Rattle.jv_volume.proofs.LinkLaws.{standing, standing_here, standing_apart, link_count-put_entry-leaf, link_count-put_entry-dir, link_count-take_entry-leaf, link_count-take_entry-dir, none_within}
 use Rattle.jv_volume.proofs.SumLaws.{used_space-put_entry, used_space-take_entry, used_inodes-put_entry, used_inodes-take_entry}
 use Rattle.jv_volume.proofs.MadeRowsLaws.{touched_row}
 use Rattle.jv_volume.proofs.StoredStepLaws.{NodeGoes, NodeKept, NodePut, EdgeGoes, EdgeKept, EdgePut, EdgeGone, CellKept, stored-goes, number-put_entry, number-take_entry, row_number, put_kept, drop_kept, node_apart, node_here}
@@ -79,11 +79,7 @@ module _ (bytes : ℕ → ℕ → ℕ) (rows : Rows) (now : ℕ) (at : EntryKey)
   unfolding share_by
   share_other j aside other =
       (λ i. if row.kind == 2 then standing_apart j at (λ same. aside (sym same)) i else naming_apart j at inode (λ same. other (sym same)) i)
-      ∙ zero_by (row.kind == 2)
-    where
-      zero_by : (b : Bool) → (let n : ℕ = (if b then 0 else 0) in n) ≡ 0
-      zero_by true = refl
-      zero_by false = refl
+      ∙ none_within (row.kind == 2) 0 refl
 
   put_share : get t.entries at ≡ None → (j : ℕ) → link_count with_it j ≡ link_count t j + share_by j
   unfolding share_by

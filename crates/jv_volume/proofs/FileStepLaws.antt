@@ -1,6 +1,7 @@
 -- Files stay whole with each small change of metadata: of a row that is no file's, of a node's row, of the counters, and of a
 -- file that becomes a dropped one.
 use Rattle.std.proofs.Common.{◌≡◌, ◌≢◌, ℕ, ◌<◌, ◌≤◌, false, [], inl, inr, Option, None, Some, Ok, refl, sym, ap, subst, ◌∙◌, arith, true≢false, eq-eqb}
+use Rattle.std.proofs.lemmas.Option.{same_Some}
 use Rattle.std.specs.Prelude.{◌==◌}
 use Rattle.std.specs.Ordering.{eq_by_cmp}
 use Rattle.std.proofs.lemmas.Bool.{cases_eq}
@@ -108,12 +109,9 @@ files-same_length rows inode was row w there kind length =
     files-node rows inode (Some (Ok (OfNode row))) w
     (λ node is file. let same : row ≡ node = cc in subst (FileIs rows inode) same (AsBefore was there (sym kind
     ∙ subst (λ (r : NodeRow). r.kind ≡ 1) (sym same) file) length))
-    (λ old here file. let same : was ≡ old = (let both = sym there ∙ here in some_is both) in
+    (λ old here file. let same : was ≡ old = (let both = sym there ∙ here in same_Some was old both) in
     OfFile row (node_there rows inode (Some (Ok (OfNode row))) w) (kind ∙ ap (λ (r : NodeRow). r.kind) same ∙ file))
     (λ drop. let gone = (w.gone inode drop).0 in absurd (cc))
-  where
-    some_is : {x y : NodeRow} → Some x ≡ Some y → x ≡ y
-    some_is e = cc
 
 -- a new node at an inode that was never given
 pub files-new_node : (rows : Rows) (inode : ℕ) (row : NodeRow) → WholeFiles rows → node_row_at rows inode ≡ None → (counters_of rows).inode ≤ inode
@@ -131,11 +129,8 @@ pub files-drop_other : (rows : Rows) (inode : ℕ) (was : NodeRow) → WholeFile
 files-drop_other rows inode was w there other =
     files-node rows inode None w
     (λ node is file. absurd (cc))
-    (λ old here file. let same : was ≡ old = (let both = sym there ∙ here in some_is both) in absurd (other (ap (λ (r : NodeRow). r.kind) same ∙ file)))
+    (λ old here file. let same : was ≡ old = (let both = sym there ∙ here in same_Some was old both) in absurd (other (ap (λ (r : NodeRow). r.kind) same ∙ file)))
     (λ drop. refl)
-  where
-    some_is : {x y : NodeRow} → Some x ≡ Some y → x ≡ y
-    some_is e = cc
 
 -- ---- the counters, whose next inode may rise
 

@@ -29,7 +29,7 @@ use Rattle.jv_volume.proofs.StoredLaws.{HasNode, HasCounters, found_node, found_
 use Rattle.jv_volume.proofs.StoringLaws.{AreStored, IsNodeCell, IsEdgeCell, are_stored, stored-by}
 use Rattle.jv_volume.proofs.TreeOfLaws.{get-entries, tree_of-put_node, tree_of-drop_node, tree_of-drop_edge, tree_of-put_counters}
 use Rattle.jv_volume.proofs.ChangeLaws.{take_entry-there}
-use Rattle.jv_volume.proofs.LinkLaws.{standing, standing_here, standing_apart, dirs-shape, link_count-without_leaf, link_count-without_dir}
+use Rattle.jv_volume.proofs.LinkLaws.{standing, standing_here, standing_apart, dirs-shape, link_count-without_leaf, link_count-without_dir, none_within}
 use Rattle.jv_volume.proofs.SumLaws.{used_space-removed, used_inodes-removed}
 use Rattle.jv_volume.proofs.MadeRowsLaws.{touched_row}
 
@@ -132,10 +132,6 @@ module _ (bytes : ℕ → ℕ → ℕ) (rows : Rows) (now : ℕ) (place : EntryK
       ap (λ n. if is_dir (form_of (Some node)) then n else 0) (standing_here place.dir place refl) in
       let same = ap (λ (x : Tree). link_count x place.dir) tree_of-gone in
       omega (arith, all, one, same, dir_is.links, going.dir_links)
-
-  none_within : (b : Bool) (n : ℕ) → n ≡ 0 → (if b then n else 0) ≡ 0
-  none_within true n e = e
-  none_within false n e = refl
 
   other_links : (j : ℕ) → j ≢ place.dir → j ≢ inode → link_count (tree_of bytes after) j ≡ link_count t j
   other_links j aside apart =

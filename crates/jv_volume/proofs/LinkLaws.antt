@@ -1,6 +1,6 @@
 -- The link counts of a tree after each of its small changes. They are a function of the tree's shape.
-use Rattle.std.proofs.Common.{◌≡◌, ◌≢◌, ℕ, ◌+◌, ◌<◌, Bool, true, false, cond, ◌&&◌, inl, inr, Option, None, Some, refl, sym, ap, subst, ◌∙◌, arith, lt-ltb, ne_eqb, eq-eqb, eqb-true}
-use Rattle.std.specs.Prelude.{◌==◌, nat_lt, is_some, if◌then◌else◌}
+use Rattle.std.proofs.Common.{◌≡◌, ◌≢◌, ℕ, ◌+◌, ◌<◌, Bool, true, false, cond, ◌&&◌, inl, inr, Option, None, Some, refl, sym, ap, subst, ◌∙◌, arith, ne_eqb, eq-eqb, eqb-true}
+use Rattle.std.specs.Prelude.{◌==◌, is_some, if◌then◌else◌}
 use Rattle.std.specs.Option.{option_map}
 use Rattle.std.proofs.lemmas.Bool.{cases_eq, false≢true}
 use Rattle.jv_model.specs.FiniteMap.{number_key, get, insert, remove, sum_over}
@@ -10,7 +10,10 @@ use Rattle.jv_model.specs.tree.Renaming.{kind_under, moved_node, move_in, moved,
 use Rattle.jv_volume.specs.Shape.{Regular, Link, Dir, Shape, form_of, is_there, is_dir, naming, WholeShape, shape_of}
 use Rattle.jv_volume.proofs.ChangeLaws.{change_node-entries, change_node-here, change_node-apart, move_in-entries}
 use Rattle.jv_volume.proofs.MapLaws.{sum-new, sum-over, sum-gone, sum-nothing, sum-agree}
-use Rattle.jv_volume.proofs.ShapeMapLaws.{naming_same, naming_apart, was_kept, get-inserted, get-insert_apart, get-remove_apart, Entries, count_of, count-insert, count-remove, count_none, shape-put_entry, shape-take_entry}
+use Rattle.jv_volume.proofs.ShapeMapLaws.{naming_same, naming_apart, was_kept, get-inserted, get-insert_apart, get-remove_apart, Entries, count_of, count-insert, count-remove, count_none, shape-put_entry, shape-take_entry, is_dir-form}
+-- a tree's directories are its shape's
+pub use Rattle.jv_volume.proofs.ShapeMapLaws.{is_directory-form as dirs-shape}
+pub use Rattle.jv_volume.proofs.EnteredShapeLaws.{next_absent}
 
 -- whether an entry is of a directory in this one
 abbrev pub within_of : (ℕ → Bool) → ℕ → EntryKey → ℕ → ℕ
@@ -26,20 +29,6 @@ dirs_of s inode = is_dir (s.form inode)
 -- the link count of an inode of a shape
 abbrev pub links : Shape → ℕ → ℕ
 links s inode = links_in (dirs_of s) s.entries inode
-
-parent_is_dir : (node : Option Node) → is_some (parent_of node) ≡ is_dir (form_of node)
-parent_is_dir None = refl
-parent_is_dir (Some node) = by_kind node.kind
-  where
-    by_kind : (kind : Kind) → is_some (elim kind [ File content ↦ None | Directory parent ↦ Some parent | Symlink target ↦ None ])
-        ≡ is_dir (elim kind [ File content ↦ Regular | Directory parent ↦ Dir parent | Symlink target ↦ Link ])
-    by_kind (File content) = refl
-    by_kind (Directory parent) = refl
-    by_kind (Symlink target) = refl
-
--- a tree's directories are its shape's
-pub dirs-shape : (t : Tree) (inode : ℕ) → is_directory t inode ≡ dirs_of (shape_of t) inode
-dirs-shape t inode = parent_is_dir (node_at t inode)
 
 -- a tree's link counts are its shape's
 pub link_count-shape : (t : Tree) (inode : ℕ) → link_count t inode ≡ links (shape_of t) inode
@@ -138,6 +127,11 @@ standing_apart dir at apart = ap (λ b. if b then 1 else 0) (ne_eqb at.dir dir a
 pub standing_here : (dir : ℕ) (at : EntryKey) → at.dir ≡ dir → standing dir at ≡ 1
 standing_here dir at same = ap (λ b. if b then 1 else 0) (eq-eqb at.dir dir same)
 
+-- a link that a test counts is none where there is none
+pub none_within : (b : Bool) (n : ℕ) → n ≡ 0 → (if b then n else 0) ≡ 0
+none_within true n e = e
+none_within false n e = refl
+
 -- what a directory's entry adds: one to the directory that it stands in
 pub share-dir : (dirs : ℕ → Bool) (at : EntryKey) (inode j : ℕ) → dirs inode ≡ true → dirs at.dir ≡ true → link_share dirs at inode j ≡ standing j at
 share-dir dirs at inode j is within =
@@ -224,7 +218,7 @@ link_count-drop_unnamed t inode j unnamed apart =
 module _ (t : Tree) (inode : ℕ) (change : Node → Node) (keeps : (node : Node) → is_dir (form_of (Some (change node))) ≡ is_dir (form_of (Some node))) where
   changed_dir : (o : Option Node) → is_some (parent_of (option_map change o)) ≡ is_some (parent_of o)
   changed_dir None = refl
-  changed_dir (Some node) = parent_is_dir (Some (change node)) ∙ keeps node ∙ sym (parent_is_dir (Some node))
+  changed_dir (Some node) = sym (is_dir-form (Some (change node))) ∙ keeps node ∙ is_dir-form (Some node)
 
   pub is_directory-change_node : (k : ℕ) → is_directory (change_node t inode change) k ≡ is_directory t k
   is_directory-change_node k = elim (cases_eq k inode) [
@@ -247,7 +241,7 @@ pub is_directory-take_entry : (t : Tree) (now : ℕ) (at : EntryKey) (k : ℕ) �
 is_directory-take_entry t now at k = dirs-shape (take_entry t now at) k ∙ ap (λ s. dirs_of s k) (shape-take_entry t now at) ∙ sym (dirs-shape t k)
 
 pub is_directory-put_here : (t : Tree) (inode : ℕ) (node : Node) → is_directory (put_node t inode node) inode ≡ is_dir (form_of (Some node))
-is_directory-put_here t inode node = ap (λ o. is_some (parent_of o)) (get-inserted number_key t.nodes inode node) ∙ parent_is_dir (Some node)
+is_directory-put_here t inode node = ap (λ o. is_some (parent_of o)) (get-inserted number_key t.nodes inode node) ∙ sym (is_dir-form (Some node))
 
 pub is_directory-put_apart : (t : Tree) (inode : ℕ) (node : Node) (k : ℕ) → k ≢ inode → is_directory (put_node t inode node) k ≡ is_directory t k
 is_directory-put_apart t inode node k apart = ap (λ o. is_some (parent_of o)) (get-insert_apart number_key t.nodes inode node k apart)
@@ -270,22 +264,6 @@ free_inode t inode whole none = record {
   unnamed = λ at e. absurd (false≢true (sym (ap (λ o. is_there (form_of o)) none) ∙ (whole.entry at inode e).there));
   empty = λ at other e same. absurd (false≢true (sym (ap (λ o. is_dir (form_of o)) (ap (node_at t) same ∙ none)) ∙ (whole.entry at other e).within));
 }
-
-there_by : (kind : Kind) → is_there (elim kind [ File content ↦ Regular | Directory parent ↦ Dir parent | Symlink target ↦ Link ]) ≡ true
-there_by (File content) = refl
-there_by (Directory parent) = refl
-there_by (Symlink target) = refl
-
--- the next inode isn't there
-pub next_absent : (t : Tree) → WholeShape (shape_of t) → node_at t t.next_inode ≡ None
-next_absent t whole = by_node (node_at t t.next_inode) refl
-  where
-    by_node : (o : Option Node) → node_at t t.next_inode ≡ o → o ≡ None
-    by_node None e = refl
-    by_node (Some node) e =
-        let low : nat_lt t.next_inode trash_root ≡ true = lt-ltb t.next_inode trash_root (omega (arith, whole.inodes_end)) in
-        let below : t.next_inode < t.next_inode = whole.below t.next_inode (ap (λ o. is_there (form_of o)) e ∙ there_by node.kind) low in
-        absurd (omega (arith, below))
 
 -- the next inode counts for used space
 pub next_low : (t : Tree) → WholeShape (shape_of t) → (root < t.next_inode) × (t.next_inode < trash_root)

@@ -1,5 +1,5 @@
 -- One more entry of a file or a symlink keeps a tree whole. An inode that has none, and is kept by a session, can't be linked.
-use Rattle.std.proofs.Common.{◌≡◌, ◌≢◌, ℕ, ◌+◌, ◌≤◌, ◌<◌, true, false, ◌&&◌, ◌==◌, inl, inr, Option, None, Some, is_some, refl, sym, ap, subst, ◌∙◌, arith}
+use Rattle.std.proofs.Common.{◌≡◌, ◌≢◌, ℕ, ◌+◌, ◌≤◌, ◌<◌, true, false, ◌&&◌, ◌==◌, inl, inr, None, Some, refl, sym, ap, subst, ◌∙◌, arith}
 use Rattle.std.specs.Prelude.{IsTrue}
 use Rattle.std.proofs.lemmas.Bool.{and_from, and_parts, false≢true, eq-eqb, le-leb, ltb-true, cases_eq, false_from_ne_true}
 use Rattle.jv_model.specs.FiniteMap.{get, insert}
@@ -7,7 +7,7 @@ use Rattle.jv_model.specs.tree.Tree.{Tree, EntryKey, entry_key, root, trash_root
 use Rattle.jv_model.specs.tree.Changes.{put_entry}
 use Rattle.jv_model.specs.tree.Making.{may_be_new, is_trashed, linked}
 use Rattle.jv_volume.specs.Shape.{Dir, Shape, is_there, is_dir, shape_of, named, keeps, names, is_top, is_hour, Names, Entered, Keeps, IsKept, WholeShape}
-use Rattle.jv_volume.proofs.ShapeMapLaws.{stays_at, was_inserted, first_where-none, count-insert_same, count-insert_apart, counted_once, with_entries, shape-put_entry, is_dir-form, names_kept, leaf_apart, not_top}
+use Rattle.jv_volume.proofs.ShapeMapLaws.{stays_at, was_inserted, first_where-none, count-insert_same, count-insert_apart, counted_once, with_entries, shape-put_entry, is_dir-form, names_kept, leaf_apart, not_top, none_if}
 use Rattle.jv_volume.proofs.SameShapeLaws.{shape-status_changed}
 use Rattle.jv_volume.proofs.EnteredShapeLaws.{new_below, not_hour_below}
 
@@ -97,15 +97,11 @@ module _ (s : Shape) (place : EntryKey) (inode : ℕ) (w : WholeShape s) (h : Ma
     sessions_end = w.sessions_end;
   }
 
-none_of : {A : Type 0} (o : Option A) → is_some o ≡ false → o ≡ None
-none_of None h = refl
-none_of (Some x) h = absurd (false≢true (sym h))
-
 -- an inode that isn't in the trash has no entry in an hour
 untrashed_entry : (t : Tree) (inode : ℕ) (at : EntryKey) → is_trashed t inode ≡ false → get t.entries at ≡ Some inode → is_hour at.dir ≡ false
 untrashed_entry t inode at untrashed is = false_from_ne_true _ (λ hour.
     let high = ltb-true trash_root at.dir ((and_parts _ _ hour).0) in
-    first_where-none entry_key (λ key i. (i == inode) && in_trash key.dir) t.entries at inode (none_of (trash_entry t inode) untrashed) is
+    first_where-none entry_key (λ key i. (i == inode) && in_trash key.dir) t.entries at inode (none_if (trash_entry t inode) untrashed) is
     (and_from _ _ (eq-eqb inode inode refl) (le-leb trash_root at.dir (omega (arith, high)))))
 
 -- The model's `link`. That some entry names the inode comes of the walk that led to it.

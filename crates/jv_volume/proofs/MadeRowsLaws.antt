@@ -28,7 +28,7 @@ use Rattle.jv_volume.proofs.StoredLaws.{HasNode, HasCounters, found_node, found_
 use Rattle.jv_volume.proofs.StoringLaws.{AreStored, IsNodeCell, IsEdgeCell, are_stored, stored-by}
 use Rattle.jv_volume.proofs.TreeOfLaws.{get-entries, tree_of-put_node, tree_of-put_edge, tree_of-put_counters}
 use Rattle.jv_volume.proofs.ChangeLaws.{with_node-there}
-use Rattle.jv_volume.proofs.LinkLaws.{next_low, standing, standing_here, standing_apart, IsFree, free_inode, next_absent, link_count-new_leaf, link_count-beside_leaf, link_count-new_dir, link_count-beside_dir}
+use Rattle.jv_volume.proofs.LinkLaws.{next_low, standing, standing_here, standing_apart, IsFree, free_inode, next_absent, link_count-new_leaf, link_count-beside_leaf, link_count-new_dir, link_count-beside_dir, none_within}
 use Rattle.jv_volume.proofs.SumLaws.{counted, node_space-counted, node_count-counted, used_space-with_next, used_inodes-with_next}
 
 -- the directory's row after an entry came, and the counters after a node came
@@ -179,10 +179,6 @@ module _ (bytes : ℕ → ℕ → ℕ) (rows : Rows) (now : ℕ) (place : EntryK
       ap (λ (x : Tree). link_count x place.dir) is_tree
       ∙ beside_links is_new_dir refl place.dir (λ same. place_apart (same ∙ c_found.next_inode))
       ∙ (λ i. sym dir_found.links i + links_within is_new_dir (standing place.dir place) (standing_here place.dir place refl) i) ∙ sym made.dir_links
-
-  none_within : (b : Bool) (n : ℕ) → n ≡ 0 → (if b then n else 0) ≡ 0
-  none_within true n e = e
-  none_within false n e = refl
 
   other_links : (j : ℕ) → j ≢ place.dir → j ≢ c.inode → link_count (tree_of bytes done_rows) j ≡ link_count before_it j
   other_links j aside apart =

@@ -6,7 +6,8 @@ use Rattle.std.specs.Ordering.{eq_by_cmp, is_eq, is_lt}
 use Rattle.std.specs.FinMap.Entries.{find, below_all, is_sorted}
 use Rattle.jv_model.specs.FiniteMap.{KeyOrder, Map, get, insert, remove, alter, sum_over, total_over}
 use Rattle.jv_model.proofs.FiniteMapLaws.{share, get-alter, same_maps, sum-insert, sum-remove}
-use Rattle.jv_volume.proofs.ShapeMapLaws.{tied_here, tied_same, tied_apart}
+use Rattle.jv_volume.proofs.ShapeMapLaws.{tied_here, tied_same}
+pub use Rattle.jv_volume.proofs.ShapeMapLaws.{get-alter-here, get-alter-apart}
 
 pub first_of_both : (a b : Bool) → T (a && b) → T a
 first_of_both true b p = tt
@@ -41,10 +42,6 @@ module _ {K X Y : Type 0} (order : KeyOrder K) (f : K → X → Y) where
   pub find-map : (q : K) (es : List (K × X)) → find order.cmp q (map (λ e. (e.0, f e.0 e.1)) es) ≡ option_map (f q) (find order.cmp q es)
   find-map q [] = refl
   find-map q (e ∷ es) = ap (cond (eq_by_cmp order.cmp q e.0) (Some (f e.0 e.1))) (find-map q es) ∙ find-map_at q e es (eq_by_cmp order.cmp q e.0) refl
-
--- what stands at a changed key
-pub get-alter-here : {K X : Type 0} (order : KeyOrder K) (m : Map order X) (k : K) (v : Option X) → get (alter m k v) k ≡ v
-get-alter-here order m k v = get-alter m k v k ∙ ap (λ b. cond b v (get m k)) (tied_here order k)
 
 -- ---- sums of maps that have the same keys
 
@@ -94,14 +91,6 @@ sum-zeros : {K X : Type 0} (order : KeyOrder K) (m : Map order X) → sum_over (
 unfolding sum_over
 sum-zeros order m = zeros m.list
 
-nothing_alike : {K X : Type 0} (f : K → X → ℕ) (k : K) (o : Option X) → ((x : X) → o ≡ Some x → f k x ≡ 0) → option_map (f k) o ≡ option_map (λ x. 0) o
-nothing_alike f k None none = refl
-nothing_alike f k (Some x) none = ap (λ n. Some n) (none x refl)
-
--- a sum of nothing but zeros
-pub sum-nothing : {K X : Type 0} (order : KeyOrder K) (f : K → X → ℕ) (m : Map order X) → ((k : K) (x : X) → get m k ≡ Some x → f k x ≡ 0) → sum_over f m ≡ 0
-sum-nothing order f m none = sum-alike order f (λ k x. 0) m m (λ k. nothing_alike f k (get m k) (none k)) ∙ sum-zeros order m
-
 entry_alike : {K X : Type 0} (f g : K → X → ℕ) (k : K) (o : Option X) → ((x : X) → o ≡ Some x → f k x ≡ g k x) → option_map (f k) o ≡ option_map (g k) o
 entry_alike f g k None same = refl
 entry_alike f g k (Some x) same = ap (λ n. Some n) (same x refl)
@@ -110,6 +99,10 @@ entry_alike f g k (Some x) same = ap (λ n. Some n) (same x refl)
 pub sum-agree : {K X : Type 0} (order : KeyOrder K) (f g : K → X → ℕ) (m : Map order X) → ((k : K) (x : X) → get m k ≡ Some x → f k x ≡ g k x)
     → sum_over f m ≡ sum_over g m
 sum-agree order f g m same = sum-alike order f g m m (λ k. entry_alike f g k (get m k) (same k))
+
+-- a sum of nothing but zeros
+pub sum-nothing : {K X : Type 0} (order : KeyOrder K) (f : K → X → ℕ) (m : Map order X) → ((k : K) (x : X) → get m k ≡ Some x → f k x ≡ 0) → sum_over f m ≡ 0
+sum-nothing order f m none = sum-agree order f (λ k x. 0) m none ∙ sum-zeros order m
 
 module _ {K X : Type 0} (order : KeyOrder K) (f : K → X → ℕ) (m : Map order X) (k : K) where
   -- a sum with an entry at a free key
@@ -170,7 +163,3 @@ module _ {K X : Type 0} (order : KeyOrder K) (m : Map order X) where
 
   pub remove-absent : (k : K) → get m k ≡ None → remove m k ≡ m
   remove-absent k none = alter-same k None none
-
--- what stands at another key than the changed one
-pub get-alter-apart : {K X : Type 0} (order : KeyOrder K) (m : Map order X) (k : K) (v : Option X) (q : K) → q ≢ k → get (alter m k v) q ≡ get m q
-get-alter-apart order m k v q apart = get-alter m k v q ∙ ap (λ b. cond b v (get m q)) (tied_apart order k q apart)

@@ -8,7 +8,7 @@ use Rattle.jv_model.specs.declared.row.Node.{Node as NodeRow}
 use Rattle.jv_model.specs.declared.row.Edge.{Edge}
 use Rattle.jv_model.specs.declared.row.Session.{Session}
 use Rattle.jv_model.specs.declared.row.Dropped.{Dropped}
-use Rattle.jv_model.specs.declared.row.Row.TheVariants.{OfSetting, OfCounters, OfSustained, OfDropped}
+use Rattle.jv_model.specs.declared.row.Row.TheVariants.{OfSetting, OfSustained, OfDropped}
 use Rattle.jv_model.specs.declared.setting.Setting.{Setting}
 use Rattle.jv_model.specs.FiniteMap.{get, alter}
 use Rattle.jv_model.specs.rows.RowKeys.{row_key}
@@ -20,7 +20,7 @@ use Rattle.jv_volume.specs.Stored.{Stored}
 use Rattle.jv_volume.specs.Whole.{IsRowAt}
 use Rattle.jv_volume.proofs.ShapeMapLaws.{same_or_apart}
 use Rattle.jv_volume.proofs.MapLaws.{get-alter-here, get-alter-apart}
-use Rattle.jv_volume.proofs.StoredLaws.{of_node, of_edge, of_session, node_stands, edge_stands, session_stands, sustained_stands}
+use Rattle.jv_volume.proofs.StoredLaws.{of_node, of_edge, of_session, node_stands, edge_stands, session_stands, sustained_stands, of_counters}
 
 -- ---- views by what stands at a key
 
@@ -45,9 +45,6 @@ session-seen rows sid found e = ap (λ c. session_in (row_in c)) e ∙ back foun
     back : (o : Option Session) → session_in (row_in (option_map of_session o)) ≡ o
     back None = refl
     back (Some session) = refl
-
-abbrev pub of_counters : Counters → Cell
-of_counters counters = Ok (OfCounters counters)
 
 pub counters-seen : (rows : Rows) (found : Option Counters) → get rows counters_key ≡ option_map of_counters found → counters_at rows ≡ found
 counters-seen rows found e = ap (λ c. counters_in (row_in c)) e ∙ back found

@@ -1,5 +1,6 @@
 -- A table's rows as a map of their own: what it answers at a key, and what a put or a delete does to it.
 use Rattle.std.proofs.Common.{◌≡◌, Bool, true, false, cond, T, List, [], ◌∷◌, Option, None, Some, option_and_then, refl, sym, ap, subst, ◌∙◌, true≢false}
+use Rattle.std.proofs.lemmas.Option.{same_Some}
 use Rattle.std.specs.Ordering.{eq_by_cmp}
 use Rattle.std.specs.FinMap.Entries.{find, below_all, is_sorted}
 use Rattle.jv_model.specs.declared.row.RowKey.{RowKey}
@@ -10,7 +11,7 @@ use Rattle.jv_model.proofs.FiniteMapLaws.{get-alter, get-map_of, same_maps}
 use Rattle.jv_volume.specs.TypedRows.{Cell, Rows}
 use Rattle.jv_volume.specs.Views.{row_in, row_at}
 use Rattle.jv_volume.specs.TreeOf.{entry_selected, entries_selected, selected}
-use Rattle.jv_volume.proofs.MapLaws.{key_ties, get-alter-here, find-below_all, first_of_both, second_of_both}
+use Rattle.jv_volume.proofs.MapLaws.{key_ties, get-alter-here, find-below_all, first_of_both, second_of_both, get-alter-apart}
 use Rattle.jv_volume.proofs.ShapeMapLaws.{tied_here, tied_same, tied_apart}
 
 -- A table: which rows are of it, by which keys, and where the row of a key stands, where it can stand.
@@ -96,11 +97,8 @@ module _ {K X : Type 0} (order : KeyOrder K) (key_of : RowKey → Option K) (pla
   get-selected_by : (rows : Rows) (k : K) (o : Option RowKey) → place k ≡ o → get (selected {order = order} key_of value_of rows) k ≡ value_at rows k o
   get-selected_by rows k None e = get-selected-none order key_of value_of rows k (λ q is. let there = table.there q k is in absurd (cc))
   get-selected_by rows k (Some at) e =
-      get-selected-at order key_of value_of rows k at (table.back at k e) (λ q is. let there = sym e ∙ table.there q k is in same_some there)
+      get-selected-at order key_of value_of rows k at (table.back at k e) (λ q is. let there = sym e ∙ table.there q k is in same_Some _ _ there)
       ∙ value_of_cell k (get rows at)
-    where
-      same_some : {q r : RowKey} → Some q ≡ Some r → q ≡ r
-      same_some e = cc
 
   pub get-selected : (rows : Rows) (k : K) → get (selected {order = order} key_of value_of rows) k ≡ value_at rows k (place k)
   get-selected rows k = get-selected_by rows k (place k) refl
@@ -110,8 +108,7 @@ module _ {K X : Type 0} (order : KeyOrder K) (key_of : RowKey → Option K) (pla
       → value_at (alter rows q cell) k o ≡ value_at rows k o
   kept rows q cell k apart None e = refl
   kept rows q cell k apart (Some r) e =
-      ap (λ c. value_of k (row_in c)) (get-alter rows q cell r
-      ∙ ap (λ b. cond b cell (get rows r)) (tied_apart row_key q r (λ same. apart (subst (λ x. key_of x ≡ Some k) same (table.back r k e)))))
+      ap (λ c. value_of k (row_in c)) (get-alter-apart row_key rows q cell r (λ same. apart (subst (λ x. key_of x ≡ Some k) same (table.back r k e))))
 
   kept_at : (rows : Rows) (q : RowKey) (cell : Option Cell) (k : K) → (key_of q ≡ Some k → ⊥)
       → get (selected {order = order} key_of value_of (alter rows q cell)) k ≡ get (selected {order = order} key_of value_of rows) k
@@ -131,11 +128,8 @@ module _ {K X : Type 0} (order : KeyOrder K) (key_of : RowKey → Option K) (pla
       subst (λ i. get (selected {order = order} key_of value_of (alter rows q cell)) i ≡ value_of k (row_in cell)) (sym same)
       (get-selected_by (alter rows q cell) k (Some q) (table.there q k is) ∙ ap (λ c. value_of k (row_in c)) (get-alter-here row_key rows q cell))
   changed_at rows q cell k j is false e =
-      kept_at rows q cell j (λ has. not_itself (same_some (sym has ∙ is)) e)
+      kept_at rows q cell j (λ has. not_itself (same_Some _ _ (sym has ∙ is)) e)
     where
-      same_some : Some j ≡ Some k → j ≡ k
-      same_some h = cc
-
       not_itself : j ≡ k → eq_by_cmp order.cmp j k ≡ false → ⊥
       not_itself same apart = absurd (true≢false (sym (key_ties order j k same) ∙ apart))
 

@@ -1,5 +1,6 @@
 -- A table's rows as a map of their own have the order of the rows: a scan of the table goes over the map.
 use Rattle.std.proofs.Common.{◌≡◌, ℕ, Bool, true, false, T, ◌&&◌, List, [], ◌∷◌, Option, None, Some, refl, sym, ap, ◌∙◌}
+use Rattle.std.proofs.lemmas.Option.{same_Some}
 use Rattle.std.specs.declared.cmp.Ordering.{Ordering}
 use Rattle.std.specs.declared.cmp.Ordering.TheVariants.{Less, Equal, Greater}
 use Rattle.std.specs.Ordering.{is_lt, nat_cmp, ordering_then}
@@ -99,21 +100,15 @@ then_less Greater e = e
 -- rows of a table whose keys are numbers have the order of numbers
 pub number_rises : (tab : ℕ) → Rises number_key (number_of tab)
 number_rises tab q r k j is also less =
-    let as_number : record { tab = tab; a = k; b = [] } ≡ q = some_same ((number_table tab).there q k is) in
-    let other : record { tab = tab; a = j; b = [] } ≡ r = some_same ((number_table tab).there r j also) in
+    let as_number : record { tab = tab; a = k; b = [] } ≡ q = same_Some _ _ ((number_table tab).there q k is) in
+    let other : record { tab = tab; a = j; b = [] } ≡ r = same_Some _ _ ((number_table tab).there r j also) in
     let both : row_cmp (record { tab = tab; a = k; b = [] }) (record { tab = tab; a = j; b = [] }) ≡ Less = (λ i. row_cmp (as_number i) (other i)) ∙ less in
     then_less (nat_cmp k j) (sym (ap (λ o. ordering_then o (ordering_then (nat_cmp k j) Equal)) (tied_itself nat_cmp_total tab)) ∙ both)
-  where
-    some_same : {x y : RowKey} → Some x ≡ Some y → x ≡ y
-    some_same e = cc
 
 -- edges have the order of their directories, and then of their names
 pub entry_rises : Rises entry_key entry_of_key
 entry_rises q r k j is also less =
-    let as_entry : edge_key k.dir k.name ≡ q = some_same (entry_table.there q k is) in
-    let other : edge_key j.dir j.name ≡ r = some_same (entry_table.there r j also) in
+    let as_entry : edge_key k.dir k.name ≡ q = same_Some _ _ (entry_table.there q k is) in
+    let other : edge_key j.dir j.name ≡ r = same_Some _ _ (entry_table.there r j also) in
     let both : row_cmp (edge_key k.dir k.name) (edge_key j.dir j.name) ≡ Less = (λ i. row_cmp (as_entry i) (other i)) ∙ less in
     both
-  where
-    some_same : {x y : RowKey} → Some x ≡ Some y → x ≡ y
-    some_same e = cc

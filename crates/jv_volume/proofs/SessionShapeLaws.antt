@@ -9,7 +9,7 @@ use Rattle.jv_model.specs.tree.Caller.{Caller}
 use Rattle.jv_model.specs.tree.Sessions.{with_session, kept_alive, without_session, released}
 use Rattle.jv_model.proofs.FiniteMapLaws.{get-retain_keys}
 use Rattle.jv_volume.specs.Shape.{Absent, Dir, Shape, form_of, is_there, is_dir, shape_of, named, keeps, names, is_top, is_hour, Reaches, Names, Entered, Keeps, IsKept, WholeShape}
-use Rattle.jv_volume.proofs.ShapeMapLaws.{get-inserted, get-insert_apart, get-removed, get-remove_apart, uncounted, form-drop_node, parent_of_dir, reaches_lift, names_kept}
+use Rattle.jv_volume.proofs.ShapeMapLaws.{get-inserted, get-insert_apart, get-removed, get-remove_apart, uncounted, form-drop_node, parent_of_dir, reaches_lift, names_kept, pair_of}
 use Rattle.jv_volume.proofs.SameShapeLaws.{whole_as, shape-kept_alive}
 
 -- a session that comes
@@ -169,9 +169,6 @@ if_some false o h = absurd (false≢true h)
 form_retained : (b : Bool) (o : Option Node) → form_of (cond (not b) o None) ≡ (if b then Absent else form_of o)
 form_retained true o = refl
 form_retained false o = refl
-
-abbrev pair_of : ℕ → ℕ → SustainedFile
-pair_of sid inode = record { sid = sid; inode = inode }
 
 module _ (t : Tree) (sid : ℕ) where
   gone_files : (inode : ℕ) → form_of (node_at (without_session t sid) inode) ≡ (if keeps (shape_of t) sid inode then Absent else (shape_of t).form inode)

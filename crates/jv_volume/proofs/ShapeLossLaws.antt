@@ -6,20 +6,14 @@ use Rattle.std.proofs.lemmas.Option.{same_Some}
 use Rattle.jv_model.specs.FiniteMap.{get, insert, remove}
 use Rattle.jv_model.specs.tree.Tree.{EntryKey, entry_key, pair_key, SustainedFile, root, trash_root}
 use Rattle.jv_volume.specs.Shape.{Absent, Regular, Dir, Shape, WholeShape, Names, Entered, Keeps, is_there, is_dir, named, keeps, names, is_top, Reaches}
-use Rattle.jv_volume.proofs.ShapeMapLaws.{same_or_apart, get-inserted, get-insert_apart, get-removed, get-remove_apart, was_kept, count-remove_same, count-remove_apart, counted_once, with_form, with_form-here, with_form-apart, with_entries}
+use Rattle.jv_volume.proofs.ShapeMapLaws.{same_or_apart, get-inserted, get-insert_apart, get-removed, get-remove_apart, was_kept, count-remove_same, count-remove_apart, counted_once, with_form, with_form-here, with_form-apart, with_entries, pair_of, entry_stays}
 use Rattle.jv_volume.proofs.ClimbLaws.{top_parent}
 
 -- an entry that stays where its inode and its directory are what they were
 pub entry_kept : (s after : Shape) (at : EntryKey) (inode : ℕ) → is_there (after.form inode) ≡ is_there (s.form inode)
     → is_dir (after.form inode) ≡ is_dir (s.form inode)
     → is_dir (after.form at.dir) ≡ is_dir (s.form at.dir) → (names s inode ≡ 1 → names after inode ≡ 1) → Names s at inode → Names after at inode
-entry_kept s after at inode there leaf within one h = record {
-  there = there ∙ h.there;
-  free = h.free;
-  within = within ∙ h.within;
-  hour = h.hour;
-  trashed = λ e. let t = h.trashed e in record { leaf = leaf ∙ t.leaf; only = one t.only; place = t.place; name = t.name };
-}
+entry_kept s after at inode there leaf within one h = entry_stays s after at inode there leaf (within ∙ h.within) (λ hour. one) h
 
 -- a directory's entry that stays, and stays alone
 pub entered_kept : (s after : Shape) (dir parent : ℕ) → ((at : EntryKey) → named s at ≡ Some dir → named after at ≡ Some dir)
@@ -53,6 +47,10 @@ without_only s after place inode same forms = record {
 -- what stands at the only entry of an inode
 same_named : (s : Shape) (at : EntryKey) (i inode : ℕ) → named s at ≡ Some i → i ≡ inode → named s at ≡ Some inode
 same_named s at i inode is e = is ∙ ap Some e
+
+-- an inode that no entry names is another one
+unnamed_apart : (s : Shape) (place : EntryKey) (inode : ℕ) → named s place ≡ Some inode → (i : ℕ) → names s i ≡ 0 → i ≢ inode
+unnamed_apart s place inode is i none e = let one = counted_once s.entries place i (same_named s place inode i is (sym e)) in absurd (omega (arith, one, none))
 
 -- without an inode and its entry
 abbrev pub without_inode : Shape → EntryKey → ℕ → Shape
@@ -114,7 +112,7 @@ module _ (s : Shape) (place : EntryKey) (inode : ℕ) (whole : WholeShape s) (is
         record { sid = kept.sid; is = kept.is };
     sustains = λ sid i h.
         let k = whole.sustains sid i h in
-        let apart : i ≢ inode = λ e. unnamed_apart i k.unnamed e in
+        let apart : i ≢ inode = λ e. unnamed_apart s place inode is i k.unnamed e in
         record { session = k.session; file = form_apart i apart ∙ k.file; unnamed = names_apart i apart ∙ k.unnamed; one = k.one };
     hours = λ i there more.
         let apart = there_apart i there in
@@ -125,9 +123,6 @@ module _ (s : Shape) (place : EntryKey) (inode : ℕ) (whole : WholeShape s) (is
     inodes_end = whole.inodes_end;
     sessions_end = whole.sessions_end;
   }
-    where
-      unnamed_apart : (i : ℕ) → names s i ≡ 0 → i ≢ inode
-      unnamed_apart i none e = let one = counted_once s.entries place i (same_named s place inode i is (sym e)) in absurd (omega (arith, one, none))
 
 -- what stays where a file's or a symlink's entry goes, and its inode stays
 module _ (s : Shape) (place : EntryKey) (inode : ℕ) (whole : WholeShape s) (is : named s place ≡ Some inode) (leaf : is_dir (s.form inode) ≡ false) where
@@ -164,7 +159,7 @@ module _ (s : Shape) (place : EntryKey) (inode : ℕ) (whole : WholeShape s) (is
         record { sid = kept.sid; is = kept.is };
     sustains = λ sid i h.
         let k = whole.sustains sid i h in
-        record { session = k.session; file = k.file; unnamed = names_less i (unnamed_apart i k.unnamed) ∙ k.unnamed; one = k.one };
+        record { session = k.session; file = k.file; unnamed = names_less i (unnamed_apart s place inode is i k.unnamed) ∙ k.unnamed; one = k.one };
     hours = whole.hours;
     below = whole.below;
     sessions = whole.sessions;
@@ -184,12 +179,6 @@ module _ (s : Shape) (place : EntryKey) (inode : ℕ) (whole : WholeShape s) (is
         | inr apart ↦ sym (names_less i apart) ∙ none
       ]
 
-      unnamed_apart : (i : ℕ) → names s i ≡ 0 → i ≢ inode
-      unnamed_apart i none e = absurd (omega (arith, several, ap (names s) e, none))
-
-pair_of : ℕ → ℕ → SustainedFile
-pair_of sid inode = record { sid = sid; inode = inode }
-
 -- without an entry of a file that a session keeps from then on
 abbrev pub sustained_shape : Shape → EntryKey → ℕ → ℕ → Shape
 sustained_shape s place sid inode = record s { entries = remove s.entries place; sustained = insert s.sustained (record { sid = sid; inode = inode }) tt }
@@ -197,18 +186,15 @@ sustained_shape s place sid inode = record s { entries = remove s.entries place;
 -- what a session keeps then
 keeps_cases : (s : Shape) (place : EntryKey) (sid inode other i : ℕ) → IsTrue (keeps (sustained_shape s place sid inode) other i)
     → ((other ≡ sid) × (i ≡ inode)) ⊎ IsTrue (keeps s other i)
-unfolding pair_of
 keeps_cases s place sid inode other i h = elim (same_or_apart pair_key (pair_of other i) (pair_of sid inode)) [
   | inl e ↦ inl (ap (λ (p : SustainedFile). p.sid) e, ap (λ (p : SustainedFile). p.inode) e)
   | inr apart ↦ inr (sym (ap is_some (get-insert_apart pair_key s.sustained (pair_of sid inode) tt (pair_of other i) apart)) ∙ h)
 ]
 
 keeps_new : (s : Shape) (place : EntryKey) (sid inode : ℕ) → IsTrue (keeps (sustained_shape s place sid inode) sid inode)
-unfolding pair_of
 keeps_new s place sid inode = ap is_some (get-inserted pair_key s.sustained (pair_of sid inode) tt)
 
 keeps_old : (s : Shape) (place : EntryKey) (sid inode other i : ℕ) → IsTrue (keeps s other i) → IsTrue (keeps (sustained_shape s place sid inode) other i)
-unfolding pair_of
 keeps_old s place sid inode other i h = elim (same_or_apart pair_key (pair_of other i) (pair_of sid inode)) [
   | inl e ↦ ap (λ p. is_some (get (insert s.sustained (pair_of sid inode) tt) p)) e ∙ keeps_new s place sid inode
   | inr apart ↦ ap is_some (get-insert_apart pair_key s.sustained (pair_of sid inode) tt (pair_of other i) apart) ∙ h
@@ -228,11 +214,8 @@ module _ (s : Shape) (place : EntryKey) (sid inode : ℕ) (whole : WholeShape s)
   unnamed_now : names kept inode ≡ 0
   unnamed_now = omega (arith, count-remove_same s.entries place inode is, one)
 
-  unnamed_other : (i : ℕ) → names s i ≡ 0 → i ≢ inode
-  unnamed_other i none e = absurd (omega (arith, one, ap (names s) e, none))
-
   kept_by_none : (other : ℕ) → IsTrue (keeps s other inode) → ⊥
-  kept_by_none other h = unnamed_other inode (whole.sustains other inode h).unnamed refl
+  kept_by_none other h = unnamed_apart s place inode is inode (whole.sustains other inode h).unnamed refl
 
   keeps_it : (other i : ℕ) → (other ≡ sid) × (i ≡ inode) → Keeps kept other i
   keeps_it other i e = record {
@@ -248,7 +231,7 @@ module _ (s : Shape) (place : EntryKey) (sid inode : ℕ) (whole : WholeShape s)
   keeps_other : (other i : ℕ) → IsTrue (keeps s other i) → Keeps kept other i
   keeps_other other i h =
       let k = whole.sustains other i h in
-      let apart = unnamed_other i k.unnamed in
+      let apart = unnamed_apart s place inode is i k.unnamed in
       record {
         session = k.session;
         file = k.file;

@@ -1,26 +1,24 @@
 -- What stands in a shape after one change of its maps: entries that are looked up and counted, and the forms of inodes.
 use Rattle.std.proofs.Common.{◌≡◌, ◌≢◌, ℕ, zero, suc, ◌+◌, ◌≤◌, Bool, true, false, ◌==◌, if◌then◌else◌, ◌⊎◌, inl, inr, List, [], ◌∷◌, Option, None, Some, is_some, refl, sym, ap, ◌∙◌, arith}
 use Rattle.std.specs.Prelude.{IsTrue}
-use Rattle.std.specs.declared.cmp.Ordering.{Ordering}
-use Rattle.std.specs.declared.cmp.Ordering.TheVariants.{Less, Equal, Greater}
 use Rattle.std.specs.Option.{option_map}
-use Rattle.std.specs.Ordering.{eq_by_cmp, is_eq}
-use Rattle.std.specs.Cmp.{eq_by_cmp_equiv}
+use Rattle.std.specs.Ordering.{eq_by_cmp}
+use Rattle.std.specs.Cmp.{eq_by_cmp_equiv, Equal-is}
 use Rattle.std.specs.FinMap.Entries.{find}
 use Rattle.std.proofs.lemmas.Option.{same_Some}
 use Rattle.std.proofs.lemmas.Bool.{or_from, cases_Bool, cond-true, cond-false, false_from_ne_true, false≢true, eq-eqb, ne_eqb, eqb-true, cases_eq}
-use Rattle.jv_model.specs.FiniteMap.{KeyOrder, Map, number_key, get, insert, remove, first_passing, first_where, sum_over, total_over}
-use Rattle.jv_model.specs.tree.Tree.{Tree, Node, Kind, File, Directory, Symlink, Content, EntryKey, entry_key, root, trash_root, node_at, content_of, parent_of}
+use Rattle.jv_model.specs.FiniteMap.{KeyOrder, Map, number_key, get, insert, remove, alter, first_passing, first_where, sum_over, total_over}
+use Rattle.jv_model.specs.tree.Tree.{Tree, Node, Kind, File, Directory, Symlink, Content, EntryKey, SustainedFile, entry_key, root, trash_root, node_at, is_directory, content_of, parent_of}
 use Rattle.jv_model.specs.tree.Changes.{touched, put_node, drop_node, set_node, change_node, touch, put_entry, take_entry}
-use Rattle.jv_model.proofs.FiniteMapLaws.{share, get-insert, get-remove, sum-insert, sum-remove, IsFound, first_where-found}
+use Rattle.jv_model.proofs.FiniteMapLaws.{share, sum-insert, sum-remove, IsFound, first_where-found, get-alter}
 use Rattle.jv_volume.specs.Shape.{Form, Absent, Regular, Link, Dir, Shape, form_of, is_there, is_dir, shape_of, naming, names, is_top, is_hour, Reaches, Names}
 
--- keys of finite maps
+-- there is none where the test says so
+pub none_if : {A : Type 0} (o : Option A) → is_some o ≡ false → o ≡ None
+none_if None e = refl
+none_if (Some x) e = absurd (false≢true (sym e))
 
-tied_is : (o : Ordering) → is_eq o ≡ true → o ≡ Equal
-tied_is Less p = absurd (false≢true p)
-tied_is Equal p = refl
-tied_is Greater p = absurd (false≢true p)
+-- keys of finite maps
 
 module _ {K : Type 0} (order : KeyOrder K) where
   -- a key ties with itself
@@ -29,7 +27,7 @@ module _ {K : Type 0} (order : KeyOrder K) where
 
   -- keys that tie are one
   pub tied_same : (k q : K) → eq_by_cmp order.cmp q k ≡ true → q ≡ k
-  tied_same k q p = order.same q k (tied_is _ p)
+  tied_same k q p = order.same q k ((Equal-is (order.cmp q k)).0 p)
 
   -- keys that are apart don't tie
   pub tied_apart : (k q : K) → q ≢ k → eq_by_cmp order.cmp q k ≡ false
@@ -45,21 +43,29 @@ module _ {K : Type 0} (order : KeyOrder K) where
 -- what stands at a key after an insert or a removal
 
 module _ {K X : Type 0} (order : KeyOrder K) where
+  -- what stands at a changed key
+  pub get-alter-here : (m : Map order X) (k : K) (v : Option X) → get (alter m k v) k ≡ v
+  get-alter-here m k v = get-alter m k v k ∙ cond-true _ _ _ (tied_here order k)
+
+  -- what stands at another key than the changed one
+  pub get-alter-apart : (m : Map order X) (k : K) (v : Option X) (q : K) → q ≢ k → get (alter m k v) q ≡ get m q
+  get-alter-apart m k v q apart = get-alter m k v q ∙ cond-false _ _ _ (tied_apart order k q apart)
+
   -- what was inserted stands there
   pub get-inserted : (m : Map order X) (k : K) (v : X) → get (insert m k v) k ≡ Some v
-  get-inserted m k v = get-insert m k v k ∙ cond-true _ _ _ (tied_here order k)
+  get-inserted m k v = get-alter-here m k (Some v)
 
   -- an insert leaves what stands elsewhere
   pub get-insert_apart : (m : Map order X) (k : K) (v : X) (q : K) → q ≢ k → get (insert m k v) q ≡ get m q
-  get-insert_apart m k v q apart = get-insert m k v q ∙ cond-false _ _ _ (tied_apart order k q apart)
+  get-insert_apart m k v q apart = get-alter-apart m k (Some v) q apart
 
   -- nothing stands at a removed key
   pub get-removed : (m : Map order X) (k : K) → get (remove m k) k ≡ None
-  get-removed m k = get-remove m k k ∙ cond-true _ _ _ (tied_here order k)
+  get-removed m k = get-alter-here m k None
 
   -- a removal leaves what stands elsewhere
   pub get-remove_apart : (m : Map order X) (k q : K) → q ≢ k → get (remove m k) q ≡ get m q
-  get-remove_apart m k q apart = get-remove m k q ∙ cond-false _ _ _ (tied_apart order k q apart)
+  get-remove_apart m k q apart = get-alter-apart m k None q apart
 
   -- what stands there after an insert is the new value, or was there before
   pub was_inserted : (m : Map order X) (k : K) (v : X) (q : K) (x : X) → get (insert m k v) q ≡ Some x → ((q ≡ k) × (x ≡ v)) ⊎ ((q ≢ k) × (get m q ≡ Some x))
@@ -103,6 +109,10 @@ module _ {K X : Type 0} (order : KeyOrder K) (test : K → X → Bool) where
 pub stays_at : {K X : Type 0} (order : KeyOrder K) (m : Map order X) (k : K) (v : X) (q : K) (x : X) → get m k ≡ None → get m q ≡ Some x
     → get (insert m k v) q ≡ Some x
 stays_at order m k v q x free there = get-insert_apart order m k v q (λ e. (let both = ap (get m) e in absurd (cc))) ∙ there
+
+-- a session's place for a file that it keeps
+abbrev pub pair_of : ℕ → ℕ → SustainedFile
+pair_of sid inode = record { sid = sid; inode = inode }
 
 -- how many entries name an inode
 
@@ -368,6 +378,10 @@ is_dir-form (Some node) = elim node.kind as (λ kind. is_dir (form_of (of_kind n
   | Symlink target ↦ refl
 ]
 
+-- the test of a tree's directories is that of its forms
+pub is_directory-form : (t : Tree) (inode : ℕ) → is_directory t inode ≡ is_dir ((shape_of t).form inode)
+is_directory-form t inode = sym (is_dir-form (node_at t inode))
+
 -- a form by the kind of a node
 abbrev pub kind_form : Kind → Form
 kind_form (File content) = Regular
@@ -400,18 +414,24 @@ form-content (Some node) content h = elim node.kind as (λ kind. content_of (of_
   | Symlink target ↦ λ e. absurd (cc)
 ] h
 
--- an entry after a change that leaves what it names, and that it stands in a directory
-pub names_kept : (s after : Shape) (at : EntryKey) (inode : ℕ) → after.form inode ≡ s.form inode → IsTrue (is_dir (after.form at.dir))
+-- an entry after a change: what it names is there as before, and a directory as before, and it still stands in a directory
+pub entry_stays : (s after : Shape) (at : EntryKey) (inode : ℕ) → is_there (after.form inode) ≡ is_there (s.form inode)
+    → is_dir (after.form inode) ≡ is_dir (s.form inode) → IsTrue (is_dir (after.form at.dir))
     → (IsTrue (is_hour at.dir) → names s inode ≡ 1 → names after inode ≡ 1) → Names s at inode → Names after at inode
-names_kept s after at inode same within once n = record {
-  there = ap is_there same ∙ n.there;
+entry_stays s after at inode there leaf within once n = record {
+  there = there ∙ n.there;
   free = n.free;
   within = within;
   hour = n.hour;
   trashed = λ hour.
       let old = n.trashed hour in
-      record { leaf = ap is_dir same ∙ old.leaf; only = once hour old.only; place = old.place; name = old.name };
+      record { leaf = leaf ∙ old.leaf; only = once hour old.only; place = old.place; name = old.name };
 }
+
+-- an entry after a change that leaves what it names, and that it stands in a directory
+pub names_kept : (s after : Shape) (at : EntryKey) (inode : ℕ) → after.form inode ≡ s.form inode → IsTrue (is_dir (after.form at.dir))
+    → (IsTrue (is_hour at.dir) → names s inode ≡ 1 → names after inode ≡ 1) → Names s at inode → Names after at inode
+names_kept s after at inode same within once n = entry_stays s after at inode (ap is_there same) (ap is_dir same) within once n
 
 -- a leaf is neither the root nor the trash, nor one of its hours
 pub leaf_apart : (s : Shape) (dir parent inode : ℕ) → s.form dir ≡ Dir parent → is_dir (s.form inode) ≡ false → inode ≢ dir

@@ -179,7 +179,7 @@ module _ (s : Shape) (from : EntryKey) (inode : ℕ) (to : EntryKey) (whole : Wh
         record { session = k.session; file = file_same i k.file; unnamed = names_same i ∙ k.unnamed; one = k.one };
     hours = λ i there more.
         let h = whole.hours i (sym (there_same i) ∙ there) more in
-        (h.0, form_apart i (no_hour i h.1 (hour_deep i h.0)) ∙ h.1);
+        (h.0, form_apart i (no_hour i h.1 (hour_is_deep i h.0)) ∙ h.1);
     below = λ i there less. whole.below i (sym (there_same i) ∙ there) less;
     sessions = whole.sessions;
     inodes_end = whole.inodes_end;
@@ -191,6 +191,3 @@ module _ (s : Shape) (from : EntryKey) (inode : ℕ) (to : EntryKey) (whole : Wh
         | inl e ↦ absurd (apart e.1)
         | inr old ↦ old.1
       ]
-
-      hour_deep : (i : ℕ) → IsTrue (is_hour i) → is_top i ≡ false
-      hour_deep i h = hour_is_deep i h

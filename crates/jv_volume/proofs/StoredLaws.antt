@@ -1,5 +1,6 @@
 -- What stored rows say of their tree, and that the bytes of files say nothing of its counts, its sums and its shape.
 use Rattle.std.proofs.Common.{◌≡◌, ℕ, ◌+◌, ◌<◌, ◌≤◌, ◌^◌, Bool, true, false, ◌&&◌, List, Option, None, Some, Ok, Err, refl, sym, ap, subst, ◌∙◌, arith, true≢false}
+use Rattle.std.proofs.lemmas.Option.{same_Some}
 use Rattle.std.specs.Prelude.{◌==◌, is_some, if◌then◌else◌}
 use Rattle.std.specs.Option.{option_map}
 use Rattle.jv_model.specs.declared.row.RowKey.{RowKey}
@@ -185,6 +186,9 @@ of_edge edge = Ok (OfEdge edge)
 abbrev pub of_session : Session → Cell
 of_session session = Ok (OfSession session)
 
+abbrev pub of_counters : Counters → Cell
+of_counters counters = Ok (OfCounters counters)
+
 abbrev kept_cell : Bool → Option Cell
 kept_cell kept = (if kept then Some (Ok OfSustained) else None)
 
@@ -251,9 +255,6 @@ module _ (rows : Rows) (t : Tree) (s : Stored rows t) where
       ∙ ap kept_cell (sym (stored_sustained sid inode less))
 
 -- ---- what was read
-
-some_is : {A : Type 0} {x y : A} → Some x ≡ Some y → x ≡ y
-some_is e = cc
 
 abbrev pub target_in : Option Node → Option (List ℕ)
 target_in None = None
@@ -336,7 +337,7 @@ module _ (bytes : ℕ → ℕ → ℕ) (rows : Rows) (s : Stored rows (tree_of b
       let t = tree_of bytes rows in
       let node = node_of (bytes inode) row in
       let there : node_at t inode ≡ Some node = node_at-tree_of bytes rows inode ∙ ap (option_map (node_of (bytes inode))) e in
-      let row_is : row ≡ node_row (link_count t inode) node = some_is (sym e ∙ stored_node_row rows t s inode
+      let row_is : row ≡ node_row (link_count t inode) node = same_Some _ _ (sym e ∙ stored_node_row rows t s inode
       ∙ ap (option_map (node_row (link_count t inode))) there) in
       let kind : HasKind (node_at t inode) row (bytes inode) =
       subst (λ o. HasKind o row (bytes inode)) (sym there) (has_kind (row.kind == 1) (row.kind == 2) row (bytes inode) (ap (λ r. r.kind) row_is)) in
@@ -356,13 +357,13 @@ module _ (bytes : ℕ → ℕ → ℕ) (rows : Rows) (s : Stored rows (tree_of b
   found_entry at edge e =
       let t = tree_of bytes rows in
       let there : get t.entries at ≡ Some edge.inode = get-entries bytes rows at ∙ ap (option_map (λ edge. edge.inode)) e in
-      let edge_is : edge ≡ edge_row t edge.inode = some_is (sym e ∙ stored_edge rows t s at ∙ ap (option_map (edge_row t)) there) in
+      let edge_is : edge ≡ edge_row t edge.inode = same_Some _ _ (sym e ∙ stored_edge rows t s at ∙ ap (option_map (edge_row t)) there) in
       let kind : edge.kind ≡ number_of_node (node_at t edge.inode) = ap (λ x. x.kind) edge_is in
       record { there = there; kind = kind; directory = directory_number (node_at t edge.inode) ∙ ap (λ k. k == 2) (sym kind) }
 
   pub found_counters : (counters : Counters) → counters_at rows ≡ Some counters → HasCounters (tree_of bytes rows) counters
   found_counters counters e =
-      let is = some_is (sym (stored_counters rows (tree_of bytes rows) s) ∙ e) in
+      let is = same_Some _ _ (sym (stored_counters rows (tree_of bytes rows) s) ∙ e) in
       record {
         next_inode = ap (λ c. c.inode) is;
         next_session = ap (λ c. c.session) is;
@@ -372,7 +373,7 @@ module _ (bytes : ℕ → ℕ → ℕ) (rows : Rows) (s : Stored rows (tree_of b
       }
 
   pub found_setting : (setting : Setting) → setting_at rows ≡ Some setting → (tree_of bytes rows).setting ≡ setting
-  found_setting setting e = some_is (sym (stored_setting rows (tree_of bytes rows) s) ∙ e)
+  found_setting setting e = same_Some _ _ (sym (stored_setting rows (tree_of bytes rows) s) ∙ e)
 
 -- rows that were not read
 

@@ -10,12 +10,12 @@ use Rattle.jv_model.specs.declared.row.Counters.{Counters}
 use Rattle.jv_model.specs.declared.row.Node.{Node as NodeRow}
 use Rattle.jv_model.specs.declared.row.Edge.{Edge}
 use Rattle.jv_model.specs.declared.row.Row.TheVariants.{OfSetting, OfCounters, OfNode, OfEdge, OfSustained}
-use Rattle.jv_model.specs.FiniteMap.{number_key, get, insert, remove}
+use Rattle.jv_model.specs.FiniteMap.{number_key, get, insert, remove, alter}
 use Rattle.jv_model.specs.rows.RowKeys.{row_key, row_cmp}
 use Rattle.jv_model.specs.rows.RowPlaces.{setting_key, counters_key, node_key, edge_key, session_key, sustained_key}
 use Rattle.jv_model.specs.tree.Tree.{Tree, Node, EntryKey, node_at, is_directory, link_count, used_space, used_inodes, kind_space, node_space, node_count}
 use Rattle.jv_model.specs.tree.Changes.{touched, put_node, drop_node, change_node, put_entry, take_entry}
-use Rattle.jv_model.proofs.FiniteMapLaws.{get-insert, get-remove}
+use Rattle.jv_model.proofs.FiniteMapLaws.{get-alter}
 use Rattle.jv_volume.specs.TypedRows.{Cell, Rows}
 use Rattle.jv_volume.specs.Views.{row_in, edge_in, counters_at, node_row_at}
 use Rattle.jv_volume.specs.TreeOf.{node_of, tree_of}
@@ -23,7 +23,7 @@ use Rattle.jv_volume.specs.Shape.{form_of, is_dir}
 use Rattle.jv_volume.specs.Stored.{Stored, number_of_node, counters_row}
 use Rattle.jv_volume.proofs.ShapeMapLaws.{get-inserted, get-insert_apart, get-removed, get-remove_apart}
 use Rattle.jv_volume.proofs.NodeRowLaws.{IsNodeRow}
-use Rattle.jv_volume.proofs.StoredLaws.{HasNode, HasCounters, directory_number, found_node, found_counters}
+use Rattle.jv_volume.proofs.StoredLaws.{HasNode, HasCounters, directory_number, found_node, found_counters, of_counters}
 use Rattle.jv_volume.proofs.StoringLaws.{AreStored, IsNodeCell, IsEdgeCell, IsSessionCell, are_stored, stored-by}
 use Rattle.jv_volume.proofs.TreeOfLaws.{get-entries, tree_of-put_node, tree_of-drop_node, tree_of-put_counters}
 use Rattle.jv_volume.proofs.ChangeLaws.{change_node-here, change_node-apart}
@@ -175,13 +175,17 @@ pub record CountsFor (u : Tree) (c : Counters) : Type 0 where
 pub counters_as : (u : Tree) (c : Counters) → CountsFor u c → c ≡ counters_row u c.slice
 counters_as u c h = λ i. record { inode = sym h.inode i; slice = c.slice; session = sym h.session i; used_space = sym h.space i; used_inodes = sym h.inodes i }
 
+-- what stands at a key after another was changed
+pub alter_kept : (rows : Rows) (q : RowKey) (cell : Option Cell) (k : RowKey) → eq_by_cmp row_cmp k q ≡ false → get (alter rows q cell) k ≡ get rows k
+alter_kept rows q cell k apart = get-alter rows q cell k ∙ ap (λ b. cond b cell (get rows k)) apart
+
 module _ (rows : Rows) (q : RowKey) (cell : Cell) where
   -- a row that was put leaves the others
   pub put_kept : (k : RowKey) → eq_by_cmp row_cmp k q ≡ false → get (insert rows q cell) k ≡ get rows k
-  put_kept k apart = get-insert rows q cell k ∙ ap (λ b. cond b (Some cell) (get rows k)) apart
+  put_kept k apart = alter_kept rows q (Some cell) k apart
 
 pub drop_kept : (rows : Rows) (q k : RowKey) → eq_by_cmp row_cmp k q ≡ false → get (remove rows q) k ≡ get rows k
-drop_kept rows q k apart = get-remove rows q k ∙ ap (λ b. cond b None (get rows k)) apart
+drop_kept rows q k apart = alter_kept rows q None k apart
 
 pub node_apart : (rows : Rows) (i : ℕ) (cell : Cell) (k : ℕ) → k ≢ i → get (insert rows (node_key i) cell) (node_key k) ≡ get rows (node_key k)
 node_apart rows i cell k apart = get-insert_apart row_key rows (node_key i) cell (node_key k) (λ same. apart (ap (λ (q : RowKey). q.a) same))
@@ -227,26 +231,23 @@ stored-change_node bytes rows inode row new s here new_row same_kind same_space 
 pub node_here : (rows : Rows) (i : ℕ) (cell : Cell) (k : ℕ) → k ≡ i → get (insert rows (node_key i) cell) (node_key k) ≡ Some cell
 node_here rows i cell k same = ap (λ j. get (insert rows (node_key i) cell) (node_key j)) same ∙ get-inserted row_key rows (node_key i) cell
 
-abbrev pub counters_cell : Counters → Cell
-counters_cell c = Ok (OfCounters c)
-
 -- the counters with another next inode, where the sums stay
 pub stored-put_counters : (bytes : ℕ → ℕ → ℕ) (rows : Rows) (c : Counters) → Stored rows (tree_of bytes rows)
     → used_space (tree_of bytes rows) ≡ c.used_space → used_inodes (tree_of bytes rows) ≡ c.used_inodes
-    → Stored (insert rows counters_key (counters_cell c)) (tree_of bytes (insert rows counters_key (counters_cell c)))
+    → Stored (insert rows counters_key (of_counters c)) (tree_of bytes (insert rows counters_key (of_counters c)))
 stored-put_counters bytes rows c s space inodes =
     let t = tree_of bytes rows in
     let u : Tree = record t { next_inode = c.inode; next_session = c.session } in
     let counts : CountsFor u c = record { inode = refl; session = refl; space = space; inodes = inodes } in
-    stored-goes bytes rows (insert rows counters_key (counters_cell c)) u c.slice s (record {
+    stored-goes bytes rows (insert rows counters_key (of_counters c)) u c.slice s (record {
       tree = tree_of-put_counters bytes rows c;
-      setting = put_kept rows counters_key (counters_cell c) setting_key refl;
+      setting = put_kept rows counters_key (of_counters c) setting_key refl;
       same_setting = refl;
-      counters = get-inserted row_key rows counters_key (counters_cell c) ∙ ap (λ x. Some (Ok (OfCounters x))) (counters_as u c counts);
-      node = λ k. NodeKept (put_kept rows counters_key (counters_cell c) (node_key k) refl) refl;
-      edge = λ at. EdgeKept (put_kept rows counters_key (counters_cell c) (edge_key at.dir at.name) refl) (λ i e. refl);
-      session = λ sid. CellKept (put_kept rows counters_key (counters_cell c) (session_key sid) refl);
-      sustained = λ sid i less. CellKept (put_kept rows counters_key (counters_cell c) (sustained_key sid i) refl);
+      counters = get-inserted row_key rows counters_key (of_counters c) ∙ ap (λ x. Some (Ok (OfCounters x))) (counters_as u c counts);
+      node = λ k. NodeKept (put_kept rows counters_key (of_counters c) (node_key k) refl) refl;
+      edge = λ at. EdgeKept (put_kept rows counters_key (of_counters c) (edge_key at.dir at.name) refl) (λ i e. refl);
+      session = λ sid. CellKept (put_kept rows counters_key (of_counters c) (session_key sid) refl);
+      sustained = λ sid i less. CellKept (put_kept rows counters_key (of_counters c) (sustained_key sid i) refl);
     })
 
 -- ---- a node that comes, and one that goes
@@ -265,7 +266,7 @@ module _ (bytes : ℕ → ℕ → ℕ) (rows : Rows) (inode : ℕ) (row : NodeRo
   counters_with_node = record c { inode = next; used_space = c.used_space + node_space inode new; used_inodes = c.used_inodes + node_count inode new }
 
   abbrev pub rows_with_node : Rows
-  rows_with_node = insert (insert rows (node_key inode) node_cell) counters_key (counters_cell counters_with_node)
+  rows_with_node = insert (insert rows (node_key inode) node_cell) counters_key (of_counters counters_with_node)
 
   abbrev pub tree_with_node : Tree
   tree_with_node = record (put_node (tree_of bytes rows) inode new) { next_inode = next }
@@ -288,7 +289,7 @@ module _ (bytes : ℕ → ℕ → ℕ) (rows : Rows) (inode : ℕ) (row : NodeRo
   }
 
   last_kept : (q : RowKey) → eq_by_cmp row_cmp q counters_key ≡ false → get rows_with_node q ≡ get (insert rows (node_key inode) node_cell) q
-  last_kept q apart = put_kept (insert rows (node_key inode) node_cell) counters_key (counters_cell counters_with_node) q apart
+  last_kept q apart = put_kept (insert rows (node_key inode) node_cell) counters_key (of_counters counters_with_node) q apart
 
   both_kept : (q : RowKey) → eq_by_cmp row_cmp q counters_key ≡ false → eq_by_cmp row_cmp q (node_key inode) ≡ false → get rows_with_node q ≡ get rows q
   both_kept q apart other = last_kept q apart ∙ put_kept rows (node_key inode) node_cell q other
@@ -299,7 +300,7 @@ module _ (bytes : ℕ → ℕ → ℕ) (rows : Rows) (inode : ℕ) (row : NodeRo
     tree = tree_of-new_node;
     setting = both_kept setting_key refl refl;
     same_setting = refl;
-    counters = get-inserted row_key (insert rows (node_key inode) node_cell) counters_key (counters_cell counters_with_node)
+    counters = get-inserted row_key (insert rows (node_key inode) node_cell) counters_key (of_counters counters_with_node)
         ∙ ap (λ x. Some (Ok (OfCounters x))) (counters_as tree_with_node counters_with_node counts);
     node = λ k. elim (cases_eq k inode) [
       | inl same ↦ NodePut row (last_kept (node_key k) refl ∙ node_here rows inode node_cell k same)
@@ -324,7 +325,7 @@ module _ (bytes : ℕ → ℕ → ℕ) (rows : Rows) (inode : ℕ) (row : NodeRo
   counters_without_node = record c { used_space = c.used_space - node_space inode gone; used_inodes = c.used_inodes - node_count inode gone }
 
   abbrev pub rows_without_node : Rows
-  rows_without_node = insert (remove rows (node_key inode)) counters_key (counters_cell counters_without_node)
+  rows_without_node = insert (remove rows (node_key inode)) counters_key (of_counters counters_without_node)
 
   abbrev pub tree_without_node : Tree
   tree_without_node = drop_node (tree_of bytes rows) inode
@@ -348,7 +349,7 @@ module _ (bytes : ℕ → ℕ → ℕ) (rows : Rows) (inode : ℕ) (row : NodeRo
       record { inode = has.next_inode; session = has.next_session; space = omega (arith, space, has.space); inodes = omega (arith, inodes, has.inodes) }
 
   put_last : (q : RowKey) → eq_by_cmp row_cmp q counters_key ≡ false → get rows_without_node q ≡ get (remove rows (node_key inode)) q
-  put_last q apart = put_kept (remove rows (node_key inode)) counters_key (counters_cell counters_without_node) q apart
+  put_last q apart = put_kept (remove rows (node_key inode)) counters_key (of_counters counters_without_node) q apart
 
   other_kept : (q : RowKey) → eq_by_cmp row_cmp q counters_key ≡ false → eq_by_cmp row_cmp q (node_key inode) ≡ false → get rows_without_node q ≡ get rows q
   other_kept q apart other = put_last q apart ∙ drop_kept rows (node_key inode) q other
@@ -359,7 +360,7 @@ module _ (bytes : ℕ → ℕ → ℕ) (rows : Rows) (inode : ℕ) (row : NodeRo
     tree = tree_of-old_node;
     setting = other_kept setting_key refl refl;
     same_setting = refl;
-    counters = get-inserted row_key (remove rows (node_key inode)) counters_key (counters_cell counters_without_node)
+    counters = get-inserted row_key (remove rows (node_key inode)) counters_key (of_counters counters_without_node)
         ∙ ap (λ x. Some (Ok (OfCounters x))) (counters_as tree_without_node counters_without_node counts_without_node);
     node = λ k. elim (cases_eq k inode) [
       | inl same ↦ NodeGone (put_last (node_key k) refl ∙ ap (λ i. get (remove rows (node_key inode)) (node_key i)) same
@@ -387,7 +388,7 @@ module _ (bytes : ℕ → ℕ → ℕ) (rows : Rows) (inode : ℕ) (row new_row 
   then_cell = Ok (OfNode new_row)
 
   abbrev pub rows_with_length : Rows
-  rows_with_length = insert (insert rows (node_key inode) then_cell) counters_key (counters_cell (record c { used_space = space }))
+  rows_with_length = insert (insert rows (node_key inode) then_cell) counters_key (of_counters (record c { used_space = space }))
 
   abbrev tree_then : Tree
   tree_then = put_node (tree_of bytes rows) inode then_node
@@ -423,7 +424,7 @@ module _ (bytes : ℕ → ℕ → ℕ) (rows : Rows) (inode : ℕ) (row new_row 
       }
 
   then_last : (q : RowKey) → eq_by_cmp row_cmp q counters_key ≡ false → get rows_with_length q ≡ get (insert rows (node_key inode) then_cell) q
-  then_last q apart = put_kept (insert rows (node_key inode) then_cell) counters_key (counters_cell (record c { used_space = space })) q apart
+  then_last q apart = put_kept (insert rows (node_key inode) then_cell) counters_key (of_counters (record c { used_space = space })) q apart
 
   then_kept : (q : RowKey) → eq_by_cmp row_cmp q counters_key ≡ false → eq_by_cmp row_cmp q (node_key inode) ≡ false → get rows_with_length q ≡ get rows q
   then_kept q apart other = then_last q apart ∙ put_kept rows (node_key inode) then_cell q other
@@ -433,7 +434,7 @@ module _ (bytes : ℕ → ℕ → ℕ) (rows : Rows) (inode : ℕ) (row new_row 
     tree = tree_of-length;
     setting = then_kept setting_key refl refl;
     same_setting = refl;
-    counters = get-inserted row_key (insert rows (node_key inode) then_cell) counters_key (counters_cell (record c { used_space = space }))
+    counters = get-inserted row_key (insert rows (node_key inode) then_cell) counters_key (of_counters (record c { used_space = space }))
         ∙ ap (λ x. Some (Ok (OfCounters x))) (counters_as tree_then (record c { used_space = space }) counts_then);
     node = λ k. elim (cases_eq k inode) [
       | inl same ↦ NodePut new_row (then_last (node_key k) refl ∙ node_here rows inode then_cell k same)

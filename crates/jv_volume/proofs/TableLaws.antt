@@ -1,5 +1,6 @@
 -- The tables that a tree is made of: which keys their rows have.
-use Rattle.std.proofs.Common.{◌≡◌, ℕ, ◌<◌, ◌^◌, Bool, true, false, cond, ◌&&◌, List, [], ◌∷◌, get_or, Option, None, Some, refl, sym, ap, subst, ◌∙◌, arith, lt-ltb, ltb-true, eqb-true, eq-eqb}
+use Rattle.std.proofs.Common.{◌≡◌, ℕ, ◌<◌, ◌^◌, true, cond, ◌&&◌, List, [], ◌∷◌, get_or, Option, None, Some, refl, sym, ap, subst, ◌∙◌, arith, lt-ltb, ltb-true, eqb-true, eq-eqb}
+use Rattle.std.proofs.lemmas.Option.{cond_some}
 use Rattle.std.specs.Prelude.{◌==◌, nat_lt, if◌then◌else◌}
 use Rattle.std.specs.Int.{w64, from_be_bytes}
 use Rattle.std.specs.Cmp.Lexicographic.{bytes_decides}
@@ -12,11 +13,6 @@ use Rattle.jv_model.specs.tree.Tree.{EntryKey, SustainedFile}
 use Rattle.jv_model.specs.tree.Walk.{is_text}
 use Rattle.jv_volume.specs.TreeOf.{number_of, entry_of_key, pair_of_key}
 use Rattle.jv_volume.proofs.SelectLaws.{IsTable}
-
--- a value that a test let through
-pub cond_some : {A : Type 0} (b : Bool) (x y : A) → cond b (Some x) None ≡ Some y → (b ≡ true) × (x ≡ y)
-cond_some true x y e = (refl, cc)
-cond_some false x y e = absurd (cc)
 
 nil_is : (b : List ℕ) → is_nil b ≡ true → b ≡ []
 nil_is [] e = refl

@@ -1,29 +1,23 @@
 -- Rows stay those of their tree when a session or a sustained file comes or goes, and when a row changes that the tree doesn't
 -- have.
-use Rattle.std.proofs.Common.{◌≡◌, ℕ, ◌<◌, ◌^◌, true, false, cond, inl, inr, Option, None, Some, Ok, refl, sym, ap, subst, ◌∙◌}
+use Rattle.std.proofs.Common.{◌≡◌, ℕ, ◌<◌, ◌^◌, true, false, inl, inr, Option, None, Some, Ok, refl, sym, ap, subst, ◌∙◌}
 use Rattle.std.specs.Prelude.{IsTrue}
-use Rattle.std.specs.Ordering.{eq_by_cmp}
 use Rattle.std.proofs.lemmas.Bool.{cases_eq}
 use Rattle.jv_model.specs.declared.row.RowKey.{RowKey}
 use Rattle.jv_model.specs.declared.row.Session.{Session}
 use Rattle.jv_model.specs.declared.row.Row.TheVariants.{OfSession, OfSustained}
 use Rattle.jv_model.specs.FiniteMap.{get, insert, remove, alter}
-use Rattle.jv_model.specs.rows.RowKeys.{row_key, row_cmp}
+use Rattle.jv_model.specs.rows.RowKeys.{row_key}
 use Rattle.jv_model.specs.rows.RowPlaces.{setting_key, counters_key, node_key, edge_key, session_key, sustained_key}
 use Rattle.jv_model.specs.tree.Tree.{Tree}
-use Rattle.jv_model.proofs.FiniteMapLaws.{get-alter}
 use Rattle.jv_volume.specs.TypedRows.{Cell, Rows}
 use Rattle.jv_volume.specs.TreeOf.{tree_of}
 use Rattle.jv_volume.specs.Stored.{Stored}
 use Rattle.jv_volume.proofs.ShapeMapLaws.{same_or_apart, tied_apart}
 use Rattle.jv_volume.proofs.MapLaws.{get-alter-here}
-use Rattle.jv_volume.proofs.StoredStepLaws.{NodeKept, EdgeKept, CellGoes, CellKept, CellPut, CellGone, IsSustainedCell, stored-goes}
+use Rattle.jv_volume.proofs.StoredStepLaws.{NodeKept, EdgeKept, CellGoes, CellKept, CellPut, CellGone, IsSustainedCell, stored-goes, alter_kept}
 use Rattle.jv_volume.proofs.StoringLaws.{IsSessionCell}
 use Rattle.jv_volume.proofs.TreeOfLaws.{session_in_cell, pair_in_cell, is_unseen, unseen, tree_of-unseen, tree_of-alter-session, tree_of-alter-sustained}
-
--- what stands at a key after another was changed
-alter_kept : (rows : Rows) (q : RowKey) (cell : Option Cell) (k : RowKey) → eq_by_cmp row_cmp k q ≡ false → get (alter rows q cell) k ≡ get rows k
-alter_kept rows q cell k apart = get-alter rows q cell k ∙ ap (λ b. cond b cell (get rows k)) apart
 
 -- a cell that is put, or none, where rows of this kind may stand
 cell_goes : (rows : Rows) (q : RowKey) (cell : Option Cell) (Is : Cell → Type 0) → ((x : Cell) → cell ≡ Some x → Is x) → CellGoes rows (alter rows q cell) q Is

@@ -2,14 +2,14 @@
 use Rattle.std.proofs.Common.{◌≡◌, ◌≢◌, ℕ, ◌≤◌, ◌<◌, false, inl, inr, Option, None, Some, refl, sym, ap, subst, ◌∙◌, arith}
 use Rattle.std.proofs.lemmas.Bool.{false≢true, cases_eq, lt-ltb, le-leb}
 use Rattle.jv_model.specs.declared.limits.TheConstants.{LAST_MOMENT}
-use Rattle.jv_model.specs.FiniteMap.{KeyOrder, Map, get, insert, remove}
+use Rattle.jv_model.specs.FiniteMap.{KeyOrder, Map, insert, remove}
 use Rattle.jv_model.specs.tree.Tree.{Tree, EntryKey, entry_key, trash_root, in_trash, is_directory, node_at}
 use Rattle.jv_model.specs.tree.HourNames.{hour_at}
 use Rattle.jv_model.specs.tree.Trash.{hour_inode, hour_place, with_hour, trash_place, trashed}
 use Rattle.jv_model.specs.tree.Changes.{status_changed, put_entry, take_entry}
-use Rattle.jv_model.proofs.FiniteMapLaws.{same_maps}
 use Rattle.jv_volume.specs.Shape.{Form, Absent, Regular, Link, Dir, Shape, WholeShape, Names, is_there, is_dir, shape_of, named, names}
-use Rattle.jv_volume.proofs.ShapeMapLaws.{same_or_apart, get-inserted, get-insert_apart, get-removed, get-remove_apart, only_one, with_form, with_form-same, with_form-apart, with_entries, there_of_dir, shape-put_entry, shape-take_entry, shape-change_node_same, is_dir-form}
+use Rattle.jv_volume.proofs.ShapeMapLaws.{get-insert_apart, get-removed, get-remove_apart, only_one, with_form, with_form-same, with_form-apart, with_entries, there_of_dir, shape-put_entry, shape-take_entry, shape-change_node_same, is_dir-form}
+use Rattle.jv_volume.proofs.MapLaws.{alter-swap}
 use Rattle.jv_volume.proofs.ClimbLaws.{avoids_leaf, reaches_dir}
 use Rattle.std.proofs.lemmas.Option.{none-some}
 use Rattle.jv_volume.proofs.ShapeLossLaws.{Without}
@@ -20,19 +20,7 @@ use Rattle.jv_volume.proofs.HourShapeLaws.{hour_inode_high, with_hour_in, WithHo
 
 -- an insert and a removal at different keys, in the other order
 pub insert-remove : {K X : Type 0} (order : KeyOrder K) (m : Map order X) (a b : K) (v : X) → a ≢ b → insert (remove m a) b v ≡ remove (insert m b v) a
-insert-remove order m a b v apart = same_maps (insert (remove m a) b v) (remove (insert m b v) a) (λ q. elim (same_or_apart order q a) [
-  | inl e ↦
-      ap (get (insert (remove m a) b v)) e ∙ get-insert_apart order (remove m a) b v a apart ∙ get-removed order m a
-      ∙ sym (ap (get (remove (insert m b v) a)) e ∙ get-removed order (insert m b v) a)
-  | inr away ↦ elim (same_or_apart order q b) [
-    | inl e ↦
-        ap (get (insert (remove m a) b v)) e ∙ get-inserted order (remove m a) b v
-        ∙ sym (ap (get (remove (insert m b v) a)) e ∙ get-remove_apart order (insert m b v) a b (λ s. apart (sym s)) ∙ get-inserted order m b v)
-    | inr off ↦
-        get-insert_apart order (remove m a) b v q off ∙ get-remove_apart order m a q away
-        ∙ sym (get-remove_apart order (insert m b v) a q away ∙ get-insert_apart order m b v q off)
-  ]
-])
+insert-remove order m a b v apart = alter-swap order m a b None (Some v) (λ same. apart (sym same))
 
 -- without an entry, and with one
 abbrev taken : Shape → EntryKey → Shape

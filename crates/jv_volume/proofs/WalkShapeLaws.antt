@@ -1,7 +1,7 @@
 -- Where paths lead in a whole tree, and what the tests of a new entry say of its place.
 use Rattle.std.proofs.Common.{◌≡◌, ℕ, zero, suc, Bool, true, false, not, ◌||◌, if◌then◌else◌, inl, inr, List, [], ◌∷◌, ◌++◌, length, Option, None, Some, is_some, Result, Ok, Err, refl, sym, ap, subst, ◌∙◌}
 use Rattle.std.specs.Prelude.{nat_le}
-use Rattle.std.proofs.lemmas.Bool.{cases_Bool, cases_cond, or_cases, eqb-true, false≢true}
+use Rattle.std.proofs.lemmas.Bool.{cases_Bool, cases_cond, false≢true, not-true}
 use Rattle.jv_model.specs.declared.limits.TheConstants.{MAX_NAME, MAX_PATH, MAX_SYMLINKS}
 use Rattle.jv_model.specs.declared.fault.Fault.{Fault}
 use Rattle.jv_model.specs.declared.fault.Fault.TheVariants.{NotFound, NotADirectory, Invalid, NameTooLong, AlreadyExists, NotPermitted, SymlinkLoop}
@@ -11,7 +11,8 @@ use Rattle.jv_model.specs.tree.Tree.{Tree, EntryKey, root, trash_root, node_at, 
 use Rattle.jv_model.specs.tree.Walk.{is_absolute, names_of, is_dot, is_dot_dot, is_trash, named_from, stepped, way_on, walk_names, walk, inode_by, last_name, all_but_last, entry_of}
 use Rattle.jv_model.specs.tree.Making.{may_be_new, new_place}
 use Rattle.jv_volume.specs.Shape.{Dir, is_dir, shape_of, is_top, WholeShape}
-use Rattle.jv_volume.proofs.ShapeMapLaws.{IsNamed, is_dir-form, form-parent}
+use Rattle.jv_volume.proofs.ShapeMapLaws.{IsNamed, form-parent, none_if, is_directory-form}
+use Rattle.jv_volume.proofs.ClimbLaws.{top_parent}
 
 -- steps of an attempt that was made
 
@@ -43,7 +44,7 @@ pub data IsReached (t : Tree) (inode : ℕ) : Type 0 where
 
 module _ (t : Tree) (w : WholeShape (shape_of t)) where
   directory_by_form : (inode parent : ℕ) → (shape_of t).form inode ≡ Dir parent → is_directory t inode ≡ true
-  directory_by_form inode parent is = sym (is_dir-form (node_at t inode)) ∙ ap is_dir is
+  directory_by_form inode parent is = is_directory-form t inode ∙ ap is_dir is
 
   -- the root is a directory
   pub root_directory : is_directory t root ≡ true
@@ -53,22 +54,15 @@ module _ (t : Tree) (w : WholeShape (shape_of t)) where
   pub trash_directory : is_directory t trash_root ≡ true
   trash_directory = directory_by_form trash_root root w.trash_there
 
-  -- the parent of the root, and of the trash
-  top_parent : (inode parent : ℕ) → (shape_of t).form inode ≡ Dir parent → is_top inode ≡ true → parent ≡ root
-  top_parent inode parent is top = elim (or_cases _ _ top) [
-    | inl e ↦ (let same = eqb-true inode root e in let both : Dir parent ≡ Dir root = sym is ∙ ap (shape_of t).form same ∙ w.root_there in cc)
-    | inr e ↦ (let same = eqb-true inode trash_root e in let both : Dir parent ≡ Dir root = sym is ∙ ap (shape_of t).form same ∙ w.trash_there in cc)
-  ]
-
   -- a directory's parent is one
   pub parent_directory : (inode parent : ℕ) → parent_at t inode ≡ Some parent → is_directory t parent ≡ true
   parent_directory inode parent is =
       let form = form-parent (node_at t inode) parent is in
       elim (cases_Bool (is_top inode)) [
-        | inl top ↦ ap (is_directory t) (top_parent inode parent form top) ∙ root_directory
+        | inl top ↦ ap (is_directory t) (top_parent (shape_of t) inode parent w top form) ∙ root_directory
         | inr below ↦
             let entered = w.entered inode parent form below in
-            sym (is_dir-form (node_at t parent)) ∙ (w.entry (record { dir = parent; name = entered.name }) inode entered.is).within
+            is_directory-form t parent ∙ (w.entry (record { dir = parent; name = entered.name }) inode entered.is).within
       ]
 
   named_reached : (inode parent : ℕ) (name : List ℕ) (next : ℕ) → parent_at t inode ≡ Some parent → named_from t inode parent name ≡ Ok next
@@ -146,10 +140,6 @@ module _ (t : Tree) (w : WholeShape (shape_of t)) where
 
 -- the places of entries
 
-none_there : {A : Type 0} (o : Option A) → not (is_some o) ≡ true → o ≡ None
-none_there None h = refl
-none_there (Some x) h = absurd (false≢true h)
-
 module _ (t : Tree) (path : List ℕ) where
   abbrev of_length : List ℕ → ℕ → Result EntryKey Fault
   of_length name dir = require (nat_le (length name) MAX_NAME) NameTooLong >>= (λ _. Ok (record { dir = dir; name = name }))
@@ -189,7 +179,7 @@ is_new_place t path place h =
     let may = went_on (require (may_be_new at.0) NotPermitted) (λ _. free_at at.0) place at.2 in
     let free = went_on (require (not (is_some (get t.entries at.0))) AlreadyExists) (λ _. Ok at.0) place may.2 in
     subst (IsNewPlace t) (same_Ok at.0 place free.2) (record {
-      free = none_there _ (required _ AlreadyExists free.0 free.1);
+      free = none_if _ (not-true _ (required _ AlreadyExists free.0 free.1));
       within = entry_within t path at.0 at.1;
       may = required _ NotPermitted may.0 may.1;
     })
