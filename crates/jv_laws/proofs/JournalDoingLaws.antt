@@ -581,7 +581,7 @@ none_pending (inode ∷ inodes) pending h =
     let b = both_none (first_segment (pending_of inode pending)) (segment_of_files inodes pending) h in
     (no_segment (pending_of inode pending) b.first, none_pending inodes pending (not_some (segment_of_files inodes pending) b.others))
 
-none_some : (o : Option Segment) → IsTrue (not (is_some o)) → o ≡ None
+pub none_some : {X : Type 0} (o : Option X) → IsTrue (not (is_some o)) → o ≡ None
 none_some None h = refl
 none_some (Some x) h = absurd (cc)
 

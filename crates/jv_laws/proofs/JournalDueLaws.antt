@@ -34,7 +34,7 @@ use Rattle.jv_model.specs.journal.Looks.{entry_at}
 use Rattle.jv_laws.specs.Laws.{CleansWhatIsDue, MayEndCleaning, HadMost, HadFewer, FoundNoneDue, FoundNothing, NoSessionDue, NoHourDue, ends_operation, is_answer}
 use Rattle.jv_laws.proofs.JournalGrowthLaws.{AllAllowed-parts, own_client, others_kept}
 use Rattle.jv_laws.proofs.JournalStates.{Entry, Steps, RefusedSubmission, LacksMemory, Crashes, Publishes as OfPublish, OfDrain, Ticks, entry_of, entry_before, entry_last, entry_past, entry_within, holds_on}
-use Rattle.jv_laws.proofs.JournalDoingLaws.{Sound, SoundIf, IsSettled, IsRefusedReply, IsDoneReply, StageOk, sound, doing_given, fine_not_refused}
+use Rattle.jv_laws.proofs.JournalDoingLaws.{Sound, SoundIf, IsSettled, IsRefusedReply, IsDoneReply, StageOk, sound, doing_given, fine_not_refused, none_some}
 use Rattle.jv_laws.proofs.JournalStageLaws.{stage_fits, FitsIf, all_fit}
 
 -- what was found, by the part
@@ -145,10 +145,6 @@ module _ (run : Setup) (pre : List Act) (e : Act) where
       }
 
 -- tests
-
-none_is : {X : Type 0} (o : Option X) → IsTrue (not (is_some o)) → o ≡ None
-none_is None h = refl
-none_is (Some x) h = absurd (cc)
 
 or_not : (a b : Bool) → IsTrue (a || not b) → (b || false) ≡ true → IsTrue a
 or_not true b h e = refl
@@ -305,11 +301,11 @@ module _ (run : Setup) (pre : List Act) (act : Act) (start : Start) (alone : Boo
     sessions_now : IsTrue (not (is_some (due_session s.tree (session_of c) act.at))) → FoundSessions run (pre ++ act ∷ []) act.client
     sessions_now none = record {
       before = length pre;
-      sessions = nothing_now run pre act (NoSessionDue act.client) quiet (subst (λ t. NoSessionDue act.client t act.at) (sym here) (none_is _ none));
+      sessions = nothing_now run pre act (NoSessionDue act.client) quiet (subst (λ t. NoSessionDue act.client t act.at) (sym here) (none_some _ none));
     }
 
     hours_now : IsTrue (not (is_some (due_purge s.tree act.at))) → FoundSessions run pre act.client → FoundNoneDue run (pre ++ act ∷ []) act.client
-    hours_now none h = both_now run pre act quiet (subst (λ t. NoHourDue t act.at) (sym here) (none_is _ none)) h
+    hours_now none h = both_now run pre act quiet (subst (λ t. NoHourDue t act.at) (sym here) (none_some _ none)) h
 
     then_cleaning : (k : Cleaning) (part : Part) → FoundBy run pre act.client part
         → IsTrue (may_be_quiet start s act.client act.at c d (Cleans (record k { part = part }))) → Then (cleaning_on s c (record k { part = part }))

@@ -1,6 +1,7 @@
 -- Each line of the script has its entries.
 use Rattle.std.proofs.Common.{◌≡◌, ℕ, zero, suc, ◌+◌, ◌-◌, ◌≤◌, ◌<◌, Bool, true, false, ◌&&◌, ◌||◌, not, ◌==◌, if◌then◌else◌, IsTrue, IfSome, ◌⊎◌, MatchBool, inl, inr, List, [], ◌∷◌, ◌++◌, length, slice_get, Option, None, Some, refl, sym, ap, subst, ◌∙◌, arith, append_assoc, length-append}
-use Rattle.std.proofs.lemmas.Bool.{cases_Bool}
+use Rattle.std.proofs.Math.Bool.{and-false}
+use Rattle.std.proofs.lemmas.Bool.{cases_Bool, and_parts}
 use Rattle.std.specs.List.{AllByRecursion}
 use Rattle.std.proofs.lemmas.List.{append-nil}
 use Rattle.std.proofs.lemmas.Option.{slice_get_past}
@@ -299,10 +300,6 @@ if_some_of P Q (Some x) f h = f x h
 no_line : (P : Line → Type 0) (o : Option Line) → o ≡ None → IfSome o P
 no_line P o e = subst (λ x. IfSome x P) (sym e) tt
 
-and_false : (a : Bool) → (a && false) ≡ false
-and_false true = refl
-and_false false = refl
-
 off_line : (line n : ℕ) (b : Bool) → (line ≡ n → ⊥) → ((line == n) && b) ≡ false
 off_line line n b apart = elim (eqb_tells line n) [
   | inl same ↦ absurd (apart same.1)
@@ -310,7 +307,7 @@ off_line line n b apart = elim (eqb_tells line n) [
 ]
 
 not_own : (line n : ℕ) (b : Bool) → b ≡ true → ((line == n) && not b) ≡ false
-not_own line n b e = ap (λ t. (line == n) && not t) e ∙ and_false (line == n)
+not_own line n b e = ap (λ t. (line == n) && not t) e ∙ and-false (line == n)
 
 own_line : (line n : ℕ) (b : Bool) → line ≡ n → b ≡ false → ((line == n) && not b) ≡ true
 own_line line n b at e = elim (eqb_tells line n) [
@@ -339,17 +336,12 @@ module _ (run : Setup) where
     earlier : IsTrue p.complete → (n : ℕ) → n < p.line → Fits n pre
     present : IfSome (line_at run.script p.line) (λ l. SoFar l p.due (K p.line pre))
 
-  and_both : (a b : Bool) → IsTrue (a && b) → IsTrue a × IsTrue b
-  and_both true true h = (refl, refl)
-  and_both true false h = absurd (cc)
-  and_both false b h = absurd (cc)
-
   present_over : (pre : List Act) (p : Past) → Lined pre p → is_over p ≡ true → Fits p.line pre
   present_over pre p h over = if_some_of (λ l. SoFar l p.due (K p.line pre)) (λ l. FitsLine l (K p.line pre)) (line_at run.script p.line) (λ l s. fits_over p l (K p.line pre) p.due s over) h.present
 
   up_to : (pre : List Act) (p : Past) → Lined pre p → IsTrue (p.complete && is_over p) → (n : ℕ) → n ≤ p.line → Fits n pre
   up_to pre p h c n low =
-      let both = and_both p.complete (is_over p) c in
+      let both = and_parts p.complete (is_over p) c in
       elim (leb_tells p.line n) [
         | inl high ↦ (let same : p.line ≡ n = omega (arith, low, high.1) in subst (λ m. Fits m pre) same (present_over pre p h both.1))
         | inr below ↦ h.earlier both.0 n below.1

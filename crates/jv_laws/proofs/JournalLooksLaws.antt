@@ -1,5 +1,6 @@
 -- What clients' views are, by the numbers of the journal's entries.
 use Rattle.std.proofs.Common.{◌≡◌, ℕ, ◌+◌, ◌≤◌, ◌<◌, Bool, true, false, not, ◌==◌, if◌then◌else◌, IsTrue, IsSomeAnd, IfSome, inl, inr, List, [], ◌∷◌, ◌++◌, length, take, Option, None, Some, refl, sym, ap, subst, ◌∙◌, arith, length-append}
+use Rattle.std.proofs.lemmas.Bool.{eqb-true}
 use Rattle.std.specs.List.{AllByRecursion}
 use Rattle.std.proofs.lemmas.List.{take-append-le, take_all}
 use Rattle.std.proofs.lemmas.Bool.Decides.{nat_tests, leb_tells, eqb_tells}
@@ -65,9 +66,6 @@ own_views clients at c views e = ap views_of (own_client clients at c) ∙ e
 stage_views : (stage : Stage) (c : ModelClient) → (with_stage stage c).views ≡ c.views
 stage_views stage c = (stage_files stage c).views
 
-eqb_is : (a b : ℕ) → (a == b) ≡ true → a ≡ b
-eqb_is a b h = grind (arith, nat_tests)
-
 looked_after : (s : State) (client inode window handle : ℕ) (compacts : Bool) (first other : Stage) → ViewsAfter s client (Look inode window) (with_client s.clients client (if compacts
     then with_stage first (s.clients client)
     else with_stage other (record (s.clients client) { views = view_now s handle inode window ∷ (s.clients client).views })) client).views
@@ -89,9 +87,9 @@ views_step s act d (Mounted sid) h = Spared (λ _. refl) (transaction_files s ac
 views_step s act d Meta h = Spared (λ _. refl) (transaction_files s act.client act.at d).views
 views_step s act d (Opened handle inode) h = Spared (λ _. refl) (transaction_files s act.client act.at d).views
 views_step s act d (Look inode window) h = looked_after s act.client inode window _ (is_compaction d.does) _ _
-views_step s act d (Commit inode from len staged) h = Spoiled inode (λ file h. eqb_is inode file h) (own_views s.clients act.client _ _ (stage_views _ _))
-views_step s act d (Truncated inode len) h = Spoiled inode (λ file h. eqb_is inode file h) (own_views s.clients act.client _ _ (stage_views _ _))
-views_step s act d (Copied source from target to len) h = Spoiled target (λ file h. eqb_is target file h) (own_views s.clients act.client _ _ (stage_views _ _))
+views_step s act d (Commit inode from len staged) h = Spoiled inode (λ file h. eqb-true inode file h) (own_views s.clients act.client _ _ (stage_views _ _))
+views_step s act d (Truncated inode len) h = Spoiled inode (λ file h. eqb-true inode file h) (own_views s.clients act.client _ _ (stage_views _ _))
+views_step s act d (Copied source from target to len) h = Spoiled target (λ file h. eqb-true target file h) (own_views s.clients act.client _ _ (stage_views _ _))
 views_step s act d (Compacted inode window from to) h = Spared (λ _. refl) (own_views s.clients act.client _ _ (stage_views _ (s.clients act.client)))
 views_step s act d (Expired sid) h = Spared (λ _. refl) (own_views s.clients act.client _ _ (stage_views _ (s.clients act.client)))
 views_step s act d (Purged inode) h = Spared (λ _. refl) (own_views s.clients act.client _ _ (stage_views _ (s.clients act.client)))

@@ -1,6 +1,6 @@
 -- What a read returns, by the fresh looks that it cites.
 use Rattle.std.proofs.Common.{◌≡◌, ℕ, ◌+◌, ◌-◌, ◌≤◌, min, Bool, true, false, ◌&&◌, ◌||◌, ◌==◌, nat_le, if◌then◌else◌, IsTrue, inl, inr, List, [], ◌∷◌, ◌++◌, length, take, Option, None, Some, refl, sym, ap, subst, ◌∙◌, arith}
-use Rattle.std.proofs.lemmas.Bool.{and_parts}
+use Rattle.std.proofs.lemmas.Bool.{and_parts, le-leb}
 use Rattle.std.specs.Option.{option_map}
 use Rattle.std.proofs.lemmas.Bool.Decides.{nat_tests, leb_tells, eqb_tells}
 use Rattle.jv_model.specs.declared.limits.TheConstants.{FILE_END}
@@ -108,11 +108,8 @@ short offset len h = elim (eqb_tells len 0) [
   ]
 ]
 
-leb_true : (a b : ℕ) → a ≤ b → nat_le a b ≡ true
-leb_true a b h = grind (arith, nat_tests)
-
 nothing_asked : (offset len : ℕ) → ((len == 0) || nat_le FILE_END offset) ≡ true → asked_parts offset len ≡ []
-nothing_asked offset len h = no_parts _ _ (leb_true (min (offset + len) FILE_END) offset (short offset len h))
+nothing_asked offset len h = no_parts _ _ (le-leb (min (offset + len) FILE_END) offset (short offset len h))
 
 -- what a read does
 data DoesRead (offset len : ℕ) (does : Does) : Type 0 where

@@ -129,7 +129,8 @@ pub files-drop_other : (rows : Rows) (inode : ℕ) (was : NodeRow) → WholeFile
 files-drop_other rows inode was w there other =
     files-node rows inode None w
     (λ node is file. absurd (cc))
-    (λ old here file. let same : was ≡ old = (let both = sym there ∙ here in same_Some was old both) in absurd (other (ap (λ (r : NodeRow). r.kind) same ∙ file)))
+    (λ old here file. let same : was ≡ old = (let both = sym there ∙ here in same_Some was old both) in
+    absurd (other (ap (λ (r : NodeRow). r.kind) same ∙ file)))
     (λ drop. refl)
 
 -- ---- the counters, whose next inode may rise

@@ -61,5 +61,6 @@ fresh_rows_typed = refl
 
 -- the tree of rows is that of a volume that was just formatted
 fresh_rows_tree : tree_of no_bytes (typed (example_rows 1700000000)) ≡ fresh_tree example_setting 1700000000
-unfolding is_utf8 chars lib.Utf8.encode typed insert get row_of setting_bytes setting_of counters_bytes counters_of node_bytes node_of selected nodes_of entries_of sessions_of sustained_of tree_of
+unfolding is_utf8 chars lib.Utf8.encode typed insert get row_of setting_bytes setting_of counters_bytes counters_of node_bytes node_of
+    selected nodes_of entries_of sessions_of sustained_of tree_of
 fresh_rows_tree = refl

@@ -1,6 +1,6 @@
 -- Rows after an inode went with its only entry: no node, no edge, its directory touched, and the counters less. Their tree is
 -- the model's, and they are the rows of that tree.
-use Rattle.std.proofs.Common.{◌≡◌, ◌≢◌, ℕ, ◌+◌, ◌-◌, Bool, true, false, cond, inl, inr, None, Some, Ok, refl, sym, ap, subst, ◌∙◌, arith}
+use Rattle.std.proofs.Common.{◌≡◌, ◌≢◌, ℕ, ◌+◌, ◌-◌, Bool, true, false, inl, inr, None, Some, Ok, refl, sym, ap, subst, ◌∙◌, arith}
 use Rattle.std.specs.Prelude.{if◌then◌else◌}
 use Rattle.std.specs.Option.{option_map}
 use Rattle.std.specs.Ordering.{eq_by_cmp}
@@ -27,6 +27,7 @@ use Rattle.jv_volume.proofs.MapLaws.{alter-swap}
 use Rattle.jv_volume.proofs.NodeRowLaws.{IsNodeRow, IsNodeRow-touched}
 use Rattle.jv_volume.proofs.StoredLaws.{HasNode, HasCounters, found_node, found_counters}
 use Rattle.jv_volume.proofs.StoringLaws.{AreStored, IsNodeCell, IsEdgeCell, are_stored, stored-by}
+use Rattle.jv_volume.proofs.StoredStepLaws.{put_kept, drop_kept}
 use Rattle.jv_volume.proofs.TreeOfLaws.{get-entries, tree_of-put_node, tree_of-drop_node, tree_of-drop_edge, tree_of-put_counters}
 use Rattle.jv_volume.proofs.ChangeLaws.{take_entry-there}
 use Rattle.jv_volume.proofs.LinkLaws.{standing, standing_here, standing_apart, dirs-shape, link_count-without_leaf, link_count-without_dir, none_within}
@@ -146,8 +147,7 @@ module _ (bytes : ℕ → ℕ → ℕ) (rows : Rows) (now : ℕ) (place : EntryK
   before_stored = are_stored bytes rows s
 
   last_put : (q : RowKey) → eq_by_cmp row_cmp q counters_key ≡ false → get after q ≡ get r3 q
-  last_put q apart = get-insert r3 counters_key (Ok (OfCounters (shrunk space count c))) q
-      ∙ ap (λ b. cond b (Some (Ok (OfCounters (shrunk space count c)))) (get r3 q)) apart
+  last_put q apart = put_kept r3 counters_key (Ok (OfCounters (shrunk space count c))) q apart
 
   node_beside : (i : ℕ) → i ≢ place.dir → get after (node_key i) ≡ get r1 (node_key i)
   node_beside i aside =
@@ -219,10 +219,8 @@ module _ (bytes : ℕ → ℕ → ℕ) (rows : Rows) (now : ℕ) (place : EntryK
       → eq_by_cmp row_cmp q (edge_key place.dir place.name) ≡ false
       → eq_by_cmp row_cmp q (node_key inode) ≡ false → get after q ≡ get rows q
   kept q a b d e =
-      last_put q a
-      ∙ get-insert r2 (node_key place.dir) dir_row q ∙ ap (λ x. cond x (Some dir_row) (get r2 q)) b
-      ∙ get-remove r1 (edge_key place.dir place.name) q ∙ ap (λ x. cond x None (get r1 q)) d
-      ∙ get-remove rows (node_key inode) q ∙ ap (λ x. cond x None (get rows q)) e
+      last_put q a ∙ put_kept r2 (node_key place.dir) dir_row q b ∙ drop_kept r1 (edge_key place.dir place.name) q d
+      ∙ drop_kept rows (node_key inode) q e
 
   space_after : used_space (tree_of bytes after) ≡ c.used_space - space
   space_after =

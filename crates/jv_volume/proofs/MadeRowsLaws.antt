@@ -1,6 +1,6 @@
 -- Rows after a creation: a new node, its edge, its directory touched, and the counters. Their tree is the model's, and they
 -- are the rows of that tree.
-use Rattle.std.proofs.Common.{◌≡◌, ◌≢◌, ℕ, ◌+◌, Bool, true, false, cond, inl, inr, None, Some, Ok, refl, sym, ap, subst, ◌∙◌, arith}
+use Rattle.std.proofs.Common.{◌≡◌, ◌≢◌, ℕ, ◌+◌, Bool, true, false, inl, inr, None, Some, Ok, refl, sym, ap, subst, ◌∙◌, arith}
 use Rattle.std.specs.Prelude.{if◌then◌else◌}
 use Rattle.std.specs.Option.{option_map}
 use Rattle.std.specs.Ordering.{eq_by_cmp}
@@ -26,6 +26,7 @@ use Rattle.jv_volume.proofs.ShapeMapLaws.{same_or_apart, get-inserted, get-inser
 use Rattle.jv_volume.proofs.NodeRowLaws.{IsNodeRow, IsNodeRow-touched}
 use Rattle.jv_volume.proofs.StoredLaws.{HasNode, HasCounters, found_node, found_counters}
 use Rattle.jv_volume.proofs.StoringLaws.{AreStored, IsNodeCell, IsEdgeCell, are_stored, stored-by}
+use Rattle.jv_volume.proofs.StoredStepLaws.{put_kept}
 use Rattle.jv_volume.proofs.TreeOfLaws.{get-entries, tree_of-put_node, tree_of-put_edge, tree_of-put_counters}
 use Rattle.jv_volume.proofs.ChangeLaws.{with_node-there}
 use Rattle.jv_volume.proofs.LinkLaws.{next_low, standing, standing_here, standing_apart, IsFree, free_inode, next_absent, link_count-new_leaf, link_count-beside_leaf, link_count-new_dir, link_count-beside_dir, none_within}
@@ -201,7 +202,7 @@ module _ (bytes : ℕ → ℕ → ℕ) (rows : Rows) (now : ℕ) (place : EntryK
   before_stored = are_stored bytes rows s
 
   last_put : (q : RowKey) → eq_by_cmp row_cmp q counters_key ≡ false → get done_rows q ≡ get r3 q
-  last_put q apart = get-insert r3 counters_key (Ok (OfCounters (grown space c))) q ∙ ap (λ b. cond b (Some (Ok (OfCounters (grown space c)))) (get r3 q)) apart
+  last_put q apart = put_kept r3 counters_key (Ok (OfCounters (grown space c))) q apart
 
   node_beside : (inode : ℕ) → inode ≢ place.dir → get done_rows (node_key inode) ≡ get r1 (node_key inode)
   node_beside inode aside =
@@ -301,12 +302,9 @@ module _ (bytes : ℕ → ℕ → ℕ) (rows : Rows) (now : ℕ) (place : EntryK
       → eq_by_cmp row_cmp q (edge_key place.dir place.name) ≡ false
       → eq_by_cmp row_cmp q (node_key c.inode) ≡ false → get done_rows q ≡ get rows q
   kept q a b d e =
-      last_put q a
-      ∙ get-insert r2 (node_key place.dir) (Ok (OfNode (touched_row now links dir))) q
-      ∙ ap (λ x. cond x (Some (Ok (OfNode (touched_row now links dir)))) (get r2 q)) b
-      ∙ get-insert r1 (edge_key place.dir place.name) (Ok (OfEdge (record { kind = row.kind; inode = c.inode }))) q
-      ∙ ap (λ x. cond x (Some (Ok (OfEdge (record { kind = row.kind; inode = c.inode })))) (get r1 q)) d
-      ∙ get-insert rows (node_key c.inode) (Ok (OfNode row)) q ∙ ap (λ x. cond x (Some (Ok (OfNode row))) (get rows q)) e
+      last_put q a ∙ put_kept r2 (node_key place.dir) (Ok (OfNode (touched_row now links dir))) q b
+      ∙ put_kept r1 (edge_key place.dir place.name) (Ok (OfEdge (record { kind = row.kind; inode = c.inode }))) q d
+      ∙ put_kept rows (node_key c.inode) (Ok (OfNode row)) q e
 
   counted_next : is_counted before_it.next_inode ≡ true
   counted_next = (let low = next_low before_it shape in counted before_it.next_inode low.0 low.1)
