@@ -143,3 +143,37 @@ pub enum TxFault {
     Moved(List),
     Rows(RowFault),
 }
+
+impl From<Fault> for TxFault {
+    ghost use Rattle.std.specs.Prelude.{◌≡◌};
+    ghost use Rattle.jv_model.specs.declared.fault.TxFault.TheVariants.{Refused};
+
+    ghost from_gives = { λ refusal fault. fault ≡ Refused refusal };
+
+    fn from(refusal: Fault) -> TxFault {
+        TxFault::Refused(refusal)
+    }
+}
+
+impl From<RowFault> for TxFault {
+    ghost use Rattle.std.specs.Prelude.{◌≡◌};
+    ghost use Rattle.jv_model.specs.declared.fault.TxFault.TheVariants.{Rows};
+
+    ghost from_gives = { λ reading fault. fault ≡ Rows reading };
+
+    fn from(reading: RowFault) -> TxFault {
+        TxFault::Rows(reading)
+    }
+}
+
+impl From<AllocError> for TxFault {
+    ghost use Rattle.std.specs.Prelude.{◌≡◌};
+    ghost use Rattle.jv_model.specs.declared.fault.RowFault.TheVariants.{Memory};
+    ghost use Rattle.jv_model.specs.declared.fault.TxFault.TheVariants.{Rows};
+
+    ghost from_gives = { λ _ fault. fault ≡ Rows Memory };
+
+    fn from(_: AllocError) -> TxFault {
+        TxFault::Rows(RowFault::Memory)
+    }
+}
