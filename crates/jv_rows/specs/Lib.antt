@@ -5,3 +5,5 @@ pub mod Readings
 pub mod Scans
 pub mod Drops
 pub mod FreshRows
+pub mod Drafts
+pub mod Transactions
