@@ -1,17 +1,45 @@
 -- Changes that a transaction has in mind: what is read over them, and what one more does.
-use Rattle.std.specs.Prelude.{◌≡◌, ℕ, Bool, List, Option, None, Some, Result, Ok, Err, IfOk, IfErr, IfSome, OnOk, OnErr, IsTrue}
-use Rattle.std.specs.Option.{option_map}
+use Rattle.std.specs.Prelude.{◌≡◌, ℕ, Bool, if◌then◌else◌, List, [], ◌∷◌, Option, None, Some, Result, Ok, Err, IfOk, IfErr, IfSome, OnOk, OnErr, MatchOption, IsTrue}
+use Rattle.std.specs.Ordering.{eq_by_cmp}
+use Rattle.std.specs.Option.{option_map, option_or}
 use Rattle.jv_model.specs.declared.row.Row.{Row}
 use Rattle.jv_model.specs.declared.row.RowKey.{RowKey}
 use Rattle.jv_model.specs.declared.fault.RowFault.{RowFault}
 use Rattle.jv_model.specs.declared.fault.RowFault.TheVariants.{Bad, Failed, Memory}
 use Rattle.jv_model.specs.FiniteMap.{get, alter}
-use Rattle.jv_model.specs.rows.RowKeys.{RowMap}
+use Rattle.jv_model.specs.rows.RowKeys.{RowMap, row_cmp}
 use Rattle.jv_outside.specs.declared.batch.Change.{Change}
+use Rattle.jv_outside.specs.declared.batch.Change.TheVariants.{Put, Del}
 use Rattle.jv_outside.specs.Rows.{applied}
 use Rattle.jv_outside.specs.Store.{Store}
 use Rattle.jv_rows.specs.Readings.{Counts}
 use Rattle.jv_volume.specs.TypedRows.{Cell, Rows, typed}
+
+-- the key that a change is of
+abbrev pub key_in : Change → RowKey
+key_in (Put key bytes) = key
+key_in (Del key) = key
+
+-- the bytes that a change leaves there
+abbrev pub bytes_in : Change → Option (List ℕ)
+bytes_in (Put key bytes) = Some bytes
+bytes_in (Del key) = None
+
+-- the last of changes that is of a key
+abbrev pub last_change : RowKey → List Change → Option Change
+last_change key [] = None
+last_change key (first ∷ rest) = option_or (last_change key rest) (if eq_by_cmp row_cmp key (key_in first) then Some first else None)
+
+-- why no value was read from bytes that a change left at a key: they are malformed, or out of memory
+abbrev pub RefusesPut : {A : Type 0} → (List ℕ → Option A) → RowKey → List ℕ → RowFault → Type 0
+RefusesPut read key bytes (Bad at malformed) = (at ≡ key) × (malformed ≡ bytes) × (read bytes ≡ None)
+RefusesPut read key bytes Failed = ⊥
+RefusesPut read key bytes Memory = Unit {0}
+
+-- what was read from bytes that a change left at a key: the value that they spell, which the grammar allows
+pub record ReadsPut {A : Type 0} (read : List ℕ → Option A) (is_allowed : A → Bool) (key : RowKey) (bytes : List ℕ) (result : Result (Option A) RowFault) : Type 0 where
+  pub found : IfOk result (λ found. MatchOption found ⊥ (λ x. (read bytes ≡ Some x) × IsTrue (is_allowed x)))
+  pub refused : IfErr result (RefusesPut read key bytes)
 
 -- rows by their types, with changes made
 unfoldable pub drafted : List Change → RowMap → Rows

@@ -1,5 +1,6 @@
 -- The definitions that contracts cite.
 pub mod Reads
+pub mod Tables
 pub mod RoundTrips
 pub mod Readings
 pub mod Scans
