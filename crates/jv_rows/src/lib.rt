@@ -14,6 +14,7 @@ mod parsing;
 mod reading;
 mod scanning;
 mod spelling;
+mod walking;
 mod widths;
 mod writing;
 
@@ -43,6 +44,7 @@ pub use spelling::{
     spell_counters, spell_dead, spell_dropped, spell_edge, spell_list, spell_node, spell_session,
     spell_setting, spell_slice,
 };
+pub use walking::{walk, walk_entry};
 pub use writing::{
     put_counters, put_dead, put_dropped, put_edge, put_list, put_node, put_session, put_setting,
     put_slice, put_sustained,
