@@ -14,3 +14,5 @@ pub mod SpelledLaws
 pub mod DraftLaws
 pub mod WalkLaws
 pub mod StepLaws
+pub mod NamesLaws
+pub mod CourseLaws

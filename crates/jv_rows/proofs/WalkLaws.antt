@@ -202,7 +202,6 @@ module _ {A : Type 0} (row : A → Row) (is_allowed : A → Bool) (key : RowKey)
   unfolding drafted
   stands_there found r known is = at_known _ before.rows known is r.found
 
-
 pub has_node_row : {inode : ℕ} {node : NodeRow} {before after : Store} → Sees OfNode is_node (node_key inode) [] before after (Ok (Some node)) → HasNodeRow after inode node
 has_node_row {inode = inode} {node = node} {before = before} {after = after} r =
     always_known after.rows _ (λ known is. stands_there OfNode is_node (node_key inode) before after (Some node) r known (sym r.rows_are ∙ is))
@@ -328,7 +327,7 @@ pub names_none : {before after : Store} (dir : ℕ) (name : List ℕ) (edge : Ed
 names_none {before = before} {after = after} dir name edge there r =
     failed_to_come (finds_bad (edge_key dir name) (edge_bytes edge) (was_read OfNode is_node (node_key edge.inode) before after None (λ t. Ok edge.inode) r)
     (always_known before.rows _ (λ known is. NamesNone (OfEdge edge) (node_key edge.inode) (at_known _ before.rows known is there) refl
-        (names_it (node_key edge.inode)) (stands_there OfNode is_node (node_key edge.inode) before after None r known is)))
+    (names_it (node_key edge.inode)) (stands_there OfNode is_node (node_key edge.inode) before after None r known is)))
     (λ known is whole. has_named known whole (record { dir = dir; name = name }) edge (at_known _ before.rows known is there) (stands_there OfNode is_node (node_key edge.inode) before after None r known is)))
 
 names_parent : (inode : ℕ) (node : NodeRow) → node.kind ≡ 2 → IsTrue (names (node_key inode) (OfNode node) (node_key node.parent))
@@ -340,5 +339,5 @@ pub lacks_parent : {before after : Store} (inode : ℕ) (node : NodeRow) → Has
 lacks_parent {before = before} {after = after} inode node there directory r =
     failed_to_come (finds_bad (node_key inode) (node_bytes node) (was_read OfNode is_node (node_key node.parent) before after None (λ t. Ok node.parent) r)
     (always_known before.rows _ (λ known is. NamesNone (OfNode node) (node_key node.parent) (at_known _ before.rows known is there) refl
-        (names_parent inode node directory) (stands_there OfNode is_node (node_key node.parent) before after None r known is)))
+    (names_parent inode node directory) (stands_there OfNode is_node (node_key node.parent) before after None r known is)))
     (λ known is whole. has_parent known whole inode node (at_known _ before.rows known is there) directory (stands_there OfNode is_node (node_key node.parent) before after None r known is)))

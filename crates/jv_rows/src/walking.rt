@@ -128,23 +128,23 @@ fn go_on<K: Keeper>(
     let mut place = start;
     for index in 0..names.len() {
         let next = step(alloc, k, &place, &names[index])?;
-        if is_followed(&next.node, follow || index + 1 < names.len()) {
-            return turn(alloc, k, place, &next.node.target, names, index + 1);
+        if is_followed(&next.node, follow, index + 1 == names.len()) {
+            return by_target(alloc, k, place, &next.node.target, names, index + 1);
         }
         place = next;
     }
     Ok(Leg::Ends(place))
 }
 
-// Whether a walk goes on by a node's target, if it does so at symlinks.
-fn is_followed(node: &Node, at_symlinks: bool) -> bool
-    ensures { result ≡ (at_symlinks && node.now.kind == 3) }
+// Whether a walk goes on by a node's target: a symlink's, where it isn't the last or is followed there too.
+fn is_followed(node: &Node, follow: bool, last: bool) -> bool
+    ensures { result ≡ ((follow || not last) && node.now.kind == 3) }
 {
-    at_symlinks && node.kind == 3
+    (follow || !last) && node.kind == 3
 }
 
 // A walk that goes on by the target of a symlink in a directory, and the names from an index on.
-fn turn<K: Keeper>(
+fn by_target<K: Keeper>(
     alloc: Global,
     k: &mut K,
     dir: Place,
