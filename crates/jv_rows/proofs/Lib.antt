@@ -16,3 +16,4 @@ pub mod WalkLaws
 pub mod StepLaws
 pub mod NamesLaws
 pub mod CourseLaws
+pub mod EntryLaws
