@@ -1,27 +1,24 @@
 -- A walk from symlink to symlink: what is left of it after each part, and that it is the model's.
-use Rattle.std.proofs.Common.{◌≡◌, ℕ, zero, suc, ◌+◌, ◌-◌, ◌<◌, Bool, true, false, cond, List, [], ◌∷◌, ◌++◌, length, drop, get_or, drop-cons, add-one, Option, None, Some, Result, Ok, Err, refl, sym, ap, subst, ◌∙◌, ◌≢◌, true≢false, eq-eqb, eqb-true, arith}
+use Rattle.std.proofs.Common.{◌≡◌, ℕ, zero, suc, ◌+◌, ◌-◌, ◌<◌, Bool, true, false, List, [], ◌∷◌, ◌++◌, length, drop, get_or, drop-cons, add-one, Option, None, Some, Result, Ok, Err, refl, sym, ap, ◌∙◌, ◌≢◌, true≢false, eq-eqb, eqb-true, arith}
 use Rattle.std.proofs.Math.Seq.{drop-length}
 use Rattle.std.proofs.lemmas.List.{length-drop}
-use Rattle.std.specs.Prelude.{if◌then◌else◌, ◌&&◌, ◌||◌, ◌==◌, not, IfOk, IfSome}
-use Rattle.jv_model.specs.declared.row.Node.{Node as NodeRow}
+use Rattle.std.specs.Prelude.{if◌then◌else◌, ◌&&◌, ◌||◌, ◌==◌, not}
 use Rattle.jv_model.specs.declared.fault.Fault.{Fault}
 use Rattle.jv_model.specs.declared.fault.Fault.TheVariants.{SymlinkLoop}
 use Rattle.jv_model.specs.declared.fault.TxFault.{TxFault}
 use Rattle.jv_model.specs.declared.fault.TxFault.TheVariants.{Refused}
-use Rattle.jv_model.specs.rows.RowKeys.{RowMap}
 use Rattle.jv_model.specs.tree.Attempt.{◌>>=◌}
-use Rattle.jv_model.specs.tree.Tree.{Tree, root, target_at}
+use Rattle.jv_model.specs.tree.Tree.{Tree, root}
 use Rattle.jv_model.specs.tree.Walk.{names_of, is_absolute, is_empty, stepped, way_on, walk_names, walk}
 use Rattle.jv_outside.specs.Store.{Store}
 use Rattle.jv_volume.specs.TypedRows.{typed}
 use Rattle.jv_volume.specs.TreeOf.{tree_of}
-use Rattle.jv_volume.specs.Whole.{Whole}
-use Rattle.jv_rows.specs.Transactions.{Looks}
-use Rattle.jv_rows.specs.Walks.{HasNodeRow, Comes, Course, Ended, Onward, onward, course, Goes}
+use Rattle.jv_rows.specs.Walks.{Comes, Course, Ended, Onward, onward, course, Goes}
 use Rattle.jv_rows.specs.declared.walking.Place.{Place}
 use Rattle.jv_rows.specs.declared.walking.Leg.{Leg}
 use Rattle.jv_rows.specs.declared.walking.Leg.TheVariants.{Ends, Follows}
-use Rattle.jv_rows.proofs.WalkLaws.{Leaves, nothing_done, in_other_words, answered, refused, last_part, found_part, failed_part, failed_to_come}
+use Rattle.jv_rows.proofs.LooksLaws.{Leaves, nothing_done, in_other_words, answered, refused, last_part, found_part, failed_part}
+use Rattle.jv_rows.proofs.WalkLaws.{failed_to_come}
 use Rattle.jv_rows.proofs.StepLaws.{node_is}
 
 -- ---- the target of a symlink
@@ -34,7 +31,7 @@ pub goes_from_root : {before after : Store} (dir : ℕ) (target : List ℕ) (beh
     → Comes before after (Ok from) (λ t. Ok root) → Goes before after (Ok (Follows from all)) (λ t. Ok (onward dir target behind))
 goes_from_root {before = before} dir target behind all from absolute is comes = record {
   looks = answered (Onward from.inode all) (found_part (λ inode t. Ok (Onward inode all)) from.inode
-      (in_other_words (nothing_done before (λ t. Ok (onward dir target behind))) (λ known told whole bytes.
+      (in_other_words (nothing_done before (λ t. Ok (onward dir target behind))) (λ known rows_are whole bytes.
       (λ i. Ok (Onward (if absolute i then root else dir) (sym is i))))) comes.looks);
   stands = comes.stands;
 }
@@ -71,24 +68,24 @@ module _ {start now after : Store} {asked : Tree → Result Course Fault} (follo
   after_name : Leaves start after asked (λ t. behind_name follow place.inode next.inode behind t (way_on t follow behind next.inode))
   after_name =
       found_part (λ inode t. behind_name follow place.inode inode behind t (way_on t follow behind inode)) next.inode
-      (in_other_words left (λ known told whole bytes. ap (course (tree_of bytes (typed known)) follow place.inode) is)) comes.looks
+      (in_other_words left (λ known rows_are whole bytes. ap (course (tree_of bytes (typed known)) follow place.inode) is)) comes.looks
 
   after_target : Leaves start after asked (λ t. behind_name follow place.inode next.inode behind t (followed (follow || not (is_empty behind)) (next.node.kind == 3) next.node.target))
   after_target =
-      in_other_words after_name (λ known told whole bytes.
+      in_other_words after_name (λ known rows_are whole bytes.
       ap (λ target. behind_name follow place.inode next.inode behind (tree_of bytes (typed known)) (if follow || not (is_empty behind) then target else None))
-      (node_is after comes.stands known (after_name.rows_are ∙ told) whole bytes).target)
+      (node_is after comes.stands known (after_name.rows_are ∙ rows_are) whole bytes).target)
 
   -- it leads to a symlink, which is followed
   pub to_symlink : ((follow || not (is_empty behind)) && (next.node.kind == 3)) ≡ true → Leaves start after asked (λ t. Ok (onward place.inode next.node.target behind))
   to_symlink here =
-      in_other_words after_target (λ known told whole bytes. ap (behind_name follow place.inode next.inode behind (tree_of bytes (typed known)))
+      in_other_words after_target (λ known rows_are whole bytes. ap (behind_name follow place.inode next.inode behind (tree_of bytes (typed known)))
       (followed_some (follow || not (is_empty behind)) (next.node.kind == 3) next.node.target here))
 
   -- it leads elsewhere
   pub to_node : ((follow || not (is_empty behind)) && (next.node.kind == 3)) ≡ false → Leaves start after asked (λ t. course t follow next.inode behind)
   to_node elsewhere =
-      in_other_words after_target (λ known told whole bytes. ap (behind_name follow place.inode next.inode behind (tree_of bytes (typed known)))
+      in_other_words after_target (λ known rows_are whole bytes. ap (behind_name follow place.inode next.inode behind (tree_of bytes (typed known)))
       (followed_none (follow || not (is_empty behind)) (next.node.kind == 3) next.node.target elsewhere))
 
 -- the name at an index, and those behind it
@@ -147,7 +144,7 @@ walk_by_course (suc left) t follow inode names = by_course (again (suc left) t f
 module _ {start now : Store} {asked : Tree → Result ℕ Fault} (left : ℕ) (follow : Bool) (place : Place) (names : List (List ℕ))
     (leaves : Leaves start now asked (λ t. walk left t follow place.inode names)) where
   by_courses : Leaves start now asked (λ t. course t follow place.inode names >>= λ c. finished (again left t follow) c)
-  by_courses = in_other_words leaves (λ known told whole bytes. walk_by_course left (tree_of bytes (typed known)) follow place.inode names)
+  by_courses = in_other_words leaves (λ known rows_are whole bytes. walk_by_course left (tree_of bytes (typed known)) follow place.inode names)
 
   -- the walk fails on its way
   pub walk_fails : {after : Store} (fault : TxFault) → Goes now after (Err fault) (λ t. course t follow place.inode names) → Comes start after (Err fault) asked
@@ -167,14 +164,14 @@ module _ {start now : Store} {asked : Tree → Result ℕ Fault} (left : ℕ) (f
   -- it followed as many symlinks as it may
   pub too_many : {after : Store} (from : Place) (rest : List (List ℕ)) → left ≡ 0 → Goes now after (Ok (Follows from rest)) (λ t. course t follow place.inode names) → Comes start after (Err (Refused SymlinkLoop)) asked
   too_many from rest none goes =
-      failed_to_come (refused SymlinkLoop (in_other_words (goes_again from rest goes) (λ known told whole bytes. ap (λ n. again n (tree_of bytes (typed known)) follow from.inode rest) none)))
+      failed_to_come (refused SymlinkLoop (in_other_words (goes_again from rest goes) (λ known rows_are whole bytes. ap (λ n. again n (tree_of bytes (typed known)) follow from.inode rest) none)))
 
   -- it follows one more
   pub one_more : {after : Store} (from : Place) (rest : List (List ℕ)) → 0 < left → Goes now after (Ok (Follows from rest)) (λ t. course t follow place.inode names)
       → Leaves start after asked (λ t. walk (left - 1) t follow from.inode rest)
   one_more from rest some goes =
       let is : left ≡ suc (left - 1) = omega arith in
-      in_other_words (goes_again from rest goes) (λ known told whole bytes. ap (λ n. again n (tree_of bytes (typed known)) follow from.inode rest) is)
+      in_other_words (goes_again from rest goes) (λ known rows_are whole bytes. ap (λ n. again n (tree_of bytes (typed known)) follow from.inode rest) is)
 
 -- a walk from the root begins there
 pub walk_begins : {before after : Store} (left : ℕ) (follow : Bool) (names : List (List ℕ)) (place : Place) → Comes before after (Ok place) (λ t. Ok root)

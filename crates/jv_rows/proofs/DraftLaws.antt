@@ -1,7 +1,7 @@
 -- What stands at a key after changes, and what a reading or a put of a row does over them.
-use Rattle.std.proofs.Common.{◌≡◌, ℕ, suc, ◌-◌, ◌<◌, ◌≤◌, length, take, get_or, arith, Bool, true, false, cond, List, [], ◌∷◌, ◌++◌, Option, None, Some, Result, Ok, Err, ok_or, option_map, refl, sym, ap, subst, ◌∙◌}
+use Rattle.std.proofs.Common.{◌≡◌, ℕ, suc, ◌-◌, ◌<◌, ◌≤◌, length, take, get_or, arith, Bool, true, false, cond, List, [], ◌∷◌, ◌++◌, Option, None, Some, Result, Ok, Err, ok_or, option_map, refl, sym, ap, ◌∙◌}
 use Rattle.std.proofs.Math.Seq.{take-suc}
-use Rattle.std.specs.Prelude.{if◌then◌else◌, OnOk, OnErr, IfOk, IfErr, IfSome, IsTrue, MatchOption}
+use Rattle.std.specs.Prelude.{if◌then◌else◌, OnOk, OnErr, IfSome}
 use Rattle.std.specs.Option.{option_or}
 use Rattle.std.specs.Ordering.{eq_by_cmp}
 use Rattle.jv_model.specs.declared.row.RowKey.{RowKey}
@@ -16,10 +16,10 @@ use Rattle.jv_outside.specs.declared.batch.Change.{Change}
 use Rattle.jv_outside.specs.declared.batch.Change.TheVariants.{Put, Del}
 use Rattle.jv_outside.specs.Rows.{after_change, applied}
 use Rattle.jv_outside.specs.Store.{Store}
-use Rattle.jv_volume.specs.TypedRows.{Cell, cell_of, typed}
+use Rattle.jv_volume.specs.TypedRows.{cell_of, typed}
 use Rattle.jv_volume.proofs.TypedLaws.{get-typed, typed-alter}
 use Rattle.jv_rows.specs.Readings.{IsFound, RefusesRow, ReadsRow}
-use Rattle.jv_rows.specs.Drafts.{key_in, bytes_in, last_change, ReadsPut, RefusesPut, drafted, cell, RefusesCell, Sees, Drafts}
+use Rattle.jv_rows.specs.Drafts.{key_in, bytes_in, last_change, ReadsPut, drafted, cell, RefusesCell, Sees, Drafts}
 
 -- ---- the last change of a key
 

@@ -1,5 +1,5 @@
 -- The entry that a path names: what is left of it after each part.
-use Rattle.std.proofs.Common.{◌≡◌, ◌≢◌, ℕ, ◌<◌, ◌≤◌, Bool, true, false, List, [], ◌∷◌, ◌++◌, length, Option, Some, Result, Ok, Err, refl, ap, ◌∙◌, eq-eqb, ne_eqb}
+use Rattle.std.proofs.Common.{◌≡◌, ◌≢◌, ℕ, ◌<◌, ◌≤◌, Bool, true, false, List, [], ◌∷◌, ◌++◌, length, Option, Result, Ok, Err, refl, ap, ◌∙◌, eq-eqb, ne_eqb}
 use Rattle.std.specs.Prelude.{◌||◌, ◌==◌, not, nat_le}
 use Rattle.std.proofs.lemmas.Bool.{le-leb, lt-leb}
 use Rattle.jv_model.specs.declared.limits.TheConstants.{MAX_NAME, MAX_PATH, MAX_SYMLINKS}
@@ -7,17 +7,16 @@ use Rattle.jv_model.specs.declared.fault.Fault.{Fault}
 use Rattle.jv_model.specs.declared.fault.Fault.TheVariants.{Invalid, NotADirectory, NameTooLong}
 use Rattle.jv_model.specs.declared.fault.TxFault.{TxFault}
 use Rattle.jv_model.specs.declared.fault.TxFault.TheVariants.{Refused}
-use Rattle.jv_model.specs.rows.RowKeys.{RowMap}
 use Rattle.jv_model.specs.tree.Attempt.{◌>>=◌, require, some_or}
 use Rattle.jv_model.specs.tree.Tree.{Tree, EntryKey, root, is_directory}
-use Rattle.jv_model.specs.tree.Walk.{names_of, is_dot, is_dot_dot, walk, all_but_last, last_name}
+use Rattle.jv_model.specs.tree.Walk.{names_of, is_dot, is_dot_dot, walk}
 use Rattle.jv_outside.specs.Store.{Store}
 use Rattle.jv_volume.specs.TypedRows.{typed}
 use Rattle.jv_volume.specs.TreeOf.{tree_of}
 use Rattle.jv_rows.specs.Transactions.{Looks}
 use Rattle.jv_rows.specs.Walks.{Comes, pair_in, entry_pair}
 use Rattle.jv_rows.specs.declared.walking.Place.{Place}
-use Rattle.jv_rows.proofs.WalkLaws.{Leaves, nothing_done, in_other_words, answered, refused, found_part, failed_part}
+use Rattle.jv_rows.proofs.LooksLaws.{Leaves, nothing_done, in_other_words, answered, refused, found_part, failed_part}
 use Rattle.jv_rows.proofs.StepLaws.{node_is}
 use Rattle.jv_rows.proofs.NamesLaws.{last_name_is, other_names_are}
 
@@ -48,18 +47,18 @@ entry_by short last names t =
 module _ (path : List ℕ) (names : List (List ℕ)) (name : List ℕ) (short : length path ≤ MAX_PATH) (is : names_of path ≡ names ++ name ∷ []) where
   behind_names : (store : Store) → Leaves store store (λ t. entry_pair t path) (λ t. paired (entry_behind (not (is_dot name || is_dot_dot name)) t names name))
   behind_names store =
-      in_other_words (nothing_done store (λ t. entry_pair t path)) (λ known told whole bytes.
+      in_other_words (nothing_done store (λ t. entry_pair t path)) (λ known rows_are whole bytes.
       (λ i. entry_by (le-leb (length path) MAX_PATH short i) (last_name_is names name is i) (other_names_are names name is i) (tree_of bytes (typed known))))
 
   -- the last name is `.` or `..`
   pub entry_of_dots : {store : Store} → (is_dot name || is_dot_dot name) ≡ true → Looks store store (Err (Refused Invalid)) (λ t. entry_pair t path)
   entry_of_dots {store = store} dots =
-      refused Invalid (in_other_words (behind_names store) (λ known told whole bytes. ap (λ d. paired (entry_behind (not d) (tree_of bytes (typed known)) names name)) dots))
+      refused Invalid (in_other_words (behind_names store) (λ known rows_are whole bytes. ap (λ d. paired (entry_behind (not d) (tree_of bytes (typed known)) names name)) dots))
 
   module _ (good : (is_dot name || is_dot_dot name) ≡ false) where
     by_walk : (store : Store) → Leaves store store (λ t. entry_pair t path) (λ t. walk MAX_SYMLINKS t true root names >>= λ dir. entry_left name dir t)
     by_walk store =
-        in_other_words (behind_names store) (λ known told whole bytes. let t = tree_of bytes (typed known) in
+        in_other_words (behind_names store) (λ known rows_are whole bytes. let t = tree_of bytes (typed known) in
         ap (λ d. paired (entry_behind (not d) t names name)) good
         ∙ bound (walk MAX_SYMLINKS t true root names) (λ dir. entry_in (is_directory t dir) (nat_le (length name) MAX_NAME) dir name) (λ at. Ok (pair_in at)))
 
@@ -71,20 +70,20 @@ module _ (path : List ℕ) (names : List (List ℕ)) (name : List ℕ) (short : 
       in_place : Leaves before after (λ t. entry_pair t path) (λ t. paired (entry_in (place.node.kind == 2) (nat_le (length name) MAX_NAME) place.inode name))
       in_place =
           let found = found_part (entry_left name) place.inode (by_walk before) comes.looks in
-          in_other_words found (λ known told whole bytes.
-          ap (λ directory. paired (entry_in directory (nat_le (length name) MAX_NAME) place.inode name)) (node_is after comes.stands known (found.rows_are ∙ told) whole bytes).directory)
+          in_other_words found (λ known rows_are whole bytes.
+          ap (λ directory. paired (entry_in directory (nat_le (length name) MAX_NAME) place.inode name)) (node_is after comes.stands known (found.rows_are ∙ rows_are) whole bytes).directory)
 
       pub entry_nowhere : place.node.kind ≢ 2 → Looks before after (Err (Refused NotADirectory)) (λ t. entry_pair t path)
       entry_nowhere other =
-          refused NotADirectory (in_other_words in_place (λ known told whole bytes.
+          refused NotADirectory (in_other_words in_place (λ known rows_are whole bytes.
           ap (λ directory. paired (entry_in directory (nat_le (length name) MAX_NAME) place.inode name)) (ne_eqb place.node.kind 2 other)))
 
       pub entry_too_long : place.node.kind ≡ 2 → MAX_NAME < length name → Looks before after (Err (Refused NameTooLong)) (λ t. entry_pair t path)
       entry_too_long directory long =
-          refused NameTooLong (in_other_words in_place (λ known told whole bytes.
+          refused NameTooLong (in_other_words in_place (λ known rows_are whole bytes.
           (λ i. paired (entry_in (eq-eqb place.node.kind 2 directory i) (lt-leb (length name) MAX_NAME long i) place.inode name))))
 
       pub entry_found : place.node.kind ≡ 2 → length name ≤ MAX_NAME → Looks before after (Ok (place.inode, name)) (λ t. entry_pair t path)
       entry_found directory fits =
-          answered (place.inode, name) (in_other_words in_place (λ known told whole bytes.
+          answered (place.inode, name) (in_other_words in_place (λ known rows_are whole bytes.
           (λ i. paired (entry_in (eq-eqb place.node.kind 2 directory i) (le-leb (length name) MAX_NAME fits i) place.inode name))))

@@ -12,6 +12,7 @@ pub mod DropLaws
 pub mod DropSteps
 pub mod SpelledLaws
 pub mod DraftLaws
+pub mod LooksLaws
 pub mod WalkLaws
 pub mod StepLaws
 pub mod NamesLaws

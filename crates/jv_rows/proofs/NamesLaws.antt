@@ -1,5 +1,5 @@
 -- The names of a path, found byte by byte.
-use Rattle.std.proofs.Common.{◌≡◌, ℕ, suc, ◌+◌, ◌<◌, ◌≤◌, Bool, true, false, cond, List, [], ◌∷◌, ◌++◌, length, drop, take, get_or, filter, Option, None, Some, refl, sym, ap, ◌∙◌, append_assoc, append-nil, drop-cons, add-one}
+use Rattle.std.proofs.Common.{◌≡◌, ℕ, Bool, true, false, List, [], ◌∷◌, ◌++◌, filter, Some, refl, sym, ap, ◌∙◌, append_assoc, append-nil}
 use Rattle.std.specs.Prelude.{if◌then◌else◌, not, ◌==◌}
 use Rattle.jv_model.specs.tree.Walk.{before_part, parts_between, is_empty, names_of, all_but_last, last_name}
 use Rattle.jv_rows.specs.Walks.{one_name}

@@ -1,9 +1,9 @@
 -- One name of a walk: what it finds in whole rows, case by case.
-use Rattle.std.proofs.Common.{◌≡◌, ℕ, Bool, true, false, List, [], length, Option, None, Some, Result, Ok, Err, option_map, refl, sym, ap, subst, ◌∙◌, ◌≢◌, ◌<◌, ◌≤◌, eq-eqb, ne_eqb}
+use Rattle.std.proofs.Common.{◌≡◌, ℕ, Bool, List, [], length, Option, None, Some, Result, Ok, Err, option_map, sym, ap, subst, ◌∙◌, ◌≢◌, ◌<◌, ◌≤◌, eq-eqb, ne_eqb}
 use Rattle.std.proofs.lemmas.Bool.{le-leb, lt-leb}
-use Rattle.std.specs.Prelude.{if◌then◌else◌, ◌==◌, nat_le, IfSome, IsTrue}
+use Rattle.std.specs.Prelude.{if◌then◌else◌, nat_le}
 use Rattle.jv_model.specs.declared.limits.TheConstants.{MAX_NAME}
-use Rattle.jv_model.specs.declared.row.Row.TheVariants.{OfNode, OfEdge}
+use Rattle.jv_model.specs.declared.row.Row.TheVariants.{OfEdge}
 use Rattle.jv_model.specs.declared.row.Node.{Node as NodeRow}
 use Rattle.jv_model.specs.declared.row.Edge.{Edge}
 use Rattle.jv_model.specs.declared.fault.Fault.{Fault}
@@ -12,14 +12,14 @@ use Rattle.jv_model.specs.declared.fault.RowFault.{RowFault}
 use Rattle.jv_model.specs.declared.fault.TxFault.{TxFault}
 use Rattle.jv_model.specs.declared.fault.TxFault.TheVariants.{Refused, Rows as OfRows}
 use Rattle.jv_model.specs.FiniteMap.{get}
-use Rattle.jv_model.specs.rows.RowGrammar.{is_node, is_edge}
+use Rattle.jv_model.specs.rows.RowGrammar.{is_edge}
 use Rattle.jv_model.specs.rows.RowKeys.{RowMap}
-use Rattle.jv_model.specs.rows.RowPlaces.{node_key, edge_key}
+use Rattle.jv_model.specs.rows.RowPlaces.{edge_key}
 use Rattle.jv_model.specs.tree.Attempt.{◌>>=◌, some_or, require}
-use Rattle.jv_model.specs.tree.Tree.{Tree, EntryKey, root, trash_root, parent_at, target_at}
+use Rattle.jv_model.specs.tree.Tree.{Tree, trash_root}
 use Rattle.jv_model.specs.tree.Walk.{stepped, named_from, is_dot, is_dot_dot, is_trash}
 use Rattle.jv_outside.specs.Store.{Store}
-use Rattle.jv_volume.specs.TypedRows.{Rows, typed}
+use Rattle.jv_volume.specs.TypedRows.{typed}
 use Rattle.jv_volume.specs.Views.{row_in, node_in, edge_in}
 use Rattle.jv_volume.specs.TreeOf.{tree_of}
 use Rattle.jv_volume.specs.Whole.{Whole}
@@ -28,7 +28,8 @@ use Rattle.jv_volume.proofs.StoredLaws.{whole-stored, found_node, no_entry, HasN
 use Rattle.jv_rows.specs.Drafts.{Sees}
 use Rattle.jv_rows.specs.Walks.{HasNodeRow, Comes}
 use Rattle.jv_rows.specs.declared.walking.Place.{Place}
-use Rattle.jv_rows.proofs.WalkLaws.{Leaves, nothing_done, in_other_words, answered, refused, last_come, failed_to_come, not_read, was_read, stands_there, at_known}
+use Rattle.jv_rows.proofs.LooksLaws.{Leaves, nothing_done, in_other_words, answered, refused, not_read, was_read, stands_there, at_known}
+use Rattle.jv_rows.proofs.WalkLaws.{last_come, failed_to_come}
 
 -- ---- an entry
 

@@ -9,7 +9,6 @@ use Rattle.jv_model.specs.declared.row.Row.{Row}
 use Rattle.jv_model.specs.declared.row.Row.TheVariants.{OfNode, OfEdge, OfList, OfSustained}
 use Rattle.jv_model.specs.declared.row.RowKey.{RowKey}
 use Rattle.jv_model.specs.declared.fault.Fault.{Fault}
-use Rattle.jv_model.specs.declared.fault.RowFault.{RowFault}
 use Rattle.jv_model.specs.declared.fault.RowFault.TheVariants.{Bad, Failed, Memory}
 use Rattle.jv_model.specs.declared.fault.TxFault.{TxFault}
 use Rattle.jv_model.specs.declared.fault.TxFault.TheVariants.{Refused, Moved, Rows as OfRows}

@@ -1,5 +1,5 @@
 -- How a walk goes through a volume's rows: from node to node, and from one symlink to the next.
-use Rattle.std.specs.Prelude.{◌≡◌, ℕ, Bool, if◌then◌else◌, not, List, [], ◌∷◌, ◌++◌, filter, Option, None, Some, Result, Ok, Err, IfOk, IfSome}
+use Rattle.std.specs.Prelude.{◌≡◌, ℕ, Bool, if◌then◌else◌, not, List, [], ◌∷◌, ◌++◌, filter, None, Some, Result, Ok, Err, IfOk, IfSome}
 use Rattle.jv_model.specs.declared.fault.Fault.{Fault}
 use Rattle.jv_model.specs.declared.fault.TxFault.{TxFault}
 use Rattle.jv_model.specs.declared.row.Row.TheVariants.{OfNode, OfEdge}

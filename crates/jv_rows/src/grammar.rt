@@ -3,10 +3,9 @@ ghost use Rattle.std.specs.Prelude.{◌≡◌, ℕ, List, [], Bool, true, Option
 ghost use Rattle.std.specs.Option.{option_map};
 ghost use Rattle.jv_model.specs.declared.row.Row.{Row};
 ghost use Rattle.jv_model.specs.declared.row.Row.TheVariants.{OfSetting, OfCounters, OfNode, OfEdge, OfList, OfSlice, OfSession, OfSustained, OfDropped, OfDead};
-ghost use Rattle.jv_model.specs.rows.RowGrammar.{row_of};
-ghost use Rattle.jv_rows.specs.Tables.{setting_row, counters_row, node_row, edge_row, list_row, slice_row, session_row, sustained_row, dropped_row, dead_row};
-ghost use Rattle.jv_model.specs.rows.RowGrammar.{is_setting, setting_bytes, setting_of, is_counters, counters_bytes, counters_of, is_node, node_bytes, node_of, is_edge, edge_bytes, edge_of, is_list, list_bytes, list_of, is_slice, slice_bytes, slice_of, is_session, session_bytes, session_of, sustained_of, dropped_bytes, dropped_of, dead_bytes, dead_of};
+ghost use Rattle.jv_model.specs.rows.RowGrammar.{is_setting, setting_bytes, setting_of, is_counters, counters_bytes, counters_of, is_node, node_bytes, node_of, is_edge, edge_bytes, edge_of, is_list, list_bytes, list_of, is_slice, slice_bytes, slice_of, is_session, session_bytes, session_of, sustained_of, dropped_bytes, dropped_of, dead_bytes, dead_of, row_of};
 ghost use Rattle.jv_rows.specs.Reads.{ReadsAs, IsSpelled};
+ghost use Rattle.jv_rows.specs.Tables.{setting_row, counters_row, node_row, edge_row, list_row, slice_row, session_row, sustained_row, dropped_row, dead_row};
 
 use crate::misread::Misread;
 use crate::parsing::{

@@ -1,4 +1,4 @@
-use Rattle.std.proofs.Common.{arith, ◌≡◌, true, false}
+use Rattle.std.proofs.Common.{arith}
 use Rattle.jv_rows.proofs.DraftLaws.{search_ends, search_goes_on}
 use Rattle.jv_rows.proofs.drafts.last_of.Goals as goal
 

@@ -13,5 +13,5 @@ pub returns-in_ok-from : goal.returns-in_ok-from
 returns-in_ok-from g c =
     let absolute : is_absolute c.args.target.now ≡ true = cc in
     let all : c.append.new.all ≡ names_of c.args.target.now ++ drop c.args.behind c.args.names.now =
-        c.in_ok-append.ensures ∙ ap (λ (first : List (List ℕ)). first ++ drop c.args.behind c.args.names.now) (c.in_ok-all.ensures ∙ ap names_of c.as_slice.ensures) in
+    c.in_ok-append.ensures ∙ ap (λ (first : List (List ℕ)). first ++ drop c.args.behind c.args.names.now) (c.in_ok-all.ensures ∙ ap names_of c.as_slice.ensures) in
     goes_from_root c.args.dir.inode c.args.target.now (drop c.args.behind c.args.names.now) c.append.new.all c.in_ok-from.from absolute all c.in_ok-from.ensures

@@ -1,6 +1,6 @@
-use Rattle.std.proofs.Common.{◌≡◌, Ok}
 use Rattle.std.proofs.lemmas.Result.{err_from_is_err_and}
-use Rattle.jv_rows.proofs.WalkLaws.{seen_edge, has_edge_row}
+use Rattle.jv_rows.proofs.LooksLaws.{seen_edge}
+use Rattle.jv_rows.proofs.WalkLaws.{has_edge_row}
 use Rattle.jv_rows.proofs.StepLaws.{entry_not_read, entry_is, no_entry_is}
 use Rattle.jv_rows.proofs.walking.child.Goals as goal
 

@@ -1,6 +1,5 @@
-use Rattle.std.proofs.Common.{◌≡◌, ◌+◌, ◌<◌, ◌∷◌, length, drop, true, false, ap, sym, ◌∙◌, arith, add-one, drop-cons, refl}
+use Rattle.std.proofs.Common.{◌+◌, ◌<◌, length, drop, ap, sym, ◌∙◌, arith}
 use Rattle.std.specs.Prelude.{◌&&◌, ◌||◌, ◌==◌, not}
-use Rattle.jv_model.specs.tree.Walk.{is_empty}
 use Rattle.jv_rows.proofs.CourseLaws.{last_goes, to_symlink, to_node, is_last, next_name}
 use Rattle.jv_rows.proofs.walking.go_on.Goals as goal
 

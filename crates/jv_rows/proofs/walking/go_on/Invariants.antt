@@ -1,6 +1,6 @@
 use Rattle.std.proofs.Common.{drop}
 use Rattle.jv_rows.specs.Walks.{HasNodeRow, course}
-use Rattle.jv_rows.proofs.WalkLaws.{Leaves}
+use Rattle.jv_rows.proofs.LooksLaws.{Leaves}
 use Rattle.jv_rows.proofs.walking.go_on.Given as goal
 
 abbrev pub invariant-loop-index : goal.invariant-loop-index

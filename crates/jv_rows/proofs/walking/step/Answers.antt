@@ -1,4 +1,4 @@
-use Rattle.std.proofs.Common.{◌≡◌, ◌≤◌, ◌<◌, length, true, false, refl, arith}
+use Rattle.std.proofs.Common.{◌≡◌, ◌≤◌, length, true, false, refl, arith}
 use Rattle.jv_model.specs.declared.limits.TheConstants.{MAX_NAME}
 use Rattle.jv_model.specs.tree.Walk.{is_dot, is_dot_dot, is_trash}
 use Rattle.jv_rows.proofs.WalkLaws.{last_come}

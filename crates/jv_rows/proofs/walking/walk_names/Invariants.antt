@@ -1,9 +1,8 @@
-use Rattle.std.proofs.Common.{◌≤◌}
 use Rattle.jv_model.specs.declared.limits.TheConstants.{MAX_SYMLINKS}
 use Rattle.jv_model.specs.tree.Tree.{root}
 use Rattle.jv_model.specs.tree.Walk.{walk}
 use Rattle.jv_rows.specs.Walks.{HasNodeRow}
-use Rattle.jv_rows.proofs.WalkLaws.{Leaves}
+use Rattle.jv_rows.proofs.LooksLaws.{Leaves}
 use Rattle.jv_rows.proofs.walking.walk_names.Given as goal
 
 abbrev pub decreases-loop-names : goal.decreases-loop-names

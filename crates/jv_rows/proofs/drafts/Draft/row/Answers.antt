@@ -1,5 +1,5 @@
 use Rattle.std.proofs.Common.{ℕ, Some, List, ap, sym, ◌∙◌}
-use Rattle.jv_outside.specs.declared.batch.Change.TheVariants.{Put, Del}
+use Rattle.jv_outside.specs.declared.batch.Change.TheVariants.{Put}
 use Rattle.jv_rows.specs.Drafts.{last_change}
 use Rattle.jv_rows.proofs.DraftLaws.{sees_stored, sees_deleted, sees_put}
 use Rattle.jv_rows.proofs.drafts.Draft.row.Goals as goal
