@@ -4,3 +4,5 @@
 
 #[cfg(test)]
 mod changes;
+#[cfg(test)]
+mod walks;
