@@ -10,3 +10,11 @@ pub mod ScanLaws
 pub mod DropsExamples
 pub mod DropLaws
 pub mod DropSteps
+pub mod SpelledLaws
+pub mod DraftLaws
+pub mod LooksLaws
+pub mod WalkLaws
+pub mod StepLaws
+pub mod NamesLaws
+pub mod CourseLaws
+pub mod EntryLaws

@@ -2,6 +2,7 @@
 #![tactic(auto)]
 
 mod allowed;
+mod drafts;
 mod dropping;
 mod fields;
 mod fresh;
@@ -13,12 +14,15 @@ mod parsing;
 mod reading;
 mod scanning;
 mod spelling;
+mod walking;
+mod widths;
 mod writing;
 
 pub use allowed::{
     allows_counters, allows_edge, allows_list, allows_node, allows_record, allows_session,
     allows_setting, allows_slice,
 };
+pub use drafts::Draft;
 pub use dropping::drop_records;
 pub use fresh::{default_setting, fresh_rows};
 pub use keys::{
@@ -40,6 +44,7 @@ pub use spelling::{
     spell_counters, spell_dead, spell_dropped, spell_edge, spell_list, spell_node, spell_session,
     spell_setting, spell_slice,
 };
+pub use walking::{walk, walk_entry};
 pub use writing::{
     put_counters, put_dead, put_dropped, put_edge, put_list, put_node, put_session, put_setting,
     put_slice, put_sustained,

@@ -1,0 +1,173 @@
+-- A walk's places: what a reading of a node or an entry comes to, and which rows whole volumes have.
+use Rattle.std.proofs.Common.{◌≡◌, ℕ, Bool, true, false, List, [], Option, None, Some, Result, Ok, Err, option_map, refl, sym, ap, subst, ◌∙◌, true≢false, eqb-true}
+use Rattle.std.specs.Prelude.{if◌then◌else◌, ◌&&◌, ◌||◌, ◌==◌, IsTrue}
+use Rattle.jv_model.specs.declared.row.RowKey.{RowKey}
+use Rattle.jv_model.specs.declared.row.Row.TheVariants.{OfNode, OfEdge}
+use Rattle.jv_model.specs.declared.row.Node.{Node as NodeRow}
+use Rattle.jv_model.specs.declared.row.Edge.{Edge}
+use Rattle.jv_model.specs.declared.fault.Fault.{Fault}
+use Rattle.jv_model.specs.declared.fault.RowFault.{RowFault}
+use Rattle.jv_model.specs.declared.fault.RowFault.TheVariants.{Bad}
+use Rattle.jv_model.specs.declared.fault.TxFault.{TxFault}
+use Rattle.jv_model.specs.declared.fault.TxFault.TheVariants.{Rows as OfRows}
+use Rattle.jv_model.specs.FiniteMap.{get}
+use Rattle.jv_model.specs.rows.RowGrammar.{node_bytes, is_node, edge_bytes, is_edge}
+use Rattle.jv_model.specs.rows.RowKeys.{RowMap, row_key}
+use Rattle.jv_model.specs.rows.RowPlaces.{node_key, edge_key}
+use Rattle.jv_model.specs.tree.Tree.{Tree, Kind, File, Directory, Symlink, Node, EntryKey, root, trash_root, node_at, parent_of, parent_at}
+use Rattle.jv_outside.specs.Store.{Store}
+use Rattle.jv_volume.specs.TypedRows.{typed}
+use Rattle.jv_volume.specs.Views.{row_in, node_in, edge_in}
+use Rattle.jv_volume.specs.TreeOf.{tree_of}
+use Rattle.jv_volume.specs.Shape.{Form, Absent, Regular, Link, Dir, form_of, is_there, is_dir, shape_of, is_top, WholeShape}
+use Rattle.jv_volume.specs.Whole.{Whole}
+use Rattle.jv_volume.proofs.ShapeMapLaws.{tied_here}
+use Rattle.jv_volume.proofs.TreeOfLaws.{get-entries}
+use Rattle.jv_volume.proofs.StoredLaws.{whole-stored, whole-shape, found_node, no_node}
+use Rattle.jv_rows.specs.Drafts.{Sees}
+use Rattle.jv_rows.specs.Transactions.{NamesNone, Lacks, Looks, is_key_of, names, is_needed}
+use Rattle.jv_rows.specs.Walks.{HasNodeRow, HasEdgeRow, Comes}
+use Rattle.jv_rows.specs.declared.walking.Place.{Place}
+use Rattle.jv_rows.proofs.LooksLaws.{Leaves, last_part, always_known, answered, finds_bad, at_known, not_read, was_read, stands_there}
+
+-- ---- rows that were read
+
+pub has_node_row : {inode : ℕ} {node : NodeRow} {before after : Store} → Sees OfNode is_node (node_key inode) [] before after (Ok (Some node)) → HasNodeRow after inode node
+has_node_row {inode = inode} {node = node} {before = before} {after = after} r =
+    always_known after.rows _ (λ known is. stands_there OfNode is_node (node_key inode) before after (Some node) r known (sym r.rows_are ∙ is))
+
+pub has_edge_row : {dir : ℕ} {name : List ℕ} {edge : Edge} {before after : Store} → Sees OfEdge is_edge (edge_key dir name) [] before after (Ok (Some edge)) → HasEdgeRow after dir name edge
+has_edge_row {dir = dir} {name = name} {edge = edge} {before = before} {after = after} r =
+    always_known after.rows _ (λ known is. stands_there OfEdge is_edge (edge_key dir name) before after (Some edge) r known (sym r.rows_are ∙ is))
+
+-- ---- a part of a walk that comes to a node
+
+pub failed_to_come : {before after : Store} {asked : Tree → Result ℕ Fault} {fault : TxFault} → Looks before after (Err fault) asked → Comes before after (Err fault) asked
+failed_to_come looks = record { looks = looks; stands = tt }
+
+-- the node of a row that was read
+pub comes_to : {before after : Store} (inode : ℕ) (node : NodeRow) → Sees OfNode is_node (node_key inode) [] before after (Ok (Some node))
+    → Comes before after (Ok (record { inode = inode; node = node })) (λ t. Ok inode)
+comes_to {before = before} {after = after} inode node r = record {
+  looks = answered inode (was_read OfNode is_node (node_key inode) before after (Some node) (λ t. Ok inode) r);
+  stands = has_node_row r;
+}
+
+pub last_come : {before now after : Store} {asked left : Tree → Result ℕ Fault} {result : Result Place TxFault} → Leaves before now asked left → Comes now after result left → Comes before after result asked
+last_come l r = record { looks = last_part l r.looks; stands = r.stands }
+
+-- a node whose row wasn't read
+pub not_come : {before after : Store} (inode : ℕ) (fault : RowFault) (asked : Tree → Result ℕ Fault) → Sees OfNode is_node (node_key inode) [] before after (Err fault)
+    → Comes before after (Err (OfRows fault)) asked
+not_come {before = before} {after = after} inode fault asked r = failed_to_come (not_read OfNode is_node (node_key inode) before after fault asked r)
+
+-- ---- rows that whole volumes have
+
+-- the top directories
+
+either_top : (inode : ℕ) (a b : Bool) → (inode == root) ≡ a → (inode == trash_root) ≡ b → IsTrue (a || b) → (P : ℕ → Type 0) → P root → P trash_root → P inode
+either_top inode true b e f h P at_root at_trash = subst P (sym (eqb-true inode root e)) at_root
+either_top inode false true e f h P at_root at_trash = subst P (sym (eqb-true inode trash_root f)) at_trash
+either_top inode false false e f h P at_root at_trash = absurd (true≢false (sym h))
+
+-- what holds of both holds of a top directory
+pub of_top : (inode : ℕ) → IsTrue (is_top inode) → (P : ℕ → Type 0) → P root → P trash_root → P inode
+of_top inode h P at_root at_trash = either_top inode (inode == root) (inode == trash_root) refl refl h P at_root at_trash
+
+absent_form : {node : Option Node} {form : Form} → node ≡ None → form_of node ≡ form → IsTrue (is_there form) → ⊥
+absent_form {form = form} none is there = true≢false (sym there ∙ sym (ap is_there is) ∙ ap (λ o. is_there (form_of o)) none)
+
+module _ (known : RowMap) (whole : Whole (typed known)) where
+  abbrev bare : Tree
+  bare = tree_of (λ inode position. 0) (typed known)
+
+  shape : WholeShape (shape_of bare)
+  shape = whole-shape (λ inode position. 0) (typed known) whole
+
+  absent : (inode : ℕ) → get (typed known) (node_key inode) ≡ None → node_at bare inode ≡ None
+  absent inode none = no_node (λ inode position. 0) (typed known) inode (ap (λ cell. node_in (row_in cell)) none)
+
+  -- no top directory is absent
+  pub has_top : (inode : ℕ) → IsTrue (is_top inode) → get (typed known) (node_key inode) ≡ None → ⊥
+  has_top inode top none =
+      of_top inode top (λ i. node_at bare i ≡ None → ⊥) (λ gone. absent_form gone shape.root_there refl) (λ gone. absent_form gone shape.trash_there refl) (absent inode none)
+
+  -- no entry's node is absent
+  pub has_named : (at : EntryKey) (edge : Edge) → get (typed known) (edge_key at.dir at.name) ≡ Some (Ok (OfEdge edge)) → get (typed known) (node_key edge.inode) ≡ None → ⊥
+  has_named at edge there none =
+      let entry : get bare.entries at ≡ Some edge.inode = get-entries (λ inode position. 0) (typed known) at ∙ ap (λ cell. option_map (λ e. e.inode) (edge_in (row_in cell))) there in
+      absent_form (absent edge.inode none) refl (shape.entry at edge.inode entry).there
+
+  dir_form : (node : Option Node) (parent : ℕ) → parent_of node ≡ Some parent → form_of node ≡ Dir parent
+  dir_form None parent e = absurd cc
+  dir_form (Some node) parent e = by_kind node.kind e
+    where
+      by_kind : (kind : Kind) → (elim kind [ File content ↦ None | Directory p ↦ Some p | Symlink target ↦ None ]) ≡ Some parent
+          → (elim kind [ File content ↦ Regular | Directory p ↦ Dir p | Symlink target ↦ Link ]) ≡ Dir parent
+      by_kind (File content) e = absurd cc
+      by_kind (Directory p) e = ap Dir (same e)
+        where
+          same : Some p ≡ Some parent → p ≡ parent
+          same e = cc
+      by_kind (Symlink target) e = absurd cc
+
+  is_dir_there : (form : Form) → IsTrue (is_dir form) → IsTrue (is_there form)
+  is_dir_there Absent h = absurd (true≢false (sym h))
+  is_dir_there Regular h = absurd (true≢false (sym h))
+  is_dir_there Link h = absurd (true≢false (sym h))
+  is_dir_there (Dir parent) h = refl
+
+  -- the parent of a directory is there
+  parent_there : (dir parent : ℕ) (top : Bool) → is_top dir ≡ top → form_of (node_at bare dir) ≡ Dir parent → IsTrue (is_there (form_of (node_at bare parent)))
+  parent_there dir parent true top form = subst (λ p. IsTrue (is_there (form_of (node_at bare p)))) (of_top dir top (λ d. form_of (node_at bare d) ≡ Dir parent → root ≡ parent)
+      (λ is. same_parent (sym shape.root_there ∙ is)) (λ is. same_parent (sym shape.trash_there ∙ is)) form) (subst (λ f. IsTrue (is_there f)) (sym shape.root_there) refl)
+    where
+      same_parent : {p q : ℕ} → Dir p ≡ Dir q → p ≡ q
+      same_parent e = cc
+  parent_there dir parent false top form =
+      let entered = shape.entered dir parent form top in
+      is_dir_there (form_of (node_at bare parent)) (shape.entry (record { dir = parent; name = entered.name }) dir entered.is).within
+
+  -- no directory's parent is absent
+  pub has_parent : (inode : ℕ) (node : NodeRow) → get (typed known) (node_key inode) ≡ Some (Ok (OfNode node)) → node.kind ≡ 2 → get (typed known) (node_key node.parent) ≡ None → ⊥
+  has_parent inode node there directory none =
+      let h = found_node (λ inode position. 0) (typed known) (whole-stored (λ inode position. 0) (typed known) whole) inode node (ap (λ cell. node_in (row_in cell)) there) in
+      let parent : parent_at bare inode ≡ Some node.parent = h.parent ∙ ap (λ k. if k == 2 then Some node.parent else None) directory in
+      absent_form (absent node.parent none) refl (parent_there inode node.parent (is_top inode) refl (dir_form (node_at bare inode) node.parent parent))
+
+-- ---- a row that is Bad since another isn't there
+
+names_it : (key : RowKey) → IsTrue (is_key_of key key)
+names_it key = tied_here row_key key
+
+needs_top : (inode : ℕ) → IsTrue (is_top inode) → IsTrue (is_needed (node_key inode))
+needs_top inode top = of_top inode top (λ i. IsTrue (is_needed (node_key i))) refl refl
+
+-- the node of a top directory is absent
+pub lacks_top : {before after : Store} (inode : ℕ) → IsTrue (is_top inode) → Sees OfNode is_node (node_key inode) [] before after (Ok None)
+    → Comes before after (Err (OfRows (Bad (node_key inode) []))) (λ t. Ok inode)
+lacks_top {before = before} {after = after} inode top r =
+    failed_to_come (finds_bad (node_key inode) [] (was_read OfNode is_node (node_key inode) before after None (λ t. Ok inode) r)
+    (always_known before.rows _ (λ known is. Lacks (needs_top inode top) (stands_there OfNode is_node (node_key inode) before after None r known is) refl))
+    (λ known is whole. has_top known whole inode top (stands_there OfNode is_node (node_key inode) before after None r known is)))
+
+-- the node of an entry is absent
+pub names_none : {before after : Store} (dir : ℕ) (name : List ℕ) (edge : Edge) → HasEdgeRow before dir name edge → Sees OfNode is_node (node_key edge.inode) [] before after (Ok None)
+    → Comes before after (Err (OfRows (Bad (edge_key dir name) (edge_bytes edge)))) (λ t. Ok edge.inode)
+names_none {before = before} {after = after} dir name edge there r =
+    failed_to_come (finds_bad (edge_key dir name) (edge_bytes edge) (was_read OfNode is_node (node_key edge.inode) before after None (λ t. Ok edge.inode) r)
+    (always_known before.rows _ (λ known is. NamesNone (OfEdge edge) (node_key edge.inode) (at_known _ before.rows known is there) refl
+    (names_it (node_key edge.inode)) (stands_there OfNode is_node (node_key edge.inode) before after None r known is)))
+    (λ known is whole. has_named known whole (record { dir = dir; name = name }) edge (at_known _ before.rows known is there) (stands_there OfNode is_node (node_key edge.inode) before after None r known is)))
+
+names_parent : (inode : ℕ) (node : NodeRow) → node.kind ≡ 2 → IsTrue (names (node_key inode) (OfNode node) (node_key node.parent))
+names_parent inode node directory = ap (λ k. (k == 2) && is_key_of (node_key node.parent) (node_key node.parent)) directory ∙ names_it (node_key node.parent)
+
+-- the parent of a directory is absent
+pub lacks_parent : {before after : Store} (inode : ℕ) (node : NodeRow) → HasNodeRow before inode node → node.kind ≡ 2 → Sees OfNode is_node (node_key node.parent) [] before after (Ok None)
+    → Comes before after (Err (OfRows (Bad (node_key inode) (node_bytes node)))) (λ t. Ok node.parent)
+lacks_parent {before = before} {after = after} inode node there directory r =
+    failed_to_come (finds_bad (node_key inode) (node_bytes node) (was_read OfNode is_node (node_key node.parent) before after None (λ t. Ok node.parent) r)
+    (always_known before.rows _ (λ known is. NamesNone (OfNode node) (node_key node.parent) (at_known _ before.rows known is there) refl
+    (names_parent inode node directory) (stands_there OfNode is_node (node_key node.parent) before after None r known is)))
+    (λ known is whole. has_parent known whole inode node (at_known _ before.rows known is there) directory (stands_there OfNode is_node (node_key node.parent) before after None r known is)))
