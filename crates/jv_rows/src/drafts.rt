@@ -55,6 +55,14 @@ fn read_put<R: Grammar>(alloc: Global, key: RowKey, bytes: &[u8]) -> Result<Opti
 }
 
 /// Changes of rows, in the order in which they are made. Contracts see them as a list.
+///
+/// A reading returns `None` if and only if there is no such row once the changes are made.
+///
+/// # Errors
+///
+/// A reading returns [`RowFault::Bad`] for a row whose bytes are malformed, [`RowFault::Failed`] if the keeper failed, and
+/// [`RowFault::Memory`] out of memory; rows and changes are then as before. What adds a change fails out of memory
+/// alone, and the changes are then as before.
 #[derive(Debug, Drop)]
 pub struct Draft {
     batch: Batch,
@@ -122,7 +130,7 @@ impl Draft {
         self.row(k, key_of_session(self.alloc, sid))
     }
 
-    /// Adds the next numbers and the running totals.
+    /// Adds that these are the next numbers and the running totals. Out of memory the changes are as before.
     pub fn put_counters(&mut self, counters: &Counters) -> Result<(), AllocError>
         requires { IsTrue (is_counters counters.now) }
         ensures { Drafts counters_key (cell OfCounters (Some counters.now)) self.old self.new result }
@@ -130,7 +138,7 @@ impl Draft {
         self.put(key_of_counters(self.alloc), counters)
     }
 
-    /// Adds a node.
+    /// Adds that the inode is this node. Out of memory the changes are as before.
     pub fn put_node(&mut self, inode: u64, node: &Node) -> Result<(), AllocError>
         requires { IsTrue (is_node node.now) }
         ensures { Drafts (node_key inode) (cell OfNode (Some node.now)) self.old self.new result }
@@ -138,14 +146,14 @@ impl Draft {
         self.put(key_of_node(self.alloc, inode), node)
     }
 
-    /// Takes a node away.
+    /// Adds that the inode has no node. Out of memory the changes are as before.
     pub fn drop_node(&mut self, inode: u64) -> Result<(), AllocError>
         ensures { Drafts (node_key inode) None self.old self.new result }
     {
         self.drop_row(key_of_node(self.alloc, inode))
     }
 
-    /// Adds an entry.
+    /// Adds that the name in the directory is this entry. Out of memory the changes are as before.
     pub fn put_edge(&mut self, dir: u64, name: &Name, edge: &Edge) -> Result<(), AllocError>
         requires { IsTrue (is_edge edge.now) }
         ensures { Drafts (edge_key dir name.now) (cell OfEdge (Some edge.now)) self.old self.new result }
@@ -154,7 +162,7 @@ impl Draft {
         self.put(key, edge)
     }
 
-    /// Takes an entry away.
+    /// Adds that the directory has no entry of the name. Out of memory the changes are as before.
     pub fn drop_edge(&mut self, dir: u64, name: &Name) -> Result<(), AllocError>
         ensures { Drafts (edge_key dir name.now) None self.old self.new result }
     {

@@ -45,8 +45,8 @@ pub(crate) enum Leg {
 ///
 /// # Errors
 ///
-/// NotFound, NotADirectory, NameTooLong or SymlinkLoop as the path is; Bad for a row that is malformed, names a node that
-/// isn't there, or is absent where each volume has one; Failed if the keeper failed, or Memory.
+/// NotFound, NotADirectory, NameTooLong or SymlinkLoop, as the path is. Bad for a row that is malformed or names a node that
+/// isn't there, and without bytes where the root or the trash itself is absent. Failed if the keeper failed. Memory.
 pub fn walk<K: Keeper>(alloc: Global, k: &mut K, path: &Path, follow: bool) -> Result<u64, TxFault>
     ensures { Looks (K.seen k.old) (K.seen k.new) result (λ t. inode_by follow t path.now) }
 {
@@ -54,8 +54,8 @@ pub fn walk<K: Keeper>(alloc: Global, k: &mut K, path: &Path, follow: bool) -> R
         return Err(TxFault::Refused(Fault::NameTooLong));
     }
     let names = split(alloc, path.as_slice())?;
-    let place = walk_names(alloc, k, names, follow)?;
-    Ok(place.inode)
+    let end = walk_names(alloc, k, names, follow)?;
+    Ok(end.inode)
 }
 
 /// The entry that a path names, whether it is there or not: its directory and its name. No row changes.
