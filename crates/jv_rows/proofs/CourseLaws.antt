@@ -24,7 +24,7 @@ use Rattle.jv_rows.proofs.StepLaws.{node_is}
 -- ---- the target of a symlink
 
 pub last_goes : {before now after : Store} {asked left : Tree → Result Course Fault} {result : Result Leg TxFault} → Leaves before now asked left → Goes now after result left → Goes before after result asked
-last_goes l r = record { looks = last_part l r.looks; stands = r.stands }
+last_goes l r = record { looks = last_part l r.looks; stands = r.stands; allowed = r.allowed }
 
 -- a walk that goes on from the root
 pub goes_from_root : {before after : Store} (dir : ℕ) (target : List ℕ) (behind all : List (List ℕ)) (from : Place) → is_absolute target ≡ true → all ≡ names_of target ++ behind
@@ -34,6 +34,7 @@ goes_from_root {before = before} dir target behind all from absolute is comes = 
       (in_other_words (nothing_done before (λ t. Ok (onward dir target behind))) (λ known rows_are whole bytes.
       (λ i. Ok (Onward (if absolute i then root else dir) (sym is i))))) comes.looks);
   stands = comes.stands;
+  allowed = comes.allowed;
 }
 
 pub root_fails : {before after : Store} (dir : ℕ) (target : List ℕ) (behind : List (List ℕ)) (fault : TxFault) → Comes before after (Err fault) (λ t. Ok root)
@@ -41,6 +42,7 @@ pub root_fails : {before after : Store} (dir : ℕ) (target : List ℕ) (behind 
 root_fails {before = before} dir target behind fault comes = record {
   looks = failed_part (λ inode t. Ok (onward dir target behind)) fault (nothing_done before (λ t. Ok (onward dir target behind))) comes.looks;
   stands = tt;
+  allowed = tt;
 }
 
 -- ---- after one name
@@ -62,6 +64,16 @@ followed_some : (here link : Bool) (target : List ℕ) → (here && link) ≡ tr
 followed_some true true target e = refl
 followed_some true false target e = absurd cc
 followed_some false link target e = absurd cc
+
+-- a name that doesn't lead on
+pub name_fails : {start now after : Store} {asked : Tree → Result Course Fault} (follow : Bool) (place : Place) (name : List ℕ) (names behind : List (List ℕ)) (fault : TxFault) → names ≡ name ∷ behind
+    → Leaves start now asked (λ t. course t follow place.inode names) → Comes now after (Err fault) (λ t. stepped t place.inode name) → Goes start after (Err fault) asked
+name_fails follow place name names behind fault is left comes = record {
+  looks = failed_part (λ inode t. behind_name follow place.inode inode behind t (way_on t follow behind inode)) fault
+      (in_other_words left (λ known rows_are whole bytes. ap (course (tree_of bytes (typed known)) follow place.inode) is)) comes.looks;
+  stands = tt;
+  allowed = tt;
+}
 
 module _ {start now after : Store} {asked : Tree → Result Course Fault} (follow : Bool) (place next : Place) (name : List ℕ) (names behind : List (List ℕ)) (is : names ≡ name ∷ behind)
     (left : Leaves start now asked (λ t. course t follow place.inode names)) (comes : Comes now after (Ok next) (λ t. stepped t place.inode name)) where
@@ -155,6 +167,7 @@ module _ {start now : Store} {asked : Tree → Result ℕ Fault} (left : ℕ) (f
   walk_ends end goes = record {
     looks = answered end.inode (found_part (λ c t. finished (again left t follow) c) (Ended end.inode) by_courses goes.looks);
     stands = goes.stands;
+    allowed = goes.allowed;
   }
 
   goes_again : {after : Store} (from : Place) (rest : List (List ℕ)) → Goes now after (Ok (Follows from rest)) (λ t. course t follow place.inode names)

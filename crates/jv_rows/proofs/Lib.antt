@@ -18,3 +18,5 @@ pub mod StepLaws
 pub mod NamesLaws
 pub mod CourseLaws
 pub mod EntryLaws
+pub mod TransactionLaws
+pub mod NeedingLaws

@@ -1,7 +1,7 @@
 -- One name of a walk: what it finds in whole rows, case by case.
 use Rattle.std.proofs.Common.{◌≡◌, ℕ, Bool, List, [], length, Option, None, Some, Result, Ok, Err, option_map, sym, ap, subst, ◌∙◌, ◌≢◌, ◌<◌, ◌≤◌, eq-eqb, ne_eqb}
 use Rattle.std.proofs.lemmas.Bool.{le-leb, lt-leb}
-use Rattle.std.specs.Prelude.{if◌then◌else◌, nat_le}
+use Rattle.std.specs.Prelude.{if◌then◌else◌, nat_le, IsTrue}
 use Rattle.jv_model.specs.declared.limits.TheConstants.{MAX_NAME}
 use Rattle.jv_model.specs.declared.row.Row.TheVariants.{OfEdge}
 use Rattle.jv_model.specs.declared.row.Node.{Node as NodeRow}
@@ -12,7 +12,7 @@ use Rattle.jv_model.specs.declared.fault.RowFault.{RowFault}
 use Rattle.jv_model.specs.declared.fault.TxFault.{TxFault}
 use Rattle.jv_model.specs.declared.fault.TxFault.TheVariants.{Refused, Rows as OfRows}
 use Rattle.jv_model.specs.FiniteMap.{get}
-use Rattle.jv_model.specs.rows.RowGrammar.{is_edge}
+use Rattle.jv_model.specs.rows.RowGrammar.{is_node, is_edge}
 use Rattle.jv_model.specs.rows.RowKeys.{RowMap}
 use Rattle.jv_model.specs.rows.RowPlaces.{edge_key}
 use Rattle.jv_model.specs.tree.Attempt.{◌>>=◌, some_or, require}
@@ -101,5 +101,6 @@ module _ {store : Store} (inode : ℕ) (node : NodeRow) (name : List ℕ) (there
       ∙ (λ i. named_by (e i) (f i) (g i) (tree_of bytes (typed known)) inode node.parent name))
 
   -- the place itself
-  pub stays : {place : Place} → place ≡ record { inode = inode; node = node } → Comes store store (Ok place) (λ t. Ok inode)
-  stays {place = place} same = subst (λ (p : Place). Comes store store (Ok p) (λ t. Ok inode)) (sym same) (record { looks = answered inode (nothing_done store (λ t. Ok inode)); stands = there })
+  pub stays : {place : Place} → IsTrue (is_node node) → place ≡ record { inode = inode; node = node } → Comes store store (Ok place) (λ t. Ok inode)
+  stays {place = place} fits same =
+      subst (λ (p : Place). Comes store store (Ok p) (λ t. Ok inode)) (sym same) (record { looks = answered inode (nothing_done store (λ t. Ok inode)); stands = there; allowed = fits })

@@ -43,7 +43,7 @@ has_edge_row {dir = dir} {name = name} {edge = edge} {before = before} {after = 
 -- ---- a part of a walk that comes to a node
 
 pub failed_to_come : {before after : Store} {asked : Tree → Result ℕ Fault} {fault : TxFault} → Looks before after (Err fault) asked → Comes before after (Err fault) asked
-failed_to_come looks = record { looks = looks; stands = tt }
+failed_to_come looks = record { looks = looks; stands = tt; allowed = tt }
 
 -- the node of a row that was read
 pub comes_to : {before after : Store} (inode : ℕ) (node : NodeRow) → Sees OfNode is_node (node_key inode) [] before after (Ok (Some node))
@@ -51,10 +51,11 @@ pub comes_to : {before after : Store} (inode : ℕ) (node : NodeRow) → Sees Of
 comes_to {before = before} {after = after} inode node r = record {
   looks = answered inode (was_read OfNode is_node (node_key inode) before after (Some node) (λ t. Ok inode) r);
   stands = has_node_row r;
+  allowed = r.allowed;
 }
 
 pub last_come : {before now after : Store} {asked left : Tree → Result ℕ Fault} {result : Result Place TxFault} → Leaves before now asked left → Comes now after result left → Comes before after result asked
-last_come l r = record { looks = last_part l r.looks; stands = r.stands }
+last_come l r = record { looks = last_part l r.looks; stands = r.stands; allowed = r.allowed }
 
 -- a node whose row wasn't read
 pub not_come : {before after : Store} (inode : ℕ) (fault : RowFault) (asked : Tree → Result ℕ Fault) → Sees OfNode is_node (node_key inode) [] before after (Err fault)
