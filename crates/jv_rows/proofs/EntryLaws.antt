@@ -16,7 +16,8 @@ use Rattle.jv_volume.specs.TreeOf.{tree_of}
 use Rattle.jv_rows.specs.Transactions.{Looks}
 use Rattle.jv_rows.specs.Walks.{Comes, ComesToEntry, pair_in, entry_pair}
 use Rattle.jv_rows.specs.declared.walking.Place.{Place}
-use Rattle.jv_rows.proofs.LooksLaws.{Leaves, nothing_done, in_other_words, answered, refused, found_part, failed_part}
+use Rattle.jv_rows.proofs.TransactionLaws.{Past, past-start}
+use Rattle.jv_rows.proofs.LooksLaws.{in_other_words, answered, refused, found_part, failed_part}
 use Rattle.jv_rows.proofs.StepLaws.{node_is}
 use Rattle.jv_rows.proofs.NamesLaws.{last_name_is, other_names_are}
 
@@ -49,9 +50,9 @@ entry_by short last names t =
     paired (require short NameTooLong >>= λ unit. some_or last Invalid >>= λ name. entry_behind (not (is_dot name || is_dot_dot name)) t names name)
 
 module _ (path : List ℕ) (names : List (List ℕ)) (name : List ℕ) (short : length path ≤ MAX_PATH) (is : names_of path ≡ names ++ name ∷ []) where
-  behind_names : (store : Store) → Leaves store store (λ t. entry_pair t path) (λ t. paired (entry_behind (not (is_dot name || is_dot_dot name)) t names name))
+  behind_names : (store : Store) → Past store store (λ t. entry_pair t path) (λ t. paired (entry_behind (not (is_dot name || is_dot_dot name)) t names name))
   behind_names store =
-      in_other_words (nothing_done store (λ t. entry_pair t path)) (λ known rows_are whole bytes.
+      in_other_words (past-start store (λ t. entry_pair t path)) (λ known rows_are whole bytes.
       (λ i. entry_by (le-leb (length path) MAX_PATH short i) (last_name_is names name is i) (other_names_are names name is i) (tree_of bytes (typed known))))
 
   -- the last name is `.` or `..`
@@ -60,7 +61,7 @@ module _ (path : List ℕ) (names : List (List ℕ)) (name : List ℕ) (short : 
       no_entry_place (refused Invalid (in_other_words (behind_names store) (λ known rows_are whole bytes. ap (λ d. paired (entry_behind (not d) (tree_of bytes (typed known)) names name)) dots)))
 
   module _ (good : (is_dot name || is_dot_dot name) ≡ false) where
-    by_walk : (store : Store) → Leaves store store (λ t. entry_pair t path) (λ t. walk MAX_SYMLINKS t true root names >>= λ dir. entry_left name dir t)
+    by_walk : (store : Store) → Past store store (λ t. entry_pair t path) (λ t. walk MAX_SYMLINKS t true root names >>= λ dir. entry_left name dir t)
     by_walk store =
         in_other_words (behind_names store) (λ known rows_are whole bytes. let t = tree_of bytes (typed known) in
         ap (λ d. paired (entry_behind (not d) t names name)) good
@@ -72,7 +73,7 @@ module _ (path : List ℕ) (names : List (List ℕ)) (name : List ℕ) (short : 
     directory_fails {before = before} fault comes = no_entry_place (failed_part (entry_left name) fault (by_walk before) comes.looks)
 
     module _ {before after : Store} (place : Place) (comes : Comes before after (Ok place) (λ t. walk MAX_SYMLINKS t true root names)) where
-      in_place : Leaves before after (λ t. entry_pair t path) (λ t. paired (entry_within (place.node.kind == 2) (nat_le (length name) MAX_NAME) place.inode name))
+      in_place : Past before after (λ t. entry_pair t path) (λ t. paired (entry_within (place.node.kind == 2) (nat_le (length name) MAX_NAME) place.inode name))
       in_place =
           let found = found_part (entry_left name) place.inode (by_walk before) comes.looks in
           in_other_words found (λ known rows_are whole bytes.

@@ -20,3 +20,4 @@ pub mod CourseLaws
 pub mod EntryLaws
 pub mod TransactionLaws
 pub mod NeedingLaws
+pub mod ArrivalLaws
