@@ -17,30 +17,33 @@ use Rattle.jv_rows.specs.Walks.{Comes, Course, Ended, Onward, onward, course, Go
 use Rattle.jv_rows.specs.declared.walking.Place.{Place}
 use Rattle.jv_rows.specs.declared.walking.Leg.{Leg}
 use Rattle.jv_rows.specs.declared.walking.Leg.TheVariants.{Ends, Follows}
-use Rattle.jv_rows.proofs.LooksLaws.{Leaves, nothing_done, in_other_words, answered, refused, last_part, found_part, failed_part}
+use Rattle.jv_rows.proofs.TransactionLaws.{Past, past-start}
+use Rattle.jv_rows.proofs.LooksLaws.{in_other_words, answered, refused, last_part, found_part, failed_part}
 use Rattle.jv_rows.proofs.WalkLaws.{failed_to_come}
 use Rattle.jv_rows.proofs.StepLaws.{node_is}
 
 -- ---- the target of a symlink
 
-pub last_goes : {before now after : Store} {asked left : Tree → Result Course Fault} {result : Result Leg TxFault} → Leaves before now asked left → Goes now after result left → Goes before after result asked
-last_goes l r = record { looks = last_part l r.looks; stands = r.stands }
+pub last_goes : {before now after : Store} {asked left : Tree → Result Course Fault} {result : Result Leg TxFault} → Past before now asked left → Goes now after result left → Goes before after result asked
+last_goes l r = record { looks = last_part l r.looks; stands = r.stands; allowed = r.allowed }
 
 -- a walk that goes on from the root
 pub goes_from_root : {before after : Store} (dir : ℕ) (target : List ℕ) (behind all : List (List ℕ)) (from : Place) → is_absolute target ≡ true → all ≡ names_of target ++ behind
     → Comes before after (Ok from) (λ t. Ok root) → Goes before after (Ok (Follows from all)) (λ t. Ok (onward dir target behind))
 goes_from_root {before = before} dir target behind all from absolute is comes = record {
   looks = answered (Onward from.inode all) (found_part (λ inode t. Ok (Onward inode all)) from.inode
-      (in_other_words (nothing_done before (λ t. Ok (onward dir target behind))) (λ known rows_are whole bytes.
+      (in_other_words (past-start before (λ t. Ok (onward dir target behind))) (λ known rows_are whole bytes.
       (λ i. Ok (Onward (if absolute i then root else dir) (sym is i))))) comes.looks);
   stands = comes.stands;
+  allowed = comes.allowed;
 }
 
 pub root_fails : {before after : Store} (dir : ℕ) (target : List ℕ) (behind : List (List ℕ)) (fault : TxFault) → Comes before after (Err fault) (λ t. Ok root)
     → Goes before after (Err fault) (λ t. Ok (onward dir target behind))
 root_fails {before = before} dir target behind fault comes = record {
-  looks = failed_part (λ inode t. Ok (onward dir target behind)) fault (nothing_done before (λ t. Ok (onward dir target behind))) comes.looks;
+  looks = failed_part (λ inode t. Ok (onward dir target behind)) fault (past-start before (λ t. Ok (onward dir target behind))) comes.looks;
   stands = tt;
+  allowed = tt;
 }
 
 -- ---- after one name
@@ -63,27 +66,37 @@ followed_some true true target e = refl
 followed_some true false target e = absurd cc
 followed_some false link target e = absurd cc
 
+-- a name that doesn't lead on
+pub name_fails : {start now after : Store} {asked : Tree → Result Course Fault} (follow : Bool) (place : Place) (name : List ℕ) (names behind : List (List ℕ)) (fault : TxFault) → names ≡ name ∷ behind
+    → Past start now asked (λ t. course t follow place.inode names) → Comes now after (Err fault) (λ t. stepped t place.inode name) → Goes start after (Err fault) asked
+name_fails follow place name names behind fault is left comes = record {
+  looks = failed_part (λ inode t. behind_name follow place.inode inode behind t (way_on t follow behind inode)) fault
+      (in_other_words left (λ known rows_are whole bytes. ap (course (tree_of bytes (typed known)) follow place.inode) is)) comes.looks;
+  stands = tt;
+  allowed = tt;
+}
+
 module _ {start now after : Store} {asked : Tree → Result Course Fault} (follow : Bool) (place next : Place) (name : List ℕ) (names behind : List (List ℕ)) (is : names ≡ name ∷ behind)
-    (left : Leaves start now asked (λ t. course t follow place.inode names)) (comes : Comes now after (Ok next) (λ t. stepped t place.inode name)) where
-  after_name : Leaves start after asked (λ t. behind_name follow place.inode next.inode behind t (way_on t follow behind next.inode))
+    (left : Past start now asked (λ t. course t follow place.inode names)) (comes : Comes now after (Ok next) (λ t. stepped t place.inode name)) where
+  after_name : Past start after asked (λ t. behind_name follow place.inode next.inode behind t (way_on t follow behind next.inode))
   after_name =
       found_part (λ inode t. behind_name follow place.inode inode behind t (way_on t follow behind inode)) next.inode
       (in_other_words left (λ known rows_are whole bytes. ap (course (tree_of bytes (typed known)) follow place.inode) is)) comes.looks
 
-  after_target : Leaves start after asked (λ t. behind_name follow place.inode next.inode behind t (followed (follow || not (is_empty behind)) (next.node.kind == 3) next.node.target))
+  after_target : Past start after asked (λ t. behind_name follow place.inode next.inode behind t (followed (follow || not (is_empty behind)) (next.node.kind == 3) next.node.target))
   after_target =
       in_other_words after_name (λ known rows_are whole bytes.
       ap (λ target. behind_name follow place.inode next.inode behind (tree_of bytes (typed known)) (if follow || not (is_empty behind) then target else None))
       (node_is after comes.stands known (after_name.rows_are ∙ rows_are) whole bytes).target)
 
   -- it leads to a symlink, which is followed
-  pub to_symlink : ((follow || not (is_empty behind)) && (next.node.kind == 3)) ≡ true → Leaves start after asked (λ t. Ok (onward place.inode next.node.target behind))
+  pub to_symlink : ((follow || not (is_empty behind)) && (next.node.kind == 3)) ≡ true → Past start after asked (λ t. Ok (onward place.inode next.node.target behind))
   to_symlink here =
       in_other_words after_target (λ known rows_are whole bytes. ap (behind_name follow place.inode next.inode behind (tree_of bytes (typed known)))
       (followed_some (follow || not (is_empty behind)) (next.node.kind == 3) next.node.target here))
 
   -- it leads elsewhere
-  pub to_node : ((follow || not (is_empty behind)) && (next.node.kind == 3)) ≡ false → Leaves start after asked (λ t. course t follow next.inode behind)
+  pub to_node : ((follow || not (is_empty behind)) && (next.node.kind == 3)) ≡ false → Past start after asked (λ t. course t follow next.inode behind)
   to_node elsewhere =
       in_other_words after_target (λ known rows_are whole bytes. ap (behind_name follow place.inode next.inode behind (tree_of bytes (typed known)))
       (followed_none (follow || not (is_empty behind)) (next.node.kind == 3) next.node.target elsewhere))
@@ -142,8 +155,8 @@ walk_by_course zero t follow inode names = by_course (again zero t follow) t fol
 walk_by_course (suc left) t follow inode names = by_course (again (suc left) t follow) t follow names inode
 
 module _ {start now : Store} {asked : Tree → Result ℕ Fault} (left : ℕ) (follow : Bool) (place : Place) (names : List (List ℕ))
-    (leaves : Leaves start now asked (λ t. walk left t follow place.inode names)) where
-  by_courses : Leaves start now asked (λ t. course t follow place.inode names >>= λ c. finished (again left t follow) c)
+    (leaves : Past start now asked (λ t. walk left t follow place.inode names)) where
+  by_courses : Past start now asked (λ t. course t follow place.inode names >>= λ c. finished (again left t follow) c)
   by_courses = in_other_words leaves (λ known rows_are whole bytes. walk_by_course left (tree_of bytes (typed known)) follow place.inode names)
 
   -- the walk fails on its way
@@ -155,10 +168,11 @@ module _ {start now : Store} {asked : Tree → Result ℕ Fault} (left : ℕ) (f
   walk_ends end goes = record {
     looks = answered end.inode (found_part (λ c t. finished (again left t follow) c) (Ended end.inode) by_courses goes.looks);
     stands = goes.stands;
+    allowed = goes.allowed;
   }
 
   goes_again : {after : Store} (from : Place) (rest : List (List ℕ)) → Goes now after (Ok (Follows from rest)) (λ t. course t follow place.inode names)
-      → Leaves start after asked (λ t. again left t follow from.inode rest)
+      → Past start after asked (λ t. again left t follow from.inode rest)
   goes_again from rest goes = found_part (λ c t. finished (again left t follow) c) (Onward from.inode rest) by_courses goes.looks
 
   -- it followed as many symlinks as it may
@@ -168,18 +182,18 @@ module _ {start now : Store} {asked : Tree → Result ℕ Fault} (left : ℕ) (f
 
   -- it follows one more
   pub one_more : {after : Store} (from : Place) (rest : List (List ℕ)) → 0 < left → Goes now after (Ok (Follows from rest)) (λ t. course t follow place.inode names)
-      → Leaves start after asked (λ t. walk (left - 1) t follow from.inode rest)
+      → Past start after asked (λ t. walk (left - 1) t follow from.inode rest)
   one_more from rest some goes =
       let is : left ≡ suc (left - 1) = omega arith in
       in_other_words (goes_again from rest goes) (λ known rows_are whole bytes. ap (λ n. again n (tree_of bytes (typed known)) follow from.inode rest) is)
 
 -- a walk from the root begins there
 pub walk_begins : {before after : Store} (left : ℕ) (follow : Bool) (names : List (List ℕ)) (place : Place) → Comes before after (Ok place) (λ t. Ok root)
-    → Leaves before after (λ t. walk left t follow root names) (λ t. walk left t follow place.inode names)
+    → Past before after (λ t. walk left t follow root names) (λ t. walk left t follow place.inode names)
 walk_begins {before = before} left follow names place comes =
-    found_part (λ inode t. walk left t follow inode names) place.inode (nothing_done before (λ t. walk left t follow root names)) comes.looks
+    found_part (λ inode t. walk left t follow inode names) place.inode (past-start before (λ t. walk left t follow root names)) comes.looks
 
 pub walk_begins_nowhere : {before after : Store} (left : ℕ) (follow : Bool) (names : List (List ℕ)) (fault : TxFault) → Comes before after (Err fault) (λ t. Ok root)
     → Comes before after (Err fault) (λ t. walk left t follow root names)
 walk_begins_nowhere {before = before} left follow names fault comes =
-    failed_to_come (failed_part (λ inode t. walk left t follow inode names) fault (nothing_done before (λ t. walk left t follow root names)) comes.looks)
+    failed_to_come (failed_part (λ inode t. walk left t follow inode names) fault (past-start before (λ t. walk left t follow root names)) comes.looks)

@@ -18,3 +18,6 @@ pub mod StepLaws
 pub mod NamesLaws
 pub mod CourseLaws
 pub mod EntryLaws
+pub mod TransactionLaws
+pub mod NeedingLaws
+pub mod ArrivalLaws

@@ -1,7 +1,7 @@
 -- One name of a walk: what it finds in whole rows, case by case.
-use Rattle.std.proofs.Common.{◌≡◌, ℕ, Bool, List, [], length, Option, None, Some, Result, Ok, Err, option_map, sym, ap, subst, ◌∙◌, ◌≢◌, ◌<◌, ◌≤◌, eq-eqb, ne_eqb}
+use Rattle.std.proofs.Common.{◌≡◌, ℕ, Bool, List, [], length, Option, None, Some, Result, Ok, Err, option_map, refl, sym, ap, subst, ◌∙◌, ◌≢◌, ◌<◌, ◌≤◌, eq-eqb, ne_eqb}
 use Rattle.std.proofs.lemmas.Bool.{le-leb, lt-leb}
-use Rattle.std.specs.Prelude.{if◌then◌else◌, nat_le}
+use Rattle.std.specs.Prelude.{if◌then◌else◌, nat_le, IsTrue}
 use Rattle.jv_model.specs.declared.limits.TheConstants.{MAX_NAME}
 use Rattle.jv_model.specs.declared.row.Row.TheVariants.{OfEdge}
 use Rattle.jv_model.specs.declared.row.Node.{Node as NodeRow}
@@ -12,7 +12,7 @@ use Rattle.jv_model.specs.declared.fault.RowFault.{RowFault}
 use Rattle.jv_model.specs.declared.fault.TxFault.{TxFault}
 use Rattle.jv_model.specs.declared.fault.TxFault.TheVariants.{Refused, Rows as OfRows}
 use Rattle.jv_model.specs.FiniteMap.{get}
-use Rattle.jv_model.specs.rows.RowGrammar.{is_edge}
+use Rattle.jv_model.specs.rows.RowGrammar.{is_node, is_edge}
 use Rattle.jv_model.specs.rows.RowKeys.{RowMap}
 use Rattle.jv_model.specs.rows.RowPlaces.{edge_key}
 use Rattle.jv_model.specs.tree.Attempt.{◌>>=◌, some_or, require}
@@ -20,15 +20,17 @@ use Rattle.jv_model.specs.tree.Tree.{Tree, trash_root}
 use Rattle.jv_model.specs.tree.Walk.{stepped, named_from, is_dot, is_dot_dot, is_trash}
 use Rattle.jv_outside.specs.Store.{Store}
 use Rattle.jv_volume.specs.TypedRows.{typed}
-use Rattle.jv_volume.specs.Views.{row_in, node_in, edge_in}
+use Rattle.jv_volume.specs.Views.{row_in, edge_in}
 use Rattle.jv_volume.specs.TreeOf.{tree_of}
 use Rattle.jv_volume.specs.Whole.{Whole}
 use Rattle.jv_volume.proofs.TreeOfLaws.{get-entries}
-use Rattle.jv_volume.proofs.StoredLaws.{whole-stored, found_node, no_entry, HasNode}
+use Rattle.jv_volume.proofs.StoredLaws.{no_entry, HasNode}
 use Rattle.jv_rows.specs.Drafts.{Sees}
 use Rattle.jv_rows.specs.Walks.{HasNodeRow, Comes}
 use Rattle.jv_rows.specs.declared.walking.Place.{Place}
-use Rattle.jv_rows.proofs.LooksLaws.{Leaves, nothing_done, in_other_words, answered, refused, not_read, was_read, stands_there, at_known}
+use Rattle.jv_rows.proofs.TransactionLaws.{Past, past-start}
+use Rattle.jv_rows.proofs.ArrivalLaws.{has-node}
+use Rattle.jv_rows.proofs.LooksLaws.{in_other_words, answered, refused, not_read, was_read, stands_there}
 use Rattle.jv_rows.proofs.WalkLaws.{last_come, failed_to_come}
 
 -- ---- an entry
@@ -59,8 +61,7 @@ module _ {before after : Store} (dir : ℕ) (name : List ℕ) where
 -- the node of a row that stands at an inode
 pub node_is : (store : Store) {inode : ℕ} {node : NodeRow} → HasNodeRow store inode node → (known : RowMap) → store.rows ≡ Some known → Whole (typed known) → (bytes : ℕ → ℕ → ℕ)
     → HasNode (tree_of bytes (typed known)) inode node (bytes inode)
-node_is store {inode = inode} {node = node} there known is whole bytes =
-    found_node bytes (typed known) (whole-stored bytes (typed known) whole) inode node (ap (λ c. node_in (row_in c)) (at_known _ store.rows known is there))
+node_is store {inode = inode} {node = node} there = has-node store store inode node refl there
 
 -- ---- one name
 
@@ -76,13 +77,13 @@ module _ {store : Store} (inode : ℕ) (node : NodeRow) (name : List ℕ) (there
   -- the walk is at no directory
   pub no_directory : node.kind ≢ 2 → Comes store store (Err (Refused NotADirectory)) (λ t. stepped t inode name)
   no_directory other =
-      failed_to_come (refused NotADirectory (in_other_words (nothing_done store (λ t. stepped t inode name)) (λ known is whole bytes.
+      failed_to_come (refused NotADirectory (in_other_words (past-start store (λ t. stepped t inode name)) (λ known is whole bytes.
       ap (λ found. stepped_by found (nat_le (length name) MAX_NAME) (tree_of bytes (typed known)) inode name)
       ((node_is store there known is whole bytes).parent ∙ ap (λ b. if b then Some node.parent else None) (ne_eqb node.kind 2 other)))))
 
-  directory_is : node.kind ≡ 2 → Leaves store store (λ t. stepped t inode name) (λ t. stepped_by (Some node.parent) (nat_le (length name) MAX_NAME) t inode name)
+  directory_is : node.kind ≡ 2 → Past store store (λ t. stepped t inode name) (λ t. stepped_by (Some node.parent) (nat_le (length name) MAX_NAME) t inode name)
   directory_is directory =
-      in_other_words (nothing_done store (λ t. stepped t inode name)) (λ known is whole bytes.
+      in_other_words (past-start store (λ t. stepped t inode name)) (λ known is whole bytes.
       ap (λ found. stepped_by found (nat_le (length name) MAX_NAME) (tree_of bytes (typed known)) inode name)
       ((node_is store there known is whole bytes).parent ∙ ap (λ b. if b then Some node.parent else None) (eq-eqb node.kind 2 directory)))
 
@@ -94,12 +95,13 @@ module _ {store : Store} (inode : ℕ) (node : NodeRow) (name : List ℕ) (there
 
   -- a name in a directory, by what it is
   pub one_of_names : (dot dot_dot trash : Bool) → node.kind ≡ 2 → length name ≤ MAX_NAME → is_dot name ≡ dot → is_dot_dot name ≡ dot_dot → is_trash inode name ≡ trash
-      → Leaves store store (λ t. stepped t inode name) (λ t. named_by dot dot_dot trash t inode node.parent name)
+      → Past store store (λ t. stepped t inode name) (λ t. named_by dot dot_dot trash t inode node.parent name)
   one_of_names dot dot_dot trash directory short e f g =
       in_other_words (directory_is directory) (λ known is whole bytes.
       ap (λ fits. stepped_by (Some node.parent) fits (tree_of bytes (typed known)) inode name) (le-leb (length name) MAX_NAME short)
       ∙ (λ i. named_by (e i) (f i) (g i) (tree_of bytes (typed known)) inode node.parent name))
 
   -- the place itself
-  pub stays : {place : Place} → place ≡ record { inode = inode; node = node } → Comes store store (Ok place) (λ t. Ok inode)
-  stays {place = place} same = subst (λ (p : Place). Comes store store (Ok p) (λ t. Ok inode)) (sym same) (record { looks = answered inode (nothing_done store (λ t. Ok inode)); stands = there })
+  pub stays : {place : Place} → IsTrue (is_node node) → place ≡ record { inode = inode; node = node } → Comes store store (Ok place) (λ t. Ok inode)
+  stays {place = place} fits same =
+      subst (λ (p : Place). Comes store store (Ok p) (λ t. Ok inode)) (sym same) (record { looks = answered inode (past-start store (λ t. Ok inode)); stands = there; allowed = fits })

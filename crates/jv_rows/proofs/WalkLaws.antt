@@ -28,22 +28,23 @@ use Rattle.jv_rows.specs.Drafts.{Sees}
 use Rattle.jv_rows.specs.Transactions.{NamesNone, Lacks, Looks, is_key_of, names, is_needed}
 use Rattle.jv_rows.specs.Walks.{HasNodeRow, HasEdgeRow, Comes}
 use Rattle.jv_rows.specs.declared.walking.Place.{Place}
-use Rattle.jv_rows.proofs.LooksLaws.{Leaves, last_part, always_known, answered, finds_bad, at_known, not_read, was_read, stands_there}
+use Rattle.jv_rows.proofs.TransactionLaws.{Past, of_known, if_known}
+use Rattle.jv_rows.proofs.LooksLaws.{last_part, answered, finds_bad, not_read, was_read, stands_there}
 
 -- ---- rows that were read
 
 pub has_node_row : {inode : ℕ} {node : NodeRow} {before after : Store} → Sees OfNode is_node (node_key inode) [] before after (Ok (Some node)) → HasNodeRow after inode node
 has_node_row {inode = inode} {node = node} {before = before} {after = after} r =
-    always_known after.rows _ (λ known is. stands_there OfNode is_node (node_key inode) before after (Some node) r known (sym r.rows_are ∙ is))
+    if_known _ after.rows (λ known is. stands_there OfNode is_node (node_key inode) before after (Some node) r known (sym r.rows_are ∙ is))
 
 pub has_edge_row : {dir : ℕ} {name : List ℕ} {edge : Edge} {before after : Store} → Sees OfEdge is_edge (edge_key dir name) [] before after (Ok (Some edge)) → HasEdgeRow after dir name edge
 has_edge_row {dir = dir} {name = name} {edge = edge} {before = before} {after = after} r =
-    always_known after.rows _ (λ known is. stands_there OfEdge is_edge (edge_key dir name) before after (Some edge) r known (sym r.rows_are ∙ is))
+    if_known _ after.rows (λ known is. stands_there OfEdge is_edge (edge_key dir name) before after (Some edge) r known (sym r.rows_are ∙ is))
 
 -- ---- a part of a walk that comes to a node
 
 pub failed_to_come : {before after : Store} {asked : Tree → Result ℕ Fault} {fault : TxFault} → Looks before after (Err fault) asked → Comes before after (Err fault) asked
-failed_to_come looks = record { looks = looks; stands = tt }
+failed_to_come looks = record { looks = looks; stands = tt; allowed = tt }
 
 -- the node of a row that was read
 pub comes_to : {before after : Store} (inode : ℕ) (node : NodeRow) → Sees OfNode is_node (node_key inode) [] before after (Ok (Some node))
@@ -51,10 +52,11 @@ pub comes_to : {before after : Store} (inode : ℕ) (node : NodeRow) → Sees Of
 comes_to {before = before} {after = after} inode node r = record {
   looks = answered inode (was_read OfNode is_node (node_key inode) before after (Some node) (λ t. Ok inode) r);
   stands = has_node_row r;
+  allowed = r.allowed;
 }
 
-pub last_come : {before now after : Store} {asked left : Tree → Result ℕ Fault} {result : Result Place TxFault} → Leaves before now asked left → Comes now after result left → Comes before after result asked
-last_come l r = record { looks = last_part l r.looks; stands = r.stands }
+pub last_come : {before now after : Store} {asked left : Tree → Result ℕ Fault} {result : Result Place TxFault} → Past before now asked left → Comes now after result left → Comes before after result asked
+last_come l r = record { looks = last_part l r.looks; stands = r.stands; allowed = r.allowed }
 
 -- a node whose row wasn't read
 pub not_come : {before after : Store} (inode : ℕ) (fault : RowFault) (asked : Tree → Result ℕ Fault) → Sees OfNode is_node (node_key inode) [] before after (Err fault)
@@ -148,7 +150,7 @@ pub lacks_top : {before after : Store} (inode : ℕ) → IsTrue (is_top inode) �
     → Comes before after (Err (OfRows (Bad (node_key inode) []))) (λ t. Ok inode)
 lacks_top {before = before} {after = after} inode top r =
     failed_to_come (finds_bad (node_key inode) [] (was_read OfNode is_node (node_key inode) before after None (λ t. Ok inode) r)
-    (always_known before.rows _ (λ known is. Lacks (needs_top inode top) (stands_there OfNode is_node (node_key inode) before after None r known is) refl))
+    (if_known _ before.rows (λ known is. Lacks (needs_top inode top) (stands_there OfNode is_node (node_key inode) before after None r known is) refl))
     (λ known is whole. has_top known whole inode top (stands_there OfNode is_node (node_key inode) before after None r known is)))
 
 -- the node of an entry is absent
@@ -156,9 +158,9 @@ pub names_none : {before after : Store} (dir : ℕ) (name : List ℕ) (edge : Ed
     → Comes before after (Err (OfRows (Bad (edge_key dir name) (edge_bytes edge)))) (λ t. Ok edge.inode)
 names_none {before = before} {after = after} dir name edge there r =
     failed_to_come (finds_bad (edge_key dir name) (edge_bytes edge) (was_read OfNode is_node (node_key edge.inode) before after None (λ t. Ok edge.inode) r)
-    (always_known before.rows _ (λ known is. NamesNone (OfEdge edge) (node_key edge.inode) (at_known _ before.rows known is there) refl
+    (if_known _ before.rows (λ known is. NamesNone (OfEdge edge) (node_key edge.inode) (of_known _ before.rows known is there) refl
     (names_it (node_key edge.inode)) (stands_there OfNode is_node (node_key edge.inode) before after None r known is)))
-    (λ known is whole. has_named known whole (record { dir = dir; name = name }) edge (at_known _ before.rows known is there) (stands_there OfNode is_node (node_key edge.inode) before after None r known is)))
+    (λ known is whole. has_named known whole (record { dir = dir; name = name }) edge (of_known _ before.rows known is there) (stands_there OfNode is_node (node_key edge.inode) before after None r known is)))
 
 names_parent : (inode : ℕ) (node : NodeRow) → node.kind ≡ 2 → IsTrue (names (node_key inode) (OfNode node) (node_key node.parent))
 names_parent inode node directory = ap (λ k. (k == 2) && is_key_of (node_key node.parent) (node_key node.parent)) directory ∙ names_it (node_key node.parent)
@@ -168,6 +170,6 @@ pub lacks_parent : {before after : Store} (inode : ℕ) (node : NodeRow) → Has
     → Comes before after (Err (OfRows (Bad (node_key inode) (node_bytes node)))) (λ t. Ok node.parent)
 lacks_parent {before = before} {after = after} inode node there directory r =
     failed_to_come (finds_bad (node_key inode) (node_bytes node) (was_read OfNode is_node (node_key node.parent) before after None (λ t. Ok node.parent) r)
-    (always_known before.rows _ (λ known is. NamesNone (OfNode node) (node_key node.parent) (at_known _ before.rows known is there) refl
+    (if_known _ before.rows (λ known is. NamesNone (OfNode node) (node_key node.parent) (of_known _ before.rows known is there) refl
     (names_parent inode node directory) (stands_there OfNode is_node (node_key node.parent) before after None r known is)))
-    (λ known is whole. has_parent known whole inode node (at_known _ before.rows known is there) directory (stands_there OfNode is_node (node_key node.parent) before after None r known is)))
+    (λ known is whole. has_parent known whole inode node (of_known _ before.rows known is there) directory (stands_there OfNode is_node (node_key node.parent) before after None r known is)))

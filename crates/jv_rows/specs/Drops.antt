@@ -1,5 +1,5 @@
 -- How the counts of slices are lowered where records that name them go.
-use Rattle.std.specs.Prelude.{◌≡◌, ◌≢◌, ℕ, ◌-◌, ◌≤◌, Bool, ◌||◌, ◌==◌, nat_le, if◌then◌else◌, List, [], ◌∷◌, ◌++◌, count_by, Option, None, Some, Result, Ok, Err, IfErr, IfSome, OnOk, IsTrue, ok_or}
+use Rattle.std.specs.Prelude.{◌≡◌, ◌≢◌, ℕ, ◌-◌, Bool, ◌||◌, ◌==◌, nat_le, if◌then◌else◌, List, [], ◌∷◌, ◌++◌, count_by, Option, None, Some, Result, Ok, Err, IfErr, IfSome, OnOk, IsTrue, ok_or}
 use Rattle.std.specs.List.{AllByRecursion, list_any}
 use Rattle.jv_model.specs.declared.row.RowKey.{RowKey}
 use Rattle.jv_model.specs.declared.row.SliceRow.{SliceRow}

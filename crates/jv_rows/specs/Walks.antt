@@ -1,11 +1,12 @@
 -- How a walk goes through a volume's rows: from node to node, and from one symlink to the next.
-use Rattle.std.specs.Prelude.{◌≡◌, ℕ, Bool, if◌then◌else◌, not, List, [], ◌∷◌, ◌++◌, filter, None, Some, Result, Ok, Err, IfOk, IfSome}
+use Rattle.std.specs.Prelude.{◌≡◌, ℕ, Bool, if◌then◌else◌, not, List, [], ◌∷◌, ◌++◌, filter, None, Some, Result, Ok, Err, IfOk, IfSome, IsTrue}
 use Rattle.jv_model.specs.declared.fault.Fault.{Fault}
 use Rattle.jv_model.specs.declared.fault.TxFault.{TxFault}
 use Rattle.jv_model.specs.declared.row.Row.TheVariants.{OfNode, OfEdge}
 use Rattle.jv_model.specs.declared.row.Node.{Node}
 use Rattle.jv_model.specs.declared.row.Edge.{Edge}
 use Rattle.jv_model.specs.FiniteMap.{get}
+use Rattle.jv_model.specs.rows.RowGrammar.{is_node}
 use Rattle.jv_model.specs.rows.RowPlaces.{node_key, edge_key}
 use Rattle.jv_model.specs.tree.Attempt.{◌>>=◌}
 use Rattle.jv_model.specs.tree.Tree.{Tree, EntryKey, root}
@@ -13,6 +14,7 @@ use Rattle.jv_model.specs.tree.Walk.{names_of, is_absolute, is_empty, stepped, w
 use Rattle.jv_outside.specs.Store.{Store}
 use Rattle.jv_rows.specs.Transactions.{Looks}
 use Rattle.jv_rows.specs.declared.walking.Place.{Place}
+use Rattle.jv_rows.specs.declared.walking.EntryPlace.{EntryPlace}
 use Rattle.jv_rows.specs.declared.walking.Leg.{Leg}
 use Rattle.jv_rows.specs.declared.walking.Leg.TheVariants.{Ends, Follows}
 use Rattle.jv_volume.specs.TypedRows.{typed}
@@ -30,10 +32,11 @@ abbrev pub inode_in : Result Place TxFault → Result ℕ TxFault
 inode_in (Ok place) = Ok place.inode
 inode_in (Err fault) = Err fault
 
--- A part of a walk that comes to a node: over whole rows it is the model's, and its row stands there.
+-- A part of a walk that comes to a node: over whole rows it is the model's, and its row, one that the grammar allows, stands there.
 pub record Comes (before after : Store) (result : Result Place TxFault) (finds : Tree → Result ℕ Fault) : Type 0 where
   pub looks : Looks before after (inode_in result) finds
   pub stands : IfOk result (λ place. HasNodeRow after place.inode place.node)
+  pub allowed : IfOk result (λ place. IsTrue (is_node place.node))
 
 -- Where a walk comes without following a symlink: to its end, or to a symlink, from whose directory or the root it goes on by other names.
 pub data Course : Type 0 where
@@ -64,6 +67,7 @@ place_in (Follows place names) = place
 pub record Goes (before after : Store) (result : Result Leg TxFault) (finds : Tree → Result Course Fault) : Type 0 where
   pub looks : Looks before after (course_in result) finds
   pub stands : IfOk result (λ leg. HasNodeRow after (place_in leg).inode (place_in leg).node)
+  pub allowed : IfOk result (λ leg. IsTrue (is_node (place_in leg).node))
 
 -- a name, if it is one
 abbrev pub one_name : List ℕ → List (List ℕ)
@@ -77,3 +81,16 @@ abbrev pub entry_pair : Tree → List ℕ → Result (ℕ × List ℕ) Fault
 entry_pair t path = do
   at ← entry_of t path
   Ok (pair_in at)
+
+-- the directory and the name of an entry
+abbrev pub entry_in : Result EntryPlace TxFault → Result (ℕ × List ℕ) TxFault
+entry_in (Ok entry) = Ok (entry.dir.inode, entry.name)
+entry_in (Err fault) = Err fault
+
+-- A walk to an entry, whether that is there or not: over whole rows it is the model's, and its directory's row, one that the grammar
+-- allows, stands there.
+pub record ComesToEntry (before after : Store) (result : Result EntryPlace TxFault) (finds : Tree → Result (ℕ × List ℕ) Fault) : Type 0 where
+  pub looks : Looks before after (entry_in result) finds
+  pub stands : IfOk result (λ entry. HasNodeRow after entry.dir.inode entry.dir.node)
+  pub allowed : IfOk result (λ entry. IsTrue (is_node entry.dir.node))
+  pub directory : IfOk result (λ entry. entry.dir.node.kind ≡ 2)

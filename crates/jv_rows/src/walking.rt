@@ -6,11 +6,12 @@ ghost use Rattle.jv_model.specs.declared.fault.RowFault.TheVariants.{Bad};
 ghost use Rattle.jv_model.specs.declared.fault.TxFault.TheVariants.{Rows as OfRows};
 ghost use Rattle.jv_model.specs.declared.limits.TheConstants.{MAX_SYMLINKS};
 ghost use Rattle.jv_model.specs.FiniteMap.{get};
+ghost use Rattle.jv_model.specs.rows.RowGrammar.{is_node};
 ghost use Rattle.jv_model.specs.tree.Attempt.{some_or};
 ghost use Rattle.jv_model.specs.tree.Tree.{root};
 ghost use Rattle.jv_model.specs.tree.Walk.{names_of, is_absolute, is_dot, is_dot_dot, is_trash, stepped, walk as walked, inode_by};
 ghost use Rattle.jv_rows.specs.Transactions.{Looks};
-ghost use Rattle.jv_rows.specs.Walks.{HasNodeRow, HasEdgeRow, Comes, Goes, onward, course, one_name, entry_pair};
+ghost use Rattle.jv_rows.specs.Walks.{HasNodeRow, HasEdgeRow, Comes, ComesToEntry, Goes, onward, course, one_name, entry_pair};
 ghost use Rattle.jv_volume.specs.Shape.{is_top};
 
 use crate::keys::{key_of_edge, key_of_node};
@@ -26,11 +27,19 @@ use std::alloc::{AllocError, Global};
 /// Names in a row, as those of a path.
 type Names = Sequence<Name>;
 
-/// Where a walk is.
+/// Where a walk comes to: a node with its row.
 #[derive(Debug, Drop)]
-pub(crate) struct Place {
-    inode: u64,
-    node: Node,
+pub struct Place {
+    pub inode: u64,
+    pub node: Node,
+}
+
+/// An entry that a path names, whether it is there or not.
+#[derive(Debug, Drop)]
+pub struct EntryPlace {
+    /// Its directory.
+    pub dir: Place,
+    pub name: Name,
 }
 
 /// Where a walk comes without following a symlink.
@@ -45,26 +54,61 @@ pub(crate) enum Leg {
 ///
 /// # Errors
 ///
-/// NotFound, NotADirectory, NameTooLong or SymlinkLoop, as the path is. Bad for a row that is malformed or names a node that
-/// isn't there, and without bytes where the root or the trash itself is absent. Failed if the keeper failed. Memory.
+/// As of [`walk_to`].
 pub fn walk<K: Keeper>(alloc: Global, k: &mut K, path: &Path, follow: bool) -> Result<u64, TxFault>
     ensures { Looks (K.seen k.old) (K.seen k.new) result (λ t. inode_by follow t path.now) }
+{
+    let place = walk_to(alloc, k, path, follow)?;
+    Ok(place.inode)
+}
+
+/// The entry that a path names, whether it is there or not: the inode of its directory, and its name. No row changes.
+///
+/// # Errors
+///
+/// As of [`walk_to_entry`].
+pub fn walk_entry<K: Keeper>(alloc: Global, k: &mut K, path: &Path) -> Result<(u64, Name), TxFault>
+    ensures { Looks (K.seen k.old) (K.seen k.new) result (λ t. entry_pair t path.now) }
+{
+    let entry = walk_to_entry(alloc, k, path)?;
+    Ok((entry.dir.inode, entry.name))
+}
+
+/// The node that a path leads to from the root, with its row, where a symlink that comes last is followed, or isn't. Rows and
+/// the keeper's place are as before, whatever is returned.
+///
+/// # Errors
+///
+/// NotFound, NotADirectory, NameTooLong or SymlinkLoop, as the path is. Bad for a row that is malformed or names a node that
+/// isn't there, and without bytes where the root or the trash itself is absent. Failed if the keeper failed. Memory.
+pub fn walk_to<K: Keeper>(
+    alloc: Global,
+    k: &mut K,
+    path: &Path,
+    follow: bool,
+) -> Result<Place, TxFault>
+    ensures { Comes (K.seen k.old) (K.seen k.new) result (λ t. inode_by follow t path.now) }
 {
     if path.len() > MAX_PATH {
         return Err(TxFault::Refused(Fault::NameTooLong));
     }
     let names = split(alloc, path.as_slice())?;
-    let end = walk_names(alloc, k, names, follow)?;
-    Ok(end.inode)
+    walk_names(alloc, k, names, follow)
 }
 
-/// The entry that a path names, whether it is there or not: its directory and its name. No row changes.
+/// The entry that a path names, whether it is there or not: its directory, with its row, and its name. Rows and the keeper's
+/// place are as before, whatever is returned.
 ///
 /// # Errors
 ///
-/// As of [`walk`], and Invalid for a path without a last name, or whose last name is `.` or `..`.
-pub fn walk_entry<K: Keeper>(alloc: Global, k: &mut K, path: &Path) -> Result<(u64, Name), TxFault>
-    ensures { Looks (K.seen k.old) (K.seen k.new) result (λ t. entry_pair t path.now) }
+/// As of [`walk_to`] for the path of the directory, NotADirectory where that path leads elsewhere, NameTooLong for a last name
+/// that is too long, and Invalid for a path without a last name, or whose last name is `.` or `..`.
+pub fn walk_to_entry<K: Keeper>(
+    alloc: Global,
+    k: &mut K,
+    path: &Path,
+) -> Result<EntryPlace, TxFault>
+    ensures { ComesToEntry (K.seen k.old) (K.seen k.new) result (λ t. entry_pair t path.now) }
 {
     if path.len() > MAX_PATH {
         return Err(TxFault::Refused(Fault::NameTooLong));
@@ -76,14 +120,14 @@ pub fn walk_entry<K: Keeper>(alloc: Global, k: &mut K, path: &Path) -> Result<(u
     if is_dots(name.as_slice()) {
         return Err(TxFault::Refused(Fault::Invalid));
     }
-    let place = walk_names(alloc, k, Sequence::from_vec(names), true)?;
-    if place.node.kind != 2 {
+    let dir = walk_names(alloc, k, Sequence::from_vec(names), true)?;
+    if dir.node.kind != 2 {
         return Err(TxFault::Refused(Fault::NotADirectory));
     }
     if name.len() > MAX_NAME {
         return Err(TxFault::Refused(Fault::NameTooLong));
     }
-    Ok((place.inode, name))
+    Ok(EntryPlace { dir, name })
 }
 
 // A walk by names from the root.
@@ -122,7 +166,8 @@ fn go_on<K: Keeper>(
     names: &[Name],
     follow: bool,
 ) -> Result<Leg, TxFault>
-    requires { HasNodeRow (K.seen k.old) start.inode start.node }
+    requires stands { HasNodeRow (K.seen k.old) start.inode start.node }
+    requires allowed { IsTrue (is_node start.node) }
     ensures { Goes (K.seen k.old) (K.seen k.new) result (λ t. course t follow start.inode names.now) }
 {
     let mut place = start;
@@ -153,6 +198,7 @@ fn by_target<K: Keeper>(
     behind: usize,
 ) -> Result<Leg, TxFault>
     requires stands { HasNodeRow (K.seen k.old) dir.inode dir.node }
+    requires allowed { IsTrue (is_node dir.node) }
     requires within { behind ≤ length names.now }
     ensures { Goes (K.seen k.old) (K.seen k.new) result
         (λ t. Ok (onward dir.inode target.now (drop behind names.now))) }
@@ -169,7 +215,8 @@ fn by_target<K: Keeper>(
 
 // One name of a walk.
 fn step<K: Keeper>(alloc: Global, k: &mut K, place: &Place, name: &Name) -> Result<Place, TxFault>
-    requires { HasNodeRow (K.seen k.old) place.now.inode place.now.node }
+    requires stands { HasNodeRow (K.seen k.old) place.now.inode place.now.node }
+    requires allowed { IsTrue (is_node place.now.node) }
     ensures { Comes (K.seen k.old) (K.seen k.new) result
         (λ t. stepped t place.now.inode name.now) }
 {

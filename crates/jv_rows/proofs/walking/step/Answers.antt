@@ -6,26 +6,26 @@ use Rattle.jv_rows.proofs.StepLaws.{no_directory, long_name, one_of_names, stays
 use Rattle.jv_rows.proofs.walking.step.Goals as goal
 
 pub returns-then-place-ne2 : goal.returns-then-place-ne2
-returns-then-place-ne2 g c = no_directory c.args.place.now.inode c.args.place.now.node c.args.name.now c.requires c.if-place-ne2.true
+returns-then-place-ne2 g c = no_directory c.args.place.now.inode c.args.place.now.node c.args.name.now c.requires.stands c.if-place-ne2.true
 
 pub returns-then-len-gt-MAX_NAME : goal.returns-then-len-gt-MAX_NAME
 returns-then-len-gt-MAX_NAME g c =
-    long_name c.args.place.now.inode c.args.place.now.node c.args.name.now c.requires c.if-place-ne2.false (omega (arith, c.if-len-gt-MAX_NAME.true, c.len.ensures.length))
+    long_name c.args.place.now.inode c.args.place.now.node c.args.name.now c.requires.stands c.if-place-ne2.false (omega (arith, c.if-len-gt-MAX_NAME.true, c.len.ensures.length))
 
 pub returns-in_ok-copied : goal.returns-in_ok-copied
 returns-in_ok-copied g c =
     let short : length c.args.name.now ≤ MAX_NAME = omega (arith, c.if-len-gt-MAX_NAME.false, c.len.ensures.length) in
     let here : is_dot c.args.name.now ≡ true = cc in
-    last_come (one_of_names c.args.place.now.inode c.args.place.now.node c.args.name.now c.requires true (is_dot_dot c.args.name.now) (is_trash c.args.place.now.inode c.args.name.now)
+    last_come (one_of_names c.args.place.now.inode c.args.place.now.node c.args.name.now c.requires.stands true (is_dot_dot c.args.name.now) (is_trash c.args.place.now.inode c.args.name.now)
     c.if-place-ne2.false short here refl refl)
-    (stays c.args.place.now.inode c.args.place.now.node c.args.name.now c.requires c.in_ok-copied.ensures)
+    (stays c.args.place.now.inode c.args.place.now.node c.args.name.now c.requires.stands c.requires.allowed c.in_ok-copied.ensures)
 
 pub returns-then-is_up : goal.returns-then-is_up
 returns-then-is_up g c =
     let short : length c.args.name.now ≤ MAX_NAME = omega (arith, c.if-len-gt-MAX_NAME.false, c.len.ensures.length) in
     let here : is_dot c.args.name.now ≡ false = cc in
     let up : is_dot_dot c.args.name.now ≡ true = cc in
-    last_come (one_of_names c.args.place.now.inode c.args.place.now.node c.args.name.now c.requires false true (is_trash c.args.place.now.inode c.args.name.now)
+    last_come (one_of_names c.args.place.now.inode c.args.place.now.node c.args.name.now c.requires.stands false true (is_trash c.args.place.now.inode c.args.name.now)
     c.if-place-ne2.false short here up refl) c.parent.ensures
 
 pub returns-then-is_trash_of : goal.returns-then-is_trash_of
@@ -34,7 +34,7 @@ returns-then-is_trash_of g c =
     let here : is_dot c.args.name.now ≡ false = cc in
     let up : is_dot_dot c.args.name.now ≡ false = cc in
     let trash : is_trash c.args.place.now.inode c.args.name.now ≡ true = cc in
-    last_come (one_of_names c.args.place.now.inode c.args.place.now.node c.args.name.now c.requires false false true c.if-place-ne2.false short here up trash) c.top.ensures
+    last_come (one_of_names c.args.place.now.inode c.args.place.now.node c.args.name.now c.requires.stands false false true c.if-place-ne2.false short here up trash) c.top.ensures
 
 pub returns-else-is_trash_of : goal.returns-else-is_trash_of
 returns-else-is_trash_of g c =
@@ -42,4 +42,4 @@ returns-else-is_trash_of g c =
     let here : is_dot c.args.name.now ≡ false = cc in
     let up : is_dot_dot c.args.name.now ≡ false = cc in
     let trash : is_trash c.args.place.now.inode c.args.name.now ≡ false = cc in
-    last_come (one_of_names c.args.place.now.inode c.args.place.now.node c.args.name.now c.requires false false false c.if-place-ne2.false short here up trash) c.child.ensures
+    last_come (one_of_names c.args.place.now.inode c.args.place.now.node c.args.name.now c.requires.stands false false false c.if-place-ne2.false short here up trash) c.child.ensures

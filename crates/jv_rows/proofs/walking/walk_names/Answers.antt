@@ -35,4 +35,5 @@ loop-names-preserved g c =
     record {
       left = one_more c.loop-names.left c.args.follow c.loop-names.place c.loop-names.names c.loop-names.invariant.left c.in-Follows.from c.in-Follows.rest some goes;
       stands = found.stands;
+      allowed = found.allowed;
     }

@@ -4,7 +4,7 @@ use Rattle.std.proofs.lemmas.Result.{err_from_is_err_and}
 use Rattle.jv_model.specs.declared.limits.TheConstants.{MAX_NAME, MAX_PATH}
 use Rattle.jv_model.specs.tree.Walk.{names_of, is_dot, is_dot_dot}
 use Rattle.jv_rows.proofs.EntryLaws.{entry_of_dots, directory_fails, entry_nowhere, entry_too_long, entry_found}
-use Rattle.jv_rows.proofs.walking.walk_entry.Goals as goal
+use Rattle.jv_rows.proofs.walking.walk_to_entry.Goals as goal
 
 pub returns-then-is_dots : goal.returns-then-is_dots
 returns-then-is_dots g c =
@@ -17,8 +17,8 @@ returns-then-is_dots g c =
     sym (c.is_dots.ensures ∙ ap (λ (n : List ℕ). is_dot n || is_dot_dot n) c.as_slice-2.ensures) ∙ c.if-is_dots.true in
     entry_of_dots path c.pop.new.self.items name short is dots
 
-pub returns-in_err-place : goal.returns-in_err-place
-returns-in_err-place g c =
+pub returns-in_err-dir : goal.returns-in_err-dir
+returns-in_err-dir g c =
     let path = c.args.path.now in
     let name = c.in-Some.name in
     let short : length path ≤ MAX_PATH = omega (arith, c.if-len-gt-MAX_PATH.false, c.len.ensures.length) in
@@ -26,11 +26,11 @@ returns-in_err-place g c =
     sym (c.into_vec-names.ensures ∙ c.in_ok-split.ensures ∙ ap names_of c.as_slice.ensures) ∙ c.in-Some.ensures.items ∙ ap (λ (names : List (List ℕ)). names ++ name ∷ []) (sym c.from_vec.ensures) in
     let good : (is_dot name || is_dot_dot name) ≡ false =
     sym (c.is_dots.ensures ∙ ap (λ (n : List ℕ). is_dot n || is_dot_dot n) c.as_slice-2.ensures) ∙ c.if-is_dots.false in
-    let p = err_from_is_err_and c.from_residual-in_err-place.result c.from_residual-in_err-place.ensures.1 in
-    rw (p.1, p.2) (directory_fails path c.from_vec.result name short is good c.in_err-place.field-0.0 c.in_err-place.ensures)
+    let p = err_from_is_err_and c.from_residual-in_err-dir.result c.from_residual-in_err-dir.ensures.1 in
+    rw (p.1, p.2) (directory_fails path c.from_vec.result name short is good c.in_err-dir.field-0.0 c.in_err-dir.ensures)
 
-pub returns-then-place-ne2 : goal.returns-then-place-ne2
-returns-then-place-ne2 g c =
+pub returns-then-dir-ne2 : goal.returns-then-dir-ne2
+returns-then-dir-ne2 g c =
     let path = c.args.path.now in
     let name = c.in-Some.name in
     let short : length path ≤ MAX_PATH = omega (arith, c.if-len-gt-MAX_PATH.false, c.len.ensures.length) in
@@ -38,7 +38,7 @@ returns-then-place-ne2 g c =
     sym (c.into_vec-names.ensures ∙ c.in_ok-split.ensures ∙ ap names_of c.as_slice.ensures) ∙ c.in-Some.ensures.items ∙ ap (λ (names : List (List ℕ)). names ++ name ∷ []) (sym c.from_vec.ensures) in
     let good : (is_dot name || is_dot_dot name) ≡ false =
     sym (c.is_dots.ensures ∙ ap (λ (n : List ℕ). is_dot n || is_dot_dot n) c.as_slice-2.ensures) ∙ c.if-is_dots.false in
-    entry_nowhere path c.from_vec.result name short is good c.in_ok-place.place c.in_ok-place.ensures c.if-place-ne2.true
+    entry_nowhere path c.from_vec.result name short is good c.in_ok-dir.dir c.in_ok-dir.ensures c.if-dir-ne2.true
 
 pub returns-then-len-gt-MAX_NAME : goal.returns-then-len-gt-MAX_NAME
 returns-then-len-gt-MAX_NAME g c =
@@ -50,7 +50,7 @@ returns-then-len-gt-MAX_NAME g c =
     let good : (is_dot name || is_dot_dot name) ≡ false =
     sym (c.is_dots.ensures ∙ ap (λ (n : List ℕ). is_dot n || is_dot_dot n) c.as_slice-2.ensures) ∙ c.if-is_dots.false in
     let long : MAX_NAME < length name = omega (arith, c.if-len-gt-MAX_NAME.true, c.len-2.ensures.length) in
-    entry_too_long path c.from_vec.result name short is good c.in_ok-place.place c.in_ok-place.ensures c.if-place-ne2.false long
+    entry_too_long path c.from_vec.result name short is good c.in_ok-dir.dir c.in_ok-dir.ensures c.if-dir-ne2.false long
 
 pub returns : goal.returns
 returns g c =
@@ -62,4 +62,4 @@ returns g c =
     let good : (is_dot name || is_dot_dot name) ≡ false =
     sym (c.is_dots.ensures ∙ ap (λ (n : List ℕ). is_dot n || is_dot_dot n) c.as_slice-2.ensures) ∙ c.if-is_dots.false in
     let fits : length name ≤ MAX_NAME = omega (arith, c.if-len-gt-MAX_NAME.false, c.len-2.ensures.length) in
-    entry_found path c.from_vec.result name short is good c.in_ok-place.place c.in_ok-place.ensures c.if-place-ne2.false fits
+    entry_found path c.from_vec.result name short is good c.in_ok-dir.dir c.in_ok-dir.ensures c.if-dir-ne2.false fits
