@@ -1,0 +1,128 @@
+-- What a change on metadata leaves alone: lists, slices, dead slices and the next slice. Slices stay whole by that alone.
+use Rattle.std.proofs.Common.{◌≡◌, ℕ, ◌+◌, ◌≤◌, ◌^◌, Bool, true, false, cond, List, [], ◌∷◌, Option, None, Some, Ok, refl, sym, ap, subst, ◌∙◌, arith, true≢false}
+use Rattle.std.specs.Prelude.{◌==◌, ◌||◌, nat_lt, IsTrue, if◌then◌else◌}
+use Rattle.std.specs.List.{AllByRecursion}
+use Rattle.std.specs.Ordering.{eq_by_cmp}
+use Rattle.std.specs.FinMap.Entries.{where_key}
+use Rattle.jv_model.specs.declared.limits.TheConstants.{FULL_COUNT}
+use Rattle.jv_model.specs.declared.row.RowKey.{RowKey}
+use Rattle.jv_model.specs.declared.row.Counters.{Counters}
+use Rattle.jv_model.specs.declared.row.Row.TheVariants.{OfCounters}
+use Rattle.jv_model.specs.FiniteMap.{KeyOrder, Map, get, insert, alter, retain_keys, sum_over, total_over}
+use Rattle.jv_model.specs.rows.RowKeys.{row_key, row_cmp}
+use Rattle.jv_model.specs.rows.RowPlaces.{counters_key, list_key, slice_key, dead_key}
+use Rattle.jv_model.proofs.FiniteMapLaws.{get-alter, get-retain_keys, same_maps}
+use Rattle.jv_volume.specs.TypedRows.{Cell, Rows}
+use Rattle.jv_volume.specs.Views.{row_in, counters_in, counters_at, records_in, lists_of, slice_in, slice_row_at, dead_in, dead_at}
+use Rattle.jv_volume.specs.TreeOf.{or_no_counters}
+use Rattle.jv_volume.specs.Slices.{listed, records_naming, named_by, count_in, WholeSlices}
+use Rattle.jv_volume.specs.Whole.{is_of_slices, Quiet}
+use Rattle.jv_volume.proofs.MapLaws.{get-alter-here}
+use Rattle.jv_volume.proofs.ShapeMapLaws.{tied_apart}
+
+-- ---- changes that are quiet
+
+pub quiet-none : (rows : Rows) → Quiet rows rows
+quiet-none rows = record { apart = λ key is. refl; next = refl }
+
+pub quiet-then : (rows middle after : Rows) → Quiet rows middle → Quiet middle after → Quiet rows after
+quiet-then rows middle after p q = record { apart = λ key is. q.apart key is ∙ p.apart key is; next = q.next ∙ p.next }
+
+-- a row of another table that isn't the counters'
+pub quiet-alter : (rows : Rows) (q : RowKey) (cell : Option Cell) → is_of_slices q.tab ≡ false → eq_by_cmp row_cmp counters_key q ≡ false → Quiet rows (alter rows q cell)
+quiet-alter rows q cell other apart = record {
+  apart = λ key is. get-alter rows q cell key ∙ ap (λ b. cond b cell (get rows key)) (tied_apart row_key q key (λ same. absurd (true≢false (sym is ∙ ap (λ (k : RowKey). is_of_slices k.tab) same ∙ other))));
+  next = ap (λ c. (or_no_counters (counters_in (row_in c))).slice) (get-alter rows q cell counters_key ∙ ap (λ b. cond b cell (get rows counters_key)) apart);
+}
+
+-- counters with the same next slice
+pub quiet-put_counters : (rows : Rows) (before c : Counters) → counters_at rows ≡ Some before → c.slice ≡ before.slice → Quiet rows (insert rows counters_key (Ok (OfCounters c)))
+quiet-put_counters rows before c there same = record {
+  apart = λ key is. get-alter rows counters_key (Some (Ok (OfCounters c))) key
+      ∙ ap (λ b. cond b (Some (Ok (OfCounters c))) (get rows key)) (tied_apart row_key counters_key key (λ one. absurd (true≢false (sym is ∙ ap (λ (k : RowKey). is_of_slices k.tab) one))));
+  next = ap (λ o. (or_no_counters (counters_in (row_in o))).slice) (get-alter-here row_key rows counters_key (Some (Ok (OfCounters c)))) ∙ same
+      ∙ sym (ap (λ o. (or_no_counters o).slice) there);
+}
+
+-- ---- a sum over some of the entries
+
+module _ {K X : Type 0} (order : KeyOrder K) (f : K → X → ℕ) (test : K → Bool) (nothing : (k : K) (x : X) → test k ≡ false → f k x ≡ 0) where
+  total-where_at : (e : K × X) (es : List (K × X)) (b : Bool) → test e.0 ≡ b → total_over f (where_key order.cmp test es) ≡ total_over f es
+      → total_over f (cond b (e ∷ where_key order.cmp test es) (where_key order.cmp test es)) ≡ f e.0 e.1 + total_over f es
+  total-where_at e es true t rest = omega (arith, rest)
+  total-where_at e es false t rest = omega (arith, rest, nothing e.0 e.1 t)
+
+  total-where : (es : List (K × X)) → total_over f (where_key order.cmp test es) ≡ total_over f es
+  total-where [] = refl
+  total-where (e ∷ es) = total-where_at e es (test e.0) refl (total-where es)
+
+  -- a function that is 0 elsewhere has the sum of the entries whose keys pass
+  pub sum-retain_keys : (m : Map order X) → sum_over f (retain_keys test m) ≡ sum_over f m
+  unfolding sum_over retain_keys
+  sum-retain_keys m = total-where m.list
+
+-- ---- what quiet changes keep
+
+abbrev is_list_key : RowKey → Bool
+is_list_key key = key.tab == 4
+
+naming_nothing : (id : ℕ) (key : RowKey) (cell : Cell) → is_list_key key ≡ false → records_naming id (listed key (Some cell)) ≡ 0
+naming_nothing id key cell other = ap (λ b. records_naming id (if b then records_in (row_in (Some cell)) else [])) other
+
+of_lists : (key : RowKey) → is_list_key key ≡ true → IsTrue (is_of_slices key.tab)
+of_lists key is = ap (λ b. b || (key.tab == 5) || (key.tab == 9)) is
+
+module _ (rows after : Rows) (q : Quiet rows after) where
+  quiet-cell : (key : RowKey) → IsTrue (is_of_slices key.tab) → get after key ≡ get rows key
+  quiet-cell key is = q.apart key is
+
+  kept_lists : retain_keys is_list_key after ≡ retain_keys is_list_key rows
+  kept_lists = same_maps (retain_keys is_list_key after) (retain_keys is_list_key rows) (λ key.
+      get-retain_keys after is_list_key key ∙ by_table key (is_list_key key) refl ∙ sym (get-retain_keys rows is_list_key key))
+    where
+      by_table : (key : RowKey) (b : Bool) → is_list_key key ≡ b → cond b (get after key) None ≡ cond b (get rows key) None
+      by_table key true e = q.apart key (of_lists key e)
+      by_table key false e = refl
+
+  pub quiet-named_by : (id : ℕ) → named_by after id ≡ named_by rows id
+  unfolding named_by
+  quiet-named_by id =
+      sym (sum-retain_keys row_key (λ key cell. records_naming id (listed key (Some cell))) is_list_key (naming_nothing id) after)
+      ∙ ap (sum_over (λ key cell. records_naming id (listed key (Some cell)))) kept_lists
+      ∙ sum-retain_keys row_key (λ key cell. records_naming id (listed key (Some cell))) is_list_key (naming_nothing id) rows
+
+  pub quiet-lists_of : (inode window : ℕ) → lists_of after inode window ≡ lists_of rows inode window
+  unfolding lists_of
+  quiet-lists_of inode window = ap (λ c. if nat_lt window (2 ^ 32) then records_in (row_in c) else []) (q.apart (list_key inode window) refl)
+
+  pub quiet-slice_row_at : (id : ℕ) → slice_row_at after id ≡ slice_row_at rows id
+  quiet-slice_row_at id = ap (λ c. slice_in (row_in c)) (q.apart (slice_key id) refl)
+
+  pub quiet-dead_at : (id : ℕ) → dead_at after id ≡ dead_at rows id
+  quiet-dead_at id = ap (λ c. dead_in (row_in c)) (q.apart (dead_key id) refl)
+
+  quiet-listed : (key : RowKey) → listed key (get after key) ≡ listed key (get rows key)
+  quiet-listed key = by_table (is_list_key key) refl
+    where
+      by_table : (b : Bool) → is_list_key key ≡ b → (if b then records_in (row_in (get after key)) else []) ≡ (if b then records_in (row_in (get rows key)) else [])
+      by_table true e = ap (λ c. records_in (row_in c)) (q.apart key (of_lists key e))
+      by_table false e = refl
+
+  -- slices stay whole
+  pub quiet-slices : WholeSlices rows → WholeSlices after
+  quiet-slices w = record {
+    sizes = w.sizes;
+    records = λ key. subst (AllByRecursion _) (sym (quiet-listed key)) (w.records key);
+    sized = λ key. subst (AllByRecursion _) (sym (quiet-listed key)) (w.sized key);
+    slice_size = λ id slice there. w.slice_size id slice (sym (quiet-slice_row_at id) ∙ there);
+    exact = λ id low. ap count_in (quiet-slice_row_at id) ∙ w.exact id low ∙ sym (quiet-named_by id);
+    dead_size = λ id dead there. w.dead_size id dead (sym (quiet-dead_at id) ∙ there);
+    apart = λ id there. quiet-slice_row_at id ∙ w.apart id (λ none. there (quiet-dead_at id ∙ none));
+    below = λ id low. let old = w.below id (subst (λ n. n ≤ id) q.next low) in record {
+      unnamed = quiet-named_by id ∙ old.unnamed;
+      no_row = quiet-slice_row_at id ∙ old.no_row;
+      not_dead = quiet-dead_at id ∙ old.not_dead;
+    };
+    none = quiet-slice_row_at 0 ∙ w.none;
+    slices_end = subst (λ n. n ≤ FULL_COUNT) (sym q.next) w.slices_end;
+  }
