@@ -10,3 +10,5 @@ pub mod ScanLaws
 pub mod DropsExamples
 pub mod DropLaws
 pub mod DropSteps
+pub mod SpelledLaws
+pub mod DraftLaws

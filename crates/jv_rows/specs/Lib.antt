@@ -1,7 +1,10 @@
 -- The definitions that contracts cite.
 pub mod Reads
+pub mod Tables
 pub mod RoundTrips
 pub mod Readings
 pub mod Scans
 pub mod Drops
 pub mod FreshRows
+pub mod Drafts
+pub mod Transactions

@@ -1,5 +1,10 @@
 //! The grammars of the ten tables, by the types of their values.
-ghost use Rattle.std.specs.Prelude.{ℕ, List, [], Bool, true, Option, IfOk};
+ghost use Rattle.std.specs.Prelude.{◌≡◌, ℕ, List, [], Bool, true, Option, Some, IfOk, IsTrue};
+ghost use Rattle.std.specs.Option.{option_map};
+ghost use Rattle.jv_model.specs.declared.row.Row.{Row};
+ghost use Rattle.jv_model.specs.declared.row.Row.TheVariants.{OfSetting, OfCounters, OfNode, OfEdge, OfList, OfSlice, OfSession, OfSustained, OfDropped, OfDead};
+ghost use Rattle.jv_model.specs.rows.RowGrammar.{row_of};
+ghost use Rattle.jv_rows.specs.Tables.{setting_row, counters_row, node_row, edge_row, list_row, slice_row, session_row, sustained_row, dropped_row, dead_row};
 ghost use Rattle.jv_model.specs.rows.RowGrammar.{is_setting, setting_bytes, setting_of, is_counters, counters_bytes, counters_of, is_node, node_bytes, node_of, is_edge, edge_bytes, edge_of, is_list, list_bytes, list_of, is_slice, slice_bytes, slice_of, is_session, session_bytes, session_of, sustained_of, dropped_bytes, dropped_of, dead_bytes, dead_of};
 ghost use Rattle.jv_rows.specs.Reads.{ReadsAs, IsSpelled};
 
@@ -8,11 +13,19 @@ use crate::parsing::{
     parse_counters, parse_dead, parse_dropped, parse_edge, parse_list, parse_node, parse_session,
     parse_setting, parse_slice, parse_sustained,
 };
-use jv_model::{Counters, Dead, Dropped, Edge, List, Node, Session, Setting, SliceRow};
-use std::alloc::Global;
+use crate::spelling::{spell_counters, spell_edge, spell_node};
+use crate::widths::{has_counters_widths, has_edge_widths, has_node_widths};
+use jv_model::{Bytes, Counters, Dead, Dropped, Edge, List, Node, Session, Setting, SliceRow};
+use std::alloc::{AllocError, Global};
 
 /// The values of a table.
 pub(crate) trait Grammar: Sized + Drop {
+    // The table's number.
+    ghost tab: { ℕ };
+
+    // A value as a row of the table.
+    ghost row_as: { Self → Row };
+
     // The value that bytes spell, if they do.
     ghost read_as: { List ℕ → Option Self };
 
@@ -26,9 +39,24 @@ pub(crate) trait Grammar: Sized + Drop {
     fn parse(alloc: Global, bytes: &[u8]) -> Result<Self, Misread>
         ensures reads { ReadsAs result (read_as bytes.now) }
         ensures sound { IfOk result (IsSpelled read_as spelled_as is_allowed bytes.now) };
+
+    // Bytes spell a row of the table where they spell a value.
+    ghost reads_row: { (bytes : List ℕ) → row_of tab bytes ≡ option_map row_as (read_as bytes) };
+}
+
+/// The values of a table that a transaction writes.
+pub(crate) trait Spelled: Grammar {
+    /// The bytes of a value, which spell its row.
+    fn spell(&self, alloc: Global) -> Result<Bytes, AllocError>
+        requires { IsTrue (Self.is_allowed self.now) }
+        ensures { IfOk result (λ bytes. row_of Self.tab bytes ≡ Some (Self.row_as self.now)) };
 }
 
 impl Grammar for Setting {
+    ghost tab = { 0 };
+
+    ghost row_as = { OfSetting };
+
     ghost read_as = { setting_of };
 
     ghost spelled_as = { setting_bytes };
@@ -38,9 +66,15 @@ impl Grammar for Setting {
     fn parse(alloc: Global, bytes: &[u8]) -> Result<Setting, Misread> {
         parse_setting(alloc, bytes)
     }
+
+    ghost reads_row = { setting_row };
 }
 
 impl Grammar for Counters {
+    ghost tab = { 1 };
+
+    ghost row_as = { OfCounters };
+
     ghost read_as = { counters_of };
 
     ghost spelled_as = { counters_bytes };
@@ -50,9 +84,22 @@ impl Grammar for Counters {
     fn parse(_alloc: Global, bytes: &[u8]) -> Result<Counters, Misread> {
         parse_counters(bytes)
     }
+
+    ghost reads_row = { counters_row };
+}
+
+impl Spelled for Counters {
+    fn spell(&self, alloc: Global) -> Result<Bytes, AllocError> {
+        has_counters_widths(self);
+        spell_counters(alloc, self)
+    }
 }
 
 impl Grammar for Node {
+    ghost tab = { 2 };
+
+    ghost row_as = { OfNode };
+
     ghost read_as = { node_of };
 
     ghost spelled_as = { node_bytes };
@@ -62,9 +109,22 @@ impl Grammar for Node {
     fn parse(alloc: Global, bytes: &[u8]) -> Result<Node, Misread> {
         parse_node(alloc, bytes)
     }
+
+    ghost reads_row = { node_row };
+}
+
+impl Spelled for Node {
+    fn spell(&self, alloc: Global) -> Result<Bytes, AllocError> {
+        has_node_widths(self);
+        spell_node(alloc, self)
+    }
 }
 
 impl Grammar for Edge {
+    ghost tab = { 3 };
+
+    ghost row_as = { OfEdge };
+
     ghost read_as = { edge_of };
 
     ghost spelled_as = { edge_bytes };
@@ -74,9 +134,22 @@ impl Grammar for Edge {
     fn parse(_alloc: Global, bytes: &[u8]) -> Result<Edge, Misread> {
         parse_edge(bytes)
     }
+
+    ghost reads_row = { edge_row };
+}
+
+impl Spelled for Edge {
+    fn spell(&self, alloc: Global) -> Result<Bytes, AllocError> {
+        has_edge_widths(self);
+        spell_edge(alloc, self)
+    }
 }
 
 impl Grammar for List {
+    ghost tab = { 4 };
+
+    ghost row_as = { OfList };
+
     ghost read_as = { list_of };
 
     ghost spelled_as = { list_bytes };
@@ -86,9 +159,15 @@ impl Grammar for List {
     fn parse(alloc: Global, bytes: &[u8]) -> Result<List, Misread> {
         parse_list(alloc, bytes)
     }
+
+    ghost reads_row = { list_row };
 }
 
 impl Grammar for SliceRow {
+    ghost tab = { 5 };
+
+    ghost row_as = { OfSlice };
+
     ghost read_as = { slice_of };
 
     ghost spelled_as = { slice_bytes };
@@ -98,9 +177,15 @@ impl Grammar for SliceRow {
     fn parse(_alloc: Global, bytes: &[u8]) -> Result<SliceRow, Misread> {
         parse_slice(bytes)
     }
+
+    ghost reads_row = { slice_row };
 }
 
 impl Grammar for Session {
+    ghost tab = { 6 };
+
+    ghost row_as = { OfSession };
+
     ghost read_as = { session_of };
 
     ghost spelled_as = { session_bytes };
@@ -110,9 +195,15 @@ impl Grammar for Session {
     fn parse(_alloc: Global, bytes: &[u8]) -> Result<Session, Misread> {
         parse_session(bytes)
     }
+
+    ghost reads_row = { session_row };
 }
 
 impl Grammar for () {
+    ghost tab = { 7 };
+
+    ghost row_as = { λ _. OfSustained };
+
     ghost read_as = { sustained_of };
 
     ghost spelled_as = { λ _. [] };
@@ -122,9 +213,15 @@ impl Grammar for () {
     fn parse(_alloc: Global, bytes: &[u8]) -> Result<(), Misread> {
         parse_sustained(bytes)
     }
+
+    ghost reads_row = { sustained_row };
 }
 
 impl Grammar for Dropped {
+    ghost tab = { 8 };
+
+    ghost row_as = { OfDropped };
+
     ghost read_as = { dropped_of };
 
     ghost spelled_as = { dropped_bytes };
@@ -134,9 +231,15 @@ impl Grammar for Dropped {
     fn parse(_alloc: Global, bytes: &[u8]) -> Result<Dropped, Misread> {
         parse_dropped(bytes)
     }
+
+    ghost reads_row = { dropped_row };
 }
 
 impl Grammar for Dead {
+    ghost tab = { 9 };
+
+    ghost row_as = { OfDead };
+
     ghost read_as = { dead_of };
 
     ghost spelled_as = { dead_bytes };
@@ -146,4 +249,6 @@ impl Grammar for Dead {
     fn parse(_alloc: Global, bytes: &[u8]) -> Result<Dead, Misread> {
         parse_dead(bytes)
     }
+
+    ghost reads_row = { dead_row };
 }

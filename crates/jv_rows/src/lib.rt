@@ -2,6 +2,7 @@
 #![tactic(auto)]
 
 mod allowed;
+mod drafts;
 mod dropping;
 mod fields;
 mod fresh;
@@ -13,12 +14,14 @@ mod parsing;
 mod reading;
 mod scanning;
 mod spelling;
+mod widths;
 mod writing;
 
 pub use allowed::{
     allows_counters, allows_edge, allows_list, allows_node, allows_record, allows_session,
     allows_setting, allows_slice,
 };
+pub use drafts::Draft;
 pub use dropping::drop_records;
 pub use fresh::{default_setting, fresh_rows};
 pub use keys::{

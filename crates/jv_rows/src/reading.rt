@@ -19,7 +19,7 @@ use jv_outside::Keeper;
 use std::alloc::Global;
 
 /// The row at a key by the grammar of its type.
-fn read_row<K: Keeper, R: Grammar>(
+pub(crate) fn read_row<K: Keeper, R: Grammar>(
     alloc: Global,
     k: &mut K,
     key: RowKey,

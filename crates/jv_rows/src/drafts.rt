@@ -1,0 +1,200 @@
+//! Changes of rows that a transaction has in mind, beside the keeper that has the rows: what it reads sees its own changes.
+ghost use Rattle.std.specs.Prelude.{◌≡◌, [], None, Some, IsTrue};
+ghost use Rattle.std.specs.Option.{option_copied};
+ghost use Rattle.std.specs.Ordering.{eq_by_cmp};
+ghost use Rattle.jv_model.specs.declared.row.Row.TheVariants.{OfSetting, OfCounters, OfNode, OfEdge, OfSession};
+ghost use Rattle.jv_model.specs.rows.RowGrammar.{is_setting, is_counters, is_node, is_edge, is_session};
+ghost use Rattle.jv_model.specs.rows.RowPlaces.{setting_key, counters_key, node_key, edge_key, session_key};
+ghost use Rattle.jv_model.specs.rows.RowKeys.{row_cmp};
+ghost use Rattle.jv_outside.specs.Store.{Commits};
+ghost use Rattle.jv_rows.specs.Drafts.{Sees, Drafts, ReadsPut, cell, key_in, last_change};
+
+use crate::grammar::{Grammar, Spelled};
+use crate::keys::{key_of_counters, key_of_edge, key_of_node, key_of_session, key_of_setting};
+use crate::misread::Misread;
+use crate::reading::read_row;
+use jv_model::{Counters, Down, Edge, Name, Node, RowFault, RowKey, Session, Setting, copied};
+use jv_outside::{Batch, Change, Keeper};
+use std::alloc::{AllocError, Global};
+use std::marker::Model;
+
+// The last change of a key.
+fn last_of<'a>(key: &RowKey, changes: &'a [Change]) -> Option<&'a Change>
+    ensures { option_copied result ≡ last_change key.now changes.now }
+{
+    let mut rest = changes.len();
+    while rest > 0 {
+        rest -= 1;
+        let change = &changes[rest];
+        if is_of(key, change) {
+            return Some(change);
+        }
+    }
+    None
+}
+
+// Whether a change is of a key.
+fn is_of(key: &RowKey, change: &Change) -> bool
+    ensures { result ≡ eq_by_cmp row_cmp key.now (key_in change.now) }
+{
+    match change {
+        Change::Put(at, _) => key.cmp(at).is_eq(),
+        Change::Del(at) => key.cmp(at).is_eq(),
+    }
+}
+
+// The row that bytes spell, which a change left at a key.
+fn read_put<R: Grammar>(alloc: Global, key: RowKey, bytes: &[u8]) -> Result<Option<R>, RowFault>
+    ensures { ReadsPut R.read_as R.is_allowed key bytes.now result }
+{
+    match R::parse(alloc, bytes) {
+        Ok(row) => Ok(Some(row)),
+        Err(Misread::Malformed) => Err(RowFault::Bad(key, copied(alloc, bytes)?)),
+        Err(Misread::Memory) => Err(RowFault::Memory),
+    }
+}
+
+/// Changes of rows, in the order in which they are made. Contracts see them as a list.
+#[derive(Debug, Drop)]
+pub struct Draft {
+    batch: Batch,
+    alloc: Global,
+}
+
+impl Model for Draft {
+    ghost use Rattle.std.specs.Prelude.{List};
+    ghost use Rattle.jv_outside.specs.declared.batch.Change.{Change};
+
+    ghost Value = { List Change };
+
+    ghost view = { λ d. d.batch };
+}
+
+impl Draft {
+    /// No changes. Takes no memory.
+    pub fn new(alloc: Global) -> Draft
+        ensures { result ≡ [] }
+    {
+        Draft {
+            batch: Batch::new(alloc),
+            alloc,
+        }
+    }
+
+    /// The volume's setting, of whatever version.
+    pub fn setting<K: Keeper>(&self, k: &mut K) -> Result<Option<Setting>, RowFault>
+        ensures { Sees OfSetting is_setting setting_key self.now (K.seen k.old) (K.seen k.new) result }
+    {
+        self.row(k, key_of_setting(self.alloc))
+    }
+
+    /// The next numbers and the running totals.
+    pub fn counters<K: Keeper>(&self, k: &mut K) -> Result<Option<Counters>, RowFault>
+        ensures { Sees OfCounters is_counters counters_key self.now (K.seen k.old) (K.seen k.new) result }
+    {
+        self.row(k, key_of_counters(self.alloc))
+    }
+
+    /// A node.
+    pub fn node<K: Keeper>(&self, k: &mut K, inode: u64) -> Result<Option<Node>, RowFault>
+        ensures { Sees OfNode is_node (node_key inode) self.now (K.seen k.old) (K.seen k.new) result }
+    {
+        self.row(k, key_of_node(self.alloc, inode))
+    }
+
+    /// An entry of a directory.
+    pub fn edge<K: Keeper>(
+        &self,
+        k: &mut K,
+        dir: u64,
+        name: &Name,
+    ) -> Result<Option<Edge>, RowFault>
+        ensures { Sees OfEdge is_edge (edge_key dir name.now) self.now (K.seen k.old) (K.seen k.new) result }
+    {
+        let key = key_of_edge(self.alloc, dir, name)?;
+        self.row(k, key)
+    }
+
+    /// A mounted client.
+    pub fn session<K: Keeper>(&self, k: &mut K, sid: u64) -> Result<Option<Session>, RowFault>
+        ensures { Sees OfSession is_session (session_key sid) self.now (K.seen k.old) (K.seen k.new) result }
+    {
+        self.row(k, key_of_session(self.alloc, sid))
+    }
+
+    /// Adds the next numbers and the running totals.
+    pub fn put_counters(&mut self, counters: &Counters) -> Result<(), AllocError>
+        requires { IsTrue (is_counters counters.now) }
+        ensures { Drafts counters_key (cell OfCounters (Some counters.now)) self.old self.new result }
+    {
+        self.put(key_of_counters(self.alloc), counters)
+    }
+
+    /// Adds a node.
+    pub fn put_node(&mut self, inode: u64, node: &Node) -> Result<(), AllocError>
+        requires { IsTrue (is_node node.now) }
+        ensures { Drafts (node_key inode) (cell OfNode (Some node.now)) self.old self.new result }
+    {
+        self.put(key_of_node(self.alloc, inode), node)
+    }
+
+    /// Takes a node away.
+    pub fn drop_node(&mut self, inode: u64) -> Result<(), AllocError>
+        ensures { Drafts (node_key inode) None self.old self.new result }
+    {
+        self.drop_row(key_of_node(self.alloc, inode))
+    }
+
+    /// Adds an entry.
+    pub fn put_edge(&mut self, dir: u64, name: &Name, edge: &Edge) -> Result<(), AllocError>
+        requires { IsTrue (is_edge edge.now) }
+        ensures { Drafts (edge_key dir name.now) (cell OfEdge (Some edge.now)) self.old self.new result }
+    {
+        let key = key_of_edge(self.alloc, dir, name)?;
+        self.put(key, edge)
+    }
+
+    /// Takes an entry away.
+    pub fn drop_edge(&mut self, dir: u64, name: &Name) -> Result<(), AllocError>
+        ensures { Drafts (edge_key dir name.now) None self.old self.new result }
+    {
+        let key = key_of_edge(self.alloc, dir, name)?;
+        self.drop_row(key)
+    }
+
+    // The row at a key of a table.
+    fn row<K: Keeper, R: Grammar>(&self, k: &mut K, key: RowKey) -> Result<Option<R>, RowFault>
+        requires { key.tab ≡ R.tab }
+        ensures { Sees R.row_as R.is_allowed key self.now (K.seen k.old) (K.seen k.new) result }
+    {
+        match last_of(&key, self.batch.as_slice()) {
+            None => read_row(self.alloc, k, key),
+            Some(Change::Put(_, bytes)) => read_put(self.alloc, key, bytes.as_slice()),
+            Some(Change::Del(_)) => Ok(None),
+        }
+    }
+
+    // Adds the row at a key of a table.
+    fn put<R: Spelled>(&mut self, key: RowKey, row: &R) -> Result<(), AllocError>
+        requires tab { key.tab ≡ R.tab }
+        requires allowed { IsTrue (R.is_allowed row.now) }
+        ensures { Drafts key (cell R.row_as (Some row.now)) self.old self.new result }
+    {
+        let bytes = row.spell(self.alloc)?;
+        self.batch.put(key, bytes)
+    }
+
+    // Takes the row at a key away.
+    fn drop_row(&mut self, key: RowKey) -> Result<(), AllocError>
+        ensures { Drafts key None self.old self.new result }
+    {
+        self.batch.del(key)
+    }
+
+    /// Makes all the changes, or none of them after an error.
+    pub fn commit<K: Keeper>(&self, k: &mut K) -> Result<(), Down>
+        ensures { Commits (K.seen k.old) (K.seen k.new) result self.now }
+    {
+        k.commit(&self.batch)
+    }
+}
