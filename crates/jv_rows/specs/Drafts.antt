@@ -5,6 +5,8 @@ use Rattle.std.specs.Option.{option_map, option_or}
 use Rattle.jv_model.specs.declared.row.Row.{Row}
 use Rattle.jv_model.specs.declared.row.RowKey.{RowKey}
 use Rattle.jv_model.specs.declared.fault.RowFault.{RowFault}
+use Rattle.jv_model.specs.declared.fault.TxFault.{TxFault}
+use Rattle.jv_model.specs.declared.fault.TxFault.TheVariants.{Refused, Moved, Rows as OfRows}
 use Rattle.jv_model.specs.declared.fault.RowFault.TheVariants.{Bad, Failed, Memory}
 use Rattle.jv_model.specs.FiniteMap.{get, alter}
 use Rattle.jv_model.specs.rows.RowKeys.{RowMap, row_cmp}
@@ -13,6 +15,7 @@ use Rattle.jv_outside.specs.declared.batch.Change.TheVariants.{Put, Del}
 use Rattle.jv_outside.specs.Rows.{applied}
 use Rattle.jv_outside.specs.Store.{Store}
 use Rattle.jv_rows.specs.Readings.{Counts}
+use Rattle.jv_rows.specs.Transactions.{TransactionCounts}
 use Rattle.jv_volume.specs.TypedRows.{Cell, Rows, typed}
 
 -- the key that a change is of
@@ -69,3 +72,26 @@ pub record Sees {A : Type 0} (row : A → Row) (is_allowed : A → Bool) (key : 
 pub record Drafts {E : Type 0} (key : RowKey) (stands : Option Cell) (before after : List Change) (result : Result (Unit {0}) E) : Type 0 where
   pub done : OnOk result ((known : RowMap) → drafted after known ≡ alter (drafted before known) key stands)
   pub undone : OnErr result (after ≡ before)
+
+-- bytes that are no row, or none where nothing stands
+abbrev pub IsNoRow : Option Cell → List ℕ → Type 0
+IsNoRow None bytes = bytes ≡ []
+IsNoRow (Some (Ok row)) bytes = ⊥
+IsNoRow (Some (Err stored)) bytes = stored ≡ bytes
+
+-- why a row that has to be there wasn't found: it is malformed or absent, the keeper failed, or out of memory
+abbrev pub RefusesNeeded : RowKey → List Change → Option RowMap → TxFault → Type 0
+RefusesNeeded key changes rows (Refused fault) = ⊥
+RefusesNeeded key changes rows (Moved list) = ⊥
+RefusesNeeded key changes rows (OfRows (Bad at bytes)) = (at ≡ key) × IfSome rows (λ known. IsNoRow (get (drafted changes known) key) bytes)
+RefusesNeeded key changes rows (OfRows Failed) = Unit {0}
+RefusesNeeded key changes rows (OfRows Memory) = Unit {0}
+
+-- A reading of a row that has to be there, over changes.
+pub record Needs {A : Type 0} (row : A → Row) (is_allowed : A → Bool) (key : RowKey) (changes : List Change) (before after : Store) (result : Result A TxFault) : Type 0 where
+  pub rows_are : after.rows ≡ before.rows
+  pub opened_at : after.opened ≡ before.opened
+  pub counts : TransactionCounts before.faults after.faults result
+  pub found : IfOk result (λ x. IfSome before.rows (λ known. get (drafted changes known) key ≡ Some (Ok (row x))))
+  pub allowed : IfOk result (λ x. IsTrue (is_allowed x))
+  pub refused : IfErr result (RefusesNeeded key changes before.rows)

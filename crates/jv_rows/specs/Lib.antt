@@ -8,3 +8,4 @@ pub mod Drops
 pub mod FreshRows
 pub mod Drafts
 pub mod Transactions
+pub mod Walks

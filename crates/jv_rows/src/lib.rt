@@ -10,10 +10,12 @@ mod grammar;
 mod keys;
 mod laws;
 mod misread;
+mod needing;
 mod parsing;
 mod reading;
 mod scanning;
 mod spelling;
+mod walking;
 mod widths;
 mod writing;
 
@@ -30,6 +32,7 @@ pub use keys::{
 };
 pub use laws::rows_are_exact;
 pub use misread::Misread;
+pub use needing::{in_session, needed_counters, needed_node, needed_setting};
 pub use parsing::{
     parse_counters, parse_dead, parse_dropped, parse_edge, parse_list, parse_node, parse_session,
     parse_setting, parse_slice, parse_sustained,
@@ -43,6 +46,7 @@ pub use spelling::{
     spell_counters, spell_dead, spell_dropped, spell_edge, spell_list, spell_node, spell_session,
     spell_setting, spell_slice,
 };
+pub use walking::{EntryPlace, Place, walk_to, walk_to_entry};
 pub use writing::{
     put_counters, put_dead, put_dropped, put_edge, put_list, put_node, put_session, put_setting,
     put_slice, put_sustained,
