@@ -1,6 +1,6 @@
 -- How transactions are made of their parts: readings one after another, a refusal, an answer, and a commit.
 use Rattle.std.proofs.Common.{◌≡◌, ℕ, List, [], Option, None, Some, Result, Ok, Err, refl, sym, ap, subst, ◌∙◌}
-use Rattle.std.specs.Prelude.{Bool, IfSome, IfErr, IsTrue}
+use Rattle.std.specs.Prelude.{Bool, IfSome, IfErr}
 use Rattle.std.specs.Option.{option_map}
 use Rattle.jv_model.specs.declared.fault.Down.{Down}
 use Rattle.jv_model.specs.declared.fault.Down.TheVariants.{Failed as DeviceFailed, Memory as DeviceMemory}
