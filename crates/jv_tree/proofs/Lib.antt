@@ -1,1 +1,2 @@
 -- What is proved of transactions on directories, files and attributes.
+pub mod ReadingLaws

@@ -43,7 +43,7 @@ pub fn chmod<K: Keeper>(
     mode: u16,
 ) -> Result<(), TxFault>
     requires { mode ≤ 4095 }
-    ensures { (caller : Caller) → IsFor who.now caller → Transacts Always (K.seen k.old) (K.seen k.new)
+    ensures { (caller : Caller) → IsFor who.entry.now caller → Transacts Always (K.seen k.old) (K.seen k.new)
         result (λ unit. reply.Done) (λ t. model.chmod t caller path.now mode) }
 {
     let mut place = changeable(alloc, k, who, path)?;
@@ -60,7 +60,7 @@ pub fn chown<K: Keeper>(
     uid: u32,
     gid: u32,
 ) -> Result<(), TxFault>
-    ensures { (caller : Caller) → IsFor who.now caller → Transacts Always (K.seen k.old) (K.seen k.new)
+    ensures { (caller : Caller) → IsFor who.entry.now caller → Transacts Always (K.seen k.old) (K.seen k.new)
         result (λ unit. reply.Done) (λ t. model.chown t caller path.now uid gid) }
 {
     let mut place = changeable(alloc, k, who, path)?;
@@ -77,7 +77,7 @@ pub fn utimes<K: Keeper>(
     path: &Path,
     mtime: u64,
 ) -> Result<(), TxFault>
-    ensures { (caller : Caller) → IsFor who.now caller → Transacts Always (K.seen k.old) (K.seen k.new)
+    ensures { (caller : Caller) → IsFor who.entry.now caller → Transacts Always (K.seen k.old) (K.seen k.new)
         result (λ unit. reply.Done) (λ t. model.utimes t caller path.now mtime) }
 {
     let mut place = changeable(alloc, k, who, path)?;
