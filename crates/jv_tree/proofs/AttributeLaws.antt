@@ -19,7 +19,7 @@ use Rattle.jv_model.specs.rows.RowPlaces.{node_key}
 use Rattle.jv_model.specs.tree.Attempt.{◌>>=◌, require, some_or}
 use Rattle.jv_model.specs.tree.Caller.{Caller, Outcome, done}
 use Rattle.jv_model.specs.tree.Changes.{status_changed, put_node}
-use Rattle.jv_model.specs.tree.Reading.{with_attributes}
+use Rattle.jv_model.specs.tree.Reading.{with_attributes, chmod, chown, utimes}
 use Rattle.jv_model.specs.tree.Tree.{Tree, Node, in_trash, node_at, parent_of, kind_space, is_directory}
 use Rattle.jv_model.specs.tree.Walk.{inode_by, inode_of}
 use Rattle.jv_outside.specs.declared.batch.Change.{Change}
@@ -202,3 +202,46 @@ module _ (before middle after : Store) (who : Who) (caller : Caller) (is_for : I
     attributes-done (Err fault) p =
         transacts-refused Always before after (λ unit. Done) act fault (past-fails before middle after act (λ t. attributes_changed caller change t place.inode) came fault
         (record { rows_are = p.undone; opened_at = p.opened_at; cause = p.counts; why = why_not fault p.cause }))
+
+-- ---- the three changes
+
+pub changed-mode : (now mode : ℕ) (row : NodeRow) → IsChanged now (λ (node : Node). record node { mode = mode }) row (record row { mode = mode; ctime = now })
+changed-mode now mode row = record {
+  kind = refl;
+  length = refl;
+  row_is = λ links byte is. ap (λ (r : NodeRow). record r { mode = mode; ctime = now }) is;
+  node = λ byte. refl;
+  kind_is = λ byte. refl;
+}
+
+pub changed-owner : (now uid gid : ℕ) (row : NodeRow) → IsChanged now (λ (node : Node). record node { uid = uid; gid = gid }) row (record row { uid = uid; gid = gid; ctime = now })
+changed-owner now uid gid row = record {
+  kind = refl;
+  length = refl;
+  row_is = λ links byte is. ap (λ (r : NodeRow). record r { uid = uid; gid = gid; ctime = now }) is;
+  node = λ byte. refl;
+  kind_is = λ byte. refl;
+}
+
+pub changed-mtime : (now mtime : ℕ) (row : NodeRow) → IsChanged now (λ (node : Node). record node { mtime = mtime }) row (record row { mtime = mtime; ctime = now })
+changed-mtime now mtime row = record {
+  kind = refl;
+  length = refl;
+  row_is = λ links byte is. ap (λ (r : NodeRow). record r { mtime = mtime; ctime = now }) is;
+  node = λ byte. refl;
+  kind_is = λ byte. refl;
+}
+
+-- each as the model has it
+
+pub chmod-is : (caller : Caller) (path : List ℕ) (mode : ℕ) (t : Tree) → chmod t caller path mode ≡ with_attributes t caller path (λ (node : Node). record node { mode = mode })
+unfolding chmod
+chmod-is caller path mode t = refl
+
+pub chown-is : (caller : Caller) (path : List ℕ) (uid gid : ℕ) (t : Tree) → chown t caller path uid gid ≡ with_attributes t caller path (λ (node : Node). record node { uid = uid; gid = gid })
+unfolding chown
+chown-is caller path uid gid t = refl
+
+pub utimes-is : (caller : Caller) (path : List ℕ) (mtime : ℕ) (t : Tree) → utimes t caller path mtime ≡ with_attributes t caller path (λ (node : Node). record node { mtime = mtime })
+unfolding utimes
+utimes-is caller path mtime t = refl
