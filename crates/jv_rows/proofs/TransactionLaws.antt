@@ -282,3 +282,9 @@ module _ {A : Type 0} (row : A → Row) (is_allowed : A → Bool) (key : RowKey)
 
   pub stands-sees : (found : Option A) → Sees row is_allowed key changes before after (Ok found) → (known : RowMap) → before.rows ≡ Some known → get (typed known) key ≡ cell row found
   stands-sees found s known is = sym (kept known is) ∙ of_known (λ known. get (drafted changes known) key ≡ cell row found) before.rows known is s.found
+
+-- a reading over a new draft is one over no changes
+pub seen-fresh : {A : Type 0} (row : A → Row) (is_allowed : A → Bool) (key : RowKey) (changes : List Change) (before after : Store) (result seen : Result (Option A) RowFault)
+    → changes ≡ [] → result ≡ seen → Sees row is_allowed key changes before after result → Sees row is_allowed key [] before after seen
+seen-fresh row is_allowed key changes before after result seen none is s =
+    subst (Sees row is_allowed key [] before after) is (subst (λ (c : List Change). Sees row is_allowed key c before after result) none s)

@@ -1,0 +1,172 @@
+//! New entries, by POSIX.1-2017's "mkdirat", "openat" with O_CREAT and O_EXCL, and "symlinkat".
+ghost use Rattle.std.specs.Prelude.{◌≡◌, ◌≤◌, IsTrue};
+ghost use Rattle.jv_model.specs.declared.op.Reply.TheVariants.{Found, FileOpened};
+ghost use Rattle.jv_model.specs.tree.Caller.{Caller};
+ghost use Rattle.jv_model.specs.tree.Making as model;
+ghost use Rattle.jv_rows.specs.Transactions.{IsFor, Transacts, Always};
+
+use jv_model::{
+    Bytes, Counters, DIRECTORY_LENGTH, Edge, FULL_COUNT, Fault, MAX_PATH, Moment, Node, Path, ROOT,
+    RowFault, SPACE_UNIT, Sequence, Setting, TRASH_ROOT, TxFault, Who, copied,
+};
+use jv_outside::Keeper;
+use jv_rows::{
+    Draft, EntryPlace, in_session, needed_counters, needed_setting, read_edge, walk_to_entry,
+};
+use std::alloc::Global;
+
+/// All may do all with a symlink: its target's bits decide.
+const SYMLINK_MODE: u16 = 0o777;
+
+// Whether a new entry may stand there: not in the trash, and not in the place of `.trash`.
+fn may_be_new(dir: u64, name: &[u8]) -> bool {
+    dir < TRASH_ROOT && !(dir == ROOT && name == b".trash".as_slice())
+}
+
+/// Where a new entry may stand: not in the trash, and not where one is.
+fn new_place<K: Keeper>(alloc: Global, k: &mut K, path: &Path) -> Result<EntryPlace, TxFault> {
+    let place = walk_to_entry(alloc, k, path)?;
+    if !may_be_new(place.dir.inode, place.name.as_slice()) {
+        return Err(TxFault::Refused(Fault::NotPermitted));
+    }
+    match read_edge(alloc, k, place.dir.inode, &place.name)? {
+        Some(_) => Err(TxFault::Refused(Fault::AlreadyExists)),
+        None => Ok(place),
+    }
+}
+
+/// The counters with one more node of the least space, where the volume's limits allow it.
+fn grown(setting: &Setting, counters: &Counters) -> Result<Counters, Fault> {
+    let space = u128::from(counters.used_space) + u128::from(SPACE_UNIT);
+    let has_room = space <= setting.space_limit() && counters.used_inodes < setting.inode_limit();
+    if counters.inode >= FULL_COUNT || !has_room {
+        return Err(Fault::NoSpace);
+    }
+    Ok(Counters {
+        inode: counters.inode + 1,
+        used_space: counters.used_space + SPACE_UNIT,
+        used_inodes: counters.used_inodes + 1,
+        ..*counters
+    })
+}
+
+/// A directory that gets an entry at a moment, of a directory or not; refused where its link count is full.
+fn with_entry(parent: &mut Node, now: Moment, kind: u8) -> Result<(), Fault> {
+    parent.mtime = now.seconds();
+    parent.ctime = now.seconds();
+    if kind == 2 {
+        parent.nlink = parent.nlink.checked_add(1).ok_or(Fault::NoSpace)?;
+    }
+    Ok(())
+}
+
+/// Makes a node under a new entry, with the next inode, which it returns.
+fn enter<K: Keeper>(
+    alloc: Global,
+    k: &mut K,
+    now: Moment,
+    place: &mut EntryPlace,
+    node: &Node,
+) -> Result<u64, TxFault> {
+    let mut draft = Draft::new(alloc);
+    let setting = needed_setting(alloc, k, &draft)?;
+    let counters = needed_counters(alloc, k, &draft)?;
+    let after = grown(&setting, &counters)?;
+    with_entry(&mut place.dir.node, now, node.kind)?;
+    let edge = Edge {
+        kind: node.kind,
+        inode: counters.inode,
+    };
+    draft.put_counters(&after)?;
+    draft.put_node(counters.inode, node)?;
+    draft.put_edge(place.dir.inode, &place.name, &edge)?;
+    draft.put_node(place.dir.inode, &place.dir.node)?;
+    draft.commit(k).map_err(RowFault::from)?;
+    Ok(counters.inode)
+}
+
+/// A node that is made at a moment, of user and group 0.
+fn new_node(alloc: Global, kind: u8, mode: u16, now: Moment) -> Node {
+    Node {
+        kind,
+        mode,
+        uid: 0,
+        gid: 0,
+        nlink: 1,
+        mtime: now.seconds(),
+        ctime: now.seconds(),
+        length: 0,
+        parent: 0,
+        target: Sequence::new(alloc),
+    }
+}
+
+/// Makes an empty directory with these permission bits, at most 0o7777, and returns its inode.
+pub fn mkdir<K: Keeper>(
+    alloc: Global,
+    k: &mut K,
+    who: &Who,
+    path: &Path,
+    mode: u16,
+) -> Result<u64, TxFault>
+    requires { mode ≤ 4095 }
+    ensures { (caller : Caller) → IsFor who.now caller → Transacts Always (K.seen k.old) (K.seen k.new)
+        result (λ inode. Found inode) (λ t. model.mkdir t caller path.now mode) }
+{
+    in_session(alloc, k, who.sid)?;
+    let mut place = new_place(alloc, k, path)?;
+    let node = Node {
+        nlink: 2,
+        length: DIRECTORY_LENGTH,
+        parent: place.dir.inode,
+        ..new_node(alloc, 2, mode, who.now)
+    };
+    enter(alloc, k, who.now, &mut place, &node)
+}
+
+/// Makes an empty file with these permission bits, at most 0o7777, and returns its inode.
+pub fn create<K: Keeper>(
+    alloc: Global,
+    k: &mut K,
+    who: &Who,
+    path: &Path,
+    mode: u16,
+) -> Result<u64, TxFault>
+    requires { mode ≤ 4095 }
+    ensures { (caller : Caller) → IsFor who.now caller → Transacts Always (K.seen k.old) (K.seen k.new)
+        result (λ inode. FileOpened caller.free_handle inode) (λ t. model.create t caller path.now mode) }
+{
+    in_session(alloc, k, who.sid)?;
+    let mut place = new_place(alloc, k, path)?;
+    enter(
+        alloc,
+        k,
+        who.now,
+        &mut place,
+        &new_node(alloc, 1, mode, who.now),
+    )
+}
+
+/// Makes a symlink with a target, and returns its inode.
+pub fn symlink<K: Keeper>(
+    alloc: Global,
+    k: &mut K,
+    who: &Who,
+    target: &Bytes,
+    path: &Path,
+) -> Result<u64, TxFault>
+    ensures { (caller : Caller) → IsFor who.now caller → Transacts Always (K.seen k.old) (K.seen k.new)
+        result (λ inode. Found inode) (λ t. model.symlink t caller target.now path.now) }
+{
+    in_session(alloc, k, who.sid)?;
+    if target.len() > MAX_PATH {
+        return Err(TxFault::Refused(Fault::NameTooLong));
+    }
+    let mut place = new_place(alloc, k, path)?;
+    let node = Node {
+        length: target.len() as u64,
+        target: copied(alloc, target.as_slice())?,
+        ..new_node(alloc, 3, SYMLINK_MODE, who.now)
+    };
+    enter(alloc, k, who.now, &mut place, &node)
+}
