@@ -8,7 +8,8 @@ use Rattle.jv_model.specs.tree.Renaming.{moved_node, move_in}
 use Rattle.jv_volume.proofs.ShapeMapLaws.{get-inserted, get-insert_apart}
 
 -- a change of a node that is there is a put
-pub change_node-there : (t : Tree) (inode : ℕ) (change : Node → Node) (node : Node) → node_at t inode ≡ Some node → change_node t inode change ≡ put_node t inode (change node)
+pub change_node-there : (t : Tree) (inode : ℕ) (change : Node → Node) (node : Node) → node_at t inode ≡ Some node
+    → change_node t inode change ≡ put_node t inode (change node)
 change_node-there t inode change node there = ap (λ o. set_node t inode (option_map change o)) there
 
 pub change_node-none : (t : Tree) (inode : ℕ) (change : Node → Node) → node_at t inode ≡ None → change_node t inode change ≡ t
@@ -16,15 +17,20 @@ change_node-none t inode change none = ap (λ o. set_node t inode (option_map ch
 
 pub put_entry-there : (t : Tree) (now : ℕ) (place : EntryKey) (inode : ℕ) (dir : Node) → node_at t place.dir ≡ Some dir
     → put_entry t now place inode ≡ record t { nodes = insert t.nodes place.dir (touched now dir); entries = insert t.entries place inode }
-put_entry-there t now place inode dir there = ap (λ (u : Tree). record u { entries = insert t.entries place inode }) (change_node-there t place.dir (touched now) dir there)
+put_entry-there t now place inode dir there = ap (λ (u : Tree). record u { entries = insert t.entries place inode })
+    (change_node-there t place.dir (touched now) dir there)
 
 pub take_entry-there : (t : Tree) (now : ℕ) (place : EntryKey) (dir : Node) → node_at t place.dir ≡ Some dir
     → take_entry t now place ≡ record t { nodes = insert t.nodes place.dir (touched now dir); entries = remove t.entries place }
-take_entry-there t now place dir there = ap (λ (u : Tree). record u { entries = remove t.entries place }) (change_node-there t place.dir (touched now) dir there)
+take_entry-there t now place dir there = ap (λ (u : Tree). record u { entries = remove t.entries place })
+    (change_node-there t place.dir (touched now) dir there)
 
 -- a new node under a new entry of a directory that is there
 pub with_node-there : (t : Tree) (now : ℕ) (place : EntryKey) (inode : ℕ) (node dir : Node) → node_at t place.dir ≡ Some dir → place.dir ≢ inode
-    → with_node t now place inode node ≡ record t { nodes = insert (insert t.nodes inode node) place.dir (touched now dir); entries = insert t.entries place inode }
+    → with_node t now place inode node ≡ record t {
+      nodes = insert (insert t.nodes inode node) place.dir (touched now dir);
+      entries = insert t.entries place inode;
+    }
 with_node-there t now place inode node dir there apart =
     put_entry-there (put_node t inode node) now place inode dir (get-insert_apart number_key t.nodes inode node place.dir apart ∙ there)
 

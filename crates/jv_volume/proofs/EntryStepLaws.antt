@@ -78,7 +78,8 @@ module _ (bytes : ℕ → ℕ → ℕ) (rows : Rows) (now : ℕ) (at : EntryKey)
   share_other : (j : ℕ) → j ≢ at.dir → j ≢ inode → share_by j ≡ 0
   unfolding share_by
   share_other j aside other =
-      (λ i. if row.kind == 2 then standing_apart j at (λ same. aside (sym same)) i else naming_apart j at inode (λ same. other (sym same)) i) ∙ zero_by (row.kind == 2)
+      (λ i. if row.kind == 2 then standing_apart j at (λ same. aside (sym same)) i else naming_apart j at inode (λ same. other (sym same)) i)
+      ∙ zero_by (row.kind == 2)
     where
       zero_by : (b : Bool) → (let n : ℕ = (if b then 0 else 0) in n) ≡ 0
       zero_by true = refl
@@ -115,7 +116,11 @@ module _ (bytes : ℕ → ℕ → ℕ) (rows : Rows) (now : ℕ) (at : EntryKey)
   abbrev pub rows_with_entry : Rows
   rows_with_entry = insert e2 (node_key inode) (Ok (OfNode row_more))
 
-  by_entry : tree_of bytes rows_with_entry ≡ record t { nodes = insert (insert t.nodes at.dir (touched now (node_of (bytes at.dir) dir))) inode (node_of (bytes inode) row); entries = insert t.entries at inode }
+  by_entry : tree_of bytes rows_with_entry ≡ record t {
+    nodes = insert (insert t.nodes at.dir (touched now (node_of (bytes at.dir) dir))) inode
+        (node_of (bytes inode) row);
+    entries = insert t.entries at inode;
+  }
   by_entry =
       tree_of-put_node bytes e2 inode row_more
       ∙ ap (λ (x : Tree). put_node x inode (node_of (bytes inode) row)) (tree_of-put_node bytes e1 at.dir (touched_row now (dir.nlink + to_dir row) dir)
@@ -131,9 +136,11 @@ module _ (bytes : ℕ → ℕ → ℕ) (rows : Rows) (now : ℕ) (at : EntryKey)
       (alter-same number_key (insert t.nodes at.dir (touched now (node_of (bytes at.dir) dir))) inode (Some (node_of (bytes inode) row)) still_node)
       ∙ sym (put_entry-there t now at inode (node_of (bytes at.dir) dir) at_is.there)
 
-  entry_kept : (q : RowKey) → eq_by_cmp row_cmp q (node_key inode) ≡ false → eq_by_cmp row_cmp q (node_key at.dir) ≡ false → eq_by_cmp row_cmp q (edge_key at.dir at.name) ≡ false
+  entry_kept : (q : RowKey) → eq_by_cmp row_cmp q (node_key inode) ≡ false → eq_by_cmp row_cmp q (node_key at.dir) ≡ false
+      → eq_by_cmp row_cmp q (edge_key at.dir at.name) ≡ false
       → get rows_with_entry q ≡ get rows q
-  entry_kept q a b d = put_kept e2 (node_key inode) (Ok (OfNode row_more)) q a ∙ put_kept e1 (node_key at.dir) dir_more q b ∙ put_kept rows (edge_key at.dir at.name) edge_cell q d
+  entry_kept q a b d = put_kept e2 (node_key inode) (Ok (OfNode row_more)) q a ∙ put_kept e1 (node_key at.dir) dir_more q b
+      ∙ put_kept rows (edge_key at.dir at.name) edge_cell q d
 
   node_with : get t.entries at ≡ None → (k : ℕ) → NodeGoes rows rows_with_entry t with_it bytes k
   node_with free k = elim (cases_eq k inode) [
@@ -142,22 +149,28 @@ module _ (bytes : ℕ → ℕ → ℕ) (rows : Rows) (now : ℕ) (at : EntryKey)
         (subst (λ l. IsNodeRow l (bytes inode) row_more) (sym (put_share free inode ∙ (λ i. sym inode_is.links i + share_inode i)))
         (ap (λ (r : NodeRow). record r { nlink = row.nlink + to_inode row }) inode_is.row_is)))
     | inr other ↦ elim (cases_eq k at.dir) [
-      | inl same ↦ NodePut (touched_row now (dir.nlink + to_dir row) dir) (node_apart e2 inode (Ok (OfNode row_more)) k other ∙ node_here e1 at.dir dir_more k same)
+      | inl same ↦ NodePut (touched_row now (dir.nlink + to_dir row) dir) (node_apart e2 inode (Ok (OfNode row_more)) k other
+          ∙ node_here e1 at.dir dir_more k same)
           (subst (λ i. IsNodeRow (link_count with_it i) (bytes i) (touched_row now (dir.nlink + to_dir row) dir)) (sym same)
-          (subst (λ l. IsNodeRow l (bytes at.dir) (touched_row now (dir.nlink + to_dir row) dir)) (sym (put_share free at.dir ∙ (λ i. sym at_is.links i + share_dir i)))
+          (subst (λ l. IsNodeRow l (bytes at.dir) (touched_row now (dir.nlink + to_dir row) dir)) (sym (put_share free at.dir
+          ∙ (λ i. sym at_is.links i + share_dir i)))
           (IsNodeRow-touched (bytes at.dir) dir now (link_count t at.dir) (dir.nlink + to_dir row) at_is.row_is)))
-      | inr aside ↦ NodeKept (node_apart e2 inode (Ok (OfNode row_more)) k other ∙ node_apart e1 at.dir dir_more k aside ∙ put_kept rows (edge_key at.dir at.name) edge_cell (node_key k) refl)
+      | inr aside ↦ NodeKept (node_apart e2 inode (Ok (OfNode row_more)) k other ∙ node_apart e1 at.dir dir_more k aside
+          ∙ put_kept rows (edge_key at.dir at.name) edge_cell (node_key k) refl)
           (put_share free k ∙ ap (λ n. link_count t k + n) (share_other k aside other) ∙ omega arith)
     ]
   ]
 
   edge_with : (k : EntryKey) → EdgeGoes rows rows_with_entry t with_it k
   edge_with k = elim (same_or_apart entry_key k at) [
-    | inl same ↦ EdgePut edge (put_kept e2 (node_key inode) (Ok (OfNode row_more)) (edge_key k.dir k.name) refl ∙ put_kept e1 (node_key at.dir) dir_more (edge_key k.dir k.name) refl
+    | inl same ↦ EdgePut edge (put_kept e2 (node_key inode) (Ok (OfNode row_more)) (edge_key k.dir k.name) refl
+        ∙ put_kept e1 (node_key at.dir) dir_more (edge_key k.dir k.name) refl
         ∙ ap (λ (x : EntryKey). get e1 (edge_key x.dir x.name)) same ∙ get-inserted row_key rows (edge_key at.dir at.name) edge_cell)
         (sym (number-put_entry t now at inode inode ∙ ap number_of_node inode_is.there ∙ row_number (link_count t inode) (bytes inode) row inode_is.row_is))
-    | inr aside ↦ EdgeKept (put_kept e2 (node_key inode) (Ok (OfNode row_more)) (edge_key k.dir k.name) refl ∙ put_kept e1 (node_key at.dir) dir_more (edge_key k.dir k.name) refl
-        ∙ get-insert_apart row_key rows (edge_key at.dir at.name) edge_cell (edge_key k.dir k.name) (λ same. aside (λ i. record { dir = (same i).a; name = (same i).b })))
+    | inr aside ↦ EdgeKept (put_kept e2 (node_key inode) (Ok (OfNode row_more)) (edge_key k.dir k.name) refl
+        ∙ put_kept e1 (node_key at.dir) dir_more (edge_key k.dir k.name) refl
+        ∙ get-insert_apart row_key rows (edge_key at.dir at.name) edge_cell (edge_key k.dir k.name)
+        (λ same. aside (λ i. record { dir = (same i).a; name = (same i).b })))
         (λ i e. number-put_entry t now at inode i)
   ]
 
@@ -200,7 +213,11 @@ module _ (bytes : ℕ → ℕ → ℕ) (rows : Rows) (now : ℕ) (at : EntryKey)
   abbrev pub rows_without_entry : Rows
   rows_without_entry = insert l2 (node_key inode) (Ok (OfNode row_less))
 
-  by_no_entry : tree_of bytes rows_without_entry ≡ record t { nodes = insert (insert t.nodes at.dir (touched now (node_of (bytes at.dir) dir))) inode (node_of (bytes inode) row); entries = remove t.entries at }
+  by_no_entry : tree_of bytes rows_without_entry ≡ record t {
+    nodes = insert (insert t.nodes at.dir (touched now (node_of (bytes at.dir) dir))) inode
+        (node_of (bytes inode) row);
+    entries = remove t.entries at;
+  }
   by_no_entry =
       tree_of-put_node bytes l2 inode row_less
       ∙ ap (λ (x : Tree). put_node x inode (node_of (bytes inode) row)) (tree_of-put_node bytes l1 at.dir (touched_row now (dir.nlink - to_dir row) dir)
@@ -213,9 +230,11 @@ module _ (bytes : ℕ → ℕ → ℕ) (rows : Rows) (now : ℕ) (at : EntryKey)
       (alter-same number_key (insert t.nodes at.dir (touched now (node_of (bytes at.dir) dir))) inode (Some (node_of (bytes inode) row)) still_node)
       ∙ sym (take_entry-there t now at (node_of (bytes at.dir) dir) at_is.there)
 
-  no_entry_kept : (q : RowKey) → eq_by_cmp row_cmp q (node_key inode) ≡ false → eq_by_cmp row_cmp q (node_key at.dir) ≡ false → eq_by_cmp row_cmp q (edge_key at.dir at.name) ≡ false
+  no_entry_kept : (q : RowKey) → eq_by_cmp row_cmp q (node_key inode) ≡ false → eq_by_cmp row_cmp q (node_key at.dir) ≡ false
+      → eq_by_cmp row_cmp q (edge_key at.dir at.name) ≡ false
       → get rows_without_entry q ≡ get rows q
-  no_entry_kept q a b d = put_kept l2 (node_key inode) (Ok (OfNode row_less)) q a ∙ put_kept l1 (node_key at.dir) dir_less q b ∙ drop_kept rows (edge_key at.dir at.name) q d
+  no_entry_kept q a b d = put_kept l2 (node_key inode) (Ok (OfNode row_less)) q a ∙ put_kept l1 (node_key at.dir) dir_less q b
+      ∙ drop_kept rows (edge_key at.dir at.name) q d
 
   links_less : get t.entries at ≡ Some inode → (j n share : ℕ) → n ≡ link_count t j → share_by j ≡ share → link_count without_it j ≡ n - share
   links_less named j n share links same = (let all = take_share named j in omega (arith, all, links, same))
@@ -227,20 +246,25 @@ module _ (bytes : ℕ → ℕ → ℕ) (rows : Rows) (now : ℕ) (at : EntryKey)
         (subst (λ l. IsNodeRow l (bytes inode) row_less) (sym (links_less named inode row.nlink (to_inode row) inode_is.links share_inode))
         (ap (λ (r : NodeRow). record r { nlink = row.nlink - to_inode row }) inode_is.row_is)))
     | inr other ↦ elim (cases_eq k at.dir) [
-      | inl same ↦ NodePut (touched_row now (dir.nlink - to_dir row) dir) (node_apart l2 inode (Ok (OfNode row_less)) k other ∙ node_here l1 at.dir dir_less k same)
+      | inl same ↦ NodePut (touched_row now (dir.nlink - to_dir row) dir) (node_apart l2 inode (Ok (OfNode row_less)) k other
+          ∙ node_here l1 at.dir dir_less k same)
           (subst (λ i. IsNodeRow (link_count without_it i) (bytes i) (touched_row now (dir.nlink - to_dir row) dir)) (sym same)
-          (subst (λ l. IsNodeRow l (bytes at.dir) (touched_row now (dir.nlink - to_dir row) dir)) (sym (links_less named at.dir dir.nlink (to_dir row) at_is.links share_dir))
+          (subst (λ l. IsNodeRow l (bytes at.dir) (touched_row now (dir.nlink - to_dir row) dir))
+          (sym (links_less named at.dir dir.nlink (to_dir row) at_is.links share_dir))
           (IsNodeRow-touched (bytes at.dir) dir now (link_count t at.dir) (dir.nlink - to_dir row) at_is.row_is)))
-      | inr aside ↦ NodeKept (node_apart l2 inode (Ok (OfNode row_less)) k other ∙ node_apart l1 at.dir dir_less k aside ∙ drop_kept rows (edge_key at.dir at.name) (node_key k) refl)
+      | inr aside ↦ NodeKept (node_apart l2 inode (Ok (OfNode row_less)) k other ∙ node_apart l1 at.dir dir_less k aside
+          ∙ drop_kept rows (edge_key at.dir at.name) (node_key k) refl)
           (let all = take_share named k in let nothing = share_other k aside other in omega (arith, all, nothing))
     ]
   ]
 
   edge_without : (k : EntryKey) → EdgeGoes rows rows_without_entry t without_it k
   edge_without k = elim (same_or_apart entry_key k at) [
-    | inl same ↦ EdgeGone (put_kept l2 (node_key inode) (Ok (OfNode row_less)) (edge_key k.dir k.name) refl ∙ put_kept l1 (node_key at.dir) dir_less (edge_key k.dir k.name) refl
+    | inl same ↦ EdgeGone (put_kept l2 (node_key inode) (Ok (OfNode row_less)) (edge_key k.dir k.name) refl
+        ∙ put_kept l1 (node_key at.dir) dir_less (edge_key k.dir k.name) refl
         ∙ ap (λ (x : EntryKey). get l1 (edge_key x.dir x.name)) same ∙ get-removed row_key rows (edge_key at.dir at.name))
-    | inr aside ↦ EdgeKept (put_kept l2 (node_key inode) (Ok (OfNode row_less)) (edge_key k.dir k.name) refl ∙ put_kept l1 (node_key at.dir) dir_less (edge_key k.dir k.name) refl
+    | inr aside ↦ EdgeKept (put_kept l2 (node_key inode) (Ok (OfNode row_less)) (edge_key k.dir k.name) refl
+        ∙ put_kept l1 (node_key at.dir) dir_less (edge_key k.dir k.name) refl
         ∙ get-remove_apart row_key rows (edge_key at.dir at.name) (edge_key k.dir k.name) (λ same. aside (λ i. record { dir = (same i).a; name = (same i).b })))
         (λ i e. number-take_entry t now at i)
   ]

@@ -17,20 +17,41 @@ use Rattle.jv_volume.specs.TreeOf.{selected, nodes_of, entries_of, sessions_of, 
 use Rattle.jv_volume.specs.Whole.{no_bytes}
 
 abbrev example_setting : Setting
-example_setting = record { version = 1; block = DEFAULT_BLOCK; trash_days = 1; capacity = 0; inodes = 0; hash = 0; name = codes "juicefs"; bucket = codes ":memory:" }
+example_setting = record {
+  version = 1;
+  block = DEFAULT_BLOCK;
+  trash_days = 1;
+  capacity = 0;
+  inodes = 0;
+  hash = 0;
+  name = codes "juicefs";
+  bucket = codes ":memory:";
+}
 
 abbrev example_counters : Counters
 example_counters = record { inode = ROOT + 1; slice = 1; session = 1; used_space = 0; used_inodes = 0 }
 
 abbrev example_directory : ℕ → ℕ → Node
-example_directory mode now = record { kind = 2; mode = mode; uid = 0; gid = 0; nlink = 2; mtime = now; ctime = now; length = SPACE_UNIT; parent = ROOT; target = [] }
+example_directory mode now = record {
+  kind = 2;
+  mode = mode;
+  uid = 0;
+  gid = 0;
+  nlink = 2;
+  mtime = now;
+  ctime = now;
+  length = SPACE_UNIT;
+  parent = ROOT;
+  target = [];
+}
 
 abbrev example_rows : ℕ → RowMap
 example_rows now = row_map ((setting_key, setting_bytes example_setting) ∷ (counters_key, counters_bytes example_counters)
     ∷ (node_key ROOT, node_bytes (example_directory 511 now)) ∷ (node_key TRASH_ROOT, node_bytes (example_directory 365 now)) ∷ [])
 
 abbrev example_typed : ℕ → Rows
-example_typed now = insert (insert (insert (insert empty_map (node_key TRASH_ROOT) (Ok (OfNode (example_directory 365 now)))) (node_key ROOT) (Ok (OfNode (example_directory 511 now))))
+example_typed now = insert (insert (insert (insert empty_map (node_key TRASH_ROOT) (Ok (OfNode (example_directory 365 now)))) (node_key ROOT)
+    (Ok (OfNode (example_directory 511 now))))
     counters_key (Ok (OfCounters example_counters))) setting_key (Ok (OfSetting example_setting))
 
 -- the four rows by their types

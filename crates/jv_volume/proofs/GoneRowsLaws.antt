@@ -52,7 +52,8 @@ pub record IsGoing (t : Tree) (place : EntryKey) (inode : ℕ) (row dir : NodeRo
   pub count_is : count ≡ node_count inode (node_of byte row)
 
 module _ (bytes : ℕ → ℕ → ℕ) (rows : Rows) (now : ℕ) (place : EntryKey) (inode : ℕ) (row dir : NodeRow) (links : ℕ) (c : Counters) (space count : ℕ)
-    (s : Stored rows (tree_of bytes rows)) (there : node_row_at rows place.dir ≡ Some dir) (here : node_row_at rows inode ≡ Some row) (counters : counters_at rows ≡ Some c)
+    (s : Stored rows (tree_of bytes rows)) (there : node_row_at rows place.dir ≡ Some dir) (here : node_row_at rows inode
+    ≡ Some row) (counters : counters_at rows ≡ Some c)
     (going : IsGoing (tree_of bytes rows) place inode row dir (bytes inode) links space count) where
   abbrev t : Tree
   t = tree_of bytes rows
@@ -107,7 +108,8 @@ module _ (bytes : ℕ → ℕ → ℕ) (rows : Rows) (now : ℕ) (place : EntryK
   by_model : remove_directory t now place inode ≡ gone_tree t.next_inode t.next_session
   by_model =
       ap (λ (u : Tree). drop_node u inode) (take_entry-there t now place (node_of (bytes place.dir) dir) dir_is.there)
-      ∙ ap (λ nodes. record t { nodes = nodes; entries = remove t.entries place }) (alter-swap number_key t.nodes place.dir inode (Some touched_dir) None (λ same. going.apart (sym same)))
+      ∙ ap (λ nodes. record t { nodes = nodes; entries = remove t.entries place })
+      (alter-swap number_key t.nodes place.dir inode (Some touched_dir) None (λ same. going.apart (sym same)))
 
   -- the tree of the rows after an inode went
   pub tree_of-gone : tree_of bytes after ≡ remove_directory t now place inode
@@ -118,7 +120,8 @@ module _ (bytes : ℕ → ℕ → ℕ) (rows : Rows) (now : ℕ) (place : EntryK
   is_dir_here : is_directory t inode ≡ is_dir (form_of (Some node))
   is_dir_here = dirs-shape t inode ∙ ap (λ o. is_dir (form_of o)) node_is.there
 
-  without_links : (b : Bool) → is_dir (form_of (Some node)) ≡ b → (j : ℕ) → j ≢ inode → link_count (remove_directory t now place inode) j + (if b then standing j place else 0) ≡ link_count t j
+  without_links : (b : Bool) → is_dir (form_of (Some node)) ≡ b → (j : ℕ) → j ≢ inode
+      → link_count (remove_directory t now place inode) j + (if b then standing j place else 0) ≡ link_count t j
   without_links true e j apart = link_count-without_dir t now place inode going.named going.only j apart (is_dir_here ∙ e) going.within
   without_links false e j apart = (let same = link_count-without_leaf t now place inode going.named going.only j apart (is_dir_here ∙ e) in omega (arith, same))
 
@@ -147,7 +150,8 @@ module _ (bytes : ℕ → ℕ → ℕ) (rows : Rows) (now : ℕ) (place : EntryK
   before_stored = are_stored bytes rows s
 
   last_put : (q : RowKey) → eq_by_cmp row_cmp q counters_key ≡ false → get after q ≡ get r3 q
-  last_put q apart = get-insert r3 counters_key (Ok (OfCounters (shrunk space count c))) q ∙ ap (λ b. cond b (Some (Ok (OfCounters (shrunk space count c)))) (get r3 q)) apart
+  last_put q apart = get-insert r3 counters_key (Ok (OfCounters (shrunk space count c))) q
+      ∙ ap (λ b. cond b (Some (Ok (OfCounters (shrunk space count c)))) (get r3 q)) apart
 
   node_beside : (i : ℕ) → i ≢ place.dir → get after (node_key i) ≡ get r1 (node_key i)
   node_beside i aside =
@@ -160,7 +164,8 @@ module _ (bytes : ℕ → ℕ → ℕ) (rows : Rows) (now : ℕ) (place : EntryK
       record {
         row = touched_row now links dir;
         is = cc;
-        row_is = subst (λ l. IsNodeRow l (bytes place.dir) (touched_row now links dir)) (sym dir_links) (IsNodeRow-touched (bytes place.dir) dir now (link_count t place.dir) links dir_is.row_is);
+        row_is = subst (λ l. IsNodeRow l (bytes place.dir) (touched_row now links dir)) (sym dir_links)
+            (IsNodeRow-touched (bytes place.dir) dir now (link_count t place.dir) links dir_is.row_is);
       }
 
   no_cell : get after (node_key inode) ≡ None
@@ -168,7 +173,8 @@ module _ (bytes : ℕ → ℕ → ℕ) (rows : Rows) (now : ℕ) (place : EntryK
 
   node_after : (i : ℕ) (cell : Cell) → get after (node_key i) ≡ Some cell → IsNodeCell (link_count (tree_of bytes after) i) (bytes i) cell
   node_after i cell e = elim (cases_eq i place.dir) [
-    | inl same ↦ subst (λ k. IsNodeCell (link_count (tree_of bytes after) k) (bytes k) cell) (sym same) (dir_cell cell (sym (ap (λ k. get after (node_key k)) same) ∙ e))
+    | inl same ↦ subst (λ k. IsNodeCell (link_count (tree_of bytes after) k) (bytes k) cell) (sym same)
+        (dir_cell cell (sym (ap (λ k. get after (node_key k)) same) ∙ e))
     | inr aside ↦ elim (cases_eq i inode) [
       | inl same ↦ let none : get after (node_key i) ≡ None = ap (λ k. get after (node_key k)) same ∙ no_cell in absurd (cc)
       | inr apart ↦
@@ -182,9 +188,11 @@ module _ (bytes : ℕ → ℕ → ℕ) (rows : Rows) (now : ℕ) (place : EntryK
 
   old_number : (i : ℕ) → i ≢ inode → number_of_node (node_at (tree_of bytes after) i) ≡ number_of_node (node_at t i)
   old_number i apart = ap (λ (x : Tree). number_of_node (node_at x i)) by_rows ∙ elim (cases_eq i place.dir) [
-    | inl same ↦ ap number_of_node (ap (get (insert (remove t.nodes inode) place.dir touched_dir)) same ∙ get-inserted number_key (remove t.nodes inode) place.dir touched_dir)
+    | inl same ↦ ap number_of_node (ap (get (insert (remove t.nodes inode) place.dir touched_dir)) same
+        ∙ get-inserted number_key (remove t.nodes inode) place.dir touched_dir)
         ∙ sym (ap number_of_node (ap (node_at t) same ∙ dir_is.there))
-    | inr aside ↦ ap number_of_node (get-insert_apart number_key (remove t.nodes inode) place.dir touched_dir i aside ∙ get-remove_apart number_key t.nodes inode i apart)
+    | inr aside ↦ ap number_of_node (get-insert_apart number_key (remove t.nodes inode) place.dir touched_dir i aside
+        ∙ get-remove_apart number_key t.nodes inode i apart)
   ]
 
   edge_put : (at : EntryKey) → get after (edge_key at.dir at.name) ≡ get r2 (edge_key at.dir at.name)
@@ -199,17 +207,20 @@ module _ (bytes : ℕ → ℕ → ℕ) (rows : Rows) (now : ℕ) (place : EntryK
     | inr aside ↦
         let was : get rows (edge_key at.dir at.name) ≡ Some cell =
         sym (edge_put at
-        ∙ get-remove_apart row_key r1 (edge_key place.dir place.name) (edge_key at.dir at.name) (λ same. aside (λ i. record { dir = (same i).a; name = (same i).b }))
+        ∙ get-remove_apart row_key r1 (edge_key place.dir place.name) (edge_key at.dir at.name)
+        (λ same. aside (λ i. record { dir = (same i).a; name = (same i).b }))
         ∙ get-remove rows (node_key inode) (edge_key at.dir at.name)) ∙ e in
         let old = before_stored.edge at cell was in
-        let named : get t.entries at ≡ Some old.edge.inode = get-entries bytes rows at ∙ ap (λ o. option_map (λ (edge : Edge). edge.inode) (edge_in (row_in o))) (was ∙ ap (λ x. Some x) old.is) in
+        let named : get t.entries at ≡ Some old.edge.inode = get-entries bytes rows at
+        ∙ ap (λ o. option_map (λ (edge : Edge). edge.inode) (edge_in (row_in o))) (was ∙ ap (λ x. Some x) old.is) in
         let apart : old.edge.inode ≢ inode = (λ same. aside (going.only at (named ∙ ap (λ i. Some i) same))) in
         record { edge = old.edge; is = old.is; kind = old.kind ∙ sym (old_number old.edge.inode apart) }
   ]
 
   -- the other tables
 
-  kept : (q : RowKey) → eq_by_cmp row_cmp q counters_key ≡ false → eq_by_cmp row_cmp q (node_key place.dir) ≡ false → eq_by_cmp row_cmp q (edge_key place.dir place.name) ≡ false
+  kept : (q : RowKey) → eq_by_cmp row_cmp q counters_key ≡ false → eq_by_cmp row_cmp q (node_key place.dir) ≡ false
+      → eq_by_cmp row_cmp q (edge_key place.dir place.name) ≡ false
       → eq_by_cmp row_cmp q (node_key inode) ≡ false → get after q ≡ get rows q
   kept q a b d e =
       last_put q a

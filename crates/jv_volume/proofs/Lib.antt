@@ -45,3 +45,7 @@ pub mod SelectOrderLaws
 pub mod ReadLaws
 pub mod ReleaseLaws
 pub mod QuietLaws
+pub mod SeenLaws
+pub mod FilesLaws
+pub mod WholeLaws
+pub mod FileStepLaws

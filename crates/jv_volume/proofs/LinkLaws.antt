@@ -67,13 +67,15 @@ module _ (dirs : ℕ → Bool) (m : Entries) (at : EntryKey) (inode j : ℕ) whe
   links-insert free = insert_by (dirs j) free
 
   over_by : (b : Bool) (old : ℕ) → get m at ≡ Some old
-      → cond b (2 + sum_over (within_of dirs j) (insert m at inode)) (count_of (insert m at inode) j) + cond b (within_of dirs j at old) (if old == j then 1 else 0)
+      → cond b (2 + sum_over (within_of dirs j) (insert m at inode)) (count_of (insert m at inode) j) + cond b (within_of dirs j at old)
+      (if old == j then 1 else 0)
       ≡ cond b (2 + sum_over (within_of dirs j) m) (count_of m j) + cond b (within_of dirs j at inode) (if inode == j then 1 else 0)
   over_by true old there = let all = sum-over entry_key (within_of dirs j) m at old inode there in omega (arith, all)
   over_by false old there = sum-over entry_key (naming j) m at old inode there
 
   -- link counts with another inode under an entry
-  pub links-over : (old : ℕ) → get m at ≡ Some old → links_in dirs (insert m at inode) j + link_share dirs at old j ≡ links_in dirs m j + link_share dirs at inode j
+  pub links-over : (old : ℕ) → get m at ≡ Some old → links_in dirs (insert m at inode) j + link_share dirs at old j
+      ≡ links_in dirs m j + link_share dirs at inode j
   links-over old there = over_by (dirs j) old there
 
   remove_by : (b : Bool) → get m at ≡ Some inode
@@ -87,7 +89,8 @@ module _ (dirs : ℕ → Bool) (m : Entries) (at : EntryKey) (inode j : ℕ) whe
   links-remove there = remove_by (dirs j) there
 
 -- link counts where all that entries name are directories as before
-pub links-agree : (dirs after : ℕ → Bool) (m : Entries) (j : ℕ) → after j ≡ dirs j → ((at : EntryKey) (inode : ℕ) → get m at ≡ Some inode → after inode ≡ dirs inode)
+pub links-agree : (dirs after : ℕ → Bool) (m : Entries) (j : ℕ) → after j ≡ dirs j
+    → ((at : EntryKey) (inode : ℕ) → get m at ≡ Some inode → after inode ≡ dirs inode)
     → links_in after m j ≡ links_in dirs m j
 links-agree dirs after m j here same =
     ap (λ b. if b then 2 + sum_over (within_of after j) m else count_of m j) here
@@ -95,14 +98,16 @@ links-agree dirs after m j here same =
     (sum-agree entry_key (within_of after j) (within_of dirs j) m (λ at inode e. ap (λ b. if at.dir == j && b then 1 else 0) (same at inode e)))
 
 -- the link count of an inode that no entry names, and that has no entries
-pub links-alone : (dirs : ℕ → Bool) (m : Entries) (j : ℕ) → ((at : EntryKey) (inode : ℕ) → get m at ≡ Some inode → (inode ≢ j) × (at.dir ≢ j)) → links_in dirs m j ≡ (if dirs j then 2 else 0)
+pub links-alone : (dirs : ℕ → Bool) (m : Entries) (j : ℕ) → ((at : EntryKey) (inode : ℕ) → get m at ≡ Some inode → (inode ≢ j) × (at.dir ≢ j))
+    → links_in dirs m j ≡ (if dirs j then 2 else 0)
 links-alone dirs m j apart =
     let none : count_of m j ≡ 0 = count_none m j (λ at e. (apart at j e).0 refl) in
     let empty : sum_over (within_of dirs j) m ≡ 0 =
     sum-nothing entry_key (within_of dirs j) m (λ at inode e. ap (λ b. if b && dirs inode then 1 else 0) (ne_eqb at.dir j (apart at inode e).1)) in
     λ i. if dirs j then 2 + empty i else none i
 
-leaf_by : (dir here leaf same : Bool) → leaf ≡ false → (same ≡ true → dir ≡ false) → cond dir (cond (here && leaf) 1 0) (cond same 1 0) ≡ (let n : ℕ = cond same 1 0 in n)
+leaf_by : (dir here leaf same : Bool) → leaf ≡ false → (same ≡ true → dir ≡ false)
+    → cond dir (cond (here && leaf) 1 0) (cond same 1 0) ≡ (let n : ℕ = cond same 1 0 in n)
 leaf_by false here leaf same e apart = refl
 leaf_by true here true same e apart = absurd (false≢true (sym e))
 leaf_by true here false true e apart = absurd (false≢true (sym (apart refl)))
@@ -114,7 +119,8 @@ pub share-leaf : (dirs : ℕ → Bool) (at : EntryKey) (inode j : ℕ) → dirs 
 share-leaf dirs at inode j leaf =
     leaf_by (dirs j) (at.dir == j) (dirs inode) (inode == j) leaf (λ same. ap dirs (sym (eqb-true inode j same)) ∙ leaf)
 
-dir_by : (dir here is same : Bool) → is ≡ true → (here ≡ true → dir ≡ true) → (same ≡ true → dir ≡ true) → cond dir (cond (here && is) 1 0) (cond same 1 0) ≡ (let n : ℕ = cond here 1 0 in n)
+dir_by : (dir here is same : Bool) → is ≡ true → (here ≡ true → dir ≡ true) → (same ≡ true → dir ≡ true)
+    → cond dir (cond (here && is) 1 0) (cond same 1 0) ≡ (let n : ℕ = cond here 1 0 in n)
 dir_by true true true same e within itself = refl
 dir_by true false true same e within itself = refl
 dir_by dir here false same e within itself = absurd (false≢true e)
@@ -135,7 +141,8 @@ standing_here dir at same = ap (λ b. if b then 1 else 0) (eq-eqb at.dir dir sam
 -- what a directory's entry adds: one to the directory that it stands in
 pub share-dir : (dirs : ℕ → Bool) (at : EntryKey) (inode j : ℕ) → dirs inode ≡ true → dirs at.dir ≡ true → link_share dirs at inode j ≡ standing j at
 share-dir dirs at inode j is within =
-    dir_by (dirs j) (at.dir == j) (dirs inode) (inode == j) is (λ here. ap dirs (sym (eqb-true at.dir j here)) ∙ within) (λ same. ap dirs (sym (eqb-true inode j same)) ∙ is)
+    dir_by (dirs j) (at.dir == j) (dirs inode) (inode == j) is (λ here. ap dirs (sym (eqb-true at.dir j here))
+    ∙ within) (λ same. ap dirs (sym (eqb-true inode j same)) ∙ is)
 
 -- ---- the link counts of a tree after a small change
 
@@ -148,8 +155,10 @@ module _ (t : Tree) (now : ℕ) (at : EntryKey) (inode j : ℕ) where
   pub link_count-put_over : (old : ℕ) → get t.entries at ≡ Some old
       → link_count (put_entry t now at inode) j + link_share (dirs_of (shape_of t)) at old j ≡ link_count t j + link_share (dirs_of (shape_of t)) at inode j
   link_count-put_over old there =
-      ap (λ n. n + link_share (dirs_of (shape_of t)) at old j) (link_count-shape (put_entry t now at inode) j ∙ ap (λ s. links s j) (shape-put_entry t now at inode))
-      ∙ links-over (dirs_of (shape_of t)) t.entries at inode j old there ∙ ap (λ n. n + link_share (dirs_of (shape_of t)) at inode j) (sym (link_count-shape t j))
+      ap (λ n. n + link_share (dirs_of (shape_of t)) at old j) (link_count-shape (put_entry t now at inode) j
+      ∙ ap (λ s. links s j) (shape-put_entry t now at inode))
+      ∙ links-over (dirs_of (shape_of t)) t.entries at inode j old there
+      ∙ ap (λ n. n + link_share (dirs_of (shape_of t)) at inode j) (sym (link_count-shape t j))
 
   pub link_count-take_entry : get t.entries at ≡ Some inode → link_count (take_entry t now at) j + link_share (dirs_of (shape_of t)) at inode j ≡ link_count t j
   link_count-take_entry there =
@@ -157,23 +166,29 @@ module _ (t : Tree) (now : ℕ) (at : EntryKey) (inode j : ℕ) where
       ∙ links-remove (dirs_of (shape_of t)) t.entries at inode j there ∙ sym (link_count-shape t j)
 
   -- an entry of a file or a symlink
-  pub link_count-put_entry-leaf : get t.entries at ≡ None → is_directory t inode ≡ false → link_count (put_entry t now at inode) j ≡ link_count t j + naming j at inode
+  pub link_count-put_entry-leaf : get t.entries at ≡ None → is_directory t inode ≡ false
+      → link_count (put_entry t now at inode) j ≡ link_count t j + naming j at inode
   link_count-put_entry-leaf free leaf =
       link_count-put_entry free ∙ ap (λ n. link_count t j + n) (share-leaf (dirs_of (shape_of t)) at inode j (sym (dirs-shape t inode) ∙ leaf))
 
-  pub link_count-take_entry-leaf : get t.entries at ≡ Some inode → is_directory t inode ≡ false → link_count (take_entry t now at) j + naming j at inode ≡ link_count t j
+  pub link_count-take_entry-leaf : get t.entries at ≡ Some inode → is_directory t inode ≡ false
+      → link_count (take_entry t now at) j + naming j at inode ≡ link_count t j
   link_count-take_entry-leaf there leaf =
-      ap (λ n. link_count (take_entry t now at) j + n) (sym (share-leaf (dirs_of (shape_of t)) at inode j (sym (dirs-shape t inode) ∙ leaf))) ∙ link_count-take_entry there
+      ap (λ n. link_count (take_entry t now at) j + n) (sym (share-leaf (dirs_of (shape_of t)) at inode j (sym (dirs-shape t inode) ∙ leaf)))
+      ∙ link_count-take_entry there
 
   -- an entry of a directory
-  pub link_count-put_entry-dir : get t.entries at ≡ None → is_directory t inode ≡ true → is_directory t at.dir ≡ true → link_count (put_entry t now at inode) j ≡ link_count t j + standing j at
+  pub link_count-put_entry-dir : get t.entries at ≡ None → is_directory t inode ≡ true → is_directory t at.dir ≡ true
+      → link_count (put_entry t now at inode) j ≡ link_count t j + standing j at
   link_count-put_entry-dir free is within =
       link_count-put_entry free
       ∙ ap (λ n. link_count t j + n) (share-dir (dirs_of (shape_of t)) at inode j (sym (dirs-shape t inode) ∙ is) (sym (dirs-shape t at.dir) ∙ within))
 
-  pub link_count-take_entry-dir : get t.entries at ≡ Some inode → is_directory t inode ≡ true → is_directory t at.dir ≡ true → link_count (take_entry t now at) j + standing j at ≡ link_count t j
+  pub link_count-take_entry-dir : get t.entries at ≡ Some inode → is_directory t inode ≡ true → is_directory t at.dir ≡ true
+      → link_count (take_entry t now at) j + standing j at ≡ link_count t j
   link_count-take_entry-dir there is within =
-      ap (λ n. link_count (take_entry t now at) j + n) (sym (share-dir (dirs_of (shape_of t)) at inode j (sym (dirs-shape t inode) ∙ is) (sym (dirs-shape t at.dir) ∙ within)))
+      ap (λ n. link_count (take_entry t now at) j + n) (sym (share-dir (dirs_of (shape_of t)) at inode j (sym (dirs-shape t inode)
+      ∙ is) (sym (dirs-shape t at.dir) ∙ within)))
       ∙ link_count-take_entry there
 
 -- trees whose nodes are directories as before, but for those that no entry names
@@ -181,13 +196,15 @@ pub link_count-agree : (t after : Tree) (j : ℕ) → after.entries ≡ t.entrie
     → ((at : EntryKey) (inode : ℕ) → get t.entries at ≡ Some inode → is_directory after inode ≡ is_directory t inode) → link_count after j ≡ link_count t j
 link_count-agree t after j entries here same =
     link_count-shape after j ∙ ap (λ m. links_in (dirs_of (shape_of after)) m j) entries
-    ∙ links-agree (dirs_of (shape_of t)) (dirs_of (shape_of after)) t.entries j (as_dirs j here) (λ at inode e. as_dirs inode (same at inode e)) ∙ sym (link_count-shape t j)
+    ∙ links-agree (dirs_of (shape_of t)) (dirs_of (shape_of after)) t.entries j (as_dirs j here) (λ at inode e. as_dirs inode (same at inode e))
+    ∙ sym (link_count-shape t j)
   where
     as_dirs : (inode : ℕ) → is_directory after inode ≡ is_directory t inode → dirs_of (shape_of after) inode ≡ dirs_of (shape_of t) inode
     as_dirs inode e = sym (dirs-shape after inode) ∙ e ∙ dirs-shape t inode
 
 -- a node put at an inode that no entry names
-pub link_count-put_unnamed : (t : Tree) (inode : ℕ) (node : Node) (j : ℕ) → ((at : EntryKey) → get t.entries at ≢ Some inode) → j ≢ inode → link_count (put_node t inode node) j ≡ link_count t j
+pub link_count-put_unnamed : (t : Tree) (inode : ℕ) (node : Node) (j : ℕ) → ((at : EntryKey) → get t.entries at ≢ Some inode) → j ≢ inode
+    → link_count (put_node t inode node) j ≡ link_count t j
 link_count-put_unnamed t inode node j unnamed apart =
     link_count-agree t (put_node t inode node) j refl (kept j apart) (λ at other e. kept other (λ same. unnamed at (e ∙ ap (λ i. Some i) same)))
   where
@@ -195,7 +212,8 @@ link_count-put_unnamed t inode node j unnamed apart =
     kept k other = ap (λ o. is_some (parent_of o)) (get-insert_apart number_key t.nodes inode node k other)
 
 -- a node dropped that no entry names
-pub link_count-drop_unnamed : (t : Tree) (inode j : ℕ) → ((at : EntryKey) → get t.entries at ≢ Some inode) → j ≢ inode → link_count (drop_node t inode) j ≡ link_count t j
+pub link_count-drop_unnamed : (t : Tree) (inode j : ℕ) → ((at : EntryKey) → get t.entries at ≢ Some inode) → j ≢ inode
+    → link_count (drop_node t inode) j ≡ link_count t j
 link_count-drop_unnamed t inode j unnamed apart =
     link_count-agree t (drop_node t inode) j refl (kept j apart) (λ at other e. kept other (λ same. unnamed at (e ∙ ap (λ i. Some i) same)))
   where
@@ -210,17 +228,20 @@ module _ (t : Tree) (inode : ℕ) (change : Node → Node) (keeps : (node : Node
 
   pub is_directory-change_node : (k : ℕ) → is_directory (change_node t inode change) k ≡ is_directory t k
   is_directory-change_node k = elim (cases_eq k inode) [
-    | inl same ↦ ap (is_directory (change_node t inode change)) same ∙ ap (λ o. is_some (parent_of o)) (change_node-here t inode change) ∙ changed_dir (node_at t inode) ∙ sym (ap (is_directory t) same)
+    | inl same ↦ ap (is_directory (change_node t inode change)) same ∙ ap (λ o. is_some (parent_of o)) (change_node-here t inode change)
+        ∙ changed_dir (node_at t inode) ∙ sym (ap (is_directory t) same)
     | inr apart ↦ ap (λ o. is_some (parent_of o)) (change_node-apart t inode change k apart)
   ]
 
   pub link_count-change_node : (j : ℕ) → link_count (change_node t inode change) j ≡ link_count t j
-  link_count-change_node j = link_count-agree t (change_node t inode change) j (change_node-entries t inode change) (is_directory-change_node j) (λ at other e. is_directory-change_node other)
+  link_count-change_node j = link_count-agree t (change_node t inode change) j (change_node-entries t inode change) (is_directory-change_node j)
+      (λ at other e. is_directory-change_node other)
 
 -- ---- which inodes are directories after a small change
 
 pub is_directory-put_entry : (t : Tree) (now : ℕ) (at : EntryKey) (inode k : ℕ) → is_directory (put_entry t now at inode) k ≡ is_directory t k
-is_directory-put_entry t now at inode k = dirs-shape (put_entry t now at inode) k ∙ ap (λ s. dirs_of s k) (shape-put_entry t now at inode) ∙ sym (dirs-shape t k)
+is_directory-put_entry t now at inode k = dirs-shape (put_entry t now at inode) k ∙ ap (λ s. dirs_of s k) (shape-put_entry t now at inode)
+    ∙ sym (dirs-shape t k)
 
 pub is_directory-take_entry : (t : Tree) (now : ℕ) (at : EntryKey) (k : ℕ) → is_directory (take_entry t now at) k ≡ is_directory t k
 is_directory-take_entry t now at k = dirs-shape (take_entry t now at) k ∙ ap (λ s. dirs_of s k) (shape-take_entry t now at) ∙ sym (dirs-shape t k)
@@ -271,10 +292,15 @@ pub next_low : (t : Tree) → WholeShape (shape_of t) → (root < t.next_inode) 
 next_low t whole = (whole.below root (ap is_there whole.root_there) refl, omega (arith, whole.inodes_end))
 
 -- a new node has no link before its entry comes, or those of an empty directory
-pub link_count-put_alone : (t : Tree) (inode : ℕ) (node : Node) → IsFree t inode → link_count (put_node t inode node) inode ≡ (if is_dir (form_of (Some node)) then 2 else 0)
+pub link_count-put_alone : (t : Tree) (inode : ℕ) (node : Node) → IsFree t inode
+    → link_count (put_node t inode node) inode ≡ (if is_dir (form_of (Some node)) then 2 else 0)
 link_count-put_alone t inode node free =
     link_count-shape (put_node t inode node) inode
-    ∙ links-alone (dirs_of (shape_of (put_node t inode node))) t.entries inode (λ at other e. (λ same. free.unnamed at (e ∙ ap (λ i. Some i) same), free.empty at other e))
+    ∙ links-alone (dirs_of (shape_of (put_node t inode node))) t.entries inode (λ at other e. (
+      λ same. free.unnamed at (e
+          ∙ ap (λ i. Some i) same),
+      free.empty at other e,
+    ))
     ∙ ap (λ b. if b then 2 else 0) (sym (dirs-shape (put_node t inode node) inode) ∙ is_directory-put_here t inode node)
 
 module _ (t : Tree) (now : ℕ) (place : EntryKey) (inode : ℕ) (node : Node) (free : IsFree t inode) (vacant : get t.entries place ≡ None) where
@@ -300,19 +326,24 @@ module _ (t : Tree) (now : ℕ) (place : EntryKey) (inode : ℕ) (node : Node) (
   -- a new directory has two, and its parent one more
   pub link_count-new_dir : is_dir (form_of (Some node)) ≡ true → is_directory t place.dir ≡ true → link_count (with_node t now place inode node) inode ≡ 2
   link_count-new_dir is within =
-      link_count-put_entry-dir with_it now place inode inode vacant (is_directory-put_here t inode node ∙ is) (is_directory-put_apart t inode node place.dir (apart_of place.dir within) ∙ within)
+      link_count-put_entry-dir with_it now place inode inode vacant (is_directory-put_here t inode node
+      ∙ is) (is_directory-put_apart t inode node place.dir (apart_of place.dir within) ∙ within)
       ∙ (λ i. (link_count-put_alone t inode node free ∙ ap (λ b. if b then 2 else 0) is) i + standing_apart inode place (apart_of place.dir within) i)
 
-  pub link_count-beside_dir : is_dir (form_of (Some node)) ≡ true → is_directory t place.dir ≡ true → (j : ℕ) → j ≢ inode → link_count (with_node t now place inode node) j ≡ link_count t j + standing j place
+  pub link_count-beside_dir : is_dir (form_of (Some node)) ≡ true → is_directory t place.dir ≡ true → (j : ℕ) → j ≢ inode
+      → link_count (with_node t now place inode node) j ≡ link_count t j + standing j place
   link_count-beside_dir is within j other =
-      link_count-put_entry-dir with_it now place inode j vacant (is_directory-put_here t inode node ∙ is) (is_directory-put_apart t inode node place.dir (apart_of place.dir within) ∙ within)
+      link_count-put_entry-dir with_it now place inode j vacant (is_directory-put_here t inode node
+      ∙ is) (is_directory-put_apart t inode node place.dir (apart_of place.dir within) ∙ within)
       ∙ ap (λ n. n + standing j place) (link_count-put_unnamed t inode node j free.unnamed other)
 
 -- ---- an inode without its only entry
 
-module _ (t : Tree) (now : ℕ) (place : EntryKey) (inode : ℕ) (there : get t.entries place ≡ Some inode) (only : (at : EntryKey) → get t.entries at ≡ Some inode → at ≡ place) (j : ℕ) (other : j ≢ inode) where
+module _ (t : Tree) (now : ℕ) (place : EntryKey) (inode : ℕ) (there : get t.entries place ≡ Some inode) (only : (at : EntryKey)
+    → get t.entries at ≡ Some inode → at ≡ place) (j : ℕ) (other : j ≢ inode) where
   dropped : link_count (drop_node (take_entry t now place) inode) j ≡ link_count (take_entry t now place) j
-  dropped = link_count-drop_unnamed (take_entry t now place) inode j (λ at e. let kept = was_kept entry_key t.entries place at inode e in kept.0 (only at kept.1)) other
+  dropped = link_count-drop_unnamed (take_entry t now place) inode j
+      (λ at e. let kept = was_kept entry_key t.entries place at inode e in kept.0 (only at kept.1)) other
 
   -- no other link count changes by a file or a symlink that goes
   pub link_count-without_leaf : is_directory t inode ≡ false → link_count (drop_node (take_entry t now place) inode) j ≡ link_count t j
@@ -323,7 +354,8 @@ module _ (t : Tree) (now : ℕ) (place : EntryKey) (inode : ℕ) (there : get t.
       omega (arith, all, nothing, same)
 
   -- a directory that goes takes one from its parent's
-  pub link_count-without_dir : is_directory t inode ≡ true → is_directory t place.dir ≡ true → link_count (drop_node (take_entry t now place) inode) j + standing j place ≡ link_count t j
+  pub link_count-without_dir : is_directory t inode ≡ true → is_directory t place.dir ≡ true
+      → link_count (drop_node (take_entry t now place) inode) j + standing j place ≡ link_count t j
   link_count-without_dir is within = ap (λ n. n + standing j place) dropped ∙ link_count-take_entry-dir t now place inode j there is within
 
 -- ---- an inode that moves
@@ -339,14 +371,18 @@ moved_form dir now node = by_kind node.kind
 
 pub is_directory-move_in : (t : Tree) (now : ℕ) (place : EntryKey) (inode k : ℕ) → is_directory (move_in t now place inode) k ≡ is_directory t k
 is_directory-move_in t now place inode k =
-    is_directory-change_node (put_entry t now place inode) inode (moved_node now place.dir) (moved_form place.dir now) k ∙ is_directory-put_entry t now place inode k
+    is_directory-change_node (put_entry t now place inode) inode (moved_node now place.dir) (moved_form place.dir now) k
+    ∙ is_directory-put_entry t now place inode k
 
-pub link_count-move_in : (t : Tree) (now : ℕ) (place : EntryKey) (inode j : ℕ) → link_count (move_in t now place inode) j ≡ link_count (put_entry t now place inode) j
+pub link_count-move_in : (t : Tree) (now : ℕ) (place : EntryKey) (inode j : ℕ)
+    → link_count (move_in t now place inode) j ≡ link_count (put_entry t now place inode) j
 link_count-move_in t now place inode j = link_count-change_node (put_entry t now place inode) inode (moved_node now place.dir) (moved_form place.dir now) j
 
-module _ (t : Tree) (now : ℕ) (from : EntryKey) (inode : ℕ) (to : EntryKey) (there : get t.entries from ≡ Some inode) (vacant : get t.entries to ≡ None) (j : ℕ) where
+module _ (t : Tree) (now : ℕ) (from : EntryKey) (inode : ℕ) (to : EntryKey) (there : get t.entries from ≡ Some inode) (vacant : get t.entries to
+    ≡ None) (j : ℕ) where
   still_vacant : get (take_entry t now from).entries to ≡ None
-  still_vacant = get-remove_apart entry_key t.entries from to (λ same. let here : get t.entries to ≡ Some inode = ap (get t.entries) same ∙ there in absurd (cc)) ∙ vacant
+  still_vacant = get-remove_apart entry_key t.entries from to (λ same. let here : get t.entries to ≡ Some inode = ap (get t.entries) same
+      ∙ there in absurd (cc)) ∙ vacant
 
   -- a file or a symlink that moves changes no link count
   pub link_count-moved_leaf : is_directory t inode ≡ false → link_count (moved t now from inode to) j ≡ link_count t j
@@ -356,24 +392,30 @@ module _ (t : Tree) (now : ℕ) (from : EntryKey) (inode : ℕ) (to : EntryKey) 
       ∙ link_count-take_entry-leaf t now from inode j there leaf
 
   -- a directory that moves takes one from the parent that it had, and gives one to the parent that it gets
-  pub link_count-moved_dir : is_directory t inode ≡ true → is_directory t from.dir ≡ true → is_directory t to.dir ≡ true → link_count (moved t now from inode to) j + standing j from ≡ link_count t j + standing j to
+  pub link_count-moved_dir : is_directory t inode ≡ true → is_directory t from.dir ≡ true → is_directory t to.dir ≡ true
+      → link_count (moved t now from inode to) j + standing j from ≡ link_count t j + standing j to
   link_count-moved_dir is before after =
       let put = link_count-move_in (take_entry t now from) now to inode j
-      ∙ link_count-put_entry-dir (take_entry t now from) now to inode j still_vacant (is_directory-take_entry t now from inode ∙ is) (is_directory-take_entry t now from to.dir ∙ after) in
+      ∙ link_count-put_entry-dir (take_entry t now from) now to inode j still_vacant (is_directory-take_entry t now from inode
+      ∙ is) (is_directory-take_entry t now from to.dir ∙ after) in
       let taken = link_count-take_entry-dir t now from inode j there is before in
       omega (arith, put, taken)
 
 -- two inodes that change places: each entry takes what it gave by the one inode, and gives what it adds by the other
-pub link_count-exchanged : (t : Tree) (now : ℕ) (from : EntryKey) (source : ℕ) (to : EntryKey) (other : ℕ) (j : ℕ) → get t.entries from ≡ Some source → get t.entries to ≡ Some other → from ≢ to
+pub link_count-exchanged : (t : Tree) (now : ℕ) (from : EntryKey) (source : ℕ) (to : EntryKey) (other : ℕ) (j : ℕ) → get t.entries from ≡ Some source
+    → get t.entries to ≡ Some other → from ≢ to
     → let dirs = dirs_of (shape_of t) in
-    link_count (exchanged t now from source to other) j + link_share dirs from source j + link_share dirs to other j ≡ link_count t j + link_share dirs to source j + link_share dirs from other j
+    link_count (exchanged t now from source to other) j + link_share dirs from source j + link_share dirs to other j
+    ≡ link_count t j + link_share dirs to source j + link_share dirs from other j
 link_count-exchanged t now from source to other j there others apart =
     let dirs = dirs_of (shape_of t) in
     let u = move_in t now to source in
     let first = ap (λ n. n + link_share dirs to other j) (link_count-move_in t now to source j) ∙ link_count-put_over t now to source j other others in
-    let still : get u.entries from ≡ Some source = ap (λ m. get m from) (move_in-entries t now to source) ∙ get-insert_apart entry_key t.entries to source from apart ∙ there in
+    let still : get u.entries from ≡ Some source = ap (λ m. get m from) (move_in-entries t now to source)
+    ∙ get-insert_apart entry_key t.entries to source from apart ∙ there in
     let same : dirs_of (shape_of u) ≡ dirs = (λ i k. (sym (dirs-shape u k) ∙ is_directory-move_in t now to source k ∙ dirs-shape t k) i) in
-    let second = ap (λ n. n + link_share (dirs_of (shape_of u)) from source j) (link_count-move_in u now from other j) ∙ link_count-put_over u now from other j source still in
+    let second = ap (λ n. n + link_share (dirs_of (shape_of u)) from source j) (link_count-move_in u now from other j)
+    ∙ link_count-put_over u now from other j source still in
     let again : link_count (move_in u now from other) j + link_share dirs from source j ≡ link_count u j + link_share dirs from other j =
     subst (λ d. link_count (move_in u now from other) j + link_share d from source j ≡ link_count u j + link_share d from other j) same second in
     omega (arith, first, again)

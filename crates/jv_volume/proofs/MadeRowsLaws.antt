@@ -40,7 +40,8 @@ grown space c = record c { inode = c.inode + 1; used_space = c.used_space + spac
 
 abbrev pub made_rows : Rows → ℕ → EntryKey → NodeRow → NodeRow → ℕ → Counters → ℕ → Rows
 made_rows rows now place row dir links c space =
-    insert (insert (insert (insert rows (node_key c.inode) (Ok (OfNode row))) (edge_key place.dir place.name) (Ok (OfEdge (record { kind = row.kind; inode = c.inode }))))
+    insert (insert (insert (insert rows (node_key c.inode) (Ok (OfNode row))) (edge_key place.dir place.name)
+    (Ok (OfEdge (record { kind = row.kind; inode = c.inode }))))
     (node_key place.dir) (Ok (OfNode (touched_row now links dir)))) counters_key (Ok (OfCounters (grown space c)))
 
 module _ (bytes : ℕ → ℕ → ℕ) (rows : Rows) (now : ℕ) (place : EntryKey) (row dir : NodeRow) (links : ℕ) (c : Counters) (space : ℕ)
@@ -121,7 +122,8 @@ pub record IsMade (t : Tree) (place : EntryKey) (row dir : NodeRow) (byte : ℕ 
 
 module _ (bytes : ℕ → ℕ → ℕ) (rows : Rows) (now : ℕ) (place : EntryKey) (row dir : NodeRow) (links : ℕ) (c : Counters) (space : ℕ)
     (s : Stored rows (tree_of bytes rows)) (shape : WholeShape (shape_of (tree_of bytes rows)))
-    (there : node_row_at rows place.dir ≡ Some dir) (counters : counters_at rows ≡ Some c) (made : IsMade (tree_of bytes rows) place row dir (bytes c.inode) links space) where
+    (there : node_row_at rows place.dir ≡ Some dir) (counters : counters_at rows
+    ≡ Some c) (made : IsMade (tree_of bytes rows) place row dir (bytes c.inode) links space) where
   abbrev before_it : Tree
   before_it = tree_of bytes rows
 
@@ -161,7 +163,8 @@ module _ (bytes : ℕ → ℕ → ℕ) (rows : Rows) (now : ℕ) (place : EntryK
   next_links true e = link_count-new_dir before_it now place before_it.next_inode new free_next made.free e made.within
   next_links false e = link_count-new_leaf before_it now place before_it.next_inode new free_next made.free e
 
-  beside_links : (b : Bool) → is_new_dir ≡ b → (j : ℕ) → j ≢ before_it.next_inode → link_count after_it j ≡ link_count before_it j + (if b then standing j place else 0)
+  beside_links : (b : Bool) → is_new_dir ≡ b → (j : ℕ) → j ≢ before_it.next_inode
+      → link_count after_it j ≡ link_count before_it j + (if b then standing j place else 0)
   beside_links true e j apart = link_count-beside_dir before_it now place before_it.next_inode new free_next made.free e made.within j apart
   beside_links false e j apart = link_count-beside_leaf before_it now place before_it.next_inode new free_next made.free e j apart ∙ omega arith
 
@@ -206,7 +209,8 @@ module _ (bytes : ℕ → ℕ → ℕ) (rows : Rows) (now : ℕ) (place : EntryK
 
   node_beside : (inode : ℕ) → inode ≢ place.dir → get done_rows (node_key inode) ≡ get r1 (node_key inode)
   node_beside inode aside =
-      last_put (node_key inode) refl ∙ get-insert_apart row_key r2 (node_key place.dir) (Ok (OfNode (touched_row now links dir))) (node_key inode) (λ same. aside (ap (λ (q : RowKey). q.a) same))
+      last_put (node_key inode) refl ∙ get-insert_apart row_key r2 (node_key place.dir) (Ok (OfNode (touched_row now links dir))) (node_key inode)
+      (λ same. aside (ap (λ (q : RowKey). q.a) same))
       ∙ get-insert r1 (edge_key place.dir place.name) (Ok (OfEdge (record { kind = row.kind; inode = c.inode }))) (node_key inode)
 
   dir_cell : (cell : Cell) → get done_rows (node_key place.dir) ≡ Some cell → IsNodeCell (link_count (tree_of bytes done_rows) place.dir) (bytes place.dir) cell
@@ -216,22 +220,28 @@ module _ (bytes : ℕ → ℕ → ℕ) (rows : Rows) (now : ℕ) (place : EntryK
       record {
         row = touched_row now links dir;
         is = cc;
-        row_is = subst (λ l. IsNodeRow l (bytes place.dir) (touched_row now links dir)) (sym dir_links) (IsNodeRow-touched (bytes place.dir) dir now (link_count before_it place.dir) links dir_found.row_is);
+        row_is = subst (λ l. IsNodeRow l (bytes place.dir) (touched_row now links dir)) (sym dir_links)
+            (IsNodeRow-touched (bytes place.dir) dir now (link_count before_it place.dir) links dir_found.row_is);
       }
 
   new_cell : (cell : Cell) → get done_rows (node_key c.inode) ≡ Some cell → IsNodeCell (link_count (tree_of bytes done_rows) c.inode) (bytes c.inode) cell
   new_cell cell e =
-      let put : get done_rows (node_key c.inode) ≡ Some (Ok (OfNode row)) = node_beside c.inode (λ same. place_apart (sym same)) ∙ get-inserted row_key rows (node_key c.inode) (Ok (OfNode row)) in
+      let put : get done_rows (node_key c.inode) ≡ Some (Ok (OfNode row)) = node_beside c.inode (λ same. place_apart (sym same))
+      ∙ get-inserted row_key rows (node_key c.inode) (Ok (OfNode row)) in
       record { row = row; is = cc; row_is = subst (λ l. IsNodeRow l (bytes c.inode) row) (sym new_links) made.new_row }
 
-  node_after : (inode : ℕ) (cell : Cell) → get done_rows (node_key inode) ≡ Some cell → IsNodeCell (link_count (tree_of bytes done_rows) inode) (bytes inode) cell
+  node_after : (inode : ℕ) (cell : Cell) → get done_rows (node_key inode) ≡ Some cell
+      → IsNodeCell (link_count (tree_of bytes done_rows) inode) (bytes inode) cell
   node_after inode cell e = elim (cases_eq inode place.dir) [
-    | inl same ↦ subst (λ i. IsNodeCell (link_count (tree_of bytes done_rows) i) (bytes i) cell) (sym same) (dir_cell cell (sym (ap (λ i. get done_rows (node_key i)) same) ∙ e))
+    | inl same ↦ subst (λ i. IsNodeCell (link_count (tree_of bytes done_rows) i) (bytes i) cell) (sym same)
+        (dir_cell cell (sym (ap (λ i. get done_rows (node_key i)) same) ∙ e))
     | inr aside ↦ elim (cases_eq inode c.inode) [
-      | inl same ↦ subst (λ i. IsNodeCell (link_count (tree_of bytes done_rows) i) (bytes i) cell) (sym same) (new_cell cell (sym (ap (λ i. get done_rows (node_key i)) same) ∙ e))
+      | inl same ↦ subst (λ i. IsNodeCell (link_count (tree_of bytes done_rows) i) (bytes i) cell) (sym same)
+          (new_cell cell (sym (ap (λ i. get done_rows (node_key i)) same) ∙ e))
       | inr apart ↦
           let was : get rows (node_key inode) ≡ Some cell =
-          sym (node_beside inode aside ∙ get-insert_apart row_key rows (node_key c.inode) (Ok (OfNode row)) (node_key inode) (λ same. apart (ap (λ (q : RowKey). q.a) same))) ∙ e in
+          sym (node_beside inode aside ∙ get-insert_apart row_key rows (node_key c.inode) (Ok (OfNode row)) (node_key inode)
+          (λ same. apart (ap (λ (q : RowKey). q.a) same))) ∙ e in
           subst (λ l. IsNodeCell l (bytes inode) cell) (sym (other_links inode aside apart)) (before_stored.node inode cell was)
     ]
   ]
@@ -243,15 +253,18 @@ module _ (bytes : ℕ → ℕ → ℕ) (rows : Rows) (now : ℕ) (place : EntryK
 
   new_number : number_of_node (node_at nodes_then c.inode) ≡ row.kind
   new_number =
-      ap number_of_node (get-insert_apart number_key (insert before_it.nodes c.inode new) place.dir (touched now (node_of (bytes place.dir) dir)) c.inode (λ same. place_apart (sym same))
+      ap number_of_node (get-insert_apart number_key (insert before_it.nodes c.inode new) place.dir
+      (touched now (node_of (bytes place.dir) dir)) c.inode (λ same. place_apart (sym same))
       ∙ get-inserted number_key before_it.nodes c.inode new)
       ∙ sym (ap (λ (r : NodeRow). r.kind) made.new_row)
 
   old_number : (inode : ℕ) → inode ≢ c.inode → number_of_node (node_at nodes_then inode) ≡ number_of_node (node_at before_it inode)
   old_number inode apart = elim (cases_eq inode place.dir) [
-    | inl same ↦ ap number_of_node (ap (node_at nodes_then) same ∙ get-inserted number_key (insert before_it.nodes c.inode new) place.dir (touched now (node_of (bytes place.dir) dir)))
+    | inl same ↦ ap number_of_node (ap (node_at nodes_then) same
+        ∙ get-inserted number_key (insert before_it.nodes c.inode new) place.dir (touched now (node_of (bytes place.dir) dir)))
         ∙ sym (ap number_of_node (ap (node_at before_it) same ∙ dir_found.there))
-    | inr aside ↦ ap number_of_node (get-insert_apart number_key (insert before_it.nodes c.inode new) place.dir (touched now (node_of (bytes place.dir) dir)) inode aside
+    | inr aside ↦ ap number_of_node (get-insert_apart number_key (insert before_it.nodes c.inode new) place.dir
+        (touched now (node_of (bytes place.dir) dir)) inode aside
         ∙ get-insert_apart number_key before_it.nodes c.inode new inode apart)
   ]
 
@@ -265,26 +278,36 @@ module _ (bytes : ℕ → ℕ → ℕ) (rows : Rows) (now : ℕ) (place : EntryK
   edge_after at cell e = elim (same_or_apart entry_key at place) [
     | inl same ↦
         let put : get done_rows (edge_key at.dir at.name) ≡ Some (Ok (OfEdge (record { kind = row.kind; inode = c.inode }))) =
-        edge_put at ∙ ap (λ (k : EntryKey). get r2 (edge_key k.dir k.name)) same ∙ get-inserted row_key r1 (edge_key place.dir place.name) (Ok (OfEdge (record { kind = row.kind; inode = c.inode }))) in
+        edge_put at ∙ ap (λ (k : EntryKey). get r2 (edge_key k.dir k.name)) same
+        ∙ get-inserted row_key r1 (edge_key place.dir place.name) (Ok (OfEdge (record { kind = row.kind; inode = c.inode }))) in
         record { edge = record { kind = row.kind; inode = c.inode }; is = cc; kind = sym (number_after c.inode row.kind new_number) }
     | inr aside ↦
         let was : get rows (edge_key at.dir at.name) ≡ Some cell =
         sym (edge_put at
-        ∙ get-insert_apart row_key r1 (edge_key place.dir place.name) (Ok (OfEdge (record { kind = row.kind; inode = c.inode }))) (edge_key at.dir at.name) (λ same. aside (λ i. record { dir = (same i).a; name = (same i).b }))
+        ∙ get-insert_apart row_key r1 (edge_key place.dir place.name) (Ok (OfEdge (record { kind = row.kind; inode = c.inode })))
+        (edge_key at.dir at.name) (λ same. aside (λ i. record { dir = (same i).a; name = (same i).b }))
         ∙ get-insert rows (node_key c.inode) (Ok (OfNode row)) (edge_key at.dir at.name)) ∙ e in
         let old = before_stored.edge at cell was in
-        let named : get before_it.entries at ≡ Some old.edge.inode = get-entries bytes rows at ∙ ap (λ o. option_map (λ (edge : Edge). edge.inode) (edge_in (row_in o))) (was ∙ ap (λ x. Some x) old.is) in
+        let named : get before_it.entries at ≡ Some old.edge.inode = get-entries bytes rows at
+        ∙ ap (λ o. option_map (λ (edge : Edge). edge.inode) (edge_in (row_in o))) (was ∙ ap (λ x. Some x) old.is) in
         let apart : old.edge.inode ≢ c.inode = (λ same. free_next.unnamed at (named ∙ ap (λ i. Some i) (same ∙ sym c_found.next_inode))) in
-        record { edge = old.edge; is = old.is; kind = old.kind ∙ sym (number_after old.edge.inode (number_of_node (node_at before_it old.edge.inode)) (old_number old.edge.inode apart)) }
+        record {
+          edge = old.edge;
+          is = old.is;
+          kind = old.kind
+              ∙ sym (number_after old.edge.inode (number_of_node (node_at before_it old.edge.inode)) (old_number old.edge.inode apart));
+        }
   ]
 
   -- the other tables
 
-  kept : (q : RowKey) → eq_by_cmp row_cmp q counters_key ≡ false → eq_by_cmp row_cmp q (node_key place.dir) ≡ false → eq_by_cmp row_cmp q (edge_key place.dir place.name) ≡ false
+  kept : (q : RowKey) → eq_by_cmp row_cmp q counters_key ≡ false → eq_by_cmp row_cmp q (node_key place.dir) ≡ false
+      → eq_by_cmp row_cmp q (edge_key place.dir place.name) ≡ false
       → eq_by_cmp row_cmp q (node_key c.inode) ≡ false → get done_rows q ≡ get rows q
   kept q a b d e =
       last_put q a
-      ∙ get-insert r2 (node_key place.dir) (Ok (OfNode (touched_row now links dir))) q ∙ ap (λ x. cond x (Some (Ok (OfNode (touched_row now links dir)))) (get r2 q)) b
+      ∙ get-insert r2 (node_key place.dir) (Ok (OfNode (touched_row now links dir))) q
+      ∙ ap (λ x. cond x (Some (Ok (OfNode (touched_row now links dir)))) (get r2 q)) b
       ∙ get-insert r1 (edge_key place.dir place.name) (Ok (OfEdge (record { kind = row.kind; inode = c.inode }))) q
       ∙ ap (λ x. cond x (Some (Ok (OfEdge (record { kind = row.kind; inode = c.inode })))) (get r1 q)) d
       ∙ get-insert rows (node_key c.inode) (Ok (OfNode row)) q ∙ ap (λ x. cond x (Some (Ok (OfNode row))) (get rows q)) e

@@ -6,7 +6,7 @@ use Rattle.std.specs.Ordering.{eq_by_cmp, is_eq, is_lt}
 use Rattle.std.specs.FinMap.Entries.{find, below_all, is_sorted}
 use Rattle.jv_model.specs.FiniteMap.{KeyOrder, Map, get, insert, remove, alter, sum_over, total_over}
 use Rattle.jv_model.proofs.FiniteMapLaws.{share, get-alter, same_maps, sum-insert, sum-remove}
-use Rattle.jv_volume.proofs.ShapeMapLaws.{tied_here, tied_same}
+use Rattle.jv_volume.proofs.ShapeMapLaws.{tied_here, tied_same, tied_apart}
 
 pub first_of_both : (a b : Bool) → T (a && b) → T a
 first_of_both true b p = tt
@@ -82,7 +82,8 @@ pub sum-alike : {K X Y : Type 0} (order : KeyOrder K) (f : K → X → ℕ) (g :
     → ((k : K) → option_map (f k) (get m k) ≡ option_map (g k) (get n k)) → sum_over f m ≡ sum_over g n
 sum-alike order f g m n same =
     sym (sum-changed_values order f m)
-    ∙ ap (sum_over (λ k n. n)) (same_maps (changed_values order f m) (changed_values order g n) (λ k. get-changed_values order f m k ∙ same k ∙ sym (get-changed_values order g n k)))
+    ∙ ap (sum_over (λ k n. n)) (same_maps (changed_values order f m) (changed_values order g n) (λ k. get-changed_values order f m k ∙ same k
+    ∙ sym (get-changed_values order g n k)))
     ∙ sum-changed_values order g n
 
 zeros : {K X : Type 0} (es : List (K × X)) → total_over (λ k x. 0) es ≡ 0
@@ -106,7 +107,8 @@ entry_alike f g k None same = refl
 entry_alike f g k (Some x) same = ap (λ n. Some n) (same x refl)
 
 -- two functions that agree on the entries of a map have the same sum
-pub sum-agree : {K X : Type 0} (order : KeyOrder K) (f g : K → X → ℕ) (m : Map order X) → ((k : K) (x : X) → get m k ≡ Some x → f k x ≡ g k x) → sum_over f m ≡ sum_over g m
+pub sum-agree : {K X : Type 0} (order : KeyOrder K) (f g : K → X → ℕ) (m : Map order X) → ((k : K) (x : X) → get m k ≡ Some x → f k x ≡ g k x)
+    → sum_over f m ≡ sum_over g m
 sum-agree order f g m same = sum-alike order f g m m (λ k. entry_alike f g k (get m k) (same k))
 
 module _ {K X : Type 0} (order : KeyOrder K) (f : K → X → ℕ) (m : Map order X) (k : K) where
@@ -168,3 +170,7 @@ module _ {K X : Type 0} (order : KeyOrder K) (m : Map order X) where
 
   pub remove-absent : (k : K) → get m k ≡ None → remove m k ≡ m
   remove-absent k none = alter-same k None none
+
+-- what stands at another key than the changed one
+pub get-alter-apart : {K X : Type 0} (order : KeyOrder K) (m : Map order X) (k : K) (v : Option X) (q : K) → q ≢ k → get (alter m k v) q ≡ get m q
+get-alter-apart order m k v q apart = get-alter m k v q ∙ ap (λ b. cond b v (get m q)) (tied_apart order k q apart)

@@ -22,7 +22,8 @@ node_row-again links byte node = by_kind node.kind
     by_kind (Symlink target) = refl
 
 -- bytes matter only below the length
-pub same_content : (length : ℕ) (byte other : ℕ → ℕ) → ((position : ℕ) → (if nat_lt position length then byte position else 0) ≡ (if nat_lt position length then other position else 0))
+pub same_content : (length : ℕ) (byte other : ℕ → ℕ)
+    → ((position : ℕ) → (if nat_lt position length then byte position else 0) ≡ (if nat_lt position length then other position else 0))
     → content_of length byte ≡ content_of length other
 same_content length byte other same = λ i. record { length = length; byte = λ position. same position i }
 
@@ -31,34 +32,42 @@ content_of-empty byte = λ i. record { length = 0; byte = λ position. ap (λ b.
 
 -- the node of a directory's row, of a symlink's, and of an empty file's
 
-pub node_of-directory : (byte : ℕ → ℕ) (links parent mode now : ℕ) → node_of byte (node_row links (new_node (Directory parent) mode now)) ≡ new_node (Directory parent) mode now
+pub node_of-directory : (byte : ℕ → ℕ) (links parent mode now : ℕ)
+    → node_of byte (node_row links (new_node (Directory parent) mode now)) ≡ new_node (Directory parent) mode now
 node_of-directory byte links parent mode now = refl
 
-pub node_of-symlink : (byte : ℕ → ℕ) (links : ℕ) (target : List ℕ) (mode now : ℕ) → node_of byte (node_row links (new_node (Symlink target) mode now)) ≡ new_node (Symlink target) mode now
+pub node_of-symlink : (byte : ℕ → ℕ) (links : ℕ) (target : List ℕ) (mode now : ℕ)
+    → node_of byte (node_row links (new_node (Symlink target) mode now)) ≡ new_node (Symlink target) mode now
 node_of-symlink byte links target mode now = refl
 
-pub node_of-empty_file : (byte : ℕ → ℕ) (links mode now : ℕ) → node_of byte (node_row links (new_node (File empty_content) mode now)) ≡ new_node (File empty_content) mode now
+pub node_of-empty_file : (byte : ℕ → ℕ) (links mode now : ℕ)
+    → node_of byte (node_row links (new_node (File empty_content) mode now)) ≡ new_node (File empty_content) mode now
 node_of-empty_file byte links mode now = ap (λ content. new_node (File content) mode now) (content_of-empty byte)
 
 -- the node of a row with other times, links and attributes
 
-pub node_of-touched : (byte : ℕ → ℕ) (row : NodeRow) (now links : ℕ) → node_of byte (record row { mtime = now; ctime = now; nlink = links }) ≡ touched now (node_of byte row)
+pub node_of-touched : (byte : ℕ → ℕ) (row : NodeRow) (now links : ℕ)
+    → node_of byte (record row { mtime = now; ctime = now; nlink = links }) ≡ touched now (node_of byte row)
 node_of-touched byte row now links = refl
 
-pub node_of-status_changed : (byte : ℕ → ℕ) (row : NodeRow) (now links : ℕ) → node_of byte (record row { ctime = now; nlink = links }) ≡ status_changed now (node_of byte row)
+pub node_of-status_changed : (byte : ℕ → ℕ) (row : NodeRow) (now links : ℕ)
+    → node_of byte (record row { ctime = now; nlink = links }) ≡ status_changed now (node_of byte row)
 node_of-status_changed byte row now links = refl
 
-pub IsNodeRow-touched : (byte : ℕ → ℕ) (row : NodeRow) (now before links : ℕ) → IsNodeRow before byte row → IsNodeRow links byte (record row { mtime = now; ctime = now; nlink = links })
+pub IsNodeRow-touched : (byte : ℕ → ℕ) (row : NodeRow) (now before links : ℕ) → IsNodeRow before byte row
+    → IsNodeRow links byte (record row { mtime = now; ctime = now; nlink = links })
 IsNodeRow-touched byte row now before links is = ap (λ (r : NodeRow). record r { mtime = now; ctime = now; nlink = links }) is
 
-pub IsNodeRow-status_changed : (byte : ℕ → ℕ) (row : NodeRow) (now before links : ℕ) → IsNodeRow before byte row → IsNodeRow links byte (record row { ctime = now; nlink = links })
+pub IsNodeRow-status_changed : (byte : ℕ → ℕ) (row : NodeRow) (now before links : ℕ) → IsNodeRow before byte row
+    → IsNodeRow links byte (record row { ctime = now; nlink = links })
 IsNodeRow-status_changed byte row now before links is = ap (λ (r : NodeRow). record r { ctime = now; nlink = links }) is
 
 -- the row of a file with another length
 pub IsNodeRow-length : (byte : ℕ → ℕ) (row : NodeRow) (now before links length : ℕ) → row.kind ≡ 1 → IsNodeRow before byte row
     → IsNodeRow links byte (record row { length = length; mtime = now; ctime = now; nlink = links })
 IsNodeRow-length byte row now before links length file is =
-    subst (λ k. IsNodeRow before byte (record row { kind = k }) → IsNodeRow links byte (record row { kind = k; length = length; mtime = now; ctime = now; nlink = links })) (sym file)
+    subst (λ k. IsNodeRow before byte (record row { kind = k })
+    → IsNodeRow links byte (record row { kind = k; length = length; mtime = now; ctime = now; nlink = links })) (sym file)
     (λ as_file. ap (λ (r : NodeRow). record r { length = length; mtime = now; ctime = now; nlink = links }) as_file) is
 
 -- the row of what moved to another directory: a directory has another parent now
@@ -69,18 +78,29 @@ pub node_of-moved : (byte : ℕ → ℕ) (row : NodeRow) (now dir : ℕ) → nod
 node_of-moved byte row now dir = by_kind (row.kind == 1) (row.kind == 2)
   where
     by_kind : (file is_dir : Bool)
-        → record (node_of byte row) { ctime = now; kind = if file then File (content_of row.length byte) else if is_dir then Directory (if is_dir then dir else row.parent) else Symlink row.target }
-        ≡ record (node_of byte row) { ctime = now; kind = kind_under dir (if file then File (content_of row.length byte) else if is_dir then Directory row.parent else Symlink row.target) }
+        → record (node_of byte row) {
+          ctime = now;
+          kind = if file then File (content_of row.length byte) else if is_dir then Directory
+              (if is_dir then dir else row.parent) else Symlink row.target;
+        }
+        ≡ record (node_of byte row) {
+          ctime = now;
+          kind = kind_under dir
+              (if file then File (content_of row.length byte) else if is_dir then Directory row.parent else Symlink row.target);
+        }
     by_kind true is_dir = refl
     by_kind false true = refl
     by_kind false false = refl
 
-pub IsNodeRow-moved_dir : (byte : ℕ → ℕ) (row : NodeRow) (now dir before links : ℕ) → row.kind ≡ 2 → IsNodeRow before byte row → IsNodeRow links byte (record (moved_row now dir row) { nlink = links })
+pub IsNodeRow-moved_dir : (byte : ℕ → ℕ) (row : NodeRow) (now dir before links : ℕ) → row.kind ≡ 2 → IsNodeRow before byte row
+    → IsNodeRow links byte (record (moved_row now dir row) { nlink = links })
 IsNodeRow-moved_dir byte row now dir before links is_dir is =
-    subst (λ k. IsNodeRow before byte (record row { kind = k }) → IsNodeRow links byte (record (moved_row now dir (record row { kind = k })) { nlink = links })) (sym is_dir)
+    subst (λ k. IsNodeRow before byte (record row { kind = k })
+    → IsNodeRow links byte (record (moved_row now dir (record row { kind = k })) { nlink = links })) (sym is_dir)
     (λ as_dir. ap (λ (r : NodeRow). record r { ctime = now; parent = dir; nlink = links }) as_dir) is
 
-pub IsNodeRow-moved_leaf : (byte : ℕ → ℕ) (row : NodeRow) (now dir before links : ℕ) → (row.kind == 2) ≡ false → IsNodeRow before byte row → IsNodeRow links byte (record (moved_row now dir row) { nlink = links })
+pub IsNodeRow-moved_leaf : (byte : ℕ → ℕ) (row : NodeRow) (now dir before links : ℕ) → (row.kind == 2) ≡ false → IsNodeRow before byte row
+    → IsNodeRow links byte (record (moved_row now dir row) { nlink = links })
 IsNodeRow-moved_leaf byte row now dir before links leaf is =
     subst (λ (b : Bool). IsNodeRow links byte (record row { ctime = now; parent = if b then dir else row.parent; nlink = links })) (sym leaf)
     (ap (λ (r : NodeRow). record r { ctime = now; nlink = links }) is)

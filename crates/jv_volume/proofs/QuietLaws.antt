@@ -29,17 +29,21 @@ pub quiet-then : (rows middle after : Rows) → Quiet rows middle → Quiet midd
 quiet-then rows middle after p q = record { apart = λ key is. q.apart key is ∙ p.apart key is; next = q.next ∙ p.next }
 
 -- a row of another table that isn't the counters'
-pub quiet-alter : (rows : Rows) (q : RowKey) (cell : Option Cell) → is_of_slices q.tab ≡ false → eq_by_cmp row_cmp counters_key q ≡ false → Quiet rows (alter rows q cell)
+pub quiet-alter : (rows : Rows) (q : RowKey) (cell : Option Cell) → is_of_slices q.tab ≡ false → eq_by_cmp row_cmp counters_key q ≡ false
+    → Quiet rows (alter rows q cell)
 quiet-alter rows q cell other apart = record {
-  apart = λ key is. get-alter rows q cell key ∙ ap (λ b. cond b cell (get rows key)) (tied_apart row_key q key (λ same. absurd (true≢false (sym is ∙ ap (λ (k : RowKey). is_of_slices k.tab) same ∙ other))));
+  apart = λ key is. get-alter rows q cell key ∙ ap (λ b. cond b cell (get rows key)) (tied_apart row_key q key (λ same. absurd (true≢false (sym is
+      ∙ ap (λ (k : RowKey). is_of_slices k.tab) same ∙ other))));
   next = ap (λ c. (or_no_counters (counters_in (row_in c))).slice) (get-alter rows q cell counters_key ∙ ap (λ b. cond b cell (get rows counters_key)) apart);
 }
 
 -- counters with the same next slice
-pub quiet-put_counters : (rows : Rows) (before c : Counters) → counters_at rows ≡ Some before → c.slice ≡ before.slice → Quiet rows (insert rows counters_key (Ok (OfCounters c)))
+pub quiet-put_counters : (rows : Rows) (before c : Counters) → counters_at rows ≡ Some before → c.slice ≡ before.slice
+    → Quiet rows (insert rows counters_key (Ok (OfCounters c)))
 quiet-put_counters rows before c there same = record {
   apart = λ key is. get-alter rows counters_key (Some (Ok (OfCounters c))) key
-      ∙ ap (λ b. cond b (Some (Ok (OfCounters c))) (get rows key)) (tied_apart row_key counters_key key (λ one. absurd (true≢false (sym is ∙ ap (λ (k : RowKey). is_of_slices k.tab) one))));
+      ∙ ap (λ b. cond b (Some (Ok (OfCounters c))) (get rows key)) (tied_apart row_key counters_key key (λ one. absurd (true≢false (sym is
+      ∙ ap (λ (k : RowKey). is_of_slices k.tab) one))));
   next = ap (λ o. (or_no_counters (counters_in (row_in o))).slice) (get-alter-here row_key rows counters_key (Some (Ok (OfCounters c)))) ∙ same
       ∙ sym (ap (λ o. (or_no_counters o).slice) there);
 }
@@ -104,7 +108,8 @@ module _ (rows after : Rows) (q : Quiet rows after) where
   quiet-listed : (key : RowKey) → listed key (get after key) ≡ listed key (get rows key)
   quiet-listed key = by_table (is_list_key key) refl
     where
-      by_table : (b : Bool) → is_list_key key ≡ b → (if b then records_in (row_in (get after key)) else []) ≡ (if b then records_in (row_in (get rows key)) else [])
+      by_table : (b : Bool) → is_list_key key ≡ b → (if b then records_in (row_in (get after key)) else [])
+          ≡ (if b then records_in (row_in (get rows key)) else [])
       by_table true e = ap (λ c. records_in (row_in c)) (q.apart key (of_lists key e))
       by_table false e = refl
 

@@ -30,12 +30,14 @@ unfolding tree_of entry_map
 entries-list bytes rows = selected-list entry_key entry_of_key (λ at row. option_map (λ (edge : Edge). edge.inode) (edge_in row)) entry_rises rows
 
 -- the entries of a directory are those of its edges, in the order of rows
-pub entries_of-rows : (bytes : ℕ → ℕ → ℕ) (rows : Rows) (dir : ℕ) → entries_of (tree_of bytes rows) dir ≡ map (λ e. (e.0.name, e.1)) (filter (λ e. e.0.dir == dir) (edges_of rows))
+pub entries_of-rows : (bytes : ℕ → ℕ → ℕ) (rows : Rows) (dir : ℕ)
+    → entries_of (tree_of bytes rows) dir ≡ map (λ e. (e.0.name, e.1)) (filter (λ e. e.0.dir == dir) (edges_of rows))
 unfolding entries_where
 entries_of-rows bytes rows dir = ap (λ es. map (λ (e : EntryKey × ℕ). (e.0.name, e.1)) (filter (λ e. e.0.dir == dir) es)) (entries-list bytes rows)
 
 -- the first entry that passes a test is that of the first edge
-pub first_entry-rows : (bytes : ℕ → ℕ → ℕ) (rows : Rows) (test : EntryKey → ℕ → Bool) → first_where test (tree_of bytes rows).entries ≡ first_passing test (edges_of rows)
+pub first_entry-rows : (bytes : ℕ → ℕ → ℕ) (rows : Rows) (test : EntryKey → ℕ → Bool)
+    → first_where test (tree_of bytes rows).entries ≡ first_passing test (edges_of rows)
 unfolding first_where
 first_entry-rows bytes rows test = ap (first_passing test) (entries-list bytes rows)
 
@@ -43,7 +45,8 @@ module _ (bytes : ℕ → ℕ → ℕ) (rows : Rows) (dir : ℕ) where
   abbrev in_dir : EntryKey → ℕ → Bool
   in_dir key named = key.dir == dir
 
-  no_first : (o : Option (EntryKey × ℕ)) → first_where in_dir (tree_of bytes rows).entries ≡ o → is_some o ≡ false → (name : List ℕ) (edge : Edge) → edge_at rows dir name ≡ Some edge → ⊥
+  no_first : (o : Option (EntryKey × ℕ)) → first_where in_dir (tree_of bytes rows).entries ≡ o → is_some o ≡ false → (name : List ℕ) (edge : Edge)
+      → edge_at rows dir name ≡ Some edge → ⊥
   no_first None first e name edge there =
       let named : get (tree_of bytes rows).entries (record { dir = dir; name = name }) ≡ Some edge.inode =
       get-entries bytes rows (record { dir = dir; name = name }) ∙ ap (option_map (λ (x : Edge). x.inode)) there in
@@ -54,11 +57,13 @@ module _ (bytes : ℕ → ℕ → ℕ) (rows : Rows) (dir : ℕ) where
   pub no_entries-rows : has_entries (tree_of bytes rows) dir ≡ false → (name : List ℕ) (edge : Edge) → edge_at rows dir name ≡ Some edge → ⊥
   no_entries-rows none = no_first (first_where in_dir (tree_of bytes rows).entries) refl none
 
-  has_first : (o : Option (EntryKey × ℕ)) → first_where in_dir (tree_of bytes rows).entries ≡ o → ((name : List ℕ) → edge_at rows dir name ≡ None) → is_some o ≡ false
+  has_first : (o : Option (EntryKey × ℕ)) → first_where in_dir (tree_of bytes rows).entries ≡ o → ((name : List ℕ) → edge_at rows dir name ≡ None)
+      → is_some o ≡ false
   has_first None first none = refl
   has_first (Some found) first none =
       let is : IsFound in_dir (tree_of bytes rows).entries found.0 found.1 = first_where-found entry_key in_dir (tree_of bytes rows).entries found first in
-      let here : edge_at rows found.0.dir found.0.name ≡ None = ap (λ d. edge_at rows d found.0.name) (eqb-true found.0.dir dir is.passes) ∙ none found.0.name in
+      let here : edge_at rows found.0.dir found.0.name ≡ None = ap (λ d. edge_at rows d found.0.name) (eqb-true found.0.dir dir is.passes)
+      ∙ none found.0.name in
       let gone : get (tree_of bytes rows).entries found.0 ≡ None = no_entry bytes rows found.0 here in
       (let both : Some found.1 ≡ None = sym is.there ∙ gone in absurd (cc))
 
@@ -106,5 +111,6 @@ attr_of-row t inode row byte has = λ i. record {
 }
 
 -- what is used is what the counters say
-pub usage_of-rows : (t : Tree) (c : Counters) → HasCounters t c → usage_of t ≡ record { used = c.used_space; capacity = t.setting.capacity; inodes = c.used_inodes; limit = t.setting.inodes }
+pub usage_of-rows : (t : Tree) (c : Counters) → HasCounters t c
+    → usage_of t ≡ record { used = c.used_space; capacity = t.setting.capacity; inodes = c.used_inodes; limit = t.setting.inodes }
 usage_of-rows t c has = λ i. record { used = has.space i; capacity = t.setting.capacity; inodes = has.inodes i; limit = t.setting.inodes }

@@ -23,9 +23,11 @@ released-other t sid inode is = ap (λ b. elim b [ true ↦ released_tree t sid 
 
 module _ (t : Tree) (sid inode : ℕ) (is : is_sustained t sid inode ≡ true) where
   still_kept : (j : ℕ) → j ≢ inode → is_sustained (released_tree t sid inode) sid j ≡ is_sustained t sid j
-  still_kept j apart = ap is_some (get-remove_apart pair_key t.sustained (pair sid inode) (pair sid j) (λ same. apart (ap (λ (p : SustainedFile). p.inode) same)))
+  still_kept j apart = ap is_some (get-remove_apart pair_key t.sustained (pair sid inode) (pair sid j)
+      (λ same. apart (ap (λ (p : SustainedFile). p.inode) same)))
 
-  node_alike : (j : ℕ) → get (retain_keys (λ i. not (is_sustained (released_tree t sid inode) sid i)) (remove t.nodes inode)) j ≡ get (retain_keys (λ i. not (is_sustained t sid i)) t.nodes) j
+  node_alike : (j : ℕ) → get (retain_keys (λ i. not (is_sustained (released_tree t sid inode) sid i)) (remove t.nodes inode)) j
+      ≡ get (retain_keys (λ i. not (is_sustained t sid i)) t.nodes) j
   node_alike j =
       get-retain_keys (remove t.nodes inode) (λ i. not (is_sustained (released_tree t sid inode) sid i)) j
       ∙ by_inode (cases_eq j inode)
@@ -35,19 +37,23 @@ module _ (t : Tree) (sid inode : ℕ) (is : is_sustained t sid inode ≡ true) w
       either true x e = e
       either false x e = refl
 
-      by_inode : (j ≡ inode) ⊎ (j ≢ inode) → cond (not (is_sustained (released_tree t sid inode) sid j)) (get (remove t.nodes inode) j) None ≡ cond (not (is_sustained t sid j)) (get t.nodes j) None
+      by_inode : (j ≡ inode) ⊎ (j ≢ inode) → cond (not (is_sustained (released_tree t sid inode) sid j)) (get (remove t.nodes inode) j) None
+          ≡ cond (not (is_sustained t sid j)) (get t.nodes j) None
       by_inode (inl same) =
-          either (not (is_sustained (released_tree t sid inode) sid j)) (get (remove t.nodes inode) j) (ap (get (remove t.nodes inode)) same ∙ get-removed number_key t.nodes inode)
+          either (not (is_sustained (released_tree t sid inode) sid j)) (get (remove t.nodes inode) j) (ap (get (remove t.nodes inode)) same
+          ∙ get-removed number_key t.nodes inode)
           ∙ sym (ap (λ b. cond (not b) (get t.nodes j) None) (ap (is_sustained t sid) same ∙ is))
       by_inode (inr apart) = λ i. cond (not (still_kept j apart i)) (get-remove_apart number_key t.nodes inode j apart i) None
 
-  pair_alike : (p : SustainedFile) → get (retain_keys (λ q. not (q.sid == sid)) (remove t.sustained (pair sid inode))) p ≡ get (retain_keys (λ q. not (q.sid == sid)) t.sustained) p
+  pair_alike : (p : SustainedFile) → get (retain_keys (λ q. not (q.sid == sid)) (remove t.sustained (pair sid inode))) p
+      ≡ get (retain_keys (λ q. not (q.sid == sid)) t.sustained) p
   pair_alike p =
       get-retain_keys (remove t.sustained (pair sid inode)) (λ q. not (q.sid == sid)) p
       ∙ by_pair (same_or_apart pair_key p (pair sid inode))
       ∙ sym (get-retain_keys t.sustained (λ q. not (q.sid == sid)) p)
     where
-      by_pair : (p ≡ pair sid inode) ⊎ (p ≢ pair sid inode) → cond (not (p.sid == sid)) (get (remove t.sustained (pair sid inode)) p) None ≡ cond (not (p.sid == sid)) (get t.sustained p) None
+      by_pair : (p ≡ pair sid inode) ⊎ (p ≢ pair sid inode)
+          → cond (not (p.sid == sid)) (get (remove t.sustained (pair sid inode)) p) None ≡ cond (not (p.sid == sid)) (get t.sustained p) None
       by_pair (inl same) =
           let out : (p.sid == sid) ≡ true = ap (λ (q : SustainedFile). q.sid == sid) same ∙ eq-eqb sid sid refl in
           ap (λ b. cond (not b) (get (remove t.sustained (pair sid inode)) p) None) out ∙ sym (ap (λ b. cond (not b) (get t.sustained p) None) out)
@@ -58,17 +64,22 @@ module _ (t : Tree) (sid inode : ℕ) (is : is_sustained t sid inode ≡ true) w
   without_session-released =
       ap (λ (u : Tree). without_session u sid) (released-kept t sid inode is)
       ∙ (λ i. record t {
-        nodes = same_maps (retain_keys (λ k. not (is_sustained (released_tree t sid inode) sid k)) (remove t.nodes inode)) (retain_keys (λ k. not (is_sustained t sid k)) t.nodes) node_alike i;
+        nodes = same_maps (retain_keys (λ k. not (is_sustained (released_tree t sid inode) sid k)) (remove t.nodes inode))
+            (retain_keys (λ k. not (is_sustained t sid k)) t.nodes) node_alike i;
         sessions = remove t.sessions sid;
-        sustained = same_maps (retain_keys (λ (q : SustainedFile). not (q.sid == sid)) (remove t.sustained (pair sid inode))) (retain_keys (λ (q : SustainedFile). not (q.sid == sid)) t.sustained) pair_alike i;
+        sustained = same_maps (retain_keys (λ (q : SustainedFile). not (q.sid == sid)) (remove t.sustained (pair sid inode)))
+            (retain_keys (λ (q : SustainedFile). not (q.sid == sid)) t.sustained) pair_alike i;
       })
 
 -- a session that keeps no file is only removed
-pub without_session-alone : (t : Tree) (sid : ℕ) → ((inode : ℕ) → is_sustained t sid inode ≡ false) → without_session t sid ≡ record t { sessions = remove t.sessions sid }
+pub without_session-alone : (t : Tree) (sid : ℕ) → ((inode : ℕ) → is_sustained t sid inode ≡ false)
+    → without_session t sid ≡ record t { sessions = remove t.sessions sid }
 without_session-alone t sid none = λ i. record t {
-  nodes = same_maps (retain_keys (λ k. not (is_sustained t sid k)) t.nodes) t.nodes (λ j. get-retain_keys t.nodes (λ k. not (is_sustained t sid k)) j ∙ ap (λ b. cond (not b) (get t.nodes j) None) (none j)) i;
+  nodes = same_maps (retain_keys (λ k. not (is_sustained t sid k)) t.nodes) t.nodes (λ j. get-retain_keys t.nodes (λ k. not (is_sustained t sid k)) j
+      ∙ ap (λ b. cond (not b) (get t.nodes j) None) (none j)) i;
   sessions = remove t.sessions sid;
-  sustained = same_maps (retain_keys (λ (q : SustainedFile). not (q.sid == sid)) t.sustained) t.sustained (λ p. get-retain_keys t.sustained (λ q. not (q.sid == sid)) p ∙ by_sid p (p.sid == sid) refl) i;
+  sustained = same_maps (retain_keys (λ (q : SustainedFile). not (q.sid == sid)) t.sustained) t.sustained
+      (λ p. get-retain_keys t.sustained (λ q. not (q.sid == sid)) p ∙ by_sid p (p.sid == sid) refl) i;
 }
   where
     nothing : (o : Option (Unit {0})) → is_some o ≡ false → o ≡ None

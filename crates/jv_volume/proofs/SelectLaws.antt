@@ -33,7 +33,8 @@ module _ {K X : Type 0} (order : KeyOrder K) (key_of : RowKey → Option K) (val
       ]
 
   -- no row has the key
-  nothing_selected : (k : K) → ((q : RowKey) → key_of q ≡ Some k → ⊥) → (es : List (RowKey × Cell)) → find order.cmp k (entries_selected key_of value_of es) ≡ None
+  nothing_selected : (k : K) → ((q : RowKey) → key_of q ≡ Some k → ⊥) → (es : List (RowKey × Cell))
+      → find order.cmp k (entries_selected key_of value_of es) ≡ None
   nothing_selected k none [] = refl
   nothing_selected k none (e ∷ es) = other_entry k e.0 e.1 _ (key_of e.0) refl (none e.0) ∙ nothing_selected k none es
 
@@ -60,7 +61,8 @@ module _ {K X : Type 0} (order : KeyOrder K) (key_of : RowKey → Option K) (val
         not_itself : eq_by_cmp row_cmp at e.0 ≡ true → eq_by_cmp row_cmp at e.0 ≡ false → ⊥
         not_itself ties not_ties = cc
 
-    found : (es : List (RowKey × Cell)) → T (is_sorted row_cmp es) → find order.cmp k (entries_selected key_of value_of es) ≡ value_in value_of k (find row_cmp at es)
+    found : (es : List (RowKey × Cell)) → T (is_sorted row_cmp es)
+        → find order.cmp k (entries_selected key_of value_of es) ≡ value_in value_of k (find row_cmp at es)
     found [] sorted = refl
     found (e ∷ es) sorted =
         found_at e es (eq_by_cmp row_cmp at e.0) refl (first_of_both _ _ sorted) (found es (second_of_both _ _ sorted))
@@ -104,7 +106,8 @@ module _ {K X : Type 0} (order : KeyOrder K) (key_of : RowKey → Option K) (pla
   get-selected rows k = get-selected_by rows k (place k) refl
 
   -- the value at another key stays
-  kept : (rows : Rows) (q : RowKey) (cell : Option Cell) (k : K) → (key_of q ≡ Some k → ⊥) → (o : Option RowKey) → place k ≡ o → value_at (alter rows q cell) k o ≡ value_at rows k o
+  kept : (rows : Rows) (q : RowKey) (cell : Option Cell) (k : K) → (key_of q ≡ Some k → ⊥) → (o : Option RowKey) → place k ≡ o
+      → value_at (alter rows q cell) k o ≡ value_at rows k o
   kept rows q cell k apart None e = refl
   kept rows q cell k apart (Some r) e =
       ap (λ c. value_of k (row_in c)) (get-alter rows q cell r
@@ -115,12 +118,14 @@ module _ {K X : Type 0} (order : KeyOrder K) (key_of : RowKey → Option K) (pla
   kept_at rows q cell k apart = get-selected (alter rows q cell) k ∙ kept rows q cell k apart (place k) refl ∙ sym (get-selected rows k)
 
   -- a change at a key of another table leaves it
-  pub selected-alter-other : (rows : Rows) (q : RowKey) (cell : Option Cell) → key_of q ≡ None → selected {order = order} key_of value_of (alter rows q cell) ≡ selected key_of value_of rows
+  pub selected-alter-other : (rows : Rows) (q : RowKey) (cell : Option Cell) → key_of q ≡ None
+      → selected {order = order} key_of value_of (alter rows q cell) ≡ selected key_of value_of rows
   selected-alter-other rows q cell other =
       same_maps _ _ (λ k. kept_at rows q cell k (λ is. absurd (cc)))
 
   changed_at : (rows : Rows) (q : RowKey) (cell : Option Cell) (k j : K) → key_of q ≡ Some k → (b : Bool) → eq_by_cmp order.cmp j k ≡ b
-      → get (selected {order = order} key_of value_of (alter rows q cell)) j ≡ cond b (value_of k (row_in cell)) (get (selected {order = order} key_of value_of rows) j)
+      → get (selected {order = order} key_of value_of (alter rows q cell)) j
+      ≡ cond b (value_of k (row_in cell)) (get (selected {order = order} key_of value_of rows) j)
   changed_at rows q cell k j is true e =
       let same : j ≡ k = tied_same order k j e in
       subst (λ i. get (selected {order = order} key_of value_of (alter rows q cell)) i ≡ value_of k (row_in cell)) (sym same)
@@ -138,4 +143,5 @@ module _ {K X : Type 0} (order : KeyOrder K) (key_of : RowKey → Option K) (pla
   pub selected-alter : (rows : Rows) (q : RowKey) (cell : Option Cell) (k : K) → key_of q ≡ Some k
       → selected {order = order} key_of value_of (alter rows q cell) ≡ alter (selected key_of value_of rows) k (value_of k (row_in cell))
   selected-alter rows q cell k is =
-      same_maps _ _ (λ j. changed_at rows q cell k j is (eq_by_cmp order.cmp j k) refl ∙ sym (get-alter (selected {order = order} key_of value_of rows) k (value_of k (row_in cell)) j))
+      same_maps _ _ (λ j. changed_at rows q cell k j is (eq_by_cmp order.cmp j k) refl
+      ∙ sym (get-alter (selected {order = order} key_of value_of rows) k (value_of k (row_in cell)) j))

@@ -34,7 +34,8 @@ both_hold true b e p = p
 both_hold false b e p = absurd (cc)
 
 module _ {K X : Type 0} (order : KeyOrder K) (key_of : RowKey → Option K) (value_of : K → Option Row → Option X) (rises : Rises order key_of) where
-  below_entry : (q : RowKey) (k : K) → key_of q ≡ Some k → (r : RowKey) (cell : Cell) (others : List (K × X)) → row_cmp q r ≡ Less → T (below_all order.cmp k others)
+  below_entry : (q : RowKey) (k : K) → key_of q ≡ Some k → (r : RowKey) (cell : Cell) (others : List (K × X)) → row_cmp q r ≡ Less
+      → T (below_all order.cmp k others)
       → (o : Option K) → key_of r ≡ o → T (below_all order.cmp k (entry_selected value_of o cell others))
   below_entry q k is r cell others less below None e = below
   below_entry q k is r cell others less below (Some j) e =
@@ -43,10 +44,12 @@ module _ {K X : Type 0} (order : KeyOrder K) (key_of : RowKey → Option K) (val
         | Some x ↦ both_hold (is_lt (order.cmp k j)) (below_all order.cmp k others) (is_less (order.cmp k j) (rises q r k j is e less)) below
       ]
 
-  below_selected : (q : RowKey) (k : K) → key_of q ≡ Some k → (es : List (RowKey × Cell)) → T (below_all row_cmp q es) → T (below_all order.cmp k (entries_selected key_of value_of es))
+  below_selected : (q : RowKey) (k : K) → key_of q ≡ Some k → (es : List (RowKey × Cell)) → T (below_all row_cmp q es)
+      → T (below_all order.cmp k (entries_selected key_of value_of es))
   below_selected q k is [] below = tt
   below_selected q k is (e ∷ es) below =
-      below_entry q k is e.0 e.1 (entries_selected key_of value_of es) (less_of (row_cmp q e.0) (first_of_both _ _ below)) (below_selected q k is es (second_of_both _ _ below)) (key_of e.0) refl
+      below_entry q k is e.0 e.1 (entries_selected key_of value_of es) (less_of (row_cmp q e.0) (first_of_both _ _ below))
+      (below_selected q k is es (second_of_both _ _ below)) (key_of e.0) refl
 
   put_first : (k : K) (x : X) (es : List (K × X)) → T (below_all order.cmp k es) → put order.cmp k x es ≡ (k, x) ∷ es
   put_first k x [] below = refl
@@ -56,12 +59,14 @@ module _ {K X : Type 0} (order : KeyOrder K) (key_of : RowKey → Option K) (val
   map_list : List (K × X) → List (K × X)
   map_list es = (map_of {order = order} es).list
 
-  listed_entry : (e : RowKey × Cell) (others : List (K × X)) (o : Option K) → map_list others ≡ others → ((k : K) → o ≡ Some k → T (below_all order.cmp k others))
+  listed_entry : (e : RowKey × Cell) (others : List (K × X)) (o : Option K) → map_list others ≡ others
+      → ((k : K) → o ≡ Some k → T (below_all order.cmp k others))
       → map_list (entry_selected value_of o e.1 others) ≡ entry_selected value_of o e.1 others
   unfolding map_list insert
   listed_entry e others None rest below = rest
   listed_entry e others (Some k) rest below =
-      elim (value_of k (row_in (Some e.1))) as (λ x. map_list (elim x [ None ↦ others | Some x ↦ (k, x) ∷ others ]) ≡ elim x [ None ↦ others | Some x ↦ (k, x) ∷ others ]) [
+      elim (value_of k (row_in (Some e.1))) as (λ x. map_list (elim x [ None ↦ others | Some x ↦ (k, x) ∷ others ])
+      ≡ elim x [ None ↦ others | Some x ↦ (k, x) ∷ others ]) [
         | None ↦ rest
         | Some x ↦ ap (put order.cmp k x) rest ∙ put_first k x others (below k refl)
       ]
@@ -70,7 +75,8 @@ module _ {K X : Type 0} (order : KeyOrder K) (key_of : RowKey → Option K) (val
   unfolding map_list
   listed [] sorted = refl
   listed (e ∷ es) sorted =
-      listed_entry e (entries_selected key_of value_of es) (key_of e.0) (listed es (second_of_both _ _ sorted)) (λ k is. below_selected e.0 k is es (first_of_both _ _ sorted))
+      listed_entry e (entries_selected key_of value_of es) (key_of e.0) (listed es (second_of_both _ _ sorted))
+      (λ k is. below_selected e.0 k is es (first_of_both _ _ sorted))
 
   -- the entries of the map are those of the rows, in the order of rows
   pub selected-list : (rows : Rows) → (selected {order = order} key_of value_of rows).list ≡ entries_selected key_of value_of rows.list
@@ -78,7 +84,8 @@ module _ {K X : Type 0} (order : KeyOrder K) (key_of : RowKey → Option K) (val
   selected-list rows = listed rows.list rows.sorted
 
   -- so the first entry that passes a test is the first row's that does
-  pub first_where-selected : (test : K → X → Bool) (rows : Rows) → first_where test (selected {order = order} key_of value_of rows) ≡ first_passing test (entries_selected key_of value_of rows.list)
+  pub first_where-selected : (test : K → X → Bool) (rows : Rows)
+      → first_where test (selected {order = order} key_of value_of rows) ≡ first_passing test (entries_selected key_of value_of rows.list)
   unfolding first_where
   first_where-selected test rows = ap (first_passing test) (selected-list rows)
 

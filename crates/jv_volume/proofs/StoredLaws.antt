@@ -38,15 +38,18 @@ stored_node links node = Ok (OfNode (node_row links node))
 abbrev pub SeesNoBytes : {A : Type 0} → (Option Node → A) → Type 0
 SeesNoBytes seen = (file dir : Bool) (byte other : ℕ → ℕ) (row : NodeRow) → seen (Some (node_by file dir byte row)) ≡ seen (Some (node_by file dir other row))
 
-seen_alike : {A : Type 0} (seen : Option Node → A) → SeesNoBytes seen → (row : Option NodeRow) (byte other : ℕ → ℕ) → seen (option_map (node_of byte) row) ≡ seen (option_map (node_of other) row)
+seen_alike : {A : Type 0} (seen : Option Node → A) → SeesNoBytes seen → (row : Option NodeRow) (byte other : ℕ → ℕ)
+    → seen (option_map (node_of byte) row) ≡ seen (option_map (node_of other) row)
 seen_alike seen alike None byte other = refl
 seen_alike seen alike (Some row) byte other = alike (row.kind == 1) (row.kind == 2) byte other row
 
 module _ (bytes others : ℕ → ℕ → ℕ) (rows : Rows) where
   -- what is seen without bytes is the same whatever the bytes are
-  pub same_seen : {A : Type 0} (seen : Option Node → A) → SeesNoBytes seen → (inode : ℕ) → seen (node_at (tree_of bytes rows) inode) ≡ seen (node_at (tree_of others rows) inode)
+  pub same_seen : {A : Type 0} (seen : Option Node → A) → SeesNoBytes seen → (inode : ℕ)
+      → seen (node_at (tree_of bytes rows) inode) ≡ seen (node_at (tree_of others rows) inode)
   same_seen seen alike inode =
-      ap seen (node_at-tree_of bytes rows inode) ∙ seen_alike seen alike (node_row_at rows inode) (bytes inode) (others inode) ∙ sym (ap seen (node_at-tree_of others rows inode))
+      ap seen (node_at-tree_of bytes rows inode) ∙ seen_alike seen alike (node_row_at rows inode) (bytes inode) (others inode)
+      ∙ sym (ap seen (node_at-tree_of others rows inode))
 
 parent_seen : SeesNoBytes parent_of
 parent_seen true dir byte other row = refl
@@ -75,7 +78,8 @@ space_seen inode false false byte other row = refl
 
 -- the link count of an inode by the parents of directories
 abbrev links_by : (ℕ → Option ℕ) → Map entry_key ℕ → ℕ → ℕ
-links_by parents entries inode = (if is_some (parents inode) then 2 + sum_over (λ (key : EntryKey) named. if key.dir == inode && is_some (parents named) then 1 else 0) entries
+links_by parents entries inode = (if is_some (parents inode) then 2 + sum_over
+    (λ (key : EntryKey) named. if key.dir == inode && is_some (parents named) then 1 else 0) entries
     else sum_over (λ key named. if named == inode then 1 else 0) entries)
 
 module _ (bytes others : ℕ → ℕ → ℕ) (rows : Rows) where
@@ -114,11 +118,13 @@ module _ (bytes others : ℕ → ℕ → ℕ) (rows : Rows) where
 
   pub same_used_space : used_space (tree_of bytes rows) ≡ used_space (tree_of others rows)
   same_used_space =
-      sum-alike number_key node_space node_space (tree_of bytes rows).nodes (tree_of others rows).nodes (λ k. same_seen bytes others rows (option_map (node_space k)) (space_seen k) k)
+      sum-alike number_key node_space node_space (tree_of bytes rows).nodes (tree_of others rows).nodes
+      (λ k. same_seen bytes others rows (option_map (node_space k)) (space_seen k) k)
 
   pub same_used_inodes : used_inodes (tree_of bytes rows) ≡ used_inodes (tree_of others rows)
   same_used_inodes =
-      sum-alike number_key node_count node_count (tree_of bytes rows).nodes (tree_of others rows).nodes (λ k. same_seen bytes others rows (option_map (node_count k)) (λ file dir byte other row. refl) k)
+      sum-alike number_key node_count node_count (tree_of bytes rows).nodes (tree_of others rows).nodes
+      (λ k. same_seen bytes others rows (option_map (node_count k)) (λ file dir byte other row. refl) k)
 
   pub same_shape : shape_of (tree_of bytes rows) ≡ shape_of (tree_of others rows)
   same_shape = λ i. record {
@@ -135,12 +141,21 @@ module _ (bytes others : ℕ → ℕ → ℕ) (rows : Rows) where
   stored-again s = record {
     slice = s.slice;
     setting = s.setting ∙ ap (λ x. Some (Ok (OfSetting x))) same_setting;
-    counters = s.counters ∙ (λ i. Some (Ok (OfCounters (record { inode = same_next_inode i; slice = s.slice; session = same_next_session i; used_space = same_used_space i; used_inodes = same_used_inodes i }))));
+    counters = s.counters ∙ (λ i. Some (Ok (OfCounters (record {
+      inode = same_next_inode i;
+      slice = s.slice;
+      session = same_next_session i;
+      used_space = same_used_space i;
+      used_inodes = same_used_inodes i;
+    }))));
     node = λ inode. s.node inode ∙ ap (λ links. option_map (λ node. stored_node links node) (node_at (tree_of bytes rows) inode)) (same_link_count inode)
-        ∙ same_seen bytes others rows (option_map (stored_node (link_count (tree_of others rows) inode))) (cell_seen (link_count (tree_of others rows) inode)) inode;
-    edge = λ at. s.edge at ∙ (λ i. option_map (λ inode. Ok (OfEdge (record { kind = same_seen bytes others rows number_of_node number_seen inode i; inode = inode }))) (get (same_entries i) at));
+        ∙ same_seen bytes others rows (option_map (stored_node (link_count (tree_of others rows) inode)))
+        (cell_seen (link_count (tree_of others rows) inode)) inode;
+    edge = λ at. s.edge at ∙ (λ i. option_map (λ inode. Ok (OfEdge
+        (record { kind = same_seen bytes others rows number_of_node number_seen inode i; inode = inode }))) (get (same_entries i) at));
     session = λ sid. s.session sid ∙ ap (λ m. option_map (λ entry. Ok (OfSession (session_row entry))) (get m sid)) same_sessions;
-    sustained = λ sid inode less. s.sustained sid inode less ∙ ap (λ m. option_map (λ unit. Ok OfSustained) (get m (record { sid = sid; inode = inode }))) same_sustained;
+    sustained = λ sid inode less. s.sustained sid inode less
+        ∙ ap (λ m. option_map (λ unit. Ok OfSustained) (get m (record { sid = sid; inode = inode }))) same_sustained;
   }
 
 -- ---- whole rows
@@ -186,7 +201,8 @@ module _ (rows : Rows) (t : Tree) (s : Stored rows t) where
   pub stored_node_row : (inode : ℕ) → node_row_at rows inode ≡ option_map (node_row (link_count t inode)) (node_at t inode)
   stored_node_row inode = ap (λ cell. node_in (row_in cell)) (s.node inode) ∙ read (node_at t inode)
     where
-      read : (node : Option Node) → node_in (row_in (option_map (λ x. Ok (OfNode (node_row (link_count t inode) x))) node)) ≡ option_map (node_row (link_count t inode)) node
+      read : (node : Option Node) → node_in (row_in (option_map (λ x. Ok (OfNode (node_row (link_count t inode) x))) node))
+          ≡ option_map (node_row (link_count t inode)) node
       read None = refl
       read (Some node) = refl
 
@@ -206,7 +222,8 @@ module _ (rows : Rows) (t : Tree) (s : Stored rows t) where
       read (Some entry) = refl
 
   pub stored_sustained : (sid inode : ℕ) → inode < 2 ^ 64 → sustained_at rows sid inode ≡ is_sustained t sid inode
-  stored_sustained sid inode less = ap (λ cell. sustained_in (row_in cell)) (s.sustained sid inode less) ∙ read (get t.sustained (record { sid = sid; inode = inode }))
+  stored_sustained sid inode less = ap (λ cell. sustained_in (row_in cell)) (s.sustained sid inode less)
+      ∙ read (get t.sustained (record { sid = sid; inode = inode }))
     where
       read : (unit : Option (Unit {0})) → sustained_in (row_in (option_map (λ x. Ok OfSustained) unit)) ≡ is_some unit
       read None = refl
@@ -228,8 +245,10 @@ module _ (rows : Rows) (t : Tree) (s : Stored rows t) where
   pub session_stands : (sid : ℕ) → get rows (session_key sid) ≡ option_map of_session (session_at rows sid)
   session_stands sid = s.session sid ∙ then_map session_row of_session (get t.sessions sid) ∙ ap (option_map of_session) (sym (stored_session sid))
 
-  pub sustained_stands : (sid inode : ℕ) → inode < 2 ^ 64 → get rows (sustained_key sid inode) ≡ (if sustained_at rows sid inode then Some (Ok OfSustained) else None)
-  sustained_stands sid inode less = s.sustained sid inode less ∙ kept_is (get t.sustained (record { sid = sid; inode = inode })) ∙ ap kept_cell (sym (stored_sustained sid inode less))
+  pub sustained_stands : (sid inode : ℕ) → inode < 2 ^ 64
+      → get rows (sustained_key sid inode) ≡ (if sustained_at rows sid inode then Some (Ok OfSustained) else None)
+  sustained_stands sid inode less = s.sustained sid inode less ∙ kept_is (get t.sustained (record { sid = sid; inode = inode }))
+      ∙ ap kept_cell (sym (stored_sustained sid inode less))
 
 -- ---- what was read
 
@@ -249,7 +268,8 @@ pub record HasKind (node : Option Node) (row : NodeRow) (byte : ℕ → ℕ) : T
   pub target : target_in node ≡ (if row.kind == 3 then Some row.target else None)
   pub content : content_in node ≡ (if row.kind == 1 then Some (content_of row.length byte) else None)
 
-has_kind : (file dir : Bool) (row : NodeRow) (byte : ℕ → ℕ) → row.kind ≡ kind_number (kind_by file dir byte row) → HasKind (Some (node_by file dir byte row)) row byte
+has_kind : (file dir : Bool) (row : NodeRow) (byte : ℕ → ℕ) → row.kind ≡ kind_number (kind_by file dir byte row)
+    → HasKind (Some (node_by file dir byte row)) row byte
 has_kind true dir row byte e = record {
   low = omega (arith, e);
   high = omega (arith, e);
@@ -316,7 +336,8 @@ module _ (bytes : ℕ → ℕ → ℕ) (rows : Rows) (s : Stored rows (tree_of b
       let t = tree_of bytes rows in
       let node = node_of (bytes inode) row in
       let there : node_at t inode ≡ Some node = node_at-tree_of bytes rows inode ∙ ap (option_map (node_of (bytes inode))) e in
-      let row_is : row ≡ node_row (link_count t inode) node = some_is (sym e ∙ stored_node_row rows t s inode ∙ ap (option_map (node_row (link_count t inode))) there) in
+      let row_is : row ≡ node_row (link_count t inode) node = some_is (sym e ∙ stored_node_row rows t s inode
+      ∙ ap (option_map (node_row (link_count t inode))) there) in
       let kind : HasKind (node_at t inode) row (bytes inode) =
       subst (λ o. HasKind o row (bytes inode)) (sym there) (has_kind (row.kind == 1) (row.kind == 2) row (bytes inode) (ap (λ r. r.kind) row_is)) in
       record {
@@ -342,7 +363,13 @@ module _ (bytes : ℕ → ℕ → ℕ) (rows : Rows) (s : Stored rows (tree_of b
   pub found_counters : (counters : Counters) → counters_at rows ≡ Some counters → HasCounters (tree_of bytes rows) counters
   found_counters counters e =
       let is = some_is (sym (stored_counters rows (tree_of bytes rows) s) ∙ e) in
-      record { next_inode = ap (λ c. c.inode) is; next_session = ap (λ c. c.session) is; space = ap (λ c. c.used_space) is; inodes = ap (λ c. c.used_inodes) is }
+      record {
+        next_inode = ap (λ c. c.inode) is;
+        next_session = ap (λ c. c.session) is;
+        space = ap (λ c. c.used_space) is;
+        inodes = ap
+            (λ c. c.used_inodes) is;
+      }
 
   pub found_setting : (setting : Setting) → setting_at rows ≡ Some setting → (tree_of bytes rows).setting ≡ setting
   found_setting setting e = some_is (sym (stored_setting rows (tree_of bytes rows) s) ∙ e)
@@ -355,7 +382,8 @@ no_node bytes rows inode e = node_at-tree_of bytes rows inode ∙ ap (option_map
 pub no_entry : (bytes : ℕ → ℕ → ℕ) (rows : Rows) (at : EntryKey) → edge_at rows at.dir at.name ≡ None → get (tree_of bytes rows).entries at ≡ None
 no_entry bytes rows at e = get-entries bytes rows at ∙ ap (option_map (λ edge. edge.inode)) e
 
-pub found_session : (bytes : ℕ → ℕ → ℕ) (rows : Rows) (sid : ℕ) (session : Session) → session_at rows sid ≡ Some session → get (tree_of bytes rows).sessions sid ≡ Some (session_of session)
+pub found_session : (bytes : ℕ → ℕ → ℕ) (rows : Rows) (sid : ℕ) (session : Session) → session_at rows sid ≡ Some session
+    → get (tree_of bytes rows).sessions sid ≡ Some (session_of session)
 found_session bytes rows sid session e = get-sessions bytes rows sid ∙ ap (option_map session_of) e
 
 pub no_session : (bytes : ℕ → ℕ → ℕ) (rows : Rows) (sid : ℕ) → session_at rows sid ≡ None → get (tree_of bytes rows).sessions sid ≡ None

@@ -35,14 +35,16 @@ use Rattle.jv_volume.proofs.SumLaws.{space_by_kind, used_space-put_new, used_spa
 -- of an inode's row: it stays with its link count, is another one, or is gone
 pub data NodeGoes (rows after : Rows) (t u : Tree) (bytes : ℕ → ℕ → ℕ) (inode : ℕ) : Type 0 where
   NodeKept : get after (node_key inode) ≡ get rows (node_key inode) → link_count u inode ≡ link_count t inode → NodeGoes rows after t u bytes inode
-  NodePut : (row : NodeRow) → get after (node_key inode) ≡ Some (Ok (OfNode row)) → IsNodeRow (link_count u inode) (bytes inode) row → NodeGoes rows after t u bytes inode
+  NodePut : (row : NodeRow) → get after (node_key inode) ≡ Some (Ok (OfNode row)) → IsNodeRow (link_count u inode) (bytes inode) row
+      → NodeGoes rows after t u bytes inode
   NodeGone : get after (node_key inode) ≡ None → NodeGoes rows after t u bytes inode
 
 -- of an edge: it stays with the kind of its inode, is another one, or is gone
 pub data EdgeGoes (rows after : Rows) (t u : Tree) (at : EntryKey) : Type 0 where
   EdgeKept : get after (edge_key at.dir at.name) ≡ get rows (edge_key at.dir at.name)
       → ((inode : ℕ) → get t.entries at ≡ Some inode → number_of_node (node_at u inode) ≡ number_of_node (node_at t inode)) → EdgeGoes rows after t u at
-  EdgePut : (edge : Edge) → get after (edge_key at.dir at.name) ≡ Some (Ok (OfEdge edge)) → edge.kind ≡ number_of_node (node_at u edge.inode) → EdgeGoes rows after t u at
+  EdgePut : (edge : Edge) → get after (edge_key at.dir at.name) ≡ Some (Ok (OfEdge edge)) → edge.kind ≡ number_of_node (node_at u edge.inode)
+      → EdgeGoes rows after t u at
   EdgeGone : get after (edge_key at.dir at.name) ≡ None → EdgeGoes rows after t u at
 
 -- of a row of another table: it stays, is another one, or is gone
@@ -78,21 +80,31 @@ module _ (bytes : ℕ → ℕ → ℕ) (rows after : Rows) (u : Tree) (slice : �
   number_is : (inode : ℕ) → number_of_node (node_at (tree_of bytes after) inode) ≡ number_of_node (node_at u inode)
   number_is inode = ap (λ (x : Tree). number_of_node (node_at x inode)) g.tree
 
-  node_after : (inode : ℕ) (cell : Cell) → get after (node_key inode) ≡ Some cell → NodeGoes rows after t u bytes inode → IsNodeCell (link_count (tree_of bytes after) inode) (bytes inode) cell
-  node_after inode cell e (NodeKept same links) = subst (λ l. IsNodeCell l (bytes inode) cell) (sym (links_are inode ∙ links)) (old.node inode cell (sym same ∙ e))
-  node_after inode cell e (NodePut row is row_is) = record { row = row; is = cc; row_is = subst (λ l. IsNodeRow l (bytes inode) row) (sym (links_are inode)) row_is }
+  node_after : (inode : ℕ) (cell : Cell) → get after (node_key inode) ≡ Some cell → NodeGoes rows after t u bytes inode
+      → IsNodeCell (link_count (tree_of bytes after) inode) (bytes inode) cell
+  node_after inode cell e (NodeKept same links) = subst (λ l. IsNodeCell l (bytes inode) cell) (sym (links_are inode
+      ∙ links)) (old.node inode cell (sym same ∙ e))
+  node_after inode cell e (NodePut row is row_is) = record {
+    row = row;
+    is = cc;
+    row_is = subst (λ l. IsNodeRow l (bytes inode) row)
+        (sym (links_are inode)) row_is;
+  }
   node_after inode cell e (NodeGone gone) = absurd (cc)
 
-  edge_after : (at : EntryKey) (cell : Cell) → get after (edge_key at.dir at.name) ≡ Some cell → EdgeGoes rows after t u at → IsEdgeCell (tree_of bytes after) cell
+  edge_after : (at : EntryKey) (cell : Cell) → get after (edge_key at.dir at.name) ≡ Some cell → EdgeGoes rows after t u at
+      → IsEdgeCell (tree_of bytes after) cell
   edge_after at cell e (EdgeKept same numbers) =
       let was : get rows (edge_key at.dir at.name) ≡ Some cell = sym same ∙ e in
       let before = old.edge at cell was in
-      let named : get t.entries at ≡ Some before.edge.inode = get-entries bytes rows at ∙ ap (λ o. option_map (λ (edge : Edge). edge.inode) (edge_in (row_in o))) (was ∙ ap (λ x. Some x) before.is) in
+      let named : get t.entries at ≡ Some before.edge.inode = get-entries bytes rows at
+      ∙ ap (λ o. option_map (λ (edge : Edge). edge.inode) (edge_in (row_in o))) (was ∙ ap (λ x. Some x) before.is) in
       record { edge = before.edge; is = before.is; kind = before.kind ∙ sym (number_is before.edge.inode ∙ numbers before.edge.inode named) }
   edge_after at cell e (EdgePut edge is kind) = record { edge = edge; is = cc; kind = kind ∙ sym (number_is edge.inode) }
   edge_after at cell e (EdgeGone gone) = absurd (cc)
 
-  cell_after : (q : RowKey) (Is : Cell → Type 0) (cell : Cell) → get after q ≡ Some cell → (get rows q ≡ Some cell → Is cell) → CellGoes rows after q Is → Is cell
+  cell_after : (q : RowKey) (Is : Cell → Type 0) (cell : Cell) → get after q ≡ Some cell → (get rows q ≡ Some cell → Is cell) → CellGoes rows after q Is
+      → Is cell
   cell_after q Is cell e before (CellKept same) = before (sym same ∙ e)
   cell_after q Is cell e before (CellPut x is has) = subst Is (let same : x ≡ cell = cc in same) has
   cell_after q Is cell e before (CellGone gone) = absurd (cc)
@@ -106,7 +118,8 @@ module _ (bytes : ℕ → ℕ → ℕ) (rows after : Rows) (u : Tree) (slice : �
     node = λ inode cell e. node_after inode cell e (g.node inode);
     edge = λ at cell e. edge_after at cell e (g.edge at);
     session = λ sid cell e. cell_after (session_key sid) IsSessionCell cell e (old.session sid cell) (g.session sid);
-    sustained = λ sid inode less cell e. cell_after (sustained_key sid inode) IsSustainedCell cell e (old.sustained sid inode less cell) (g.sustained sid inode less);
+    sustained = λ sid inode less cell e. cell_after (sustained_key sid inode) IsSustainedCell cell e (old.sustained sid inode less cell)
+        (g.sustained sid inode less);
   })
 
 -- ---- what trees keep
@@ -115,7 +128,8 @@ module _ (bytes : ℕ → ℕ → ℕ) (rows after : Rows) (u : Tree) (slice : �
 pub number-change_node : (t : Tree) (inode : ℕ) (change : Node → Node) → ((node : Node) → number_of_node (Some (change node)) ≡ number_of_node (Some node))
     → (k : ℕ) → number_of_node (node_at (change_node t inode change) k) ≡ number_of_node (node_at t k)
 number-change_node t inode change keeps k = elim (cases_eq k inode) [
-  | inl same ↦ ap number_of_node (ap (node_at (change_node t inode change)) same ∙ change_node-here t inode change) ∙ changed (node_at t inode) ∙ sym (ap number_of_node (ap (node_at t) same))
+  | inl same ↦ ap number_of_node (ap (node_at (change_node t inode change)) same ∙ change_node-here t inode change) ∙ changed (node_at t inode)
+      ∙ sym (ap number_of_node (ap (node_at t) same))
   | inr apart ↦ ap number_of_node (change_node-apart t inode change k apart)
 ]
   where
@@ -127,12 +141,14 @@ number-change_node t inode change keeps k = elim (cases_eq k inode) [
 pub number-put_over : (t : Tree) (inode : ℕ) (was node : Node) → node_at t inode ≡ Some was → number_of_node (Some node) ≡ number_of_node (Some was)
     → (k : ℕ) → number_of_node (node_at (put_node t inode node) k) ≡ number_of_node (node_at t k)
 number-put_over t inode was node there same_number k = elim (cases_eq k inode) [
-  | inl same ↦ ap number_of_node (ap (node_at (put_node t inode node)) same ∙ get-inserted number_key t.nodes inode node) ∙ same_number ∙ sym (ap number_of_node (ap (node_at t) same ∙ there))
+  | inl same ↦ ap number_of_node (ap (node_at (put_node t inode node)) same ∙ get-inserted number_key t.nodes inode node) ∙ same_number
+      ∙ sym (ap number_of_node (ap (node_at t) same ∙ there))
   | inr apart ↦ ap number_of_node (get-insert_apart number_key t.nodes inode node k apart)
 ]
 
 -- trees of the same numbers and entries have the same link counts
-pub links-number : (t u : Tree) → u.entries ≡ t.entries → ((k : ℕ) → number_of_node (node_at u k) ≡ number_of_node (node_at t k)) → (j : ℕ) → link_count u j ≡ link_count t j
+pub links-number : (t u : Tree) → u.entries ≡ t.entries → ((k : ℕ) → number_of_node (node_at u k) ≡ number_of_node (node_at t k)) → (j : ℕ)
+    → link_count u j ≡ link_count t j
 links-number t u entries same j = link_count-agree t u j entries (dir j) (λ at inode e. dir inode)
   where
     dir : (k : ℕ) → is_directory u k ≡ is_directory t k
@@ -171,7 +187,8 @@ pub node_apart : (rows : Rows) (i : ℕ) (cell : Cell) (k : ℕ) → k ≢ i →
 node_apart rows i cell k apart = get-insert_apart row_key rows (node_key i) cell (node_key k) (λ same. apart (ap (λ (q : RowKey). q.a) same))
 
 -- a node's row changed: its kind, its space and the links stay
-pub stored-change_node : (bytes : ℕ → ℕ → ℕ) (rows : Rows) (inode : ℕ) (row new : NodeRow) → Stored rows (tree_of bytes rows) → node_row_at rows inode ≡ Some row
+pub stored-change_node : (bytes : ℕ → ℕ → ℕ) (rows : Rows) (inode : ℕ) (row new : NodeRow) → Stored rows (tree_of bytes rows)
+    → node_row_at rows inode ≡ Some row
     → IsNodeRow row.nlink (bytes inode) new → new.kind ≡ row.kind → kind_space (node_of (bytes inode) new).kind ≡ kind_space (node_of (bytes inode) row).kind
     → Stored (insert rows (node_key inode) (Ok (OfNode new))) (tree_of bytes (insert rows (node_key inode) (Ok (OfNode new))))
 stored-change_node bytes rows inode row new s here new_row same_kind same_space =
@@ -182,7 +199,8 @@ stored-change_node bytes rows inode row new s here new_row same_kind same_space 
     let cell : Cell = Ok (OfNode new) in
     let is : HasNode t inode row (bytes inode) = found_node bytes rows s inode row here in
     let numbers : (k : ℕ) → number_of_node (node_at u k) ≡ number_of_node (node_at t k) =
-    number-put_over t inode (node_of (bytes inode) row) node is.there (row_number row.nlink (bytes inode) new new_row ∙ same_kind ∙ sym (row_number (link_count t inode) (bytes inode) row is.row_is)) in
+    number-put_over t inode (node_of (bytes inode) row) node is.there (row_number row.nlink (bytes inode) new new_row ∙ same_kind
+    ∙ sym (row_number (link_count t inode) (bytes inode) row is.row_is)) in
     let links : (j : ℕ) → link_count u j ≡ link_count t j = links-number t u refl numbers in
     let space_over = used_space-put_over t inode (node_of (bytes inode) row) node is.there in
     let one : node_space inode node ≡ node_space inode (node_of (bytes inode) row) = space_by_kind inode (node_of (bytes inode) row) node same_space in
@@ -192,10 +210,12 @@ stored-change_node bytes rows inode row new s here new_row same_kind same_space 
       tree = tree_of-put_node bytes rows inode new;
       setting = put_kept rows q cell setting_key refl;
       same_setting = refl;
-      counters = put_kept rows q cell counters_key refl ∙ s.counters ∙ (λ i. Some (Ok (OfCounters (record (counters_row t s.slice) { used_space = sym space i; used_inodes = sym inodes i }))));
+      counters = put_kept rows q cell counters_key refl ∙ s.counters
+          ∙ (λ i. Some (Ok (OfCounters (record (counters_row t s.slice) { used_space = sym space i; used_inodes = sym inodes i }))));
       node = λ k. elim (cases_eq k inode) [
         | inl same ↦ NodePut new (ap (λ i. get (insert rows q cell) (node_key i)) same ∙ get-inserted row_key rows q cell)
-            (subst (λ i. IsNodeRow (link_count u i) (bytes i) new) (sym same) (subst (λ l. IsNodeRow l (bytes inode) new) (is.links ∙ sym (links inode)) new_row))
+            (subst (λ i. IsNodeRow (link_count u i) (bytes i) new) (sym same) (subst (λ l. IsNodeRow l (bytes inode) new) (is.links
+            ∙ sym (links inode)) new_row))
         | inr apart ↦ NodeKept (node_apart rows inode cell k apart) (links k)
       ];
       edge = λ at. EdgeKept (put_kept rows q cell (edge_key at.dir at.name) refl) (λ i e. numbers i);
@@ -211,7 +231,8 @@ abbrev pub counters_cell : Counters → Cell
 counters_cell c = Ok (OfCounters c)
 
 -- the counters with another next inode, where the sums stay
-pub stored-put_counters : (bytes : ℕ → ℕ → ℕ) (rows : Rows) (c : Counters) → Stored rows (tree_of bytes rows) → used_space (tree_of bytes rows) ≡ c.used_space → used_inodes (tree_of bytes rows) ≡ c.used_inodes
+pub stored-put_counters : (bytes : ℕ → ℕ → ℕ) (rows : Rows) (c : Counters) → Stored rows (tree_of bytes rows)
+    → used_space (tree_of bytes rows) ≡ c.used_space → used_inodes (tree_of bytes rows) ≡ c.used_inodes
     → Stored (insert rows counters_key (counters_cell c)) (tree_of bytes (insert rows counters_key (counters_cell c)))
 stored-put_counters bytes rows c s space inodes =
     let t = tree_of bytes rows in
@@ -230,8 +251,10 @@ stored-put_counters bytes rows c s space inodes =
 
 -- ---- a node that comes, and one that goes
 
-module _ (bytes : ℕ → ℕ → ℕ) (rows : Rows) (inode : ℕ) (row : NodeRow) (c : Counters) (next : ℕ) (s : Stored rows (tree_of bytes rows)) (counters : counters_at rows ≡ Some c)
-    (free : IsFree (tree_of bytes rows) inode) (new_row : IsNodeRow (if is_dir (form_of (Some (node_of (bytes inode) row))) then 2 else 0) (bytes inode) row) where
+module _ (bytes : ℕ → ℕ → ℕ) (rows : Rows) (inode : ℕ) (row : NodeRow) (c : Counters) (next : ℕ) (s : Stored rows (tree_of bytes rows))
+    (counters : counters_at rows ≡ Some c)
+    (free : IsFree (tree_of bytes rows) inode) (new_row : IsNodeRow (if is_dir (form_of (Some (node_of (bytes inode) row))) then 2 else 0)
+    (bytes inode) row) where
   abbrev new : Node
   new = node_of (bytes inode) row
 
@@ -276,11 +299,14 @@ module _ (bytes : ℕ → ℕ → ℕ) (rows : Rows) (inode : ℕ) (row : NodeRo
     tree = tree_of-new_node;
     setting = both_kept setting_key refl refl;
     same_setting = refl;
-    counters = get-inserted row_key (insert rows (node_key inode) node_cell) counters_key (counters_cell counters_with_node) ∙ ap (λ x. Some (Ok (OfCounters x))) (counters_as tree_with_node counters_with_node counts);
+    counters = get-inserted row_key (insert rows (node_key inode) node_cell) counters_key (counters_cell counters_with_node)
+        ∙ ap (λ x. Some (Ok (OfCounters x))) (counters_as tree_with_node counters_with_node counts);
     node = λ k. elim (cases_eq k inode) [
       | inl same ↦ NodePut row (last_kept (node_key k) refl ∙ node_here rows inode node_cell k same)
-          (subst (λ i. IsNodeRow (link_count tree_with_node i) (bytes i) row) (sym same) (subst (λ l. IsNodeRow l (bytes inode) row) (sym (link_count-put_alone (tree_of bytes rows) inode new free)) new_row))
-      | inr apart ↦ NodeKept (last_kept (node_key k) refl ∙ node_apart rows inode node_cell k apart) (link_count-put_unnamed (tree_of bytes rows) inode new k free.unnamed apart)
+          (subst (λ i. IsNodeRow (link_count tree_with_node i) (bytes i) row) (sym same)
+          (subst (λ l. IsNodeRow l (bytes inode) row) (sym (link_count-put_alone (tree_of bytes rows) inode new free)) new_row))
+      | inr apart ↦ NodeKept (last_kept (node_key k) refl
+          ∙ node_apart rows inode node_cell k apart) (link_count-put_unnamed (tree_of bytes rows) inode new k free.unnamed apart)
     ];
     edge = λ at. EdgeKept (both_kept (edge_key at.dir at.name) refl refl)
         (λ i e. ap number_of_node (get-insert_apart number_key (tree_of bytes rows).nodes inode new i (λ same. free.unnamed at (e ∙ ap (λ j. Some j) same))));
@@ -288,7 +314,8 @@ module _ (bytes : ℕ → ℕ → ℕ) (rows : Rows) (inode : ℕ) (row : NodeRo
     sustained = λ sid i less. CellKept (both_kept (sustained_key sid i) refl refl);
   })
 
-module _ (bytes : ℕ → ℕ → ℕ) (rows : Rows) (inode : ℕ) (row : NodeRow) (c : Counters) (s : Stored rows (tree_of bytes rows)) (counters : counters_at rows ≡ Some c)
+module _ (bytes : ℕ → ℕ → ℕ) (rows : Rows) (inode : ℕ) (row : NodeRow) (c : Counters) (s : Stored rows (tree_of bytes rows))
+    (counters : counters_at rows ≡ Some c)
     (here : node_row_at rows inode ≡ Some row) (unnamed : (at : EntryKey) → get (tree_of bytes rows).entries at ≢ Some inode) where
   abbrev gone : Node
   gone = node_of (bytes inode) row
@@ -332,10 +359,13 @@ module _ (bytes : ℕ → ℕ → ℕ) (rows : Rows) (inode : ℕ) (row : NodeRo
     tree = tree_of-old_node;
     setting = other_kept setting_key refl refl;
     same_setting = refl;
-    counters = get-inserted row_key (remove rows (node_key inode)) counters_key (counters_cell counters_without_node) ∙ ap (λ x. Some (Ok (OfCounters x))) (counters_as tree_without_node counters_without_node counts_without_node);
+    counters = get-inserted row_key (remove rows (node_key inode)) counters_key (counters_cell counters_without_node)
+        ∙ ap (λ x. Some (Ok (OfCounters x))) (counters_as tree_without_node counters_without_node counts_without_node);
     node = λ k. elim (cases_eq k inode) [
-      | inl same ↦ NodeGone (put_last (node_key k) refl ∙ ap (λ i. get (remove rows (node_key inode)) (node_key i)) same ∙ get-removed row_key rows (node_key inode))
-      | inr apart ↦ NodeKept (put_last (node_key k) refl ∙ get-remove_apart row_key rows (node_key inode) (node_key k) (λ same. apart (ap (λ (q : RowKey). q.a) same)))
+      | inl same ↦ NodeGone (put_last (node_key k) refl ∙ ap (λ i. get (remove rows (node_key inode)) (node_key i)) same
+          ∙ get-removed row_key rows (node_key inode))
+      | inr apart ↦ NodeKept (put_last (node_key k) refl ∙ get-remove_apart row_key rows (node_key inode) (node_key k)
+          (λ same. apart (ap (λ (q : RowKey). q.a) same)))
           (link_count-drop_unnamed (tree_of bytes rows) inode k unnamed apart)
     ];
     edge = λ at. EdgeKept (other_kept (edge_key at.dir at.name) refl refl)
@@ -346,7 +376,8 @@ module _ (bytes : ℕ → ℕ → ℕ) (rows : Rows) (inode : ℕ) (row : NodeRo
 
 -- ---- a node that takes another space, as a file of another length
 
-module _ (bytes : ℕ → ℕ → ℕ) (rows : Rows) (inode : ℕ) (row new_row : NodeRow) (c : Counters) (space : ℕ) (s : Stored rows (tree_of bytes rows)) (counters : counters_at rows ≡ Some c)
+module _ (bytes : ℕ → ℕ → ℕ) (rows : Rows) (inode : ℕ) (row new_row : NodeRow) (c : Counters) (space : ℕ) (s : Stored rows (tree_of bytes rows))
+    (counters : counters_at rows ≡ Some c)
     (here : node_row_at rows inode ≡ Some row) (is_row : IsNodeRow row.nlink (bytes inode) new_row) (same_kind : new_row.kind ≡ row.kind)
     (space_is : space + node_space inode (node_of (bytes inode) row) ≡ c.used_space + node_space inode (node_of (bytes inode) new_row)) where
   abbrev then_node : Node
@@ -406,7 +437,8 @@ module _ (bytes : ℕ → ℕ → ℕ) (rows : Rows) (inode : ℕ) (row new_row 
         ∙ ap (λ x. Some (Ok (OfCounters x))) (counters_as tree_then (record c { used_space = space }) counts_then);
     node = λ k. elim (cases_eq k inode) [
       | inl same ↦ NodePut new_row (then_last (node_key k) refl ∙ node_here rows inode then_cell k same)
-          (subst (λ i. IsNodeRow (link_count tree_then i) (bytes i) new_row) (sym same) (subst (λ l. IsNodeRow l (bytes inode) new_row) (row_is.links ∙ sym (links_then inode)) is_row))
+          (subst (λ i. IsNodeRow (link_count tree_then i) (bytes i) new_row) (sym same) (subst (λ l. IsNodeRow l (bytes inode) new_row) (row_is.links
+          ∙ sym (links_then inode)) is_row))
       | inr apart ↦ NodeKept (then_last (node_key k) refl ∙ node_apart rows inode then_cell k apart) (links_then k)
     ];
     edge = λ at. EdgeKept (then_kept (edge_key at.dir at.name) refl refl) (λ i e. numbers_then i);

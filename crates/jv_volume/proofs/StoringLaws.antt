@@ -47,23 +47,28 @@ module _ (bytes : ℕ → ℕ → ℕ) (rows : Rows) where
   abbrev of_rows : Tree
   of_rows = tree_of bytes rows
 
-  node_here : (inode : ℕ) (o : Option Cell) → get rows (node_key inode) ≡ o → ((cell : Cell) → o ≡ Some cell → IsNodeCell (link_count of_rows inode) (bytes inode) cell)
+  node_here : (inode : ℕ) (o : Option Cell) → get rows (node_key inode) ≡ o
+      → ((cell : Cell) → o ≡ Some cell → IsNodeCell (link_count of_rows inode) (bytes inode) cell)
       → o ≡ option_map (λ node. Ok (OfNode (node_row (link_count of_rows inode) node))) (option_map (node_of (bytes inode)) (node_in (row_in o)))
   node_here inode None e h = refl
   node_here inode (Some cell) e h =
       let c = h cell refl in
-      let goes : Some (Ok (OfNode c.row)) ≡ option_map (λ node. Ok (OfNode (node_row (link_count of_rows inode) node))) (option_map (node_of (bytes inode)) (node_in (row_in (Some (Ok (OfNode c.row)))))) =
+      let goes : Some (Ok (OfNode c.row)) ≡ option_map (λ node. Ok (OfNode (node_row (link_count of_rows inode) node)))
+      (option_map (node_of (bytes inode)) (node_in (row_in (Some (Ok (OfNode c.row)))))) =
       ap (λ row. Some (Ok (OfNode row))) c.row_is in
-      subst (λ x. Some x ≡ option_map (λ node. Ok (OfNode (node_row (link_count of_rows inode) node))) (option_map (node_of (bytes inode)) (node_in (row_in (Some x))))) (sym c.is) goes
+      subst (λ x. Some x ≡ option_map (λ node. Ok (OfNode (node_row (link_count of_rows inode) node)))
+      (option_map (node_of (bytes inode)) (node_in (row_in (Some x))))) (sym c.is) goes
 
   edge_here : (o : Option Cell) → ((cell : Cell) → o ≡ Some cell → IsEdgeCell of_rows cell)
       → o ≡ option_map (λ inode. Ok (OfEdge (edge_row of_rows inode))) (option_map (λ edge. edge.inode) (edge_in (row_in o)))
   edge_here None h = refl
   edge_here (Some cell) h =
       let c = h cell refl in
-      let goes : Some (Ok (OfEdge c.edge)) ≡ option_map (λ inode. Ok (OfEdge (edge_row of_rows inode))) (option_map (λ edge. edge.inode) (edge_in (row_in (Some (Ok (OfEdge c.edge)))))) =
+      let goes : Some (Ok (OfEdge c.edge)) ≡ option_map (λ inode. Ok (OfEdge (edge_row of_rows inode)))
+      (option_map (λ edge. edge.inode) (edge_in (row_in (Some (Ok (OfEdge c.edge)))))) =
       ap (λ kind. Some (Ok (OfEdge (record { kind = kind; inode = c.edge.inode })))) c.kind in
-      subst (λ x. Some x ≡ option_map (λ inode. Ok (OfEdge (edge_row of_rows inode))) (option_map (λ edge. edge.inode) (edge_in (row_in (Some x))))) (sym c.is) goes
+      subst (λ x. Some x ≡ option_map (λ inode. Ok (OfEdge (edge_row of_rows inode))) (option_map (λ edge. edge.inode) (edge_in (row_in (Some x)))))
+      (sym c.is) goes
 
   session_here : (o : Option Cell) → ((cell : Cell) → o ≡ Some cell → IsSessionCell cell)
       → o ≡ option_map (λ entry. Ok (OfSession (session_row entry))) (option_map session_of (session_in (row_in o)))
@@ -85,9 +90,12 @@ module _ (bytes : ℕ → ℕ → ℕ) (rows : Rows) where
     counters = s.counters;
     node = λ inode. node_here inode (get rows (node_key inode)) refl (s.node inode)
         ∙ ap (option_map (λ node. Ok (OfNode (node_row (link_count of_rows inode) node)))) (sym (node_at-tree_of bytes rows inode));
-    edge = λ at. edge_here (get rows (edge_key at.dir at.name)) (s.edge at) ∙ ap (option_map (λ inode. Ok (OfEdge (edge_row of_rows inode)))) (sym (get-entries bytes rows at));
-    session = λ sid. session_here (get rows (session_key sid)) (s.session sid) ∙ ap (option_map (λ entry. Ok (OfSession (session_row entry)))) (sym (get-sessions bytes rows sid));
-    sustained = λ sid inode less. sustained_here (get rows (sustained_key sid inode)) (s.sustained sid inode less) ∙ ap (option_map (λ unit. Ok OfSustained)) (sym (get-sustained bytes rows sid inode less));
+    edge = λ at. edge_here (get rows (edge_key at.dir at.name)) (s.edge at)
+        ∙ ap (option_map (λ inode. Ok (OfEdge (edge_row of_rows inode)))) (sym (get-entries bytes rows at));
+    session = λ sid. session_here (get rows (session_key sid)) (s.session sid)
+        ∙ ap (option_map (λ entry. Ok (OfSession (session_row entry)))) (sym (get-sessions bytes rows sid));
+    sustained = λ sid inode less. sustained_here (get rows (sustained_key sid inode)) (s.sustained sid inode less)
+        ∙ ap (option_map (λ unit. Ok OfSustained)) (sym (get-sustained bytes rows sid inode less));
   }
 
   -- and rows of the tree are such rows
@@ -102,7 +110,8 @@ module _ (bytes : ℕ → ℕ → ℕ) (rows : Rows) where
     sustained = λ sid inode less cell e. sustained_cell cell (sustained_at rows sid inode) (sym e ∙ sustained_stands rows of_rows s sid inode less);
   }
     where
-      node_cell : (inode : ℕ) (cell : Cell) (o : Option NodeRow) → node_row_at rows inode ≡ o → Some cell ≡ option_map of_node o → IsNodeCell (link_count of_rows inode) (bytes inode) cell
+      node_cell : (inode : ℕ) (cell : Cell) (o : Option NodeRow) → node_row_at rows inode ≡ o → Some cell ≡ option_map of_node o
+          → IsNodeCell (link_count of_rows inode) (bytes inode) cell
       node_cell inode cell None e h = absurd (cc)
       node_cell inode cell (Some row) e h = record { row = row; is = cc; row_is = (found_node bytes rows s inode row e).row_is }
 

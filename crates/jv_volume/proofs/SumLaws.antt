@@ -32,7 +32,8 @@ module _ (f : ℕ → Node → ℕ) (by_space : BySpace f) where
   abbrev sum_of : Tree → ℕ
   sum_of t = sum_over f t.nodes
 
-  change_at : (t : Tree) (inode : ℕ) (change : Node → Node) (o : Option Node) → node_at t inode ≡ o → ((node : Node) → kind_space (change node).kind ≡ kind_space node.kind)
+  change_at : (t : Tree) (inode : ℕ) (change : Node → Node) (o : Option Node) → node_at t inode ≡ o
+      → ((node : Node) → kind_space (change node).kind ≡ kind_space node.kind)
       → sum_of (set_node t inode (option_map change o)) ≡ sum_of t
   change_at t inode change None e same = refl
   change_at t inode change (Some node) e same =
@@ -40,7 +41,8 @@ module _ (f : ℕ → Node → ℕ) (by_space : BySpace f) where
       let one = by_space inode node (change node) (same node) in
       omega (arith, all, one)
 
-  pub sum-change_node : (t : Tree) (inode : ℕ) (change : Node → Node) → ((node : Node) → kind_space (change node).kind ≡ kind_space node.kind) → sum_of (change_node t inode change) ≡ sum_of t
+  pub sum-change_node : (t : Tree) (inode : ℕ) (change : Node → Node) → ((node : Node) → kind_space (change node).kind ≡ kind_space node.kind)
+      → sum_of (change_node t inode change) ≡ sum_of t
   sum-change_node t inode change same = change_at t inode change (node_at t inode) refl same
 
   pub sum-touch : (t : Tree) (now dir : ℕ) → sum_of (touch t now dir) ≡ sum_of t
@@ -52,17 +54,20 @@ module _ (f : ℕ → Node → ℕ) (by_space : BySpace f) where
   pub sum-take_entry : (t : Tree) (now : ℕ) (place : EntryKey) → sum_of (take_entry t now place) ≡ sum_of t
   sum-take_entry t now place = sum-touch t now place.dir
 
-  pub sum-with_node : (t : Tree) (now : ℕ) (place : EntryKey) (inode : ℕ) (node : Node) → node_at t inode ≡ None → sum_of (with_node t now place inode node) ≡ sum_of t + f inode node
+  pub sum-with_node : (t : Tree) (now : ℕ) (place : EntryKey) (inode : ℕ) (node : Node) → node_at t inode ≡ None
+      → sum_of (with_node t now place inode node) ≡ sum_of t + f inode node
   sum-with_node t now place inode node free = sum-touch (put_node t inode node) now place.dir ∙ sum-new number_key f t.nodes inode node free
 
-  pub sum-with_next : (t : Tree) (now : ℕ) (place : EntryKey) (node : Node) → node_at t t.next_inode ≡ None → sum_of (with_next t now place node) ≡ sum_of t + f t.next_inode node
+  pub sum-with_next : (t : Tree) (now : ℕ) (place : EntryKey) (node : Node) → node_at t t.next_inode ≡ None
+      → sum_of (with_next t now place node) ≡ sum_of t + f t.next_inode node
   sum-with_next t now place node free = sum-with_node t now place t.next_inode node free
 
   pub sum-drop_node : (t : Tree) (inode : ℕ) (node : Node) → node_at t inode ≡ Some node → sum_of (drop_node t inode) + f inode node ≡ sum_of t
   sum-drop_node t inode node there = sum-gone number_key f t.nodes inode node there
 
   pub sum-move_in : (t : Tree) (now : ℕ) (place : EntryKey) (inode : ℕ) → sum_of (move_in t now place inode) ≡ sum_of t
-  sum-move_in t now place inode = sum-change_node (put_entry t now place inode) inode (moved_node now place.dir) (λ node. same_space_under place.dir node.kind) ∙ sum-put_entry t now place inode
+  sum-move_in t now place inode = sum-change_node (put_entry t now place inode) inode (moved_node now place.dir)
+      (λ node. same_space_under place.dir node.kind) ∙ sum-put_entry t now place inode
 
   pub sum-moved : (t : Tree) (now : ℕ) (from : EntryKey) (inode : ℕ) (to : EntryKey) → sum_of (moved t now from inode to) ≡ sum_of t
   sum-moved t now from inode to = sum-move_in (take_entry t now from) now to inode ∙ sum-take_entry t now from
@@ -76,13 +81,16 @@ node_at-touch t now dir inode node there apart = change_node-apart t dir (touche
 
 -- ---- used space
 
-pub used_space-put_new : (t : Tree) (inode : ℕ) (node : Node) → node_at t inode ≡ None → used_space (put_node t inode node) ≡ used_space t + node_space inode node
+pub used_space-put_new : (t : Tree) (inode : ℕ) (node : Node) → node_at t inode ≡ None
+    → used_space (put_node t inode node) ≡ used_space t + node_space inode node
 used_space-put_new t inode node free = sum-new number_key node_space t.nodes inode node free
 
-pub used_space-put_over : (t : Tree) (inode : ℕ) (old node : Node) → node_at t inode ≡ Some old → used_space (put_node t inode node) + node_space inode old ≡ used_space t + node_space inode node
+pub used_space-put_over : (t : Tree) (inode : ℕ) (old node : Node) → node_at t inode ≡ Some old
+    → used_space (put_node t inode node) + node_space inode old ≡ used_space t + node_space inode node
 used_space-put_over t inode old node there = sum-over number_key node_space t.nodes inode old node there
 
-pub used_space-change_node : (t : Tree) (inode : ℕ) (change : Node → Node) → ((node : Node) → kind_space (change node).kind ≡ kind_space node.kind) → used_space (change_node t inode change) ≡ used_space t
+pub used_space-change_node : (t : Tree) (inode : ℕ) (change : Node → Node) → ((node : Node) → kind_space (change node).kind ≡ kind_space node.kind)
+    → used_space (change_node t inode change) ≡ used_space t
 used_space-change_node = sum-change_node node_space space_by_kind
 
 pub used_space-put_entry : (t : Tree) (now : ℕ) (place : EntryKey) (inode : ℕ) → used_space (put_entry t now place inode) ≡ used_space t
@@ -91,24 +99,29 @@ used_space-put_entry = sum-put_entry node_space space_by_kind
 pub used_space-take_entry : (t : Tree) (now : ℕ) (place : EntryKey) → used_space (take_entry t now place) ≡ used_space t
 used_space-take_entry = sum-take_entry node_space space_by_kind
 
-pub used_space-with_node : (t : Tree) (now : ℕ) (place : EntryKey) (inode : ℕ) (node : Node) → node_at t inode ≡ None → used_space (with_node t now place inode node) ≡ used_space t + node_space inode node
+pub used_space-with_node : (t : Tree) (now : ℕ) (place : EntryKey) (inode : ℕ) (node : Node) → node_at t inode ≡ None
+    → used_space (with_node t now place inode node) ≡ used_space t + node_space inode node
 used_space-with_node = sum-with_node node_space space_by_kind
 
-pub used_space-with_next : (t : Tree) (now : ℕ) (place : EntryKey) (node : Node) → node_at t t.next_inode ≡ None → used_space (with_next t now place node) ≡ used_space t + node_space t.next_inode node
+pub used_space-with_next : (t : Tree) (now : ℕ) (place : EntryKey) (node : Node) → node_at t t.next_inode ≡ None
+    → used_space (with_next t now place node) ≡ used_space t + node_space t.next_inode node
 used_space-with_next = sum-with_next node_space space_by_kind
 
-pub used_space-drop_node : (t : Tree) (inode : ℕ) (node : Node) → node_at t inode ≡ Some node → used_space (drop_node t inode) + node_space inode node ≡ used_space t
+pub used_space-drop_node : (t : Tree) (inode : ℕ) (node : Node) → node_at t inode ≡ Some node
+    → used_space (drop_node t inode) + node_space inode node ≡ used_space t
 used_space-drop_node = sum-drop_node node_space space_by_kind
 
 pub used_space-moved : (t : Tree) (now : ℕ) (from : EntryKey) (inode : ℕ) (to : EntryKey) → used_space (moved t now from inode to) ≡ used_space t
 used_space-moved = sum-moved node_space space_by_kind
 
-pub used_space-exchanged : (t : Tree) (now : ℕ) (from : EntryKey) (source : ℕ) (to : EntryKey) (other : ℕ) → used_space (exchanged t now from source to other) ≡ used_space t
+pub used_space-exchanged : (t : Tree) (now : ℕ) (from : EntryKey) (source : ℕ) (to : EntryKey) (other : ℕ)
+    → used_space (exchanged t now from source to other) ≡ used_space t
 used_space-exchanged = sum-exchanged node_space space_by_kind
 
 -- a file with other bytes
 pub used_space-with_content : (t : Tree) (now inode : ℕ) (node : Node) (content : Content) → node_at t inode ≡ Some node
-    → used_space (with_content t now inode content) + node_space inode node ≡ used_space t + node_space inode (record (touched now node) { kind = File content })
+    → used_space (with_content t now inode content) + node_space inode node
+    ≡ used_space t + node_space inode (record (touched now node) { kind = File content })
 used_space-with_content t now inode node content there =
     ap (λ o. used_space (set_node t inode (option_map (λ (n : Node). record (touched now n) { kind = File content }) o)) + node_space inode node) there
     ∙ used_space-put_over t inode node (record (touched now node) { kind = File content }) there
@@ -121,7 +134,8 @@ used_space-removed t now place inode node there apart =
 
 -- ---- used inodes
 
-pub used_inodes-put_new : (t : Tree) (inode : ℕ) (node : Node) → node_at t inode ≡ None → used_inodes (put_node t inode node) ≡ used_inodes t + node_count inode node
+pub used_inodes-put_new : (t : Tree) (inode : ℕ) (node : Node) → node_at t inode ≡ None
+    → used_inodes (put_node t inode node) ≡ used_inodes t + node_count inode node
 used_inodes-put_new t inode node free = sum-new number_key node_count t.nodes inode node free
 
 pub used_inodes-put_over : (t : Tree) (inode : ℕ) (old node : Node) → node_at t inode ≡ Some old → used_inodes (put_node t inode node) ≡ used_inodes t
@@ -142,19 +156,23 @@ used_inodes-put_entry = sum-put_entry node_count count_by_kind
 pub used_inodes-take_entry : (t : Tree) (now : ℕ) (place : EntryKey) → used_inodes (take_entry t now place) ≡ used_inodes t
 used_inodes-take_entry = sum-take_entry node_count count_by_kind
 
-pub used_inodes-with_node : (t : Tree) (now : ℕ) (place : EntryKey) (inode : ℕ) (node : Node) → node_at t inode ≡ None → used_inodes (with_node t now place inode node) ≡ used_inodes t + node_count inode node
+pub used_inodes-with_node : (t : Tree) (now : ℕ) (place : EntryKey) (inode : ℕ) (node : Node) → node_at t inode ≡ None
+    → used_inodes (with_node t now place inode node) ≡ used_inodes t + node_count inode node
 used_inodes-with_node = sum-with_node node_count count_by_kind
 
-pub used_inodes-with_next : (t : Tree) (now : ℕ) (place : EntryKey) (node : Node) → node_at t t.next_inode ≡ None → used_inodes (with_next t now place node) ≡ used_inodes t + node_count t.next_inode node
+pub used_inodes-with_next : (t : Tree) (now : ℕ) (place : EntryKey) (node : Node) → node_at t t.next_inode ≡ None
+    → used_inodes (with_next t now place node) ≡ used_inodes t + node_count t.next_inode node
 used_inodes-with_next = sum-with_next node_count count_by_kind
 
-pub used_inodes-drop_node : (t : Tree) (inode : ℕ) (node : Node) → node_at t inode ≡ Some node → used_inodes (drop_node t inode) + node_count inode node ≡ used_inodes t
+pub used_inodes-drop_node : (t : Tree) (inode : ℕ) (node : Node) → node_at t inode ≡ Some node
+    → used_inodes (drop_node t inode) + node_count inode node ≡ used_inodes t
 used_inodes-drop_node = sum-drop_node node_count count_by_kind
 
 pub used_inodes-moved : (t : Tree) (now : ℕ) (from : EntryKey) (inode : ℕ) (to : EntryKey) → used_inodes (moved t now from inode to) ≡ used_inodes t
 used_inodes-moved = sum-moved node_count count_by_kind
 
-pub used_inodes-exchanged : (t : Tree) (now : ℕ) (from : EntryKey) (source : ℕ) (to : EntryKey) (other : ℕ) → used_inodes (exchanged t now from source to other) ≡ used_inodes t
+pub used_inodes-exchanged : (t : Tree) (now : ℕ) (from : EntryKey) (source : ℕ) (to : EntryKey) (other : ℕ)
+    → used_inodes (exchanged t now from source to other) ≡ used_inodes t
 used_inodes-exchanged = sum-exchanged node_count count_by_kind
 
 pub used_inodes-with_content : (t : Tree) (now inode : ℕ) (content : Content) → used_inodes (with_content t now inode content) ≡ used_inodes t

@@ -65,7 +65,8 @@ entry_table = record {
 
 -- ---- the table of sustained files, whose keys have inodes of 64 bits
 
-below_64 : (bytes : List ℕ) → get_or bytes 0 0 < 256 → get_or bytes 1 0 < 256 → get_or bytes 2 0 < 256 → get_or bytes 3 0 < 256 → get_or bytes 4 0 < 256 → get_or bytes 5 0 < 256
+below_64 : (bytes : List ℕ) → get_or bytes 0 0 < 256 → get_or bytes 1 0 < 256 → get_or bytes 2 0 < 256 → get_or bytes 3 0 < 256 → get_or bytes 4 0 < 256
+    → get_or bytes 5 0 < 256
     → get_or bytes 6 0 < 256 → get_or bytes 7 0 < 256 → from_be_bytes w64 bytes < 2 ^ 64
 below_64 bytes a b c d e f g h = omega (arith, a, b, c, d, e, f, g, h)
 
@@ -77,7 +78,8 @@ abbrev pub pair_place : SustainedFile → Option RowKey
 pair_place pair = (if nat_lt pair.inode (2 ^ 64) then Some (sustained_key pair.sid pair.inode) else None)
 
 -- over any spelling of numbers
-module _ (spelled : ℕ → List ℕ) (read : List ℕ → ℕ) (limit : ℕ) (below : (n : ℕ) → read (spelled n) < limit) (again : (n : ℕ) → n < limit → read (spelled n) ≡ n) where
+module _ (spelled : ℕ → List ℕ) (read : List ℕ → ℕ) (limit : ℕ) (below : (n : ℕ) → read (spelled n) < limit) (again : (n : ℕ) → n < limit
+    → read (spelled n) ≡ n) where
   abbrev pair_by : RowKey → Option SustainedFile
   pair_by key = (if key.tab == 7 && is_text (spelled (read key.b)) key.b then Some (record { sid = key.a; inode = read key.b }) else None)
 
@@ -100,7 +102,8 @@ module _ (spelled : ℕ → List ℕ) (read : List ℕ → ℕ) (limit : ℕ) (b
   pair_here : (sid inode : ℕ) → inode < limit → pair_by (key_by sid inode) ≡ Some (record { sid = sid; inode = inode })
   pair_here sid inode less =
       let same : read (spelled inode) ≡ inode = again inode less in
-      ap (λ b. cond b (Some (record { sid = sid; inode = read (spelled inode) })) None) ((bytes_decides (spelled (read (spelled inode))) (spelled inode)).1 (ap spelled same))
+      ap (λ b. cond b (Some (record { sid = sid; inode = read (spelled inode) })) None)
+      ((bytes_decides (spelled (read (spelled inode))) (spelled inode)).1 (ap spelled same))
       ∙ ap (λ n. Some (record { sid = sid; inode = n })) same
 
   pair_back : (q : RowKey) (pair : SustainedFile) → place_by pair ≡ Some q → pair_by q ≡ Some pair

@@ -32,13 +32,17 @@ cell_goes rows q (Some x) Is h = CellPut x (get-alter-here row_key rows q (Some 
 
 -- ---- a session
 
-session_goes : (rows : Rows) (sid : ℕ) (cell : Option Cell) → ((x : Cell) → cell ≡ Some x → IsSessionCell x) → (k : ℕ) → CellGoes rows (alter rows (session_key sid) cell) (session_key k) IsSessionCell
+session_goes : (rows : Rows) (sid : ℕ) (cell : Option Cell) → ((x : Cell) → cell ≡ Some x → IsSessionCell x) → (k : ℕ)
+    → CellGoes rows (alter rows (session_key sid) cell) (session_key k) IsSessionCell
 session_goes rows sid cell h k = elim (cases_eq k sid) [
-  | inl same ↦ subst (λ i. CellGoes rows (alter rows (session_key sid) cell) (session_key i) IsSessionCell) (sym same) (cell_goes rows (session_key sid) cell IsSessionCell h)
-  | inr apart ↦ CellKept (alter_kept rows (session_key sid) cell (session_key k) (tied_apart row_key (session_key sid) (session_key k) (λ same. apart (ap (λ (q : RowKey). q.a) same))))
+  | inl same ↦ subst (λ i. CellGoes rows (alter rows (session_key sid) cell) (session_key i) IsSessionCell) (sym same)
+      (cell_goes rows (session_key sid) cell IsSessionCell h)
+  | inr apart ↦ CellKept (alter_kept rows (session_key sid) cell (session_key k)
+      (tied_apart row_key (session_key sid) (session_key k) (λ same. apart (ap (λ (q : RowKey). q.a) same))))
 ]
 
-pub stored-alter_session : (bytes : ℕ → ℕ → ℕ) (rows : Rows) (sid : ℕ) (cell : Option Cell) → Stored rows (tree_of bytes rows) → ((x : Cell) → cell ≡ Some x → IsSessionCell x)
+pub stored-alter_session : (bytes : ℕ → ℕ → ℕ) (rows : Rows) (sid : ℕ) (cell : Option Cell) → Stored rows (tree_of bytes rows)
+    → ((x : Cell) → cell ≡ Some x → IsSessionCell x)
     → Stored (alter rows (session_key sid) cell) (tree_of bytes (alter rows (session_key sid) cell))
 stored-alter_session bytes rows sid cell s h =
     let t = tree_of bytes rows in
@@ -57,9 +61,11 @@ stored-alter_session bytes rows sid cell s h =
 
 pub stored-put_session : (bytes : ℕ → ℕ → ℕ) (rows : Rows) (sid : ℕ) (session : Session) → Stored rows (tree_of bytes rows)
     → Stored (insert rows (session_key sid) (Ok (OfSession session))) (tree_of bytes (insert rows (session_key sid) (Ok (OfSession session))))
-stored-put_session bytes rows sid session s = stored-alter_session bytes rows sid (Some (Ok (OfSession session))) s (λ x e. record { session = session; is = cc })
+stored-put_session bytes rows sid session s = stored-alter_session bytes rows sid (Some (Ok (OfSession session))) s
+    (λ x e. record { session = session; is = cc })
 
-pub stored-drop_session : (bytes : ℕ → ℕ → ℕ) (rows : Rows) (sid : ℕ) → Stored rows (tree_of bytes rows) → Stored (remove rows (session_key sid)) (tree_of bytes (remove rows (session_key sid)))
+pub stored-drop_session : (bytes : ℕ → ℕ → ℕ) (rows : Rows) (sid : ℕ) → Stored rows (tree_of bytes rows)
+    → Stored (remove rows (session_key sid)) (tree_of bytes (remove rows (session_key sid)))
 stored-drop_session bytes rows sid s = stored-alter_session bytes rows sid None s (λ x e. absurd (cc))
 
 -- ---- a sustained file
@@ -67,11 +73,14 @@ stored-drop_session bytes rows sid s = stored-alter_session bytes rows sid None 
 sustained_goes : (rows : Rows) (sid inode : ℕ) (cell : Option Cell) → inode < 2 ^ 64 → ((x : Cell) → cell ≡ Some x → IsSustainedCell x)
     → (k i : ℕ) → i < 2 ^ 64 → CellGoes rows (alter rows (sustained_key sid inode) cell) (sustained_key k i) IsSustainedCell
 sustained_goes rows sid inode cell small h k i less = elim (same_or_apart row_key (sustained_key k i) (sustained_key sid inode)) [
-  | inl same ↦ subst (λ q. CellGoes rows (alter rows (sustained_key sid inode) cell) q IsSustainedCell) (sym same) (cell_goes rows (sustained_key sid inode) cell IsSustainedCell h)
-  | inr apart ↦ CellKept (alter_kept rows (sustained_key sid inode) cell (sustained_key k i) (tied_apart row_key (sustained_key sid inode) (sustained_key k i) apart))
+  | inl same ↦ subst (λ q. CellGoes rows (alter rows (sustained_key sid inode) cell) q IsSustainedCell) (sym same)
+      (cell_goes rows (sustained_key sid inode) cell IsSustainedCell h)
+  | inr apart ↦ CellKept (alter_kept rows (sustained_key sid inode) cell (sustained_key k i)
+      (tied_apart row_key (sustained_key sid inode) (sustained_key k i) apart))
 ]
 
-pub stored-alter_sustained : (bytes : ℕ → ℕ → ℕ) (rows : Rows) (sid inode : ℕ) (cell : Option Cell) → inode < 2 ^ 64 → Stored rows (tree_of bytes rows) → ((x : Cell) → cell ≡ Some x → IsSustainedCell x)
+pub stored-alter_sustained : (bytes : ℕ → ℕ → ℕ) (rows : Rows) (sid inode : ℕ) (cell : Option Cell) → inode < 2 ^ 64 → Stored rows (tree_of bytes rows)
+    → ((x : Cell) → cell ≡ Some x → IsSustainedCell x)
     → Stored (alter rows (sustained_key sid inode) cell) (tree_of bytes (alter rows (sustained_key sid inode) cell))
 stored-alter_sustained bytes rows sid inode cell small s h =
     let t = tree_of bytes rows in
@@ -102,7 +111,8 @@ pub stored-unseen : (bytes : ℕ → ℕ → ℕ) (rows : Rows) (q : RowKey) (ce
     → Stored (alter rows q cell) (tree_of bytes (alter rows q cell))
 stored-unseen bytes rows q cell is s =
     let t = tree_of bytes rows in
-    let other : (k : RowKey) → is_unseen k.tab ≡ false → get (alter rows q cell) k ≡ get rows k = (λ k seen. alter_kept rows q cell k (tied_apart row_key q k (λ same. apart_by k same seen))) in
+    let other : (k : RowKey) → is_unseen k.tab ≡ false → get (alter rows q cell) k
+    ≡ get rows k = (λ k seen. alter_kept rows q cell k (tied_apart row_key q k (λ same. apart_by k same seen))) in
     stored-goes bytes rows (alter rows q cell) t s.slice s (record {
       tree = tree_of-unseen rows q cell bytes (unseen q is);
       setting = other setting_key refl;

@@ -34,13 +34,15 @@ is_some-unit_if true = refl
 is_some-unit_if false = refl
 
 -- the node at an inode is that of its row
-pub node_at-tree_of : (bytes : ℕ → ℕ → ℕ) (rows : Rows) (inode : ℕ) → node_at (tree_of bytes rows) inode ≡ option_map (node_of (bytes inode)) (node_row_at rows inode)
+pub node_at-tree_of : (bytes : ℕ → ℕ → ℕ) (rows : Rows) (inode : ℕ)
+    → node_at (tree_of bytes rows) inode ≡ option_map (node_of (bytes inode)) (node_row_at rows inode)
 unfolding tree_of nodes_of
 node_at-tree_of bytes rows inode =
     get-selected number_key (number_of 2) (number_place 2) (number_table 2) (λ i row. option_map (node_of (bytes i)) (node_in row)) (λ i. refl) rows inode
 
 -- the inode that an entry names is that of its edge
-pub get-entries : (bytes : ℕ → ℕ → ℕ) (rows : Rows) (at : EntryKey) → get (tree_of bytes rows).entries at ≡ option_map (λ edge. edge.inode) (edge_at rows at.dir at.name)
+pub get-entries : (bytes : ℕ → ℕ → ℕ) (rows : Rows) (at : EntryKey)
+    → get (tree_of bytes rows).entries at ≡ option_map (λ edge. edge.inode) (edge_at rows at.dir at.name)
 unfolding tree_of entries_of
 get-entries bytes rows at =
     get-selected entry_key entry_of_key entry_place entry_table (λ at row. option_map (λ edge. edge.inode) (edge_in row)) (λ at. refl) rows at
@@ -56,16 +58,20 @@ pub get-sustained : (bytes : ℕ → ℕ → ℕ) (rows : Rows) (sid inode : ℕ
 unfolding tree_of sustained_of
 get-sustained bytes rows sid inode less =
     get-selected pair_key pair_of_key pair_place pair_table (λ pair row. unit_if (sustained_in row)) (λ pair. refl) rows (record { sid = sid; inode = inode })
-    ∙ ap (value_at pair_key pair_of_key pair_place pair_table (λ pair row. unit_if (sustained_in row)) (λ pair. refl) rows (record { sid = sid; inode = inode })) (pair_place-here sid inode less)
+    ∙ ap (value_at pair_key pair_of_key pair_place pair_table (λ pair row. unit_if (sustained_in row)) (λ pair. refl) rows
+    (record { sid = sid; inode = inode })) (pair_place-here sid inode less)
 
 -- a pair with an inode of more than 64 bits is never there
-pub get-sustained-none : (bytes : ℕ → ℕ → ℕ) (rows : Rows) (sid inode : ℕ) → 2 ^ 64 ≤ inode → get (tree_of bytes rows).sustained (record { sid = sid; inode = inode }) ≡ None
+pub get-sustained-none : (bytes : ℕ → ℕ → ℕ) (rows : Rows) (sid inode : ℕ) → 2 ^ 64 ≤ inode
+    → get (tree_of bytes rows).sustained (record { sid = sid; inode = inode }) ≡ None
 unfolding tree_of sustained_of
 get-sustained-none bytes rows sid inode more =
     get-selected pair_key pair_of_key pair_place pair_table (λ pair row. unit_if (sustained_in row)) (λ pair. refl) rows (record { sid = sid; inode = inode })
-    ∙ ap (λ b. value_at pair_key pair_of_key pair_place pair_table (λ pair row. unit_if (sustained_in row)) (λ pair. refl) rows (record { sid = sid; inode = inode }) (cond b (Some (sustained_key sid inode)) None)) (le-ltb inode (2 ^ 64) more)
+    ∙ ap (λ b. value_at pair_key pair_of_key pair_place pair_table (λ pair row. unit_if (sustained_in row)) (λ pair. refl) rows
+    (record { sid = sid; inode = inode }) (cond b (Some (sustained_key sid inode)) None)) (le-ltb inode (2 ^ 64) more)
 
-pub is_sustained-tree_of : (bytes : ℕ → ℕ → ℕ) (rows : Rows) (sid inode : ℕ) → inode < 2 ^ 64 → is_sustained (tree_of bytes rows) sid inode ≡ sustained_at rows sid inode
+pub is_sustained-tree_of : (bytes : ℕ → ℕ → ℕ) (rows : Rows) (sid inode : ℕ) → inode < 2 ^ 64
+    → is_sustained (tree_of bytes rows) sid inode ≡ sustained_at rows sid inode
 is_sustained-tree_of bytes rows sid inode less = ap is_some (get-sustained bytes rows sid inode less) ∙ is_some-unit_if (sustained_at rows sid inode)
 
 pub setting-tree_of : (bytes : ℕ → ℕ → ℕ) (rows : Rows) → (tree_of bytes rows).setting ≡ or_no_setting (setting_at rows)
@@ -104,17 +110,20 @@ module _ (rows : Rows) (q : RowKey) (cell : Option Cell) where
   nodes_kept : (bytes : ℕ → ℕ → ℕ) → number_of 2 q ≡ None → nodes_of bytes (alter rows q cell) ≡ nodes_of bytes rows
   unfolding nodes_of
   nodes_kept bytes other =
-      selected-alter-other number_key (number_of 2) (number_place 2) (number_table 2) (λ i row. option_map (node_of (bytes i)) (node_in row)) (λ i. refl) rows q cell other
+      selected-alter-other number_key (number_of 2) (number_place 2) (number_table 2) (λ i row. option_map (node_of (bytes i)) (node_in row))
+      (λ i. refl) rows q cell other
 
   entries_kept : entry_of_key q ≡ None → entries_of (alter rows q cell) ≡ entries_of rows
   unfolding entries_of
   entries_kept other =
-      selected-alter-other entry_key entry_of_key entry_place entry_table (λ at row. option_map (λ edge. edge.inode) (edge_in row)) (λ at. refl) rows q cell other
+      selected-alter-other entry_key entry_of_key entry_place entry_table (λ at row. option_map (λ edge. edge.inode) (edge_in row))
+      (λ at. refl) rows q cell other
 
   sessions_kept : number_of 6 q ≡ None → sessions_of (alter rows q cell) ≡ sessions_of rows
   unfolding sessions_of
   sessions_kept other =
-      selected-alter-other number_key (number_of 6) (number_place 6) (number_table 6) (λ sid row. option_map session_of (session_in row)) (λ sid. refl) rows q cell other
+      selected-alter-other number_key (number_of 6) (number_place 6) (number_table 6) (λ sid row. option_map session_of (session_in row))
+      (λ sid. refl) rows q cell other
 
   sustained_kept : pair_of_key q ≡ None → sustained_of (alter rows q cell) ≡ sustained_of rows
   unfolding sustained_of
@@ -148,13 +157,24 @@ or_then false b P e f g = g e
 pub unseen : (q : RowKey) → IsTrue (is_unseen q.tab) → IsUnseen q
 unseen q is =
     let t = q.tab in
-    or_then (t == 4) ((t == 5) || ((t == 8) || (t == 9))) (IsUnseen q) is (λ e. unseen_tab q 4 (eqb-true t 4 e) (λ a b. record { setting = refl; counters = refl; node = refl; entry = refl; session = refl; pair = refl })) λ is5.
-    or_then (t == 5) ((t == 8) || (t == 9)) (IsUnseen q) is5 (λ e. unseen_tab q 5 (eqb-true t 5 e) (λ a b. record { setting = refl; counters = refl; node = refl; entry = refl; session = refl; pair = refl })) λ is8.
-    or_then (t == 8) (t == 9) (IsUnseen q) is8 (λ e. unseen_tab q 8 (eqb-true t 8 e) (λ a b. record { setting = refl; counters = refl; node = refl; entry = refl; session = refl; pair = refl })) λ is9.
+    or_then (t == 4) ((t == 5) || ((t == 8) || (t == 9))) (IsUnseen q) is
+    (λ e. unseen_tab q 4 (eqb-true t 4 e) (λ a b. record {
+      setting = refl;
+      counters = refl;
+      node = refl;
+      entry = refl;
+      session = refl;
+      pair = refl;
+    })) λ is5.
+    or_then (t == 5) ((t == 8) || (t == 9)) (IsUnseen q) is5 (λ e. unseen_tab q 5 (eqb-true t 5 e)
+    (λ a b. record { setting = refl; counters = refl; node = refl; entry = refl; session = refl; pair = refl })) λ is8.
+    or_then (t == 8) (t == 9) (IsUnseen q) is8 (λ e. unseen_tab q 8 (eqb-true t 8 e)
+    (λ a b. record { setting = refl; counters = refl; node = refl; entry = refl; session = refl; pair = refl })) λ is9.
     unseen_tab q 9 (eqb-true t 9 is9) (λ a b. record { setting = refl; counters = refl; node = refl; entry = refl; session = refl; pair = refl })
 
 -- a put or a delete in the tables of lists, slices, dropped files and dead slices
-pub tree_of-insert-unseen : (bytes : ℕ → ℕ → ℕ) (rows : Rows) (q : RowKey) (cell : Cell) → IsTrue (is_unseen q.tab) → tree_of bytes (insert rows q cell) ≡ tree_of bytes rows
+pub tree_of-insert-unseen : (bytes : ℕ → ℕ → ℕ) (rows : Rows) (q : RowKey) (cell : Cell) → IsTrue (is_unseen q.tab)
+    → tree_of bytes (insert rows q cell) ≡ tree_of bytes rows
 tree_of-insert-unseen bytes rows q cell is = tree_of-unseen rows q (Some cell) bytes (unseen q is)
 
 pub tree_of-remove-unseen : (bytes : ℕ → ℕ → ℕ) (rows : Rows) (q : RowKey) → IsTrue (is_unseen q.tab) → tree_of bytes (remove rows q) ≡ tree_of bytes rows
@@ -167,11 +187,15 @@ abbrev pub node_in_cell : (ℕ → ℕ) → Option Cell → Option Node
 node_in_cell byte cell = option_map (node_of byte) (node_in (row_in cell))
 
 pub tree_of-alter-node : (bytes : ℕ → ℕ → ℕ) (rows : Rows) (inode : ℕ) (cell : Option Cell)
-    → tree_of bytes (alter rows (node_key inode) cell) ≡ record (tree_of bytes rows) { nodes = alter (tree_of bytes rows).nodes inode (node_in_cell (bytes inode) cell) }
+    → tree_of bytes (alter rows (node_key inode) cell) ≡ record (tree_of bytes rows) {
+      nodes = alter (tree_of bytes rows).nodes inode
+          (node_in_cell (bytes inode) cell);
+    }
 unfolding tree_of nodes_of
 tree_of-alter-node bytes rows inode cell =
     let q = node_key inode in
-    let nodes = selected-alter number_key (number_of 2) (number_place 2) (number_table 2) (λ i row. option_map (node_of (bytes i)) (node_in row)) (λ i. refl) rows q cell inode refl in
+    let nodes = selected-alter number_key (number_of 2) (number_place 2) (number_table 2) (λ i row. option_map (node_of (bytes i)) (node_in row))
+    (λ i. refl) rows q cell inode refl in
     λ i. record {
       setting = setting_kept rows q cell refl i;
       nodes = nodes i;
@@ -194,11 +218,13 @@ abbrev pub inode_in_cell : Option Cell → Option ℕ
 inode_in_cell cell = option_map (λ edge. edge.inode) (edge_in (row_in cell))
 
 pub tree_of-alter-edge : (bytes : ℕ → ℕ → ℕ) (rows : Rows) (dir : ℕ) (name : List ℕ) (cell : Option Cell)
-    → tree_of bytes (alter rows (edge_key dir name) cell) ≡ record (tree_of bytes rows) { entries = alter (tree_of bytes rows).entries (record { dir = dir; name = name }) (inode_in_cell cell) }
+    → tree_of bytes (alter rows (edge_key dir name) cell)
+    ≡ record (tree_of bytes rows) { entries = alter (tree_of bytes rows).entries (record { dir = dir; name = name }) (inode_in_cell cell) }
 unfolding tree_of entries_of
 tree_of-alter-edge bytes rows dir name cell =
     let q = edge_key dir name in
-    let entries = selected-alter entry_key entry_of_key entry_place entry_table (λ at row. option_map (λ edge. edge.inode) (edge_in row)) (λ at. refl) rows q cell (record { dir = dir; name = name }) refl in
+    let entries = selected-alter entry_key entry_of_key entry_place entry_table (λ at row. option_map (λ edge. edge.inode) (edge_in row))
+    (λ at. refl) rows q cell (record { dir = dir; name = name }) refl in
     λ i. record {
       setting = setting_kept rows q cell refl i;
       nodes = nodes_kept rows q cell bytes refl i;
@@ -210,11 +236,15 @@ tree_of-alter-edge bytes rows dir name cell =
     }
 
 pub tree_of-put_edge : (bytes : ℕ → ℕ → ℕ) (rows : Rows) (dir : ℕ) (name : List ℕ) (edge : Edge)
-    → tree_of bytes (insert rows (edge_key dir name) (Ok (OfEdge edge))) ≡ record (tree_of bytes rows) { entries = insert (tree_of bytes rows).entries (record { dir = dir; name = name }) edge.inode }
+    → tree_of bytes (insert rows (edge_key dir name) (Ok (OfEdge edge)))
+    ≡ record (tree_of bytes rows) { entries = insert (tree_of bytes rows).entries (record { dir = dir; name = name }) edge.inode }
 tree_of-put_edge bytes rows dir name edge = tree_of-alter-edge bytes rows dir name (Some (Ok (OfEdge edge)))
 
 pub tree_of-drop_edge : (bytes : ℕ → ℕ → ℕ) (rows : Rows) (dir : ℕ) (name : List ℕ)
-    → tree_of bytes (remove rows (edge_key dir name)) ≡ record (tree_of bytes rows) { entries = remove (tree_of bytes rows).entries (record { dir = dir; name = name }) }
+    → tree_of bytes (remove rows (edge_key dir name)) ≡ record (tree_of bytes rows) {
+      entries = remove (tree_of bytes rows).entries
+          (record { dir = dir; name = name });
+    }
 tree_of-drop_edge bytes rows dir name = tree_of-alter-edge bytes rows dir name None
 
 -- the session of a row
@@ -222,11 +252,13 @@ abbrev pub session_in_cell : Option Cell → Option SessionEntry
 session_in_cell cell = option_map session_of (session_in (row_in cell))
 
 pub tree_of-alter-session : (bytes : ℕ → ℕ → ℕ) (rows : Rows) (sid : ℕ) (cell : Option Cell)
-    → tree_of bytes (alter rows (session_key sid) cell) ≡ record (tree_of bytes rows) { sessions = alter (tree_of bytes rows).sessions sid (session_in_cell cell) }
+    → tree_of bytes (alter rows (session_key sid) cell)
+    ≡ record (tree_of bytes rows) { sessions = alter (tree_of bytes rows).sessions sid (session_in_cell cell) }
 unfolding tree_of sessions_of
 tree_of-alter-session bytes rows sid cell =
     let q = session_key sid in
-    let sessions = selected-alter number_key (number_of 6) (number_place 6) (number_table 6) (λ sid row. option_map session_of (session_in row)) (λ sid. refl) rows q cell sid refl in
+    let sessions = selected-alter number_key (number_of 6) (number_place 6) (number_table 6) (λ sid row. option_map session_of (session_in row))
+    (λ sid. refl) rows q cell sid refl in
     λ i. record {
       setting = setting_kept rows q cell refl i;
       nodes = nodes_kept rows q cell bytes refl i;
@@ -238,7 +270,8 @@ tree_of-alter-session bytes rows sid cell =
     }
 
 pub tree_of-put_session : (bytes : ℕ → ℕ → ℕ) (rows : Rows) (sid : ℕ) (session : Session)
-    → tree_of bytes (insert rows (session_key sid) (Ok (OfSession session))) ≡ record (tree_of bytes rows) { sessions = insert (tree_of bytes rows).sessions sid (session_of session) }
+    → tree_of bytes (insert rows (session_key sid) (Ok (OfSession session)))
+    ≡ record (tree_of bytes rows) { sessions = insert (tree_of bytes rows).sessions sid (session_of session) }
 tree_of-put_session bytes rows sid session = tree_of-alter-session bytes rows sid (Some (Ok (OfSession session)))
 
 pub tree_of-drop_session : (bytes : ℕ → ℕ → ℕ) (rows : Rows) (sid : ℕ)
@@ -250,11 +283,13 @@ abbrev pub pair_in_cell : Option Cell → Option (Unit {0})
 pair_in_cell cell = (if sustained_in (row_in cell) then Some tt else None)
 
 pub tree_of-alter-sustained : (bytes : ℕ → ℕ → ℕ) (rows : Rows) (sid inode : ℕ) (cell : Option Cell) → inode < 2 ^ 64
-    → tree_of bytes (alter rows (sustained_key sid inode) cell) ≡ record (tree_of bytes rows) { sustained = alter (tree_of bytes rows).sustained (record { sid = sid; inode = inode }) (pair_in_cell cell) }
+    → tree_of bytes (alter rows (sustained_key sid inode) cell)
+    ≡ record (tree_of bytes rows) { sustained = alter (tree_of bytes rows).sustained (record { sid = sid; inode = inode }) (pair_in_cell cell) }
 unfolding tree_of sustained_of
 tree_of-alter-sustained bytes rows sid inode cell less =
     let q = sustained_key sid inode in
-    let sustained = selected-alter pair_key pair_of_key pair_place pair_table (λ pair row. unit_if (sustained_in row)) (λ pair. refl) rows q cell (record { sid = sid; inode = inode }) (pair_of_key-here sid inode less) in
+    let sustained = selected-alter pair_key pair_of_key pair_place pair_table (λ pair row. unit_if (sustained_in row)) (λ pair. refl) rows q cell
+    (record { sid = sid; inode = inode }) (pair_of_key-here sid inode less) in
     λ i. record {
       setting = setting_kept rows q cell refl i;
       nodes = nodes_kept rows q cell bytes refl i;
@@ -266,21 +301,25 @@ tree_of-alter-sustained bytes rows sid inode cell less =
     }
 
 pub tree_of-put_sustained : (bytes : ℕ → ℕ → ℕ) (rows : Rows) (sid inode : ℕ) → inode < 2 ^ 64
-    → tree_of bytes (insert rows (sustained_key sid inode) (Ok OfSustained)) ≡ record (tree_of bytes rows) { sustained = insert (tree_of bytes rows).sustained (record { sid = sid; inode = inode }) tt }
+    → tree_of bytes (insert rows (sustained_key sid inode) (Ok OfSustained))
+    ≡ record (tree_of bytes rows) { sustained = insert (tree_of bytes rows).sustained (record { sid = sid; inode = inode }) tt }
 tree_of-put_sustained bytes rows sid inode less = tree_of-alter-sustained bytes rows sid inode (Some (Ok OfSustained)) less
 
 pub tree_of-drop_sustained : (bytes : ℕ → ℕ → ℕ) (rows : Rows) (sid inode : ℕ) → inode < 2 ^ 64
-    → tree_of bytes (remove rows (sustained_key sid inode)) ≡ record (tree_of bytes rows) { sustained = remove (tree_of bytes rows).sustained (record { sid = sid; inode = inode }) }
+    → tree_of bytes (remove rows (sustained_key sid inode))
+    ≡ record (tree_of bytes rows) { sustained = remove (tree_of bytes rows).sustained (record { sid = sid; inode = inode }) }
 tree_of-drop_sustained bytes rows sid inode less = tree_of-alter-sustained bytes rows sid inode None less
 
 -- the counters have the next inode and the next session
 pub tree_of-put_counters : (bytes : ℕ → ℕ → ℕ) (rows : Rows) (counters : Counters)
-    → tree_of bytes (insert rows counters_key (Ok (OfCounters counters))) ≡ record (tree_of bytes rows) { next_inode = counters.inode; next_session = counters.session }
+    → tree_of bytes (insert rows counters_key (Ok (OfCounters counters)))
+    ≡ record (tree_of bytes rows) { next_inode = counters.inode; next_session = counters.session }
 unfolding tree_of
 tree_of-put_counters bytes rows counters =
     let q = counters_key in
     let cell : Option Cell = Some (Ok (OfCounters counters)) in
-    let new : counters_of (insert rows q (Ok (OfCounters counters))) ≡ counters = ap (λ c. or_no_counters (counters_in (row_in c))) (get-alter-here row_key rows q cell) in
+    let new : counters_of (insert rows q (Ok (OfCounters counters)))
+    ≡ counters = ap (λ c. or_no_counters (counters_in (row_in c))) (get-alter-here row_key rows q cell) in
     λ i. record {
       setting = setting_kept rows q cell refl i;
       nodes = nodes_kept rows q cell bytes refl i;
@@ -297,7 +336,8 @@ unfolding tree_of
 tree_of-put_setting bytes rows setting =
     let q = setting_key in
     let cell : Option Cell = Some (Ok (OfSetting setting)) in
-    let new : or_no_setting (setting_at (insert rows q (Ok (OfSetting setting)))) ≡ setting = ap (λ c. or_no_setting (setting_in (row_in c))) (get-alter-here row_key rows q cell) in
+    let new : or_no_setting (setting_at (insert rows q (Ok (OfSetting setting))))
+    ≡ setting = ap (λ c. or_no_setting (setting_in (row_in c))) (get-alter-here row_key rows q cell) in
     λ i. record {
       setting = new i;
       nodes = nodes_kept rows q cell bytes refl i;

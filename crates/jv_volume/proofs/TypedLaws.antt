@@ -22,7 +22,8 @@ typed-alter_at key bytes q o true e = ap (λ k. option_map (cell_of k) bytes) (t
 typed-alter_at key bytes q o false e = refl
 
 -- a put or a delete of bytes is one of what they spell
-pub typed-alter : (rows : RowMap) (key : RowKey) (bytes : Option (List ℕ)) → typed (alter rows key bytes) ≡ alter (typed rows) key (option_map (cell_of key) bytes)
+pub typed-alter : (rows : RowMap) (key : RowKey) (bytes : Option (List ℕ))
+    → typed (alter rows key bytes) ≡ alter (typed rows) key (option_map (cell_of key) bytes)
 typed-alter rows key bytes =
     same_maps (typed (alter rows key bytes)) (alter (typed rows) key (option_map (cell_of key) bytes)) (λ q.
     get-typed (alter rows key bytes) q ∙ ap (option_map (cell_of q)) (get-alter rows key bytes q)
@@ -37,5 +38,6 @@ pub typed-remove : (rows : RowMap) (key : RowKey) → typed (remove rows key) �
 typed-remove rows key = typed-alter rows key None
 
 -- the bytes of a row put at its key
-pub typed-insert-row : (rows : RowMap) (key : RowKey) (bytes : List ℕ) (row : Row) → row_of key.tab bytes ≡ Some row → typed (insert rows key bytes) ≡ insert (typed rows) key (Ok row)
+pub typed-insert-row : (rows : RowMap) (key : RowKey) (bytes : List ℕ) (row : Row) → row_of key.tab bytes ≡ Some row
+    → typed (insert rows key bytes) ≡ insert (typed rows) key (Ok row)
 typed-insert-row rows key bytes row is = typed-insert rows key bytes ∙ ap (λ o. insert (typed rows) key (ok_or o bytes)) is

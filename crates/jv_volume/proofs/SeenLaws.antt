@@ -1,0 +1,127 @@
+-- What stands at a key, as a reader sees it: the views of rows by it, and that a stored row is never malformed.
+use Rattle.std.proofs.Common.{◌≡◌, ℕ, ◌<◌, ◌^◌, Bool, true, false, List, inl, inr, Option, None, Some, Ok, Err, refl, sym, ap, subst, ◌∙◌}
+use Rattle.std.specs.Prelude.{if◌then◌else◌}
+use Rattle.std.specs.Option.{option_map}
+use Rattle.jv_model.specs.declared.row.RowKey.{RowKey}
+use Rattle.jv_model.specs.declared.row.Counters.{Counters}
+use Rattle.jv_model.specs.declared.row.Node.{Node as NodeRow}
+use Rattle.jv_model.specs.declared.row.Edge.{Edge}
+use Rattle.jv_model.specs.declared.row.Session.{Session}
+use Rattle.jv_model.specs.declared.row.Dropped.{Dropped}
+use Rattle.jv_model.specs.declared.row.Row.TheVariants.{OfSetting, OfCounters, OfSustained, OfDropped}
+use Rattle.jv_model.specs.declared.setting.Setting.{Setting}
+use Rattle.jv_model.specs.FiniteMap.{get, alter}
+use Rattle.jv_model.specs.rows.RowKeys.{row_key}
+use Rattle.jv_model.specs.rows.RowPlaces.{setting_key, counters_key, node_key, edge_key, session_key, sustained_key, dropped_key}
+use Rattle.jv_model.specs.tree.Tree.{Tree, EntryKey}
+use Rattle.jv_volume.specs.TypedRows.{Cell, Rows}
+use Rattle.jv_volume.specs.Views.{row_in, setting_in, setting_at, counters_in, counters_at, node_in, node_row_at, edge_in, edge_at, session_in, session_at, sustained_at, dropped_in, dropped_at}
+use Rattle.jv_volume.specs.Stored.{Stored}
+use Rattle.jv_volume.specs.Whole.{IsRowAt}
+use Rattle.jv_volume.proofs.ShapeMapLaws.{same_or_apart}
+use Rattle.jv_volume.proofs.MapLaws.{get-alter-here, get-alter-apart}
+use Rattle.jv_volume.proofs.StoredLaws.{of_node, of_edge, of_session, node_stands, edge_stands, session_stands, sustained_stands}
+
+-- ---- views by what stands at a key
+
+pub node-seen : (rows : Rows) (inode : ℕ) (found : Option NodeRow) → get rows (node_key inode) ≡ option_map of_node found → node_row_at rows inode ≡ found
+node-seen rows inode found e = ap (λ c. node_in (row_in c)) e ∙ back found
+  where
+    back : (o : Option NodeRow) → node_in (row_in (option_map of_node o)) ≡ o
+    back None = refl
+    back (Some row) = refl
+
+pub edge-seen : (rows : Rows) (dir : ℕ) (name : List ℕ) (found : Option Edge) → get rows (edge_key dir name) ≡ option_map of_edge found
+    → edge_at rows dir name ≡ found
+edge-seen rows dir name found e = ap (λ c. edge_in (row_in c)) e ∙ back found
+  where
+    back : (o : Option Edge) → edge_in (row_in (option_map of_edge o)) ≡ o
+    back None = refl
+    back (Some edge) = refl
+
+pub session-seen : (rows : Rows) (sid : ℕ) (found : Option Session) → get rows (session_key sid) ≡ option_map of_session found → session_at rows sid ≡ found
+session-seen rows sid found e = ap (λ c. session_in (row_in c)) e ∙ back found
+  where
+    back : (o : Option Session) → session_in (row_in (option_map of_session o)) ≡ o
+    back None = refl
+    back (Some session) = refl
+
+abbrev pub of_counters : Counters → Cell
+of_counters counters = Ok (OfCounters counters)
+
+pub counters-seen : (rows : Rows) (found : Option Counters) → get rows counters_key ≡ option_map of_counters found → counters_at rows ≡ found
+counters-seen rows found e = ap (λ c. counters_in (row_in c)) e ∙ back found
+  where
+    back : (o : Option Counters) → counters_in (row_in (option_map of_counters o)) ≡ o
+    back None = refl
+    back (Some counters) = refl
+
+abbrev pub of_setting : Setting → Cell
+of_setting setting = Ok (OfSetting setting)
+
+pub setting-seen : (rows : Rows) (found : Option Setting) → get rows setting_key ≡ option_map of_setting found → setting_at rows ≡ found
+setting-seen rows found e = ap (λ c. setting_in (row_in c)) e ∙ back found
+  where
+    back : (o : Option Setting) → setting_in (row_in (option_map of_setting o)) ≡ o
+    back None = refl
+    back (Some setting) = refl
+
+abbrev pub of_dropped : Dropped → Cell
+of_dropped dropped = Ok (OfDropped dropped)
+
+pub dropped-seen : (rows : Rows) (inode : ℕ) (found : Option Dropped) → get rows (dropped_key inode) ≡ option_map of_dropped found
+    → dropped_at rows inode ≡ found
+dropped-seen rows inode found e = ap (λ c. dropped_in (row_in c)) e ∙ back found
+  where
+    back : (o : Option Dropped) → dropped_in (row_in (option_map of_dropped o)) ≡ o
+    back None = refl
+    back (Some dropped) = refl
+
+-- ---- a stored row is never malformed
+
+module _ (rows : Rows) (t : Tree) (s : Stored rows t) (bytes : List ℕ) where
+  pub node-well : (inode : ℕ) → get rows (node_key inode) ≡ Some (Err bytes) → ⊥
+  node-well inode e = by_row (node_row_at rows inode) (sym e ∙ node_stands rows t s inode)
+    where
+      by_row : (o : Option NodeRow) → Some (Err bytes) ≡ option_map of_node o → ⊥
+      by_row None h = absurd (cc)
+      by_row (Some row) h = absurd (cc)
+
+  pub edge-well : (at : EntryKey) → get rows (edge_key at.dir at.name) ≡ Some (Err bytes) → ⊥
+  edge-well at e = by_row (edge_at rows at.dir at.name) (sym e ∙ edge_stands rows t s at)
+    where
+      by_row : (o : Option Edge) → Some (Err bytes) ≡ option_map of_edge o → ⊥
+      by_row None h = absurd (cc)
+      by_row (Some edge) h = absurd (cc)
+
+  pub session-well : (sid : ℕ) → get rows (session_key sid) ≡ Some (Err bytes) → ⊥
+  session-well sid e = by_row (session_at rows sid) (sym e ∙ session_stands rows t s sid)
+    where
+      by_row : (o : Option Session) → Some (Err bytes) ≡ option_map of_session o → ⊥
+      by_row None h = absurd (cc)
+      by_row (Some session) h = absurd (cc)
+
+  pub sustained-well : (sid inode : ℕ) → inode < 2 ^ 64 → get rows (sustained_key sid inode) ≡ Some (Err bytes) → ⊥
+  sustained-well sid inode small e = by_row (sustained_at rows sid inode) (sym e ∙ sustained_stands rows t s sid inode small)
+    where
+      by_row : (b : Bool) → Some (Err bytes) ≡ (let o : Option Cell = (if b then Some (Ok OfSustained) else None) in o) → ⊥
+      by_row true h = absurd (cc)
+      by_row false h = absurd (cc)
+
+  pub counters-well : get rows counters_key ≡ Some (Err bytes) → ⊥
+  counters-well e = (let both = sym e ∙ s.counters in absurd (cc))
+
+  pub setting-well : get rows setting_key ≡ Some (Err bytes) → ⊥
+  setting-well e = (let both = sym e ∙ s.setting in absurd (cc))
+
+-- ---- every cell a row of its table
+
+abbrev pub AreRows : Rows → Type 0
+AreRows rows = (key : RowKey) (cell : Cell) → get rows key ≡ Some cell → IsRowAt key cell
+
+-- one more row, or one less
+pub rows-alter : (rows : Rows) (q : RowKey) (cell : Option Cell) → AreRows rows → ((x : Cell) → cell ≡ Some x → IsRowAt q x) → AreRows (alter rows q cell)
+rows-alter rows q cell all new key x e = elim (same_or_apart row_key key q) [
+  | inl same ↦ subst (λ k. IsRowAt k x) (sym same) (new x (sym (get-alter-here row_key rows q cell) ∙ ap (get (alter rows q cell)) (sym same) ∙ e))
+  | inr apart ↦ all key x (sym (get-alter-apart row_key rows q cell key apart) ∙ e)
+]
