@@ -49,3 +49,4 @@ pub mod SeenLaws
 pub mod FilesLaws
 pub mod WholeLaws
 pub mod FileStepLaws
+pub mod MadeWholeLaws
