@@ -12,3 +12,5 @@ pub mod DropLaws
 pub mod DropSteps
 pub mod SpelledLaws
 pub mod DraftLaws
+pub mod TransactionLaws
+pub mod NeedingLaws
