@@ -50,3 +50,5 @@ pub mod FilesLaws
 pub mod WholeLaws
 pub mod FileStepLaws
 pub mod MadeWholeLaws
+pub mod EntryNameLaws
+pub mod RoomLaws
