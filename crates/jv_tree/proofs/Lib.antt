@@ -1,1 +1,5 @@
 -- What is proved of transactions on directories, files and attributes.
+pub mod EnteringLaws
+pub mod EnterLaws
+pub mod NewPlaceLaws
+pub mod MakeLaws

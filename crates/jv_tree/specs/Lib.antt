@@ -1,1 +1,2 @@
--- The definitions that contracts cite.
+-- What is said of transactions on the tree.
+pub mod Entering
