@@ -14,3 +14,4 @@ pub mod SpelledLaws
 pub mod DraftLaws
 pub mod TransactionLaws
 pub mod NeedingLaws
+pub mod ArrivalLaws

@@ -140,3 +140,8 @@ module _ {A : Type 0} (row : A → Row) (is_allowed : A → Bool) (key : RowKey)
 
   pub fails-needed : IsNeeded key → (fault : TxFault) → Needs row is_allowed key changes before after (Err fault) → Fails before after fault
   fails-needed needed fault n = fails-needs (λ known is none. (Lacks (needs_row key needed) none refl, λ whole. needed-there (typed known) key needed whole none)) fault n
+
+-- a reading over a new draft is one over no changes
+pub needs-fresh : {A : Type 0} (row : A → Row) (is_allowed : A → Bool) (key : RowKey) (changes : List Change) (before after : Store) (result : Result A TxFault)
+    → changes ≡ [] → Needs row is_allowed key changes before after result → Needs row is_allowed key [] before after result
+needs-fresh row is_allowed key changes before after result none n = subst (λ (c : List Change). Needs row is_allowed key c before after result) none n

@@ -1,6 +1,6 @@
 -- How transactions are made of their parts: readings one after another, a refusal, an answer, and a commit.
 use Rattle.std.proofs.Common.{◌≡◌, ℕ, List, [], Option, None, Some, Result, Ok, Err, refl, sym, ap, subst, ◌∙◌}
-use Rattle.std.specs.Prelude.{Bool, IfSome, IfErr}
+use Rattle.std.specs.Prelude.{Bool, IfSome, IfErr, IsErrAnd}
 use Rattle.std.specs.Option.{option_map}
 use Rattle.jv_model.specs.declared.fault.Down.{Down}
 use Rattle.jv_model.specs.declared.fault.Down.TheVariants.{Failed as DeviceFailed, Memory as DeviceMemory}
@@ -180,6 +180,12 @@ module _ {A : Type 0} (before after : Store) (act : Tree → Result A Fault) whe
     bad = if_known (λ known. BadFault (typed known) (Refused fault)) before.rows (λ known is. tt);
   }
 
+-- a reading that fails at an exit by `?`
+pub looks-exit : {A : Type 0} (before after : Store) (act : Tree → Result A Fault) (result : Result A TxFault) (fault : TxFault) → IsErrAnd result (λ e. e ≡ fault)
+    → Looks {A = A} before after (Err fault) act → Looks before after result act
+looks-exit before after act (Ok x) fault h l = absurd h
+looks-exit {A} before after act (Err e) fault h l = subst (λ f. Looks {A = A} before after (Err f) act) (sym h) l
+
 -- ---- transactions
 
 module _ {A : Type 0} (ready : Tree → Type 0) (before after : Store) (reply : A → Reply) (act : Tree → Result Outcome Fault) where
@@ -200,6 +206,11 @@ module _ {A : Type 0} (ready : Tree → Type 0) (before after : Store) (reply : 
     lands = λ known is whole bytes is_ready. lands_refused fault known bytes (l.agrees known is whole bytes);
     bad = l.bad;
   }
+
+  -- the same at an exit by `?`
+  pub transacts-exit : (result : Result A TxFault) (fault : TxFault) → IsErrAnd result (λ e. e ≡ fault) → Looks {A = Outcome} before after (Err fault) act → Transacts ready before after result reply act
+  transacts-exit (Ok x) fault h l = absurd h
+  transacts-exit (Err e) fault h l = subst (λ f. Transacts {A = A} ready before after (Err f) reply act) (sym h) (transacts-refused fault l)
 
   -- a transaction that only reads has its answer, and the rows stay
   pub transacts-answers : (x : A) → Past before after act (λ t. answered t (reply x)) → Transacts ready before after (Ok x) reply act
@@ -271,3 +282,9 @@ module _ {A : Type 0} (row : A → Row) (is_allowed : A → Bool) (key : RowKey)
 
   pub stands-sees : (found : Option A) → Sees row is_allowed key changes before after (Ok found) → (known : RowMap) → before.rows ≡ Some known → get (typed known) key ≡ cell row found
   stands-sees found s known is = sym (kept known is) ∙ of_known (λ known. get (drafted changes known) key ≡ cell row found) before.rows known is s.found
+
+-- a reading over a new draft is one over no changes
+pub seen-fresh : {A : Type 0} (row : A → Row) (is_allowed : A → Bool) (key : RowKey) (changes : List Change) (before after : Store) (result seen : Result (Option A) RowFault)
+    → changes ≡ [] → result ≡ seen → Sees row is_allowed key changes before after result → Sees row is_allowed key [] before after seen
+seen-fresh row is_allowed key changes before after result seen none is s =
+    subst (Sees row is_allowed key [] before after) is (subst (λ (c : List Change). Sees row is_allowed key c before after result) none s)

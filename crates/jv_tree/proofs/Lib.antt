@@ -3,3 +3,5 @@ pub mod EnteringLaws
 pub mod EnterLaws
 pub mod NewPlaceLaws
 pub mod MakeLaws
+pub mod ReadingLaws
+pub mod AttributeLaws

@@ -1,2 +1,3 @@
 -- What is said of transactions on the tree.
 pub mod Entering
+pub mod Attributes

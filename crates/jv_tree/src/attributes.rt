@@ -1,23 +1,23 @@
 //! Changes of attributes, by POSIX.1-2017's "fchmodat", "fchownat" and "utimensat".
-ghost use Rattle.std.specs.Prelude.{◌≡◌, ◌≤◌};
+ghost use Rattle.std.specs.Prelude.{◌≡◌, ◌≤◌, IsTrue};
 ghost use Rattle.jv_model.specs.declared.op.Reply.TheVariants as reply;
 ghost use Rattle.jv_model.specs.tree.Caller.{Caller};
 ghost use Rattle.jv_model.specs.tree.Reading as model;
+ghost use Rattle.jv_model.specs.rows.RowGrammar.{is_node};
+ghost use Rattle.jv_rows.specs.Walks.{Comes};
+ghost use Rattle.jv_tree.specs.Attributes.{PutsNode, changeable_inode};
 ghost use Rattle.jv_rows.specs.Transactions.{IsFor, Transacts, Always};
 
-use jv_model::{Fault, Path, RowFault, TRASH_ROOT, TxFault, Who};
+use jv_model::{Fault, Node, Path, RowFault, TRASH_ROOT, TxFault, Who};
 use jv_outside::Keeper;
 use jv_rows::{Draft, Place, in_session, walk_to};
 use std::alloc::Global;
 
 /// The node that a path leads to, which is neither the trash nor one of its hours: these keep their attributes.
-fn changeable<K: Keeper>(
-    alloc: Global,
-    k: &mut K,
-    who: &Who,
-    path: &Path,
-) -> Result<Place, TxFault> {
-    in_session(alloc, k, who.sid)?;
+fn changeable<K: Keeper>(alloc: Global, k: &mut K, sid: u64, path: &Path) -> Result<Place, TxFault>
+    ensures { Comes (K.seen k.old) (K.seen k.new) result (λ t. changeable_inode t sid path.now) }
+{
+    in_session(alloc, k, sid)?;
     let place = walk_to(alloc, k, path, true)?;
     if place.inode >= TRASH_ROOT {
         return Err(TxFault::Refused(Fault::NotPermitted));
@@ -25,11 +25,13 @@ fn changeable<K: Keeper>(
     Ok(place)
 }
 
-/// Stores a node whose status changed at the moment of the caller.
-fn store<K: Keeper>(alloc: Global, k: &mut K, who: &Who, place: &mut Place) -> Result<(), TxFault> {
-    place.node.ctime = who.now.seconds();
+/// Stores the row of a node.
+fn store<K: Keeper>(alloc: Global, k: &mut K, inode: u64, node: &Node) -> Result<(), TxFault>
+    requires { IsTrue (is_node node.now) }
+    ensures { PutsNode inode node.now (K.seen k.old) (K.seen k.new) result }
+{
     let mut draft = Draft::new(alloc);
-    draft.put_node(place.inode, &place.node)?;
+    draft.put_node(inode, node)?;
     draft.commit(k).map_err(RowFault::from)?;
     Ok(())
 }
@@ -43,12 +45,17 @@ pub fn chmod<K: Keeper>(
     mode: u16,
 ) -> Result<(), TxFault>
     requires { mode ≤ 4095 }
-    ensures { (caller : Caller) → IsFor who.now caller → Transacts Always (K.seen k.old) (K.seen k.new)
+    ensures { (caller : Caller) → IsFor who.entry.now caller → Transacts Always (K.seen k.old) (K.seen k.new)
         result (λ unit. reply.Done) (λ t. model.chmod t caller path.now mode) }
 {
-    let mut place = changeable(alloc, k, who, path)?;
-    place.node.mode = mode;
-    store(alloc, k, who, &mut place)
+    let place = changeable(alloc, k, who.sid, path)?;
+    let ctime = who.now.seconds();
+    let node = Node {
+        mode,
+        ctime,
+        ..place.node
+    };
+    store(alloc, k, place.inode, &node)
 }
 
 /// Sets the owner and the group of what a path leads to.
@@ -60,13 +67,18 @@ pub fn chown<K: Keeper>(
     uid: u32,
     gid: u32,
 ) -> Result<(), TxFault>
-    ensures { (caller : Caller) → IsFor who.now caller → Transacts Always (K.seen k.old) (K.seen k.new)
+    ensures { (caller : Caller) → IsFor who.entry.now caller → Transacts Always (K.seen k.old) (K.seen k.new)
         result (λ unit. reply.Done) (λ t. model.chown t caller path.now uid gid) }
 {
-    let mut place = changeable(alloc, k, who, path)?;
-    place.node.uid = uid;
-    place.node.gid = gid;
-    store(alloc, k, who, &mut place)
+    let place = changeable(alloc, k, who.sid, path)?;
+    let ctime = who.now.seconds();
+    let node = Node {
+        uid,
+        gid,
+        ctime,
+        ..place.node
+    };
+    store(alloc, k, place.inode, &node)
 }
 
 /// Sets the time of the last modification of what a path leads to, in seconds.
@@ -77,10 +89,15 @@ pub fn utimes<K: Keeper>(
     path: &Path,
     mtime: u64,
 ) -> Result<(), TxFault>
-    ensures { (caller : Caller) → IsFor who.now caller → Transacts Always (K.seen k.old) (K.seen k.new)
+    ensures { (caller : Caller) → IsFor who.entry.now caller → Transacts Always (K.seen k.old) (K.seen k.new)
         result (λ unit. reply.Done) (λ t. model.utimes t caller path.now mtime) }
 {
-    let mut place = changeable(alloc, k, who, path)?;
-    place.node.mtime = mtime;
-    store(alloc, k, who, &mut place)
+    let place = changeable(alloc, k, who.sid, path)?;
+    let ctime = who.now.seconds();
+    let node = Node {
+        mtime,
+        ctime,
+        ..place.node
+    };
+    store(alloc, k, place.inode, &node)
 }

@@ -1,8 +1,9 @@
 //! Look-ups and attributes, by POSIX.1-2017's "fstatat", "readdir", "readlink" and "fstatvfs".
-ghost use Rattle.std.specs.Prelude.{◌≡◌};
+ghost use Rattle.std.specs.Prelude.{◌≡◌, false, IsTrue};
 ghost use Rattle.jv_model.specs.declared.op.Reply.TheVariants.{Found, Described, Entries, Usage, Target, FileOpened};
 ghost use Rattle.jv_model.specs.tree.Caller.{Caller};
 ghost use Rattle.jv_model.specs.tree.Reading as model;
+ghost use Rattle.jv_tree.specs.Attributes.{kind_in, attr_in};
 ghost use Rattle.jv_rows.specs.Transactions.{IsFor, Transacts, Always};
 
 use jv_model::{Attr, Bytes, Fault, FileKind, Gone, Node, Path, Space, TxFault, Who};
@@ -12,7 +13,7 @@ use std::alloc::Global;
 
 /// The inode of a path, whose last symlink isn't followed.
 pub fn lookup<K: Keeper>(alloc: Global, k: &mut K, who: &Who, path: &Path) -> Result<u64, TxFault>
-    ensures { (caller : Caller) → IsFor who.now caller → Transacts Always (K.seen k.old) (K.seen k.new)
+    ensures { (caller : Caller) → IsFor who.entry.now caller → Transacts Always (K.seen k.old) (K.seen k.new)
         result (λ inode. Found inode) (λ t. model.lookup t caller path.now) }
 {
     in_session(alloc, k, who.sid)?;
@@ -20,7 +21,9 @@ pub fn lookup<K: Keeper>(alloc: Global, k: &mut K, who: &Who, path: &Path) -> Re
 }
 
 /// The kind that a node's row tells.
-fn kind_of(node: &Node) -> FileKind {
+fn kind_of(node: &Node) -> FileKind
+    ensures { result ≡ kind_in node.now.kind }
+{
     match node.kind {
         1 => FileKind::File,
         2 => FileKind::Directory,
@@ -28,7 +31,9 @@ fn kind_of(node: &Node) -> FileKind {
     }
 }
 
-fn attr_of(inode: u64, node: &Node) -> Attr {
+fn attr_of(inode: u64, node: &Node) -> Attr
+    ensures { result ≡ attr_in inode node.now }
+{
     Attr {
         inode,
         kind: kind_of(node),
@@ -50,9 +55,9 @@ pub fn stat<K: Keeper>(
     path: &Path,
     follow: bool,
 ) -> Result<Attr, TxFault>
-    ensures followed { IsTrue follow → (caller : Caller) → IsFor who.now caller
+    ensures followed { IsTrue follow → (caller : Caller) → IsFor who.entry.now caller
         → Transacts Always (K.seen k.old) (K.seen k.new) result (λ attr. Described attr) (λ t. model.stat t caller path.now) }
-    ensures unfollowed { follow ≡ false → (caller : Caller) → IsFor who.now caller
+    ensures unfollowed { follow ≡ false → (caller : Caller) → IsFor who.entry.now caller
         → Transacts Always (K.seen k.old) (K.seen k.new) result (λ attr. Described attr) (λ t. model.lstat t caller path.now) }
 {
     in_session(alloc, k, who.sid)?;
@@ -62,7 +67,7 @@ pub fn stat<K: Keeper>(
 
 /// The attributes of an open file, which may be gone: then it is refused with ESTALE.
 pub fn fstat<K: Keeper>(alloc: Global, k: &mut K, who: &Who, inode: u64) -> Result<Attr, TxFault>
-    ensures { (caller : Caller) → IsFor who.now caller → caller.inode ≡ inode
+    ensures { (caller : Caller) → IsFor who.entry.now caller → caller.inode ≡ inode
         → Transacts Always (K.seen k.old) (K.seen k.new) result (λ attr. Described attr) (λ t. model.fstat t caller) }
 {
     in_session(alloc, k, who.sid)?;
@@ -79,7 +84,7 @@ pub fn open_node<K: Keeper>(
     who: &Who,
     path: &Path,
 ) -> Result<u64, TxFault>
-    ensures { (caller : Caller) → IsFor who.now caller → Transacts Always (K.seen k.old) (K.seen k.new)
+    ensures { (caller : Caller) → IsFor who.entry.now caller → Transacts Always (K.seen k.old) (K.seen k.new)
         result (λ inode. FileOpened caller.free_handle inode) (λ t. model.open_file t caller path.now) }
 {
     in_session(alloc, k, who.sid)?;
@@ -97,7 +102,7 @@ pub fn readlink<K: Keeper>(
     who: &Who,
     path: &Path,
 ) -> Result<Bytes, TxFault>
-    ensures { (caller : Caller) → IsFor who.now caller → Transacts Always (K.seen k.old) (K.seen k.new)
+    ensures { (caller : Caller) → IsFor who.entry.now caller → Transacts Always (K.seen k.old) (K.seen k.new)
         result (λ target. Target target) (λ t. model.readlink t caller path.now) }
 {
     in_session(alloc, k, who.sid)?;
@@ -110,7 +115,7 @@ pub fn readlink<K: Keeper>(
 
 /// Used space and inodes, and the two limits as they were set.
 pub fn statfs<K: Keeper>(alloc: Global, k: &mut K, who: &Who) -> Result<Space, TxFault>
-    ensures { (caller : Caller) → IsFor who.now caller → Transacts Always (K.seen k.old) (K.seen k.new)
+    ensures { (caller : Caller) → IsFor who.entry.now caller → Transacts Always (K.seen k.old) (K.seen k.new)
         result (λ space. Usage space) (λ t. model.statfs t caller) }
 {
     in_session(alloc, k, who.sid)?;
