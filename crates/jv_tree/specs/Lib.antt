@@ -1,2 +1,3 @@
--- The definitions that contracts cite.
+-- What is said of transactions on the tree.
+pub mod Entering
 pub mod Attributes

@@ -1,9 +1,14 @@
 //! New entries, by POSIX.1-2017's "mkdirat", "openat" with O_CREAT and O_EXCL, and "symlinkat".
-ghost use Rattle.std.specs.Prelude.{◌≡◌, ◌≤◌, IsTrue};
+ghost use Rattle.std.specs.Prelude.{◌≡◌, ◌≤◌, ◌<◌, ℕ, [], length, IsTrue};
 ghost use Rattle.jv_model.specs.declared.op.Reply.TheVariants.{Found, FileOpened};
 ghost use Rattle.jv_model.specs.tree.Caller.{Caller};
+ghost use Rattle.jv_model.specs.declared.op.Reply.{Reply};
+ghost use Rattle.jv_model.specs.rows.RowGrammar.{is_setting, is_node};
 ghost use Rattle.jv_model.specs.tree.Making as model;
+ghost use Rattle.jv_model.specs.tree.Tree.{Kind};
 ghost use Rattle.jv_rows.specs.Transactions.{IsFor, Transacts, Always};
+ghost use Rattle.jv_rows.specs.Walks.{ComesToEntry, HasNodeRow};
+ghost use Rattle.jv_tree.specs.Entering.{has_no_zero, new_pair, place_of, IsFreePlace, IsNewKind, new_row, enter, Grows, GetsEntry};
 
 use jv_model::{
     Bytes, Counters, DIRECTORY_LENGTH, Edge, FULL_COUNT, Fault, MAX_PATH, Moment, Node, Path, ROOT,
@@ -19,12 +24,16 @@ use std::alloc::Global;
 const SYMLINK_MODE: u16 = 0o777;
 
 // Whether a new entry may stand there: not in the trash, and not in the place of `.trash`.
-fn may_be_new(dir: u64, name: &[u8]) -> bool {
+fn may_be_new(dir: u64, name: &[u8]) -> bool
+    ensures { result ≡ model.may_be_new (record { dir = dir; name = name.now }) }
+{
     dir < TRASH_ROOT && !(dir == ROOT && name == b".trash".as_slice())
 }
 
 /// Where a new entry may stand: not in the trash, and not where one is.
-fn new_place<K: Keeper>(alloc: Global, k: &mut K, path: &Path) -> Result<EntryPlace, TxFault> {
+fn new_place<K: Keeper>(alloc: Global, k: &mut K, path: &Path) -> Result<EntryPlace, TxFault>
+    ensures { ComesToEntry (K.seen k.old) (K.seen k.new) result (λ t. new_pair t path.now) }
+{
     let place = walk_to_entry(alloc, k, path)?;
     if !may_be_new(place.dir.inode, place.name.as_slice()) {
         return Err(TxFault::Refused(Fault::NotPermitted));
@@ -36,7 +45,10 @@ fn new_place<K: Keeper>(alloc: Global, k: &mut K, path: &Path) -> Result<EntryPl
 }
 
 /// The counters with one more node of the least space, where the volume's limits allow it.
-fn grown(setting: &Setting, counters: &Counters) -> Result<Counters, Fault> {
+fn grown(setting: &Setting, counters: &Counters) -> Result<Counters, Fault>
+    requires { IsTrue (is_setting setting.now) }
+    ensures { Grows setting.now counters.now result }
+{
     let space = u128::from(counters.used_space) + u128::from(SPACE_UNIT);
     let has_room = space <= setting.space_limit() && counters.used_inodes < setting.inode_limit();
     if counters.inode >= FULL_COUNT || !has_room {
@@ -51,7 +63,9 @@ fn grown(setting: &Setting, counters: &Counters) -> Result<Counters, Fault> {
 }
 
 /// A directory that gets an entry at a moment, of a directory or not; refused where its link count is full.
-fn with_entry(parent: &mut Node, now: Moment, kind: u8) -> Result<(), Fault> {
+fn with_entry(parent: &mut Node, now: Moment, kind: u8) -> Result<(), Fault>
+    ensures { GetsEntry parent.old parent.new now kind result }
+{
     parent.mtime = now.seconds();
     parent.ctime = now.seconds();
     if kind == 2 {
@@ -67,7 +81,14 @@ fn enter<K: Keeper>(
     now: Moment,
     place: &mut EntryPlace,
     node: &Node,
-) -> Result<u64, TxFault> {
+) -> Result<u64, TxFault>
+    requires node { IsTrue (is_node node.now) }
+    requires dir { IsTrue (is_node place.old.dir.node) }
+    requires stands { HasNodeRow (K.seen k.old) place.old.dir.inode place.old.dir.node }
+    ensures { (kind : Kind) (reply : ℕ → Reply) → IsNewKind place.old.dir.inode kind → node.now ≡ new_row kind node.now.mode now
+        → Transacts (λ t. IsFreePlace t (place_of place.old)) (K.seen k.old) (K.seen k.new) result reply
+        (enter kind node.now.mode now (place_of place.old) reply) }
+{
     let mut draft = Draft::new(alloc);
     let setting = needed_setting(alloc, k, &draft)?;
     let counters = needed_counters(alloc, k, &draft)?;
@@ -77,16 +98,20 @@ fn enter<K: Keeper>(
         kind: node.kind,
         inode: counters.inode,
     };
-    draft.put_counters(&after)?;
     draft.put_node(counters.inode, node)?;
     draft.put_edge(place.dir.inode, &place.name, &edge)?;
     draft.put_node(place.dir.inode, &place.dir.node)?;
-    draft.commit(k).map_err(RowFault::from)?;
-    Ok(counters.inode)
+    draft.put_counters(&after)?;
+    match draft.commit(k) {
+        Ok(()) => Ok(counters.inode),
+        Err(down) => Err(TxFault::Rows(RowFault::from(down))),
+    }
 }
 
 /// A node that is made at a moment, of user and group 0.
-fn new_node(alloc: Global, kind: u8, mode: u16, now: Moment) -> Node {
+fn new_node(alloc: Global, kind: u8, mode: u16, now: Moment) -> Node
+    ensures { result ≡ record { kind = kind; mode = mode; uid = 0; gid = 0; nlink = 1; mtime = now; ctime = now; length = 0; parent = 0; target = [] } }
+{
     Node {
         kind,
         mode,
@@ -109,8 +134,9 @@ pub fn mkdir<K: Keeper>(
     path: &Path,
     mode: u16,
 ) -> Result<u64, TxFault>
-    requires { mode ≤ 4095 }
-    ensures { (caller : Caller) → IsFor who.now caller → Transacts Always (K.seen k.old) (K.seen k.new)
+    requires mode { mode ≤ 4095 }
+    requires path { IsTrue (has_no_zero path.now) }
+    ensures { (caller : Caller) → IsFor who.entry.now caller → Transacts Always (K.seen k.old) (K.seen k.new)
         result (λ inode. Found inode) (λ t. model.mkdir t caller path.now mode) }
 {
     in_session(alloc, k, who.sid)?;
@@ -132,8 +158,9 @@ pub fn create<K: Keeper>(
     path: &Path,
     mode: u16,
 ) -> Result<u64, TxFault>
-    requires { mode ≤ 4095 }
-    ensures { (caller : Caller) → IsFor who.now caller → Transacts Always (K.seen k.old) (K.seen k.new)
+    requires mode { mode ≤ 4095 }
+    requires path { IsTrue (has_no_zero path.now) }
+    ensures { (caller : Caller) → IsFor who.entry.now caller → Transacts Always (K.seen k.old) (K.seen k.new)
         result (λ inode. FileOpened caller.free_handle inode) (λ t. model.create t caller path.now mode) }
 {
     in_session(alloc, k, who.sid)?;
@@ -155,7 +182,10 @@ pub fn symlink<K: Keeper>(
     target: &Bytes,
     path: &Path,
 ) -> Result<u64, TxFault>
-    ensures { (caller : Caller) → IsFor who.now caller → Transacts Always (K.seen k.old) (K.seen k.new)
+    requires target { IsTrue (has_no_zero target.now) }
+    requires not_empty { 0 < length target.now }
+    requires path { IsTrue (has_no_zero path.now) }
+    ensures { (caller : Caller) → IsFor who.entry.now caller → Transacts Always (K.seen k.old) (K.seen k.new)
         result (λ inode. Found inode) (λ t. model.symlink t caller target.now path.now) }
 {
     in_session(alloc, k, who.sid)?;

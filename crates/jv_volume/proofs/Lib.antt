@@ -49,3 +49,6 @@ pub mod SeenLaws
 pub mod FilesLaws
 pub mod WholeLaws
 pub mod FileStepLaws
+pub mod MadeWholeLaws
+pub mod EntryNameLaws
+pub mod RoomLaws
