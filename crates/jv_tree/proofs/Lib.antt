@@ -1,3 +1,7 @@
 -- What is proved of transactions on directories, files and attributes.
 pub mod ReadingLaws
 pub mod AttributeLaws
+pub mod EdgeOrderLaws
+pub mod DirectoryLaws
+pub mod PageLaws
+pub mod EntryReadLaws
