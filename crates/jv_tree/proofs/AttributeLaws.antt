@@ -54,8 +54,10 @@ put_of : (changes : List Change) (inode : ℕ) (row : NodeRow) (known : RowMap) 
 unfolding drafted
 put_of changes inode row known after is put = record { left = applied changes known; is = is; put = put }
 
-pub puts-node : {E : Type 0} (inode : ℕ) (row : NodeRow) (before after : Store) (none changes : List Change) (result : Result (Unit {0}) Down) (unit : Unit {0}) → none ≡ []
-    → Drafts {E = E} (node_key inode) (Some (Ok (OfNode row))) none changes (Ok unit) → true ≡ is_ok result → Commits before after result changes → PutsNode inode row before after (Ok tt)
+pub puts-node : {E : Type 0} (inode : ℕ) (row : NodeRow) (before after : Store) (none changes : List Change) (result : Result (Unit {0}) Down) (unit : Unit {0})
+    → none ≡ []
+    → Drafts {E = E} (node_key inode) (Some (Ok (OfNode row))) none changes (Ok unit) → true ≡ is_ok result → Commits before after result changes
+    → PutsNode inode row before after (Ok tt)
 puts-node inode row before after none changes (Ok u) unit is_none d ok c = record {
   opened_at = c.opened_at;
   counts = c.calm;
@@ -77,7 +79,8 @@ formed None e = absurd (true≢false (sym e))
 formed (Some node) e = (node, refl)
 
 -- a walk comes to a node
-node_walked : (t : Tree) → WholeShape (shape_of t) → (follow : Bool) (path : List ℕ) (inode : ℕ) → inode_by follow t path ≡ Ok inode → (node : Node) × (node_at t inode ≡ Some node)
+node_walked : (t : Tree) → WholeShape (shape_of t) → (follow : Bool) (path : List ℕ) (inode : ℕ) → inode_by follow t path ≡ Ok inode
+    → (node : Node) × (node_at t inode ≡ Some node)
 node_walked t w follow path inode e = by_reach (path_reached t w follow path inode e)
   where
     by_reach : IsReached t inode → (node : Node) × (node_at t inode ≡ Some node)
@@ -96,12 +99,14 @@ module _ (caller : Caller) (change : Node → Node) (path : List ℕ) (t : Tree)
   may_be inode = require (not (in_trash inode)) NotPermitted >>= (λ unit. Ok inode)
 
   by_test : (inode : ℕ) (node : Node) → node_at t inode ≡ Some node → (b : Bool)
-      → (require b NotPermitted >>= (λ unit. done (put_node t inode (status_changed caller.now (change node))))) ≡ ((require b NotPermitted >>= (λ unit. Ok inode)) >>= attributes_changed caller change t)
+      → (require b NotPermitted >>= (λ unit. done (put_node t inode (status_changed caller.now (change node))))) ≡
+      ((require b NotPermitted >>= (λ unit. Ok inode)) >>= attributes_changed caller change t)
   by_test inode node is true = sym (ap (λ o. some_or o NotFound >>= (λ node. done (put_node t inode (status_changed caller.now (change node))))) is)
   by_test inode node is false = refl
 
   by_parts : (session : Result (Unit {0}) Fault) (walked : Result ℕ Fault) → inode_of t path ≡ walked
-      → (session >>= (λ unit. walked >>= (λ inode. some_or (node_at t inode) NotFound >>= may_change inode))) ≡ ((session >>= (λ unit. walked >>= may_be)) >>= attributes_changed caller change t)
+      → (session >>= (λ unit. walked >>= (λ inode. some_or (node_at t inode) NotFound >>= may_change inode))) ≡
+      ((session >>= (λ unit. walked >>= may_be)) >>= attributes_changed caller change t)
   by_parts (Err fault) walked e = refl
   by_parts (Ok unit) (Err fault) e = refl
   by_parts (Ok unit) (Ok inode) e =
@@ -121,7 +126,8 @@ pub record IsChanged (now : ℕ) (change : Node → Node) (row new : NodeRow) : 
   pub node : (byte : ℕ → ℕ) → node_of byte new ≡ status_changed now (change (node_of byte row))
   pub kind_is : (byte : ℕ → ℕ) → (node_of byte new).kind ≡ (node_of byte row).kind
 
-module _ (rows : Rows) (whole : Whole rows) (inode : ℕ) (row new : NodeRow) (there : node_row_at rows inode ≡ Some row) (now : ℕ) (change : Node → Node) (is : IsChanged now change row new) where
+module _ (rows : Rows) (whole : Whole rows) (inode : ℕ) (row new : NodeRow) (there : node_row_at rows inode ≡ Some row) (now : ℕ) (change : Node → Node)
+    (is : IsChanged now change row new) where
   abbrev changed_rows : Rows
   changed_rows = insert rows (node_key inode) (Ok (OfNode new))
 
@@ -133,11 +139,14 @@ module _ (rows : Rows) (whole : Whole rows) (inode : ℕ) (row new : NodeRow) (t
 
   pub changed-whole : Whole changed_rows
   changed-whole = record {
-    cells = rows-alter rows (node_key inode) (Some (Ok (OfNode new))) whole.cells (λ x e. subst (λ c. IsRowAt (node_key inode) c) (some_is e) (record { key_is = refl; cell_is = refl }));
+    cells = rows-alter rows (node_key inode) (Some (Ok (OfNode new))) whole.cells
+        (λ x e. subst (λ c. IsRowAt (node_key inode) c) (some_is e) (record { key_is = refl; cell_is = refl }));
     stored = stored-change_node no_bytes rows inode row new whole.stored there
-        (is.row_is row.nlink (no_bytes inode) (subst (λ l. IsNodeRow l (no_bytes inode) row) (sym has.links) has.row_is)) is.kind (ap kind_space (is.kind_is (no_bytes inode)));
+        (is.row_is row.nlink (no_bytes inode) (subst (λ l. IsNodeRow l (no_bytes inode) row) (sym has.links) has.row_is)) is.kind
+        (ap kind_space (is.kind_is (no_bytes inode)));
     tree = subst (λ (t : Tree). WholeShape (shape_of t)) (sym (tree_of-put_node no_bytes rows inode new))
-        (whole-attributes (tree_of no_bytes rows) inode (node_of (no_bytes inode) row) (node_of (no_bytes inode) new) has.there (is.kind_is (no_bytes inode)) whole.tree);
+        (whole-attributes (tree_of no_bytes rows) inode (node_of (no_bytes inode) row) (node_of (no_bytes inode) new) has.there
+        (is.kind_is (no_bytes inode)) whole.tree);
     slices = quiet-slices rows changed_rows changed-quiet whole.slices;
     files = files-same_length rows inode row new whole.files there is.kind is.length;
   }
@@ -147,7 +156,8 @@ module _ (rows : Rows) (whole : Whole rows) (inode : ℕ) (row new : NodeRow) (t
 
 -- ---- the operation
 
-module _ (before middle after : Store) (who : Who) (caller : Caller) (is_for : IsFor who caller) (path : List ℕ) (change : Node → Node) (act : Tree → Result Outcome Fault)
+module _ (before middle after : Store) (who : Who) (caller : Caller) (is_for : IsFor who caller) (path : List ℕ) (change : Node → Node)
+    (act : Tree → Result Outcome Fault)
     (is_act : (t : Tree) → act t ≡ with_attributes t caller path change) where
   abbrev finds : Tree → Result ℕ Fault
   finds t = changeable_inode t who.sid path
@@ -161,7 +171,8 @@ module _ (before middle after : Store) (who : Who) (caller : Caller) (is_for : I
   pub attributes-exit : (result : Result (Unit {0}) TxFault) (fault : TxFault) → IsErrAnd result (λ e. e ≡ fault) → Comes before middle (Err fault) finds
       → Transacts {A = Unit {0}} Always before middle result (λ unit. Done) act
   attributes-exit result fault is c =
-      transacts-exit Always before middle (λ unit. Done) act result fault is (stops-place before before middle act finds (attributes_changed caller change) asked fault c)
+      transacts-exit Always before middle (λ unit. Done) act result fault is
+      (stops-place before before middle act finds (attributes_changed caller change) asked fault c)
 
   module _ (place : Place) (new : NodeRow) (c : Comes before middle (Ok place) finds) (is : IsChanged caller.now change place.node new) where
     came : Past before middle act (λ t. attributes_changed caller change t place.inode)
@@ -174,10 +185,12 @@ module _ (before middle after : Store) (who : Who) (caller : Caller) (is_for : I
     why_not (OfRows Failed) h = tt
     why_not (OfRows Memory) h = tt
 
-    landed : (known : RowMap) → before.rows ≡ Some known → Whole (typed known) → (bytes : ℕ → ℕ → ℕ) → HasPut place.inode new known after.rows → Landed known after.rows bytes Done act
+    landed : (known : RowMap) → before.rows ≡ Some known → Whole (typed known) → (bytes : ℕ → ℕ → ℕ) → HasPut place.inode new known after.rows
+        → Landed known after.rows bytes Done act
     landed known here whole bytes put =
         let rows = typed known in
-        let stands = ap (λ x. node_in (row_in x)) (of_known (λ known. get (typed known) (node_key place.inode) ≡ Some (Ok (OfNode place.node))) middle.rows known (came.rows_are ∙ here) c.stands) in
+        let stands = ap (λ x. node_in (row_in x))
+        (of_known (λ known. get (typed known) (node_key place.inode) ≡ Some (Ok (OfNode place.node))) middle.rows known (came.rows_are ∙ here) c.stands) in
         let node = found_node bytes rows (whole-stored bytes rows whole) place.inode place.node stands in
         record {
           left = put.left;
@@ -191,7 +204,8 @@ module _ (before middle after : Store) (who : Who) (caller : Caller) (is_for : I
               ∙ ap (λ r. done (tree_of bytes r)) (sym put.put);
         }
 
-    pub attributes-done : (result : Result (Unit {0}) TxFault) → PutsNode place.inode new middle after result → Transacts {A = Unit {0}} Always before after result (λ unit. Done) act
+    pub attributes-done : (result : Result (Unit {0}) TxFault) → PutsNode place.inode new middle after result
+        → Transacts {A = Unit {0}} Always before after result (λ unit. Done) act
     attributes-done (Ok unit) p = record {
       opened_at = p.opened_at ∙ came.opened_at;
       counts = p.counts ∙ came.calm;
@@ -200,7 +214,8 @@ module _ (before middle after : Store) (who : Who) (caller : Caller) (is_for : I
       bad = tt;
     }
     attributes-done (Err fault) p =
-        transacts-refused Always before after (λ unit. Done) act fault (past-fails before middle after act (λ t. attributes_changed caller change t place.inode) came fault
+        transacts-refused Always before after (λ unit. Done) act fault
+        (past-fails before middle after act (λ t. attributes_changed caller change t place.inode) came fault
         (record { rows_are = p.undone; opened_at = p.opened_at; cause = p.counts; why = why_not fault p.cause }))
 
 -- ---- the three changes
@@ -214,7 +229,8 @@ changed-mode now mode row = record {
   kind_is = λ byte. refl;
 }
 
-pub changed-owner : (now uid gid : ℕ) (row : NodeRow) → IsChanged now (λ (node : Node). record node { uid = uid; gid = gid }) row (record row { uid = uid; gid = gid; ctime = now })
+pub changed-owner : (now uid gid : ℕ) (row : NodeRow)
+    → IsChanged now (λ (node : Node). record node { uid = uid; gid = gid }) row (record row { uid = uid; gid = gid; ctime = now })
 changed-owner now uid gid row = record {
   kind = refl;
   length = refl;
@@ -223,7 +239,8 @@ changed-owner now uid gid row = record {
   kind_is = λ byte. refl;
 }
 
-pub changed-mtime : (now mtime : ℕ) (row : NodeRow) → IsChanged now (λ (node : Node). record node { mtime = mtime }) row (record row { mtime = mtime; ctime = now })
+pub changed-mtime : (now mtime : ℕ) (row : NodeRow)
+    → IsChanged now (λ (node : Node). record node { mtime = mtime }) row (record row { mtime = mtime; ctime = now })
 changed-mtime now mtime row = record {
   kind = refl;
   length = refl;
@@ -234,14 +251,17 @@ changed-mtime now mtime row = record {
 
 -- each as the model has it
 
-pub chmod-is : (caller : Caller) (path : List ℕ) (mode : ℕ) (t : Tree) → chmod t caller path mode ≡ with_attributes t caller path (λ (node : Node). record node { mode = mode })
+pub chmod-is : (caller : Caller) (path : List ℕ) (mode : ℕ) (t : Tree)
+    → chmod t caller path mode ≡ with_attributes t caller path (λ (node : Node). record node { mode = mode })
 unfolding chmod
 chmod-is caller path mode t = refl
 
-pub chown-is : (caller : Caller) (path : List ℕ) (uid gid : ℕ) (t : Tree) → chown t caller path uid gid ≡ with_attributes t caller path (λ (node : Node). record node { uid = uid; gid = gid })
+pub chown-is : (caller : Caller) (path : List ℕ) (uid gid : ℕ) (t : Tree)
+    → chown t caller path uid gid ≡ with_attributes t caller path (λ (node : Node). record node { uid = uid; gid = gid })
 unfolding chown
 chown-is caller path uid gid t = refl
 
-pub utimes-is : (caller : Caller) (path : List ℕ) (mtime : ℕ) (t : Tree) → utimes t caller path mtime ≡ with_attributes t caller path (λ (node : Node). record node { mtime = mtime })
+pub utimes-is : (caller : Caller) (path : List ℕ) (mtime : ℕ) (t : Tree)
+    → utimes t caller path mtime ≡ with_attributes t caller path (λ (node : Node). record node { mtime = mtime })
 unfolding utimes
 utimes-is caller path mtime t = refl

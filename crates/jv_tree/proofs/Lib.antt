@@ -5,3 +5,7 @@ pub mod NewPlaceLaws
 pub mod MakeLaws
 pub mod ReadingLaws
 pub mod AttributeLaws
+pub mod EdgeOrderLaws
+pub mod DirectoryLaws
+pub mod PageLaws
+pub mod EntryReadLaws

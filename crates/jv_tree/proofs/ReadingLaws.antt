@@ -3,11 +3,11 @@ use Rattle.std.proofs.Common.{◌≡◌, ◌⊎◌, inl, inr, [], ℕ, zero, suc
 use Rattle.std.specs.Prelude.{◌==◌, IsErrAnd, not, if◌then◌else◌}
 use Rattle.jv_model.specs.declared.basics.Who.{Who}
 use Rattle.jv_model.specs.declared.fault.Fault.{Fault}
-use Rattle.jv_model.specs.declared.fault.Fault.TheVariants.{NotFound, IsADirectory, Invalid, Stale}
+use Rattle.jv_model.specs.declared.fault.Fault.TheVariants.{NotFound, NotADirectory, IsADirectory, Invalid, Stale}
 use Rattle.jv_model.specs.declared.fault.Gone.TheVariants.{Node as GoneNode}
 use Rattle.jv_model.specs.declared.fault.RowFault.{RowFault}
 use Rattle.jv_model.specs.declared.fault.TxFault.{TxFault}
-use Rattle.jv_model.specs.declared.op.Reply.TheVariants.{Found, Described, Usage, Target, FileOpened}
+use Rattle.jv_model.specs.declared.op.Reply.TheVariants.{Found, Described, Entries, Usage, Target, FileOpened}
 use Rattle.jv_model.specs.declared.row.Node.{Node as NodeRow}
 use Rattle.jv_model.specs.declared.setting.FileKind.TheVariants as kind
 use Rattle.jv_model.specs.declared.fault.TxFault.TheVariants.{Refused, Rows as OfRows}
@@ -23,7 +23,7 @@ use Rattle.jv_model.specs.rows.RowPlaces.{setting_key, counters_key, node_key}
 use Rattle.jv_model.specs.rows.RowKeys.{RowMap}
 use Rattle.jv_model.specs.tree.Attempt.{◌>>=◌, require, some_or}
 use Rattle.jv_model.specs.tree.Caller.{Caller, Outcome, answered, in_session}
-use Rattle.jv_model.specs.tree.Reading.{lookup, stat, lstat, fstat, open_file, readlink, statfs, described, attr_of, usage_of, file_kind}
+use Rattle.jv_model.specs.tree.Reading.{lookup, readdir, entries_of, stat, lstat, fstat, open_file, readlink, statfs, described, attr_of, usage_of, file_kind}
 use Rattle.jv_model.specs.tree.Tree.{Tree, Kind, File, Directory, Symlink, node_at, is_directory, target_at}
 use Rattle.jv_model.specs.tree.Walk.{inode_by}
 use Rattle.jv_outside.specs.Store.{Store}
@@ -38,7 +38,7 @@ use Rattle.jv_rows.specs.Transactions.{IsFor, Looks, Transacts, Always}
 use Rattle.jv_rows.specs.Walks.{Comes}
 use Rattle.jv_rows.specs.declared.walking.Place.{Place}
 use Rattle.jv_rows.proofs.NeedingLaws.{session_is, SettingNeeded, CountersNeeded, stands-needs, fails-needed}
-use Rattle.jv_rows.proofs.TransactionLaws.{Past, past-as, past-calm, past-fails, past-refuses, transacts-refused, transacts-exit, transacts-answers, drafted-none, fails-sees, stands-sees}
+use Rattle.jv_rows.proofs.TransactionLaws.{Past, past-as, past-calm, past-looks, past-stops, past-fails, past-refuses, transacts-refused, transacts-exit, transacts-answers, drafted-none, fails-sees, stands-sees}
 use Rattle.jv_rows.proofs.ArrivalLaws.{has-node, arrives, past-session, stops-session}
 use Rattle.jv_tree.specs.Attributes.{kind_in, attr_in}
 
@@ -73,7 +73,8 @@ module _ (caller : Caller) (path : List ℕ) (t : Tree) where
   begins-lstat_by follow is = begins-lstat ∙ ap (λ f. in_session t caller >>= (λ unit. inode_by f t path >>= described t)) (sym is)
 
   open_by : (session : Result (Unit {0}) Fault) (walked : Result ℕ Fault)
-      → ((session >>= (λ unit. walked >>= (λ inode. require (not (is_directory t inode)) IsADirectory >>= (λ unit. Ok inode)))) >>= (λ inode. answered t (FileOpened caller.free_handle inode)))
+      → ((session >>= (λ unit. walked >>= (λ inode. require (not (is_directory t inode)) IsADirectory >>= (λ unit. Ok inode)))) >>=
+      (λ inode. answered t (FileOpened caller.free_handle inode)))
       ≡ (session >>= (λ unit. walked >>= opened_at caller t))
   open_by (Err fault) walked = refl
   open_by (Ok unit) (Err fault) = refl
@@ -92,6 +93,15 @@ module _ (caller : Caller) (path : List ℕ) (t : Tree) where
   unfolding readlink
   begins-readlink = refl
 
+-- what a listing does once it has its inode
+abbrev pub listed : Tree → ℕ → Result Outcome Fault
+listed t dir = require (is_directory t dir) NotADirectory >>= (λ unit. answered t (Entries (entries_of t dir)))
+
+pub begins-readdir : (caller : Caller) (path : List ℕ) (t : Tree)
+    → readdir t caller path ≡ (in_session t caller >>= (λ unit. inode_by true t path >>= listed t))
+unfolding readdir
+begins-readdir caller path t = refl
+
 -- ---- attributes
 
 pub file_kind-row : (byte : ℕ → ℕ) (row : NodeRow) → file_kind (node_of byte row).kind ≡ kind_in row.kind
@@ -108,7 +118,8 @@ module _ (t : Tree) (inode : ℕ) (row : NodeRow) (byte : ℕ → ℕ) (has : Ha
   attr-row = attr_of-row t inode row byte has ∙ ap (λ k. record (attr_in inode row) { kind = k }) (file_kind-row byte row)
 
   pub described-row : described t inode ≡ answered t (Described (attr_in inode row))
-  described-row = ap (λ o. some_or o NotFound >>= (λ node. answered t (Described (attr_of t inode node)))) has.there ∙ ap (λ attr. answered t (Described attr)) attr-row
+  described-row = ap (λ o. some_or o NotFound >>= (λ node. answered t (Described (attr_of t inode node)))) has.there
+      ∙ ap (λ attr. answered t (Described attr)) attr-row
 
 -- ---- kinds
 
@@ -163,55 +174,106 @@ module _ (t : Tree) (inode : ℕ) (row : NodeRow) (byte : ℕ → ℕ) (has : Ha
 
 -- ---- answers after the walk
 
-module _ (before middle after : Store) (who : Who) (caller : Caller) (is_for : IsFor who caller) (follow : Bool) (path : List ℕ) (act : Tree → Result Outcome Fault)
+module _ (before middle after : Store) (who : Who) (caller : Caller) (is_for : IsFor who caller) (follow : Bool) (path : List ℕ)
+    (act : Tree → Result Outcome Fault)
     (place : Place) (session : Looks before middle (Ok tt) (session_is who.sid)) (c : Comes middle after (Ok place) (λ t. inode_by follow t path)) where
   module _ (next : Tree → ℕ → Result Outcome Fault) (begins : (t : Tree) → act t ≡ (in_session t caller >>= (λ unit. inode_by follow t path >>= next t))) where
     came : Past before after act (λ t. next t place.inode)
     came = arrives before middle after who caller is_for follow path act next begins place session c
 
     -- the node that the walk came to
-    pub node-here : (known : RowMap) → before.rows ≡ Some known → Whole (typed known) → (bytes : ℕ → ℕ → ℕ) → HasNode (tree_of bytes (typed known)) place.inode place.node (bytes place.inode)
+    pub node-here : (known : RowMap) → before.rows ≡ Some known → Whole (typed known) → (bytes : ℕ → ℕ → ℕ)
+        → HasNode (tree_of bytes (typed known)) place.inode place.node (bytes place.inode)
     node-here = has-node before after place.inode place.node came.rows_are c.stands
 
-    goes-on : (ends : Tree → Result Outcome Fault) → ((t : Tree) (byte : ℕ → ℕ) → HasNode t place.inode place.node byte → next t place.inode ≡ ends t) → Past before after act ends
-    goes-on ends same = past-as before after after act (λ t. next t place.inode) came ends (λ known is whole bytes. same (tree_of bytes (typed known)) (bytes place.inode) (node-here known is whole bytes))
+    goes-on : (ends : Tree → Result Outcome Fault) → ((t : Tree) (byte : ℕ → ℕ) → HasNode t place.inode place.node byte → next t place.inode ≡ ends t)
+        → Past before after act ends
+    goes-on ends same = past-as before after after act (λ t. next t place.inode) came ends
+        (λ known is whole bytes. same (tree_of bytes (typed known)) (bytes place.inode) (node-here known is whole bytes))
 
   -- the attributes of the node
-  pub describes : ((t : Tree) → act t ≡ (in_session t caller >>= (λ unit. inode_by follow t path >>= described t))) → (attr : Attr) → attr ≡ attr_in place.inode place.node
+  pub describes : ((t : Tree) → act t ≡ (in_session t caller >>= (λ unit. inode_by follow t path >>= described t))) → (attr : Attr)
+      → attr ≡ attr_in place.inode place.node
       → Transacts Always before after (Ok attr) (λ attr. Described attr) act
   describes begins attr is =
       transacts-answers Always before after (λ attr. Described attr) act attr
-      (goes-on described begins (λ t. answered t (Described attr)) (λ t byte has. described-row t place.inode place.node byte has ∙ ap (λ a. answered t (Described a)) (sym is)))
+      (goes-on described begins (λ t. answered t (Described attr))
+      (λ t byte has. described-row t place.inode place.node byte has ∙ ap (λ a. answered t (Described a)) (sym is)))
 
   -- an open
-  pub opens : ((t : Tree) → act t ≡ (in_session t caller >>= (λ unit. inode_by follow t path >>= opened_at caller t))) → (kind_in place.node.kind ≡ kind.Directory → ⊥)
+  pub opens : ((t : Tree) → act t ≡ (in_session t caller >>= (λ unit. inode_by follow t path >>= opened_at caller t)))
+      → (kind_in place.node.kind ≡ kind.Directory → ⊥)
       → Transacts Always before after (Ok place.inode) (λ inode. FileOpened caller.free_handle inode) act
   opens begins other =
       transacts-answers Always before after (λ inode. FileOpened caller.free_handle inode) act place.inode
       (goes-on (opened_at caller) begins (λ t. answered t (FileOpened caller.free_handle place.inode))
-      (λ t byte has. ap (λ b. require (not b) IsADirectory >>= (λ unit. answered t (FileOpened caller.free_handle place.inode))) (no-directory t place.inode place.node byte has other)))
+      (λ t byte has. ap (λ b. require (not b) IsADirectory >>= (λ unit. answered t (FileOpened caller.free_handle place.inode)))
+      (no-directory t place.inode place.node byte has other)))
 
-  pub opens-directory : ((t : Tree) → act t ≡ (in_session t caller >>= (λ unit. inode_by follow t path >>= opened_at caller t))) → kind_in place.node.kind ≡ kind.Directory
+  pub opens-directory : ((t : Tree) → act t ≡ (in_session t caller >>= (λ unit. inode_by follow t path >>= opened_at caller t)))
+      → kind_in place.node.kind ≡ kind.Directory
       → Transacts {A = ℕ} Always before after (Err (Refused IsADirectory)) (λ inode. FileOpened caller.free_handle inode) act
   opens-directory begins is =
-      transacts-refused Always before after (λ inode. FileOpened caller.free_handle inode) act (Refused IsADirectory) (past-refuses before after act IsADirectory
+      transacts-refused Always before after (λ inode. FileOpened caller.free_handle inode) act (Refused IsADirectory)
+      (past-refuses before after act IsADirectory
       (goes-on (opened_at caller) begins (λ t. Err IsADirectory)
-      (λ t byte has. ap (λ b. require (not b) IsADirectory >>= (λ unit. answered t (FileOpened caller.free_handle place.inode))) (is-directory t place.inode place.node byte has is))))
+      (λ t byte has. ap (λ b. require (not b) IsADirectory >>= (λ unit. answered t (FileOpened caller.free_handle place.inode)))
+      (is-directory t place.inode place.node byte has is))))
 
   -- a reading of a symlink
-  pub reads-target : ((t : Tree) → act t ≡ (in_session t caller >>= (λ unit. inode_by follow t path >>= target_answered t))) → kind_in place.node.kind ≡ kind.Symlink
+  pub reads-target : ((t : Tree) → act t ≡ (in_session t caller >>= (λ unit. inode_by follow t path >>= target_answered t)))
+      → kind_in place.node.kind ≡ kind.Symlink
       → Transacts Always before after (Ok place.node.target) (λ target. Target target) act
   reads-target begins is =
       transacts-answers Always before after (λ target. Target target) act place.node.target
       (goes-on target_answered begins (λ t. answered t (Target place.node.target))
       (λ t byte has. ap (λ o. some_or o Invalid >>= (λ target. answered t (Target target))) (is-symlink t place.inode place.node byte has is)))
 
-  pub reads-no-target : ((t : Tree) → act t ≡ (in_session t caller >>= (λ unit. inode_by follow t path >>= target_answered t))) → (kind_in place.node.kind ≡ kind.Symlink → ⊥)
+  pub reads-no-target : ((t : Tree) → act t ≡ (in_session t caller >>= (λ unit. inode_by follow t path >>= target_answered t)))
+      → (kind_in place.node.kind ≡ kind.Symlink → ⊥)
       → Transacts {A = List ℕ} Always before after (Err (Refused Invalid)) (λ target. Target target) act
   reads-no-target begins other =
       transacts-refused Always before after (λ target. Target target) act (Refused Invalid) (past-refuses before after act Invalid
       (goes-on target_answered begins (λ t. Err Invalid)
       (λ t byte has. ap (λ o. some_or o Invalid >>= (λ target. answered t (Target target))) (no-symlink t place.inode place.node byte has other))))
+
+-- the node of a listing, once the walk has come to it
+module _ (before middle after last : Store) (who : Who) (caller : Caller) (is_for : IsFor who caller) (path : List ℕ) (place : Place)
+    (session : Looks before middle (Ok tt) (session_is who.sid))
+    (c : Comes middle after (Ok place) (λ t. inode_by true t path)) where
+  abbrev readdir_act : Tree → Result Outcome Fault
+  readdir_act t = readdir t caller path
+
+  listing : (ends : Tree → Result Outcome Fault) → ((t : Tree) (byte : ℕ → ℕ) → HasNode t place.inode place.node byte → listed t place.inode ≡ ends t)
+      → Past before after readdir_act ends
+  listing = goes-on before middle after who caller is_for true path readdir_act place session c listed (begins-readdir caller path)
+
+  listing_directory : kind_in place.node.kind ≡ kind.Directory → Past before after readdir_act (λ t. answered t (Entries (entries_of t place.inode)))
+  listing_directory is =
+      listing (λ t. answered t (Entries (entries_of t place.inode)))
+      (λ t byte has. ap (λ b. require b NotADirectory >>= (λ unit. answered t (Entries (entries_of t place.inode))))
+      (is-directory t place.inode place.node byte has is))
+
+  pub lists : kind_in place.node.kind ≡ kind.Directory → (result : Result (List (List ℕ × ℕ)) TxFault)
+      → Looks after last result (λ t. Ok (entries_of t place.inode))
+      → Transacts Always before last result (λ entries. Entries entries) readdir_act
+  lists is (Ok entries) looks =
+      transacts-answers Always before last (λ entries. Entries entries) readdir_act entries
+      (past-looks before after last readdir_act (λ t. Ok (entries_of t place.inode)) (λ t entries. answered t (Entries entries))
+      (listing_directory is) entries looks)
+  lists is (Err fault) looks =
+      transacts-refused Always before last (λ entries. Entries entries) readdir_act fault
+      (past-stops before after last readdir_act (λ t. Ok (entries_of t place.inode)) (λ t entries. answered t (Entries entries))
+      (listing_directory is) fault looks)
+
+  pub lists-no_directory : (kind_in place.node.kind ≡ kind.Directory → ⊥)
+      → Transacts {A = List (List ℕ × ℕ)} Always before after (Err (Refused NotADirectory)) (λ entries. Entries entries) readdir_act
+  lists-no_directory other =
+      transacts-refused Always before after (λ entries. Entries entries) readdir_act (Refused NotADirectory)
+      (past-refuses before after readdir_act NotADirectory
+      (listing (λ t. Err NotADirectory)
+      (λ t byte has. ap (λ b. require b NotADirectory >>= (λ unit. answered t (Entries (entries_of t place.inode))))
+      (no-directory t place.inode place.node byte has other))))
 
 pub other-directory : (found is : FileKind) → found ≡ is → (found ≡ kind.File) ⊎ (found ≡ kind.Symlink) → is ≡ kind.Directory → ⊥
 other-directory found is same (inl file) e = (let both = sym file ∙ same ∙ e in absurd (cc))
@@ -227,7 +289,8 @@ other-symlink found is same (inr dir) e = (let both = sym dir ∙ same ∙ e in 
 abbrev pub described_open : ℕ → Tree → Result Outcome Fault
 described_open inode t = some_or (node_at t inode) (Stale (GoneNode inode)) >>= (λ node. answered t (Described (attr_of t inode node)))
 
-pub begins-fstat : (caller : Caller) (inode : ℕ) → caller.inode ≡ inode → (t : Tree) → fstat t caller ≡ (in_session t caller >>= (λ unit. described_open inode t))
+pub begins-fstat : (caller : Caller) (inode : ℕ) → caller.inode ≡ inode → (t : Tree)
+    → fstat t caller ≡ (in_session t caller >>= (λ unit. described_open inode t))
 unfolding fstat
 begins-fstat caller inode is t = ap (λ i. in_session t caller >>= (λ unit. described_open i t)) is
 
@@ -235,10 +298,12 @@ module _ (before middle after : Store) (who : Who) (caller : Caller) (is_for : I
   abbrev fstat_act : Tree → Result Outcome Fault
   fstat_act t = fstat t caller
 
-  pub fstat-exit : (result : Result Attr TxFault) (fault : TxFault) → IsErrAnd result (λ e. e ≡ fault) → Looks {A = Unit {0}} before middle (Err fault) (session_is who.sid)
+  pub fstat-exit : (result : Result Attr TxFault) (fault : TxFault) → IsErrAnd result (λ e. e ≡ fault)
+      → Looks {A = Unit {0}} before middle (Err fault) (session_is who.sid)
       → Transacts Always before middle result (λ attr. Described attr) fstat_act
   fstat-exit result fault is looks =
-      transacts-exit Always before middle (λ attr. Described attr) fstat_act result fault is (stops-session before middle who caller is_for fstat_act (described_open inode) (begins-fstat caller inode is_inode) fault looks)
+      transacts-exit Always before middle (λ attr. Described attr) fstat_act result fault is
+      (stops-session before middle who caller is_for fstat_act (described_open inode) (begins-fstat caller inode is_inode) fault looks)
 
   module _ (session : Looks before middle (Ok tt) (session_is who.sid)) where
     asked : Past before middle fstat_act (described_open inode)
@@ -247,11 +312,13 @@ module _ (before middle after : Store) (who : Who) (caller : Caller) (is_for : I
     unchanged : (known : RowMap) → middle.rows ≡ Some known → get (drafted [] known) (node_key inode) ≡ get (typed known) (node_key inode)
     unchanged known is = ap (λ rows. get rows (node_key inode)) (drafted-none known)
 
-    pub fstat-unread : (result : Result Attr TxFault) (fault : RowFault) → IsErrAnd result (λ e. e ≡ OfRows fault) → Sees OfNode is_node (node_key inode) [] middle after (Err fault)
+    pub fstat-unread : (result : Result Attr TxFault) (fault : RowFault) → IsErrAnd result (λ e. e ≡ OfRows fault)
+        → Sees OfNode is_node (node_key inode) [] middle after (Err fault)
         → Transacts Always before after result (λ attr. Described attr) fstat_act
     fstat-unread result fault is s =
         transacts-exit Always before after (λ attr. Described attr) fstat_act result (OfRows fault) is
-        (past-fails before middle after fstat_act (described_open inode) asked (OfRows fault) (fails-sees OfNode is_node (node_key inode) [] middle after unchanged fault s))
+        (past-fails before middle after fstat_act (described_open inode) asked (OfRows fault)
+        (fails-sees OfNode is_node (node_key inode) [] middle after unchanged fault s))
 
     module _ (found : Option NodeRow) (s : Sees OfNode is_node (node_key inode) [] middle after (Ok found)) where
       seen : Past before after fstat_act (described_open inode)
@@ -270,12 +337,15 @@ module _ (before middle after : Store) (who : Who) (caller : Caller) (is_for : I
         ap (λ o. some_or o (Stale (GoneNode inode)) >>= (λ node. answered t (Described (attr_of t inode node)))) has.there
         ∙ ap (λ a. answered t (Described a)) (attr-row t inode node (bytes inode) has ∙ sym is)))
 
-    pub fstat-gone : Sees OfNode is_node (node_key inode) [] middle after (Ok None) → Transacts {A = Attr} Always before after (Err (Refused (Stale (GoneNode inode)))) (λ attr. Described attr) fstat_act
+    pub fstat-gone : Sees OfNode is_node (node_key inode) [] middle after (Ok None)
+        → Transacts {A = Attr} Always before after (Err (Refused (Stale (GoneNode inode)))) (λ attr. Described attr) fstat_act
     fstat-gone s =
-        transacts-refused Always before after (λ attr. Described attr) fstat_act (Refused (Stale (GoneNode inode))) (past-refuses before after fstat_act (Stale (GoneNode inode))
+        transacts-refused Always before after (λ attr. Described attr) fstat_act (Refused (Stale (GoneNode inode)))
+        (past-refuses before after fstat_act (Stale (GoneNode inode))
         (past-as before after after fstat_act (described_open inode) (seen None s) (λ t. Err (Stale (GoneNode inode))) (λ known here whole bytes.
         let t = tree_of bytes (typed known) in
-        ap (λ o. some_or o (Stale (GoneNode inode)) >>= (λ node. answered t (Described (attr_of t inode node)))) (no_node bytes (typed known) inode (stands None s known here)))))
+        ap (λ o. some_or o (Stale (GoneNode inode)) >>= (λ node. answered t (Described (attr_of t inode node))))
+        (no_node bytes (typed known) inode (stands None s known here)))))
 
 -- ---- what is used
 
@@ -290,10 +360,12 @@ module _ (before asking setting_read after : Store) (who : Who) (caller : Caller
   abbrev usage_answered : Tree → Result Outcome Fault
   usage_answered t = answered t (Usage (usage_of t))
 
-  pub statfs-exit : (result : Result Space TxFault) (fault : TxFault) → IsErrAnd result (λ e. e ≡ fault) → Looks {A = Unit {0}} before asking (Err fault) (session_is who.sid)
+  pub statfs-exit : (result : Result Space TxFault) (fault : TxFault) → IsErrAnd result (λ e. e ≡ fault)
+      → Looks {A = Unit {0}} before asking (Err fault) (session_is who.sid)
       → Transacts Always before asking result (λ space. Usage space) statfs_act
   statfs-exit result fault is looks =
-      transacts-exit Always before asking (λ space. Usage space) statfs_act result fault is (stops-session before asking who caller is_for statfs_act usage_answered (begins-statfs caller) fault looks)
+      transacts-exit Always before asking (λ space. Usage space) statfs_act result fault is
+      (stops-session before asking who caller is_for statfs_act usage_answered (begins-statfs caller) fault looks)
 
   module _ (session : Looks before asking (Ok tt) (session_is who.sid)) where
     statfs_asked : Past before asking statfs_act usage_answered
@@ -305,7 +377,8 @@ module _ (before asking setting_read after : Store) (who : Who) (caller : Caller
     same_counters : (known : RowMap) → setting_read.rows ≡ Some known → get (drafted [] known) counters_key ≡ get (typed known) counters_key
     same_counters known is = ap (λ rows. get rows counters_key) (drafted-none known)
 
-    pub statfs-no_setting : (result : Result Space TxFault) (fault : TxFault) → IsErrAnd result (λ e. e ≡ fault) → Needs OfSetting is_setting setting_key [] asking setting_read (Err fault)
+    pub statfs-no_setting : (result : Result Space TxFault) (fault : TxFault) → IsErrAnd result (λ e. e ≡ fault)
+        → Needs OfSetting is_setting setting_key [] asking setting_read (Err fault)
         → Transacts Always before setting_read result (λ space. Usage space) statfs_act
     statfs-no_setting result fault is n =
         transacts-exit Always before setting_read (λ space. Usage space) statfs_act result fault is
@@ -316,7 +389,8 @@ module _ (before asking setting_read after : Store) (who : Who) (caller : Caller
       with_setting : Past before setting_read statfs_act usage_answered
       with_setting = past-calm before asking setting_read statfs_act usage_answered statfs_asked s.rows_are s.opened_at s.counts
 
-      pub statfs-no_counters : (result : Result Space TxFault) (fault : TxFault) → IsErrAnd result (λ e. e ≡ fault) → Needs OfCounters is_counters counters_key [] setting_read after (Err fault)
+      pub statfs-no_counters : (result : Result Space TxFault) (fault : TxFault) → IsErrAnd result (λ e. e ≡ fault)
+          → Needs OfCounters is_counters counters_key [] setting_read after (Err fault)
           → Transacts Always before after result (λ space. Usage space) statfs_act
       statfs-no_counters result fault is n =
           transacts-exit Always before after (λ space. Usage space) statfs_act result fault is
@@ -324,15 +398,27 @@ module _ (before asking setting_read after : Store) (who : Who) (caller : Caller
           (fails-needed OfCounters is_counters counters_key [] setting_read after same_counters (CountersNeeded refl) fault n))
 
       pub statfs-answers : (counters : Counters) → Needs OfCounters is_counters counters_key [] setting_read after (Ok counters)
-          → Transacts Always before after (Ok (record { used = counters.used_space; capacity = setting.capacity; inodes = counters.used_inodes; limit = setting.inodes })) (λ space. Usage space) statfs_act
+          → Transacts Always before after (Ok (record {
+            used = counters.used_space;
+            capacity = setting.capacity;
+            inodes = counters.used_inodes;
+            limit =
+                setting.inodes;
+          })) (λ space. Usage space) statfs_act
       statfs-answers counters n =
           let space : Space = record { used = counters.used_space; capacity = setting.capacity; inodes = counters.used_inodes; limit = setting.inodes } in
           transacts-answers Always before after (λ space. Usage space) statfs_act space
-          (past-as before after after statfs_act usage_answered (past-calm before setting_read after statfs_act usage_answered with_setting n.rows_are n.opened_at n.counts)
+          (past-as before after after statfs_act usage_answered
+          (past-calm before setting_read after statfs_act usage_answered with_setting n.rows_are n.opened_at n.counts)
           (λ t. answered t (Usage space)) (λ known here whole bytes.
           let t = tree_of bytes (typed known) in
           let stored = whole-stored bytes (typed known) whole in
-          let set : setting_at (typed known) ≡ Some setting = ap (λ c. setting_in (row_in c)) (stands-needs OfSetting is_setting setting_key [] asking setting_read same_setting setting s known (statfs_asked.rows_are ∙ here)) in
-          let counted : counters_at (typed known) ≡ Some counters = ap (λ c. counters_in (row_in c)) (stands-needs OfCounters is_counters counters_key [] setting_read after same_counters counters n known (with_setting.rows_are ∙ here)) in
+          let set : setting_at (typed known) ≡ Some setting =
+          ap (λ c. setting_in (row_in c)) (stands-needs OfSetting is_setting setting_key [] asking setting_read same_setting setting s known
+          (statfs_asked.rows_are ∙ here)) in
+          let counted : counters_at (typed known) ≡ Some counters =
+          ap (λ c. counters_in (row_in c)) (stands-needs OfCounters is_counters counters_key [] setting_read after same_counters counters n known
+          (with_setting.rows_are ∙ here)) in
           ap (λ u. answered t (Usage u)) (usage_of-rows t counters (found_counters bytes (typed known) stored counters counted)
-          ∙ ap (λ (s : Setting). record { used = counters.used_space; capacity = s.capacity; inodes = counters.used_inodes; limit = s.inodes }) (found_setting bytes (typed known) stored setting set))))
+          ∙ ap (λ (s : Setting). record { used = counters.used_space; capacity = s.capacity; inodes = counters.used_inodes; limit = s.inodes })
+          (found_setting bytes (typed known) stored setting set))))

@@ -13,7 +13,8 @@ use jv_outside::Keeper;
 use jv_rows::{Draft, Place, in_session, walk_to};
 use std::alloc::Global;
 
-/// The node that a path leads to, which is neither the trash nor one of its hours: these keep their attributes.
+/// The node that a path leads to, which is neither the trash nor one of its hours: these keep their
+/// attributes.
 fn changeable<K: Keeper>(alloc: Global, k: &mut K, sid: u64, path: &Path) -> Result<Place, TxFault>
     ensures { Comes (K.seen k.old) (K.seen k.new) result (λ t. changeable_inode t sid path.now) }
 {

@@ -1,15 +1,19 @@
 //! Look-ups and attributes, by POSIX.1-2017's "fstatat", "readdir", "readlink" and "fstatvfs".
-ghost use Rattle.std.specs.Prelude.{◌≡◌, false, IsTrue};
+ghost use Rattle.std.specs.Prelude.{◌≡◌, ◌++◌, false, Ok, IfOk, IsTrue};
 ghost use Rattle.jv_model.specs.declared.op.Reply.TheVariants.{Found, Described, Entries, Usage, Target, FileOpened};
 ghost use Rattle.jv_model.specs.tree.Caller.{Caller};
 ghost use Rattle.jv_model.specs.tree.Reading as model;
 ghost use Rattle.jv_tree.specs.Attributes.{kind_in, attr_in};
-ghost use Rattle.jv_rows.specs.Transactions.{IsFor, Transacts, Always};
+ghost use Rattle.jv_tree.specs.Directories.{last_of, entries_within, all_within};
+ghost use Rattle.jv_rows.specs.Transactions.{IsFor, Looks, Transacts, Always};
 
-use jv_model::{Attr, Bytes, Fault, FileKind, Gone, Node, Path, Space, TxFault, Who};
+use jv_model::{
+    Attr, Bytes, EntryList, Fault, FileKind, Gone, Node, Path, Row, RowKey, RowList, Sequence,
+    Space, TxFault, Who,
+};
 use jv_outside::Keeper;
-use jv_rows::{Draft, in_session, needed_counters, needed_setting, walk_to};
-use std::alloc::Global;
+use jv_rows::{Draft, in_session, needed_counters, needed_setting, scan_rows, walk_to};
+use std::alloc::{AllocError, Global};
 
 /// The inode of a path, whose last symlink isn't followed.
 pub fn lookup<K: Keeper>(alloc: Global, k: &mut K, who: &Who, path: &Path) -> Result<u64, TxFault>
@@ -92,6 +96,80 @@ pub fn open_node<K: Keeper>(
     match kind_of(&place.node) {
         FileKind::Directory => Err(TxFault::Refused(Fault::IsADirectory)),
         FileKind::File | FileKind::Symlink => Ok(place.inode),
+    }
+}
+
+/// The most rows that are read at once.
+const PAGE: u32 = 128;
+
+/// A copy of the key of the last row.
+fn last_key(alloc: Global, page: &[(RowKey, Row)]) -> Result<Option<RowKey>, AllocError>
+    ensures { IfOk result (λ found. found ≡ last_of page.now) }
+{
+    match page.last() {
+        Some((key, _)) => Ok(Some(key.copied(alloc)?)),
+        None => Ok(None),
+    }
+}
+
+/// Adds the rows that are entries of a directory, up to the first that isn't, and returns whether
+/// all are.
+fn take_entries(dir: u64, page: RowList, entries: &mut EntryList) -> Result<bool, AllocError>
+    ensures { IfOk result (λ all. (entries.new ≡ entries.old ++ entries_within dir page)
+        × (all ≡ all_within dir page)) }
+{
+    for (key, row) in page.into_vec() {
+        let Row::OfEdge(edge) = row else {
+            return Ok(false);
+        };
+        if key.a != dir {
+            return Ok(false);
+        }
+        entries.push((key.b, edge.inode))?;
+    }
+    Ok(true)
+}
+
+/// The entries of a directory, read in pages. A malformed row is Bad if a page has it, also where it
+/// comes behind the directory's entries.
+fn entries_in<K: Keeper>(alloc: Global, k: &mut K, dir: u64) -> Result<EntryList, TxFault>
+    ensures { Looks (K.seen k.old) (K.seen k.new) result (λ t. Ok (model.entries_of t dir)) }
+{
+    let mut entries = Sequence::new(alloc);
+    let mut last = RowKey {
+        tab: 3,
+        a: dir,
+        b: Sequence::new(alloc),
+    };
+    loop {
+        let page = scan_rows(alloc, k, 3, Some(&last), PAGE)?;
+        let next = last_key(alloc, page.as_slice())?;
+        // No list has 2^63 entries, so that the loop ends.
+        let count = entries.len();
+        let all = take_entries(dir, page, &mut entries)?;
+        match next {
+            Some(key) if all => last = key,
+            _ => return Ok(entries),
+        }
+    }
+}
+
+/// The entries of a directory in the order of their names' bytes; `.` and `..` aren't listed, nor
+/// `.trash` in the root. A malformed entry is Bad, here or in a directory that comes right behind.
+pub fn readdir<K: Keeper>(
+    alloc: Global,
+    k: &mut K,
+    who: &Who,
+    path: &Path,
+) -> Result<EntryList, TxFault>
+    ensures { (caller : Caller) → IsFor who.entry.now caller → Transacts Always (K.seen k.old) (K.seen k.new)
+        result (λ entries. Entries entries) (λ t. model.readdir t caller path.now) }
+{
+    in_session(alloc, k, who.sid)?;
+    let place = walk_to(alloc, k, path, true)?;
+    match kind_of(&place.node) {
+        FileKind::Directory => entries_in(alloc, k, place.inode),
+        FileKind::File | FileKind::Symlink => Err(TxFault::Refused(Fault::NotADirectory)),
     }
 }
 

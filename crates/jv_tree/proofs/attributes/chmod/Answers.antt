@@ -7,14 +7,19 @@ use Rattle.jv_tree.proofs.attributes.chmod.Goals as goal
 
 pub returns-in_err-place : goal.returns-in_err-place
 returns-in_err-place g c caller is_for =
-    attributes-exit (g.K.Keeper.seen c.args.k.now) (g.K.Keeper.seen c.changeable.new.k) (g.K.Keeper.seen c.changeable.new.k) c.args.who.now caller is_for c.args.path.now (λ (node : Node). record node { mode = c.args.mode }) (λ t. chmod t caller c.args.path.now c.args.mode) (chmod-is caller c.args.path.now c.args.mode)
+    attributes-exit (g.K.Keeper.seen c.args.k.now) (g.K.Keeper.seen c.changeable.new.k)
+    (g.K.Keeper.seen c.changeable.new.k) c.args.who.now caller is_for c.args.path.now (λ (node : Node). record node { mode = c.args.mode })
+    (λ t. chmod t caller c.args.path.now c.args.mode) (chmod-is caller c.args.path.now c.args.mode)
     c.from_residual.result c.in_err-place.field-0.0 c.from_residual.ensures.1 c.in_err-place.ensures
 
 pub returns : goal.returns
 returns g c caller is_for =
     let row = c.in_ok-place.place.node in
     let now_is = is_for.now ∙ sym c.seconds-ctime.ensures.seconds in
-    attributes-done (g.K.Keeper.seen c.args.k.now) (g.K.Keeper.seen c.changeable.new.k) (g.K.Keeper.seen c.store.new.k) c.args.who.now caller is_for c.args.path.now (λ (node : Node). record node { mode = c.args.mode }) (λ t. chmod t caller c.args.path.now c.args.mode) (chmod-is caller c.args.path.now c.args.mode)
+    attributes-done (g.K.Keeper.seen c.args.k.now) (g.K.Keeper.seen c.changeable.new.k)
+    (g.K.Keeper.seen c.store.new.k) c.args.who.now caller is_for c.args.path.now (λ (node : Node). record node { mode = c.args.mode })
+    (λ t. chmod t caller c.args.path.now c.args.mode) (chmod-is caller c.args.path.now c.args.mode)
     c.in_ok-place.place (record row { mode = c.args.mode; ctime = c.seconds-ctime.result }) c.in_ok-place.ensures
-    (subst (λ (now : ℕ). IsChanged caller.now (λ (node : Node). record node { mode = c.args.mode }) row (record row { mode = c.args.mode; ctime = now })) now_is (changed-mode caller.now c.args.mode row))
+    (subst (λ (now : ℕ). IsChanged caller.now (λ (node : Node). record node { mode = c.args.mode }) row (record row { mode = c.args.mode; ctime = now })) now_is
+    (changed-mode caller.now c.args.mode row))
     c.store.result c.store.ensures

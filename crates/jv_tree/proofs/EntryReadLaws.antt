@@ -1,0 +1,266 @@
+-- The entries that stored rows of a directory have are those of the tree, and what a reading of them in pages answers.
+use Rattle.std.proofs.Common.{◌≡◌, ◌≢◌, ℕ, zero, suc, ◌<◌, ◌++◌, Bool, true, false, cond, T, List, [], ◌∷◌, map, take, Option, Some, None, Result, Ok, Err, ok_or, refl, sym, ap, subst, ◌∙◌, true≢false, eqb-true}
+use Rattle.std.specs.Prelude.{◌==◌, ◌&&◌, if◌then◌else◌, is_ok, is_some, filter, IfSome, IsErrAnd}
+use Rattle.std.specs.Option.{option_map}
+use Rattle.std.specs.List.{AllByRecursion}
+use Rattle.std.specs.declared.cmp.Ordering.{Ordering}
+use Rattle.std.specs.declared.cmp.Ordering.TheVariants.{Less}
+use Rattle.std.specs.Ordering.{is_lt, nat_cmp, ordering_then}
+use Rattle.std.specs.Cmp.{nat_cmp_total, tied_itself}
+use Rattle.std.specs.FinMap.Entries.{put, find, by_order, below_all, is_sorted}
+use Rattle.jv_model.specs.declared.fault.Fault.{Fault}
+use Rattle.jv_model.specs.declared.fault.RowFault.{RowFault}
+use Rattle.jv_model.specs.declared.fault.RowFault.TheVariants.{Bad, Failed, Memory}
+use Rattle.jv_model.specs.declared.fault.TxFault.{TxFault}
+use Rattle.jv_model.specs.declared.fault.TxFault.TheVariants.{Rows as OfRows}
+use Rattle.jv_model.specs.declared.row.Edge.{Edge}
+use Rattle.jv_model.specs.declared.row.Row.{Row}
+use Rattle.jv_model.specs.declared.row.Row.TheVariants.{OfEdge}
+use Rattle.jv_model.specs.declared.row.RowKey.{RowKey}
+use Rattle.jv_model.specs.FiniteMap.{KeyOrder, Map, get, insert, map_of}
+use Rattle.jv_model.specs.rows.RowGrammar.{row_of, edge_of}
+use Rattle.jv_model.specs.rows.RowKeys.{RowMap, row_key, row_cmp}
+use Rattle.jv_model.specs.rows.RowPlaces.{edge_key}
+use Rattle.jv_model.specs.tree.Reading.{entries_of}
+use Rattle.jv_model.specs.tree.Tree.{Tree, EntryKey}
+use Rattle.jv_outside.specs.Rows.{is_after, rows_after}
+use Rattle.jv_outside.specs.Store.{Store}
+use Rattle.jv_volume.specs.TypedRows.{Cell, cell_of, typed_entries, typed, is_key}
+use Rattle.jv_volume.specs.TreeOf.{entry_selected, entries_selected, entry_of_key, tree_of}
+use Rattle.jv_volume.specs.Views.{row_in, edge_in}
+use Rattle.jv_volume.specs.Whole.{Whole}
+use Rattle.jv_volume.proofs.MapLaws.{first_of_both, second_of_both, find-below_all, is_sorted-changed}
+use Rattle.jv_volume.proofs.ReadLaws.{entries_of-rows}
+use Rattle.jv_volume.proofs.ShapeMapLaws.{tied_here, tied_apart}
+use Rattle.jv_volume.proofs.StoredLaws.{whole-typed}
+use Rattle.jv_volume.proofs.TypedLaws.{get-typed}
+use Rattle.jv_rows.specs.Scans.{row_then, rows_read, RefusesScan, ScansRows}
+use Rattle.jv_rows.specs.Tables.{edge_row}
+use Rattle.jv_rows.specs.Transactions.{IsBad, Malformed, Looks}
+use Rattle.jv_rows.proofs.TransactionLaws.{of_known, Past, Fails, FailsBy, past-fails, looks-exit}
+use Rattle.jv_tree.specs.Directories.{entries_within}
+use Rattle.jv_tree.proofs.DirectoryLaws.{edge_then, entries_from, edges_after, IsReadTo}
+use Rattle.jv_tree.proofs.EdgeOrderLaws.{behind, less_by, both_true}
+use Rattle.jv_tree.proofs.PageLaws.{IsEnd, read-all}
+
+-- ---- rows by their types, in their order
+
+module _ {K X : Type 0} (order : KeyOrder K) where
+  put_first : (k : K) (x : X) (es : List (K × X)) → T (below_all order.cmp k es) → put order.cmp k x es ≡ (k, x) ∷ es
+  put_first k x [] below = refl
+  put_first k x (e ∷ es) below =
+      ap (λ o. by_order o ((k, x) ∷ e ∷ es) ((e.0, x) ∷ es) (e ∷ put order.cmp k x es)) (less_by (order.cmp k e.0) (first_of_both _ _ below))
+
+  -- the entries of a map that was made of sorted ones
+  map_of-list : (es : List (K × X)) → T (is_sorted order.cmp es) → (map_of {order = order} es).list ≡ es
+  unfolding insert
+  map_of-list [] sorted = refl
+  map_of-list (e ∷ es) sorted = ap (put order.cmp e.0 e.1) (map_of-list es (second_of_both _ _ sorted)) ∙ put_first e.0 e.1 es (first_of_both _ _ sorted)
+
+  found_here : (e : K × X) (es : List (K × X)) → find order.cmp e.0 (e ∷ es) ≡ Some e.1
+  found_here e es = ap (λ (b : Bool). cond b (Some e.1) (find order.cmp e.0 es)) (tied_here order e.0)
+
+  apart_from : (e : K × X) (es : List (K × X)) (k : K) (x : X) → T (below_all order.cmp e.0 es) → find order.cmp k es ≡ Some x → k ≢ e.0
+  apart_from e es k x below there same =
+      let none : find order.cmp k es ≡ None = ap (λ q. find order.cmp q es) same ∙ find-below_all order e.0 es below in
+      true≢false (sym (ap is_some (sym none ∙ there)))
+
+  found_later : (e : K × X) (es : List (K × X)) (k : K) (x : X) → T (below_all order.cmp e.0 es) → find order.cmp k es ≡ Some x
+      → find order.cmp k (e ∷ es) ≡ Some x
+  found_later e es k x below there =
+      ap (λ (b : Bool). cond b (Some e.1) (find order.cmp k es)) (tied_apart order e.0 k (apart_from e es k x below there)) ∙ there
+
+  all_found : (P : K → X → Type 0) (es : List (K × X)) → T (is_sorted order.cmp es) → ((k : K) (x : X) → find order.cmp k es ≡ Some x → P k x)
+      → AllByRecursion (λ (e : K × X). P e.0 e.1) es
+  all_found P [] sorted has = tt
+  all_found P (e ∷ es) sorted has = (
+    has e.0 e.1 (found_here e es),
+    all_found P es (second_of_both _ _ sorted) (λ k x there. has k x (found_later e es k x (first_of_both _ _ sorted) there)),
+  )
+
+  -- each entry of a map stands at its key
+  all-stored : (m : Map order X) → AllByRecursion (λ (e : K × X). get m e.0 ≡ Some e.1) m.list
+  unfolding get
+  all-stored m = all_found (λ k x. find order.cmp k m.list ≡ Some x) m.list m.sorted (λ k x there. there)
+
+typed-list : (known : RowMap) → (typed known).list ≡ typed_entries known.list
+unfolding typed
+typed-list known = map_of-list row_key (typed_entries known.list) (subst T (sym (is_sorted-changed row_key cell_of known.list)) known.sorted)
+
+-- ---- the entries of a directory
+
+abbrev shown : ℕ → List (EntryKey × ℕ) → List (List ℕ × ℕ)
+shown dir es = map (λ (e : EntryKey × ℕ). (e.0.name, e.1)) (filter (λ (e : EntryKey × ℕ). e.0.dir == dir) es)
+
+abbrev inode_named : EntryKey → Option Row → Option ℕ
+inode_named at found = option_map (λ (edge : Edge). edge.inode) (edge_in found)
+
+module _ (dir : ℕ) (key : RowKey) (bytes : List ℕ) (others : List (EntryKey × ℕ)) where
+  abbrev place : EntryKey
+  place = record { dir = key.a; name = key.b }
+
+  abbrev selected_by : Bool → Cell → List (List ℕ × ℕ)
+  selected_by b cell = shown dir (entry_selected inode_named (if b then Some place else None) cell others)
+
+  abbrev from_by : Bool → List (List ℕ × ℕ)
+  from_by b = cond (b && (key.a == dir)) (edge_then key.b (edge_of bytes) (shown dir others)) (shown dir others)
+
+  either : (b : Bool) (x : List (List ℕ × ℕ)) → cond b x x ≡ x
+  either true x = refl
+  either false x = refl
+
+  by_dir : (edge : Edge) (b : Bool) → map (λ (e : EntryKey × ℕ). (e.0.name, e.1))
+      (cond b ((place, edge.inode) ∷ filter (λ (e : EntryKey × ℕ). e.0.dir == dir) others) (filter (λ (e : EntryKey × ℕ). e.0.dir == dir) others))
+      ≡ cond b ((key.b, edge.inode) ∷ shown dir others) (shown dir others)
+  by_dir edge true = refl
+  by_dir edge false = refl
+
+  by_edge : (o : Option Edge) → selected_by true (ok_or (option_map OfEdge o) bytes) ≡ cond (key.a == dir) (edge_then key.b o (shown dir others))
+      (shown dir others)
+  by_edge None = sym (either (key.a == dir) (shown dir others))
+  by_edge (Some edge) = by_dir edge (key.a == dir)
+
+  listed_at : (t : Bool) → (key.tab == 3) ≡ t → shown dir (entry_selected inode_named (entry_of_key key) (cell_of key bytes) others)
+      ≡ cond ((key.tab == 3) && (key.a == dir)) (edge_then key.b (edge_of bytes) (shown dir others)) (shown dir others)
+  listed_at true is =
+      let cell_is : cell_of key bytes ≡ ok_or (option_map OfEdge (edge_of bytes)) bytes =
+      ap (λ (t : ℕ). ok_or (row_of t bytes) bytes) (eqb-true key.tab 3 is) ∙ ap (λ (r : Option Row). ok_or r bytes) (edge_row bytes) in
+      ap (λ (b : Bool). selected_by b (cell_of key bytes)) is ∙ ap (selected_by true) cell_is ∙ by_edge (edge_of bytes) ∙ sym (ap from_by is)
+  listed_at false is = ap (λ (b : Bool). selected_by b (cell_of key bytes)) is ∙ sym (ap from_by is)
+
+entries-listed : (dir : ℕ) (es : List (RowKey × List ℕ)) → shown dir (entries_selected entry_of_key inode_named (typed_entries es)) ≡ entries_from dir es
+entries-listed dir [] = refl
+entries-listed dir (e ∷ es) =
+    listed_at dir e.0 e.1 (entries_selected entry_of_key inode_named (typed_entries es)) (e.0.tab == 3) refl
+    ∙ ap (λ (l : List (List ℕ × ℕ)). cond ((e.0.tab == 3) && (e.0.a == dir)) (edge_then e.0.b (edge_of e.1) l) l) (entries-listed dir es)
+
+-- ---- whole rows have no entry without a name
+
+abbrev IsStored : RowMap → RowKey × List ℕ → Type 0
+IsStored known e = get known e.0 ≡ Some e.1
+
+abbrev IsNamed : RowKey × List ℕ → Type 0
+IsNamed e = e.0.tab ≡ 3 → e.0.b ≡ [] → ⊥
+
+all_weaker : {A : Type 0} (P Q : A → Type 0) (xs : List A) → ((x : A) → P x → Q x) → AllByRecursion P xs → AllByRecursion Q xs
+all_weaker P Q [] weaker all = tt
+all_weaker P Q (x ∷ xs) weaker all = (weaker x all.0, all_weaker P Q xs weaker all.1)
+
+is_named : (known : RowMap) → Whole (typed known) → (e : RowKey × List ℕ) → get known e.0 ≡ Some e.1 → IsNamed e
+is_named known whole e there table nameless =
+    let cell : get (typed known) e.0 ≡ Some (cell_of e.0 e.1) = get-typed known e.0 ∙ ap (option_map (cell_of e.0)) there in
+    let is = (whole.cells e.0 (cell_of e.0 e.1) cell).key_is in
+    let bad : is_key e.0 ≡ false = λ i. is_key (record { tab = table i; a = e.0.a; b = nameless i }) in
+    true≢false (sym is ∙ bad)
+
+all_named : (known : RowMap) → Whole (typed known) → AllByRecursion IsNamed known.list
+all_named known whole = all_weaker (IsStored known) IsNamed known.list (is_named known whole) (all-stored row_key known)
+
+named_behind : (dir : ℕ) (key : RowKey) → key.tab ≡ 3 → key.a ≡ dir → (name : List ℕ) → key.b ≡ name → (key.b ≡ [] → ⊥)
+    → is_lt (row_cmp (edge_key dir []) key) ≡ true
+named_behind dir key table number [] is some = absurd (some is)
+named_behind dir key table number (x ∷ xs) is some =
+    (λ i. is_lt (row_cmp (edge_key dir []) (record { tab = table i; a = number i; b = is i })))
+    ∙ ap (λ (o : Ordering). is_lt (ordering_then (nat_cmp 3 3) (ordering_then o Less))) (tied_itself nat_cmp_total dir)
+
+module _ (dir : ℕ) (e : RowKey × List ℕ) (es : List (RowKey × List ℕ)) (named : IsNamed e)
+    (rest : entries_from dir (filter (behind (edge_key dir [])) es) ≡ entries_from dir es) where
+  outside : behind (edge_key dir []) e ≡ false → (t : Bool) → ((e.0.tab == 3) && (e.0.a == dir)) ≡ t → t ≡ false
+  outside before true is =
+      let both = both_true (e.0.tab == 3) (e.0.a == dir) is in
+      let table : e.0.tab ≡ 3 = eqb-true e.0.tab 3 both.0 in
+      let later : is_lt (row_cmp (edge_key dir []) e.0) ≡ true = named_behind dir e.0 table (eqb-true e.0.a dir both.1) e.0.b refl (named table) in
+      let passes : behind (edge_key dir []) e ≡ true = ap (λ (b : Bool). b && is_lt (row_cmp (edge_key dir []) e.0)) both.0 ∙ later in
+      absurd (true≢false (sym passes ∙ before))
+  outside before false is = refl
+
+  start_at : (b : Bool) → behind (edge_key dir []) e ≡ b
+      → entries_from dir (cond b (e ∷ filter (behind (edge_key dir [])) es) (filter (behind (edge_key dir [])) es)) ≡ entries_from dir (e ∷ es)
+  start_at true is = ap (λ (l : List (List ℕ × ℕ)). cond ((e.0.tab == 3) && (e.0.a == dir)) (edge_then e.0.b (edge_of e.1) l) l) rest
+  start_at false is = rest ∙ sym (ap (λ (b : Bool). cond b (edge_then e.0.b (edge_of e.1) (entries_from dir es)) (entries_from dir es))
+      (outside is ((e.0.tab == 3) && (e.0.a == dir)) refl))
+
+from_start : (dir : ℕ) (es : List (RowKey × List ℕ)) → AllByRecursion IsNamed es → entries_from dir (filter (behind (edge_key dir [])) es) ≡ entries_from dir es
+from_start dir [] all = refl
+from_start dir (e ∷ es) all = start_at dir e es all.0 (from_start dir es all.1) (behind (edge_key dir []) e) refl
+
+-- the entries of a directory in the tree are those of the rows behind the place of an empty name
+pub entries-known : (bytes : ℕ → ℕ → ℕ) (known : RowMap) (dir : ℕ) → Whole (typed known)
+    → entries_of (tree_of bytes (typed known)) dir ≡ entries_from dir (edges_after (edge_key dir []) known)
+entries-known bytes known dir whole =
+    entries_of-rows bytes (typed known) dir ∙ ap (λ (l : List (RowKey × Cell)). shown dir (entries_selected entry_of_key inode_named l)) (typed-list known)
+    ∙ entries-listed dir known.list ∙ sym (from_start dir known.list (all_named known whole))
+
+-- ---- a page that wasn't read
+
+module _ {A : Type 0} (P : A → Type 0) where
+  all_kept : (b : Bool) (x : A) (xs : List A) → P x → AllByRecursion P xs → AllByRecursion P (cond b (x ∷ xs) xs)
+  all_kept true x xs p all = (p, all)
+  all_kept false x xs p all = all
+
+  all_filter : (test : A → Bool) (xs : List A) → AllByRecursion P xs → AllByRecursion P (filter test xs)
+  all_filter test [] all = tt
+  all_filter test (x ∷ xs) all = all_kept (test x) x (filter test xs) all.0 (all_filter test xs all.1)
+
+  all_take : (n : ℕ) (xs : List A) → AllByRecursion P xs → AllByRecursion P (take n xs)
+  all_take zero xs all = tt
+  all_take (suc n) [] all = tt
+  all_take (suc n) (x ∷ xs) all = (all.0, all_take n xs all.1)
+
+same_err : {A E : Type 0} (x y : E) → ◌≡◌ {A = Result A E} (Err x) (Err y) → x ≡ y
+same_err x y e = cc
+
+module _ (P : RowKey × List ℕ → Type 0) (off : RowKey × List ℕ) where
+  off_at : (r : RowKey × List ℕ) (o : Option Row) (others : Result (List (RowKey × Row)) (RowKey × List ℕ)) → P r → (others ≡ Err off → P off)
+      → row_then r.0 r.1 o others ≡ Err off → P off
+  off_at r None others p later e = subst P (same_err (r.0, r.1) off e) p
+  off_at r (Some found) (Ok rest) p later e = absurd (true≢false (ap is_ok e))
+  off_at r (Some found) (Err x) p later e = later e
+
+  read_off : (rows : List (RowKey × List ℕ)) → AllByRecursion P rows → rows_read rows ≡ Err off → P off
+  read_off [] all e = absurd (true≢false (ap is_ok e))
+  read_off (r ∷ rows) all e = off_at r (row_of r.0.tab r.1) (rows_read rows) all.0 (read_off rows all.1) e
+
+module _ (tab : ℕ) (last : Option RowKey) (n : ℕ) (before after : Store) where
+  why_unscanned : (fault : RowFault) → RefusesScan before.rows tab last n fault → FailsBy before.rows (OfRows fault)
+  why_unscanned (Bad at bytes) h = λ known is.
+      let read = of_known (λ known. rows_read (rows_after known tab last n) ≡ Err (at, bytes)) before.rows known is h.1 in
+      let there : get known at ≡ Some bytes = read_off (IsStored known) (at, bytes) (rows_after known tab last n)
+      (all_take (IsStored known) n (filter (λ (r : RowKey × List ℕ). is_after tab last r.0) known.list)
+      (all_filter (IsStored known) (λ (r : RowKey × List ℕ). is_after tab last r.0) known.list (all-stored row_key known))) read in
+      let bad : get (typed known) at ≡ Some (Err bytes) =
+      get-typed known at ∙ ap (option_map (cell_of at)) there ∙ ap (λ (r : Option Row). Some (ok_or r bytes)) h.0 in
+      (Malformed bad, λ whole. whole-typed (typed known) at bytes whole bad)
+  why_unscanned Failed h = tt
+  why_unscanned Memory h = tt
+
+  pub fails-scan : (fault : RowFault) → ScansRows tab last n before after (Err fault) → Fails before after (OfRows fault)
+  fails-scan fault s = record { rows_are = s.rows_are; opened_at = s.opened_at; cause = s.counts; why = why_unscanned fault s.refused }
+
+-- ---- the reading
+
+abbrev pub lists_entries : ℕ → Tree → Result (List (List ℕ × ℕ)) Fault
+lists_entries dir t = Ok (entries_of t dir)
+
+module _ (dir n : ℕ) (start now after : Store) (last : RowKey) (entries : List (List ℕ × ℕ)) (so_far : IsReadTo dir start now last entries) where
+  read_past : Past start now (lists_entries dir) (lists_entries dir)
+  read_past = record { rows_are = so_far.rows_are; opened_at = so_far.opened_at; calm = so_far.calm; goes_on = λ known is whole bytes. refl }
+
+  pub page-unread : (result : Result (List (List ℕ × ℕ)) TxFault) (fault : RowFault) → IsErrAnd result (λ e. e ≡ OfRows fault)
+      → ScansRows 3 (Some last) n now after (Err fault)
+      → Looks start after result (lists_entries dir)
+  page-unread result fault is scan =
+      looks-exit start after (lists_entries dir) result (OfRows fault) is
+      (past-fails start now after (lists_entries dir) (lists_entries dir) read_past (OfRows fault) (fails-scan 3 (Some last) n now after fault scan))
+
+  pub pages-read : (list : List (RowKey × Row)) (new : List (List ℕ × ℕ)) → ScansRows 3 (Some last) n now after (Ok list)
+      → new ≡ entries ++ entries_within dir list → 0 < n → IsEnd dir list
+      → Looks start after (Ok new) (lists_entries dir)
+  pages-read list new scan adds some end = record {
+    rows_are = scan.rows_are ∙ so_far.rows_are;
+    opened_at = scan.opened_at ∙ so_far.opened_at;
+    counts = scan.counts ∙ so_far.calm;
+    agrees = λ known is whole bytes. ap (λ (l : List (List ℕ × ℕ)). Ok l)
+        (entries-known bytes known dir whole ∙ read-all dir n start now after last entries new list so_far scan adds some end known is);
+    bad = tt;
+  }
