@@ -38,8 +38,7 @@ module _ {B : Type 0} (before after : Store) (who : Who) (caller : Caller) (is_f
     (begins : (t : Tree) → act t ≡ (in_session t caller >>= (λ unit. next t))) where
   asks : Past before before act (λ t. session_is who.sid t >>= (λ unit. next t))
   asks = past-as before before before act act (past-start before act) (λ t. session_is who.sid t >>= (λ unit. next t))
-      (λ known is whole bytes. begins (tree_of bytes (typed known))
-      ∙ ap (λ r. r >>= (λ unit. next (tree_of bytes (typed known)))) (in_session-is who caller is_for (tree_of bytes (typed known))))
+      (λ known is whole bytes. begins (tree_of bytes (typed known)) ∙ ap (λ r. r >>= (λ unit. next (tree_of bytes (typed known)))) (in_session-is who caller is_for (tree_of bytes (typed known))))
 
   pub past-session : Looks before after (Ok tt) (session_is who.sid) → Past before after act next
   past-session looks = past-looks before before after act (session_is who.sid) (λ t unit. next t) asks tt looks
@@ -67,32 +66,23 @@ has-node before after inode node same stands known is whole bytes =
 -- ---- a session and a walk: how most transactions begin
 
 module _ {B : Type 0} (before middle after : Store) (who : Who) (caller : Caller) (is_for : IsFor who caller) (follow : Bool) (path : List ℕ)
-    (act : Tree → Result B Fault) (next : Tree → ℕ → Result B Fault)
-    (begins : (t : Tree) → act t ≡ (in_session t caller >>= (λ unit. inode_by follow t path >>= next t))) where
-  pub arrives : (place : Place) → Looks before middle (Ok tt) (session_is who.sid) → Comes middle after (Ok place) (λ t. inode_by follow t path)
-      → Past before after act (λ t. next t place.inode)
+    (act : Tree → Result B Fault) (next : Tree → ℕ → Result B Fault) (begins : (t : Tree) → act t ≡ (in_session t caller >>= (λ unit. inode_by follow t path >>= next t))) where
+  pub arrives : (place : Place) → Looks before middle (Ok tt) (session_is who.sid) → Comes middle after (Ok place) (λ t. inode_by follow t path) → Past before after act (λ t. next t place.inode)
   arrives place looks c =
-      past-place before middle after act (λ t. inode_by follow t path) next
-      (past-session before middle who caller is_for act (λ t. inode_by follow t path >>= next t) begins looks) place c
+      past-place before middle after act (λ t. inode_by follow t path) next (past-session before middle who caller is_for act (λ t. inode_by follow t path >>= next t) begins looks) place c
 
-  pub arrives-not : (fault : TxFault) → Looks before middle (Ok tt) (session_is who.sid) → Comes middle after (Err fault) (λ t. inode_by follow t path)
-      → Looks {A = B} before after (Err fault) act
+  pub arrives-not : (fault : TxFault) → Looks before middle (Ok tt) (session_is who.sid) → Comes middle after (Err fault) (λ t. inode_by follow t path) → Looks {A = B} before after (Err fault) act
   arrives-not fault looks c =
-      stops-place before middle after act (λ t. inode_by follow t path) next
-      (past-session before middle who caller is_for act (λ t. inode_by follow t path >>= next t) begins looks) fault c
+      stops-place before middle after act (λ t. inode_by follow t path) next (past-session before middle who caller is_for act (λ t. inode_by follow t path >>= next t) begins looks) fault c
 
 -- ---- a transaction's exits before it has come to its node
 
-module _ {A : Type 0} (ready : Tree → Type 0) (before middle after : Store) (who : Who) (caller : Caller) (is_for : IsFor who caller) (follow : Bool)
-    (path : List ℕ) (reply : A → Reply)
-    (act : Tree → Result Outcome Fault) (next : Tree → ℕ → Result Outcome Fault)
-    (begins : (t : Tree) → act t ≡ (in_session t caller >>= (λ unit. inode_by follow t path >>= next t))) where
-  pub exit-session : (result : Result A TxFault) (fault : TxFault) → IsErrAnd result (λ e. e ≡ fault)
-      → Looks {A = Unit {0}} before middle (Err fault) (session_is who.sid)
+module _ {A : Type 0} (ready : Tree → Type 0) (before middle after : Store) (who : Who) (caller : Caller) (is_for : IsFor who caller) (follow : Bool) (path : List ℕ) (reply : A → Reply)
+    (act : Tree → Result Outcome Fault) (next : Tree → ℕ → Result Outcome Fault) (begins : (t : Tree) → act t ≡ (in_session t caller >>= (λ unit. inode_by follow t path >>= next t))) where
+  pub exit-session : (result : Result A TxFault) (fault : TxFault) → IsErrAnd result (λ e. e ≡ fault) → Looks {A = Unit {0}} before middle (Err fault) (session_is who.sid)
       → Transacts ready before middle result reply act
   exit-session result fault is looks =
-      transacts-exit ready before middle reply act result fault is
-      (stops-session before middle who caller is_for act (λ t. inode_by follow t path >>= next t) begins fault looks)
+      transacts-exit ready before middle reply act result fault is (stops-session before middle who caller is_for act (λ t. inode_by follow t path >>= next t) begins fault looks)
 
   pub exit-walk : (result : Result A TxFault) (fault : TxFault) → IsErrAnd result (λ e. e ≡ fault) → Looks before middle (Ok tt) (session_is who.sid)
       → Comes middle after (Err fault) (λ t. inode_by follow t path) → Transacts ready before after result reply act

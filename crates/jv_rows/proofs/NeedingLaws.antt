@@ -42,41 +42,34 @@ session_is sid t = require (is_some (get t.sessions sid)) (Stale (GoneSession si
 
 module _ (sid : ℕ) (before after : Store) where
   -- a reading of the session's row, as one over no changes
-  pub session-seen : (result seen : Result (Option Session) RowFault) → result ≡ seen
-      → ReadsRow session_of session_bytes is_session (session_key sid) before after result
+  pub session-seen : (result seen : Result (Option Session) RowFault) → result ≡ seen → ReadsRow session_of session_bytes is_session (session_key sid) before after result
       → Sees OfSession is_session (session_key sid) [] before after seen
   session-seen result seen is r =
       sees_stored OfSession session_of 6 session_row (session_key sid) refl session_bytes is_session [] before after seen refl
       (subst (ReadsRow session_of session_bytes is_session (session_key sid) before after) is r)
 
-  pub session-unread : {A : Type 0} (act : Tree → Result A Fault) (fault : RowFault) → Sees OfSession is_session (session_key sid) [] before after (Err fault)
-      → Looks before after (Err (OfRows fault)) act
+  pub session-unread : {A : Type 0} (act : Tree → Result A Fault) (fault : RowFault) → Sees OfSession is_session (session_key sid) [] before after (Err fault) → Looks before after (Err (OfRows fault)) act
   session-unread act fault s =
-      fails-looks before after act (OfRows fault)
-      (fails-sees OfSession is_session (session_key sid) [] before after (λ known is. ap (λ rows. get rows (session_key sid)) (drafted-none known)) fault s)
+      fails-looks before after act (OfRows fault) (fails-sees OfSession is_session (session_key sid) [] before after (λ known is. ap (λ rows. get rows (session_key sid)) (drafted-none known)) fault s)
 
-  pub session-there : (session : Session) → Sees OfSession is_session (session_key sid) [] before after (Ok (Some session))
-      → Looks before after (Ok tt) (session_is sid)
+  pub session-there : (session : Session) → Sees OfSession is_session (session_key sid) [] before after (Ok (Some session)) → Looks before after (Ok tt) (session_is sid)
   session-there session s = record {
     rows_are = s.rows_are;
     opened_at = s.opened_at;
     counts = s.counts;
     agrees = λ known is whole bytes.
-        let row = stands-sees OfSession is_session (session_key sid) [] before after (λ known is. ap (λ rows. get rows (session_key sid)) (drafted-none known))
-        (Some session) s known is in
+        let row = stands-sees OfSession is_session (session_key sid) [] before after (λ known is. ap (λ rows. get rows (session_key sid)) (drafted-none known)) (Some session) s known is in
         ap (λ o. require (is_some o) (Stale (GoneSession sid))) (found_session bytes (typed known) sid session (ap (λ c. session_in (row_in c)) row));
     bad = tt;
   }
 
-  pub session-gone : Sees OfSession is_session (session_key sid) [] before after (Ok None)
-      → Looks {A = Unit {0}} before after (Err (Refused (Stale (GoneSession sid)))) (session_is sid)
+  pub session-gone : Sees OfSession is_session (session_key sid) [] before after (Ok None) → Looks {A = Unit {0}} before after (Err (Refused (Stale (GoneSession sid)))) (session_is sid)
   session-gone s = record {
     rows_are = s.rows_are;
     opened_at = s.opened_at;
     counts = s.counts;
     agrees = λ known is whole bytes.
-        let row = stands-sees OfSession is_session (session_key sid) [] before after
-        (λ known is. ap (λ rows. get rows (session_key sid)) (drafted-none known)) None s known is in
+        let row = stands-sees OfSession is_session (session_key sid) [] before after (λ known is. ap (λ rows. get rows (session_key sid)) (drafted-none known)) None s known is in
         ap (λ o. require (is_some o) (Stale (GoneSession sid))) (no_session bytes (typed known) sid (ap (λ c. session_in (row_in c)) row));
     bad = if_known (λ known. BadFault (typed known) (Refused (Stale (GoneSession sid)))) before.rows (λ known is. tt);
   }
@@ -99,14 +92,12 @@ needs_row key (TrashNeeded is) = subst (λ k. IsTrue (is_needed k)) (sym is) ref
 some_not_none : {A : Type 0} {x : A} (o : Option A) → o ≡ Some x → o ≡ None → ⊥
 some_not_none o e f = (let both = sym e ∙ f in absurd (cc))
 
-node_is_there : (rows : Rows) (inode parent : ℕ) → Stored rows (tree_of no_bytes rows) → form_of (node_at (tree_of no_bytes rows) inode) ≡ Dir parent
-    → get rows (node_key inode) ≡ None → ⊥
+node_is_there : (rows : Rows) (inode parent : ℕ) → Stored rows (tree_of no_bytes rows) → form_of (node_at (tree_of no_bytes rows) inode) ≡ Dir parent → get rows (node_key inode) ≡ None → ⊥
 node_is_there rows inode parent stored form none = by_node (node_at (tree_of no_bytes rows) inode) refl
   where
     by_node : (o : Option Node) → node_at (tree_of no_bytes rows) inode ≡ o → ⊥
     by_node None e = (let both = sym (ap form_of e) ∙ form in absurd (cc))
-    by_node (Some node) e = some_not_none (get rows (node_key inode))
-        (stored.node inode ∙ ap (option_map (λ node. Ok (OfNode (node_row (link_count (tree_of no_bytes rows) inode) node)))) e) none
+    by_node (Some node) e = some_not_none (get rows (node_key inode)) (stored.node inode ∙ ap (option_map (λ node. Ok (OfNode (node_row (link_count (tree_of no_bytes rows) inode) node)))) e) none
 
 -- whole rows have them
 pub needed-there : (rows : Rows) (key : RowKey) → IsNeeded key → Whole rows → get rows key ≡ None → ⊥
@@ -118,16 +109,14 @@ needed-there rows key (TrashNeeded is) whole none = node_is_there rows TRASH_ROO
 -- A reading of a row that has to be there, which stands as it did before the changes.
 module _ {A : Type 0} (row : A → Row) (is_allowed : A → Bool) (key : RowKey) (changes : List Change) (before after : Store)
     (kept : (known : RowMap) → before.rows ≡ Some known → get (drafted changes known) key ≡ get (typed known) key) where
-  pub stands-needs : (x : A) → Needs row is_allowed key changes before after (Ok x) → (known : RowMap) → before.rows ≡ Some known
-      → get (typed known) key ≡ Some (Ok (row x))
+  pub stands-needs : (x : A) → Needs row is_allowed key changes before after (Ok x) → (known : RowMap) → before.rows ≡ Some known → get (typed known) key ≡ Some (Ok (row x))
   stands-needs x n known is = sym (kept known is) ∙ of_known (λ known. get (drafted changes known) key ≡ Some (Ok (row x))) before.rows known is n.found
 
   -- why a row is Bad that is absent
   abbrev pub LacksBad : Type 0
   LacksBad = (known : RowMap) → before.rows ≡ Some known → get (typed known) key ≡ None → IsBad (typed known) key [] × (Whole (typed known) → ⊥)
 
-  no_row : LacksBad → (known : RowMap) → before.rows ≡ Some known → (bytes : List ℕ) (stands : Option Cell) → get (typed known) key ≡ stands
-      → IsNoRow stands bytes
+  no_row : LacksBad → (known : RowMap) → before.rows ≡ Some known → (bytes : List ℕ) (stands : Option Cell) → get (typed known) key ≡ stands → IsNoRow stands bytes
       → IsBad (typed known) key bytes × (Whole (typed known) → ⊥)
   no_row lacks known is bytes None there h = subst (λ b. IsBad (typed known) key b × (Whole (typed known) → ⊥)) (sym h) (lacks known is there)
   no_row lacks known is bytes (Some (Ok stored)) there h = absurd h
@@ -139,8 +128,7 @@ module _ {A : Type 0} (row : A → Row) (is_allowed : A → Bool) (key : RowKey)
   why_lacking lacks (Refused fault) h = absurd h
   why_lacking lacks (Moved list) h = absurd h
   why_lacking lacks (OfRows (Bad at bytes)) h = λ known is.
-      let stands : IsNoRow (get (drafted changes known) key) bytes =
-      of_known (λ known. IsNoRow (get (drafted changes known) key) bytes) before.rows known is h.1 in
+      let stands : IsNoRow (get (drafted changes known) key) bytes = of_known (λ known. IsNoRow (get (drafted changes known) key) bytes) before.rows known is h.1 in
       let here : IsNoRow (get (typed known) key) bytes = subst (λ c. IsNoRow c bytes) (kept known is) stands in
       subst (λ k. IsBad (typed known) k bytes × (Whole (typed known) → ⊥)) (sym h.0) (no_row lacks known is bytes (get (typed known) key) refl here)
   why_lacking lacks (OfRows Failed) h = tt
@@ -151,8 +139,7 @@ module _ {A : Type 0} (row : A → Row) (is_allowed : A → Bool) (key : RowKey)
   fails-needs lacks fault n = record { rows_are = n.rows_are; opened_at = n.opened_at; cause = n.counts; why = why_lacking lacks fault n.refused }
 
   pub fails-needed : IsNeeded key → (fault : TxFault) → Needs row is_allowed key changes before after (Err fault) → Fails before after fault
-  fails-needed needed fault n = fails-needs
-      (λ known is none. (Lacks (needs_row key needed) none refl, λ whole. needed-there (typed known) key needed whole none)) fault n
+  fails-needed needed fault n = fails-needs (λ known is none. (Lacks (needs_row key needed) none refl, λ whole. needed-there (typed known) key needed whole none)) fault n
 
 -- a reading over a new draft is one over no changes
 pub needs-fresh : {A : Type 0} (row : A → Row) (is_allowed : A → Bool) (key : RowKey) (changes : List Change) (before after : Store) (result : Result A TxFault)

@@ -51,8 +51,7 @@ pub record Past {A : Type 0} (before after : Store) (act rest : Tree → Result 
   pub rows_are : after.rows ≡ before.rows
   pub opened_at : after.opened ≡ before.opened
   pub calm : after.faults ≡ before.faults
-  pub goes_on : (known : RowMap) → before.rows ≡ Some known → Whole (typed known) → (bytes : ℕ → ℕ → ℕ)
-      → act (tree_of bytes (typed known)) ≡ rest (tree_of bytes (typed known))
+  pub goes_on : (known : RowMap) → before.rows ≡ Some known → Whole (typed known) → (bytes : ℕ → ℕ → ℕ) → act (tree_of bytes (typed known)) ≡ rest (tree_of bytes (typed known))
 
 pub past-start : {A : Type 0} (store : Store) (act : Tree → Result A Fault) → Past store store act act
 past-start store act = record { rows_are = refl; opened_at = refl; calm = refl; goes_on = λ known is whole bytes. refl }
@@ -74,8 +73,7 @@ pub record Fails (before after : Store) (fault : TxFault) : Type 0 where
 module _ {A : Type 0} (before middle after : Store) (act rest : Tree → Result A Fault) (p : Past before middle act rest) where
   -- the rest by another name over whole rows
   pub past-as : (next : Tree → Result A Fault)
-      → ((known : RowMap) → before.rows ≡ Some known → Whole (typed known) → (bytes : ℕ → ℕ → ℕ)
-      → rest (tree_of bytes (typed known)) ≡ next (tree_of bytes (typed known)))
+      → ((known : RowMap) → before.rows ≡ Some known → Whole (typed known) → (bytes : ℕ → ℕ → ℕ) → rest (tree_of bytes (typed known)) ≡ next (tree_of bytes (typed known)))
       → Past before middle act next
   past-as next same = record {
     rows_are = p.rows_are;
@@ -86,12 +84,7 @@ module _ {A : Type 0} (before middle after : Store) (act rest : Tree → Result 
 
   -- one more reading, of which the model sees nothing
   pub past-calm : after.rows ≡ middle.rows → after.opened ≡ middle.opened → after.faults ≡ middle.faults → Past before after act rest
-  past-calm rows_are opened_at calm = record {
-    rows_are = rows_are ∙ p.rows_are;
-    opened_at = opened_at ∙ p.opened_at;
-    calm = calm ∙ p.calm;
-    goes_on = p.goes_on;
-  }
+  past-calm rows_are opened_at calm = record { rows_are = rows_are ∙ p.rows_are; opened_at = opened_at ∙ p.opened_at; calm = calm ∙ p.calm; goes_on = p.goes_on }
 
   agrees_past : (result : Result A TxFault) (r model : Result A Fault) → model ≡ r → Agrees result r → Agrees result model
   agrees_past (Ok x) r model is h = is ∙ h
@@ -107,16 +100,14 @@ module _ {A : Type 0} (before middle after : Store) (act rest : Tree → Result 
     rows_are = l.rows_are ∙ p.rows_are;
     opened_at = l.opened_at ∙ p.opened_at;
     counts = subst (λ n. TransactionCounts n after.faults result) p.calm l.counts;
-    agrees = λ known is whole bytes. agrees_past result (rest (tree_of bytes (typed known))) (act (tree_of bytes (typed known)))
-        (p.goes_on known is whole bytes)
+    agrees = λ known is whole bytes. agrees_past result (rest (tree_of bytes (typed known))) (act (tree_of bytes (typed known))) (p.goes_on known is whole bytes)
         (l.agrees known (p.rows_are ∙ is) whole bytes);
     bad = subst (λ o. IfErr result (λ fault. IfSome o (λ known. BadFault (typed known) fault))) p.rows_are l.bad;
   }
 
 -- Any reading that fails, whatever the model would find.
 module _ {A : Type 0} (before after : Store) (act : Tree → Result A Fault) where
-  agrees_failed : (fault : TxFault) → FailsBy before.rows fault → (known : RowMap) → before.rows ≡ Some known → Whole (typed known) → (model : Result A Fault)
-      → Agrees (Err fault) model
+  agrees_failed : (fault : TxFault) → FailsBy before.rows fault → (known : RowMap) → before.rows ≡ Some known → Whole (typed known) → (model : Result A Fault) → Agrees (Err fault) model
   agrees_failed (Refused fault) why known is whole model = absurd why
   agrees_failed (Moved list) why known is whole model = why
   agrees_failed (OfRows (Bad at bytes)) why known is whole model = (why known is).1 whole
@@ -177,13 +168,7 @@ module _ {A B : Type 0} (before middle after : Store) (act : Tree → Result B F
 module _ {A : Type 0} (before after : Store) (act : Tree → Result A Fault) where
   -- the answer
   pub past-gives : (x : A) → Past before after act (λ t. Ok x) → Looks before after (Ok x) act
-  past-gives x p = record {
-    rows_are = p.rows_are;
-    opened_at = p.opened_at;
-    counts = p.calm;
-    agrees = λ known is whole bytes. p.goes_on known is whole bytes;
-    bad = tt;
-  }
+  past-gives x p = record { rows_are = p.rows_are; opened_at = p.opened_at; counts = p.calm; agrees = λ known is whole bytes. p.goes_on known is whole bytes; bad = tt }
 
   -- a refusal
   pub past-refuses : (fault : Fault) → Past before after act (λ t. Err fault) → Looks before after (Err (Refused fault)) act
@@ -196,8 +181,7 @@ module _ {A : Type 0} (before after : Store) (act : Tree → Result A Fault) whe
   }
 
 -- a reading that fails at an exit by `?`
-pub looks-exit : {A : Type 0} (before after : Store) (act : Tree → Result A Fault) (result : Result A TxFault) (fault : TxFault)
-    → IsErrAnd result (λ e. e ≡ fault)
+pub looks-exit : {A : Type 0} (before after : Store) (act : Tree → Result A Fault) (result : Result A TxFault) (fault : TxFault) → IsErrAnd result (λ e. e ≡ fault)
     → Looks {A = A} before after (Err fault) act → Looks before after result act
 looks-exit before after act (Ok x) fault h l = absurd h
 looks-exit {A} before after act (Err e) fault h l = subst (λ f. Looks {A = A} before after (Err f) act) (sym h) l
@@ -224,8 +208,7 @@ module _ {A : Type 0} (ready : Tree → Type 0) (before after : Store) (reply : 
   }
 
   -- the same at an exit by `?`
-  pub transacts-exit : (result : Result A TxFault) (fault : TxFault) → IsErrAnd result (λ e. e ≡ fault) → Looks {A = Outcome} before after (Err fault) act
-      → Transacts ready before after result reply act
+  pub transacts-exit : (result : Result A TxFault) (fault : TxFault) → IsErrAnd result (λ e. e ≡ fault) → Looks {A = Outcome} before after (Err fault) act → Transacts ready before after result reply act
   transacts-exit (Ok x) fault h l = absurd h
   transacts-exit (Err e) fault h l = subst (λ f. Transacts {A = A} ready before after (Err f) reply act) (sym h) (transacts-refused fault l)
 
@@ -256,12 +239,10 @@ landed-makes : (known : RowMap) (changes : List Change) (after : Option RowMap) 
 unfolding drafted
 landed-makes known changes after bytes reply act is m = record { left = applied changes known; is = is; whole = m.whole; quiet = m.quiet; model = m.model }
 
-module _ {A : Type 0} (ready : Tree → Type 0) (before middle after : Store) (reply : A → Reply) (act rest : Tree → Result Outcome Fault)
-    (p : Past before middle act rest) where
+module _ {A : Type 0} (ready : Tree → Type 0) (before middle after : Store) (reply : A → Reply) (act rest : Tree → Result Outcome Fault) (p : Past before middle act rest) where
   -- a transaction that commits its changes
   pub transacts-commits : (x : A) (changes : List Change) → Commits middle after (Ok tt) changes
-      → ((known : RowMap) → before.rows ≡ Some known → Whole (typed known) → (bytes : ℕ → ℕ → ℕ) → ready (tree_of bytes (typed known))
-      → Makes known changes bytes (reply x) rest)
+      → ((known : RowMap) → before.rows ≡ Some known → Whole (typed known) → (bytes : ℕ → ℕ → ℕ) → ready (tree_of bytes (typed known)) → Makes known changes bytes (reply x) rest)
       → Transacts ready before after (Ok x) reply act
   transacts-commits x changes c makes = record {
     opened_at = c.opened_at ∙ p.opened_at;
@@ -282,8 +263,7 @@ pub fails-memory : (store : Store) → Fails store store (OfRows Memory)
 fails-memory store = record { rows_are = refl; opened_at = refl; cause = refl; why = tt }
 
 -- a commit that wasn't made
-pub fails-commit : (before after : Store) (down : Down) (changes : List Change) → Commits before after (Err down) changes
-    → Fails before after (OfRows (row_fault down))
+pub fails-commit : (before after : Store) (down : Down) (changes : List Change) → Commits before after (Err down) changes → Fails before after (OfRows (row_fault down))
 fails-commit before after DeviceFailed changes c = record { rows_are = c.rows_are; opened_at = c.opened_at; cause = c.cause; why = tt }
 fails-commit before after DeviceMemory changes c = record { rows_are = c.rows_are; opened_at = c.opened_at; cause = c.cause; why = tt }
 
@@ -292,8 +272,7 @@ module _ {A : Type 0} (row : A → Row) (is_allowed : A → Bool) (key : RowKey)
     (kept : (known : RowMap) → before.rows ≡ Some known → get (drafted changes known) key ≡ get (typed known) key) where
   why_unread : (fault : RowFault) → RefusesCell key changes before.rows fault → FailsBy before.rows (OfRows fault)
   why_unread (Bad at bytes) h = λ known is.
-      let there : get (typed known) key ≡ Some (Err bytes) =
-      sym (kept known is) ∙ of_known (λ known. get (drafted changes known) key ≡ Some (Err bytes)) before.rows known is h.1 in
+      let there : get (typed known) key ≡ Some (Err bytes) = sym (kept known is) ∙ of_known (λ known. get (drafted changes known) key ≡ Some (Err bytes)) before.rows known is h.1 in
       (subst (λ k. IsBad (typed known) k bytes) (sym h.0) (Malformed there), λ whole. whole-typed (typed known) key bytes whole there)
   why_unread Failed h = tt
   why_unread Memory h = tt
@@ -301,13 +280,11 @@ module _ {A : Type 0} (row : A → Row) (is_allowed : A → Bool) (key : RowKey)
   pub fails-sees : (fault : RowFault) → Sees row is_allowed key changes before after (Err fault) → Fails before after (OfRows fault)
   fails-sees fault s = record { rows_are = s.rows_are; opened_at = s.opened_at; cause = s.counts; why = why_unread fault s.refused }
 
-  pub stands-sees : (found : Option A) → Sees row is_allowed key changes before after (Ok found) → (known : RowMap) → before.rows ≡ Some known
-      → get (typed known) key ≡ cell row found
+  pub stands-sees : (found : Option A) → Sees row is_allowed key changes before after (Ok found) → (known : RowMap) → before.rows ≡ Some known → get (typed known) key ≡ cell row found
   stands-sees found s known is = sym (kept known is) ∙ of_known (λ known. get (drafted changes known) key ≡ cell row found) before.rows known is s.found
 
 -- a reading over a new draft is one over no changes
-pub seen-fresh : {A : Type 0} (row : A → Row) (is_allowed : A → Bool) (key : RowKey) (changes : List Change) (before after : Store)
-    (result seen : Result (Option A) RowFault)
+pub seen-fresh : {A : Type 0} (row : A → Row) (is_allowed : A → Bool) (key : RowKey) (changes : List Change) (before after : Store) (result seen : Result (Option A) RowFault)
     → changes ≡ [] → result ≡ seen → Sees row is_allowed key changes before after result → Sees row is_allowed key [] before after seen
 seen-fresh row is_allowed key changes before after result seen none is s =
     subst (Sees row is_allowed key [] before after) is (subst (λ (c : List Change). Sees row is_allowed key c before after result) none s)

@@ -10,4 +10,4 @@ mod reading;
 
 pub use attributes::{chmod, chown, utimes};
 pub use making::{create, mkdir, symlink};
-pub use reading::{fstat, lookup, open_node, readlink, stat, statfs};
+pub use reading::{fstat, lookup, open_node, readdir, readlink, stat, statfs};

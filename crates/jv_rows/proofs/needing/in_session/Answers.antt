@@ -10,8 +10,7 @@ returns-in_err-read_session g c =
     let fault = c.in_err-read_session.field-0.0 in
     let p = err_from_is_err_and c.from_residual.result c.from_residual.ensures.1 in
     rw (p.1, p.2)
-    (session-unread c.args.sid before after (session_is c.args.sid) fault
-    (session-seen c.args.sid before after (Err fault) (Err fault) refl c.in_err-read_session.ensures))
+    (session-unread c.args.sid before after (session_is c.args.sid) fault (session-seen c.args.sid before after (Err fault) (Err fault) refl c.in_err-read_session.ensures))
 
 pub returns-in-Some : goal.returns-in-Some
 returns-in-Some g c =
