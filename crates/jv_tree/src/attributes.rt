@@ -46,7 +46,8 @@ pub fn chmod<K: Keeper>(
     mode: u16,
 ) -> Result<(), TxFault>
     requires { mode ≤ 4095 }
-    ensures { (caller : Caller) → IsFor who.entry.now caller → Transacts Always (K.seen k.old) (K.seen k.new)
+    ensures { (caller : Caller) → IsFor who.entry.now caller
+        → Transacts Always (K.seen k.old) (K.seen k.new)
         result (λ unit. reply.Done) (λ t. model.chmod t caller path.now mode) }
 {
     let place = changeable(alloc, k, who.sid, path)?;
@@ -68,7 +69,8 @@ pub fn chown<K: Keeper>(
     uid: u32,
     gid: u32,
 ) -> Result<(), TxFault>
-    ensures { (caller : Caller) → IsFor who.entry.now caller → Transacts Always (K.seen k.old) (K.seen k.new)
+    ensures { (caller : Caller) → IsFor who.entry.now caller
+        → Transacts Always (K.seen k.old) (K.seen k.new)
         result (λ unit. reply.Done) (λ t. model.chown t caller path.now uid gid) }
 {
     let place = changeable(alloc, k, who.sid, path)?;
@@ -90,7 +92,8 @@ pub fn utimes<K: Keeper>(
     path: &Path,
     mtime: u64,
 ) -> Result<(), TxFault>
-    ensures { (caller : Caller) → IsFor who.entry.now caller → Transacts Always (K.seen k.old) (K.seen k.new)
+    ensures { (caller : Caller) → IsFor who.entry.now caller
+        → Transacts Always (K.seen k.old) (K.seen k.new)
         result (λ unit. reply.Done) (λ t. model.utimes t caller path.now mtime) }
 {
     let place = changeable(alloc, k, who.sid, path)?;

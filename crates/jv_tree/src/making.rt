@@ -85,9 +85,10 @@ fn enter<K: Keeper>(
     requires node { IsTrue (is_node node.now) }
     requires dir { IsTrue (is_node place.old.dir.node) }
     requires stands { HasNodeRow (K.seen k.old) place.old.dir.inode place.old.dir.node }
-    ensures { (kind : Kind) (reply : ℕ → Reply) → IsNewKind place.old.dir.inode kind → node.now ≡ new_row kind node.now.mode now
-        → Transacts (λ t. IsFreePlace t (place_of place.old)) (K.seen k.old) (K.seen k.new) result reply
-        (enter kind node.now.mode now (place_of place.old) reply) }
+    ensures { (kind : Kind) (reply : ℕ → Reply) → IsNewKind place.old.dir.inode kind
+        → node.now ≡ new_row kind node.now.mode now
+        → Transacts (λ t. IsFreePlace t (place_of place.old)) (K.seen k.old) (K.seen k.new)
+        result reply (enter kind node.now.mode now (place_of place.old) reply) }
 {
     let mut draft = Draft::new(alloc);
     let setting = needed_setting(alloc, k, &draft)?;
@@ -110,7 +111,18 @@ fn enter<K: Keeper>(
 
 /// A node that is made at a moment, of user and group 0.
 fn new_node(alloc: Global, kind: u8, mode: u16, now: Moment) -> Node
-    ensures { result ≡ record { kind = kind; mode = mode; uid = 0; gid = 0; nlink = 1; mtime = now; ctime = now; length = 0; parent = 0; target = [] } }
+    ensures { result ≡ record {
+      kind = kind;
+      mode = mode;
+      uid = 0;
+      gid = 0;
+      nlink = 1;
+      mtime = now;
+      ctime = now;
+      length = 0;
+      parent = 0;
+      target = [];
+    } }
 {
     Node {
         kind,
@@ -136,7 +148,8 @@ pub fn mkdir<K: Keeper>(
 ) -> Result<u64, TxFault>
     requires mode { mode ≤ 4095 }
     requires path { IsTrue (has_no_zero path.now) }
-    ensures { (caller : Caller) → IsFor who.entry.now caller → Transacts Always (K.seen k.old) (K.seen k.new)
+    ensures { (caller : Caller) → IsFor who.entry.now caller
+        → Transacts Always (K.seen k.old) (K.seen k.new)
         result (λ inode. Found inode) (λ t. model.mkdir t caller path.now mode) }
 {
     in_session(alloc, k, who.sid)?;
@@ -160,7 +173,8 @@ pub fn create<K: Keeper>(
 ) -> Result<u64, TxFault>
     requires mode { mode ≤ 4095 }
     requires path { IsTrue (has_no_zero path.now) }
-    ensures { (caller : Caller) → IsFor who.entry.now caller → Transacts Always (K.seen k.old) (K.seen k.new)
+    ensures { (caller : Caller) → IsFor who.entry.now caller
+        → Transacts Always (K.seen k.old) (K.seen k.new)
         result (λ inode. FileOpened caller.free_handle inode) (λ t. model.create t caller path.now mode) }
 {
     in_session(alloc, k, who.sid)?;
@@ -185,7 +199,8 @@ pub fn symlink<K: Keeper>(
     requires target { IsTrue (has_no_zero target.now) }
     requires not_empty { 0 < length target.now }
     requires path { IsTrue (has_no_zero path.now) }
-    ensures { (caller : Caller) → IsFor who.entry.now caller → Transacts Always (K.seen k.old) (K.seen k.new)
+    ensures { (caller : Caller) → IsFor who.entry.now caller
+        → Transacts Always (K.seen k.old) (K.seen k.new)
         result (λ inode. Found inode) (λ t. model.symlink t caller target.now path.now) }
 {
     in_session(alloc, k, who.sid)?;

@@ -17,7 +17,8 @@ use std::alloc::{AllocError, Global};
 
 /// The inode of a path, whose last symlink isn't followed.
 pub fn lookup<K: Keeper>(alloc: Global, k: &mut K, who: &Who, path: &Path) -> Result<u64, TxFault>
-    ensures { (caller : Caller) → IsFor who.entry.now caller → Transacts Always (K.seen k.old) (K.seen k.new)
+    ensures { (caller : Caller) → IsFor who.entry.now caller
+        → Transacts Always (K.seen k.old) (K.seen k.new)
         result (λ inode. Found inode) (λ t. model.lookup t caller path.now) }
 {
     in_session(alloc, k, who.sid)?;
@@ -60,9 +61,11 @@ pub fn stat<K: Keeper>(
     follow: bool,
 ) -> Result<Attr, TxFault>
     ensures followed { IsTrue follow → (caller : Caller) → IsFor who.entry.now caller
-        → Transacts Always (K.seen k.old) (K.seen k.new) result (λ attr. Described attr) (λ t. model.stat t caller path.now) }
+        → Transacts Always (K.seen k.old) (K.seen k.new)
+        result (λ attr. Described attr) (λ t. model.stat t caller path.now) }
     ensures unfollowed { follow ≡ false → (caller : Caller) → IsFor who.entry.now caller
-        → Transacts Always (K.seen k.old) (K.seen k.new) result (λ attr. Described attr) (λ t. model.lstat t caller path.now) }
+        → Transacts Always (K.seen k.old) (K.seen k.new)
+        result (λ attr. Described attr) (λ t. model.lstat t caller path.now) }
 {
     in_session(alloc, k, who.sid)?;
     let place = walk_to(alloc, k, path, follow)?;
@@ -88,7 +91,8 @@ pub fn open_node<K: Keeper>(
     who: &Who,
     path: &Path,
 ) -> Result<u64, TxFault>
-    ensures { (caller : Caller) → IsFor who.entry.now caller → Transacts Always (K.seen k.old) (K.seen k.new)
+    ensures { (caller : Caller) → IsFor who.entry.now caller
+        → Transacts Always (K.seen k.old) (K.seen k.new)
         result (λ inode. FileOpened caller.free_handle inode) (λ t. model.open_file t caller path.now) }
 {
     in_session(alloc, k, who.sid)?;
@@ -162,7 +166,8 @@ pub fn readdir<K: Keeper>(
     who: &Who,
     path: &Path,
 ) -> Result<EntryList, TxFault>
-    ensures { (caller : Caller) → IsFor who.entry.now caller → Transacts Always (K.seen k.old) (K.seen k.new)
+    ensures { (caller : Caller) → IsFor who.entry.now caller
+        → Transacts Always (K.seen k.old) (K.seen k.new)
         result (λ entries. Entries entries) (λ t. model.readdir t caller path.now) }
 {
     in_session(alloc, k, who.sid)?;
@@ -180,7 +185,8 @@ pub fn readlink<K: Keeper>(
     who: &Who,
     path: &Path,
 ) -> Result<Bytes, TxFault>
-    ensures { (caller : Caller) → IsFor who.entry.now caller → Transacts Always (K.seen k.old) (K.seen k.new)
+    ensures { (caller : Caller) → IsFor who.entry.now caller
+        → Transacts Always (K.seen k.old) (K.seen k.new)
         result (λ target. Target target) (λ t. model.readlink t caller path.now) }
 {
     in_session(alloc, k, who.sid)?;
@@ -193,7 +199,8 @@ pub fn readlink<K: Keeper>(
 
 /// Used space and inodes, and the two limits as they were set.
 pub fn statfs<K: Keeper>(alloc: Global, k: &mut K, who: &Who) -> Result<Space, TxFault>
-    ensures { (caller : Caller) → IsFor who.entry.now caller → Transacts Always (K.seen k.old) (K.seen k.new)
+    ensures { (caller : Caller) → IsFor who.entry.now caller
+        → Transacts Always (K.seen k.old) (K.seen k.new)
         result (λ space. Usage space) (λ t. model.statfs t caller) }
 {
     in_session(alloc, k, who.sid)?;
