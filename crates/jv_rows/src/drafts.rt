@@ -1,19 +1,24 @@
 //! Changes of rows that a transaction has in mind, beside the keeper that has the rows: what it reads sees its own changes.
-ghost use Rattle.std.specs.Prelude.{◌≡◌, [], None, Some, IsTrue};
+ghost use Rattle.std.specs.Prelude.{◌≡◌, [], None, Some, Ok, true, IsTrue};
 ghost use Rattle.std.specs.Option.{option_copied};
 ghost use Rattle.std.specs.Ordering.{eq_by_cmp};
-ghost use Rattle.jv_model.specs.declared.row.Row.TheVariants.{OfSetting, OfCounters, OfNode, OfEdge, OfSession};
+ghost use Rattle.jv_model.specs.declared.row.Row.TheVariants.{OfSetting, OfCounters, OfNode, OfEdge, OfSession, OfSustained, OfDropped};
 ghost use Rattle.jv_model.specs.rows.RowGrammar.{is_setting, is_counters, is_node, is_edge, is_session};
-ghost use Rattle.jv_model.specs.rows.RowPlaces.{setting_key, counters_key, node_key, edge_key, session_key};
+ghost use Rattle.jv_model.specs.rows.RowPlaces.{setting_key, counters_key, node_key, edge_key, session_key, sustained_key, dropped_key};
 ghost use Rattle.jv_model.specs.rows.RowKeys.{row_cmp};
 ghost use Rattle.jv_outside.specs.Store.{Commits};
 ghost use Rattle.jv_rows.specs.Drafts.{Sees, Drafts, ReadsPut, cell, key_in, last_change};
 
 use crate::grammar::{Grammar, Spelled};
-use crate::keys::{key_of_counters, key_of_edge, key_of_node, key_of_session, key_of_setting};
+use crate::keys::{
+    key_of_counters, key_of_dropped, key_of_edge, key_of_node, key_of_session, key_of_setting,
+    key_of_sustained,
+};
 use crate::misread::Misread;
 use crate::reading::read_row;
-use jv_model::{Counters, Down, Edge, Name, Node, RowFault, RowKey, Session, Setting, copied};
+use jv_model::{
+    Counters, Down, Dropped, Edge, Name, Node, RowFault, RowKey, Session, Setting, copied,
+};
 use jv_outside::{Batch, Change, Keeper};
 use std::alloc::{AllocError, Global};
 use std::marker::Model;
@@ -130,6 +135,20 @@ impl Draft {
         self.row(k, key_of_session(self.alloc, sid))
     }
 
+    /// Whether a session keeps a file without entries.
+    pub fn sustained<K: Keeper>(
+        &self,
+        k: &mut K,
+        sid: u64,
+        inode: u64,
+    ) -> Result<Option<()>, RowFault>
+        ensures { Sees (λ unit. OfSustained) (λ unit. true) (sustained_key sid inode) self.now
+            (K.seen k.old) (K.seen k.new) result }
+    {
+        let key = key_of_sustained(self.alloc, sid, inode)?;
+        self.row(k, key)
+    }
+
     /// Adds that these are the next numbers and the running totals. Out of memory the changes are as before.
     pub fn put_counters(&mut self, counters: &Counters) -> Result<(), AllocError>
         requires { IsTrue (is_counters counters.now) }
@@ -168,6 +187,44 @@ impl Draft {
     {
         let key = key_of_edge(self.alloc, dir, name)?;
         self.drop_row(key)
+    }
+
+    /// Adds that the client's session is this one. Out of memory the changes are as before.
+    pub fn put_session(&mut self, sid: u64, session: &Session) -> Result<(), AllocError>
+        requires { IsTrue (is_session session.now) }
+        ensures { Drafts (session_key sid) (cell OfSession (Some session.now)) self.old self.new result }
+    {
+        self.put(key_of_session(self.alloc, sid), session)
+    }
+
+    /// Adds that there is no such session. Out of memory the changes are as before.
+    pub fn drop_session(&mut self, sid: u64) -> Result<(), AllocError>
+        ensures { Drafts (session_key sid) None self.old self.new result }
+    {
+        self.drop_row(key_of_session(self.alloc, sid))
+    }
+
+    /// Adds that the session keeps this file without entries. Out of memory the changes are as before.
+    pub fn put_sustained(&mut self, sid: u64, inode: u64) -> Result<(), AllocError>
+        ensures { Drafts (sustained_key sid inode) (Some (Ok OfSustained)) self.old self.new result }
+    {
+        let key = key_of_sustained(self.alloc, sid, inode)?;
+        self.put(key, &())
+    }
+
+    /// Adds that the session keeps no such file. Out of memory the changes are as before.
+    pub fn drop_sustained(&mut self, sid: u64, inode: u64) -> Result<(), AllocError>
+        ensures { Drafts (sustained_key sid inode) None self.old self.new result }
+    {
+        let key = key_of_sustained(self.alloc, sid, inode)?;
+        self.drop_row(key)
+    }
+
+    /// Adds that the inode was a file of this length, whose lists are still to go. Out of memory the changes are as before.
+    pub fn put_dropped(&mut self, inode: u64, dropped: &Dropped) -> Result<(), AllocError>
+        ensures { Drafts (dropped_key inode) (cell OfDropped (Some dropped.now)) self.old self.new result }
+    {
+        self.put(key_of_dropped(self.alloc, inode), dropped)
     }
 
     // The row at a key of a table.

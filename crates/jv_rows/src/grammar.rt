@@ -12,8 +12,10 @@ use crate::parsing::{
     parse_counters, parse_dead, parse_dropped, parse_edge, parse_list, parse_node, parse_session,
     parse_setting, parse_slice, parse_sustained,
 };
-use crate::spelling::{spell_counters, spell_edge, spell_node};
-use crate::widths::{has_counters_widths, has_edge_widths, has_node_widths};
+use crate::spelling::{spell_counters, spell_dropped, spell_edge, spell_node, spell_session};
+use crate::widths::{
+    has_counters_widths, has_dropped_widths, has_edge_widths, has_node_widths, has_session_widths,
+};
 use jv_model::{Bytes, Counters, Dead, Dropped, Edge, List, Node, Session, Setting, SliceRow};
 use std::alloc::{AllocError, Global};
 
@@ -198,6 +200,13 @@ impl Grammar for Session {
     ghost reads_row = { session_row };
 }
 
+impl Spelled for Session {
+    fn spell(&self, alloc: Global) -> Result<Bytes, AllocError> {
+        has_session_widths(self);
+        spell_session(alloc, self)
+    }
+}
+
 impl Grammar for () {
     ghost tab = { 7 };
 
@@ -216,6 +225,12 @@ impl Grammar for () {
     ghost reads_row = { sustained_row };
 }
 
+impl Spelled for () {
+    fn spell(&self, alloc: Global) -> Result<Bytes, AllocError> {
+        Ok(Bytes::new(alloc))
+    }
+}
+
 impl Grammar for Dropped {
     ghost tab = { 8 };
 
@@ -232,6 +247,13 @@ impl Grammar for Dropped {
     }
 
     ghost reads_row = { dropped_row };
+}
+
+impl Spelled for Dropped {
+    fn spell(&self, alloc: Global) -> Result<Bytes, AllocError> {
+        has_dropped_widths(self);
+        spell_dropped(alloc, self)
+    }
 }
 
 impl Grammar for Dead {

@@ -1,8 +1,8 @@
 //! The numbers of rows have the widths of their fields. Each law is a function that only reads the fields.
 ghost use Rattle.std.specs.Prelude.{◌<◌, ◌^◌};
-ghost use Rattle.jv_rows.specs.RoundTrips.{AreBytes, CountersWidths, NodeWidths, EdgeWidths};
+ghost use Rattle.jv_rows.specs.RoundTrips.{AreBytes, CountersWidths, NodeWidths, EdgeWidths, SessionWidths, DroppedWidths};
 
-use jv_model::{Counters, Edge, Node};
+use jv_model::{Counters, Dropped, Edge, Node, Session};
 
 pub(crate) fn has_counters_widths(counters: &Counters)
     ensures { CountersWidths counters.now }
@@ -27,6 +27,19 @@ pub(crate) fn has_node_widths(node: &Node)
     has_owner_widths(node);
     has_time_widths(node);
     has_target_widths(node);
+}
+
+pub(crate) fn has_session_widths(session: &Session)
+    ensures { SessionWidths session.now }
+{
+    let _client = session.client;
+    let _expiry = session.expiry;
+}
+
+pub(crate) fn has_dropped_widths(dropped: &Dropped)
+    ensures { DroppedWidths dropped.now }
+{
+    let _length = dropped.length;
 }
 
 fn has_owner_widths(node: &Node)
