@@ -329,8 +329,13 @@ fn parent<K: Keeper>(alloc: Global, k: &mut K, dir: &Place) -> Result<Place, TxF
     }
 }
 
-// The node of an entry.
-fn child<K: Keeper>(alloc: Global, k: &mut K, dir: u64, name: &Name) -> Result<Place, TxFault>
+/// The node that an entry of a directory names, with its row. Rows and the keeper's place are as before, whatever is returned.
+///
+/// # Errors
+///
+/// NotFound where there is no such entry. Bad for a row that is malformed, or an entry whose node isn't there. Failed if the
+/// keeper failed. Memory.
+pub fn child<K: Keeper>(alloc: Global, k: &mut K, dir: u64, name: &Name) -> Result<Place, TxFault>
     ensures { Comes (K.seen k.old) (K.seen k.new) result
         (λ t. some_or (get t.entries (record { dir = dir; name = name.now })) NotFound) }
 {

@@ -1,0 +1,2 @@
+-- What is proved of small changes.
+pub mod DraftingLaws

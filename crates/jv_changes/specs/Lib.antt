@@ -1,0 +1,3 @@
+-- What is said of small changes.
+pub mod Drafting
+pub mod Ready

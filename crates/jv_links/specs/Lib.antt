@@ -1,0 +1,2 @@
+-- What is said of transactions on entries.
+pub mod Removals

@@ -1,0 +1,15 @@
+//! Transactions on entries: unlink, rmdir, link and rename, each one commit or none (POSIX.1-2017, and docs/MODEL.md).
+//!
+//! Each call is refused with the faults of its operation, in their order. A refusal, a keeper that failed, and want of memory
+//! leave the rows as they were.
+#![tactic(auto)]
+
+mod fates;
+mod linking;
+mod removing;
+mod renaming;
+
+pub use fates::{Fate, Removed};
+pub use linking::link;
+pub use removing::{rmdir, unlink};
+pub use renaming::rename;

@@ -1,0 +1,1 @@
+-- What is said of transactions on sessions.
