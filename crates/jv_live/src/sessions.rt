@@ -1,5 +1,5 @@
 //! Sessions of clients, and the files that they keep without entries.
-ghost use Rattle.std.specs.Prelude.{◌≡◌, ◌×◌};
+ghost use Rattle.std.specs.Prelude.{◌≡◌};
 ghost use Rattle.jv_model.specs.declared.op.Reply.TheVariants.{Done, SessionMade};
 ghost use Rattle.jv_model.specs.tree.Caller.{Caller};
 ghost use Rattle.jv_model.specs.tree.Sessions as model;
