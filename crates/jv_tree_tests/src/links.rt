@@ -1,0 +1,88 @@
+use crate::volume::Volume;
+use std::test::Fail;
+
+#[test]
+fn a_last_entry_goes_to_the_trash(rt: HostRuntime) -> Result<(), Fail> {
+    let mut volume = Volume::new(rt.alloc(), 0, 0, 1)?;
+    volume.answers(&[
+        ("A mkdir /d 0755", "ok 2"),
+        ("A create /d/f 0644", "ok 1 3"),
+        ("A link /d/f /g", "ok"),
+        ("A unlink /d/f", "ok"),
+        ("A stat /g", "ok 3 f 0644 1 0 0 0 1700000000 1700000000"),
+        ("A unlink /g", "ok"),
+        ("A readdir /.trash", "ok 2023-11-14-22:9223372032828716190"),
+        ("A readdir /.trash/2023-11-14-22", "ok 1-3-g:3"),
+        ("A statfs", "ok 8192 0 2 0"),
+        ("A rename /.trash/2023-11-14-22/1-3-g /d/f plain", "ok"),
+        ("A readdir /.trash/2023-11-14-22", "ok -"),
+        ("A stat /d/f", "ok 3 f 0644 1 0 0 0 1700000000 1700000000"),
+    ])
+}
+
+#[test]
+fn without_trash_an_open_file_is_kept_until_its_close(rt: HostRuntime) -> Result<(), Fail> {
+    let mut volume = Volume::new(rt.alloc(), 0, 0, 0)?;
+    volume.answers(&[
+        ("A create /f 0644", "ok 1 2"),
+        ("A unlink /f", "ok"),
+        ("A lookup /f", "err ENOENT"),
+        ("A fstat 1", "ok 2 f 0644 0 0 0 0 1700000000 1700000000"),
+        ("A statfs", "ok 4096 0 1 0"),
+        ("A close 1", "ok"),
+        ("A statfs", "ok 0 0 0 0"),
+        ("A fstat 1", "err ESTALE inode 2"),
+        ("A symlink x /l", "ok 3"),
+        ("A unlink /l", "ok"),
+        ("A statfs", "ok 0 0 0 0"),
+    ])
+}
+
+#[test]
+fn directories_are_removed_when_empty(rt: HostRuntime) -> Result<(), Fail> {
+    let mut volume = Volume::new(rt.alloc(), 0, 0, 1)?;
+    volume.answers(&[
+        ("A mkdir /a 0755", "ok 2"),
+        ("A mkdir /a/b 0755", "ok 3"),
+        ("A rmdir /a", "err ENOTEMPTY"),
+        ("A unlink /a/b", "err EPERM"),
+        ("A rmdir /a/b", "ok"),
+        ("A stat /a", "ok 2 d 0755 2 0 0 4096 1700000000 1700000000"),
+        ("A create /a/f 0644", "ok 1 4"),
+        ("A rmdir /a/f", "err ENOTDIR"),
+        ("A rmdir /.trash", "err EPERM"),
+        ("A rmdir /a/..", "err EINVAL"),
+        ("A rmdir /b", "err ENOENT"),
+        ("A link /a /b", "err EPERM"),
+        ("A link /a/f /a", "err EEXIST"),
+    ])
+}
+
+#[test]
+fn renames_move_replace_and_exchange(rt: HostRuntime) -> Result<(), Fail> {
+    let mut volume = Volume::new(rt.alloc(), 0, 0, 1)?;
+    volume.answers(&[
+        ("A mkdir /a 0755", "ok 2"),
+        ("A mkdir /a/b 0755", "ok 3"),
+        ("A mkdir /c 0755", "ok 4"),
+        ("A create /f 0644", "ok 1 5"),
+        ("A create /g 0644", "ok 2 6"),
+        ("A rename /a /a/b/x plain", "err EINVAL"),
+        ("A rename /a/b /c plain", "ok"),
+        ("A readdir /", "ok a:2 c:3 f:5 g:6"),
+        ("A lookup /c/..", "ok 1"),
+        ("A stat /a", "ok 2 d 0755 2 0 0 4096 1700000000 1700000000"),
+        ("A rename /f /g noreplace", "err EEXIST"),
+        ("A rename /f /g plain", "ok"),
+        ("A readdir /", "ok a:2 c:3 g:5"),
+        ("A readdir /.trash/2023-11-14-22", "ok 1-6-g:6"),
+        ("A rename /g /a/g noreplace", "ok"),
+        ("A rename /a/g /c exchange", "ok"),
+        ("A readdir /", "ok a:2 c:5"),
+        ("A lookup /a/g/..", "ok 2"),
+        ("A rename /a /c plain", "err ENOTDIR"),
+        ("A rename /c /a plain", "err EISDIR"),
+        ("A rename /a/g /a plain", "err ENOTEMPTY"),
+        ("A rename /a /a plain", "ok"),
+    ])
+}
