@@ -1,0 +1,1 @@
+-- What is proved of transactions on the bytes of files.

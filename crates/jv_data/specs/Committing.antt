@@ -1,0 +1,99 @@
+-- What a look sees of a file, and what a commit of bytes does to a volume's rows. The bytes are where the tree of the rows has
+-- them from.
+use Rattle.std.specs.Prelude.{◌≡◌, ◌≢◌, ℕ, ◌+◌, ◌-◌, ◌*◌, ◌/◌, max, nat_lt, List, length, is_some, Option, None, Some, Result, Ok, Err, IfOk, IfErr, IfSome, OnErr, IsTrue, false, true}
+use Rattle.jv_model.specs.declared.fault.Fault.{Fault}
+use Rattle.jv_model.specs.declared.fault.Fault.TheVariants.{NoSpace, Stale, TimedOut}
+use Rattle.jv_model.specs.declared.fault.Gone.TheVariants.{Session, Node as GoneNode}
+use Rattle.jv_model.specs.declared.fault.RowFault.TheVariants.{Bad, Failed, Memory}
+use Rattle.jv_model.specs.declared.fault.TxFault.{TxFault}
+use Rattle.jv_model.specs.declared.fault.TxFault.TheVariants.{Refused, Moved, Rows as OfRows}
+use Rattle.jv_model.specs.declared.lifetimes.TheConstants.{UPLOAD_LIFE}
+use Rattle.jv_model.specs.declared.limits.TheConstants.{SPACE_UNIT}
+use Rattle.jv_model.specs.declared.row.Counters.{Counters}
+use Rattle.jv_model.specs.declared.row.Node.{Node}
+use Rattle.jv_model.specs.declared.setting.Setting.{Setting}
+use Rattle.jv_model.specs.FiniteMap.{get}
+use Rattle.jv_model.specs.rows.RowGrammar.{is_node}
+use Rattle.jv_model.specs.rows.RowKeys.{RowMap}
+use Rattle.jv_model.specs.tree.Attempt.{◌>>=◌, require, some_or}
+use Rattle.jv_model.specs.tree.Tree.{Tree, Content, content_at, paged, space_limit, sum_fits, fits}
+use Rattle.jv_model.specs.tree.Changes.{overwritten}
+use Rattle.jv_model.specs.tree.FileBytes.{committed}
+use Rattle.jv_outside.specs.Store.{Store}
+use Rattle.jv_rows.specs.Transactions.{TransactionCounts, Looks, BadFault}
+use Rattle.jv_rows.specs.Walks.{HasNodeRow}
+use Rattle.jv_volume.specs.TypedRows.{typed}
+use Rattle.jv_volume.specs.TreeOf.{tree_of}
+use Rattle.jv_volume.specs.Whole.{Whole, Quiet}
+
+-- the length of a file, as a session sees it
+abbrev pub length_seen : ℕ → ℕ → Tree → Result ℕ Fault
+length_seen sid inode t = do
+  _ ← require (is_some (get t.sessions sid)) (Stale (Session sid))
+  content ← some_or (content_at t inode) (Stale (GoneNode inode))
+  Ok content.length
+
+abbrev pub length_in : Result Node TxFault → Result ℕ TxFault
+length_in (Ok node) = Ok node.length
+length_in (Err fault) = Err fault
+
+-- A reading of a file's row: over whole rows it is the model's look, and the row, one that the grammar allows, stands there.
+pub record HasFile (sid inode : ℕ) (before after : Store) (result : Result Node TxFault) : Type 0 where
+  pub looks : Looks before after (length_in result) (length_seen sid inode)
+  pub stands : IfOk result (λ node. HasNodeRow after inode node)
+  pub file : IfOk result (λ node. node.kind ≡ 1)
+  pub allowed : IfOk result (λ node. IsTrue (is_node node))
+
+-- the space that so many bytes take
+abbrev pub paged_space : ℕ → ℕ
+paged_space length = paged length
+
+-- used space once a file of one length has another
+abbrev pub used_after : Counters → ℕ → ℕ → ℕ
+used_after c before after = (c.used_space + paged after) - paged before
+
+-- the counters once a file of one length has another, where the volume has room for that
+abbrev pub Resizes : Setting → Counters → ℕ → ℕ → Option Counters → Type 0
+Resizes setting c before after None = sum_fits (space_limit setting) c.used_space (used_after c before after) ≡ false
+Resizes setting c before after (Some left) = (sum_fits (space_limit setting) c.used_space (used_after c before after) ≡ true)
+    × (left ≡ record c { used_space = used_after c before after })
+
+-- the model's commit of bytes to a file, whose block was begun at a moment
+abbrev pub commit_of : (sid inode from : ℕ) → List ℕ → (started now : ℕ) → Tree → Result Tree Fault
+commit_of sid inode from patch started now t = do
+  _ ← length_seen sid inode t
+  _ ← require (nat_lt now (started + UPLOAD_LIFE)) (TimedOut started now)
+  _ ← require (fits t (committed t now inode from patch)) NoSpace
+  Ok (committed t now inode from patch)
+
+-- the bytes of all files, where one of them had bytes put into it
+pub record IsPatched (t : Tree) (bytes changed : ℕ → ℕ → ℕ) (inode from : ℕ) (patch : List ℕ) : Type 0 where
+  pub others : (other : ℕ) → other ≢ inode → changed other ≡ bytes other
+  pub own : (content : Content) → content_at t inode ≡ Some content → (position : ℕ) → changed inode position ≡ (overwritten content from patch).byte position
+
+-- a commit that was made: the rows left are whole, and their tree, with the bytes changed, is the model's
+pub record Committed (known : RowMap) (after : Option RowMap) (changed : ℕ → ℕ → ℕ) (wanted : Result Tree Fault) : Type 0 where
+  pub left : RowMap
+  pub is : after ≡ Some left
+  pub whole : Whole (typed left)
+  pub quiet : Quiet (typed known) (typed left)
+  pub model : wanted ≡ Ok (tree_of changed (typed left))
+
+abbrev pub LandsAs : RowMap → Option RowMap → (ℕ → ℕ → ℕ) → Result (Unit {0}) TxFault → Result Tree Fault → Type 0
+LandsAs known after changed (Ok unit) model = Committed known after changed model
+LandsAs known after changed (Err (Refused fault)) model = model ≡ Err fault
+LandsAs known after changed (Err (Moved list)) model = ⊥
+LandsAs known after changed (Err (OfRows (Bad at bytes))) model = ⊥
+LandsAs known after changed (Err (OfRows Failed)) model = Unit {0}
+LandsAs known after changed (Err (OfRows Memory)) model = Unit {0}
+
+-- A commit of bytes that end at a position: after an error the rows are as before, and over whole rows it does what the model's
+-- does to their tree, whatever the bytes are.
+pub record CommitsLength (sid now inode end started : ℕ) (before after : Store) (result : Result (Unit {0}) TxFault) : Type 0 where
+  pub opened_at : after.opened ≡ before.opened
+  pub counts : TransactionCounts before.faults after.faults result
+  pub undone : OnErr result (after.rows ≡ before.rows)
+  pub lands : (known : RowMap) → before.rows ≡ Some known → Whole (typed known) → (bytes changed : ℕ → ℕ → ℕ) (from : ℕ) (patch : List ℕ) → from + length patch ≡ end
+      → IsPatched (tree_of bytes (typed known)) bytes changed inode from patch
+      → LandsAs known after.rows changed result (commit_of sid inode from patch started now (tree_of bytes (typed known)))
+  pub bad : IfErr result (λ fault. IfSome before.rows (λ known. BadFault (typed known) fault))

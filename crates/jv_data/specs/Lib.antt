@@ -1,0 +1,2 @@
+-- What is said of transactions on the bytes of files.
+pub mod Committing
