@@ -1,0 +1,139 @@
+-- A transaction of an operation is that of the call which makes it, and its answer says what that returned.
+use Rattle.std.proofs.Common.{◌≡◌, ℕ, Bool, true, false, ◌&&◌, not, List, Option, None, Some, Result, Ok, Err, refl, sym, ap, subst, ◌∙◌}
+use Rattle.std.specs.Prelude.{◌==◌}
+use Rattle.jv_model.specs.declared.basics.How.{How}
+use Rattle.jv_model.specs.declared.fault.Fault.{Fault}
+use Rattle.jv_model.specs.declared.fault.RowFault.TheVariants.{Bad, Failed, Memory}
+use Rattle.jv_model.specs.declared.fault.TxFault.{TxFault}
+use Rattle.jv_model.specs.declared.fault.TxFault.TheVariants.{Refused, Moved, Rows as OfRows}
+use Rattle.jv_model.specs.declared.op.Op.{Op}
+use Rattle.jv_model.specs.declared.op.Op.TheVariants as op
+use Rattle.jv_model.specs.declared.op.Reply.{Reply}
+use Rattle.jv_model.specs.declared.op.Reply.TheVariants.{Done}
+use Rattle.jv_model.specs.rows.RowKeys.{RowMap}
+use Rattle.jv_model.specs.tree.Tree.{Tree, is_sustained}
+use Rattle.jv_model.specs.tree.TreeAct.{tree_act}
+use Rattle.jv_model.specs.tree.Caller.{Caller, Outcome, outcome}
+use Rattle.jv_model.specs.tree.Removing.{unlink}
+use Rattle.jv_model.specs.tree.Renaming.{rename}
+use Rattle.jv_outside.specs.Store.{Store}
+use Rattle.jv_rows.specs.Transactions.{Landed, Lands, Transacts, Always}
+use Rattle.jv_volume.specs.TypedRows.{typed}
+use Rattle.jv_volume.specs.TreeOf.{tree_of}
+use Rattle.jv_links.specs.declared.fates.Fate.{Fate}
+use Rattle.jv_links.specs.declared.fates.Fate.TheVariants.{Linked, Trashed, Dropped, Sustained}
+use Rattle.jv_links.specs.declared.fates.Removed.{Removed}
+use Rattle.jv_links.specs.Removals.{HoldsFiles, TellsSustained, removed_in, renamed_in, keeps_removed, is_kept}
+use Rattle.jv_metadata.specs.declared.answers.Answer.{Answer}
+use Rattle.jv_metadata.specs.Attempts.{mapped, kept_of, kept_by, is_inode, attempt, KeepsOne, TellsKept}
+
+-- what the tree does for an operation is its transaction
+pub tree_act-attempt : (t : Tree) (who : Caller) (o : Op) → tree_act t who o ≡ outcome t (attempt t who o)
+tree_act-attempt t who (op.Mount writeback) = refl
+tree_act-attempt t who op.Umount = refl
+tree_act-attempt t who op.Beat = refl
+tree_act-attempt t who (op.Lookup path) = refl
+tree_act-attempt t who (op.Stat path) = refl
+tree_act-attempt t who (op.Lstat path) = refl
+tree_act-attempt t who (op.Fstat handle) = refl
+tree_act-attempt t who (op.Mkdir path mode) = refl
+tree_act-attempt t who (op.Create path mode) = refl
+tree_act-attempt t who (op.Open path) = refl
+tree_act-attempt t who (op.Close handle) = refl
+tree_act-attempt t who (op.Readdir path) = refl
+tree_act-attempt t who (op.Chmod path mode) = refl
+tree_act-attempt t who (op.Chown path uid gid) = refl
+tree_act-attempt t who (op.Utimes path mtime) = refl
+tree_act-attempt t who op.Statfs = refl
+tree_act-attempt t who (op.Symlink target path) = refl
+tree_act-attempt t who (op.Readlink path) = refl
+tree_act-attempt t who (op.Unlink path) = refl
+tree_act-attempt t who (op.Rmdir path) = refl
+tree_act-attempt t who (op.Link path to) = refl
+tree_act-attempt t who (op.Rename path to how) = refl
+tree_act-attempt t who (op.Flush handle) = refl
+tree_act-attempt t who (op.Read handle offset len) = refl
+tree_act-attempt t who (op.Write handle offset bytes) = refl
+tree_act-attempt t who (op.Truncate handle len) = refl
+tree_act-attempt t who (op.Copy source from target to len) = refl
+tree_act-attempt t who (op.Compact path window) = refl
+tree_act-attempt t who op.Clean = refl
+tree_act-attempt t who (op.Gc delete) = refl
+tree_act-attempt t who op.Upload = refl
+tree_act-attempt t who op.Stats = refl
+
+-- ---- a call's transaction, with another answer
+
+module _ {A : Type 0} (ready loose : Tree → Type 0) (before after : Store) (reply : A → Reply) (act : Tree → Result Outcome Fault) (f : A → Answer)
+    (readies : (t : Tree) → loose t → ready t) (same : (x : A) → (f x).reply ≡ reply x) where
+  lands_as : (fault : TxFault) (known : RowMap) (bytes : ℕ → ℕ → ℕ) → Lands {A = A} known after.rows bytes reply act (Err fault)
+      → Lands {A = Answer} known after.rows bytes (λ answer. answer.reply) act (Err fault)
+  lands_as (Refused fault) known bytes h = h
+  lands_as (Moved list) known bytes h = h
+  lands_as (OfRows (Bad at bad)) known bytes h = h
+  lands_as (OfRows Failed) known bytes h = tt
+  lands_as (OfRows Memory) known bytes h = tt
+
+  answers_as : (made : Result A TxFault) → Transacts ready before after made reply act → Transacts loose before after (mapped f made) (λ answer. answer.reply) act
+  answers_as (Ok x) t = record {
+    opened_at = t.opened_at;
+    counts = t.counts;
+    undone = tt;
+    lands = λ known is whole bytes l. subst (λ r. Landed known after.rows bytes r act) (sym (same x)) (t.lands known is whole bytes (readies (tree_of bytes (typed known)) l));
+    bad = tt;
+  }
+  answers_as (Err fault) t = record {
+    opened_at = t.opened_at;
+    counts = t.counts;
+    undone = t.undone;
+    lands = λ known is whole bytes l. lands_as fault known bytes (t.lands known is whole bytes (readies (tree_of bytes (typed known)) l));
+    bad = t.bad;
+  }
+
+  pub transacts-mapped : (made : Result A TxFault) → Transacts ready before after made reply act → (result : Result Answer TxFault) → result ≡ mapped f made
+      → (next : Tree → Result Outcome Fault) → ((t : Tree) → next t ≡ act t) → Transacts loose before after result (λ answer. answer.reply) next
+  transacts-mapped made t result is next acts =
+      subst (λ a. Transacts loose before after result (λ answer. answer.reply) a) (λ i u. sym (acts u) i)
+      (subst (λ r. Transacts loose before after r (λ answer. answer.reply) act) (sym is) (answers_as made t))
+
+-- the same of a call that is ready for every tree
+module _ {A : Type 0} (held : List ℕ) (before after : Store) (reply : A → Reply) (act : Tree → Result Outcome Fault) (f : A → Answer) (same : (x : A) → (f x).reply ≡ reply x) where
+  pub transacts-always : (made : Result A TxFault) → Transacts Always before after made reply act → (result : Result Answer TxFault) → result ≡ mapped f made
+      → (next : Tree → Result Outcome Fault) → ((t : Tree) → next t ≡ act t) → Transacts (HoldsFiles held) before after result (λ answer. answer.reply) next
+  transacts-always made t result is next acts = transacts-mapped Always (HoldsFiles held) before after reply act f (λ u l. tt) same made t result is next acts
+
+-- ---- the file that is kept
+
+kept_same : (fate : Fate) (removed inode : ℕ) → (is_kept fate && (removed == inode)) ≡ is_inode (kept_by fate removed) inode
+kept_same Linked removed inode = refl
+kept_same Trashed removed inode = refl
+kept_same Dropped removed inode = refl
+kept_same Sustained removed inode = refl
+
+keeps-told : (removed : Option Removed) (inode : ℕ) → keeps_removed removed inode ≡ is_inode (kept_of removed) inode
+keeps-told None inode = refl
+keeps-told (Some removed) inode = kept_same removed.fate removed.inode inode
+
+-- an unlink tells the file that is kept
+pub tells-unlinked : (who : Caller) (before : Store) (path : List ℕ) (o : Op) → o ≡ op.Unlink path → (made : Result Removed TxFault)
+    → TellsSustained who.sid (HoldsFiles who.held) before (removed_in made) (λ t. unlink t who path)
+    → (result : Result Answer TxFault) → result ≡ mapped (λ removed. record { reply = Done; kept = kept_of (Some removed) }) made → TellsKept who o before result
+tells-unlinked who before path o is made tells result same =
+    subst (λ x. TellsKept who x before result) (sym is) (subst (λ r. TellsKept who (op.Unlink path) before r) (sym same) (by_result made tells))
+  where
+    by_result : (m : Result Removed TxFault) → TellsSustained who.sid (HoldsFiles who.held) before (removed_in m) (λ t. unlink t who path)
+        → TellsKept who (op.Unlink path) before (mapped (λ removed. record { reply = Done; kept = kept_of (Some removed) }) m)
+    by_result (Ok removed) h = λ known at whole bytes holds inode. h known at whole bytes holds inode ∙ keeps-told (Some removed) inode
+    by_result (Err fault) h = tt
+
+-- and so does a rename
+pub tells-renamed : (who : Caller) (before : Store) (path to : List ℕ) (how : How) (o : Op) → o ≡ op.Rename path to how → (made : Result (Option Removed) TxFault)
+    → TellsSustained who.sid (HoldsFiles who.held) before (renamed_in made) (λ t. rename t who path to how)
+    → (result : Result Answer TxFault) → result ≡ mapped (λ removed. record { reply = Done; kept = kept_of removed }) made → TellsKept who o before result
+tells-renamed who before path to how o is made tells result same =
+    subst (λ x. TellsKept who x before result) (sym is) (subst (λ r. TellsKept who (op.Rename path to how) before r) (sym same) (by_result made tells))
+  where
+    by_result : (m : Result (Option Removed) TxFault) → TellsSustained who.sid (HoldsFiles who.held) before (renamed_in m) (λ t. rename t who path to how)
+        → TellsKept who (op.Rename path to how) before (mapped (λ removed. record { reply = Done; kept = kept_of removed }) m)
+    by_result (Ok removed) h = λ known at whole bytes holds inode. h known at whole bytes holds inode ∙ keeps-told removed inode
+    by_result (Err fault) h = tt

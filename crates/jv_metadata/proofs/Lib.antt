@@ -1,0 +1,2 @@
+-- What is proved of operations on metadata.
+pub mod AttemptLaws

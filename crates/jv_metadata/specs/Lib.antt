@@ -1,0 +1,2 @@
+-- What is said of operations on metadata.
+pub mod Attempts
