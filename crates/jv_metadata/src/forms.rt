@@ -1,0 +1,66 @@
+//! Which operations are one transaction on metadata, and what a line spells of them.
+ghost use Rattle.std.specs.Prelude.{◌≡◌};
+ghost use Rattle.jv_links.specs.Removals.{has_no_zero};
+ghost use Rattle.jv_metadata.specs.Attempts as model;
+
+use jv_model::Op;
+
+/// Permission bits of four octal digits.
+const ALL_MODES: u16 = 0o7777;
+
+/// Whether an operation is one transaction on metadata and no more.
+pub fn is_metadata(op: &Op) -> bool
+    ensures { result ≡ model.is_metadata op.now }
+{
+    match op {
+        Op::Umount
+        | Op::Beat
+        | Op::Lookup { .. }
+        | Op::Stat { .. }
+        | Op::Lstat { .. }
+        | Op::Fstat { .. }
+        | Op::Mkdir { .. }
+        | Op::Create { .. }
+        | Op::Open { .. }
+        | Op::Close { .. }
+        | Op::Readdir { .. }
+        | Op::Chmod { .. }
+        | Op::Chown { .. }
+        | Op::Utimes { .. }
+        | Op::Statfs
+        | Op::Symlink { .. }
+        | Op::Readlink { .. }
+        | Op::Unlink { .. }
+        | Op::Rmdir { .. }
+        | Op::Link { .. }
+        | Op::Rename { .. } => true,
+        _ => false,
+    }
+}
+
+/// Whether no byte is 0.
+fn has_no_zero(bytes: &[u8]) -> bool
+    ensures { result ≡ has_no_zero bytes.now }
+{
+    bytes.iter().all(|byte| *byte != 0)
+}
+
+/// Whether what an operation writes is spelled as a line can spell it: paths and targets without the byte 0, permission bits of
+/// four octal digits, and targets of at least one byte.
+pub fn is_spelled(op: &Op) -> bool
+    ensures { result ≡ model.is_spelled op.now }
+{
+    match op {
+        Op::Mkdir { path, mode } | Op::Create { path, mode } => {
+            has_no_zero(path.as_slice()) && *mode <= ALL_MODES
+        }
+        Op::Chmod { mode, .. } => *mode <= ALL_MODES,
+        Op::Symlink { target, path } => {
+            has_no_zero(target.as_slice())
+                && !target.is_empty()
+                && has_no_zero(path.as_slice())
+        }
+        Op::Link { to, .. } | Op::Rename { to, .. } => has_no_zero(to.as_slice()),
+        _ => true,
+    }
+}
