@@ -1,14 +1,29 @@
 //! Nodes that change, go, or stay for a session alone.
 ghost use Rattle.std.specs.Prelude.{◌≡◌, Ok};
 ghost use Rattle.jv_changes.specs.Drafting.{Drafting};
+ghost use Rattle.jv_changes.specs.Present.{Presents};
 ghost use Rattle.jv_changes.specs.Ready.{IsThere, MayGo, sustaining};
 ghost use Rattle.jv_model.specs.tree.Changes as model;
 ghost use Rattle.jv_model.specs.tree.Renaming.{moved_node};
 ghost use Rattle.jv_rows.specs.Transactions.{Always};
 
-use jv_model::{Moment, RowFault, TxFault};
+use jv_model::{Fault, Gone, Moment, Node, RowFault, TxFault};
 use jv_outside::Keeper;
 use jv_rows::Draft;
+
+/// The node of an inode, as a draft's changes leave it.
+///
+/// # Errors
+///
+/// Stale where it isn't there. Bad for a malformed row of it, Failed if the keeper failed, Memory.
+pub(crate) fn present<K: Keeper>(draft: &Draft, k: &mut K, inode: u64) -> Result<Node, TxFault>
+    ensures { Presents inode draft.now (K.seen k.old) (K.seen k.new) result }
+{
+    match draft.node(k, inode)? {
+        Some(node) => Ok(node),
+        None => Err(TxFault::Refused(Fault::Stale(Gone::Node(inode)))),
+    }
+}
 
 /// Sets the time of a node's last status change.
 ///
