@@ -1,3 +1,4 @@
 -- What is proved of small changes.
 pub mod DraftingLaws
 pub mod DraftedLaws
+pub mod PresentLaws
