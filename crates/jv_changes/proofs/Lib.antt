@@ -2,3 +2,4 @@
 pub mod DraftingLaws
 pub mod DraftedLaws
 pub mod PresentLaws
+pub mod NodeChangeLaws

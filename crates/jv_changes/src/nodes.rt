@@ -1,5 +1,5 @@
 //! Nodes that change, go, or stay for a session alone.
-ghost use Rattle.std.specs.Prelude.{◌≡◌, Ok};
+ghost use Rattle.std.specs.Prelude.{◌≡◌, ◌==◌, if◌then◌else◌, Ok};
 ghost use Rattle.jv_changes.specs.Drafting.{Drafting};
 ghost use Rattle.jv_changes.specs.Present.{Presents};
 ghost use Rattle.jv_changes.specs.Ready.{IsThere, MayGo, sustaining};
@@ -39,7 +39,17 @@ pub fn change_status<K: Keeper>(
     ensures { Drafting (IsThere inode) draft.old draft.new (K.seen k.old) (K.seen k.new)
         result (λ t. Ok (model.change_node t inode (model.status_changed now))) }
 {
-    Err(TxFault::Rows(RowFault::Memory))
+    let node = present(draft, k, inode)?;
+    let ctime = now.seconds();
+    draft.put_node(inode, &Node { ctime, ..node })?;
+    Ok(())
+}
+
+// The parent of a node that is in this directory since then: one that is no directory has none.
+fn parent_under(dir: u64, node: &Node) -> u64
+    ensures { result ≡ (if node.now.kind == 2 then dir else node.now.parent) }
+{
+    if node.kind == 2 { dir } else { node.parent }
 }
 
 /// Sets the time of a node's last status change, and a directory's parent.
@@ -57,7 +67,18 @@ pub fn move_under<K: Keeper>(
     ensures { Drafting (IsThere inode) draft.old draft.new (K.seen k.old) (K.seen k.new)
         result (λ t. Ok (model.change_node t inode (moved_node now dir))) }
 {
-    Err(TxFault::Rows(RowFault::Memory))
+    let node = present(draft, k, inode)?;
+    let ctime = now.seconds();
+    let parent = parent_under(dir, &node);
+    draft.put_node(
+        inode,
+        &Node {
+            ctime,
+            parent,
+            ..node
+        },
+    )?;
+    Ok(())
 }
 
 /// Takes away a node that no entry names; a file leaves a row that its lists are still to go.
