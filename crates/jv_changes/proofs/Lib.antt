@@ -3,3 +3,4 @@ pub mod DraftingLaws
 pub mod DraftedLaws
 pub mod PresentLaws
 pub mod NodeChangeLaws
+pub mod EntryChangeLaws

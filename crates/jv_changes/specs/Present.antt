@@ -1,5 +1,5 @@
 -- What small changes read, and what they make of the rows that they read.
-use Rattle.std.specs.Prelude.{◌≡◌, ℕ, ◌+◌, ◌-◌, ◌==◌, ◌≤◌, if◌then◌else◌, List, None, Option, Some, Result, Ok, Err, IfOk, IfErr, IfSome, IsTrue}
+use Rattle.std.specs.Prelude.{◌≡◌, ℕ, ◌+◌, ◌-◌, ◌==◌, ◌<◌, ◌≤◌, if◌then◌else◌, List, None, Option, Some, Result, Ok, Err, IfOk, IfErr, IfSome, IsTrue}
 use Rattle.jv_model.specs.declared.limits.TheConstants.{MAX_LINKS}
 use Rattle.jv_model.specs.declared.fault.Fault.{Fault}
 use Rattle.jv_model.specs.declared.fault.Fault.TheVariants.{Stale, NoSpace}
@@ -50,4 +50,4 @@ linked_row links row = record row { nlink = links }
 -- a node with one link more, which is refused where no more can be stored
 abbrev pub Rises : Node → ℕ → (ℕ → Node) → Result Node Fault → Type 0
 Rises row more with_links (Ok after) = (after ≡ with_links (row.nlink + more)) × (row.nlink + more ≤ MAX_LINKS)
-Rises row more with_links (Err fault) = (fault ≡ NoSpace) × (MAX_LINKS + 1 ≤ row.nlink + more)
+Rises row more with_links (Err fault) = (fault ≡ NoSpace) × (MAX_LINKS < row.nlink + more)
