@@ -2,10 +2,11 @@
 use Rattle.std.proofs.Common.{◌≡◌, ◌≢◌, ℕ, ◌+◌, ◌-◌, ◌<◌, ◌≤◌, Bool, true, false, List, Option, None, Some, Result, Ok, Err, refl, sym, ap, subst, ◌∙◌, eqb-true}
 use Rattle.std.proofs.lemmas.Bool.{le-leb, lt-leb}
 use Rattle.std.proofs.Math.Bool.{and-false}
-use Rattle.std.specs.Prelude.{◌==◌, ◌&&◌, nat_le, IsTrue}
+use Rattle.std.specs.Prelude.{◌==◌, ◌&&◌, nat_le, is_some, IsTrue}
 use Rattle.jv_model.specs.declared.limits.TheConstants.{MAX_LINKS}
 use Rattle.jv_model.specs.declared.fault.Fault.{Fault}
 use Rattle.jv_model.specs.declared.fault.Fault.TheVariants.{NoSpace}
+use Rattle.jv_model.specs.declared.fault.TxFault.{TxFault}
 use Rattle.jv_model.specs.declared.fault.TxFault.TheVariants.{Refused}
 use Rattle.jv_model.specs.declared.row.Node.{Node as NodeRow}
 use Rattle.jv_model.specs.declared.row.Edge.{Edge}
@@ -14,7 +15,7 @@ use Rattle.jv_model.specs.FiniteMap.{get, insert, remove, alter}
 use Rattle.jv_model.specs.rows.RowKeys.{RowMap}
 use Rattle.jv_model.specs.rows.RowPlaces.{node_key, edge_key}
 use Rattle.jv_model.specs.tree.Attempt.{◌>>=◌, require}
-use Rattle.jv_model.specs.tree.Tree.{Tree, EntryKey, is_directory, link_count, links_fit, node_at}
+use Rattle.jv_model.specs.tree.Tree.{Tree, Node, EntryKey, parent_of, is_directory, link_count, links_fit, node_at}
 use Rattle.jv_model.specs.tree.Changes.{put_entry, take_entry}
 use Rattle.jv_outside.specs.declared.batch.Change.{Change}
 use Rattle.jv_outside.specs.Store.{Store}
@@ -29,9 +30,9 @@ use Rattle.jv_volume.proofs.StoredStepLaws.{alter_kept, node_apart, node_here}
 use Rattle.jv_volume.proofs.EntryStepLaws.{rows_with_entry, tree_of-entry_in, stored-entry_in, rows_without_entry, tree_of-entry_out, stored-entry_out}
 use Rattle.jv_changes.specs.Drafting.{Minds, AreRows, Led, Drafting}
 use Rattle.jv_changes.specs.Present.{Presents, to_directory, to_node, directory_touched, linked_row}
-use Rattle.jv_changes.specs.Ready.{StandsAt, MayStandAt, entry_put}
+use Rattle.jv_changes.specs.Ready.{StandsAt, MayStandAt, entry_put, IsThere}
 use Rattle.jv_changes.proofs.DraftedLaws.{Drafted, are_rows-put, are_rows-drop, Stays, stays-then, drafting-made, drafting-refused}
-use Rattle.jv_changes.proofs.PresentLaws.{stays-present, present-stands, Sound, sound-minds, minds-sound, sound-node, sound-edge}
+use Rattle.jv_changes.proofs.PresentLaws.{stays-present, present-stands, drafting-absent, Sound, sound-minds, minds-sound, sound-node, sound-edge}
 
 -- ---- three changes of rows: an entry's, its directory's, and its inode's
 
@@ -177,7 +178,26 @@ entry_put-full_node now at inode t node =
     ap (λ b. require (links_fit u at.dir && b) NoSpace >>= (λ unit. Ok u)) node
     ∙ ap (λ b. require b NoSpace >>= (λ unit. Ok u)) (and-false (links_fit u at.dir))
 
+-- a directory is there
+directory_there : (t : Tree) (inode : ℕ) → is_directory t inode ≡ true → IsThere inode t
+directory_there t inode is = by_node (node_at t inode) is
+  where
+    by_node : (node : Option Node) → is_some (parent_of node) ≡ true → is_some node ≡ true
+    by_node None e = e
+    by_node (Some node) e = refl
+
 -- ---- the small changes
+
+module _ {A : Type 0} (was : List Change) (before middle after : Store) (at : EntryKey) (inode : ℕ) (row : NodeRow) (read : Presents inode was before middle (Ok row))
+    (fault : TxFault) (unread : Presents at.dir was middle after (Err fault)) where
+  -- the directory's row wasn't read
+  pub take-no_dir : (step : Tree → Result Tree Fault) → Drafting {A = A} (λ t. StandsAt t at inode) was was before after (Err fault) step
+  take-no_dir step = drafting-absent at.dir was middle after (λ t. StandsAt t at inode) was before (stays-present inode was before middle row read) step
+      (λ t ready. directory_there t at.dir ready.within) fault unread
+
+  pub put-no_dir : (step : Tree → Result Tree Fault) → Drafting {A = A} (λ t. MayStandAt t at inode) was was before after (Err fault) step
+  put-no_dir step = drafting-absent at.dir was middle after (λ t. MayStandAt t at inode) was before (stays-present inode was before middle row read) step
+      (λ t ready. directory_there t at.dir ready.within) fault unread
 
 module _ (was : List Change) (before middle after : Store) (now : ℕ) (at : EntryKey) (inode : ℕ) (row dir : NodeRow)
     (node_read : Presents inode was before middle (Ok row)) (dir_read : Presents at.dir was middle after (Ok dir)) where
