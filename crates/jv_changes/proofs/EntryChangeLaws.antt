@@ -1,8 +1,8 @@
 -- An entry that comes or goes among rows in mind, by the rows of its directory and its inode.
-use Rattle.std.proofs.Common.{◌≡◌, ◌≢◌, ℕ, ◌+◌, ◌-◌, ◌<◌, ◌≤◌, Bool, true, false, List, Option, None, Some, Result, Ok, Err, refl, sym, ap, subst, ◌∙◌, eqb-true}
+use Rattle.std.proofs.Common.{◌≡◌, ◌≢◌, ℕ, ◌+◌, ◌-◌, ◌<◌, ◌≤◌, true, false, List, Option, None, Some, Result, Ok, Err, refl, sym, ap, subst, ◌∙◌, eqb-true}
 use Rattle.std.proofs.lemmas.Bool.{le-leb, lt-leb}
 use Rattle.std.proofs.Math.Bool.{and-false}
-use Rattle.std.specs.Prelude.{◌==◌, ◌&&◌, nat_le, is_some, IsTrue}
+use Rattle.std.specs.Prelude.{◌&&◌, nat_le, is_some, IsTrue}
 use Rattle.jv_model.specs.declared.limits.TheConstants.{MAX_LINKS}
 use Rattle.jv_model.specs.declared.fault.Fault.{Fault}
 use Rattle.jv_model.specs.declared.fault.Fault.TheVariants.{NoSpace}
@@ -11,7 +11,7 @@ use Rattle.jv_model.specs.declared.fault.TxFault.TheVariants.{Refused}
 use Rattle.jv_model.specs.declared.row.Node.{Node as NodeRow}
 use Rattle.jv_model.specs.declared.row.Edge.{Edge}
 use Rattle.jv_model.specs.declared.row.Row.TheVariants.{OfNode, OfEdge}
-use Rattle.jv_model.specs.FiniteMap.{get, insert, remove, alter}
+use Rattle.jv_model.specs.FiniteMap.{get, insert, alter}
 use Rattle.jv_model.specs.rows.RowKeys.{RowMap}
 use Rattle.jv_model.specs.rows.RowPlaces.{node_key, edge_key}
 use Rattle.jv_model.specs.tree.Attempt.{◌>>=◌, require}
@@ -20,7 +20,7 @@ use Rattle.jv_model.specs.tree.Changes.{put_entry, take_entry}
 use Rattle.jv_outside.specs.declared.batch.Change.{Change}
 use Rattle.jv_outside.specs.Store.{Store}
 use Rattle.jv_rows.specs.Drafts.{drafted}
-use Rattle.jv_volume.specs.TypedRows.{Cell, Rows, typed, is_entry_name}
+use Rattle.jv_volume.specs.TypedRows.{Cell, Rows, is_entry_name}
 use Rattle.jv_volume.specs.Views.{row_in, node_in, node_row_at}
 use Rattle.jv_volume.specs.TreeOf.{tree_of}
 use Rattle.jv_volume.specs.Stored.{Stored}
@@ -28,7 +28,7 @@ use Rattle.jv_volume.specs.Whole.{IsRowAt}
 use Rattle.jv_volume.proofs.StoredLaws.{HasNode, found_node}
 use Rattle.jv_volume.proofs.StoredStepLaws.{alter_kept, node_apart, node_here}
 use Rattle.jv_volume.proofs.EntryStepLaws.{rows_with_entry, tree_of-entry_in, stored-entry_in, rows_without_entry, tree_of-entry_out, stored-entry_out}
-use Rattle.jv_changes.specs.Drafting.{Minds, AreRows, Led, Drafting}
+use Rattle.jv_changes.specs.Drafting.{Minds, Drafting}
 use Rattle.jv_changes.specs.Present.{Presents, to_directory, to_node, directory_touched, linked_row}
 use Rattle.jv_changes.specs.Ready.{StandsAt, MayStandAt, entry_put, IsThere}
 use Rattle.jv_changes.proofs.DraftedLaws.{Drafted, are_rows-put, are_rows-drop, Stays, stays-then, drafting-made, drafting-refused}
@@ -39,13 +39,15 @@ use Rattle.jv_changes.proofs.PresentLaws.{stays-present, present-stands, draftin
 module _ (rows : Rows) (at : EntryKey) (inode : ℕ) (row dir : NodeRow) (here : node_row_at rows inode ≡ Some row) (there : node_row_at rows at.dir ≡ Some dir)
     (apart : at.dir ≢ inode) (cell : Option Cell) where
   abbrev pub three : NodeRow → NodeRow → Rows
-  three dir_after after = insert (insert (alter rows (edge_key at.dir at.name) cell) (node_key at.dir) (Ok (OfNode dir_after))) (node_key inode) (Ok (OfNode after))
+  three dir_after after =
+      insert (insert (alter rows (edge_key at.dir at.name) cell) (node_key at.dir) (Ok (OfNode dir_after))) (node_key inode) (Ok (OfNode after))
 
   -- the directory's row is still there after the entry's change, and the inode's after both
   dir_stands : node_row_at (alter rows (edge_key at.dir at.name) cell) at.dir ≡ Some dir
   dir_stands = ap (λ c. node_in (row_in c)) (alter_kept rows (edge_key at.dir at.name) cell (node_key at.dir) refl) ∙ there
 
-  node_stands : (dir_after : NodeRow) → node_row_at (insert (alter rows (edge_key at.dir at.name) cell) (node_key at.dir) (Ok (OfNode dir_after))) inode ≡ Some row
+  node_stands : (dir_after : NodeRow)
+      → node_row_at (insert (alter rows (edge_key at.dir at.name) cell) (node_key at.dir) (Ok (OfNode dir_after))) inode ≡ Some row
   node_stands dir_after = ap (λ c. node_in (row_in c))
       (node_apart (alter rows (edge_key at.dir at.name) cell) at.dir (Ok (OfNode dir_after)) inode (λ same. apart (sym same))
       ∙ alter_kept rows (edge_key at.dir at.name) cell (node_key inode) refl) ∙ here
@@ -70,7 +72,8 @@ three-drafted at inode cell dir_after after was one two now first second third k
 
 -- ---- over rows in mind
 
-module _ (known : RowMap) (was : List Change) (bytes : ℕ → ℕ → ℕ) (t : Tree) (m : Minds known was bytes t) (now : ℕ) (at : EntryKey) (inode : ℕ) (row dir : NodeRow)
+module _ (known : RowMap) (was : List Change) (bytes : ℕ → ℕ → ℕ) (t : Tree) (m : Minds known was bytes t)
+    (now : ℕ) (at : EntryKey) (inode : ℕ) (row dir : NodeRow)
     (here : node_row_at (drafted was known) inode ≡ Some row) (there : node_row_at (drafted was known) at.dir ≡ Some dir)
     (within_t : is_directory t at.dir ≡ true) (apart : at.dir ≢ inode) where
   abbrev rows : Rows
@@ -83,7 +86,8 @@ module _ (known : RowMap) (was : List Change) (bytes : ℕ → ℕ → ℕ) (t :
 
   -- an entry that goes
   module _ (named : get t.entries at ≡ Some inode) (changes : List Change)
-      (is : drafted changes known ≡ three rows at inode row dir here there apart None (directory_touched now (dir.nlink - to_directory row.kind) dir) (linked_row (row.nlink - to_node row.kind) row)) where
+      (is : drafted changes known ≡ three rows at inode row dir here there apart None
+      (directory_touched now (dir.nlink - to_directory row.kind) dir) (linked_row (row.nlink - to_node row.kind) row)) where
     named_there : get (tree_of bytes rows).entries at ≡ Some inode
     named_there = subst (λ (u : Tree). get u.entries at ≡ Some inode) (sym m.tree) named
 
@@ -142,7 +146,8 @@ module _ (known : RowMap) (was : List Change) (bytes : ℕ → ℕ → ℕ) (t :
         ap (λ (u : Tree). link_count u inode) (sym tree_in) ∙ sym has.links
 
     pub minds-entry_in : IsTrue (is_entry_name at.name) → (changes : List Change)
-        → drafted changes known ≡ three rows at inode row dir here there apart (Some edge_cell) (directory_touched now (dir.nlink + to_directory row.kind) dir) (linked_row (row.nlink + to_node row.kind) row)
+        → drafted changes known ≡ three rows at inode row dir here there apart (Some edge_cell)
+        (directory_touched now (dir.nlink + to_directory row.kind) dir) (linked_row (row.nlink + to_node row.kind) row)
         → Minds known changes bytes (put_entry t now at inode)
     minds-entry_in name changes is = minds-sound known changes bytes (put_entry t now at inode) rows_in
         (sound-three rows at inode row dir here there apart (Some edge_cell) known (sound-minds known was bytes t m)
@@ -161,18 +166,21 @@ fits-yes t j n links low = subst (λ k. nat_le k MAX_LINKS ≡ true) (sym links)
 fits-no : (t : Tree) (j n : ℕ) → link_count t j ≡ n → MAX_LINKS < n → links_fit t j ≡ false
 fits-no t j n links high = subst (λ k. nat_le k MAX_LINKS ≡ false) (sym links) (lt-leb n MAX_LINKS high)
 
-entry_put-made : (now : ℕ) (at : EntryKey) (inode : ℕ) (t : Tree) → links_fit (put_entry t now at inode) at.dir ≡ true → links_fit (put_entry t now at inode) inode ≡ true
+entry_put-made : (now : ℕ) (at : EntryKey) (inode : ℕ) (t : Tree) → links_fit (put_entry t now at inode) at.dir ≡ true
+    → links_fit (put_entry t now at inode) inode ≡ true
     → entry_put now at inode t ≡ Ok (put_entry t now at inode)
 entry_put-made now at inode t dir node =
     let u = put_entry t now at inode in
     ap (λ b. require (b && links_fit u inode) NoSpace >>= (λ unit. Ok u)) dir ∙ ap (λ b. require b NoSpace >>= (λ unit. Ok u)) node
 
-entry_put-full_dir : (now : ℕ) (at : EntryKey) (inode : ℕ) (t : Tree) → links_fit (put_entry t now at inode) at.dir ≡ false → entry_put now at inode t ≡ Err NoSpace
+entry_put-full_dir : (now : ℕ) (at : EntryKey) (inode : ℕ) (t : Tree) → links_fit (put_entry t now at inode) at.dir ≡ false
+    → entry_put now at inode t ≡ Err NoSpace
 entry_put-full_dir now at inode t dir =
     let u = put_entry t now at inode in
     ap (λ b. require (b && links_fit u inode) NoSpace >>= (λ unit. Ok u)) dir
 
-entry_put-full_node : (now : ℕ) (at : EntryKey) (inode : ℕ) (t : Tree) → links_fit (put_entry t now at inode) inode ≡ false → entry_put now at inode t ≡ Err NoSpace
+entry_put-full_node : (now : ℕ) (at : EntryKey) (inode : ℕ) (t : Tree) → links_fit (put_entry t now at inode) inode ≡ false
+    → entry_put now at inode t ≡ Err NoSpace
 entry_put-full_node now at inode t node =
     let u = put_entry t now at inode in
     ap (λ b. require (links_fit u at.dir && b) NoSpace >>= (λ unit. Ok u)) node
@@ -188,8 +196,8 @@ directory_there t inode is = by_node (node_at t inode) is
 
 -- ---- the small changes
 
-module _ {A : Type 0} (was : List Change) (before middle after : Store) (at : EntryKey) (inode : ℕ) (row : NodeRow) (read : Presents inode was before middle (Ok row))
-    (fault : TxFault) (unread : Presents at.dir was middle after (Err fault)) where
+module _ {A : Type 0} (was : List Change) (before middle after : Store) (at : EntryKey) (inode : ℕ) (row : NodeRow)
+    (read : Presents inode was before middle (Ok row)) (fault : TxFault) (unread : Presents at.dir was middle after (Err fault)) where
   -- the directory's row wasn't read
   pub take-no_dir : (step : Tree → Result Tree Fault) → Drafting {A = A} (λ t. StandsAt t at inode) was was before after (Err fault) step
   take-no_dir step = drafting-absent at.dir was middle after (λ t. StandsAt t at inode) was before (stays-present inode was before middle row read) step
@@ -225,7 +233,8 @@ module _ (was : List Change) (before middle after : Store) (now : ℕ) (at : Ent
       (λ known is bytes t m ready. record {
         left = take_entry t now at;
         is = refl;
-        minds = minds-entry_out known was bytes t m now at inode row dir (node_at_row known is) (dir_at_row known is) ready.within ready.apart ready.named changes
+        minds = minds-entry_out known was bytes t m now at inode row dir (node_at_row known is) (dir_at_row known is)
+            ready.within ready.apart ready.named changes
             (three-drafted at inode None dir_after node_after was one two changes first second third known);
       })
 
@@ -269,6 +278,7 @@ module _ (was : List Change) (before middle after : Store) (now : ℕ) (at : Ent
             (dir_links known was bytes t m now at inode row dir (node_at_row known is) (dir_at_row known is) ready.within ready.apart ready.free) dir_low)
             (fits-yes (put_entry t now at inode) inode (row.nlink + to_node row.kind)
             (node_links known was bytes t m now at inode row dir (node_at_row known is) (dir_at_row known is) ready.within ready.apart ready.free) node_low);
-        minds = minds-entry_in known was bytes t m now at inode row dir (node_at_row known is) (dir_at_row known is) ready.within ready.apart ready.free ready.name changes
+        minds = minds-entry_in known was bytes t m now at inode row dir (node_at_row known is) (dir_at_row known is)
+            ready.within ready.apart ready.free ready.name changes
             (three-drafted at inode (Some (Ok (OfEdge edge))) dir_after node_after was one two changes first second third known);
       })

@@ -1,31 +1,30 @@
 -- A node whose row is changed, and keeps its kind, its space and its links.
-use Rattle.std.proofs.Common.{◌≡◌, ℕ, Bool, true, false, List, Option, None, Some, Result, Ok, Err, refl, sym, ap, subst, ◌∙◌, eqb-true}
-use Rattle.std.specs.Prelude.{◌==◌, if◌then◌else◌}
+use Rattle.std.proofs.Common.{◌≡◌, ℕ, Bool, true, false, List, Some, Ok, refl, sym, ap, subst, ◌∙◌, eqb-true}
+use Rattle.std.specs.Prelude.{◌==◌}
 use Rattle.std.specs.Option.{option_map}
-use Rattle.jv_model.specs.declared.fault.Fault.{Fault}
 use Rattle.jv_model.specs.declared.row.Node.{Node as NodeRow}
 use Rattle.jv_model.specs.declared.row.Row.TheVariants.{OfNode}
 use Rattle.jv_model.specs.FiniteMap.{insert}
 use Rattle.jv_model.specs.rows.RowKeys.{RowMap}
 use Rattle.jv_model.specs.rows.RowPlaces.{node_key}
-use Rattle.jv_model.specs.tree.Tree.{Tree, Node, Kind, File, Directory, Symlink, node_at, kind_space}
+use Rattle.jv_model.specs.tree.Tree.{Tree, Node, Kind, File, Directory, Symlink, kind_space}
 use Rattle.jv_model.specs.tree.Changes.{status_changed, put_node, set_node, change_node}
 use Rattle.jv_model.specs.tree.Renaming.{kind_under, moved_node}
 use Rattle.jv_outside.specs.declared.batch.Change.{Change}
 use Rattle.jv_outside.specs.Store.{Store}
 use Rattle.jv_rows.specs.Drafts.{drafted}
-use Rattle.jv_volume.specs.TypedRows.{Cell, Rows, typed}
+use Rattle.jv_volume.specs.TypedRows.{Rows}
 use Rattle.jv_volume.specs.Views.{node_row_at}
 use Rattle.jv_volume.specs.TreeOf.{node_of, tree_of}
 use Rattle.jv_volume.proofs.NodeRowLaws.{IsNodeRow, moved_row, node_of-moved, IsNodeRow-moved_dir, IsNodeRow-moved_leaf}
 use Rattle.jv_volume.proofs.StoredLaws.{HasNode, found_node}
 use Rattle.jv_volume.proofs.StoredStepLaws.{stored-change_node}
 use Rattle.jv_volume.proofs.TreeOfLaws.{tree_of-put_node}
-use Rattle.jv_changes.specs.Drafting.{Minds, AreRows, Led, Drafting}
+use Rattle.jv_changes.specs.Drafting.{Minds, Drafting}
 use Rattle.jv_changes.specs.Present.{Presents}
 use Rattle.jv_changes.specs.Ready.{IsThere}
 use Rattle.jv_changes.proofs.DraftedLaws.{Drafted, are_rows-put, drafting-made}
-use Rattle.jv_changes.proofs.PresentLaws.{stays-present, present-stands, Sound, sound-minds, minds-sound, sound-node}
+use Rattle.jv_changes.proofs.PresentLaws.{stays-present, present-stands, sound-minds, minds-sound, sound-node}
 
 -- a node's row that is the changed node's
 pub record IsRowChanged (change : Node → Node) (row new : NodeRow) : Type 0 where
@@ -35,8 +34,9 @@ pub record IsRowChanged (change : Node → Node) (row new : NodeRow) : Type 0 wh
   pub node : (byte : ℕ → ℕ) → node_of byte new ≡ change (node_of byte row)
   pub space : (node : Node) → kind_space (change node).kind ≡ kind_space node.kind
 
-module _ (known : RowMap) (was now : List Change) (bytes : ℕ → ℕ → ℕ) (t : Tree) (m : Minds known was bytes t) (inode : ℕ) (change : Node → Node) (row new : NodeRow)
-    (is : IsRowChanged change row new) (there : node_row_at (drafted was known) inode ≡ Some row) (one : Drafted (node_key inode) (Some (Ok (OfNode new))) was now) where
+module _ (known : RowMap) (was now : List Change) (bytes : ℕ → ℕ → ℕ) (t : Tree) (m : Minds known was bytes t) (inode : ℕ) (change : Node → Node)
+    (row new : NodeRow) (is : IsRowChanged change row new) (there : node_row_at (drafted was known) inode ≡ Some row)
+    (one : Drafted (node_key inode) (Some (Ok (OfNode new))) was now) where
   abbrev before : Rows
   before = drafted was known
 

@@ -1,6 +1,6 @@
 -- A node that a small change reads, and what becomes of rows in mind by one change of a node's row or of an entry.
-use Rattle.std.proofs.Common.{◌≡◌, ℕ, ◌≢◌, true, false, List, Option, None, Some, Result, Ok, Err, refl, sym, ap, subst, ◌∙◌, true≢false}
-use Rattle.std.specs.Prelude.{IfSome, IfErr, IsTrue, is_some}
+use Rattle.std.proofs.Common.{◌≡◌, ℕ, List, Option, None, Some, Result, Ok, Err, refl, sym, ap, subst, ◌∙◌, true≢false}
+use Rattle.std.specs.Prelude.{is_some}
 use Rattle.jv_model.specs.declared.fault.Fault.{Fault}
 use Rattle.jv_model.specs.declared.fault.TxFault.{TxFault}
 use Rattle.jv_model.specs.declared.fault.TxFault.TheVariants.{Refused, Moved, Rows as OfRows}
@@ -13,8 +13,7 @@ use Rattle.jv_model.specs.rows.RowPlaces.{node_key, edge_key}
 use Rattle.jv_model.specs.tree.Tree.{Tree, node_at}
 use Rattle.jv_outside.specs.declared.batch.Change.{Change}
 use Rattle.jv_outside.specs.Store.{Store}
-use Rattle.jv_rows.specs.Drafts.{drafted}
-use Rattle.jv_rows.specs.Readings.{RowCause}
+use Rattle.jv_rows.specs.Drafts.{drafted, Drafts}
 use Rattle.jv_rows.specs.Transactions.{FaultCause, BadFault}
 use Rattle.jv_rows.proofs.TransactionLaws.{of_known, if_known}
 use Rattle.jv_volume.specs.TypedRows.{Cell, Rows, typed}
@@ -30,7 +29,7 @@ use Rattle.jv_volume.proofs.StoredLaws.{no_node}
 use Rattle.jv_changes.specs.Drafting.{Minds, AreRows, LeadsTo, Drafting}
 use Rattle.jv_changes.specs.Present.{Presents, RefusesNode}
 use Rattle.jv_changes.specs.Ready.{IsThere}
-use Rattle.jv_changes.proofs.DraftedLaws.{Stays, bad-cell, leads-cell}
+use Rattle.jv_changes.proofs.DraftedLaws.{Drafted, was_drafted, Stays, bad-cell, leads-cell}
 
 -- ---- a node that was read
 
@@ -60,7 +59,8 @@ module _ (inode : ℕ) (was : List Change) (middle after : Store) where
   absent_leads A (Moved list) h known is bytes t m there now step = h
   absent_leads A (OfRows fault) h known is bytes t m there now step = leads-cell (node_key inode) was A middle.rows fault h known is bytes t m now (step t)
 
-  absent_bad : (fault : TxFault) → RefusesNode inode was middle.rows fault → AreRows was → (known : RowMap) → middle.rows ≡ Some known → BadFault (typed known) fault
+  absent_bad : (fault : TxFault) → RefusesNode inode was middle.rows fault → AreRows was → (known : RowMap) → middle.rows ≡ Some known
+      → BadFault (typed known) fault
   absent_bad (Refused fault) h are known is = tt
   absent_bad (Moved list) h are known is = tt
   absent_bad (OfRows fault) h are known is = bad-cell (node_key inode) was middle.rows fault h are known is
@@ -78,6 +78,13 @@ module _ (inode : ℕ) (was : List Change) (middle after : Store) where
     bad = λ are. if_known (λ known. BadFault (typed known) fault) before.rows
         (λ known is. absent_bad fault s.refused are known (p.rows_are ∙ is));
   }
+
+-- a node's row that a small change puts, by another name
+pub put_drafted : {E : Type 0} (inode : ℕ) (row other : NodeRow) → row ≡ other → (was now : List Change) (result : Result (Unit {0}) E) → result ≡ Ok tt
+    → Drafts (node_key inode) (Some (Ok (OfNode row))) was now result → Drafted (node_key inode) (Some (Ok (OfNode other))) was now
+put_drafted inode row other same was now result done d =
+    subst (λ (r : NodeRow). Drafted (node_key inode) (Some (Ok (OfNode r))) was now) same
+    (was_drafted (node_key inode) (Some (Ok (OfNode row))) was now result done d)
 
 -- ---- rows in mind
 

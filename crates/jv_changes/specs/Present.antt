@@ -1,5 +1,5 @@
 -- What small changes read, and what they make of the rows that they read.
-use Rattle.std.specs.Prelude.{◌≡◌, ℕ, ◌+◌, ◌-◌, ◌==◌, ◌<◌, ◌≤◌, if◌then◌else◌, List, None, Option, Some, Result, Ok, Err, IfOk, IfErr, IfSome, IsTrue}
+use Rattle.std.specs.Prelude.{◌≡◌, ℕ, ◌+◌, ◌==◌, ◌<◌, ◌≤◌, if◌then◌else◌, List, None, Option, Some, Result, Ok, Err, IfOk, IfErr, IfSome, IsTrue}
 use Rattle.jv_model.specs.declared.limits.TheConstants.{MAX_LINKS}
 use Rattle.jv_model.specs.declared.fault.Fault.{Fault}
 use Rattle.jv_model.specs.declared.fault.Fault.TheVariants.{Stale, NoSpace}

@@ -24,16 +24,24 @@ fn links_of_node(kind: u8) -> u32
     if kind == 2 { 0 } else { 1 }
 }
 
-// A directory that an entry of an inode of this kind left at a moment.
-fn without_entry(parent: Node, now: Moment, kind: u8) -> Node
-    ensures { result ≡ directory_touched now (parent.nlink - to_directory kind) parent }
+// A directory whose entries changed at a moment, with its links since then.
+fn touched(parent: Node, now: Moment, nlink: u32) -> Node
+    ensures { result ≡ directory_touched now nlink parent }
 {
     Node {
-        nlink: parent.nlink.saturating_sub(links_of_directory(kind)),
+        nlink,
         mtime: now.seconds(),
         ctime: now.seconds(),
         ..parent
     }
+}
+
+// A directory that an entry of an inode of this kind left at a moment.
+fn without_entry(parent: Node, now: Moment, kind: u8) -> Node
+    ensures { result ≡ directory_touched now (parent.nlink - to_directory kind) parent }
+{
+    let nlink = parent.nlink.saturating_sub(links_of_directory(kind));
+    touched(parent, now, nlink)
 }
 
 // A node that an entry of it left.
@@ -50,22 +58,17 @@ fn unlinked(node: Node) -> Node
 fn with_entry(parent: Node, now: Moment, kind: u8) -> Result<Node, Fault>
     ensures { Rises parent (to_directory kind) (λ links. directory_touched now links parent) result }
 {
-    let links = parent.nlink.checked_add(links_of_directory(kind));
-    Ok(Node {
-        nlink: links.ok_or(Fault::NoSpace)?,
-        mtime: now.seconds(),
-        ctime: now.seconds(),
-        ..parent
-    })
+    let nlink = parent.nlink.checked_add(links_of_directory(kind));
+    Ok(touched(parent, now, nlink.ok_or(Fault::NoSpace)?))
 }
 
 // A node that gets an entry; refused where its link count is full.
 fn linked(node: Node) -> Result<Node, Fault>
     ensures { Rises node (to_node node.kind) (λ links. linked_row links node) result }
 {
-    let links = node.nlink.checked_add(links_of_node(node.kind));
+    let nlink = node.nlink.checked_add(links_of_node(node.kind));
     Ok(Node {
-        nlink: links.ok_or(Fault::NoSpace)?,
+        nlink: nlink.ok_or(Fault::NoSpace)?,
         ..node
     })
 }
@@ -74,7 +77,8 @@ fn linked(node: Node) -> Result<Node, Fault>
 ///
 /// # Errors
 ///
-/// Stale where the directory or the node isn't there. Bad for a malformed row of theirs, Failed if the keeper failed, Memory.
+/// Stale where the directory or the node isn't there. Bad for a malformed row of theirs, Failed if the keeper failed,
+/// Memory.
 pub fn take_entry<K: Keeper>(
     draft: &mut Draft,
     k: &mut K,
@@ -84,7 +88,8 @@ pub fn take_entry<K: Keeper>(
     inode: u64,
 ) -> Result<(), TxFault>
     ensures { Drafting (λ t. StandsAt t (record { dir = dir; name = name.now }) inode) draft.old draft.new
-        (K.seen k.old) (K.seen k.new) result (λ t. Ok (model.take_entry t now (record { dir = dir; name = name.now }))) }
+        (K.seen k.old) (K.seen k.new) result
+        (λ t. Ok (model.take_entry t now (record { dir = dir; name = name.now }))) }
 {
     let node = present(draft, k, inode)?;
     let parent = present(draft, k, dir)?;
@@ -100,8 +105,8 @@ pub fn take_entry<K: Keeper>(
 ///
 /// # Errors
 ///
-/// NoSpace where the link count of the directory or of the node is at its greatest number. Stale where the directory or the
-/// node isn't there. Bad for a malformed row of theirs, Failed if the keeper failed, Memory.
+/// NoSpace where the link count of the directory or of the node is at its greatest number. Stale where the directory or
+/// the node isn't there. Bad for a malformed row of theirs, Failed if the keeper failed, Memory.
 pub fn put_entry<K: Keeper>(
     draft: &mut Draft,
     k: &mut K,

@@ -40,8 +40,11 @@ pub fn change_status<K: Keeper>(
         result (λ t. Ok (model.change_node t inode (model.status_changed now))) }
 {
     let node = present(draft, k, inode)?;
-    let ctime = now.seconds();
-    draft.put_node(inode, &Node { ctime, ..node })?;
+    let changed = Node {
+        ctime: now.seconds(),
+        ..node
+    };
+    draft.put_node(inode, &changed)?;
     Ok(())
 }
 
@@ -68,16 +71,12 @@ pub fn move_under<K: Keeper>(
         result (λ t. Ok (model.change_node t inode (moved_node now dir))) }
 {
     let node = present(draft, k, inode)?;
-    let ctime = now.seconds();
-    let parent = parent_under(dir, &node);
-    draft.put_node(
-        inode,
-        &Node {
-            ctime,
-            parent,
-            ..node
-        },
-    )?;
+    let moved = Node {
+        ctime: now.seconds(),
+        parent: parent_under(dir, &node),
+        ..node
+    };
+    draft.put_node(inode, &moved)?;
     Ok(())
 }
 

@@ -1,13 +1,13 @@
-use Rattle.std.proofs.Common.{Some, Ok, subst}
+use Rattle.std.proofs.Common.{Some, Ok}
 use Rattle.std.proofs.lemmas.Result.{err_from_is_err_and}
 use Rattle.jv_model.specs.declared.row.Edge.{Edge}
-use Rattle.jv_model.specs.declared.row.Node.{Node}
-use Rattle.jv_model.specs.declared.row.Row.TheVariants.{OfNode, OfEdge}
-use Rattle.jv_model.specs.rows.RowPlaces.{node_key, edge_key}
+use Rattle.jv_model.specs.declared.row.Row.TheVariants.{OfEdge}
+use Rattle.jv_model.specs.rows.RowPlaces.{edge_key}
 use Rattle.jv_model.specs.tree.Tree.{EntryKey}
 use Rattle.jv_changes.specs.Ready.{entry_put}
-use Rattle.jv_changes.proofs.DraftedLaws.{Drafted, was_drafted}
+use Rattle.jv_changes.proofs.DraftedLaws.{was_drafted}
 use Rattle.jv_changes.proofs.EntryChangeLaws.{put-no_dir, put-full_dir, put-full_node, put-made}
+use Rattle.jv_changes.proofs.PresentLaws.{put_drafted}
 use Rattle.jv_changes.proofs.entries.put_entry.Goals as goal
 
 pub returns-in_err-parent : goal.returns-in_err-parent
@@ -23,7 +23,8 @@ returns-in_err-parent-2 g c =
     let at : EntryKey = record { dir = c.args.dir; name = c.args.name.now } in
     let p = err_from_is_err_and c.from_residual-in_err-parent-2.result c.from_residual-in_err-parent-2.ensures.1 in
     rw (p.1, p.2, c.in_err-parent-2.ensures.0)
-    (put-full_dir c.args.draft.now (g.K.Keeper.seen c.args.k.now) (g.K.Keeper.seen c.present.new.k) (g.K.Keeper.seen c.present-2.new.k) c.args.now at c.args.inode
+    (put-full_dir c.args.draft.now (g.K.Keeper.seen c.args.k.now) (g.K.Keeper.seen c.present.new.k) (g.K.Keeper.seen c.present-2.new.k)
+    c.args.now at c.args.inode
     c.in_ok-node.node c.in_ok-parent.parent c.in_ok-node.ensures c.in_ok-parent.ensures c.args.draft.now c.in_err-parent-2.ensures.1)
 
 pub returns-in_err-node-2 : goal.returns-in_err-node-2
@@ -31,7 +32,8 @@ returns-in_err-node-2 g c =
     let at : EntryKey = record { dir = c.args.dir; name = c.args.name.now } in
     let p = err_from_is_err_and c.from_residual-in_err-node-2.result c.from_residual-in_err-node-2.ensures.1 in
     rw (p.1, p.2, c.in_err-node-2.ensures.0)
-    (put-full_node c.args.draft.now (g.K.Keeper.seen c.args.k.now) (g.K.Keeper.seen c.present.new.k) (g.K.Keeper.seen c.present-2.new.k) c.args.now at c.args.inode
+    (put-full_node c.args.draft.now (g.K.Keeper.seen c.args.k.now) (g.K.Keeper.seen c.present.new.k) (g.K.Keeper.seen c.present-2.new.k)
+    c.args.now at c.args.inode
     c.in_ok-node.node c.in_ok-parent.parent c.in_ok-node.ensures c.in_ok-parent.ensures c.args.draft.now c.in_err-node-2.ensures.1)
 
 pub returns : goal.returns
@@ -41,13 +43,9 @@ returns g c =
     let one = c.put_edge.new.self in
     let two = c.put_node.new.self in
     let three = c.put_node-2.new.self in
-    let dir_after = c.in_ok-parent-2.parent in
-    let node_after = c.in_ok-node-2.node in
     put-made c.args.draft.now (g.K.Keeper.seen c.args.k.now) (g.K.Keeper.seen c.present.new.k) (g.K.Keeper.seen c.present-2.new.k) c.args.now at c.args.inode
     c.in_ok-node.node c.in_ok-parent.parent c.in_ok-node.ensures c.in_ok-parent.ensures one two three
     c.in_ok-parent-2.ensures.1 c.in_ok-node-2.ensures.1
     (was_drafted (edge_key c.args.dir c.args.name.now) (Some (Ok (OfEdge edge))) c.args.draft.now one c.put_edge.result c.in_ok-put_edge.was c.put_edge.ensures)
-    (subst (λ (row : Node). Drafted (node_key c.args.dir) (Some (Ok (OfNode row))) one two) c.in_ok-parent-2.ensures.0
-    (was_drafted (node_key c.args.dir) (Some (Ok (OfNode dir_after))) one two c.put_node.result c.in_ok-put_node.was c.put_node.ensures))
-    (subst (λ (row : Node). Drafted (node_key c.args.inode) (Some (Ok (OfNode row))) two three) c.in_ok-node-2.ensures.0
-    (was_drafted (node_key c.args.inode) (Some (Ok (OfNode node_after))) two three c.put_node-2.result c.in_ok-put_node-2.was c.put_node-2.ensures))
+    (put_drafted c.args.dir c.in_ok-parent-2.parent _ c.in_ok-parent-2.ensures.0 one two c.put_node.result c.in_ok-put_node.was c.put_node.ensures)
+    (put_drafted c.args.inode c.in_ok-node-2.node _ c.in_ok-node-2.ensures.0 two three c.put_node-2.result c.in_ok-put_node-2.was c.put_node-2.ensures)
