@@ -1,9 +1,10 @@
-use Rattle.std.proofs.Common.{Some, Ok}
+use Rattle.std.proofs.Common.{◌+◌, Some, Ok}
 use Rattle.std.proofs.lemmas.Result.{err_from_is_err_and}
 use Rattle.jv_model.specs.declared.row.Edge.{Edge}
 use Rattle.jv_model.specs.declared.row.Row.TheVariants.{OfEdge}
 use Rattle.jv_model.specs.rows.RowPlaces.{edge_key}
 use Rattle.jv_model.specs.tree.Tree.{EntryKey}
+use Rattle.jv_changes.specs.Present.{to_directory, to_node, directory_touched, linked_row}
 use Rattle.jv_changes.specs.Ready.{entry_put}
 use Rattle.jv_changes.proofs.DraftedLaws.{was_drafted}
 use Rattle.jv_changes.proofs.EntryChangeLaws.{put-no_dir, put-full_dir, put-full_node, put-made}
@@ -47,5 +48,8 @@ returns g c =
     c.in_ok-node.node c.in_ok-parent.parent c.in_ok-node.ensures c.in_ok-parent.ensures one two three
     c.in_ok-parent-2.ensures.1 c.in_ok-node-2.ensures.1
     (was_drafted (edge_key c.args.dir c.args.name.now) (Some (Ok (OfEdge edge))) c.args.draft.now one c.put_edge.result c.in_ok-put_edge.was c.put_edge.ensures)
-    (put_drafted c.args.dir c.in_ok-parent-2.parent _ c.in_ok-parent-2.ensures.0 one two c.put_node.result c.in_ok-put_node.was c.put_node.ensures)
-    (put_drafted c.args.inode c.in_ok-node-2.node _ c.in_ok-node-2.ensures.0 two three c.put_node-2.result c.in_ok-put_node-2.was c.put_node-2.ensures)
+    (put_drafted c.args.dir c.in_ok-parent-2.parent
+    (directory_touched c.args.now (c.in_ok-parent.parent.nlink + to_directory c.in_ok-node.node.kind) c.in_ok-parent.parent)
+    c.in_ok-parent-2.ensures.0 one two c.put_node.result c.in_ok-put_node.was c.put_node.ensures)
+    (put_drafted c.args.inode c.in_ok-node-2.node (linked_row (c.in_ok-node.node.nlink + to_node c.in_ok-node.node.kind) c.in_ok-node.node)
+    c.in_ok-node-2.ensures.0 two three c.put_node-2.result c.in_ok-put_node-2.was c.put_node-2.ensures)
