@@ -1,1 +1,2 @@
 -- What is proved of transactions on sessions.
+pub mod MindLaws

@@ -3,6 +3,9 @@
 //! A refusal, a keeper that failed, and want of memory leave the rows as they were.
 #![tactic(auto)]
 
+mod kept;
 mod sessions;
+mod steps;
 
-pub use sessions::{beat, close_session, mount, release};
+pub use kept::{close_session, release};
+pub use sessions::{beat, mount};
