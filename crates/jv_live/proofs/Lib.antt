@@ -1,2 +1,3 @@
 -- What is proved of transactions on sessions.
 pub mod MindLaws
+pub mod SessionLaws
