@@ -1,3 +1,4 @@
 -- What is proved of transactions on sessions.
 pub mod MindLaws
 pub mod SessionLaws
+pub mod KeptLaws

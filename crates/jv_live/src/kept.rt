@@ -22,13 +22,11 @@ fn kept_node<K: Keeper>(alloc: Global, k: &mut K, sid: u64, inode: u64) -> Resul
     requires { HasPair (K.seen k.old) sid inode }
     ensures { Looks (K.seen k.old) (K.seen k.new) result (λ t. Ok tt) }
 {
-    match read_node(alloc, k, inode)? {
-        Some(_) => Ok(()),
-        None => {
-            let key = key_of_sustained(alloc, sid, inode)?;
-            Err(TxFault::Rows(RowFault::Bad(key, Sequence::new(alloc))))
-        }
+    if read_node(alloc, k, inode)?.is_none() {
+        let key = key_of_sustained(alloc, sid, inode)?;
+        return Err(TxFault::Rows(RowFault::Bad(key, Sequence::new(alloc))));
     }
+    Ok(())
 }
 
 /// Ends the caller's session, and drops the files that it keeps.
