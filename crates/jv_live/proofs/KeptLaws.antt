@@ -148,9 +148,10 @@ module _ (sid inode : ℕ) (small : inode < 2 ^ 64) (before after : Store) (pair
     opened_at = r.opened_at;
     cause = r.counts;
     why = λ known is. (let gone : get (typed known) (node_key inode) ≡ None = stands-sees OfNode is_node (node_key inode) [] before after
-        (λ known is. fresh_kept [] (node_key inode) refl known) found (seen_node (Ok found) r) known is ∙ ap (cell OfNode) (none_if found lost) in
-        (subst (λ k. IsBad (typed known) k bytes) (sym key_is) (NamesNone OfSustained (node_key inode) (pair_there known is) none named_is gone),
-        no_whole known is gone));
+        (λ known is. fresh_kept [] (node_key inode) refl known) found (seen_node (Ok found) r) known is ∙ ap (cell OfNode) (none_if found lost) in (
+          subst (λ k. IsBad (typed known) k bytes) (sym key_is) (NamesNone OfSustained (node_key inode) (pair_there known is) none named_is gone),
+          no_whole known is gone,
+        ));
   })
 
 -- a pair that was read

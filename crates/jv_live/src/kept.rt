@@ -6,7 +6,8 @@ ghost use Rattle.jv_model.specs.tree.Caller.{Caller};
 ghost use Rattle.jv_model.specs.tree.Sessions as model;
 ghost use Rattle.jv_rows.specs.Transactions.{IsFor, Looks, Transacts, Always};
 
-use crate::steps::let_go;
+use crate::scanning::next_kept;
+use crate::steps::{end_session, let_go};
 use jv_changes::drop_node;
 use jv_model::{RowFault, Sequence, TxFault, Who};
 use jv_outside::Keeper;
@@ -29,20 +30,6 @@ fn kept_node<K: Keeper>(alloc: Global, k: &mut K, sid: u64, inode: u64) -> Resul
     Ok(())
 }
 
-/// Ends the caller's session, and drops the files that it keeps.
-///
-/// # Errors
-///
-/// Stale where the session is gone. Bad where a row that is read is malformed, or a pair names a node that isn't there. Failed
-/// if the keeper failed. Memory.
-pub fn close_session<K: Keeper>(alloc: Global, k: &mut K, who: &Who) -> Result<(), TxFault>
-    ensures { (caller : Caller) → IsFor who.entry.now caller
-        → Transacts Always (K.seen k.old) (K.seen k.new)
-        result (λ unit. Done) (λ t. model.umount t caller) }
-{
-    Err(TxFault::Rows(RowFault::Memory))
-}
-
 /// Drops a file without entries, if the caller's session keeps it.
 ///
 /// # Errors
@@ -62,6 +49,33 @@ pub fn release<K: Keeper>(alloc: Global, k: &mut K, who: &Who, inode: u64) -> Re
     kept_node(alloc, k, who.sid, inode)?;
     let_go(&mut draft, who.sid, inode)?;
     drop_node(&mut draft, k, inode)?;
+    match draft.commit(k) {
+        Ok(()) => Ok(()),
+        Err(down) => Err(TxFault::Rows(RowFault::from(down))),
+    }
+}
+
+/// Ends the caller's session, and drops the files that it keeps.
+///
+/// # Errors
+///
+/// Stale where the session is gone. Bad where a row that is read is malformed, or a pair names a node that isn't there. Failed
+/// if the keeper failed. Memory.
+pub fn close_session<K: Keeper>(alloc: Global, k: &mut K, who: &Who) -> Result<(), TxFault>
+    ensures { (caller : Caller) → IsFor who.entry.now caller
+        → Transacts Always (K.seen k.old) (K.seen k.new)
+        result (λ unit. Done) (λ t. model.umount t caller) }
+{
+    in_session(alloc, k, who.sid)?;
+    let mut draft = Draft::new(alloc);
+    let mut after = None;
+    while let Some(inode) = next_kept(alloc, k, who.sid, after)? {
+        kept_node(alloc, k, who.sid, inode)?;
+        let_go(&mut draft, who.sid, inode)?;
+        drop_node(&mut draft, k, inode)?;
+        after = Some(inode);
+    }
+    end_session(&mut draft, who.sid)?;
     match draft.commit(k) {
         Ok(()) => Ok(()),
         Err(down) => Err(TxFault::Rows(RowFault::from(down))),

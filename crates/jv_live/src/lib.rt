@@ -4,6 +4,7 @@
 #![tactic(auto)]
 
 mod kept;
+mod scanning;
 mod sessions;
 mod steps;
 
