@@ -124,13 +124,14 @@ module _ (sid : ℕ) (after : Option ℕ) (last : RowKey) (before now : Store) w
     looks = fails-looks before now finds (OfRows fault)
         (record { rows_are = s.rows_are; opened_at = s.opened_at; cause = s.counts; why = why_unscanned fault s.refused });
     past = tt;
+    small = tt;
     there = tt;
     least = tt;
   }
 
 -- memory ran out
 pub finds-memory : (sid : ℕ) (after : Option ℕ) (store : Store) → FindsKept sid after store store (Err (OfRows Memory))
-finds-memory sid after store = record { looks = fails-looks store store finds (OfRows Memory) (fails-memory store); past = tt; there = tt; least = tt }
+finds-memory sid after store = record { looks = fails-looks store store finds (OfRows Memory) (fails-memory store); past = tt; small = tt; there = tt; least = tt }
 
 -- ---- the file that was found
 
@@ -149,6 +150,30 @@ first_past sid after (r ∷ rows) = by_number (r.0.a == sid)
     by_number : (b : Bool) → IfSome (if b then if_past after (number_in r.0.b) else None) (λ inode. is_past after inode ≡ true)
     by_number true = kept_past after (number_in r.0.b)
     by_number false = tt
+
+small_number : (bytes : List ℕ) → IfSome (number_in bytes) (λ n. bytes ≡ long n) → IfSome (number_in bytes) (λ n. n < 2 ^ 64)
+small_number bytes h = by_length (length bytes == 8) h
+  where
+    by_length : (b : Bool) → IfSome (if b then Some (from_be_bytes w64 bytes) else None) (λ n. bytes ≡ long n)
+        → IfSome (if b then Some (from_be_bytes w64 bytes) else None) (λ n. n < 2 ^ 64)
+    by_length true spelled = subst (λ bs. from_be_bytes w64 bs < 2 ^ 64) (sym spelled) (long_below (from_be_bytes w64 bytes))
+    by_length false spelled = tt
+
+small_past : (after o : Option ℕ) → IfSome o (λ n. n < 2 ^ 64) → IfSome (if_past after o) (λ n. n < 2 ^ 64)
+small_past after None h = tt
+small_past after (Some n) h = by_past (is_past after n)
+  where
+    by_past : (b : Bool) → IfSome (if b then Some n else None) (λ k. k < 2 ^ 64)
+    by_past true = h
+    by_past false = tt
+
+first_small : (sid : ℕ) (after : Option ℕ) (list : List (RowKey × Row)) → IsSpelled list → IfSome (first_kept sid after list) (λ inode. inode < 2 ^ 64)
+first_small sid after [] h = tt
+first_small sid after (r ∷ rows) h = by_sid (r.0.a == sid)
+  where
+    by_sid : (b : Bool) → IfSome (if b then if_past after (number_in r.0.b) else None) (λ inode. inode < 2 ^ 64)
+    by_sid true = small_past after (number_in r.0.b) (small_number r.0.b h)
+    by_sid false = tt
 
 -- the first of rows is of the session, and its file is past
 record IsOf (sid : ℕ) (after : Option ℕ) (key : RowKey) (inode : ℕ) : Type 0 where
@@ -323,6 +348,7 @@ module _ (sid : ℕ) (after : Option ℕ) (before now : Store) (list : List (Row
   finds-read = record {
     looks = record { rows_are = s.rows_are; opened_at = s.opened_at; counts = s.counts; agrees = λ known is whole bytes. refl; bad = tt };
     past = subst (λ (o : Option ℕ). IfSome o (λ inode. is_past after inode ≡ true)) (sym found_is) (first_past sid after list);
+    small = subst (λ (o : Option ℕ). IfSome o (λ inode. inode < 2 ^ 64)) (sym found_is) (first_small sid after list spelled);
     there = has_pair found refl;
     least = keeps_none;
   }

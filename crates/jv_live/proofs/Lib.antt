@@ -4,3 +4,4 @@ pub mod SessionLaws
 pub mod KeptLaws
 pub mod NextLaws
 pub mod FindingLaws
+pub mod ClosingLaws

@@ -83,5 +83,6 @@ unit_of (Err fault) = Err fault
 pub record FindsKept (sid : ℕ) (after : Option ℕ) (before now : Store) (result : Result (Option ℕ) TxFault) : Type 0 where
   pub looks : Looks before now (unit_of result) (λ t. Ok tt)
   pub past : IfOk result (λ found. IfSome found (λ inode. is_past after inode ≡ true))
+  pub small : IfOk result (λ found. IfSome found (λ inode. inode < 2 ^ 64))
   pub there : IfOk result (λ found. IfSome found (HasPair before sid))
   pub least : IfOk result (λ found. (known : RowMap) → before.rows ≡ Some known → Whole (typed known) → KeepsNone (typed known) sid after found)
