@@ -1,5 +1,5 @@
 -- A session that ends: its files are dropped one after another, and then it is gone.
-use Rattle.std.proofs.Common.{◌≡◌, ◌≢◌, ℕ, ◌+◌, ◌-◌, ◌<◌, ◌≤◌, ◌^◌, ◌⊎◌, Bool, true, false, List, [], inl, inr, Option, None, Some, Result, Ok, Err, refl, sym, ap, subst, ◌∙◌, arith, true≢false}
+use Rattle.std.proofs.Common.{◌≡◌, ◌≢◌, ℕ, ◌+◌, ◌-◌, ◌<◌, ◌≤◌, ◌^◌, Bool, true, false, List, [], inl, inr, Option, None, Some, Result, Ok, Err, refl, sym, ap, subst, ◌∙◌, arith, true≢false}
 use Rattle.std.specs.Prelude.{is_some, nat_lt}
 use Rattle.std.proofs.lemmas.Bool.{cases_order, lt-ltb, ltb-true, ltb-false}
 use Rattle.jv_model.specs.declared.basics.Who.{Who}
@@ -17,7 +17,7 @@ use Rattle.jv_model.specs.rows.RowPlaces.{sustained_key}
 use Rattle.jv_model.specs.tree.Attempt.{◌>>=◌}
 use Rattle.jv_model.specs.tree.Caller.{Caller, Outcome, done}
 use Rattle.jv_model.specs.tree.Changes.{drop_node}
-use Rattle.jv_model.specs.tree.Sessions.{umount, without_session, released}
+use Rattle.jv_model.specs.tree.Sessions.{umount, without_session}
 use Rattle.jv_model.specs.tree.Tree.{Tree, SustainedFile, pair_key, is_sustained}
 use Rattle.jv_outside.specs.declared.batch.Change.{Change}
 use Rattle.jv_outside.specs.Store.{Store, Commits}
@@ -36,7 +36,7 @@ use Rattle.jv_volume.proofs.TreeOfLaws.{is_sustained-tree_of, get-sustained-none
 use Rattle.jv_changes.specs.Drafting.{Drafting}
 use Rattle.jv_changes.specs.Ready.{MayGo}
 use Rattle.jv_changes.proofs.DraftingLaws.{PastSteps, steps-on, steps-stop, steps-fail, steps-commit}
-use Rattle.jv_live.specs.Steps.{letting_go, ending_session, HasPair, is_past, is_ahead, KeepsNone, FindsKept}
+use Rattle.jv_live.specs.Steps.{letting_go, ending_session, is_past, is_ahead, KeepsNone, FindsKept}
 use Rattle.jv_live.proofs.SessionLaws.{fresh-steps, not_made, steps-fell}
 use Rattle.jv_live.proofs.KeptLaws.{kept-may_go, pair-kept}
 

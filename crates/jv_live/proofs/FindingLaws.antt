@@ -1,17 +1,15 @@
 -- What a scan of one row behind a file's finds: the next file that the session keeps.
 use Rattle.std.proofs.Common.{◌≡◌, ℕ, ◌<◌, ◌≤◌, ◌^◌, Bool, true, false, ◌⊎◌, cond, List, [], ◌∷◌, length, take, inl, inr, Option, None, Some, Result, Ok, Err, refl, sym, ap, subst, ◌∙◌, arith, true≢false, eq-eqb, eqb-true}
-use Rattle.std.specs.Prelude.{◌==◌, ◌&&◌, nat_lt, if◌then◌else◌, filter, is_some, IfSome, IsTrue, ok_or}
+use Rattle.std.specs.Prelude.{◌==◌, ◌&&◌, if◌then◌else◌, filter, IfSome, IsTrue, ok_or}
 use Rattle.std.specs.Int.{w64, from_be_bytes}
 use Rattle.std.specs.Option.{option_map}
 use Rattle.std.specs.declared.cmp.Ordering.{Ordering}
 use Rattle.std.specs.declared.cmp.Ordering.TheVariants.{Less, Equal, Greater}
 use Rattle.std.specs.Ordering.{is_lt}
 use Rattle.std.proofs.lemmas.Bool.{cases_order, ltb-true, ltb-false}
-use Rattle.std.proofs.lemmas.Nat.{from_be_bytes-to_be_bytes_8}
 use Rattle.jv_model.specs.declared.fault.Fault.{Fault}
 use Rattle.jv_model.specs.declared.fault.RowFault.{RowFault}
 use Rattle.jv_model.specs.declared.fault.RowFault.TheVariants.{Bad, Failed, Memory}
-use Rattle.jv_model.specs.declared.fault.TxFault.{TxFault}
 use Rattle.jv_model.specs.declared.fault.TxFault.TheVariants.{Rows as OfRows}
 use Rattle.jv_model.specs.declared.row.Row.{Row}
 use Rattle.jv_model.specs.declared.row.Row.TheVariants.{OfSustained}
@@ -27,9 +25,9 @@ use Rattle.jv_outside.specs.Rows.{is_after, rows_after}
 use Rattle.jv_outside.specs.Store.{Store}
 use Rattle.jv_rows.specs.Scans.{row_then, rows_read, RefusesScan, ScansRows}
 use Rattle.jv_rows.specs.Tables.{sustained_row}
-use Rattle.jv_rows.specs.Transactions.{Malformed, Looks}
-use Rattle.jv_rows.proofs.TransactionLaws.{of_known, if_known, FailsBy, Fails, fails-memory, fails-looks}
-use Rattle.jv_volume.specs.TypedRows.{Rows, cell_of, typed, is_key}
+use Rattle.jv_rows.specs.Transactions.{Malformed}
+use Rattle.jv_rows.proofs.TransactionLaws.{of_known, if_known, FailsBy, fails-memory, fails-looks}
+use Rattle.jv_volume.specs.TypedRows.{cell_of, typed, is_key}
 use Rattle.jv_volume.specs.Views.{row_in, sustained_in, sustained_at}
 use Rattle.jv_volume.specs.Whole.{Whole}
 use Rattle.jv_volume.proofs.ShapeMapLaws.{first_where-none}
@@ -90,9 +88,6 @@ module _ (last : RowKey) (known : RowMap) (list : List (RowKey × Row)) where
   reads-one h = by_first (first_behind last known) refl (ap rows_read (sym (one-behind known last)) ∙ h)
 
 -- ---- a scan that failed
-
-record IsOff (last : RowKey) (known : RowMap) (at : RowKey) (bytes : List ℕ) : Type 0 where
-  there : get known at ≡ Some bytes
 
 module _ (last : RowKey) (known : RowMap) (at : RowKey) (bytes : List ℕ) where
   off_row : (e : RowKey × List ℕ) → get known e.0 ≡ Some e.1 → (o : Option Row) → row_then e.0 e.1 o (Ok []) ≡ Err (at, bytes) → get known at ≡ Some bytes

@@ -1,6 +1,6 @@
 -- How a release ends: each of its exits, by what was read and what was changed; and that a file that a session keeps may go.
-use Rattle.std.proofs.Common.{◌≡◌, ◌≢◌, ℕ, ◌<◌, ◌≤◌, ◌^◌, Bool, true, false, List, [], Option, None, Some, Result, Ok, Err, refl, sym, ap, subst, ◌∙◌, arith, true≢false, inl, inr}
-use Rattle.std.specs.Prelude.{IsTrue, IfSome, is_some, nat_lt, not, ◌&&◌}
+use Rattle.std.proofs.Common.{◌≡◌, ◌≢◌, ℕ, ◌<◌, ◌^◌, true, false, List, [], Option, None, Some, Result, Ok, Err, refl, sym, ap, subst, ◌∙◌, true≢false, inl, inr}
+use Rattle.std.specs.Prelude.{IsTrue, is_some, not, ◌&&◌}
 use Rattle.std.specs.Int.{w64, from_be_bytes}
 use Rattle.std.proofs.lemmas.Bool.{cases_order, lt-ltb, ne_eqb}
 use Rattle.std.proofs.lemmas.Nat.{from_be_bytes-to_be_bytes_8}
@@ -14,7 +14,6 @@ use Rattle.jv_model.specs.declared.op.Reply.{Reply}
 use Rattle.jv_model.specs.declared.op.Reply.TheVariants.{Done}
 use Rattle.jv_model.specs.declared.row.Node.{Node as NodeRow}
 use Rattle.jv_model.specs.declared.row.RowKey.{RowKey}
-use Rattle.jv_model.specs.declared.row.Row.{Row}
 use Rattle.jv_model.specs.declared.row.Row.TheVariants.{OfNode, OfSustained}
 use Rattle.jv_model.specs.FiniteMap.{get}
 use Rattle.jv_model.specs.rows.RowGrammar.{is_node, node_bytes, node_of}
@@ -24,7 +23,7 @@ use Rattle.jv_model.specs.tree.Attempt.{◌>>=◌}
 use Rattle.jv_model.specs.tree.Caller.{Caller, Outcome, done}
 use Rattle.jv_model.specs.tree.Changes.{drop_node}
 use Rattle.jv_model.specs.tree.Sessions.{release, released}
-use Rattle.jv_model.specs.tree.Tree.{Tree, EntryKey, node_at, root, trash_root, is_counted, is_sustained}
+use Rattle.jv_model.specs.tree.Tree.{Tree, node_at, root, trash_root, is_counted, is_sustained}
 use Rattle.jv_outside.specs.declared.batch.Change.{Change}
 use Rattle.jv_outside.specs.Store.{Store, Commits}
 use Rattle.jv_rows.specs.Drafts.{drafted, cell, Sees}
@@ -33,7 +32,7 @@ use Rattle.jv_rows.specs.Tables.{node_row}
 use Rattle.jv_rows.specs.Transactions.{IsFor, IsBad, NamesNone, is_key_of, Looks, Transacts, Always}
 use Rattle.jv_rows.proofs.DraftLaws.{sees_stored}
 use Rattle.jv_rows.proofs.NeedingLaws.{session_is}
-use Rattle.jv_rows.proofs.TransactionLaws.{of_known, if_known, Past, Fails, past-start, past-as, past-calm, past-looks, past-stops, past-fails, fails-looks, fails-sees, stands-sees, transacts-refused, transacts-answers, drafted-none}
+use Rattle.jv_rows.proofs.TransactionLaws.{of_known, if_known, Past, past-start, past-as, past-calm, past-looks, past-stops, past-fails, fails-looks, fails-sees, stands-sees, transacts-refused, transacts-answers}
 use Rattle.jv_volume.specs.TypedRows.{Rows, typed}
 use Rattle.jv_volume.specs.TreeOf.{tree_of}
 use Rattle.jv_volume.specs.Shape.{Form, Regular, Dir, WholeShape, Keeps, form_of, is_there, shape_of}

@@ -1,25 +1,23 @@
 -- Rows in mind stay those of a tree when a session or a sustained file comes or goes, and when the next session rises.
-use Rattle.std.proofs.Common.{◌≡◌, ℕ, ◌+◌, ◌<◌, ◌≤◌, ◌^◌, Bool, true, false, List, Option, None, Some, Result, Ok, Err, refl, sym, ap, subst, ◌∙◌, arith}
-use Rattle.std.specs.Prelude.{◌==◌}
-use Rattle.std.specs.Ordering.{eq_by_cmp}
+use Rattle.std.proofs.Common.{◌≡◌, ℕ, ◌<◌, ◌^◌, List, Option, None, Some, Ok, refl, sym, ap, subst, ◌∙◌, arith}
 use Rattle.jv_model.specs.declared.row.Counters.{Counters}
 use Rattle.jv_model.specs.declared.row.RowKey.{RowKey}
 use Rattle.jv_model.specs.declared.row.Row.TheVariants.{OfCounters, OfSession}
 use Rattle.jv_model.specs.declared.row.Session.{Session}
 use Rattle.jv_model.specs.FiniteMap.{get, alter}
-use Rattle.jv_model.specs.rows.RowKeys.{RowMap, row_cmp}
+use Rattle.jv_model.specs.rows.RowKeys.{RowMap}
 use Rattle.jv_model.specs.rows.RowPlaces.{counters_key, session_key, sustained_key}
-use Rattle.jv_model.specs.tree.Tree.{Tree, used_space, used_inodes}
+use Rattle.jv_model.specs.tree.Tree.{Tree}
 use Rattle.jv_outside.specs.declared.batch.Change.{Change}
 use Rattle.jv_outside.specs.Store.{Store}
-use Rattle.jv_rows.specs.Drafts.{drafted, cell}
+use Rattle.jv_rows.specs.Drafts.{drafted}
 use Rattle.jv_rows.specs.Transactions.{Always}
 use Rattle.jv_volume.specs.TypedRows.{Cell, Rows, typed}
 use Rattle.jv_volume.specs.TreeOf.{tree_of}
 use Rattle.jv_volume.specs.Slices.{WholeFiles}
 use Rattle.jv_volume.specs.Stored.{Stored}
 use Rattle.jv_volume.specs.Views.{row_in, counters_in, counters_at}
-use Rattle.jv_volume.specs.Whole.{IsRowAt, Quiet, is_of_slices}
+use Rattle.jv_volume.specs.Whole.{IsRowAt, Quiet}
 use Rattle.jv_volume.proofs.FileStepLaws.{files-other, files-put_counters}
 use Rattle.jv_volume.proofs.QuietLaws.{quiet-alter, quiet-put_counters, quiet-then}
 use Rattle.jv_volume.proofs.SeenLaws.{rows-alter}
@@ -28,8 +26,8 @@ use Rattle.jv_volume.proofs.StoredLaws.{found_counters}
 use Rattle.jv_volume.proofs.StoredStepLaws.{stored-put_counters}
 use Rattle.jv_volume.proofs.TableStepLaws.{stored-put_session, stored-drop_session, stored-drop_sustained}
 use Rattle.jv_volume.proofs.TreeOfLaws.{tree_of-put_session, tree_of-drop_session, tree_of-drop_sustained, tree_of-put_counters}
-use Rattle.jv_changes.specs.Drafting.{Minds, AreRows, Led, LeadsTo, Drafting}
-use Rattle.jv_changes.proofs.DraftedLaws.{Drafted, are_rows-put, are_rows-drop, Stays, stays-none, drafting-made}
+use Rattle.jv_changes.specs.Drafting.{Minds, Drafting}
+use Rattle.jv_changes.proofs.DraftedLaws.{Drafted, are_rows-put, are_rows-drop, stays-none, drafting-made}
 use Rattle.jv_live.specs.Steps.{keeping_session, ending_session, letting_go}
 
 -- a row that is a row is one at its key, whatever it is

@@ -1,6 +1,6 @@
 -- How a mount and a beat end: each of their exits, by what was read and what was changed.
 use Rattle.std.proofs.Common.{◌≡◌, ℕ, ◌+◌, ◌<◌, ◌≤◌, true, false, List, [], Option, None, Some, Result, Ok, Err, refl, sym, ap, subst, ◌∙◌, arith}
-use Rattle.std.specs.Prelude.{IsTrue, IfSome, IfErr, ◌&&◌, nat_le, nat_lt}
+use Rattle.std.specs.Prelude.{◌&&◌, nat_le, nat_lt}
 use Rattle.std.proofs.lemmas.Bool.{lt-ltb, le-ltb, leb-true}
 use Rattle.jv_model.specs.declared.lifetimes.TheConstants.{SESSION_LIFE}
 use Rattle.jv_model.specs.declared.basics.Who.{Who}

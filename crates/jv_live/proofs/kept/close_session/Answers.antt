@@ -1,8 +1,8 @@
-use Rattle.std.proofs.Common.{ℕ, Option, Some, None, Ok, sym, ap, subst, ◌∙◌}
+use Rattle.std.proofs.Common.{ℕ, Option, Ok, subst}
 use Rattle.std.proofs.lemmas.Result.{err_from_is_err_and}
 use Rattle.jv_live.specs.Steps.{FindsKept, letting_go, ending_session}
 use Rattle.jv_live.proofs.SessionLaws.{absent}
-use Rattle.jv_live.proofs.ClosingLaws.{Dropping, steps-read, dropping-start, dropping-found, dropping-there, dropping-let_go, dropping-may_go, dropping-next, room-falls, close-no_session, close-lost, close-fell, close-stays, close-commits, close-uncommitted}
+use Rattle.jv_live.proofs.ClosingLaws.{steps-read, dropping-start, dropping-found, dropping-there, dropping-let_go, dropping-may_go, dropping-next, room-falls, close-no_session, close-lost, close-fell, close-stays, close-commits, close-uncommitted}
 use Rattle.jv_live.proofs.kept.close_session.Goals as goal
 
 pub returns-in_err-in_session : goal.returns-in_err-in_session

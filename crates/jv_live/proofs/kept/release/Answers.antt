@@ -1,4 +1,4 @@
-use Rattle.std.proofs.Common.{Option, Some, None, Ok, ap, sym, subst, ◌∙◌}
+use Rattle.std.proofs.Common.{Option, Ok, ap, subst, ◌∙◌}
 use Rattle.std.specs.Prelude.{not, true}
 use Rattle.std.proofs.lemmas.Result.{err_from_is_err_and}
 use Rattle.jv_model.specs.declared.row.Row.TheVariants.{OfSustained}
