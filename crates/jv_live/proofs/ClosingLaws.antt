@@ -67,7 +67,8 @@ module _ (sid : ℕ) (after : Option ℕ) (t u : Tree) (l : Left sid after t u) 
     v = released_tree u sid i
 
     still : (j : ℕ) → j ≢ i → is_sustained v sid j ≡ is_sustained u sid j
-    still j apart = ap is_some (get-remove_apart pair_key u.sustained (pair_of sid i) (pair_of sid j) (λ same. apart (ap (λ (p : SustainedFile). p.inode) same)))
+    still j apart = ap is_some (get-remove_apart pair_key u.sustained (pair_of sid i) (pair_of sid j)
+        (λ same. apart (ap (λ (p : SustainedFile). p.inode) same)))
 
     before_it : (j : ℕ) → j < i → (b : Bool) → is_past after j ≡ b → is_sustained u sid j ≡ false
     before_it j less true p = l.kept j p ∙ between j p (lt-ltb j i less)
@@ -97,7 +98,8 @@ module _ (sid : ℕ) (after : Option ℕ) (t u : Tree) (l : Left sid after t u) 
       by_past j false p = l.gone j p
 
 -- files that no row says to be kept
-none-kept : (bytes : ℕ → ℕ → ℕ) (rows : Rows) (sid : ℕ) (after next : Option ℕ) → KeepsNone rows sid after next → (j : ℕ) → is_past after j ≡ true → is_ahead next j ≡ true
+none-kept : (bytes : ℕ → ℕ → ℕ) (rows : Rows) (sid : ℕ) (after next : Option ℕ) → KeepsNone rows sid after next → (j : ℕ) → is_past after j ≡ true
+    → is_ahead next j ≡ true
     → is_sustained (tree_of bytes rows) sid j ≡ false
 none-kept bytes rows sid after next none j past ahead = by_size (nat_lt j (2 ^ 64)) refl
   where
@@ -123,7 +125,8 @@ module _ (start s s2 : Store) (changes : List Change) (now : Tree → Tree) (act
   as_past = record { rows_are = p.rows_are; opened_at = p.opened_at; calm = p.calm; goes_on = λ known is whole bytes. p.goes_on known is whole bytes tt }
 
   -- a reading that fails
-  pub steps-lost : {A : Type 0} (reply : A → Reply) (fault : TxFault) → Looks {A = Unit {0}} s s2 (Err fault) (λ t. Ok tt) → Transacts {A = A} Always start s2 (Err fault) reply act
+  pub steps-lost : {A : Type 0} (reply : A → Reply) (fault : TxFault) → Looks {A = Unit {0}} s s2 (Err fault) (λ t. Ok tt)
+      → Transacts {A = A} Always start s2 (Err fault) reply act
   steps-lost reply fault l = transacts-refused Always start s2 reply act fault (past-stops start s s2 act (λ t. Ok (tt {0})) (λ t _. rest t) as_past fault l)
 
 -- ---- files that are dropped
@@ -131,16 +134,19 @@ module _ (start s s2 : Store) (changes : List Change) (now : Tree → Tree) (act
 pub record Dropping (sid : ℕ) (start s : Store) (changes : List Change) (after : Option ℕ) : Type 0 where
   pub now : Tree → Tree
   pub steps : PastSteps Always start s changes now done done
-  pub left : (known : RowMap) → start.rows ≡ Some known → Whole (typed known) → (bytes : ℕ → ℕ → ℕ) → Left sid after (tree_of bytes (typed known)) (now (tree_of bytes (typed known)))
+  pub left : (known : RowMap) → start.rows ≡ Some known → Whole (typed known) → (bytes : ℕ → ℕ → ℕ) → Left sid after (tree_of bytes (typed known))
+      (now (tree_of bytes (typed known)))
 
-pub dropping-start : (sid : ℕ) (start s : Store) (changes : List Change) → changes ≡ [] → Looks start s (Ok (tt {0})) (session_is sid) → Dropping sid start s changes None
+pub dropping-start : (sid : ℕ) (start s : Store) (changes : List Change) → changes ≡ [] → Looks start s (Ok (tt {0})) (session_is sid)
+    → Dropping sid start s changes None
 dropping-start sid start s changes none l = record {
   now = λ t. t;
   steps = fresh-steps start s changes none done done (past-calm start start s done done (past-start start done) l.rows_are l.opened_at l.counts);
   left = λ known is whole bytes. left-start sid (tree_of bytes (typed known)) (whole-shape bytes (typed known) whole);
 }
 
-module _ (sid : ℕ) (start s : Store) (changes : List Change) (after : Option ℕ) (d : Dropping sid start s changes after) (s2 : Store) (inode : ℕ) (small : inode < 2 ^ 64)
+module _ (sid : ℕ) (start s : Store) (changes : List Change) (after : Option ℕ) (d : Dropping sid start s changes after) (s2 : Store) (inode : ℕ)
+    (small : inode < 2 ^ 64)
     (f : FindsKept sid after s s2 (Ok (Some inode))) where
   pub dropping-found : PastSteps Always start s2 changes d.now done done
   dropping-found = steps-read start s s2 changes d.now done done d.steps f.looks
@@ -161,11 +167,13 @@ module _ (sid : ℕ) (start s : Store) (changes : List Change) (after : Option �
       dropping-let_go = steps-on Always start s3 s3 changes d1 d.now done done dropping-there (tt {0}) Always (λ t. Ok (letting_go sid inode t)) let_go g
           (λ known is whole bytes ready. tt) (λ known is whole bytes ready. refl)
 
-      pub dropping-may_go : (known : RowMap) → start.rows ≡ Some known → Whole (typed known) → (bytes : ℕ → ℕ → ℕ) → MayGo (let_go (tree_of bytes (typed known))) inode
+      pub dropping-may_go : (known : RowMap) → start.rows ≡ Some known → Whole (typed known) → (bytes : ℕ → ℕ → ℕ)
+          → MayGo (let_go (tree_of bytes (typed known))) inode
       dropping-may_go known is whole bytes = (let l = d.left known is whole bytes in
           kept-may_go (d.now (tree_of bytes (typed known))) sid inode l.shape (l.kept inode f.past ∙ kept_in known is bytes))
 
-      pub dropping-next : (s4 : Store) (d2 : List Change) → Drafting (λ t. MayGo t inode) d1 d2 s3 s4 (Ok (tt {0})) (λ t. Ok (drop_node t inode)) → Dropping sid start s4 d2 (Some inode)
+      pub dropping-next : (s4 : Store) (d2 : List Change) → Drafting (λ t. MayGo t inode) d1 d2 s3 s4 (Ok (tt {0})) (λ t. Ok (drop_node t inode))
+          → Dropping sid start s4 d2 (Some inode)
       dropping-next s4 d2 e = record {
         now = λ t. released_tree (d.now t) sid inode;
         steps = steps-on Always start s3 s4 d1 d2 let_go done done dropping-let_go (tt {0}) (λ t. MayGo t inode) (λ t. Ok (drop_node t inode))
@@ -207,11 +215,13 @@ module _ (who : Who) (caller : Caller) (asks : IsFor who caller) (start s1 : Sto
       umount-is t caller ∙ ap (λ sid. session_is sid t >>= (λ _. done (without_session t sid))) asks.sid)
 
   -- the session is gone
-  pub close-no_session : (fault : TxFault) → Looks {A = Unit {0}} start s1 (Err fault) (session_is who.sid) → Transacts {A = Unit {0}} Always start s1 (Err fault) reply umounts
+  pub close-no_session : (fault : TxFault) → Looks {A = Unit {0}} start s1 (Err fault) (session_is who.sid) → Transacts {A = Unit {0}} Always start s1
+      (Err fault) reply umounts
   close-no_session fault l = transacts-refused Always start s1 reply umounts fault
       (past-stops start start s1 umounts (session_is who.sid) (λ t _. ends t) asked fault l)
 
-  module _ (l : Looks start s1 (Ok (tt {0})) (session_is who.sid)) (s : Store) (changes : List Change) (now : Tree → Tree) (idle : PastSteps Always start s changes now done done) where
+  module _ (l : Looks start s1 (Ok (tt {0})) (session_is who.sid)) (s : Store) (changes : List Change) (now : Tree → Tree)
+      (idle : PastSteps Always start s changes now done done) where
     inside : Past start s1 umounts ends
     inside = past-looks start start s1 umounts (session_is who.sid) (λ t _. ends t) asked tt l
 
@@ -226,7 +236,8 @@ module _ (who : Who) (caller : Caller) (asks : IsFor who caller) (start s1 : Sto
     }
 
     -- a reading fails
-    pub close-lost : (s2 : Store) (fault : TxFault) → Looks {A = Unit {0}} s s2 (Err fault) (λ t. Ok tt) → Transacts {A = Unit {0}} Always start s2 (Err fault) reply umounts
+    pub close-lost : (s2 : Store) (fault : TxFault) → Looks {A = Unit {0}} s s2 (Err fault) (λ t. Ok tt) → Transacts {A = Unit {0}} Always start s2
+        (Err fault) reply umounts
     close-lost s2 fault f = steps-lost start s s2 changes now umounts ends closing reply fault f
 
     -- memory runs out
@@ -235,15 +246,18 @@ module _ (who : Who) (caller : Caller) (asks : IsFor who caller) (start s1 : Sto
     close-fell d1 step fault d = steps-fell start s s changes d1 now step reply umounts ends closing fault d
 
     -- a node isn't dropped
-    pub close-stays : (s2 : Store) (d2 : List Change) (inode : ℕ) (fault : TxFault) → Drafting {A = Unit {0}} (λ t. MayGo t inode) changes d2 s s2 (Err fault) (λ t. Ok (drop_node t inode))
+    pub close-stays : (s2 : Store) (d2 : List Change) (inode : ℕ) (fault : TxFault) → Drafting {A = Unit {0}} (λ t. MayGo t inode) changes d2 s s2
+        (Err fault) (λ t. Ok (drop_node t inode))
         → ((known : RowMap) → start.rows ≡ Some known → Whole (typed known) → (bytes : ℕ → ℕ → ℕ) → MayGo (now (tree_of bytes (typed known))) inode)
         → Transacts {A = Unit {0}} Always start s2 (Err fault) reply umounts
-    close-stays s2 d2 inode fault d may = steps-stop Always start s s2 changes d2 now reply umounts ends closing fault (λ t. MayGo t inode) (λ t. Ok (drop_node t inode)) d
+    close-stays s2 d2 inode fault d may = steps-stop Always start s s2 changes d2 now reply umounts ends closing fault (λ t. MayGo t inode)
+        (λ t. Ok (drop_node t inode)) d
         (λ known is whole bytes ready. may known is whole bytes)
         (λ known is whole bytes ready refused h. not_made (drop_node (now (tree_of bytes (typed known))) inode) refused h)
 
   -- no file is left
-  module _ (l : Looks start s1 (Ok (tt {0})) (session_is who.sid)) (s : Store) (changes : List Change) (after : Option ℕ) (d : Dropping who.sid start s changes after)
+  module _ (l : Looks start s1 (Ok (tt {0})) (session_is who.sid)) (s : Store) (changes : List Change) (after : Option ℕ)
+      (d : Dropping who.sid start s changes after)
       (s2 : Store) (f : FindsKept who.sid after s s2 (Ok None)) (d1 : List Change)
       (g : Drafting Always changes d1 s2 s2 (Ok (tt {0})) (λ t. Ok (ending_session who.sid t))) where
     abbrev last : Tree → Tree
@@ -254,7 +268,8 @@ module _ (who : Who) (caller : Caller) (asks : IsFor who caller) (start s1 : Sto
         (closing l s2 changes d.now (steps-read start s s2 changes d.now done done d.steps f.looks)) (tt {0}) Always
         (λ t. Ok (ending_session who.sid t)) last g (λ known is whole bytes ready. tt) (λ known is whole bytes ready. refl)
 
-    last_is : (known : RowMap) → start.rows ≡ Some known → Whole (typed known) → (bytes : ℕ → ℕ → ℕ) → last (tree_of bytes (typed known)) ≡ without_session (tree_of bytes (typed known)) who.sid
+    last_is : (known : RowMap) → start.rows ≡ Some known → Whole (typed known) → (bytes : ℕ → ℕ → ℕ)
+        → last (tree_of bytes (typed known)) ≡ without_session (tree_of bytes (typed known)) who.sid
     last_is known is whole bytes = (let t = tree_of bytes (typed known) in
         left-end who.sid after t (d.now t) (d.left known is whole bytes)
         (λ j past. none-kept bytes (typed known) who.sid after None (f.least known (d.steps.rows_are ∙ is) whole) j past refl))
@@ -267,5 +282,7 @@ module _ (who : Who) (caller : Caller) (asks : IsFor who caller) (start s1 : Sto
         (whole-without_session (tree_of bytes (typed known)) who.sid (whole-shape bytes (typed known) whole)))
 
     -- it isn't committed
-    pub close-uncommitted : (end : Store) (down : Down) → Commits s2 end (Err down) d1 → Transacts {A = Unit {0}} Always start end (Err (OfRows (row_fault down))) reply umounts
-    close-uncommitted end down commits = steps-fail Always start s2 end d1 d1 last reply umounts ends ended (OfRows (row_fault down)) (fails-commit s2 end down d1 commits)
+    pub close-uncommitted : (end : Store) (down : Down) → Commits s2 end (Err down) d1 → Transacts {A = Unit {0}} Always start end
+        (Err (OfRows (row_fault down))) reply umounts
+    close-uncommitted end down commits = steps-fail Always start s2 end d1 d1 last reply umounts ends ended (OfRows (row_fault down))
+        (fails-commit s2 end down d1 commits)

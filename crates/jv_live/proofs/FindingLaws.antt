@@ -76,7 +76,8 @@ data ReadsOne (last : RowKey) (known : RowMap) (list : List (RowKey × Row)) : T
   OneRow : (e : RowKey × List ℕ) → IsRead last known list e → ReadsOne last known list
 
 module _ (last : RowKey) (known : RowMap) (list : List (RowKey × Row)) where
-  by_row : (e : RowKey × List ℕ) → first_behind last known ≡ Some e → (o : Option Row) → row_of e.0.tab e.1 ≡ o → row_then e.0 e.1 o (Ok []) ≡ Ok list → ReadsOne last known list
+  by_row : (e : RowKey × List ℕ) → first_behind last known ≡ Some e → (o : Option Row) → row_of e.0.tab e.1 ≡ o → row_then e.0 e.1 o (Ok []) ≡ Ok list
+      → ReadsOne last known list
   by_row e first None is h = absurd (cc)
   by_row e first (Some row) is h = OneRow e (record { row = row; first = first; read = is; list_is = cc })
 
@@ -107,8 +108,10 @@ finds t = Ok tt
 module _ (sid : ℕ) (after : Option ℕ) (last : RowKey) (before now : Store) where
   why_unscanned : (fault : RowFault) → RefusesScan before.rows 7 (Some last) 1 fault → FailsBy before.rows (OfRows fault)
   why_unscanned (Bad at bytes) h = λ known is.
-      let there = off-there last known at bytes (of_known (λ known. rows_read (rows_after known 7 (Some last) 1) ≡ Err (at, bytes)) before.rows known is h.1) in
-      let bad : get (typed known) at ≡ Some (Err bytes) = get-typed known at ∙ ap (option_map (cell_of at)) there ∙ ap (λ (r : Option Row). Some (ok_or r bytes)) h.0 in
+      let there = off-there last known at bytes (of_known (λ known. rows_read (rows_after known 7 (Some last) 1) ≡ Err (at, bytes)) before.rows known
+      is h.1) in
+      let bad : get (typed known) at ≡ Some (Err bytes) = get-typed known at ∙ ap (option_map (cell_of at)) there ∙ ap
+      (λ (r : Option Row). Some (ok_or r bytes)) h.0 in
       (Malformed bad, λ whole. whole-typed (typed known) at bytes whole bad)
   why_unscanned Failed h = tt
   why_unscanned Memory h = tt
@@ -126,7 +129,13 @@ module _ (sid : ℕ) (after : Option ℕ) (last : RowKey) (before now : Store) w
 
 -- memory ran out
 pub finds-memory : (sid : ℕ) (after : Option ℕ) (store : Store) → FindsKept sid after store store (Err (OfRows Memory))
-finds-memory sid after store = record { looks = fails-looks store store finds (OfRows Memory) (fails-memory store); past = tt; small = tt; there = tt; least = tt }
+finds-memory sid after store = record {
+  looks = fails-looks store store finds (OfRows Memory) (fails-memory store);
+  past = tt;
+  small = tt;
+  there = tt;
+  least = tt;
+}
 
 -- ---- the file that was found
 
@@ -179,7 +188,8 @@ record IsOf (sid : ℕ) (after : Option ℕ) (key : RowKey) (inode : ℕ) : Type
 of_first : (sid : ℕ) (after : Option ℕ) (key : RowKey) (row : Row) (inode : ℕ) → first_kept sid after ((key, row) ∷ []) ≡ Some inode → IsOf sid after key inode
 of_first sid after key row inode h = by_sid (key.a == sid) refl (number_in key.b) refl h
   where
-    by_past : (key.a == sid) ≡ true → (n : ℕ) → number_in key.b ≡ Some n → (b : Bool) → is_past after n ≡ b → (if b then Some n else None) ≡ Some inode → IsOf sid after key inode
+    by_past : (key.a == sid) ≡ true → (n : ℕ) → number_in key.b ≡ Some n → (b : Bool) → is_past after n ≡ b
+        → (if b then Some n else None) ≡ Some inode → IsOf sid after key inode
     by_past same n spells true past e = (let is : n ≡ inode = cc in record {
       number = eqb-true key.a sid same;
       spells = spells ∙ ap (λ k. Some k) is;
@@ -187,7 +197,8 @@ of_first sid after key row inode h = by_sid (key.a == sid) refl (number_in key.b
     })
     by_past same n spells false past e = absurd (cc)
 
-    by_sid : (b : Bool) → (key.a == sid) ≡ b → (o : Option ℕ) → number_in key.b ≡ o → (if b then if_past after o else None) ≡ Some inode → IsOf sid after key inode
+    by_sid : (b : Bool) → (key.a == sid) ≡ b → (o : Option ℕ) → number_in key.b ≡ o → (if b then if_past after o else None) ≡ Some inode
+        → IsOf sid after key inode
     by_sid true same None spells e = absurd (cc)
     by_sid true same (Some n) spells e = by_past same n spells (is_past after n) refl e
     by_sid false same o spells e = absurd (cc)
@@ -323,11 +334,13 @@ module _ (sid : ℕ) (after : Option ℕ) (before now : Store) (list : List (Row
 
   has_pair : (o : Option ℕ) → found ≡ o → IfSome o (HasPair before sid)
   has_pair None is = tt
-  has_pair (Some inode) is = if_known (λ known. get (typed known) (sustained_key sid inode) ≡ Some (Ok OfSustained)) before.rows (λ known known_is. pair_by known inode is (read known known_is))
+  has_pair (Some inode) is = if_known (λ known. get (typed known) (sustained_key sid inode) ≡ Some (Ok OfSustained)) before.rows
+      (λ known known_is. pair_by known inode is (read known known_is))
 
   none_by : (known : RowMap) → Whole (typed known) → (j : ℕ) → j < 2 ^ 64 → is_past after j ≡ true → is_ahead found j ≡ true → (y : List ℕ)
       → get known (sustained_key sid j) ≡ Some y → ReadsOne last known list → ⊥
-  none_by known whole j small past ahead y stored (NoRow first none) = first_where-none row_key (passes last) known (sustained_key sid j) y first stored (ap is_lt (key-past sid after j small past))
+  none_by known whole j small past ahead y stored (NoRow first none) = first_where-none row_key (passes last) known (sustained_key sid j) y first
+      stored (ap is_lt (key-past sid after j small past))
   none_by known whole j small past ahead y stored (OneRow e r) = not_between known e r whole j small past ahead
       (first_where-least row_key (passes last) known e (sustained_key sid j) y r.first stored (ap is_lt (key-past sid after j small past)))
 
@@ -335,7 +348,8 @@ module _ (sid : ℕ) (after : Option ℕ) (before now : Store) (list : List (Row
   keeps_none known is whole j small past ahead = by_stored (get known (sustained_key sid j)) refl
     where
       by_stored : (o : Option (List ℕ)) → get known (sustained_key sid j) ≡ o → sustained_at (typed known) sid j ≡ false
-      by_stored None stored = ap (λ c. sustained_in (row_in c)) (get-typed known (sustained_key sid j) ∙ ap (option_map (cell_of (sustained_key sid j))) stored)
+      by_stored None stored = ap (λ c. sustained_in (row_in c)) (get-typed known (sustained_key sid j) ∙ ap
+          (option_map (cell_of (sustained_key sid j))) stored)
       by_stored (Some y) stored = absurd (none_by known whole j small past ahead y stored (read known is))
 
   -- the row behind was read

@@ -140,7 +140,8 @@ module _ (sid inode : ℕ) (small : inode < 2 ^ 64) (before after : Store) (pair
       absurd (true≢false (sym there ∙ ap is_some (no_node no_bytes rows inode (ap (λ o. node_in (row_in o)) none))))
 
   -- it isn't there, and so the pair's row is Bad
-  pub node-gone : (key : RowKey) (bytes : List ℕ) → key ≡ sustained_key sid inode → bytes ≡ [] → (found : Option NodeRow) → is_some found ≡ false → ReadsNode (Ok found)
+  pub node-gone : (key : RowKey) (bytes : List ℕ) → key ≡ sustained_key sid inode → bytes ≡ [] → (found : Option NodeRow) → is_some found ≡ false
+      → ReadsNode (Ok found)
       → Looks {A = Unit {0}} before after (Err (OfRows (Bad key bytes))) finds
   node-gone key bytes key_is none found lost r = fails-looks before after finds (OfRows (Bad key bytes)) (record {
     rows_are = r.rows_are;
@@ -166,7 +167,8 @@ release-is : (t : Tree) (who : Caller) → release t who ≡ (session_is who.sid
 unfolding release
 release-is t who = refl
 
-module _ (who : Who) (caller : Caller) (asks : IsFor who caller) (inode : ℕ) (small : inode < 2 ^ 64) (inode_is : caller.inode ≡ inode) (before s1 : Store) where
+module _ (who : Who) (caller : Caller) (asks : IsFor who caller) (inode : ℕ) (small : inode < 2 ^ 64) (inode_is : caller.inode ≡ inode)
+    (before s1 : Store) where
   abbrev releases : Tree → Result Outcome Fault
   releases t = release t caller
 
@@ -207,7 +209,8 @@ module _ (who : Who) (caller : Caller) (asks : IsFor who caller) (inode : ℕ) (
 
     pair_stands : (found : Option (Unit {0})) → SeesPair (Ok found) → (known : RowMap) → s1.rows ≡ Some known
         → get (typed known) (sustained_key who.sid inode) ≡ cell (λ unit. OfSustained) found
-    pair_stands found s known is = stands-sees (λ unit. OfSustained) (λ unit. true) (sustained_key who.sid inode) changes s1 s2 (λ known is. pair_kept known) found s known is
+    pair_stands found s known is = stands-sees (λ unit. OfSustained) (λ unit. true) (sustained_key who.sid inode) changes s1 s2
+        (λ known is. pair_kept known) found s known is
 
     -- the session doesn't keep the file
     pub release-other : SeesPair (Ok None) → Transacts Always before s2 (Ok (tt {0})) reply releases
@@ -240,28 +243,34 @@ module _ (who : Who) (caller : Caller) (asks : IsFor who caller) (inode : ℕ) (
 
         module _ (d : Drafting Always changes d1 s3 s3 (Ok (tt {0})) (λ t. Ok (letting_go who.sid inode t))) (s4 : Store) (d2 : List Change) where
           let_go_steps : PastSteps Always before s3 d1 (letting_go who.sid inode) releases ends
-          let_go_steps = steps-on Always before s3 s3 changes d1 (λ t. t) releases ends begun (tt {0}) Always (λ t. Ok (letting_go who.sid inode t)) (letting_go who.sid inode) d
+          let_go_steps = steps-on Always before s3 s3 changes d1 (λ t. t) releases ends begun (tt {0}) Always (λ t. Ok (letting_go who.sid inode t))
+              (letting_go who.sid inode) d
               (λ known is whole bytes ready. tt) (λ known is whole bytes ready. refl)
 
-          may_go : (known : RowMap) → before.rows ≡ Some known → Whole (typed known) → (bytes : ℕ → ℕ → ℕ) → MayGo (letting_go who.sid inode (tree_of bytes (typed known))) inode
+          may_go : (known : RowMap) → before.rows ≡ Some known → Whole (typed known) → (bytes : ℕ → ℕ → ℕ)
+              → MayGo (letting_go who.sid inode (tree_of bytes (typed known))) inode
           may_go known is whole bytes = kept-may_go (tree_of bytes (typed known)) who.sid inode (whole-shape bytes (typed known) whole) (kept known is bytes)
 
           -- the node wasn't dropped
           pub release-stays : (fault : TxFault) → Drafting {A = Unit {0}} (λ t. MayGo t inode) d1 d2 s3 s4 (Err fault) (λ t. Ok (drop_node t inode))
               → Transacts {A = Unit {0}} Always before s4 (Err fault) reply releases
-          release-stays fault e = steps-stop Always before s3 s4 d1 d2 (letting_go who.sid inode) reply releases ends let_go_steps fault (λ t. MayGo t inode) (λ t. Ok (drop_node t inode)) e
+          release-stays fault e = steps-stop Always before s3 s4 d1 d2 (letting_go who.sid inode) reply releases ends let_go_steps fault
+              (λ t. MayGo t inode) (λ t. Ok (drop_node t inode)) e
               (λ known is whole bytes ready. may_go known is whole bytes)
               (λ known is whole bytes ready refused h. not_made (drop_node (letting_go who.sid inode (tree_of bytes (typed known))) inode) refused h)
 
           -- it is committed
-          pub release-commits : Drafting (λ t. MayGo t inode) d1 d2 s3 s4 (Ok (tt {0})) (λ t. Ok (drop_node t inode)) → (after : Store) → Commits s4 after (Ok tt) d2
+          pub release-commits : Drafting (λ t. MayGo t inode) d1 d2 s3 s4 (Ok (tt {0})) (λ t. Ok (drop_node t inode)) → (after : Store)
+              → Commits s4 after (Ok tt) d2
               → Transacts Always before after (Ok (tt {0})) reply releases
           release-commits e after commits =
               let last = λ (t : Tree). released_tree t who.sid inode in
               steps-commit Always before s4 after d2 d2 last reply releases ends
-              (steps-on Always before s3 s4 d1 d2 (letting_go who.sid inode) releases ends let_go_steps (tt {0}) (λ t. MayGo t inode) (λ t. Ok (drop_node t inode)) last e
+              (steps-on Always before s3 s4 d1 d2 (letting_go who.sid inode) releases ends let_go_steps (tt {0}) (λ t. MayGo t inode)
+              (λ t. Ok (drop_node t inode)) last e
               (λ known is whole bytes ready. may_go known is whole bytes) (λ known is whole bytes ready. refl))
               (tt {0}) commits
               (λ known is whole bytes ready. ap done (released-kept (tree_of bytes (typed known)) who.sid inode (kept known is bytes)))
-              (λ known is whole bytes ready. subst (λ (u : Tree). WholeShape (shape_of u)) (released-kept (tree_of bytes (typed known)) who.sid inode (kept known is bytes))
+              (λ known is whole bytes ready. subst (λ (u : Tree). WholeShape (shape_of u))
+              (released-kept (tree_of bytes (typed known)) who.sid inode (kept known is bytes))
               (whole-released (tree_of bytes (typed known)) who.sid inode (whole-shape bytes (typed known) whole)))

@@ -38,7 +38,8 @@ well_put q good x is e = subst (IsRowAt q) (same_some good x e) is
     same_some a b h = cc
 
 -- a change at a key, by what it does to rows
-module _ (known : RowMap) (was now : List Change) (bytes : ℕ → ℕ → ℕ) (t : Tree) (m : Minds known was bytes t) (q : RowKey) (stands : Option Cell) (done : Drafted q stands was now) where
+module _ (known : RowMap) (was now : List Change) (bytes : ℕ → ℕ → ℕ) (t : Tree) (m : Minds known was bytes t) (q : RowKey) (stands : Option Cell)
+    (done : Drafted q stands was now) where
   abbrev rows : Rows
   rows = drafted was known
 
@@ -113,9 +114,15 @@ module _ (was now : List Change) (store : Store) where
       → Drafting Always was now store store (Ok (tt {0})) (λ t. Ok (keeping_session sid session t))
   drafting-keep_session sid session done = drafting-made Always was now store store (stays-none store) (λ t. Ok (keeping_session sid session t)) (tt {0})
       (are_rows-put (session_key sid) was now (OfSession session) done)
-      (λ known is bytes t m is_ready. record { left = keeping_session sid session t; is = refl; minds = minds-keep_session known was now bytes t m sid session done })
+      (λ known is bytes t m is_ready. record {
+        left = keeping_session sid session t;
+        is = refl;
+        minds = minds-keep_session known was now bytes t m sid
+            session done;
+      })
 
-  pub drafting-end_session : (sid : ℕ) → Drafted (session_key sid) None was now → Drafting Always was now store store (Ok (tt {0})) (λ t. Ok (ending_session sid t))
+  pub drafting-end_session : (sid : ℕ) → Drafted (session_key sid) None was now → Drafting Always was now store store (Ok (tt {0}))
+      (λ t. Ok (ending_session sid t))
   drafting-end_session sid done = drafting-made Always was now store store (stays-none store) (λ t. Ok (ending_session sid t)) (tt {0})
       (are_rows-drop (session_key sid) was now done)
       (λ known is bytes t m is_ready. record { left = ending_session sid t; is = refl; minds = minds-end_session known was now bytes t m sid done })

@@ -68,7 +68,8 @@ digits-less (x ∷ xs) (y ∷ ys) len ax ay less =
     let vx : value xs < size ys = subst (λ s. value xs < s) same_size (value-below xs ax.1) in
     let lower : x * size ys + value xs < y * size ys + value ys = subst (λ s. x * s + value xs < y * size ys + value ys) same_size less in
     elim (cases_order x y) [
-      | inl same ↦ ap (λ n. ordering_then (nat_cmp n y) (slice_cmp nat_cmp xs ys)) same ∙ ap (λ o. ordering_then o (slice_cmp nat_cmp xs ys)) (tied_itself nat_cmp_total y)
+      | inl same ↦ ap (λ n. ordering_then (nat_cmp n y) (slice_cmp nat_cmp xs ys)) same ∙ ap (λ o. ordering_then o (slice_cmp nat_cmp xs ys))
+          (tied_itself nat_cmp_total y)
           ∙ digits-less xs ys (omega (arith, len)) ax.1 ay.1 (rest_less (size ys) same lower)
       | inr other ↦ elim other [
         | inl low ↦ ap (λ o. ordering_then o (slice_cmp nat_cmp xs ys)) (nat_less x y low)
@@ -107,7 +108,8 @@ key-less sid a b less small =
     ap (λ o. ordering_then (nat_cmp 7 7) (ordering_then o (slice_cmp nat_cmp (long a) (long b)))) (tied_itself nat_cmp_total sid) ∙ long-less a b less small
 
 -- the key of a file is behind that of an earlier one, and behind the one below all
-pub key-past : (sid : ℕ) (after : Option ℕ) (inode : ℕ) → inode < 2 ^ 64 → is_past after inode ≡ true → row_cmp (last_key sid after) (sustained_key sid inode) ≡ Less
+pub key-past : (sid : ℕ) (after : Option ℕ) (inode : ℕ) → inode < 2 ^ 64 → is_past after inode ≡ true
+    → row_cmp (last_key sid after) (sustained_key sid inode) ≡ Less
 key-past sid None inode small past = ap (λ o. ordering_then (nat_cmp 7 7) (ordering_then o Less)) (tied_itself nat_cmp_total sid)
 key-past sid (Some last) inode small past = key-less sid last inode (ltb-true last inode past) small
 
@@ -155,7 +157,8 @@ module _ {K X : Type 0} (order : KeyOrder K) where
       (found-above x k es y (second_of_both _ _ below)) h
 
   module _ (test : K → X → Bool) where
-    least_at : (e found : K × X) (es : List (K × X)) (k : K) (y : X) (b c : Bool) → test e.0 e.1 ≡ b → eq_by_cmp order.cmp k e.0 ≡ c → T (below_all order.cmp e.0 es)
+    least_at : (e found : K × X) (es : List (K × X)) (k : K) (y : X) (b c : Bool) → test e.0 e.1 ≡ b → eq_by_cmp order.cmp k e.0 ≡ c
+        → T (below_all order.cmp e.0 es)
         → (first_passing test es ≡ Some found → find order.cmp k es ≡ Some y → (k ≡ found.0) ⊎ (order.cmp found.0 k ≡ Less))
         → (elim b as (λ _. Option (K × X)) [ true ↦ Some e | false ↦ first_passing test es ]) ≡ Some found
         → cond c (Some e.1) (find order.cmp k es) ≡ Some y → test k y ≡ true → (k ≡ found.0) ⊎ (order.cmp found.0 k ≡ Less)
@@ -168,7 +171,8 @@ module _ {K X : Type 0} (order : KeyOrder K) where
         absurd (true≢false (sym passes ∙ (λ i. test (order.same k e.0 (equal_by (order.cmp k e.0) is) i) (sym value_is i)) ∙ t))
     least_at e found es k y false false t is below rest first h passes = rest first h
 
-    least_in : (es : List (K × X)) (found : K × X) (k : K) (y : X) → T (is_sorted order.cmp es) → first_passing test es ≡ Some found → find order.cmp k es ≡ Some y
+    least_in : (es : List (K × X)) (found : K × X) (k : K) (y : X) → T (is_sorted order.cmp es) → first_passing test es ≡ Some found
+        → find order.cmp k es ≡ Some y
         → test k y ≡ true → (k ≡ found.0) ⊎ (order.cmp found.0 k ≡ Less)
     least_in [] found k y sorted first h passes = absurd (cc)
     least_in (e ∷ es) found k y sorted first h passes = least_at e found es k y (test e.0 e.1) (eq_by_cmp order.cmp k e.0) refl refl (first_of_both _ _ sorted)

@@ -69,7 +69,8 @@ not_made t refused e = absurd (cc)
 -- a step that the model makes too, and which failed
 pub steps-fell : {A : Type 0} (before middle after : Store) (was now : List Change) (so_far step : Tree → Tree) (reply : A → Reply)
     (act rest : Tree → Result Outcome Fault)
-    → PastSteps Always before middle was so_far act rest → (fault : TxFault) → Drafting {A = Unit {0}} Always was now middle after (Err fault) (λ t. Ok (step t))
+    → PastSteps Always before middle was so_far act rest → (fault : TxFault) → Drafting {A = Unit {0}} Always was now middle after (Err fault)
+    (λ t. Ok (step t))
     → Transacts {A = A} Always before after (Err fault) reply act
 steps-fell before middle after was now so_far step reply act rest p fault d =
     steps-stop Always before middle after was now so_far reply act rest p fault Always (λ t. Ok (step t)) d (λ known is whole bytes ready. tt)
@@ -98,14 +99,16 @@ module _ (caller : Caller) (before middle : Store) (changes : List Change) (none
   pub mount-uncounted : (fault : TxFault) → Needs OfCounters is_counters counters_key changes before middle (Err fault)
       → Transacts {A = ℕ} Always before middle (Err fault) made mounts
   mount-uncounted fault n = transacts-refused Always before middle made mounts fault (fails-looks before middle mounts fault
-      (fails-needed OfCounters is_counters counters_key changes before middle (λ known is. fresh_kept changes counters_key none known) (CountersNeeded refl) fault n))
+      (fails-needed OfCounters is_counters counters_key changes before middle (λ known is. fresh_kept changes counters_key none known)
+      (CountersNeeded refl) fault n))
 
   module _ (c : Counters) (n : Needs OfCounters is_counters counters_key changes before middle (Ok c)) where
     counted : Past before middle mounts mounts
     counted = past-calm before before middle mounts mounts (past-start before mounts) n.rows_are n.opened_at n.counts
 
     counters_there : (known : RowMap) → before.rows ≡ Some known → get (typed known) counters_key ≡ Some (Ok (OfCounters c))
-    counters_there known is = stands-needs OfCounters is_counters counters_key changes before middle (λ known is. fresh_kept changes counters_key none known) c n known is
+    counters_there known is = stands-needs OfCounters is_counters counters_key changes before middle
+        (λ known is. fresh_kept changes counters_key none known) c n known is
 
     next_is : (known : RowMap) → before.rows ≡ Some known → Whole (typed known) → (bytes : ℕ → ℕ → ℕ) → (tree_of bytes (typed known)).next_session ≡ c.session
     next_is known is whole bytes = (found_counters bytes (typed known) (whole-stored bytes (typed known) whole) c
@@ -119,7 +122,8 @@ module _ (caller : Caller) (before middle : Store) (changes : List Change) (none
         mount-is t caller ∙ ap (λ b. require b NoSpace >>= (λ _. answered (with_session t caller) (SessionMade t.next_session)))
         (ap (λ k. nat_lt k full_count) (next_is known is whole bytes) ∙ le-ltb c.session full_count full))))
 
-    module _ (room : c.session < full_count) (d1 d2 : List Change) (one : Drafted counters_key (Some (Ok (OfCounters (record c { session = c.session + 1 })))) changes d1)
+    module _ (room : c.session < full_count) (d1 d2 : List Change) (one : Drafted counters_key
+        (Some (Ok (OfCounters (record c { session = c.session + 1 })))) changes d1)
         (session : Session) (session_is : session ≡ record { client = caller.client; expiry = caller.now + SESSION_LIFE }) where
       abbrev risen : Tree → Tree
       risen t = record t { next_session = c.session + 1 }
@@ -187,7 +191,8 @@ module _ (who : Who) (caller : Caller) (asks : IsFor who caller) (before middle 
 
   beat-by : (t : Tree) (found : Option SessionEntry) → get t.sessions who.sid ≡ found
       → beats t ≡ (some_or found (Stale (GoneSession who.sid)) >>= (λ session. done (kept_alive t caller session)))
-  beat-by t found is = beat-is t caller ∙ (λ i. some_or (get t.sessions (asks.sid i)) (Stale (GoneSession (asks.sid i))) >>= (λ session. done (kept_alive t caller session)))
+  beat-by t found is = beat-is t caller ∙ (λ i. some_or (get t.sessions (asks.sid i)) (Stale (GoneSession (asks.sid i))) >>=
+      (λ session. done (kept_alive t caller session)))
       ∙ ap (λ o. some_or o (Stale (GoneSession who.sid)) >>= (λ session. done (kept_alive t caller session))) is
 
   -- the session's row wasn't read
@@ -205,7 +210,8 @@ module _ (who : Who) (caller : Caller) (asks : IsFor who caller) (before middle 
   beat-gone s = transacts-refused Always before middle beaten beats (Refused (Stale (GoneSession who.sid)))
       (past-refuses before middle beats (Stale (GoneSession who.sid))
       (past-as before middle middle beats beats (seen_past None s) (λ t. Err (Stale (GoneSession who.sid))) (λ known is whole bytes.
-      let row = stands-sees OfSession is_session (session_key who.sid) changes before middle (λ known is. fresh_kept changes (session_key who.sid) none known) None s known is in
+      let row = stands-sees OfSession is_session (session_key who.sid) changes before middle
+      (λ known is. fresh_kept changes (session_key who.sid) none known) None s known is in
       beat-by (tree_of bytes (typed known)) None (no_session bytes (typed known) who.sid (ap (λ o. session_in (row_in o)) row)))))
 
   module _ (session after_session : Session) (s : Sees OfSession is_session (session_key who.sid) changes before middle (Ok (Some session)))
@@ -214,13 +220,16 @@ module _ (who : Who) (caller : Caller) (asks : IsFor who caller) (before middle 
     beat-steps = fresh-steps before middle changes none beats beats (seen_past (Some session) s)
 
     -- memory ran out
-    pub beat-fell : (fault : TxFault) → Drafting {A = Unit {0}} Always changes now middle middle (Err fault) (λ t. Ok (keeping_session who.sid after_session t))
+    pub beat-fell : (fault : TxFault) → Drafting {A = Unit {0}} Always changes now middle middle (Err fault)
+        (λ t. Ok (keeping_session who.sid after_session t))
         → Transacts Always before middle (Err fault) beaten beats
     beat-fell fault d = steps-fell before middle middle changes now (λ t. t) (keeping_session who.sid after_session) beaten beats beats beat-steps fault d
 
-    session_there : (known : RowMap) → before.rows ≡ Some known → (bytes : ℕ → ℕ → ℕ) → get (tree_of bytes (typed known)).sessions who.sid ≡ Some (session_of session)
+    session_there : (known : RowMap) → before.rows ≡ Some known → (bytes : ℕ → ℕ → ℕ) → get (tree_of bytes (typed known)).sessions who.sid ≡ Some
+        (session_of session)
     session_there known is bytes = found_session bytes (typed known) who.sid session (ap (λ o. session_in (row_in o))
-        (stands-sees OfSession is_session (session_key who.sid) changes before middle (λ known is. fresh_kept changes (session_key who.sid) none known) (Some session) s known is))
+        (stands-sees OfSession is_session (session_key who.sid) changes before middle
+        (λ known is. fresh_kept changes (session_key who.sid) none known) (Some session) s known is))
 
     alive_is : (t : Tree) → kept_alive t caller (session_of session) ≡ keeping_session who.sid after_session t
     alive_is t = ap (λ sid. keeping_session sid (record session { expiry = caller.now + SESSION_LIFE }) t) asks.sid
@@ -232,7 +241,8 @@ module _ (who : Who) (caller : Caller) (asks : IsFor who caller) (before middle 
     beat-commits after d commits =
         let last = λ (t : Tree). keeping_session who.sid after_session t in
         steps-commit Always before middle after now now last beaten beats beats
-        (steps-on Always before middle middle changes now (λ t. t) beats beats beat-steps (tt {0}) Always (λ t. Ok (keeping_session who.sid after_session t)) last d
+        (steps-on Always before middle middle changes now (λ t. t) beats beats beat-steps (tt {0}) Always
+        (λ t. Ok (keeping_session who.sid after_session t)) last d
         (λ known is whole bytes ready. tt) (λ known is whole bytes ready. refl))
         (tt {0}) commits
         (λ known is whole bytes ready.

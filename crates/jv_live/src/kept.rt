@@ -18,7 +18,8 @@ use std::alloc::Global;
 ///
 /// # Errors
 ///
-/// Bad where the node's row is malformed, or for the pair's row where the node isn't there. Failed if the keeper failed. Memory.
+/// Bad where the node's row is malformed, or for the pair's row where the node isn't there. Failed if the keeper
+/// failed. Memory.
 fn kept_node<K: Keeper>(alloc: Global, k: &mut K, sid: u64, inode: u64) -> Result<(), TxFault>
     requires { HasPair (K.seen k.old) sid inode }
     ensures { Looks (K.seen k.old) (K.seen k.new) result (λ t. Ok tt) }
@@ -34,8 +35,8 @@ fn kept_node<K: Keeper>(alloc: Global, k: &mut K, sid: u64, inode: u64) -> Resul
 ///
 /// # Errors
 ///
-/// Stale where the session is gone. Bad where a row that is read is malformed, or the pair names a node that isn't there. Failed
-/// if the keeper failed. Memory.
+/// Stale where the session is gone. Bad where a row that is read is malformed, or the pair names a node that isn't
+/// there. Failed if the keeper failed. Memory.
 pub fn release<K: Keeper>(alloc: Global, k: &mut K, who: &Who, inode: u64) -> Result<(), TxFault>
     ensures { (caller : Caller) → IsFor who.entry.now caller → caller.inode ≡ inode
         → Transacts Always (K.seen k.old) (K.seen k.new)
@@ -59,8 +60,8 @@ pub fn release<K: Keeper>(alloc: Global, k: &mut K, who: &Who, inode: u64) -> Re
 ///
 /// # Errors
 ///
-/// Stale where the session is gone. Bad where a row that is read is malformed, or a pair names a node that isn't there. Failed
-/// if the keeper failed. Memory.
+/// Stale where the session is gone. Bad where a row that is read is malformed, or a pair names a node that isn't
+/// there. Failed if the keeper failed. Memory.
 pub fn close_session<K: Keeper>(alloc: Global, k: &mut K, who: &Who) -> Result<(), TxFault>
     ensures { (caller : Caller) → IsFor who.entry.now caller
         → Transacts Always (K.seen k.old) (K.seen k.new)

@@ -1,6 +1,7 @@
-//! Transactions on sessions: mount, beat, close and release, each one commit or none (JuiceFS, "Sessions" of its internals).
+//! Transactions on sessions: mount, beat, close and release, each one commit or none (JuiceFS, "Sessions" of its
+//! internals).
 //!
-//! A refusal, a keeper that failed, and want of memory leave the rows as they were.
+//! A refusal, a keeper that failed, and running out of memory leave the rows as they were.
 #![tactic(auto)]
 
 mod kept;

@@ -35,7 +35,8 @@ fn number_in(bytes: &[u8]) -> Option<u64>
     ]))
 }
 
-/// The file of the first of rows, if it is the session's and comes after one: a keeper whose rows aren't known may show any.
+/// The file of the first of rows, if it is the session's and comes after one: a keeper whose rows aren't known may
+/// show any.
 fn first_in(sid: u64, after: Option<u64>, rows: &[(RowKey, Row)]) -> Option<u64>
     ensures found { result ≡ first_kept sid after rows.now }
     ensures spelled { IsSpelled rows.now }

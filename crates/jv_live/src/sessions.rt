@@ -18,8 +18,8 @@ use std::alloc::Global;
 ///
 /// # Errors
 ///
-/// NoSpace where the number of sessions is at its greatest. Bad where the counters are malformed or absent. Failed if the
-/// keeper failed. Memory.
+/// NoSpace where the number of sessions is at its greatest. Bad where the counters are malformed or absent. Failed
+/// if the keeper failed. Memory.
 pub fn mount<K: Keeper>(
     alloc: Global,
     k: &mut K,

@@ -14,4 +14,5 @@ returns-in_err-read_node g c =
 pub returns-then-is_none : goal.returns-then-is_none
 returns-then-is_none g c =
     node-gone c.args.sid c.args.inode c.ranges.inode.fits (g.K.Keeper.seen c.args.k.now) (g.K.Keeper.seen c.read_node.new.k) c.requires
-    c.in_ok-key.key c.new.result c.in_ok-key.ensures c.new.ensures c.in_ok-read_node.field-0 (c.is_none.ensures ∙ ap not c.if-is_none.true) c.in_ok-read_node.ensures
+    c.in_ok-key.key c.new.result c.in_ok-key.ensures c.new.ensures c.in_ok-read_node.field-0 (c.is_none.ensures ∙ ap not c.if-is_none.true)
+    c.in_ok-read_node.ensures
