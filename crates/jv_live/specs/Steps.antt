@@ -65,12 +65,12 @@ abbrev pub first_kept : ℕ → Option ℕ → List (RowKey × Row) → Option �
 first_kept sid after [] = None
 first_kept sid after (r ∷ rows) = (if r.0.a == sid then if_past after (number_in r.0.b) else None)
 
--- the key of the first of rows has the bytes of the number that they spell
+-- eight bytes in the key of the first row are those of the number that they spell
 abbrev pub IsSpelled : List (RowKey × Row) → Type 0
 IsSpelled [] = Unit {0}
 IsSpelled (r ∷ rows) = IfSome (number_in r.0.b) (λ number. r.0.b ≡ long number)
 
--- the session keeps no file between two
+-- the session keeps no file between the two
 abbrev pub KeepsNone : Rows → ℕ → Option ℕ → Option ℕ → Type 0
 KeepsNone rows sid after next = (inode : ℕ) → inode < 2 ^ 64 → is_past after inode ≡ true → is_ahead next inode ≡ true → sustained_at rows sid inode ≡ false
 
