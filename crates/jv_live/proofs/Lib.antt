@@ -1,1 +1,7 @@
 -- What is proved of transactions on sessions.
+pub mod MindLaws
+pub mod SessionLaws
+pub mod KeptLaws
+pub mod NextLaws
+pub mod FindingLaws
+pub mod ClosingLaws

@@ -1,1 +1,2 @@
 -- What is said of transactions on sessions.
+pub mod Steps

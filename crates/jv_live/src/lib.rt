@@ -1,8 +1,13 @@
-//! Transactions on sessions: mount, beat, close and release, each one commit or none (JuiceFS, "Sessions" of its internals).
+//! Transactions on sessions: mount, beat, close and release, each one commit or none (JuiceFS, "Sessions" of its
+//! internals).
 //!
-//! A refusal, a keeper that failed, and want of memory leave the rows as they were.
+//! A refusal, a keeper that failed, and running out of memory leave the rows as they were.
 #![tactic(auto)]
 
+mod kept;
+mod scanning;
 mod sessions;
+mod steps;
 
-pub use sessions::{beat, close_session, mount, release};
+pub use kept::{close_session, release};
+pub use sessions::{beat, mount};

@@ -1,20 +1,25 @@
-//! Sessions of clients, and the files that they keep without entries.
+//! Sessions of clients: one is made, and kept alive.
 ghost use Rattle.std.specs.Prelude.{◌≡◌};
 ghost use Rattle.jv_model.specs.declared.op.Reply.TheVariants.{Done, SessionMade};
 ghost use Rattle.jv_model.specs.tree.Caller.{Caller};
 ghost use Rattle.jv_model.specs.tree.Sessions as model;
 ghost use Rattle.jv_rows.specs.Transactions.{IsFor, Transacts, Always};
 
-use jv_model::{ClientId, Moment, RowFault, TxFault, Who};
+use crate::steps::keep_session;
+use jv_model::lifetimes::SESSION_LIFE;
+use jv_model::{
+    ClientId, Counters, FULL_COUNT, Fault, Gone, Moment, RowFault, Session, TxFault, Who,
+};
 use jv_outside::Keeper;
+use jv_rows::{Draft, needed_counters};
 use std::alloc::Global;
 
 /// Makes the next session, which is the client's and lasts 60 seconds, and returns its number.
 ///
 /// # Errors
 ///
-/// NoSpace where the number of sessions is at its greatest. Bad where the counters are malformed or absent. Failed if the
-/// keeper failed. Memory.
+/// NoSpace where the number of sessions is at its greatest. Bad where the counters are malformed or absent. Failed
+/// if the keeper failed. Memory.
 pub fn mount<K: Keeper>(
     alloc: Global,
     k: &mut K,
@@ -25,7 +30,26 @@ pub fn mount<K: Keeper>(
         → Transacts Always (K.seen k.old) (K.seen k.new)
         result (λ sid. SessionMade sid) (λ t. model.mount t caller) }
 {
-    Err(TxFault::Rows(RowFault::Memory))
+    let mut draft = Draft::new(alloc);
+    let counters = needed_counters(alloc, k, &draft)?;
+    let sid = counters.session;
+    if sid >= FULL_COUNT {
+        return Err(TxFault::Refused(Fault::NoSpace));
+    }
+    let session = Session {
+        client: client.number(),
+        expiry: now.seconds() + SESSION_LIFE,
+    };
+    let after = Counters {
+        session: sid + 1,
+        ..counters
+    };
+    draft.put_counters(&after)?;
+    keep_session(&mut draft, sid, &session)?;
+    match draft.commit(k) {
+        Ok(()) => Ok(sid),
+        Err(down) => Err(TxFault::Rows(RowFault::from(down))),
+    }
 }
 
 /// Keeps the caller's session alive for 60 seconds from the moment on.
@@ -38,33 +62,17 @@ pub fn beat<K: Keeper>(alloc: Global, k: &mut K, who: &Who) -> Result<(), TxFaul
         → Transacts Always (K.seen k.old) (K.seen k.new)
         result (λ unit. Done) (λ t. model.beat t caller) }
 {
-    Err(TxFault::Rows(RowFault::Memory))
-}
-
-/// Ends the caller's session, and drops the files that it keeps.
-///
-/// # Errors
-///
-/// Stale where the session is gone. Bad where a row that is read is malformed, or a pair names a node that isn't there. Failed
-/// if the keeper failed. Memory.
-pub fn close_session<K: Keeper>(alloc: Global, k: &mut K, who: &Who) -> Result<(), TxFault>
-    ensures { (caller : Caller) → IsFor who.entry.now caller
-        → Transacts Always (K.seen k.old) (K.seen k.new)
-        result (λ unit. Done) (λ t. model.umount t caller) }
-{
-    Err(TxFault::Rows(RowFault::Memory))
-}
-
-/// Drops a file without entries, if the caller's session keeps it.
-///
-/// # Errors
-///
-/// Stale where the session is gone. Bad where a row that is read is malformed, or the pair names a node that isn't there. Failed
-/// if the keeper failed. Memory.
-pub fn release<K: Keeper>(alloc: Global, k: &mut K, who: &Who, inode: u64) -> Result<(), TxFault>
-    ensures { (caller : Caller) → IsFor who.entry.now caller → caller.inode ≡ inode
-        → Transacts Always (K.seen k.old) (K.seen k.new)
-        result (λ unit. Done) (λ t. model.release t caller) }
-{
-    Err(TxFault::Rows(RowFault::Memory))
+    let mut draft = Draft::new(alloc);
+    let Some(session) = draft.session(k, who.sid)? else {
+        return Err(TxFault::Refused(Fault::Stale(Gone::Session(who.sid))));
+    };
+    let after = Session {
+        expiry: who.now.seconds() + SESSION_LIFE,
+        ..session
+    };
+    keep_session(&mut draft, who.sid, &after)?;
+    match draft.commit(k) {
+        Ok(()) => Ok(()),
+        Err(down) => Err(TxFault::Rows(RowFault::from(down))),
+    }
 }
