@@ -1,2 +1,5 @@
 -- What is proved of small changes.
+pub mod CivilDateLaws
 pub mod DraftingLaws
+pub mod DraftedLaws
+pub mod TrashTextLaws

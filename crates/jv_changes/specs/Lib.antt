@@ -1,3 +1,4 @@
 -- What is said of small changes.
+pub mod CivilDates
 pub mod Drafting
 pub mod Ready
