@@ -2,4 +2,5 @@
 pub mod CivilDateLaws
 pub mod DraftingLaws
 pub mod DraftedLaws
+pub mod GoingLaws
 pub mod TrashTextLaws

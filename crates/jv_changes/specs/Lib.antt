@@ -1,4 +1,5 @@
 -- What is said of small changes.
 pub mod CivilDates
 pub mod Drafting
+pub mod Lowered
 pub mod Ready
