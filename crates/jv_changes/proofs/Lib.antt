@@ -3,4 +3,6 @@ pub mod CivilDateLaws
 pub mod DraftingLaws
 pub mod DraftedLaws
 pub mod GoingLaws
+pub mod HourLinkLaws
+pub mod HourLaws
 pub mod TrashTextLaws

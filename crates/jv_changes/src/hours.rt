@@ -2,7 +2,7 @@
 ghost use Rattle.std.specs.Prelude.{◌≡◌, ◌≤◌, ◌/◌, ◌%◌, pos, ◌*ℤ◌, Ok, IfOk};
 ghost use Rattle.jv_changes.specs.Drafting.{Drafting};
 ghost use Rattle.jv_changes.specs.CivilDates.{IsDateOf};
-ghost use Rattle.jv_changes.specs.Ready.{MayHaveHour};
+ghost use Rattle.jv_changes.specs.Ready.{MayHaveHour, hour_row};
 ghost use Rattle.jv_model.specs.declared.limits.TheConstants.{LAST_MOMENT};
 ghost use Rattle.jv_model.specs.tree.HourNames.{hour_at, hour_name, day_hours, two_digits};
 ghost use Rattle.jv_model.specs.tree.Trash as model;
@@ -11,7 +11,11 @@ use itoa::Buffer;
 use jiff::Timestamp;
 use jiff::civil::DateTime;
 use jiff::tz::Offset;
-use jv_model::{MAX_NAME, Moment, Name, RowFault, TxFault};
+use crate::entries::put_entry;
+use jv_model::lifetimes::{FIRST_HOUR, HOUR};
+use jv_model::{
+    DIRECTORY_LENGTH, MAX_NAME, Moment, Name, Node, Sequence, TRASH_ROOT, TxFault, copied,
+};
 use jv_outside::Keeper;
 use jv_rows::Draft;
 use std::alloc::{AllocError, Global};
@@ -107,5 +111,41 @@ pub fn enter_hour<K: Keeper>(
         result (λ t. Ok (model.with_hour t now (hour_at now))) }
     ensures inode { IfOk result (λ inode. inode ≡ model.hour_inode (hour_at now)) }
 {
-    Err(TxFault::Rows(RowFault::Memory))
+    let inode = hour_inode(now.seconds() / HOUR);
+    if draft.node(k, inode)?.is_some() {
+        return Ok(inode);
+    }
+    let name = copied(alloc, hour_name(now).as_slice())?;
+    draft.put_node(inode, &hour_node(alloc, now))?;
+    put_entry(draft, k, now, TRASH_ROOT, &name, inode)?;
+    Ok(inode)
+}
+
+// The inode of an hour's directory.
+fn hour_inode(hour: u64) -> u64
+    requires { hour ≤ hour_at LAST_MOMENT }
+    ensures { result ≡ model.hour_inode hour }
+{
+    match hour {
+        0 => FIRST_HOUR,
+        _ => TRASH_ROOT + hour,
+    }
+}
+
+// The empty directory of an hour, which lets nobody write.
+fn hour_node(alloc: Global, now: Moment) -> Node
+    ensures { result ≡ hour_row now }
+{
+    Node {
+        kind: 2,
+        mode: 0o555,
+        uid: 0,
+        gid: 0,
+        nlink: 2,
+        mtime: now.seconds(),
+        ctime: now.seconds(),
+        length: DIRECTORY_LENGTH,
+        parent: TRASH_ROOT,
+        target: Sequence::new(alloc),
+    }
 }
