@@ -1,5 +1,5 @@
 -- Rows in mind are those of the model's tree again once the directory of an hour has come.
-use Rattle.std.proofs.Common.{◌≡◌, ◌≢◌, ℕ, ◌+◌, ◌<◌, ◌≤◌, Bool, true, false, List, [], Option, None, Some, Result, Ok, Err, inl, inr, refl, sym, ap, subst, ◌∙◌, arith}
+use Rattle.std.proofs.Common.{◌≡◌, ◌≢◌, ℕ, ◌+◌, ◌<◌, ◌≤◌, Bool, true, false, List, [], ◌∷◌, ◌++◌, ◌/◌, ◌%◌, Option, None, Some, Result, Ok, Err, inl, inr, refl, sym, ap, subst, ◌∙◌, arith}
 use Rattle.std.specs.Prelude.{◌==◌, ◌&&◌, ◌||◌, not, if◌then◌else◌, is_some, nat_lt, IsTrue}
 use Rattle.std.specs.Option.{option_map}
 use Rattle.std.proofs.lemmas.Bool.{cases_eq, le-ltb, le-leb}
@@ -14,7 +14,7 @@ use Rattle.jv_model.specs.rows.RowKeys.{row_key, RowMap}
 use Rattle.jv_model.specs.rows.RowPlaces.{counters_key, node_key, dropped_key}
 use Rattle.jv_model.specs.tree.Attempt.{◌>>=◌, require}
 use Rattle.jv_model.specs.tree.Changes.{put_node, put_entry, with_node}
-use Rattle.jv_model.specs.tree.HourNames.{hour_name, two_digits}
+use Rattle.jv_model.specs.tree.HourNames.{Date, date_of, date_text, day_hours, hour_name, two_digits}
 use Rattle.jv_model.specs.tree.Trash.{hour_inode, hour_place, with_hour}
 use Rattle.jv_model.specs.tree.Tree.{Tree, Node, Directory, EntryKey, trash_root, root, read_only_mode, new_node, node_at, is_directory, is_counted, node_space, node_count, link_count, links_fit}
 use Rattle.jv_volume.specs.TypedRows.{Cell, Rows, typed, is_entry_name}
@@ -71,9 +71,20 @@ uncounted inode high = ap (λ b. not (inode == root) && b) (le-ltb inode trash_r
 digit_is_text : (n : ℕ) → not ((48 + n == 47) || (48 + n == 0)) ≡ true
 digit_is_text n = grind arith
 
+digits_are_name : (a b c d e f g h j k : ℕ) → IsTrue (is_entry_name ((48 + a) ∷ (48 + b) ∷ (48 + c) ∷ (48 + d) ∷ 45 ∷ (48 + e) ∷ (48 + f) ∷ 45
+    ∷ (48 + g) ∷ (48 + h) ∷ 45 ∷ (48 + j) ∷ (48 + k) ∷ []))
+digits_are_name a b c d e f g h j k =
+    λ i. digit_is_text a i && (digit_is_text b i && (digit_is_text c i && (digit_is_text d i && (digit_is_text e i && (digit_is_text f i
+    && (digit_is_text g i && (digit_is_text h i && (digit_is_text j i && (digit_is_text k i && true)))))))))
+
+date_is_name : (date : Date) (rest : ℕ) → IsTrue (is_entry_name (date_text date ++ 45 ∷ two_digits rest))
+date_is_name date rest =
+    digits_are_name (date.year / 100 / 10 % 10) (date.year / 100 % 10) (date.year / 10 % 10) (date.year % 10) (date.month / 10 % 10) (date.month % 10)
+    (date.day / 10 % 10) (date.day % 10) (rest / 10 % 10) (rest % 10)
+
 pub hour_is_name : (hour : ℕ) → IsTrue (is_entry_name (hour_name hour))
 unfolding hour_name
-hour_is_name hour = ?
+hour_is_name hour = date_is_name (date_of (hour / day_hours)) (hour % day_hours)
 
 module _ (t : Tree) (now hour : ℕ) (may : MayHaveHour t hour) (low : hour ≤ last_hour) (none : node_at t (hour_inode hour) ≡ None) where
   abbrev dir : ℕ

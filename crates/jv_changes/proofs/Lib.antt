@@ -5,4 +5,5 @@ pub mod DraftedLaws
 pub mod GoingLaws
 pub mod HourLinkLaws
 pub mod HourLaws
+pub mod HourStepLaws
 pub mod TrashTextLaws
