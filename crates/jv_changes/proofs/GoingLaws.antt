@@ -1,10 +1,9 @@
 -- Rows in mind are those of the model's tree again once a node has gone, or a session keeps a file.
-use Rattle.std.proofs.Common.{◌≡◌, ◌≢◌, ℕ, ◌-◌, ◌<◌, ◌≤◌, ◌^◌, Bool, true, false, List, Option, None, Some, Result, Ok, Err, refl, sym, ap, subst, ◌∙◌, arith, true≢false}
-use Rattle.std.specs.Prelude.{◌==◌, if◌then◌else◌, IsTrue}
+use Rattle.std.proofs.Common.{◌≡◌, ℕ, ◌-◌, ◌<◌, ◌^◌, Bool, true, false, List, Option, None, Some, Ok, Err, refl, sym, ap, subst, ◌∙◌, arith, true≢false}
+use Rattle.std.specs.Prelude.{◌==◌, if◌then◌else◌}
 use Rattle.std.proofs.lemmas.Bool.{eq-eqb}
 use Rattle.jv_model.specs.declared.limits.TheConstants.{SPACE_UNIT}
 use Rattle.jv_model.specs.declared.row.Counters.{Counters}
-use Rattle.jv_model.specs.declared.row.Dropped.{Dropped}
 use Rattle.jv_model.specs.declared.row.Node.{Node as NodeRow}
 use Rattle.jv_model.specs.declared.row.Row.TheVariants.{OfCounters, OfNode, OfSustained, OfDropped}
 use Rattle.jv_model.specs.declared.row.RowKey.{RowKey}
@@ -31,7 +30,7 @@ use Rattle.jv_volume.proofs.MapLaws.{alter-swap}
 use Rattle.jv_volume.proofs.QuietLaws.{quiet-then, quiet-alter, quiet-put_counters}
 use Rattle.jv_volume.proofs.SeenLaws.{AreRows, node-seen, counters-seen, rows-alter}
 use Rattle.jv_volume.proofs.StoredLaws.{of_node, of_counters}
-use Rattle.jv_volume.proofs.StoredStepLaws.{counters_without_node, rows_without_node, tree_of-old_node, stored-old_node, alter_kept}
+use Rattle.jv_volume.proofs.StoredStepLaws.{rows_without_node, tree_of-old_node, stored-old_node, alter_kept}
 use Rattle.jv_volume.proofs.TableStepLaws.{stored-put_sustained, stored-unseen}
 use Rattle.jv_volume.proofs.TreeOfLaws.{next_inode-tree_of, tree_of-insert-unseen, tree_of-put_sustained}
 use Rattle.jv_changes.specs.Drafting.{Minds, AreRows as AreRowsInMind, Led, Drafting}

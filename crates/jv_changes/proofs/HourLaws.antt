@@ -1,27 +1,23 @@
 -- Rows in mind are those of the model's tree again once the directory of an hour has come.
-use Rattle.std.proofs.Common.{◌≡◌, ◌≢◌, ℕ, ◌+◌, ◌<◌, ◌≤◌, Bool, true, false, List, [], ◌∷◌, ◌++◌, ◌/◌, ◌%◌, Option, None, Some, Result, Ok, Err, inl, inr, refl, sym, ap, subst, ◌∙◌, arith}
-use Rattle.std.specs.Prelude.{◌==◌, ◌&&◌, ◌||◌, not, if◌then◌else◌, is_some, nat_lt, IsTrue}
+use Rattle.std.proofs.Common.{◌≡◌, ◌≢◌, ℕ, ◌+◌, ◌<◌, ◌≤◌, Bool, true, false, [], ◌∷◌, ◌++◌, ◌/◌, ◌%◌, Option, None, Some, Ok, refl, sym, ap, subst, ◌∙◌, arith}
+use Rattle.std.specs.Prelude.{◌==◌, ◌&&◌, ◌||◌, not, if◌then◌else◌, is_some, IsTrue}
 use Rattle.std.specs.Option.{option_map}
-use Rattle.std.proofs.lemmas.Bool.{cases_eq, le-ltb, le-leb}
-use Rattle.jv_model.specs.declared.fault.Fault.{Fault}
+use Rattle.std.proofs.lemmas.Bool.{le-ltb, le-leb}
 use Rattle.jv_model.specs.declared.fault.Fault.TheVariants.{NoSpace}
 use Rattle.jv_model.specs.declared.limits.TheConstants.{MAX_LINKS}
 use Rattle.jv_model.specs.declared.row.Counters.{Counters}
 use Rattle.jv_model.specs.declared.row.Node.{Node as NodeRow}
-use Rattle.jv_model.specs.declared.row.Row.TheVariants.{OfCounters, OfNode}
-use Rattle.jv_model.specs.FiniteMap.{number_key, get, insert}
-use Rattle.jv_model.specs.rows.RowKeys.{row_key, RowMap}
-use Rattle.jv_model.specs.rows.RowPlaces.{counters_key, node_key, dropped_key}
+use Rattle.jv_model.specs.FiniteMap.{number_key, insert}
+use Rattle.jv_model.specs.rows.RowKeys.{row_key}
+use Rattle.jv_model.specs.rows.RowPlaces.{counters_key, node_key}
 use Rattle.jv_model.specs.tree.Attempt.{◌>>=◌, require}
 use Rattle.jv_model.specs.tree.Changes.{put_node, put_entry, with_node}
 use Rattle.jv_model.specs.tree.HourNames.{Date, date_of, date_text, day_hours, hour_name, two_digits}
 use Rattle.jv_model.specs.tree.Trash.{hour_inode, hour_place, with_hour}
-use Rattle.jv_model.specs.tree.Tree.{Tree, Node, Directory, EntryKey, trash_root, root, read_only_mode, new_node, node_at, is_directory, is_counted, node_space, node_count, link_count, links_fit}
-use Rattle.jv_volume.specs.TypedRows.{Cell, Rows, typed, is_entry_name}
+use Rattle.jv_model.specs.tree.Tree.{Tree, Node, Directory, trash_root, root, read_only_mode, new_node, node_at, is_directory, is_counted, node_space, node_count, link_count, links_fit}
+use Rattle.jv_volume.specs.TypedRows.{Cell, Rows, is_entry_name}
 use Rattle.jv_volume.specs.Views.{counters_at, node_row_at, dropped_at}
-use Rattle.jv_volume.specs.TreeOf.{counters_of, node_of, tree_of}
-use Rattle.jv_volume.specs.Shape.{shape_of}
-use Rattle.jv_volume.specs.Slices.{WholeFiles}
+use Rattle.jv_volume.specs.TreeOf.{node_of, tree_of}
 use Rattle.jv_volume.specs.Stored.{Stored, counters_row}
 use Rattle.jv_volume.specs.Whole.{IsRowAt}
 use Rattle.jv_volume.proofs.FileStepLaws.{files-node}

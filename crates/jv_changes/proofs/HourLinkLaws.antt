@@ -1,14 +1,13 @@
 -- The trash has few entries, each the directory of another hour, so that one more can be counted.
-use Rattle.std.proofs.Common.{◌≡◌, ◌≢◌, ℕ, zero, suc, ◌+◌, ◌-◌, ◌<◌, ◌≤◌, Bool, true, false, Option, None, Some, ◌⊎◌, inl, inr, refl, sym, ap, subst, ◌∙◌, arith}
+use Rattle.std.proofs.Common.{◌≡◌, ◌≢◌, ℕ, zero, suc, ◌+◌, ◌-◌, ◌<◌, ◌≤◌, Bool, true, false, Option, None, Some, inl, inr, refl, sym, ap, subst, ◌∙◌, arith}
 use Rattle.std.specs.Prelude.{◌==◌, ◌&&◌, if◌then◌else◌, nat_lt, nat_le}
-use Rattle.std.proofs.lemmas.Bool.{cases_eq, cond-false, eq-eqb, ne_eqb, eqb-true, leb-true, ltb-true, and_parts, le-leb}
-use Rattle.jv_model.specs.declared.limits.TheConstants.{MAX_LINKS}
+use Rattle.std.proofs.lemmas.Bool.{cases_eq, cond-false, ne_eqb, leb-true, and_parts}
 use Rattle.jv_model.specs.declared.lifetimes.TheConstants.{FIRST_HOUR}
 use Rattle.jv_model.specs.FiniteMap.{Map, get, remove, sum_over}
-use Rattle.jv_model.specs.tree.Tree.{Tree, EntryKey, entry_key, trash_root, link_count, links_fit}
+use Rattle.jv_model.specs.tree.Tree.{Tree, EntryKey, entry_key, trash_root, link_count}
 use Rattle.jv_model.specs.tree.Trash.{hour_of, hour_place}
 use Rattle.jv_volume.specs.Shape.{NamesHour, shape_of}
-use Rattle.jv_volume.proofs.LinkLaws.{within_of, dirs_of, links_in, link_count-shape}
+use Rattle.jv_volume.proofs.LinkLaws.{within_of, dirs_of, link_count-shape}
 use Rattle.jv_volume.proofs.MapLaws.{sum-gone, sum-nothing, remove-absent}
 use Rattle.jv_volume.proofs.ShapeMapLaws.{count_of, get-removed, get-remove_apart, same_or_apart}
 

@@ -20,11 +20,10 @@ use Rattle.jv_model.specs.tree.Tree.{Tree, trash_root, node_at}
 use Rattle.jv_outside.specs.declared.batch.Change.{Change}
 use Rattle.jv_outside.specs.Store.{Store}
 use Rattle.jv_rows.specs.Drafts.{drafted, cell, Sees}
-use Rattle.jv_rows.specs.Transactions.{FaultCause, TransactionCounts, BadFault}
-use Rattle.jv_rows.proofs.TransactionLaws.{of_known, if_known}
-use Rattle.jv_volume.specs.TypedRows.{Rows, typed}
+use Rattle.jv_rows.specs.Transactions.{FaultCause, BadFault}
+use Rattle.jv_volume.specs.TypedRows.{typed}
 use Rattle.jv_volume.specs.Views.{node_row_at}
-use Rattle.jv_volume.specs.TreeOf.{node_of, tree_of}
+use Rattle.jv_volume.specs.TreeOf.{node_of}
 use Rattle.jv_volume.proofs.HourNameLaws.{last_hour}
 use Rattle.jv_volume.proofs.SeenLaws.{node-seen}
 use Rattle.jv_volume.proofs.StoredLaws.{of_node}

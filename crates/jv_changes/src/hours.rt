@@ -7,11 +7,11 @@ ghost use Rattle.jv_model.specs.declared.limits.TheConstants.{LAST_MOMENT};
 ghost use Rattle.jv_model.specs.tree.HourNames.{hour_at, hour_name, day_hours, two_digits};
 ghost use Rattle.jv_model.specs.tree.Trash as model;
 
+use crate::entries::put_entry;
 use itoa::Buffer;
 use jiff::Timestamp;
 use jiff::civil::DateTime;
 use jiff::tz::Offset;
-use crate::entries::put_entry;
 use jv_model::lifetimes::{FIRST_HOUR, HOUR};
 use jv_model::{
     DIRECTORY_LENGTH, MAX_NAME, Moment, Name, Node, Sequence, TRASH_ROOT, TxFault, copied,

@@ -107,7 +107,9 @@ fn without(counters: &Counters, node: &Node) -> Counters
         _ => 1,
     };
     Counters {
-        used_space: counters.used_space.saturating_sub(units.saturating_mul(SPACE_UNIT)),
+        used_space: counters
+            .used_space
+            .saturating_sub(units.saturating_mul(SPACE_UNIT)),
         used_inodes: counters.used_inodes.saturating_sub(1),
         ..*counters
     }
