@@ -26,14 +26,17 @@ year_few day less = omega arith
 year_begins : (day : ℕ) → day < era_days → days_before_year (year_in_era day) ≤ day
 year_begins day less = omega arith
 
-year_ends : (day : ℕ) → day < era_days → day < 365 * (year_in_era day + 1) + (year_in_era day + 1) / 4 - (year_in_era day + 1) / 100 + (year_in_era day + 1) / 400
+year_ends : (day : ℕ) → day < era_days
+    → day < 365 * (year_in_era day + 1) + (year_in_era day + 1) / 4 - (year_in_era day + 1) / 100 + (year_in_era day + 1) / 400
 year_ends day less = omega arith
 
 -- days before a year that begins in March, counted from the year -10000
 era_years : (era year : ℕ) → year ≤ 399 → march_days (10000 + 400 * era + year) ≡ march_days 10000 + era_days * era + days_before_year year
 era_years era year few = omega arith
 
-era_years_next : (era year : ℕ) → year ≤ 399 → march_days (suc (10000 + 400 * era + year)) ≡ march_days 10000 + era_days * era + (365 * (year + 1) + (year + 1) / 4 - (year + 1) / 100 + (year + 1) / 400)
+era_years_next : (era year : ℕ) → year ≤ 399
+    → march_days (suc (10000 + 400 * era + year))
+    ≡ march_days 10000 + era_days * era + (365 * (year + 1) + (year + 1) / 4 - (year + 1) / 100 + (year + 1) / 400)
 era_years_next era year few = omega arith
 
 -- a day of a year, as a month and a day of the month

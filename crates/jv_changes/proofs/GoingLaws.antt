@@ -88,7 +88,8 @@ space_is byte row = by_kind (row.kind == 1) (row.kind == 2)
     by_kind false false = refl
 
 lowered_is : (byte : ℕ → ℕ) (inode : ℕ) (row : NodeRow) (c : Counters) → is_counted inode ≡ true
-    → record c { used_space = c.used_space - node_space inode (node_of byte row); used_inodes = c.used_inodes - node_count inode (node_of byte row) } ≡ lowered row c
+    → record c { used_space = c.used_space - node_space inode (node_of byte row); used_inodes = c.used_inodes - node_count inode (node_of byte row) }
+    ≡ lowered row c
 lowered_is byte inode row c counted =
     (λ i. record c {
       used_space = c.used_space - (if counted i then kind_space (kind_of byte row) else 0);
@@ -97,7 +98,8 @@ lowered_is byte inode row c counted =
     ∙ ap (λ n. record c { used_space = c.used_space - n; used_inodes = c.used_inodes - 1 }) (space_is byte row)
 
 module _ (start rows : Rows) (bytes : ℕ → ℕ → ℕ) (inode : ℕ) (row : NodeRow) (c : Counters) (m : OfTree start rows bytes (tree_of bytes rows))
-    (there : get rows (node_key inode) ≡ Some (of_node row)) (counters : get rows counters_key ≡ Some (of_counters c)) (may : MayGo (tree_of bytes rows) inode) where
+    (there : get rows (node_key inode) ≡ Some (of_node row)) (counters : get rows counters_key ≡ Some (of_counters c))
+    (may : MayGo (tree_of bytes rows) inode) where
   abbrev without_row : Rows
   without_row = remove rows (node_key inode)
 
@@ -178,7 +180,8 @@ module _ (start rows : Rows) (bytes : ℕ → ℕ → ℕ) (inode : ℕ) (row : 
         (rows-alter without_row (dropped_key inode) (Some length_cell) cells_without length_typed) counters_typed;
     stored = subst (λ (r : Rows). Stored r (tree_of bytes r)) swapped
         (stored-unseen bytes lowered_rows (dropped_key inode) (Some length_cell) refl lowered_stored);
-    files = files-put_counters length_left c left (files-drop_file rows inode row (record { length = row.length }) m.files node_is given) counters_stay_left refl (omega arith);
+    files = files-put_counters length_left c left
+        (files-drop_file rows inode row (record { length = row.length }) m.files node_is given) counters_stay_left refl (omega arith);
     quiet = quiet-then start length_left file_rows
         (quiet-then start without_row length_left quiet_without (quiet-alter without_row (dropped_key inode) (Some length_cell) refl refl))
         (quiet-put_counters length_left c left counters_stay_left refl);
@@ -199,7 +202,8 @@ module _ (start rows : Rows) (bytes : ℕ → ℕ → ℕ) (inode : ℕ) (row : 
 pub sustain-made : (store : Store) (was now : List Change) (sid inode : ℕ) → inode < 2 ^ 64 → Drafted (sustained_key sid inode) (Some (Ok OfSustained)) was now
     → Drafting {A = Unit {0}} Always was now store store (Ok tt) (λ t. Ok (sustaining sid inode t))
 sustain-made store was now sid inode low put =
-    drafting-made {A = Unit {0}} Always was now store store (stays-none store) (λ t. Ok (sustaining sid inode t)) tt (are_rows-put (sustained_key sid inode) was now OfSustained put)
+    drafting-made {A = Unit {0}} Always was now store store (stays-none store) (λ t. Ok (sustaining sid inode t)) tt
+    (are_rows-put (sustained_key sid inode) was now OfSustained put)
     (λ known is bytes t m ready. record {
       left = sustaining sid inode t;
       is = refl;
@@ -211,7 +215,8 @@ are_rows-same : (was now : List Change) → ((known : RowMap) → drafted now kn
 are_rows-same was now same are known key bytes is = are known key bytes (ap (λ (rows : Rows). get rows key) (sym (same known)) ∙ is)
 
 are_rows-dropped : (was now : List Change) (inode length : ℕ) (file : Bool)
-    → ((known : RowMap) → drafted now known ≡ (if file then insert (drafted was known) (dropped_key inode) (Ok (OfDropped (record { length = length }))) else drafted was known))
+    → ((known : RowMap) → drafted now known
+    ≡ (if file then insert (drafted was known) (dropped_key inode) (Ok (OfDropped (record { length = length }))) else drafted was known))
     → AreRowsInMind was → AreRowsInMind now
 are_rows-dropped was now inode length true put are = are_rows-put (dropped_key inode) was now (OfDropped (record { length = length })) put are
 are_rows-dropped was now inode length false same are = are_rows-same was now same are
@@ -221,7 +226,8 @@ are_rows-lowered : (was now : List Change) (row : NodeRow) (counters : Option Co
 are_rows-lowered was now row None same are = are_rows-same was now same are
 are_rows-lowered was now row (Some c) put are = are_rows-put counters_key was now (OfCounters (lowered row c)) put are
 
-module _ (before middle : Store) (was : List Change) (inode : ℕ) (row : NodeRow) (node : Sees OfNode is_node (node_key inode) was before middle (Ok (Some row))) where
+module _ (before middle : Store) (was : List Change) (inode : ℕ) (row : NodeRow)
+    (node : Sees OfNode is_node (node_key inode) was before middle (Ok (Some row))) where
   stays : Stays before middle
   stays = stays-sees OfNode is_node (node_key inode) was before middle (Some row) node
 
@@ -231,10 +237,12 @@ module _ (before middle : Store) (was : List Change) (inode : ℕ) (row : NodeRo
   drop-unread after fault counters =
       drafting-unread (λ t. MayGo t inode) was was before middle stays (λ t. Ok (drop_node t inode)) OfCounters is_counters counters_key after fault counters
 
-  module _ (after : Store) (one two now : List Change) (counters : Option Counters) (read : Sees OfCounters is_counters counters_key was middle after (Ok counters))
+  module _ (after : Store) (one two now : List Change) (counters : Option Counters)
+      (read : Sees OfCounters is_counters counters_key was middle after (Ok counters))
       (gone : Drafted (node_key inode) None was one) (dropped : (known : RowMap) → drafted two known ≡ with_dropped inode row (drafted one known))
       (counted : (known : RowMap) → drafted now known ≡ with_lowered row counters (drafted two known)) where
-    led : (c : Option Counters) → counters ≡ c → (known : RowMap) → before.rows ≡ Some known → (bytes : ℕ → ℕ → ℕ) (t : Tree) → Minds known was bytes t → MayGo t inode
+    led : (c : Option Counters) → counters ≡ c → (known : RowMap) → before.rows ≡ Some known → (bytes : ℕ → ℕ → ℕ) (t : Tree) → Minds known was bytes t
+        → MayGo t inode
         → Led known now bytes (Ok (drop_node t inode))
     led None none known is bytes t m may =
         let seen = seen-stands OfCounters is_counters counters_key was middle after counters read known (node.rows_are ∙ is) in
@@ -242,6 +250,7 @@ module _ (before middle : Store) (was : List Change) (inode : ℕ) (row : NodeRo
         absurd (cc)
     led (Some c) some known is bytes t m may =
         let rows = drafted was known in
+        let gone_rows = with_lowered row (Some c) (with_dropped inode row (remove rows (node_key inode))) in
         let own = minds-rows known was bytes t m in
         let same = m.tree in
         let there = seen-stands OfNode is_node (node_key inode) was before middle (Some row) node known is in
@@ -252,10 +261,10 @@ module _ (before middle : Store) (was : List Change) (inode : ℕ) (row : NodeRo
         record {
           left = drop_node t inode;
           is = refl;
-          minds = minds-of_rows known now bytes (drop_node t inode) (with_lowered row (Some c) (with_dropped inode row (remove rows (node_key inode))))
+          minds = minds-of_rows known now bytes (drop_node t inode) gone_rows
               (counted known ∙ ap (λ o. with_lowered row o (drafted two known)) some ∙ ap (with_lowered row (Some c)) (dropped known
               ∙ ap (with_dropped inode row) (gone known)))
-              (subst (λ (u : Tree). OfTree (typed known) (with_lowered row (Some c) (with_dropped inode row (remove rows (node_key inode)))) bytes (drop_node u inode)) same left);
+              (subst (λ (u : Tree). OfTree (typed known) gone_rows bytes (drop_node u inode)) same left);
         }
 
     -- a node went

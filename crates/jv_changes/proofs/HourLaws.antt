@@ -131,7 +131,8 @@ module _ (t : Tree) (now hour : ℕ) (may : MayHaveHour t hour) (low : hour ≤ 
   -- the entry is put, and the tree has the hour
   pub hour_entered : entry_put now (hour_place hour) (hour_inode hour) (put_node t (hour_inode hour) (hour_dir now)) ≡ Ok (with_hour t now hour)
   hour_entered =
-      ap (λ b. require (b && links_fit (put_entry with_dir now (hour_place hour) dir) dir) NoSpace >>= (λ _. Ok (put_entry with_dir now (hour_place hour) dir))) trash_fits
+      ap (λ b. require (b && links_fit (put_entry with_dir now (hour_place hour) dir) dir) NoSpace >>= (λ _. Ok (put_entry with_dir now (hour_place hour) dir)))
+      trash_fits
       ∙ ap (λ b. require b NoSpace >>= (λ _. Ok (put_entry with_dir now (hour_place hour) dir))) dir_fits
       ∙ ap (λ (u : Tree). Ok u) (sym (with_hour-comes t now hour none))
 
@@ -188,11 +189,13 @@ module _ (start rows : Rows) (bytes : ℕ → ℕ → ℕ) (now hour : ℕ) (m :
       let more = hour_inode_high hour low in
       omega (arith, given, more, may.below, next_inode-tree_of bytes rows)
 
-  pub rows-hour : OfTree start (insert rows (node_key (hour_inode hour)) (of_node (hour_row now))) bytes (put_node (tree_of bytes rows) (hour_inode hour) (hour_dir now))
+  pub rows-hour : OfTree start (insert rows (node_key (hour_inode hour)) (of_node (hour_row now))) bytes
+      (put_node (tree_of bytes rows) (hour_inode hour) (hour_dir now))
   rows-hour = record {
     tree = tree_of-put_node bytes rows inode (hour_row now);
     cells = rows-alter rows (node_key inode) (Some cell) m.cells hour_typed;
-    stored = subst (λ (r : Rows). Stored r (tree_of bytes r)) same_rows (stored-new_node bytes rows inode (hour_row now) c c.inode m.stored counters_are free refl);
+    stored = subst (λ (r : Rows). Stored r (tree_of bytes r)) same_rows
+        (stored-new_node bytes rows inode (hour_row now) c c.inode m.stored counters_are free refl);
     files = files-node rows inode (Some cell) m.files (λ node is file. absurd (a_directory node is file)) (λ was there file. absurd (cc))
         (λ there. absurd (not_dropped there));
     quiet = quiet-then start rows with_row m.quiet (quiet-alter rows (node_key inode) (Some cell) refl refl);

@@ -52,7 +52,13 @@ module _ (f : EntryKey → ℕ → ℕ) where
       by_place : sum_over f (remove m (hour_place n)) ≤ n → (o : Option ℕ) → get m (hour_place n) ≡ o → sum_over f m ≤ suc n
       by_place rest None none = omega (arith, rest, ap (sum_over f) (remove-absent entry_key m (hour_place n) none))
       by_place rest (Some inode) there =
-          omega (arith, rest, sum-gone entry_key f m (hour_place n) inode there, one_at_most (suc n) (hour_place n) (f (hour_place n) inode) (few (hour_place n) inode there))
+          omega (
+            arith,
+            rest,
+            sum-gone entry_key f m (hour_place n) inode there,
+            one_at_most (suc n) (hour_place n) (f (hour_place n) inode)
+                (few (hour_place n) inode there),
+          )
 
 -- the hours of directories
 abbrev hours_end : ℕ
@@ -67,7 +73,8 @@ hour_small at inode n = elim (cases_eq inode FIRST_HOUR) [
       omega (arith, high, is)
 ]
 
-adds_few : (dirs : ℕ → Bool) (at : EntryKey) (inode : ℕ) → (at.dir ≡ trash_root → NamesHour at inode) → AddsFew hours_end at (within_of dirs trash_root at inode)
+adds_few : (dirs : ℕ → Bool) (at : EntryKey) (inode : ℕ) → (at.dir ≡ trash_root → NamesHour at inode)
+    → AddsFew hours_end at (within_of dirs trash_root at inode)
 adds_few dirs at inode hours = elim (cases_eq at.dir trash_root) [
   | inl same ↦
       let n = hours same in
@@ -83,6 +90,8 @@ adds_few dirs at inode hours = elim (cases_eq at.dir trash_root) [
 pub trash_links : (t : Tree) → ((at : EntryKey) (inode : ℕ) → get t.entries at ≡ Some inode → at.dir ≡ trash_root → NamesHour at inode)
     → dirs_of (shape_of t) trash_root ≡ true → link_count t trash_root ≤ 38177491
 trash_links t hours trash =
-    let few = sum-few (within_of (dirs_of (shape_of t)) trash_root) hours_end t.entries (λ at inode there. adds_few (dirs_of (shape_of t)) at inode (hours at inode there)) in
-    let counted = link_count-shape t trash_root ∙ ap (λ b. if b then 2 + sum_over (within_of (dirs_of (shape_of t)) trash_root) t.entries else count_of t.entries trash_root) trash in
+    let dirs = dirs_of (shape_of t) in
+    let few = sum-few (within_of dirs trash_root) hours_end t.entries (λ at inode there. adds_few dirs at inode (hours at inode there)) in
+    let counted = link_count-shape t trash_root
+    ∙ ap (λ b. if b then 2 + sum_over (within_of dirs trash_root) t.entries else count_of t.entries trash_root) trash in
     omega (arith, few, counted)
