@@ -5,12 +5,13 @@ use Rattle.std.proofs.lemmas.Bool.{eq-eqb}
 use Rattle.jv_model.specs.declared.limits.TheConstants.{SPACE_UNIT}
 use Rattle.jv_model.specs.declared.row.Counters.{Counters}
 use Rattle.jv_model.specs.declared.row.Node.{Node as NodeRow}
-use Rattle.jv_model.specs.declared.row.Row.TheVariants.{OfCounters, OfNode, OfSustained, OfDropped}
+use Rattle.jv_model.specs.declared.row.Row.TheVariants.{OfCounters, OfSustained, OfDropped}
 use Rattle.jv_model.specs.declared.row.RowKey.{RowKey}
 use Rattle.jv_model.specs.FiniteMap.{get, insert, remove, alter}
 use Rattle.jv_model.specs.declared.fault.RowFault.{RowFault}
+use Rattle.jv_model.specs.declared.fault.TxFault.{TxFault}
 use Rattle.jv_model.specs.declared.fault.TxFault.TheVariants.{Rows as OfRows}
-use Rattle.jv_model.specs.rows.RowGrammar.{is_node, is_counters}
+use Rattle.jv_model.specs.rows.RowGrammar.{is_counters}
 use Rattle.jv_model.specs.rows.RowKeys.{row_key, RowMap}
 use Rattle.jv_model.specs.rows.RowPlaces.{counters_key, node_key, sustained_key, dropped_key}
 use Rattle.jv_model.specs.tree.Changes.{drop_node}
@@ -19,6 +20,7 @@ use Rattle.jv_outside.specs.declared.batch.Change.{Change}
 use Rattle.jv_outside.specs.Store.{Store}
 use Rattle.jv_rows.specs.Drafts.{drafted, cell, Sees}
 use Rattle.jv_rows.specs.Transactions.{Always}
+use Rattle.jv_rows.proofs.TransactionLaws.{of_known}
 use Rattle.jv_volume.specs.TypedRows.{Cell, Rows, typed}
 use Rattle.jv_volume.specs.Views.{row_in, counters_in, counters_at, node_row_at}
 use Rattle.jv_volume.specs.TreeOf.{counters_of, node_of, kind_of, content_of, tree_of}
@@ -35,8 +37,10 @@ use Rattle.jv_volume.proofs.TableStepLaws.{stored-put_sustained, stored-unseen}
 use Rattle.jv_volume.proofs.TreeOfLaws.{next_inode-tree_of, tree_of-insert-unseen, tree_of-put_sustained}
 use Rattle.jv_changes.specs.Drafting.{Minds, AreRows as AreRowsInMind, Led, Drafting}
 use Rattle.jv_changes.specs.Lowered.{space_taken, lowered, with_dropped, with_lowered}
+use Rattle.jv_changes.specs.Present.{Presents}
 use Rattle.jv_changes.specs.Ready.{MayGo, sustaining}
 use Rattle.jv_changes.proofs.DraftedLaws.{Drafted, are_rows-put, are_rows-drop, Stays, stays-none, stays-then, stays-sees, seen-stands, drafting-unread, drafting-made}
+use Rattle.jv_changes.proofs.PresentLaws.{stays-present, drafting-absent}
 
 -- ---- rows of a tree that is about to change
 
@@ -226,10 +230,17 @@ are_rows-lowered : (was now : List Change) (row : NodeRow) (counters : Option Co
 are_rows-lowered was now row None same are = are_rows-same was now same are
 are_rows-lowered was now row (Some c) put are = are_rows-put counters_key was now (OfCounters (lowered row c)) put are
 
+-- the node wasn't read
+pub drop-absent : (before after : Store) (was : List Change) (inode : ℕ) (fault : TxFault) → Presents inode was before after (Err fault)
+    → Drafting {A = Unit {0}} (λ t. MayGo t inode) was was before after (Err fault) (λ t. Ok (drop_node t inode))
+drop-absent before after was inode fault absent =
+    drafting-absent inode was before after {A = Unit {0}} (λ t. MayGo t inode) was before (stays-none before) (λ t. Ok (drop_node t inode))
+    (λ t may. may.there) fault absent
+
 module _ (before middle : Store) (was : List Change) (inode : ℕ) (row : NodeRow)
-    (node : Sees OfNode is_node (node_key inode) was before middle (Ok (Some row))) where
+    (node : Presents inode was before middle (Ok row)) where
   stays : Stays before middle
-  stays = stays-sees OfNode is_node (node_key inode) was before middle (Some row) node
+  stays = stays-present inode was before middle row node
 
   -- the counters weren't read
   pub drop-unread : (after : Store) (fault : RowFault) → Sees OfCounters is_counters counters_key was middle after (Err fault)
@@ -253,7 +264,7 @@ module _ (before middle : Store) (was : List Change) (inode : ℕ) (row : NodeRo
         let gone_rows = with_lowered row (Some c) (with_dropped inode row (remove rows (node_key inode))) in
         let own = minds-rows known was bytes t m in
         let same = m.tree in
-        let there = seen-stands OfNode is_node (node_key inode) was before middle (Some row) node known is in
+        let there = of_known (λ k. get (drafted was k) (node_key inode) ≡ Some (of_node row)) before.rows known is node.found in
         let seen = seen-stands OfCounters is_counters counters_key was middle after counters read known (node.rows_are ∙ is) ∙ ap (cell OfCounters) some in
         let left = rows-gone (typed known) rows bytes inode row c
         (record { tree = refl; cells = own.cells; stored = own.stored; files = own.files; quiet = own.quiet }) there seen

@@ -2,6 +2,9 @@
 pub mod CivilDateLaws
 pub mod DraftingLaws
 pub mod DraftedLaws
+pub mod PresentLaws
+pub mod NodeChangeLaws
+pub mod EntryChangeLaws
 pub mod GoingLaws
 pub mod HourLinkLaws
 pub mod HourLaws

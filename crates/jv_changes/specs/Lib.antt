@@ -3,3 +3,4 @@ pub mod CivilDates
 pub mod Drafting
 pub mod Lowered
 pub mod Ready
+pub mod Present

@@ -100,7 +100,8 @@ fn timestamp(seconds: u64) -> Timestamp
 ///
 /// # Errors
 ///
-/// Stale where the trash isn't there. Bad for a malformed row of the hour or the trash, Failed if the keeper failed, Memory.
+/// Stale where the trash isn't there. NoSpace where its link count is at its greatest number, as no whole volume's is. Bad for
+/// a malformed row of the hour or the trash, Failed if the keeper failed, Memory.
 pub fn enter_hour<K: Keeper>(
     alloc: Global,
     draft: &mut Draft,

@@ -1,7 +1,8 @@
 //! Nodes that change, go, or stay for a session alone.
-ghost use Rattle.std.specs.Prelude.{◌≡◌, Ok, OnOk, IfSome, IsTrue};
+ghost use Rattle.std.specs.Prelude.{◌≡◌, ◌==◌, if◌then◌else◌, Ok, OnOk, IfSome, IsTrue};
 ghost use Rattle.jv_changes.specs.Drafting.{Drafting};
 ghost use Rattle.jv_changes.specs.Lowered.{lowered, with_dropped, with_lowered};
+ghost use Rattle.jv_changes.specs.Present.{Presents};
 ghost use Rattle.jv_changes.specs.Ready.{IsThere, MayGo, sustaining};
 ghost use Rattle.jv_model.specs.rows.RowGrammar.{is_counters};
 ghost use Rattle.jv_model.specs.rows.RowKeys.{RowMap};
@@ -10,10 +11,24 @@ ghost use Rattle.jv_model.specs.tree.Renaming.{moved_node};
 ghost use Rattle.jv_rows.specs.Drafts.{drafted};
 ghost use Rattle.jv_rows.specs.Transactions.{Always};
 
-use jv_model::{Counters, Dropped, Fault, Gone, Moment, Node, RowFault, SPACE_UNIT, TxFault};
+use jv_model::{Counters, Dropped, Fault, Gone, Moment, Node, SPACE_UNIT, TxFault};
 use jv_outside::Keeper;
 use jv_rows::Draft;
 use std::alloc::AllocError;
+
+/// The node of an inode, as a draft's changes leave it.
+///
+/// # Errors
+///
+/// Stale where it isn't there. Bad for a malformed row of it, Failed if the keeper failed, Memory.
+pub(crate) fn present<K: Keeper>(draft: &Draft, k: &mut K, inode: u64) -> Result<Node, TxFault>
+    ensures { Presents inode draft.now (K.seen k.old) (K.seen k.new) result }
+{
+    match draft.node(k, inode)? {
+        Some(node) => Ok(node),
+        None => Err(TxFault::Refused(Fault::Stale(Gone::Node(inode)))),
+    }
+}
 
 /// Sets the time of a node's last status change.
 ///
@@ -29,7 +44,20 @@ pub fn change_status<K: Keeper>(
     ensures { Drafting (IsThere inode) draft.old draft.new (K.seen k.old) (K.seen k.new)
         result (λ t. Ok (model.change_node t inode (model.status_changed now))) }
 {
-    Err(TxFault::Rows(RowFault::Memory))
+    let node = present(draft, k, inode)?;
+    let changed = Node {
+        ctime: now.seconds(),
+        ..node
+    };
+    draft.put_node(inode, &changed)?;
+    Ok(())
+}
+
+// The parent of a node that is in this directory since then: one that is no directory has none.
+fn parent_under(dir: u64, node: &Node) -> u64
+    ensures { result ≡ (if node.now.kind == 2 then dir else node.now.parent) }
+{
+    if node.kind == 2 { dir } else { node.parent }
 }
 
 /// Sets the time of a node's last status change, and a directory's parent.
@@ -47,7 +75,14 @@ pub fn move_under<K: Keeper>(
     ensures { Drafting (IsThere inode) draft.old draft.new (K.seen k.old) (K.seen k.new)
         result (λ t. Ok (model.change_node t inode (moved_node now dir))) }
 {
-    Err(TxFault::Rows(RowFault::Memory))
+    let node = present(draft, k, inode)?;
+    let moved = Node {
+        ctime: now.seconds(),
+        parent: parent_under(dir, &node),
+        ..node
+    };
+    draft.put_node(inode, &moved)?;
+    Ok(())
 }
 
 /// Takes away a node that no entry names; a file leaves a row that its lists are still to go.
@@ -61,10 +96,7 @@ pub fn drop_node<K: Keeper>(draft: &mut Draft, k: &mut K, inode: u64) -> Result<
     ensures { Drafting (λ t. MayGo t inode) draft.old draft.new (K.seen k.old) (K.seen k.new)
         result (λ t. Ok (model.drop_node t inode)) }
 {
-    let node = match draft.node(k, inode)? {
-        Some(node) => node,
-        None => return Err(TxFault::Refused(Fault::Stale(Gone::Node(inode)))),
-    };
+    let node = present(draft, k, inode)?;
     let counters = draft.counters(k)?;
     draft.drop_node(inode)?;
     leave_lists(draft, inode, &node)?;
