@@ -1,6 +1,6 @@
 -- How transactions are made of small changes: one step after another, a refusal, and the commit.
-use Rattle.std.proofs.Common.{◌≡◌, ℕ, List, [], Option, None, Some, Result, Ok, Err, refl, sym, ap, subst, ◌∙◌}
-use Rattle.std.specs.Prelude.{IfSome, IfErr, IsErrAnd}
+use Rattle.std.proofs.Common.{◌≡◌, ℕ, List, [], Some, Result, Ok, Err, refl, sym, ap, subst, ◌∙◌}
+use Rattle.std.specs.Prelude.{IsErrAnd}
 use Rattle.jv_model.specs.declared.fault.Fault.{Fault}
 use Rattle.jv_model.specs.declared.fault.RowFault.TheVariants.{Bad, Failed, Memory}
 use Rattle.jv_model.specs.declared.fault.TxFault.{TxFault}
@@ -14,15 +14,14 @@ use Rattle.jv_outside.specs.Rows.{applied}
 use Rattle.jv_outside.specs.Store.{Store, Commits}
 use Rattle.std.specs.Option.{option_map}
 use Rattle.jv_rows.specs.Drafts.{drafted}
-use Rattle.jv_rows.specs.Transactions.{FaultCause, TransactionCounts, BadFault, Looks, Landed, Lands, Transacts}
-use Rattle.jv_rows.proofs.TransactionLaws.{Past, Fails, FailsBy, Makes, of_known, if_known, drafted-none, transacts-commits}
+use Rattle.jv_rows.specs.Transactions.{FaultCause, BadFault, Landed, Lands, Transacts}
+use Rattle.jv_rows.proofs.TransactionLaws.{Past, Fails, FailsBy, of_known, if_known}
 use Rattle.jv_volume.specs.TypedRows.{typed}
 use Rattle.jv_volume.specs.TreeOf.{tree_of}
 use Rattle.jv_volume.specs.Shape.{WholeShape, shape_of}
-use Rattle.jv_volume.specs.Stored.{Stored}
-use Rattle.jv_volume.specs.Whole.{Whole, Quiet, no_bytes}
+use Rattle.jv_volume.specs.Whole.{Whole, no_bytes}
 use Rattle.jv_volume.proofs.QuietLaws.{quiet-none, quiet-slices}
-use Rattle.jv_volume.proofs.StoredLaws.{same_shape, stored-again, whole-shape, whole-stored}
+use Rattle.jv_volume.proofs.StoredLaws.{same_shape, stored-again, whole-stored}
 use Rattle.jv_changes.specs.Drafting.{Minds, AreRows, Led, LeadsTo, Drafting}
 
 -- ---- what is in mind

@@ -1,12 +1,15 @@
 -- What a tree has to be for a small change of it.
-use Rattle.std.specs.Prelude.{◌≡◌, ◌≢◌, ℕ, ◌<◌, Bool, true, ◌&&◌, List, is_some, None, Some, Result, Ok, IsTrue}
+use Rattle.std.specs.Prelude.{◌≡◌, ◌≢◌, ℕ, ◌<◌, true, ◌&&◌, is_some, None, Some, Result, Ok, IsTrue, ◌≤◌, []}
 use Rattle.jv_model.specs.declared.fault.Fault.{Fault}
 use Rattle.jv_model.specs.declared.fault.Fault.TheVariants.{NoSpace}
+use Rattle.jv_model.specs.declared.limits.TheConstants.{DIRECTORY_LENGTH}
+use Rattle.jv_model.specs.declared.row.Node.{Node as NodeRow}
 use Rattle.jv_model.specs.FiniteMap.{get, insert}
 use Rattle.jv_model.specs.tree.Attempt.{◌>>=◌, require}
-use Rattle.jv_model.specs.tree.Tree.{Tree, EntryKey, trash_root, is_directory, is_counted, links_fit, node_at}
+use Rattle.jv_model.specs.tree.Tree.{Tree, EntryKey, trash_root, read_only_mode, is_directory, is_counted, links_fit, node_at}
 use Rattle.jv_model.specs.tree.Changes.{put_entry}
 use Rattle.jv_model.specs.tree.Trash.{hour_inode, hour_place}
+use Rattle.jv_volume.specs.Shape.{NamesHour}
 use Rattle.jv_volume.specs.TypedRows.{is_entry_name}
 
 -- an entry of a directory that names a node that is there
@@ -45,9 +48,27 @@ pub record MayGo (t : Tree) (inode : ℕ) : Type 0 where
 abbrev pub sustaining : ℕ → ℕ → Tree → Tree
 sustaining sid inode t = record t { sustained = insert t.sustained (record { sid = sid; inode = inode }) tt }
 
--- the directory of an hour is there, or may come: the trash is there, no entry has its place, none names it, and none is in it
+-- The directory of an hour is there, or may come: the trash is there, no entry has its place, none names it, and none is in it.
+-- Entries of the trash are directories of hours, so there are few, and inodes that are given stay below it.
 pub record MayHaveHour (t : Tree) (hour : ℕ) : Type 0 where
   pub trash : is_directory t trash_root ≡ true
   pub free : node_at t (hour_inode hour) ≡ None → get t.entries (hour_place hour) ≡ None
   pub unnamed : node_at t (hour_inode hour) ≡ None → (at : EntryKey) → get t.entries at ≢ Some (hour_inode hour)
   pub empty : node_at t (hour_inode hour) ≡ None → (at : EntryKey) (inode : ℕ) → get t.entries at ≡ Some inode → at.dir ≢ hour_inode hour
+  pub hours : (at : EntryKey) (inode : ℕ) → get t.entries at ≡ Some inode → at.dir ≡ trash_root → NamesHour at inode
+  pub below : t.next_inode ≤ trash_root
+
+-- the row of an hour's directory, as it comes
+abbrev pub hour_row : ℕ → NodeRow
+hour_row now = record {
+  kind = 2;
+  mode = read_only_mode;
+  uid = 0;
+  gid = 0;
+  nlink = 2;
+  mtime = now;
+  ctime = now;
+  length = DIRECTORY_LENGTH;
+  parent = trash_root;
+  target = [];
+}

@@ -10,5 +10,5 @@ mod hours;
 mod nodes;
 
 pub use entries::{put_entry, take_entry};
-pub use hours::{enter_hour, trash_name};
+pub use hours::{HourName, enter_hour, hour_name, trash_name};
 pub use nodes::{change_status, drop_node, move_under, sustain};

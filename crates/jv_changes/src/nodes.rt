@@ -1,15 +1,20 @@
 //! Nodes that change, go, or stay for a session alone.
-ghost use Rattle.std.specs.Prelude.{◌≡◌, ◌==◌, if◌then◌else◌, Ok};
+ghost use Rattle.std.specs.Prelude.{◌≡◌, ◌==◌, if◌then◌else◌, Ok, OnOk, IfSome, IsTrue};
 ghost use Rattle.jv_changes.specs.Drafting.{Drafting};
+ghost use Rattle.jv_changes.specs.Lowered.{lowered, with_dropped, with_lowered};
 ghost use Rattle.jv_changes.specs.Present.{Presents};
 ghost use Rattle.jv_changes.specs.Ready.{IsThere, MayGo, sustaining};
+ghost use Rattle.jv_model.specs.rows.RowGrammar.{is_counters};
+ghost use Rattle.jv_model.specs.rows.RowKeys.{RowMap};
 ghost use Rattle.jv_model.specs.tree.Changes as model;
 ghost use Rattle.jv_model.specs.tree.Renaming.{moved_node};
+ghost use Rattle.jv_rows.specs.Drafts.{drafted};
 ghost use Rattle.jv_rows.specs.Transactions.{Always};
 
-use jv_model::{Fault, Gone, Moment, Node, RowFault, TxFault};
+use jv_model::{Counters, Dropped, Fault, Gone, Moment, Node, SPACE_UNIT, TxFault};
 use jv_outside::Keeper;
 use jv_rows::Draft;
+use std::alloc::AllocError;
 
 /// The node of an inode, as a draft's changes leave it.
 ///
@@ -82,14 +87,64 @@ pub fn move_under<K: Keeper>(
 
 /// Takes away a node that no entry names; a file leaves a row that its lists are still to go.
 ///
+/// Where the volume has no counters, none are lowered.
+///
 /// # Errors
 ///
-/// As of [`change_status`]; Bad also where the volume has no counters.
+/// As of [`change_status`].
 pub fn drop_node<K: Keeper>(draft: &mut Draft, k: &mut K, inode: u64) -> Result<(), TxFault>
     ensures { Drafting (λ t. MayGo t inode) draft.old draft.new (K.seen k.old) (K.seen k.new)
         result (λ t. Ok (model.drop_node t inode)) }
 {
-    Err(TxFault::Rows(RowFault::Memory))
+    let node = present(draft, k, inode)?;
+    let counters = draft.counters(k)?;
+    draft.drop_node(inode)?;
+    leave_lists(draft, inode, &node)?;
+    lower(draft, &node, counters)?;
+    Ok(())
+}
+
+// Adds that a file's lists are still to go.
+fn leave_lists(draft: &mut Draft, inode: u64, node: &Node) -> Result<(), AllocError>
+    ensures { OnOk result ((known : RowMap) →
+        drafted draft.new known ≡ with_dropped inode node.now (drafted draft.old known)) }
+{
+    if node.kind == 1 {
+        let dropped = Dropped {
+            length: node.length,
+        };
+        draft.put_dropped(inode, &dropped)?;
+    }
+    Ok(())
+}
+
+// Adds the counters without a node, where there are any.
+fn lower(draft: &mut Draft, node: &Node, counters: Option<Counters>) -> Result<(), AllocError>
+    requires { IfSome counters (λ c. IsTrue (is_counters c)) }
+    ensures { OnOk result ((known : RowMap) →
+        drafted draft.new known ≡ with_lowered node.now counters (drafted draft.old known)) }
+{
+    if let Some(counters) = counters {
+        draft.put_counters(&without(&counters, node))?;
+    }
+    Ok(())
+}
+
+// Counters without a node.
+fn without(counters: &Counters, node: &Node) -> Counters
+    ensures { result ≡ lowered node.now counters.now }
+{
+    let units = match node.kind {
+        1 => node.length.div_ceil(SPACE_UNIT).max(1),
+        _ => 1,
+    };
+    Counters {
+        used_space: counters
+            .used_space
+            .saturating_sub(units.saturating_mul(SPACE_UNIT)),
+        used_inodes: counters.used_inodes.saturating_sub(1),
+        ..*counters
+    }
 }
 
 /// Adds that a session keeps a file without entries. Fails out of memory alone.
@@ -97,5 +152,6 @@ pub fn sustain<K: Keeper>(draft: &mut Draft, k: &mut K, sid: u64, inode: u64) ->
     ensures { Drafting Always draft.old draft.new (K.seen k.old) (K.seen k.new)
         result (λ t. Ok (sustaining sid inode t)) }
 {
-    Err(TxFault::Rows(RowFault::Memory))
+    draft.put_sustained(sid, inode)?;
+    Ok(())
 }
