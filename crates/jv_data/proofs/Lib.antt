@@ -1,1 +1,3 @@
 -- What is proved of transactions on the bytes of files.
+pub mod LookingLaws
+pub mod LongerLaws
