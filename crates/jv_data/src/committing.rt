@@ -75,6 +75,8 @@ pub fn commit_length<K: Keeper>(
     };
     draft.put_node(inode, &node)?;
     draft.put_counters(&after)?;
-    draft.commit(k).map_err(RowFault::from)?;
-    Ok(())
+    match draft.commit(k) {
+        Ok(()) => Ok(()),
+        Err(down) => Err(TxFault::Rows(RowFault::from(down))),
+    }
 }
