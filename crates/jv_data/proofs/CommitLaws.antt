@@ -1,6 +1,6 @@
 -- How a commit of bytes ends: each of its exits, by what was read and what was changed.
-use Rattle.std.proofs.Common.{◌≡◌, ℕ, ◌+◌, ◌-◌, ◌<◌, ◌≤◌, lt-ltb, Bool, true, false, List, [], length, Option, None, Some, Result, Ok, Err, refl, sym, ap, subst, ◌∙◌, arith}
-use Rattle.std.specs.Prelude.{nat_lt, IfSome, IfErr, IsTrue, max}
+use Rattle.std.proofs.Common.{◌≡◌, ℕ, ◌+◌, ◌-◌, ◌<◌, ◌≤◌, lt-ltb, true, List, [], length, Option, None, Some, Result, Ok, Err, refl, sym, ap, subst, ◌∙◌, arith}
+use Rattle.std.specs.Prelude.{nat_lt, max}
 use Rattle.std.specs.Option.{option_map}
 use Rattle.jv_model.specs.declared.fault.Fault.{Fault}
 use Rattle.jv_model.specs.declared.fault.Fault.TheVariants.{NoSpace, TimedOut}
@@ -25,15 +25,15 @@ use Rattle.jv_outside.specs.declared.batch.Change.{Change}
 use Rattle.jv_outside.specs.Rows.{applied}
 use Rattle.jv_outside.specs.Store.{Store, Commits}
 use Rattle.jv_rows.specs.Drafts.{drafted, cell, Needs}
-use Rattle.jv_rows.specs.Transactions.{Agrees, BadFault, Looks}
+use Rattle.jv_rows.specs.Transactions.{Agrees, Looks}
 use Rattle.jv_rows.proofs.NeedingLaws.{SettingNeeded, CountersNeeded, fails-needed, stands-needs}
-use Rattle.jv_rows.proofs.TransactionLaws.{Past, Fails, past-start, past-as, past-calm, past-looks, past-stops, past-fails, past-refuses, drafted-none, of_known}
+use Rattle.jv_rows.proofs.TransactionLaws.{Past, past-start, past-as, past-calm, past-looks, past-fails, past-refuses, drafted-none, of_known}
 use Rattle.jv_volume.specs.TypedRows.{Rows, typed}
 use Rattle.jv_volume.specs.Views.{row_in, setting_in, setting_at, counters_in, counters_at, node_in, node_row_at}
 use Rattle.jv_volume.specs.TreeOf.{tree_of}
 use Rattle.jv_volume.specs.Whole.{Whole, Quiet}
 use Rattle.jv_data.specs.Committing.{HasFile, LandsAs, Committed, CommitsLength, IsPatched, Resizes, commit_of, length_seen, used_after}
-use Rattle.jv_data.proofs.LongerLaws.{longer, longer_rows, whole-longer, quiet-longer, fits-patched, tree-patched}
+use Rattle.jv_data.proofs.LongerLaws.{whole-longer, quiet-longer, fits-patched, tree-patched}
 
 -- a block that is younger than its life, as the code finds it
 pub is_timely : (now started n s age : ℕ) → n ≡ now → s ≡ started → age ≡ n - s → age < UPLOAD_LIFE → nat_lt now (started + UPLOAD_LIFE) ≡ true
@@ -41,7 +41,8 @@ is_timely now started n s age now_is started_is age_is young = lt-ltb now (start
 
 -- ---- a commit that is refused
 
-lands_refused : (fault : TxFault) (known : RowMap) (after : Option RowMap) (changed : ℕ → ℕ → ℕ) (model : Result Tree Fault) → Agrees {A = Tree} (Err fault) model
+lands_refused : (fault : TxFault) (known : RowMap) (after : Option RowMap) (changed : ℕ → ℕ → ℕ) (model : Result Tree Fault)
+    → Agrees {A = Tree} (Err fault) model
     → LandsAs known after changed (Err fault) model
 lands_refused (Refused fault) known after changed model h = h
 lands_refused (Moved list) known after changed model h = h
@@ -67,7 +68,8 @@ module _ (sid now inode end started : ℕ) where
         counts = any.counts;
         undone = any.rows_are;
         lands = λ known is whole bytes changed from patch reaches patched.
-            lands_refused fault known after.rows changed (act from patch (tree_of bytes (typed known))) ((looks from patch reaches).agrees known is whole bytes);
+            lands_refused fault known after.rows changed (act from patch (tree_of bytes (typed known)))
+            ((looks from patch reaches).agrees known is whole bytes);
         bad = any.bad;
       }
 
@@ -81,24 +83,15 @@ module _ (sid now inode end started : ℕ) where
     abbrev pub in_room : ℕ → List ℕ → Tree → Result Tree Fault
     in_room from patch t = require (fits t (committed t now inode from patch)) NoSpace >>= (λ unit. Ok (committed t now inode from patch))
 
-    pub commit-no_file : (fault : TxFault) → HasFile sid inode before middle (Err fault) → CommitsLength sid now inode end started before middle (Err fault)
-    commit-no_file fault h = commit-refused before middle fault (λ from patch reaches.
-        past-stops before before middle (act from patch) (length_seen sid inode) (λ t length. in_time from patch t) (past-start before (act from patch)) fault h.looks)
-
     module _ (was : NodeRow) (h : HasFile sid inode before middle (Ok was)) where
       seen : (from : ℕ) (patch : List ℕ) → Past before middle (act from patch) (in_time from patch)
-      seen from patch = past-looks before before middle (act from patch) (length_seen sid inode) (λ t length. in_time from patch t) (past-start before (act from patch)) was.length h.looks
-
-      -- the block is too old
-      pub commit-late : nat_lt now (started + UPLOAD_LIFE) ≡ false → CommitsLength sid now inode end started before middle (Err (Refused (TimedOut started now)))
-      commit-late late = commit-refused before middle (Refused (TimedOut started now)) (λ from patch reaches.
-          past-refuses before middle (act from patch) (TimedOut started now)
-          (past-as before middle middle (act from patch) (in_time from patch) (seen from patch) (λ t. Err (TimedOut started now)) (λ known is whole bytes.
-          let t = tree_of bytes (typed known) in ap (λ b. require b (TimedOut started now) >>= (λ unit. in_room from patch t)) late)))
+      seen from patch = past-looks before before middle (act from patch) (length_seen sid inode) (λ t length. in_time from patch t)
+          (past-start before (act from patch)) was.length h.looks
 
       module _ (timely : nat_lt now (started + UPLOAD_LIFE) ≡ true) where
         in_its_time : (from : ℕ) (patch : List ℕ) → Past before middle (act from patch) (in_room from patch)
-        in_its_time from patch = past-as before middle middle (act from patch) (in_time from patch) (seen from patch) (in_room from patch) (λ known is whole bytes.
+        in_its_time from patch = past-as before middle middle (act from patch) (in_time from patch) (seen from patch) (in_room from patch)
+            (λ known is whole bytes.
             let t = tree_of bytes (typed known) in ap (λ b. require b (TimedOut started now) >>= (λ unit. in_room from patch t)) timely)
 
         was_at : (known : RowMap) → before.rows ≡ Some known → node_row_at (typed known) inode ≡ Some was
@@ -117,7 +110,8 @@ module _ (sid now inode end started : ℕ) where
 
           module _ (set : Store) (setting : Setting) (s : Needs OfSetting is_setting setting_key none middle set (Ok setting)) where
             with_setting : (from : ℕ) (patch : List ℕ) → Past before set (act from patch) (in_room from patch)
-            with_setting from patch = past-calm before middle set (act from patch) (in_room from patch) (in_its_time from patch) s.rows_are s.opened_at s.counts
+            with_setting from patch = past-calm before middle set (act from patch) (in_room from patch) (in_its_time from patch)
+                s.rows_are s.opened_at s.counts
 
             set_at : (known : RowMap) → before.rows ≡ Some known → setting_at (typed known) ≡ Some setting
             set_at known is = ap (λ o. setting_in (row_in o))
@@ -131,17 +125,21 @@ module _ (sid now inode end started : ℕ) where
 
             module _ (counted : Store) (c : Counters) (n : Needs OfCounters is_counters counters_key none set counted (Ok c)) (small : end ≤ FILE_END) where
               with_counters : (from : ℕ) (patch : List ℕ) → Past before counted (act from patch) (in_room from patch)
-              with_counters from patch = past-calm before set counted (act from patch) (in_room from patch) (with_setting from patch) n.rows_are n.opened_at n.counts
+              with_counters from patch = past-calm before set counted (act from patch) (in_room from patch) (with_setting from patch)
+                  n.rows_are n.opened_at n.counts
 
               counted_at : (known : RowMap) → before.rows ≡ Some known → counters_at (typed known) ≡ Some c
               counted_at known is = ap (λ o. counters_in (row_in o))
-                  (stands-needs OfCounters is_counters counters_key none set counted (λ known is. kept counters_key known) c n known (s.rows_are ∙ h.looks.rows_are ∙ is))
+                  (stands-needs OfCounters is_counters counters_key none set counted (λ known is. kept counters_key known) c n known
+                  (s.rows_are ∙ h.looks.rows_are ∙ is))
 
-              fits_is : (known : RowMap) → before.rows ≡ Some known → Whole (typed known) → (bytes : ℕ → ℕ → ℕ) (from : ℕ) (patch : List ℕ) → from + length patch ≡ end
+              fits_is : (known : RowMap) → before.rows ≡ Some known → Whole (typed known) → (bytes : ℕ → ℕ → ℕ) (from : ℕ) (patch : List ℕ)
+                  → from + length patch ≡ end
                   → fits (tree_of bytes (typed known)) (committed (tree_of bytes (typed known)) now inode from patch)
                   ≡ sum_fits (space_limit setting) c.used_space (used_after c was.length (max was.length end))
               fits_is known is whole bytes from patch reaches =
-                  fits-patched (typed known) inode was c now end whole (was_at known is) h.file (counted_at known is) small bytes from patch reaches setting (set_at known is)
+                  fits-patched (typed known) inode was c now end whole (was_at known is) h.file (counted_at known is) small bytes from patch reaches
+                  setting (set_at known is)
 
               -- no room is left
               pub commit-no_room : Resizes setting c was.length (max was.length end) None
@@ -152,35 +150,35 @@ module _ (sid now inode end started : ℕ) where
                   let t = tree_of bytes (typed known) in
                   ap (λ b. require b NoSpace >>= (λ unit. Ok (committed t now inode from patch))) (fits_is known is whole bytes from patch reaches ∙ full))))
 
-              -- memory ran out, or the keeper failed
-              pub commit-fails : (last : Store) (fault : TxFault) → Fails counted last fault → CommitsLength sid now inode end started before last (Err fault)
-              commit-fails last fault f = commit-refused before last fault (λ from patch reaches.
-                  past-fails before counted last (act from patch) (in_room from patch) (with_counters from patch) fault f)
-
-              module _ (new : NodeRow) (left : Counters) (d1 d2 : List Change) (new_is : new ≡ record was { length = max was.length end; mtime = now; ctime = now })
+              module _ (new : NodeRow) (left : Counters) (d1 d2 : List Change)
+                  (new_is : new ≡ record was { length = max was.length end; mtime = now; ctime = now })
                   (room : Resizes setting c was.length (max was.length end) (Some left))
                   (one : (known : RowMap) → drafted d1 known ≡ alter (drafted none known) (node_key inode) (cell OfNode (Some new)))
                   (two : (known : RowMap) → drafted d2 known ≡ alter (drafted d1 known) counters_key (cell OfCounters (Some left))) where
                 abbrev rows_by : RowMap → NodeRow → Counters → Rows
-                rows_by known row counters = alter (alter (typed known) (node_key inode) (cell OfNode (Some row))) counters_key (cell OfCounters (Some counters))
+                rows_by known row counters =
+                    alter (alter (typed known) (node_key inode) (cell OfNode (Some row))) counters_key (cell OfCounters (Some counters))
 
                 rows_are : (known : RowMap) → drafted d2 known ≡ rows_by known (record was { length = max was.length end; mtime = now; ctime = now })
                     (record c { used_space = used_after c was.length (max was.length end) })
                 rows_are known =
                     two known
                     ∙ ap (λ (rows : Rows). alter rows counters_key (cell OfCounters (Some left)))
-                    (one known ∙ ap (λ (rows : Rows). alter rows (node_key inode) (cell OfNode (Some new))) (ap (λ ch. drafted ch known) is_none ∙ drafted-none known))
+                    (one known ∙ ap (λ (rows : Rows). alter rows (node_key inode) (cell OfNode (Some new)))
+                    (ap (λ ch. drafted ch known) is_none ∙ drafted-none known))
                     ∙ (λ i. rows_by known (new_is i) (room.1 i))
 
-                landed : (after : Option RowMap) (known : RowMap) → before.rows ≡ Some known → Whole (typed known) → (bytes changed : ℕ → ℕ → ℕ) (from : ℕ) (patch : List ℕ)
-                    → from + length patch ≡ end → IsPatched (tree_of bytes (typed known)) bytes changed inode from patch → after ≡ Some (applied d2 known)
+                landed : (after : Option RowMap) (known : RowMap) → before.rows ≡ Some known → Whole (typed known) → (bytes changed : ℕ → ℕ → ℕ)
+                    (from : ℕ) (patch : List ℕ) → from + length patch ≡ end
+                    → IsPatched (tree_of bytes (typed known)) bytes changed inode from patch → after ≡ Some (applied d2 known)
                     → Committed known after changed (act from patch (tree_of bytes (typed known)))
                 unfolding drafted
                 landed after known is whole bytes changed from patch reaches patched stands =
                     let rows = typed known in
                     let whole_after = whole-longer rows inode was c now end whole (was_at known is) h.file (counted_at known is) small in
                     let quiet_after = quiet-longer rows inode was c now end whole (was_at known is) h.file (counted_at known is) small in
-                    let tree_after = tree-patched rows inode was c now end whole (was_at known is) h.file (counted_at known is) small bytes from patch reaches changed patched in
+                    let tree_after = tree-patched rows inode was c now end whole (was_at known is) h.file (counted_at known is) small
+                    bytes from patch reaches changed patched in
                     let t = tree_of bytes rows in
                     record {
                       left = applied d2 known;
@@ -188,7 +186,8 @@ module _ (sid now inode end started : ℕ) where
                       whole = subst Whole (sym (rows_are known)) whole_after;
                       quiet = subst (Quiet rows) (sym (rows_are known)) quiet_after;
                       model = (with_counters from patch).goes_on known is whole bytes
-                          ∙ ap (λ b. require b NoSpace >>= (λ unit. Ok (committed t now inode from patch))) (fits_is known is whole bytes from patch reaches ∙ room.0)
+                          ∙ ap (λ b. require b NoSpace >>= (λ unit. Ok (committed t now inode from patch)))
+                          (fits_is known is whole bytes from patch reaches ∙ room.0)
                           ∙ ap (λ x. Ok x) (sym tree_after ∙ ap (tree_of changed) (sym (rows_are known)));
                     }
 

@@ -1,23 +1,23 @@
 -- A file that reaches at least to a position, with both times at a moment: what its row and the counters do to whole rows, and that
 -- their tree has the bytes that a commit leaves.
-use Rattle.std.proofs.Common.{◌≡◌, ◌≢◌, ℕ, ◌+◌, ◌-◌, ◌≤◌, ◌<◌, Bool, true, false, ◌&&◌, inl, inr, List, length, Option, None, Some, Ok, refl, sym, ap, subst, ◌∙◌, arith, le-leb, le-ltb, ne_eqb}
-use Rattle.std.proofs.lemmas.Bool.{cases_eq, ltb-true}
+use Rattle.std.proofs.Common.{◌≡◌, ◌≢◌, ℕ, ◌+◌, ◌-◌, ◌≤◌, Bool, true, false, ◌&&◌, inl, inr, List, length, Option, None, Some, Ok, refl, sym, ap, subst, ◌∙◌, arith, le-leb, le-ltb, ne_eqb}
+use Rattle.std.proofs.lemmas.Bool.{cases_eq}
 use Rattle.std.proofs.lemmas.Option.{same_Some}
 use Rattle.std.specs.Prelude.{◌==◌, ◌||◌, not, max, nat_lt, nat_le, slice_index, IsTrue, if◌then◌else◌}
 use Rattle.std.specs.Option.{option_map}
 use Rattle.jv_model.specs.declared.limits.TheConstants.{FILE_END}
 use Rattle.jv_model.specs.declared.row.Counters.{Counters}
 use Rattle.jv_model.specs.declared.row.Node.{Node as NodeRow}
-use Rattle.jv_model.specs.declared.row.Row.TheVariants.{OfNode, OfCounters}
+use Rattle.jv_model.specs.declared.row.Row.TheVariants.{OfNode}
 use Rattle.jv_model.specs.declared.setting.Setting.{Setting}
-use Rattle.jv_model.specs.FiniteMap.{Map, number_key, get, insert}
+use Rattle.jv_model.specs.FiniteMap.{number_key, get, insert}
 use Rattle.jv_model.specs.rows.RowKeys.{row_key}
 use Rattle.jv_model.specs.rows.RowPlaces.{counters_key, node_key}
-use Rattle.jv_model.specs.tree.Tree.{Tree, Node, Kind, File, Directory, Symlink, Content, node_at, content_at, is_counted, paged, node_space, kind_space, node_count, used_space, used_inodes, space_limit, inode_limit, sum_fits, fits, root, trash_root}
+use Rattle.jv_model.specs.tree.Tree.{Tree, Node, Kind, File, Directory, Symlink, Content, node_at, content_at, is_counted, paged, node_space, kind_space, used_space, used_inodes, space_limit, inode_limit, sum_fits, fits, root, trash_root}
 use Rattle.jv_model.specs.tree.Changes.{touched, put_node, set_node, overwritten, byte_within, with_content}
 use Rattle.jv_model.specs.tree.FileBytes.{committed}
 use Rattle.jv_model.proofs.FiniteMapLaws.{same_maps}
-use Rattle.jv_volume.specs.TypedRows.{Cell, Rows}
+use Rattle.jv_volume.specs.TypedRows.{Rows}
 use Rattle.jv_volume.specs.Views.{row_in, counters_in, counters_at, node_in, node_row_at, setting_at}
 use Rattle.jv_volume.specs.TreeOf.{content_of, node_of, tree_of}
 use Rattle.jv_volume.specs.Shape.{WholeShape, Regular, form_of, is_there, shape_of}
@@ -30,10 +30,10 @@ use Rattle.jv_volume.proofs.MapLaws.{get-alter-here, get-alter-apart}
 use Rattle.jv_volume.proofs.NodeRowLaws.{IsNodeRow, IsNodeRow-length}
 use Rattle.jv_volume.proofs.QuietLaws.{quiet-alter, quiet-put_counters, quiet-slices, quiet-then}
 use Rattle.jv_volume.proofs.SameShapeLaws.{whole_as}
-use Rattle.jv_volume.proofs.SeenLaws.{AreRows, rows-alter}
+use Rattle.jv_volume.proofs.SeenLaws.{rows-alter}
 use Rattle.jv_volume.proofs.ShapeMapLaws.{get-inserted, get-insert_apart, shape-put_node_same}
 use Rattle.jv_volume.proofs.StoredLaws.{HasNode, HasCounters, of_counters, found_node, found_counters, found_setting, whole-shape, whole-stored}
-use Rattle.jv_volume.proofs.StoredStepLaws.{rows_with_length, tree_of-length, stored-length}
+use Rattle.jv_volume.proofs.StoredStepLaws.{tree_of-length, stored-length}
 use Rattle.jv_volume.proofs.SumLaws.{node_space-counted, used_space-drop_node, used_space-with_content, used_inodes-with_content}
 use Rattle.jv_volume.proofs.TreeOfLaws.{node_at-tree_of}
 use Rattle.jv_data.specs.Committing.{IsPatched, used_after}
@@ -46,7 +46,8 @@ past_end : (content : Content) (from : ℕ) (patch : List ℕ) (position : ℕ) 
 past_end content from patch position past =
     let before : content.length ≤ position = omega (arith, past) in
     let beyond : from + length patch ≤ position = omega (arith, past) in
-    ap (λ b. if nat_le from position && b then slice_index patch (position - from) else byte_within content position) (le-ltb position (from + length patch) beyond)
+    ap (λ b. if nat_le from position && b then slice_index patch (position - from) else byte_within content position)
+    (le-ltb position (from + length patch) beyond)
     ∙ by_start (nat_le from position)
     ∙ ap (λ b. if b then content.byte position else 0) (le-ltb position content.length before)
   where
@@ -55,14 +56,19 @@ past_end content from patch position past =
     by_start false = refl
 
 -- a length and the bytes below it are a content
-pub content_is : (byte : ℕ → ℕ) (content : Content) (from : ℕ) (patch : List ℕ) → ((position : ℕ) → byte position ≡ (overwritten content from patch).byte position)
+pub content_is : (byte : ℕ → ℕ) (content : Content) (from : ℕ) (patch : List ℕ)
+    → ((position : ℕ) → byte position ≡ (overwritten content from patch).byte position)
     → content_of (max content.length (from + length patch)) byte ≡ overwritten content from patch
-content_is byte content from patch own = λ i. record { length = max content.length (from + length patch); byte = λ position. at_position position (nat_lt position (max content.length (from + length patch))) refl i }
+content_is byte content from patch own = λ i. record {
+  length = max content.length (from + length patch);
+  byte = λ position. at_position position (nat_lt position (max content.length (from + length patch))) refl i;
+}
   where
     at_position : (position : ℕ) (b : Bool) → nat_lt position (max content.length (from + length patch)) ≡ b
         → (if nat_lt position (max content.length (from + length patch)) then byte position else 0) ≡ (overwritten content from patch).byte position
     at_position position true e = ap (λ b. if b then byte position else 0) e ∙ own position
-    at_position position false e = ap (λ b. if b then byte position else 0) e ∙ sym (past_end content from patch position (not_less position (max content.length (from + length patch)) e))
+    at_position position false e = ap (λ b. if b then byte position else 0) e
+        ∙ sym (past_end content from patch position (not_less position (max content.length (from + length patch)) e))
       where
         not_less : (a b : ℕ) → nat_lt a b ≡ false → b ≤ a
         not_less a b e = grind (arith, e)
@@ -109,7 +115,8 @@ less_one a b d x e = omega (arith, e)
 
 -- ---- the rows
 
-module _ (rows : Rows) (inode : ℕ) (was : NodeRow) (c : Counters) (now end : ℕ) (whole : Whole rows) (there : node_row_at rows inode ≡ Some was) (file : was.kind ≡ 1)
+module _ (rows : Rows) (inode : ℕ) (was : NodeRow) (c : Counters) (now end : ℕ) (whole : Whole rows)
+    (there : node_row_at rows inode ≡ Some was) (file : was.kind ≡ 1)
     (counters : counters_at rows ≡ Some c) (small : end ≤ FILE_END) where
   abbrev pub longer : NodeRow
   longer = record was { length = max was.length end; mtime = now; ctime = now }
@@ -164,7 +171,8 @@ module _ (rows : Rows) (inode : ℕ) (was : NodeRow) (c : Counters) (now end : �
         ∙ ap (λ n. c.used_space + n) (sym space_then)
 
     is_row : IsNodeRow was.nlink (bytes inode) longer
-    is_row = IsNodeRow-length (bytes inode) was now was.nlink was.nlink (max was.length end) file (subst (λ l. IsNodeRow l (bytes inode) was) (sym has.links) has.row_is)
+    is_row = IsNodeRow-length (bytes inode) was now was.nlink was.nlink (max was.length end) file
+        (subst (λ l. IsNodeRow l (bytes inode) was) (sym has.links) has.row_is)
 
     pub tree-longer : tree_of bytes longer_rows ≡ put_node t inode (node_of (bytes inode) longer)
     tree-longer = tree_of-length bytes rows inode was longer c space (whole-stored bytes rows whole) counters there is_row refl space_is
@@ -227,14 +235,15 @@ module _ (rows : Rows) (inode : ℕ) (was : NodeRow) (c : Counters) (now end : �
     patched_node = record (touched now node) { kind = File (overwritten content from patch) }
 
     abbrev by_content : Option Content → Tree
-    by_content o = elim o as (λ _. Tree) [ | None ↦ before | Some old ↦ with_content before now inode (overwritten old from patch) ]
+    by_content o = elim o as (λ _. Tree) [ None ↦ before | Some old ↦ with_content before now inode (overwritten old from patch) ]
 
     committed_content : committed before now inode from patch ≡ with_content before now inode (overwritten content from patch)
     committed_content = ap by_content (content_was bytes)
 
     committed_is : committed before now inode from patch ≡ put_node before inode patched_node
     committed_is = committed_content
-        ∙ ap (λ o. set_node before inode (option_map (λ (n : Node). record (touched now n) { kind = File (overwritten content from patch) }) o)) (has bytes).there
+        ∙ ap (λ o. set_node before inode (option_map (λ (n : Node). record (touched now n) { kind = File (overwritten content from patch) }) o))
+        (has bytes).there
 
     space_patched : node_space inode patched_node ≡ paged (max was.length end)
     space_patched = node_space-counted inode patched_node (is_counted-file bytes) ∙ ap (λ n. paged (max was.length n)) reaches
@@ -255,7 +264,7 @@ module _ (rows : Rows) (inode : ℕ) (was : NodeRow) (c : Counters) (now end : �
         → fits before (committed before now inode from patch) ≡ sum_fits (space_limit setting) c.used_space space
     fits-patched setting set =
         (λ i. sum_fits (space_limit (found_setting bytes rows (whole-stored bytes rows whole) setting set i)) ((has_counters bytes).space i) (used_patched i)
-            && sum_fits (inode_limit before.setting) (used_inodes before) (inodes_patched i))
+        && sum_fits (inode_limit before.setting) (used_inodes before) (inodes_patched i))
         ∙ same_inodes (sum_fits (space_limit setting) c.used_space space) (inode_limit before.setting) (used_inodes before)
       where
         or_true : (b : Bool) → (b || true) ≡ true
@@ -270,7 +279,8 @@ module _ (rows : Rows) (inode : ℕ) (was : NodeRow) (c : Counters) (now end : �
         same_inodes b limit n = ap (λ x. b && (nat_le n limit || x)) (le-leb n n (omega arith)) ∙ ap (λ x. b && x) (or_true (nat_le n limit)) ∙ and_true b
 
     -- the tree that is left is the model's
-    pub tree-patched : (changed : ℕ → ℕ → ℕ) → IsPatched before bytes changed inode from patch → tree_of changed longer_rows ≡ committed before now inode from patch
+    pub tree-patched : (changed : ℕ → ℕ → ℕ) → IsPatched before bytes changed inode from patch
+        → tree_of changed longer_rows ≡ committed before now inode from patch
     tree-patched changed is =
         tree-longer changed ∙ same_put bytes changed rows inode (node_of (changed inode) longer) is.others
         ∙ ap (put_node before inode) node_is ∙ sym committed_is

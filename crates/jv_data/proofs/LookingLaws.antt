@@ -1,5 +1,5 @@
 -- How a reading of a file goes: its session, and then the row of its inode.
-use Rattle.std.proofs.Common.{◌≡◌, ℕ, false, [], Option, None, Some, Result, Ok, Err, refl, sym, ap, ◌∙◌}
+use Rattle.std.proofs.Common.{◌≡◌, ℕ, false, [], Option, None, Some, Result, Ok, Err, sym, ap, ◌∙◌}
 use Rattle.std.specs.Prelude.{◌==◌, if◌then◌else◌}
 use Rattle.jv_model.specs.declared.fault.Fault.{Fault}
 use Rattle.jv_model.specs.declared.fault.Fault.TheVariants.{Stale}
@@ -17,13 +17,13 @@ use Rattle.jv_model.specs.tree.Attempt.{◌>>=◌, some_or}
 use Rattle.jv_model.specs.tree.Tree.{Tree, content_at, content_of as content_in}
 use Rattle.jv_outside.specs.Store.{Store}
 use Rattle.jv_volume.specs.TypedRows.{typed}
-use Rattle.jv_volume.specs.TreeOf.{content_of, tree_of}
+use Rattle.jv_volume.specs.TreeOf.{content_of}
 use Rattle.jv_volume.specs.Views.{row_in, node_in, node_row_at}
 use Rattle.jv_volume.proofs.StoredLaws.{found_node, no_node, whole-stored}
 use Rattle.jv_rows.specs.Drafts.{Sees, cell, drafted}
 use Rattle.jv_rows.specs.Transactions.{Looks}
 use Rattle.jv_rows.proofs.NeedingLaws.{session_is}
-use Rattle.jv_rows.proofs.TransactionLaws.{Past, if_known, past-start, past-as, past-calm, past-looks, past-stops, past-fails, past-gives, past-refuses, drafted-none, fails-sees, stands-sees}
+use Rattle.jv_rows.proofs.TransactionLaws.{Past, if_known, past-start, past-as, past-calm, past-looks, past-fails, past-gives, past-refuses, drafted-none, fails-sees, stands-sees}
 use Rattle.jv_data.specs.Committing.{HasFile, length_seen}
 
 -- what a look does once its session is there
@@ -37,10 +37,6 @@ module _ (before middle : Store) (sid inode : ℕ) where
   pub no-file : (after : Store) (fault : TxFault) → Looks before after (Err fault) act → HasFile sid inode before after (Err fault)
   no-file after fault l = record { looks = l; stands = tt; file = tt; allowed = tt }
 
-  pub file-no_session : (fault : TxFault) → Looks {A = Unit {0}} before middle (Err fault) (session_is sid) → HasFile sid inode before middle (Err fault)
-  file-no_session fault l =
-      no-file middle fault (past-stops before before middle act (session_is sid) (λ t unit. length_at inode t) (past-start before act) fault l)
-
   module _ (after : Store) (session : Looks before middle (Ok tt) (session_is sid)) where
     asked : Past before middle act (length_at inode)
     asked = past-looks before before middle act (session_is sid) (λ t unit. length_at inode t) (past-start before act) tt session
@@ -48,7 +44,8 @@ module _ (before middle : Store) (sid inode : ℕ) where
     unchanged : (known : RowMap) → middle.rows ≡ Some known → get (drafted [] known) (node_key inode) ≡ get (typed known) (node_key inode)
     unchanged known is = ap (λ rows. get rows (node_key inode)) (drafted-none known)
 
-    pub file-unread : (fault : RowFault) → Sees OfNode is_node (node_key inode) [] middle after (Err fault) → HasFile sid inode before after (Err (OfRows fault))
+    pub file-unread : (fault : RowFault) → Sees OfNode is_node (node_key inode) [] middle after (Err fault)
+        → HasFile sid inode before after (Err (OfRows fault))
     file-unread fault s =
         no-file after (OfRows fault) (past-fails before middle after act (length_at inode) asked (OfRows fault)
         (fails-sees OfNode is_node (node_key inode) [] middle after unchanged fault s))
@@ -58,7 +55,8 @@ module _ (before middle : Store) (sid inode : ℕ) where
       seen = past-calm before middle after act (length_at inode) asked s.rows_are s.opened_at s.counts
 
       stands : (known : RowMap) → before.rows ≡ Some known → node_row_at (typed known) inode ≡ node_in (row_in (cell OfNode found))
-      stands known is = ap (λ c. node_in (row_in c)) (stands-sees OfNode is_node (node_key inode) [] middle after unchanged found s known (asked.rows_are ∙ is))
+      stands known is = ap (λ c. node_in (row_in c))
+          (stands-sees OfNode is_node (node_key inode) [] middle after unchanged found s known (asked.rows_are ∙ is))
 
     pub file-gone : Sees OfNode is_node (node_key inode) [] middle after (Ok None) → HasFile sid inode before after (Err (Refused (Stale (GoneNode inode))))
     file-gone s =

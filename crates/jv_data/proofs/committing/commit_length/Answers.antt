@@ -1,9 +1,8 @@
-use Rattle.std.proofs.Common.{ℕ, ◌+◌, ◌≡◌, None, Some, true, ap, refl, subst, arith}
-use Rattle.std.specs.Prelude.{max, nat_lt}
+use Rattle.std.proofs.Common.{ℕ, ◌≡◌, None, Some, subst}
+use Rattle.std.specs.Prelude.{max}
 use Rattle.std.proofs.lemmas.Result.{err_from_is_err_and}
-use Rattle.jv_model.specs.declared.lifetimes.TheConstants.{UPLOAD_LIFE}
 use Rattle.jv_data.specs.Committing.{Resizes}
-use Rattle.jv_data.proofs.CommitLaws.{is_timely, commit-no_setting, commit-no_counters, commit-no_room, commit-fails, commit-done}
+use Rattle.jv_data.proofs.CommitLaws.{is_timely, commit-no_setting, commit-no_counters, commit-no_room, commit-done}
 use Rattle.jv_data.proofs.committing.commit_length.Goals as goal
 
 pub returns-in_err-setting : goal.returns-in_err-setting
@@ -12,8 +11,8 @@ returns-in_err-setting g c =
     rw (p.1, p.2)
     (commit-no_setting c.args.sid c.args.now c.args.inode c.args.end c.args.started (g.K.Keeper.seen c.args.k.now) (g.K.Keeper.seen c.file.new.k)
     c.in_ok-was.was' c.in_ok-was.ensures
-    (is_timely c.args.now c.args.started c.seconds-now.result c.seconds-started.result c.saturating_sub.result c.seconds-now.ensures.seconds c.seconds-started.ensures.seconds
-    c.saturating_sub.ensures c.if-saturating_sub-ge-UPLOAD_LIFE.false)
+    (is_timely c.args.now c.args.started c.seconds-now.result c.seconds-started.result c.saturating_sub.result
+    c.seconds-now.ensures.seconds c.seconds-started.ensures.seconds c.saturating_sub.ensures c.if-saturating_sub-ge-UPLOAD_LIFE.false)
     c.new-draft.result c.new-draft.ensures (g.K.Keeper.seen c.needed_setting.new.k) c.in_err-setting.field-0.0 c.in_err-setting.ensures)
 
 pub returns-in_err-counters : goal.returns-in_err-counters
@@ -22,8 +21,8 @@ returns-in_err-counters g c =
     rw (p.1, p.2)
     (commit-no_counters c.args.sid c.args.now c.args.inode c.args.end c.args.started (g.K.Keeper.seen c.args.k.now) (g.K.Keeper.seen c.file.new.k)
     c.in_ok-was.was' c.in_ok-was.ensures
-    (is_timely c.args.now c.args.started c.seconds-now.result c.seconds-started.result c.saturating_sub.result c.seconds-now.ensures.seconds c.seconds-started.ensures.seconds
-    c.saturating_sub.ensures c.if-saturating_sub-ge-UPLOAD_LIFE.false)
+    (is_timely c.args.now c.args.started c.seconds-now.result c.seconds-started.result c.saturating_sub.result
+    c.seconds-now.ensures.seconds c.seconds-started.ensures.seconds c.saturating_sub.ensures c.if-saturating_sub-ge-UPLOAD_LIFE.false)
     c.new-draft.result c.new-draft.ensures (g.K.Keeper.seen c.needed_setting.new.k) c.in_ok-setting.setting c.in_ok-setting.ensures
     (g.K.Keeper.seen c.needed_counters.new.k) c.in_err-counters.field-0.0 c.in_err-counters.ensures)
 
@@ -31,11 +30,12 @@ pub returns-in_default : goal.returns-in_default
 returns-in_default g c =
     commit-no_room c.args.sid c.args.now c.args.inode c.args.end c.args.started (g.K.Keeper.seen c.args.k.now) (g.K.Keeper.seen c.file.new.k)
     c.in_ok-was.was' c.in_ok-was.ensures
-    (is_timely c.args.now c.args.started c.seconds-now.result c.seconds-started.result c.saturating_sub.result c.seconds-now.ensures.seconds c.seconds-started.ensures.seconds
-    c.saturating_sub.ensures c.if-saturating_sub-ge-UPLOAD_LIFE.false)
+    (is_timely c.args.now c.args.started c.seconds-now.result c.seconds-started.result c.saturating_sub.result
+    c.seconds-now.ensures.seconds c.seconds-started.ensures.seconds c.saturating_sub.ensures c.if-saturating_sub-ge-UPLOAD_LIFE.false)
     c.new-draft.result c.new-draft.ensures (g.K.Keeper.seen c.needed_setting.new.k) c.in_ok-setting.setting c.in_ok-setting.ensures
     (g.K.Keeper.seen c.needed_counters.new.k) c.in_ok-counters.counters c.in_ok-counters.ensures c.requires
-    (subst (λ (length : ℕ). Resizes c.in_ok-setting.setting c.in_ok-counters.counters c.in_ok-was.was'.length length None) c.max-length.ensures c.in_default.ensures)
+    (subst (λ (length : ℕ). Resizes c.in_ok-setting.setting c.in_ok-counters.counters c.in_ok-was.was'.length length None)
+    c.max-length.ensures c.in_default.ensures)
 
 pub returns-in-Ok : goal.returns-in-Ok
 returns-in-Ok g c =
@@ -43,13 +43,14 @@ returns-in-Ok g c =
     let now_is : c.seconds-now.result ≡ c.args.now = c.seconds-now.ensures.seconds in
     commit-done c.args.sid c.args.now c.args.inode c.args.end c.args.started (g.K.Keeper.seen c.args.k.now) (g.K.Keeper.seen c.file.new.k)
     c.in_ok-was.was' c.in_ok-was.ensures
-    (is_timely c.args.now c.args.started c.seconds-now.result c.seconds-started.result c.saturating_sub.result c.seconds-now.ensures.seconds c.seconds-started.ensures.seconds
-    c.saturating_sub.ensures c.if-saturating_sub-ge-UPLOAD_LIFE.false)
+    (is_timely c.args.now c.args.started c.seconds-now.result c.seconds-started.result c.saturating_sub.result
+    c.seconds-now.ensures.seconds c.seconds-started.ensures.seconds c.saturating_sub.ensures c.if-saturating_sub-ge-UPLOAD_LIFE.false)
     c.new-draft.result c.new-draft.ensures (g.K.Keeper.seen c.needed_setting.new.k) c.in_ok-setting.setting c.in_ok-setting.ensures
     (g.K.Keeper.seen c.needed_counters.new.k) c.in_ok-counters.counters c.in_ok-counters.ensures c.requires
     (record c.in_ok-was.was' { length = c.max-length.result; mtime = c.seconds-now.result; ctime = c.seconds-now.result }) c.in-Some.after
     c.put_node.new.self c.put_counters.new.self
     (λ i. record c.in_ok-was.was' { length = length_is i; mtime = now_is i; ctime = now_is i })
-    (subst (λ (length : ℕ). Resizes c.in_ok-setting.setting c.in_ok-counters.counters c.in_ok-was.was'.length length (Some c.in-Some.after)) length_is c.in-Some.ensures)
+    (subst (λ (length : ℕ). Resizes c.in_ok-setting.setting c.in_ok-counters.counters c.in_ok-was.was'.length length (Some c.in-Some.after))
+    length_is c.in-Some.ensures)
     c.in_ok-put_node.ensures.done c.in_ok-put_counters.ensures.done
     (g.K.Keeper.seen c.commit.new.k) c.in-Ok.ensures
