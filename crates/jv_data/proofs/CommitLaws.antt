@@ -1,5 +1,5 @@
 -- How a commit of bytes ends: each of its exits, by what was read and what was changed.
-use Rattle.std.proofs.Common.{◌≡◌, ℕ, ◌+◌, ◌-◌, ◌<◌, ◌≤◌, lt-ltb, true, List, [], length, Option, None, Some, Result, Ok, Err, refl, sym, ap, subst, ◌∙◌, arith}
+use Rattle.std.proofs.Common.{Bool, ◌≡◌, ℕ, ◌+◌, ◌≤◌, true, List, [], length, Option, None, Some, Result, Ok, Err, refl, sym, ap, subst, ◌∙◌, arith}
 use Rattle.std.specs.Prelude.{nat_lt, max}
 use Rattle.std.specs.Option.{option_map}
 use Rattle.jv_model.specs.declared.fault.Fault.{Fault}
@@ -35,9 +35,10 @@ use Rattle.jv_volume.specs.Whole.{Whole, Quiet}
 use Rattle.jv_data.specs.Committing.{HasFile, LandsAs, Committed, CommitsLength, IsPatched, Resizes, commit_of, length_seen, used_after}
 use Rattle.jv_data.proofs.LongerLaws.{whole-longer, quiet-longer, fits-patched, tree-patched}
 
--- a block that is younger than its life, as the code finds it
-pub is_timely : (now started n s age : ℕ) → n ≡ now → s ≡ started → age ≡ n - s → age < UPLOAD_LIFE → nat_lt now (started + UPLOAD_LIFE) ≡ true
-is_timely now started n s age now_is started_is age_is young = lt-ltb now (started + UPLOAD_LIFE) (omega (arith, now_is, started_is, age_is, young))
+-- a block that is young enough at the moments of the arguments
+pub is_timely : (now started n s : ℕ) (young : Bool) → n ≡ now → s ≡ started → young ≡ nat_lt n (s + UPLOAD_LIFE) → young ≡ true
+    → nat_lt now (started + UPLOAD_LIFE) ≡ true
+is_timely now started n s young now_is started_is young_is is = (λ i. nat_lt (sym now_is i) (sym started_is i + UPLOAD_LIFE)) ∙ sym young_is ∙ is
 
 -- ---- a commit that is refused
 

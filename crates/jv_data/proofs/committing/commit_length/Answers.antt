@@ -11,8 +11,8 @@ returns-in_err-setting g c =
     rw (p.1, p.2)
     (commit-no_setting c.args.sid c.args.now c.args.inode c.args.end c.args.started (g.K.Keeper.seen c.args.k.now) (g.K.Keeper.seen c.file.new.k)
     c.in_ok-was.was' c.in_ok-was.ensures
-    (is_timely c.args.now c.args.started c.seconds-now.result c.seconds-started.result c.saturating_sub.result
-    c.seconds-now.ensures.seconds c.seconds-started.ensures.seconds c.saturating_sub.ensures c.if-saturating_sub-ge-UPLOAD_LIFE.false)
+    (is_timely c.args.now c.args.started c.seconds-now.result c.seconds-started.result c.is_in_time.result
+    c.seconds-now.ensures.seconds c.seconds-started.ensures.seconds c.is_in_time.ensures c.if-not-is_in_time.false)
     c.new-draft.result c.new-draft.ensures (g.K.Keeper.seen c.needed_setting.new.k) c.in_err-setting.field-0.0 c.in_err-setting.ensures)
 
 pub returns-in_err-counters : goal.returns-in_err-counters
@@ -21,8 +21,8 @@ returns-in_err-counters g c =
     rw (p.1, p.2)
     (commit-no_counters c.args.sid c.args.now c.args.inode c.args.end c.args.started (g.K.Keeper.seen c.args.k.now) (g.K.Keeper.seen c.file.new.k)
     c.in_ok-was.was' c.in_ok-was.ensures
-    (is_timely c.args.now c.args.started c.seconds-now.result c.seconds-started.result c.saturating_sub.result
-    c.seconds-now.ensures.seconds c.seconds-started.ensures.seconds c.saturating_sub.ensures c.if-saturating_sub-ge-UPLOAD_LIFE.false)
+    (is_timely c.args.now c.args.started c.seconds-now.result c.seconds-started.result c.is_in_time.result
+    c.seconds-now.ensures.seconds c.seconds-started.ensures.seconds c.is_in_time.ensures c.if-not-is_in_time.false)
     c.new-draft.result c.new-draft.ensures (g.K.Keeper.seen c.needed_setting.new.k) c.in_ok-setting.setting c.in_ok-setting.ensures
     (g.K.Keeper.seen c.needed_counters.new.k) c.in_err-counters.field-0.0 c.in_err-counters.ensures)
 
@@ -30,8 +30,8 @@ pub returns-in_default : goal.returns-in_default
 returns-in_default g c =
     commit-no_room c.args.sid c.args.now c.args.inode c.args.end c.args.started (g.K.Keeper.seen c.args.k.now) (g.K.Keeper.seen c.file.new.k)
     c.in_ok-was.was' c.in_ok-was.ensures
-    (is_timely c.args.now c.args.started c.seconds-now.result c.seconds-started.result c.saturating_sub.result
-    c.seconds-now.ensures.seconds c.seconds-started.ensures.seconds c.saturating_sub.ensures c.if-saturating_sub-ge-UPLOAD_LIFE.false)
+    (is_timely c.args.now c.args.started c.seconds-now.result c.seconds-started.result c.is_in_time.result
+    c.seconds-now.ensures.seconds c.seconds-started.ensures.seconds c.is_in_time.ensures c.if-not-is_in_time.false)
     c.new-draft.result c.new-draft.ensures (g.K.Keeper.seen c.needed_setting.new.k) c.in_ok-setting.setting c.in_ok-setting.ensures
     (g.K.Keeper.seen c.needed_counters.new.k) c.in_ok-counters.counters c.in_ok-counters.ensures c.requires
     (subst (λ (length : ℕ). Resizes c.in_ok-setting.setting c.in_ok-counters.counters c.in_ok-was.was'.length length None)
@@ -43,8 +43,8 @@ returns-in-Ok g c =
     let now_is : c.seconds-now.result ≡ c.args.now = c.seconds-now.ensures.seconds in
     commit-done c.args.sid c.args.now c.args.inode c.args.end c.args.started (g.K.Keeper.seen c.args.k.now) (g.K.Keeper.seen c.file.new.k)
     c.in_ok-was.was' c.in_ok-was.ensures
-    (is_timely c.args.now c.args.started c.seconds-now.result c.seconds-started.result c.saturating_sub.result
-    c.seconds-now.ensures.seconds c.seconds-started.ensures.seconds c.saturating_sub.ensures c.if-saturating_sub-ge-UPLOAD_LIFE.false)
+    (is_timely c.args.now c.args.started c.seconds-now.result c.seconds-started.result c.is_in_time.result
+    c.seconds-now.ensures.seconds c.seconds-started.ensures.seconds c.is_in_time.ensures c.if-not-is_in_time.false)
     c.new-draft.result c.new-draft.ensures (g.K.Keeper.seen c.needed_setting.new.k) c.in_ok-setting.setting c.in_ok-setting.ensures
     (g.K.Keeper.seen c.needed_counters.new.k) c.in_ok-counters.counters c.in_ok-counters.ensures c.requires
     (record c.in_ok-was.was' { length = c.max-length.result; mtime = c.seconds-now.result; ctime = c.seconds-now.result }) c.in-Some.after
