@@ -1,6 +1,6 @@
 -- What a look sees of a file, and what a commit of bytes does to a volume's rows. The bytes are where the tree of the rows has
 -- them from.
-use Rattle.std.specs.Prelude.{◌≡◌, ◌≢◌, ℕ, ◌+◌, ◌-◌, ◌*◌, ◌/◌, max, nat_lt, List, length, is_some, Option, None, Some, Result, Ok, Err, IfOk, IfErr, IfSome, OnErr, IsTrue, false, true}
+use Rattle.std.specs.Prelude.{◌≡◌, ◌≢◌, ℕ, ◌+◌, ◌-◌, nat_lt, List, length, is_some, Option, None, Some, Result, Ok, Err, IfOk, IfErr, IfSome, OnErr, IsTrue, false, true}
 use Rattle.jv_model.specs.declared.fault.Fault.{Fault}
 use Rattle.jv_model.specs.declared.fault.Fault.TheVariants.{NoSpace, Stale, TimedOut}
 use Rattle.jv_model.specs.declared.fault.Gone.TheVariants.{Session, Node as GoneNode}
@@ -8,7 +8,6 @@ use Rattle.jv_model.specs.declared.fault.RowFault.TheVariants.{Bad, Failed, Memo
 use Rattle.jv_model.specs.declared.fault.TxFault.{TxFault}
 use Rattle.jv_model.specs.declared.fault.TxFault.TheVariants.{Refused, Moved, Rows as OfRows}
 use Rattle.jv_model.specs.declared.lifetimes.TheConstants.{UPLOAD_LIFE}
-use Rattle.jv_model.specs.declared.limits.TheConstants.{SPACE_UNIT}
 use Rattle.jv_model.specs.declared.row.Counters.{Counters}
 use Rattle.jv_model.specs.declared.row.Node.{Node}
 use Rattle.jv_model.specs.declared.setting.Setting.{Setting}
@@ -93,7 +92,7 @@ pub record CommitsLength (sid now inode end started : ℕ) (before after : Store
   pub opened_at : after.opened ≡ before.opened
   pub counts : TransactionCounts before.faults after.faults result
   pub undone : OnErr result (after.rows ≡ before.rows)
-  pub lands : (known : RowMap) → before.rows ≡ Some known → Whole (typed known) → (bytes changed : ℕ → ℕ → ℕ) (from : ℕ) (patch : List ℕ) → from + length patch ≡ end
-      → IsPatched (tree_of bytes (typed known)) bytes changed inode from patch
+  pub lands : (known : RowMap) → before.rows ≡ Some known → Whole (typed known) → (bytes changed : ℕ → ℕ → ℕ)
+      → (from : ℕ) (patch : List ℕ) → from + length patch ≡ end → IsPatched (tree_of bytes (typed known)) bytes changed inode from patch
       → LandsAs known after.rows changed result (commit_of sid inode from patch started now (tree_of bytes (typed known)))
   pub bad : IfErr result (λ fault. IfSome before.rows (λ known. BadFault (typed known) fault))

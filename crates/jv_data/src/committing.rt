@@ -1,5 +1,5 @@
 //! Commits of bytes to files.
-ghost use Rattle.std.specs.Prelude.{◌≡◌, ◌≤◌, IsTrue};
+ghost use Rattle.std.specs.Prelude.{◌≡◌, ◌≤◌, ◌+◌, nat_lt, IsTrue};
 ghost use Rattle.jv_data.specs.Committing.{CommitsLength, Resizes, paged_space};
 ghost use Rattle.jv_model.specs.declared.limits.TheConstants.{FILE_END};
 ghost use Rattle.jv_model.specs.rows.RowGrammar.{is_setting};
@@ -35,6 +35,13 @@ fn resized(setting: &Setting, counters: &Counters, before: u64, after: u64) -> O
     })
 }
 
+/// Whether a block that was begun at a moment is still young enough to be committed.
+fn is_in_time(started: u64, now: u64) -> bool
+    ensures { result ≡ nat_lt now (started + UPLOAD_LIFE) }
+{
+    now.saturating_sub(started) < UPLOAD_LIFE
+}
+
 /// Makes a file reach at least to a position, and sets its times, as a commit of bytes that end there does. Their block was
 /// begun at the moment `started`.
 ///
@@ -57,7 +64,7 @@ pub fn commit_length<K: Keeper>(
 {
     let was = file(alloc, k, sid, inode)?;
     let (now, started) = (now.seconds(), started.seconds());
-    if now.saturating_sub(started) >= UPLOAD_LIFE {
+    if !is_in_time(started, now) {
         return Err(TxFault::Refused(Fault::TimedOut { started, now }));
     }
     let mut draft = Draft::new(alloc);
@@ -75,6 +82,8 @@ pub fn commit_length<K: Keeper>(
     };
     draft.put_node(inode, &node)?;
     draft.put_counters(&after)?;
-    draft.commit(k).map_err(RowFault::from)?;
-    Ok(())
+    match draft.commit(k) {
+        Ok(()) => Ok(()),
+        Err(down) => Err(TxFault::Rows(RowFault::from(down))),
+    }
 }

@@ -34,9 +34,10 @@ fresh_lists rows inode window w none high = ap (λ b. if nat_lt window (2 ^ 32) 
     either true = refl
     either false = refl
 
--- a file after a change has the length that it had, or is new and has no lists
+-- a file after a change has the length that it had, or a greater one, or is new and has no lists
 pub data FileIs (rows : Rows) (inode : ℕ) (node : NodeRow) : Type 0 where
   AsBefore : (was : NodeRow) → node_row_at rows inode ≡ Some was → was.kind ≡ 1 → node.length ≡ was.length → FileIs rows inode node
+  Longer : (was : NodeRow) → node_row_at rows inode ≡ Some was → was.kind ≡ 1 → was.length ≤ node.length → node.length ≤ FILE_END → FileIs rows inode node
   IsNew : node.length ≤ FILE_END → ((window : ℕ) → lists_of rows inode window ≡ []) → FileIs rows inode node
 
 pub record FilesGo (rows after : Rows) : Type 0 where
@@ -55,11 +56,14 @@ module _ (rows after : Rows) (quiet : Quiet rows after) (w : WholeFiles rows) (g
 
   small_after : (inode : ℕ) (node : NodeRow) → FileIs rows inode node → node.length ≤ FILE_END
   small_after inode node (AsBefore was there file same) = subst (λ n. n ≤ FILE_END) (sym same) (w.small inode was there file)
+  small_after inode node (Longer was there file longer small) = small
   small_after inode node (IsNew small none) = small
 
   past_after : (inode : ℕ) (node : NodeRow) (position : ℕ) → node.length ≤ position → FileIs rows inode node → place_in (lists_of after inode) position ≡ Zero
   past_after inode node position past (AsBefore was there file same) =
       ap (λ lists. place_in lists position) (same_lists inode) ∙ w.past inode was there file position (subst (λ n. n ≤ position) same past)
+  past_after inode node position past (Longer was there file longer small) =
+      ap (λ lists. place_in lists position) (same_lists inode) ∙ w.past inode was there file position (omega (arith, past, longer))
   past_after inode node position past (IsNew small none) = ap (λ lists. place_in lists position) (same_lists inode)
       ∙ nothing_shown (lists_of rows inode) position none
 
