@@ -56,9 +56,7 @@ pub fn is_spelled(op: &Op) -> bool
         }
         Op::Chmod { mode, .. } => *mode <= ALL_MODES,
         Op::Symlink { target, path } => {
-            has_no_zero(target.as_slice())
-                && !target.is_empty()
-                && has_no_zero(path.as_slice())
+            has_no_zero(target.as_slice()) && !target.is_empty() && has_no_zero(path.as_slice())
         }
         Op::Link { to, .. } | Op::Rename { to, .. } => has_no_zero(to.as_slice()),
         _ => true,

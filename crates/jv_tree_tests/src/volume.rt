@@ -1,9 +1,7 @@
 //! A volume in memory, whose operations are lines of a script.
 use jv_live::mount;
 use jv_metadata::{is_metadata, is_spelled, transact};
-use jv_model::{
-    ClientId, Fault, Line, Moment, Op, Reply, Sequence, Setting, TxFault, Who,
-};
+use jv_model::{ClientId, Fault, Line, Moment, Op, Reply, Sequence, Setting, TxFault, Who};
 use jv_outside::{Keeper, NeverKeeper};
 use jv_rows::{default_setting, fresh_rows};
 use jv_script::{print_reply, read_line};
