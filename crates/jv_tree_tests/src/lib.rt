@@ -3,6 +3,8 @@
 #![tactic(auto)]
 
 #[cfg(test)]
+mod commits;
+#[cfg(test)]
 mod links;
 #[cfg(test)]
 mod sessions;

@@ -1,7 +1,10 @@
 //! A volume in memory, whose operations are lines of a script.
+use jv_data::{commit_length, look};
 use jv_live::mount;
 use jv_metadata::{is_metadata, is_spelled, transact};
-use jv_model::{ClientId, Fault, Line, Moment, Op, Reply, Sequence, Setting, TxFault, Who};
+use jv_model::{
+    ClientId, FILE_END, Fault, Line, Moment, Op, Reply, Sequence, Setting, TxFault, Who,
+};
 use jv_outside::{Keeper, NeverKeeper};
 use jv_rows::{default_setting, fresh_rows};
 use jv_script::{print_reply, read_line};
@@ -80,6 +83,19 @@ impl Volume {
             }
         }
         Ok(())
+    }
+
+    /// What a look at a file sees.
+    pub(crate) fn look(&mut self, inode: u64) -> Result<u64, TxFault> {
+        look(self.alloc, &mut self.keeper, self.who.sid, inode)
+    }
+
+    /// Commits bytes that end at a position, whose block is so many seconds old.
+    pub(crate) fn commit(&mut self, inode: u64, end: u64, age: u64) -> Result<(), TxFault> {
+        let (sid, now) = (self.who.sid, self.who.now);
+        let started = Moment(NOW.saturating_sub(age));
+        let end = end.min(FILE_END);
+        commit_length(self.alloc, &mut self.keeper, sid, now, inode, end, started)
     }
 
     fn reply(&mut self, op: &Op) -> Result<Reply, TxFault> {
