@@ -1,2 +1,3 @@
 -- What is proved of small changes.
 pub mod DraftingLaws
+pub mod DraftedLaws

@@ -1,1 +1,8 @@
 -- What is proved of transactions on entries.
+pub mod DraftSteps
+pub mod EmptinessLaws
+pub mod RemovableLaws
+pub mod RemovalStepLaws
+pub mod RemovingLaws
+pub mod TrashEntryLaws
+pub mod TrashStepLaws
