@@ -1,6 +1,6 @@
 -- Whether a directory has entries, by the first row of an entry behind its beginning.
 use Rattle.std.proofs.Common.{◌≡◌, ℕ, ◌<◌, ◌≤◌, arith, length, slice_index_or, Bool, true, false, List, [], ◌∷◌, map, Some, Result, Ok, Err, refl, sym, ap, subst, ◌∙◌}
-use Rattle.std.specs.Prelude.{◌==◌, is_some, filter, IsErrAnd}
+use Rattle.std.specs.Prelude.{◌==◌, is_some, if◌then◌else◌, filter, IsErrAnd}
 use Rattle.jv_model.specs.declared.fault.Fault.{Fault}
 use Rattle.jv_model.specs.declared.fault.RowFault.{RowFault}
 use Rattle.jv_model.specs.declared.fault.TxFault.{TxFault}
@@ -25,15 +25,17 @@ use Rattle.jv_tree.proofs.EdgeOrderLaws.{chain-behind}
 use Rattle.jv_tree.proofs.PageLaws.{has_some, first-of-page, none-of-page}
 use Rattle.jv_tree.proofs.EntryReadLaws.{entries-known, fails-scan}
 
+kept_by : (test : EntryKey → ℕ → Bool) (e : EntryKey × ℕ) (es : List (EntryKey × ℕ)) (b : Bool)
+    → is_some (first_passing test es) ≡ has_some (map (λ (x : EntryKey × ℕ). (x.0.name, x.1)) (filter (λ (x : EntryKey × ℕ). test x.0 x.1) es))
+    → is_some (elim b [ true ↦ Some e | false ↦ first_passing test es ])
+    ≡ has_some (map (λ (x : EntryKey × ℕ). (x.0.name, x.1)) (if b then e ∷ filter (λ (x : EntryKey × ℕ). test x.0 x.1) es else filter (λ (x : EntryKey × ℕ). test x.0 x.1) es))
+kept_by test e es true rest = refl
+kept_by test e es false rest = rest
+
 first_kept : (test : EntryKey → ℕ → Bool) (es : List (EntryKey × ℕ))
     → is_some (first_passing test es) ≡ has_some (map (λ (e : EntryKey × ℕ). (e.0.name, e.1)) (filter (λ (e : EntryKey × ℕ). test e.0 e.1) es))
 first_kept test [] = refl
-first_kept test (e ∷ es) = by_test (test e.0 e.1)
-  where
-    by_test : (b : Bool) → is_some (elim b [ true ↦ Some e | false ↦ first_passing test es ])
-        ≡ has_some (map (λ (x : EntryKey × ℕ). (x.0.name, x.1)) (if b then e ∷ filter (λ (x : EntryKey × ℕ). test x.0 x.1) es else filter (λ (x : EntryKey × ℕ). test x.0 x.1) es))
-    by_test true = refl
-    by_test false = first_kept test es
+first_kept test (e ∷ es) = kept_by test e es (test e.0 e.1) (first_kept test es)
 
 -- a directory has entries where a listing of it shows some
 has_entries-listed : (t : Tree) (dir : ℕ) → has_entries t dir ≡ has_some (entries_of t dir)

@@ -6,3 +6,5 @@ pub mod RemovalStepLaws
 pub mod RemovingLaws
 pub mod TrashEntryLaws
 pub mod TrashStepLaws
+pub mod FateLaws
+pub mod TrashingLaws
