@@ -42,15 +42,18 @@ use Rattle.jv_links.proofs.RemovalStepLaws.{stands_at, empty_apart, empty_goes}
 
 -- ---- the operations by their parts
 
+abbrev pair_at : EntryKey → ℕ → Result (EntryKey × ℕ) Fault
+pair_at place inode = Ok (place, inode)
+
 by_parts : {B : Type 0} (session : Result (Unit {0}) Fault) (entry : Result EntryKey Fault) (may : EntryKey → Bool) (named : EntryKey → Option ℕ) (next : EntryKey → ℕ → Result B Fault)
     → (session >>= (λ _. entry >>= (λ place. require (may place) NotPermitted >>= (λ _. some_or (named place) NotFound >>= next place))))
-    ≡ ((session >>= (λ _. entry >>= (λ place. require (may place) NotPermitted >>= (λ _. some_or (named place) NotFound >>= (λ inode. Ok (place, inode)))))) >>= (λ e. next e.0 e.1))
+    ≡ ((session >>= (λ _. entry >>= (λ place. require (may place) NotPermitted >>= (λ _. some_or (named place) NotFound >>= pair_at place)))) >>= (λ e. next e.0 e.1))
 by_parts (Err fault) entry may named next = refl
 by_parts (Ok unit) (Err fault) may named next = refl
 by_parts (Ok unit) (Ok place) may named next = by_test (may place) (named place)
   where
     by_test : (b : Bool) (o : Option ℕ) → (require b NotPermitted >>= (λ _. some_or o NotFound >>= next place))
-        ≡ ((require b NotPermitted >>= (λ _. some_or o NotFound >>= (λ inode. Ok (place, inode)))) >>= (λ e. next e.0 e.1))
+        ≡ ((require b NotPermitted >>= (λ _. some_or o NotFound >>= pair_at place)) >>= (λ e. next e.0 e.1))
     by_test false o = refl
     by_test true None = refl
     by_test true (Some inode) = refl
@@ -191,7 +194,7 @@ module _ (who : Who) (caller : Caller) (is_for : IsFor who caller) (path : List 
             (steps-stop Always before looked taken draft less (λ t. t) says removes rest begun fault (λ t. StandsAt t (place_of entry) inode) takes d stands
             (λ known at whole bytes unit refused e. absurd (cc)))
 
-        module _ (d : Drafting (λ t. StandsAt t (place_of entry) inode) draft less looked taken (Ok tt) takes) (gone : Store) (all : List Change) where
+        module _ (d : Drafting {A = Unit {0}} (λ t. StandsAt t (place_of entry) inode) draft less looked taken (Ok tt) takes) (gone : Store) (all : List Change) where
           abbrev without : Tree → Tree
           without t = take_entry t now (place_of entry)
 
@@ -216,19 +219,19 @@ module _ (who : Who) (caller : Caller) (is_for : IsFor who caller) (path : List 
               (steps-stop Always before taken gone less all without says removes rest took fault (λ t. MayGo t inode) drops e goes
               (λ known at whole bytes unit refused e. absurd (cc)))
 
-          module _ (e : Drafting (λ t. MayGo t inode) less all taken gone (Ok tt) drops) (last : Store) where
+          module _ (e : Drafting {A = Unit {0}} (λ t. MayGo t inode) less all taken gone (Ok tt) drops) (last : Store) where
             dropped : PastSteps Always before gone all (λ t. drop_node (without t) inode) removes rest
             dropped = steps-on Always before taken gone less all without removes rest took tt (λ t. MayGo t inode) drops (λ t. drop_node (without t) inode) e goes
                 (λ known at whole bytes unit. refl)
 
             -- the commit failed
             pub rmdir-fails : (down : Down) → Commits gone last (Err down) all → Transacts Always before last (Err (OfRows (row_fault down))) says removes
-            rmdir-fails down commits = steps-fail Always before gone last all (λ t. drop_node (without t) inode) says removes rest dropped (OfRows (row_fault down))
+            rmdir-fails down commits = steps-fail Always before gone last all all (λ t. drop_node (without t) inode) says removes rest dropped (OfRows (row_fault down))
                 (fails-commit gone last down all commits)
 
             -- it is gone
             pub rmdir-done : Commits gone last (Ok tt) all → Transacts Always before last (Ok tt) says removes
-            rmdir-done commits = steps-commit Always before gone last all (λ t. drop_node (without t) inode) says removes rest dropped tt commits
+            rmdir-done commits = steps-commit Always before gone last all all (λ t. drop_node (without t) inode) says removes rest dropped tt commits
                 (λ known is whole bytes unit. (let t = tree_of bytes (typed known) in ap (λ n. done (remove_directory t n (place_of entry) inode)) same))
                 (λ known is whole bytes unit.
                 let t = tree_of bytes (typed known) in

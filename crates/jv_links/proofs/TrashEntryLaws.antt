@@ -52,10 +52,10 @@ both_stand xs ys h k = list_all-append may_stand xs ys ∙ and_from _ _ h k
 pub trash_name-entry : (place : EntryKey) (inode : ℕ) → IsTrue (is_entry_name place.name) → IsTrue (is_entry_name (trash_name place inode))
 unfolding trash_name
 trash_name-entry place inode is =
-    let own = (and_parts _ _ (and_parts (nat_le 1 (length place.name)) _ is).1).1 in
+    let own = (and_parts (nat_le 1 (length place.name) && nat_le (length place.name) MAX_NAME) (list_all may_stand place.name) is).1 in
     let all = decimal place.dir ++ 45 ∷ decimal inode ++ 45 ∷ place.name in
     let some : 1 ≤ length all = (let count = length-append (decimal place.dir ++ 45 ∷ decimal inode) (45 ∷ place.name) in omega (arith, count)) in
     let stands : list_all may_stand all ≡ true = both_stand (decimal place.dir ++ 45 ∷ decimal inode) (45 ∷ place.name)
     (both_stand (decimal place.dir) (45 ∷ decimal inode) (decimal_stands place.dir) (decimal_stands inode)) own in
-    and_from _ _ (le-leb 1 (length (take MAX_NAME all)) (long_enough 254 all some))
-    (and_from _ _ (le-leb (length (take MAX_NAME all)) MAX_NAME (taken_short MAX_NAME all)) (taken_stand MAX_NAME all stands))
+    and_from _ _ (and_from _ _ (le-leb 1 (length (take MAX_NAME all)) (long_enough 254 all some)) (le-leb (length (take MAX_NAME all)) MAX_NAME (taken_short MAX_NAME all)))
+    (taken_stand MAX_NAME all stands)

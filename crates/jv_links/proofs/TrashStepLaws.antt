@@ -43,6 +43,9 @@ hour_counts s after hour (Was there same) free inode apart = ap (λ (x : Shape).
 hour_counts s after hour (Comes absent same) free inode apart = ap (λ (x : Shape). names x inode) same
     ∙ count-insert_apart s.entries (hour_place hour) (hour_inode hour) inode (free absent) (λ e. apart (sym e))
 
+abbrev one_if : Bool → ℕ
+one_if b = (if b then 1 else 0)
+
 -- ---- the steps
 
 module _ (less : Tree) (now : ℕ) (place : EntryKey) (inode : ℕ) (may : IsToTrash less now place inode) where
@@ -182,11 +185,11 @@ module _ (less : Tree) (now : ℕ) (place : EntryKey) (inode : ℕ) (may : IsToT
         let here = (may.whole.entry q i there).there in
         let off : i ≢ dir = λ same. false≢true (sym leaf ∙ ap is_dir (ap s.form same ∙ hour_is_dir (subst (λ j. IsTrue (is_there (s.form j))) same here))) in
         let none : is_dir ((shape_of made).form i) ≡ false = ap is_dir (form_made i off) ∙ leaf in
-        ap (λ b. if (q.dir == dir) && b then 1 else 0) none ∙ no_both (q.dir == dir)
-    | inr off ↦ ap (λ b. if b && is_dir ((shape_of made).form i) then 1 else 0) (ne_eqb q.dir dir off)
+        ap (λ b. one_if ((q.dir == dir) && b)) none ∙ no_both (q.dir == dir)
+    | inr off ↦ ap (λ b. one_if (b && is_dir ((shape_of made).form i))) (ne_eqb q.dir dir off)
   ]
     where
-      no_both : (b : Bool) → (if b && false then 1 else 0) ≡ 0
+      no_both : (b : Bool) → one_if (b && false) ≡ 0
       no_both true = refl
       no_both false = refl
 
@@ -205,10 +208,10 @@ module _ (less : Tree) (now : ℕ) (place : EntryKey) (inode : ℕ) (may : IsToT
       let most = naming_most j in
       le-leb (link_count entered j) MAX_LINKS (omega (arith, all, is, few, most))
     where
-      naming_most : (k : ℕ) → (if inode == k then 1 else 0) ≤ 1
+      naming_most : (k : ℕ) → one_if (inode == k) ≤ 1
       naming_most k = by_test (inode == k)
         where
-          by_test : (b : Bool) → (if b then 1 else 0) ≤ 1
+          by_test : (b : Bool) → one_if b ≤ 1
           by_test true = omega arith
           by_test false = omega arith
 

@@ -72,12 +72,12 @@ module _ (now : ℕ) (place : EntryKey) (inode : ℕ) (start one : List Change) 
 
     -- it was, and its status changes or doesn't
     pub trash-ends : (result : Result (Unit {0}) TxFault) (all : List Change) (last : Store)
-        → Drafting (λ t. MayStandAt t (record { dir = hour; name = name }) inode) one two entered put (Ok tt) (entry_put now (record { dir = hour; name = name }) inode)
+        → Drafting {A = Unit {0}} (λ t. MayStandAt t (record { dir = hour; name = name }) inode) one two entered put (Ok tt) (entry_put now (record { dir = hour; name = name }) inode)
         → Drafting (IsThere inode) two all put last result (λ t. Ok (change_node t inode (status_changed now)))
         → Drafting ready start all before last result ends
     trash-ends result all last e f =
         let puts = λ (t : Tree). entry_put now (trash_place (hour_at now) place inode) inode (with_hour t now (hour_at now)) in
-        let both : Drafting ready start two before put (Ok tt) puts = steps-then ready start one two before entered put hour hours (λ t. with_hour t now (hour_at now)) hour_there (λ known at bytes t m r. refl)
+        let both : Drafting {A = Unit {0}} ready start two before put (Ok tt) puts = steps-then ready start one two before entered put hour hours (λ t. with_hour t now (hour_at now)) hour_there (λ known at bytes t m r. refl)
         (λ t. MayStandAt t (trash_place (hour_at now) place inode) inode) (entry_put now (trash_place (hour_at now) place inode) inode) puts (Ok tt) (putting (Ok tt) e)
         (λ known at bytes t m r. trash_stands t now place inode r (trash_name-entry place inode r.name)) (λ known at bytes t m r. refl) in
         steps-then ready start two all before put last tt puts (λ t. put_entry (with_hour t now (hour_at now)) now (trash_place (hour_at now) place inode) inode) both
@@ -108,7 +108,7 @@ module _ (who : Who) (caller : Caller) (is_for : IsFor who caller) (inode : ℕ)
 
   -- it was, and the session keeps it or doesn't
   pub keep-ends : (result : Result (Unit {0}) TxFault) (all : List Change) (last : Store)
-      → Drafting (IsThere inode) start one before changed (Ok tt) (λ t. Ok (change_node t inode (status_changed who.now)))
+      → Drafting {A = Unit {0}} (IsThere inode) start one before changed (Ok tt) (λ t. Ok (change_node t inode (status_changed who.now)))
       → Drafting Always one all changed last result (λ t. Ok (sustaining who.sid inode t))
       → Drafting (IsThere inode) start all before last result (λ t. Ok (sustained_by t caller inode))
   keep-ends result all last d e =

@@ -1,19 +1,10 @@
-use Rattle.std.proofs.Common.{◌≡◌, Bool, true, false, not, Ok, refl, sym, subst}
-use Rattle.std.specs.Prelude.{◌==◌}
+use Rattle.std.proofs.Common.{Bool, Ok, subst, eq-eqb, ne_eqb}
 use Rattle.jv_model.specs.declared.op.Reply.TheVariants.{Done}
 use Rattle.jv_model.specs.tree.Removing.{rmdir}
 use Rattle.jv_model.specs.tree.Tree.{has_entries}
 use Rattle.jv_rows.specs.Transactions.{Looks, Always}
 use Rattle.jv_links.proofs.RemovingLaws.{rmdir_at, rmdir-is, removing-stops, rmdir-no_directory, rmdir-not_empty, rmdir-not_taken, rmdir-not_dropped, rmdir-done}
 use Rattle.jv_links.proofs.removing.rmdir.Goals as goal
-
-is_two : (b : Bool) → not b ≡ false → b ≡ true
-is_two true e = refl
-is_two false e = sym e
-
-no_two : (b : Bool) → not b ≡ true → b ≡ false
-no_two true e = sym e
-no_two false e = refl
 
 pub returns-in_err-entry : goal.returns-in_err-entry
 returns-in_err-entry g c caller is_for =
@@ -24,18 +15,18 @@ returns-in_err-entry g c caller is_for =
 pub returns-then-entry-ne2 : goal.returns-then-entry-ne2
 returns-then-entry-ne2 g c caller is_for =
     rmdir-no_directory c.args.who.now caller is_for c.args.path.now (g.K.Keeper.seen c.args.k.now) (g.K.Keeper.seen c.find_removable.new.k) c.in_ok-entry.entry c.in_ok-entry.ensures
-    (no_two (c.in_ok-entry.entry.node.node.kind == 2) c.if-entry-ne2.true)
+    (ne_eqb c.in_ok-entry.entry.node.node.kind 2 c.if-entry-ne2.true)
 
 pub returns-then-branch : goal.returns-then-branch
 returns-then-branch g c caller is_for =
     rmdir-not_empty c.args.who.now caller is_for c.args.path.now (g.K.Keeper.seen c.args.k.now) (g.K.Keeper.seen c.find_removable.new.k) c.in_ok-entry.entry c.in_ok-entry.ensures
-    (is_two (c.in_ok-entry.entry.node.node.kind == 2) c.if-entry-ne2.false) (g.K.Keeper.seen c.has_entries.new.k)
+    (eq-eqb c.in_ok-entry.entry.node.node.kind 2 c.if-entry-ne2.false) (g.K.Keeper.seen c.has_entries.new.k)
     (subst (λ (b : Bool). Looks (g.K.Keeper.seen c.find_removable.new.k) (g.K.Keeper.seen c.has_entries.new.k) (Ok b) (λ t. Ok (has_entries t c.in_ok-entry.entry.node.inode))) c.if-branch.true c.in_ok-has_entries.ensures)
 
 pub returns-in_err-take_entry : goal.returns-in_err-take_entry
 returns-in_err-take_entry g c caller is_for =
     rmdir-not_taken c.args.who.now caller is_for c.args.path.now (g.K.Keeper.seen c.args.k.now) (g.K.Keeper.seen c.find_removable.new.k) c.in_ok-entry.entry c.in_ok-entry.ensures
-    (is_two (c.in_ok-entry.entry.node.node.kind == 2) c.if-entry-ne2.false) (g.K.Keeper.seen c.has_entries.new.k)
+    (eq-eqb c.in_ok-entry.entry.node.node.kind 2 c.if-entry-ne2.false) (g.K.Keeper.seen c.has_entries.new.k)
     (subst (λ (b : Bool). Looks (g.K.Keeper.seen c.find_removable.new.k) (g.K.Keeper.seen c.has_entries.new.k) (Ok b) (λ t. Ok (has_entries t c.in_ok-entry.entry.node.inode))) c.if-branch.false c.in_ok-has_entries.ensures)
     c.new-draft.result c.new-draft.ensures c.args.who.now.now is_for.now (g.K.Keeper.seen c.take_entry.new.k) c.take_entry.new.draft
     c.from_residual-in_err-take_entry.result c.in_err-take_entry.field-0.0 c.from_residual-in_err-take_entry.ensures.1 c.in_err-take_entry.ensures
@@ -43,7 +34,7 @@ returns-in_err-take_entry g c caller is_for =
 pub returns-in_err-drop_node : goal.returns-in_err-drop_node
 returns-in_err-drop_node g c caller is_for =
     rmdir-not_dropped c.args.who.now caller is_for c.args.path.now (g.K.Keeper.seen c.args.k.now) (g.K.Keeper.seen c.find_removable.new.k) c.in_ok-entry.entry c.in_ok-entry.ensures
-    (is_two (c.in_ok-entry.entry.node.node.kind == 2) c.if-entry-ne2.false) (g.K.Keeper.seen c.has_entries.new.k)
+    (eq-eqb c.in_ok-entry.entry.node.node.kind 2 c.if-entry-ne2.false) (g.K.Keeper.seen c.has_entries.new.k)
     (subst (λ (b : Bool). Looks (g.K.Keeper.seen c.find_removable.new.k) (g.K.Keeper.seen c.has_entries.new.k) (Ok b) (λ t. Ok (has_entries t c.in_ok-entry.entry.node.inode))) c.if-branch.false c.in_ok-has_entries.ensures)
     c.new-draft.result c.new-draft.ensures c.args.who.now.now is_for.now (g.K.Keeper.seen c.take_entry.new.k) c.take_entry.new.draft
     c.in_ok-take_entry.ensures (g.K.Keeper.seen c.drop_node.new.k) c.drop_node.new.draft
@@ -52,7 +43,7 @@ returns-in_err-drop_node g c caller is_for =
 pub returns-in-Ok : goal.returns-in-Ok
 returns-in-Ok g c caller is_for =
     rmdir-done c.args.who.now caller is_for c.args.path.now (g.K.Keeper.seen c.args.k.now) (g.K.Keeper.seen c.find_removable.new.k) c.in_ok-entry.entry c.in_ok-entry.ensures
-    (is_two (c.in_ok-entry.entry.node.node.kind == 2) c.if-entry-ne2.false) (g.K.Keeper.seen c.has_entries.new.k)
+    (eq-eqb c.in_ok-entry.entry.node.node.kind 2 c.if-entry-ne2.false) (g.K.Keeper.seen c.has_entries.new.k)
     (subst (λ (b : Bool). Looks (g.K.Keeper.seen c.find_removable.new.k) (g.K.Keeper.seen c.has_entries.new.k) (Ok b) (λ t. Ok (has_entries t c.in_ok-entry.entry.node.inode))) c.if-branch.false c.in_ok-has_entries.ensures)
     c.new-draft.result c.new-draft.ensures c.args.who.now.now is_for.now (g.K.Keeper.seen c.take_entry.new.k) c.take_entry.new.draft
     c.in_ok-take_entry.ensures (g.K.Keeper.seen c.drop_node.new.k) c.drop_node.new.draft c.in_ok-drop_node.ensures
