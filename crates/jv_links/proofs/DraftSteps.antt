@@ -118,3 +118,22 @@ step-fails {A} {B} ready fewer was now before after fault step other made all sa
       (subst (LeadsTo {A = A} known now bytes (Err fault)) (same t r) (d.leads known is bytes t m (all t r)));
   bad = d.bad;
 }
+
+-- a step that fails tells nothing of its value
+pub drafting-err : {A B : Type 0} (ready : Tree → Type 0) (was now : List Change) (before after : Store) (step : Tree → Result Tree Fault) (fault : TxFault)
+    → Drafting {A = A} ready was now before after (Err fault) step → Drafting {A = B} ready was now before after (Err fault) step
+drafting-err {A} {B} ready was now before after step fault d = record {
+  rows_are = d.rows_are;
+  opened_at = d.opened_at;
+  counts = d.counts;
+  formed = λ a. tt;
+  leads = λ known is bytes t m r. same_led fault known bytes (step t) (d.leads known is bytes t m r);
+  bad = d.bad;
+}
+  where
+    same_led : (f : TxFault) (known : RowMap) (bytes : ℕ → ℕ → ℕ) (model : Result Tree Fault) → LeadsTo {A = A} known now bytes (Err f) model → LeadsTo {A = B} known now bytes (Err f) model
+    same_led (Refused f) known bytes model h = h
+    same_led (Moved list) known bytes model h = h
+    same_led (OfRows (Bad at bad)) known bytes model h = h
+    same_led (OfRows Failed) known bytes model h = tt
+    same_led (OfRows Memory) known bytes model h = tt

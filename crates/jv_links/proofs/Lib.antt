@@ -8,3 +8,4 @@ pub mod TrashEntryLaws
 pub mod TrashStepLaws
 pub mod FateLaws
 pub mod TrashingLaws
+pub mod LossLaws
