@@ -1,2 +1,4 @@
 -- What is said of transactions on entries.
+pub mod Losses
+pub mod Removable
 pub mod Removals

@@ -1,17 +1,63 @@
 //! Entries removed, by POSIX.1-2017's "unlinkat" and "rmdir".
 ghost use Rattle.std.specs.Prelude.{◌≡◌, IsTrue};
+ghost use Rattle.jv_links.specs.Removable.{ComesToRemovable, removable_at};
 ghost use Rattle.jv_links.specs.Removals.{HoldsFiles, TellsSustained, removed_in};
 ghost use Rattle.jv_model.specs.declared.op.Reply.TheVariants.{Done};
 ghost use Rattle.jv_model.specs.tree.Caller.{Caller};
 ghost use Rattle.jv_model.specs.tree.Removing as model;
 ghost use Rattle.jv_rows.specs.Transactions.{IsFor, Transacts, Always};
 
-use crate::fates::Removed;
-use jv_model::{Path, RowFault, TxFault, Who};
+use crate::emptiness::has_entries;
+use crate::fates::{Removed, remove_entry};
+use jv_changes::{drop_node, take_entry};
+use jv_model::{Fault, Name, Path, ROOT, RowFault, TRASH_ROOT, TxFault, Who};
 use jv_outside::Keeper;
+use jv_rows::{Draft, Place, child, in_session, walk_to_entry};
 use std::alloc::Global;
 
-/// Removes the entry of a file or a symlink.
+/// An entry that may be removed, with the node that it names.
+#[derive(Debug, Drop)]
+pub(crate) struct Removable {
+    pub(crate) dir: u64,
+    pub(crate) name: Name,
+    pub(crate) node: Place,
+}
+
+// Whether an entry may be removed: it is neither `.trash` nor one of its hours.
+fn may_go(dir: u64, name: &[u8]) -> bool
+    ensures { result ≡ model.may_go (record { dir = dir; name = name.now }) }
+{
+    !(dir == TRASH_ROOT || (dir == ROOT && name == b".trash".as_slice()))
+}
+
+// The entry that a path names, where it is there and may be removed.
+fn find_removable<K: Keeper>(
+    alloc: Global,
+    k: &mut K,
+    sid: u64,
+    path: &Path,
+) -> Result<Removable, TxFault>
+    ensures { ComesToRemovable (K.seen k.old) (K.seen k.new) result (λ t. removable_at t sid path.now) }
+{
+    in_session(alloc, k, sid)?;
+    let place = walk_to_entry(alloc, k, path)?;
+    if !may_go(place.dir.inode, place.name.as_slice()) {
+        return Err(TxFault::Refused(Fault::NotPermitted));
+    }
+    let node = child(alloc, k, place.dir.inode, &place.name)?;
+    Ok(Removable {
+        dir: place.dir.inode,
+        name: place.name,
+        node,
+    })
+}
+
+/// Removes the entry of a file or a symlink, and returns what became of that.
+///
+/// # Errors
+///
+/// Stale where the session is gone, a walk's to the entry's directory, NotPermitted for `.trash`, its hours and directories, and
+/// NotFound where there is no such entry. Bad for a row that is malformed or names none, Failed if the keeper failed, Memory.
 pub fn unlink<K: Keeper>(
     alloc: Global,
     k: &mut K,
@@ -24,14 +70,42 @@ pub fn unlink<K: Keeper>(
     ensures tells { (caller : Caller) → IsFor who.entry.now caller
         → TellsSustained caller.sid (HoldsFiles caller.held) (K.seen k.old) (removed_in result) (λ t. model.unlink t caller path.now) }
 {
-    Err(TxFault::Rows(RowFault::Memory))
+    let entry = find_removable(alloc, k, who.sid, path)?;
+    if entry.node.node.kind == 2 {
+        return Err(TxFault::Refused(Fault::NotPermitted));
+    }
+    let inode = entry.node.inode;
+    let mut draft = Draft::new(alloc);
+    let fate = remove_entry(alloc, &mut draft, k, who, entry.dir, &entry.name, inode)?;
+    match draft.commit(k) {
+        Ok(()) => Ok(Removed { inode, fate }),
+        Err(down) => Err(TxFault::Rows(RowFault::from(down))),
+    }
 }
 
 /// Removes an empty directory.
+///
+/// # Errors
+///
+/// As of [`unlink`], but NotADirectory for what isn't one, and DirectoryNotEmpty where it has entries.
 pub fn rmdir<K: Keeper>(alloc: Global, k: &mut K, who: &Who, path: &Path) -> Result<(), TxFault>
     ensures { (caller : Caller) → IsFor who.entry.now caller
         → Transacts Always (K.seen k.old) (K.seen k.new)
         result (λ unit. Done) (λ t. model.rmdir t caller path.now) }
 {
-    Err(TxFault::Rows(RowFault::Memory))
+    let entry = find_removable(alloc, k, who.sid, path)?;
+    if entry.node.node.kind != 2 {
+        return Err(TxFault::Refused(Fault::NotADirectory));
+    }
+    let inode = entry.node.inode;
+    if has_entries(alloc, k, inode)? {
+        return Err(TxFault::Refused(Fault::DirectoryNotEmpty));
+    }
+    let mut draft = Draft::new(alloc);
+    take_entry(&mut draft, k, who.now, entry.dir, &entry.name, inode)?;
+    drop_node(&mut draft, k, inode)?;
+    match draft.commit(k) {
+        Ok(()) => Ok(()),
+        Err(down) => Err(TxFault::Rows(RowFault::from(down))),
+    }
 }

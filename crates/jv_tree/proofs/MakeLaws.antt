@@ -60,12 +60,14 @@ module _ {A : Type 0} (ready : Tree → Type 0) (before middle after : Store) (r
 
 -- ---- the place
 
-by_pair : {B : Type 0} (r : Result EntryKey Fault) (next : EntryKey → Result B Fault)
+-- what goes on with a place goes on with its pair
+pub by_pair : {B : Type 0} (r : Result EntryKey Fault) (next : EntryKey → Result B Fault)
     → (r >>= next) ≡ ((r >>= (λ at. Ok (pair_in at))) >>= (λ pair. next (record { dir = pair.0; name = pair.1 })))
 by_pair (Ok place) next = refl
 by_pair (Err fault) next = refl
 
-from_pair : (r : Result EntryKey Fault) (dir : ℕ) (name : List ℕ) → (r >>= (λ at. Ok (pair_in at))) ≡ Ok (dir, name) → r ≡ Ok (record { dir = dir; name = name })
+-- a place by its pair
+pub from_pair : (r : Result EntryKey Fault) (dir : ℕ) (name : List ℕ) → (r >>= (λ at. Ok (pair_in at))) ≡ Ok (dir, name) → r ≡ Ok (record { dir = dir; name = name })
 from_pair (Ok place) dir name h = (let same : pair_in place ≡ (dir, name) = same_value (pair_in place) (dir, name) h in λ i. Ok (record { dir = (same i).0; name = (same i).1 }))
   where
     same_value : (x y : ℕ × List ℕ) → ◌≡◌ {A = Result (ℕ × List ℕ) Fault} (Ok x) (Ok y) → x ≡ y
@@ -73,7 +75,7 @@ from_pair (Ok place) dir name h = (let same : pair_in place ≡ (dir, name) = sa
 from_pair (Err fault) dir name h = absurd (cc)
 
 -- a place that was found is free
-free_place : (t : Tree) (path : List ℕ) (dir : ℕ) (name : List ℕ) → has_no_zero path ≡ true → new_pair t path ≡ Ok (dir, name) → IsFreePlace t (record { dir = dir; name = name })
+pub free_place : (t : Tree) (path : List ℕ) (dir : ℕ) (name : List ℕ) → has_no_zero path ≡ true → new_pair t path ≡ Ok (dir, name) → IsFreePlace t (record { dir = dir; name = name })
 free_place t path dir name plain h =
     let at = from_pair (new_place t path) dir name h in
     let is = is_new_place t path (record { dir = dir; name = name }) at in

@@ -290,3 +290,37 @@ fewer-left bound dir page key old new is all adds small =
 pub no_key : (o : Option RowKey) → ((key : RowKey) → o ≡ Some key → ⊥) → o ≡ None
 no_key None none = refl
 no_key (Some key) none = absurd (none key refl)
+
+-- ---- whether a directory has entries
+
+abbrev pub has_some : List (List ℕ × ℕ) → Bool
+has_some [] = false
+has_some (e ∷ es) = true
+
+first_by : (dir : ℕ) (r : RowKey × List ℕ) (rows : List (RowKey × List ℕ)) (edge : Edge) → r.0.tab ≡ 3 → edge_of r.1 ≡ Some edge → dir ≤ r.0.a → Chain r.0 rows
+    → (d : Bool) → (r.0.a == dir) ≡ d → has_some (entries_from dir (r ∷ rows)) ≡ d
+first_by dir r rows edge tab spelled low c true is = ap has_some (from_first dir r rows edge tab spelled true is)
+first_by dir r rows edge tab spelled low c false is =
+    let apart : r.0.a ≡ dir → ⊥ = eqb-false r.0.a dir is in
+    let past : dir < r.0.a = omega (arith, low, apart) in
+    ap has_some (from_first dir r rows edge tab spelled false is ∙ none-from dir r.0 rows c tab past)
+
+first_key : (k : RowKey) → List (RowKey × Row) → RowKey
+first_key k [] = k
+first_key k (r ∷ rows) = r.0
+
+-- It has some if and only if the first row behind its beginning is of it.
+pub first-of-page : (dir : ℕ) (rows : List (RowKey × List ℕ)) (key : RowKey) (row : Row) (rest : List (RowKey × Row)) → Chain (edge_key dir []) rows
+    → rows_read (take 1 rows) ≡ Ok ((key, row) ∷ rest)
+    → has_some (entries_from dir rows) ≡ (key.a == dir)
+unfolding first_key
+first-of-page dir [] key row rest c read = absurd (true≢false (sym (last_some (key, row) rest) ∙ ap (λ (l : List (RowKey × Row)). is_some (last_of l)) (sym (same_ok [] ((key, row) ∷ rest) read))))
+first-of-page dir (r ∷ rows) key row rest c read =
+    let f = read_first r.0 r.1 (row_of r.0.tab r.1) (rows_read (take 0 rows)) ((key, row) ∷ rest) read in
+    let e = edge_is r.0 r.1 f.row c.0.table f.is in
+    let low : dir ≤ r.0.a = number-rises (edge_key dir []) r.0 refl c.0.table c.0.above in
+    first_by dir r rows e.edge c.0.table e.spelled low c.1 (r.0.a == dir) refl ∙ ap (λ (k : RowKey). k.a == dir) (sym (ap (first_key key) f.list_is))
+
+-- where no row is behind it, it has none
+pub none-of-page : (dir : ℕ) (rows : List (RowKey × List ℕ)) → rows_read (take 1 rows) ≡ Ok [] → has_some (entries_from dir rows) ≡ false
+none-of-page dir rows read = ap has_some (page-none dir rows 1 [] (omega arith) read refl)

@@ -30,8 +30,13 @@ fn may_be_new(dir: u64, name: &[u8]) -> bool
     dir < TRASH_ROOT && !(dir == ROOT && name == b".trash".as_slice())
 }
 
-/// Where a new entry may stand: not in the trash, and not where one is.
-fn new_place<K: Keeper>(alloc: Global, k: &mut K, path: &Path) -> Result<EntryPlace, TxFault>
+/// Where a new entry may stand: not in the trash, and not where one is. No row changes.
+///
+/// # Errors
+///
+/// As of [`jv_rows::walk_to_entry`], NotPermitted in the trash and in the place of `.trash`, and AlreadyExists where an entry
+/// is. Bad for a malformed entry, Failed if the keeper failed, Memory.
+pub fn new_place<K: Keeper>(alloc: Global, k: &mut K, path: &Path) -> Result<EntryPlace, TxFault>
     ensures { ComesToEntry (K.seen k.old) (K.seen k.new) result (λ t. new_pair t path.now) }
 {
     let place = walk_to_entry(alloc, k, path)?;
