@@ -50,19 +50,19 @@ returns-in_err-drop_node-in-Dropped-clause-does g c caller is_for =
 
 pub returns-clause-does : goal.returns-clause-does
 returns-clause-does g c caller is_for = elim c.match-fate.branch [
-      | in-Linked+in_ok-change_status-in-Linked w ↦ rw (w.draft-is, w.k-is) (loss-linked-made c.args.who.now caller is_for (record { dir = c.args.dir; name = c.args.name.now }) c.args.inode c.args.draft.now (g.K.Keeper.seen c.args.k.now) (g.K.Keeper.seen c.fate_of.new.k)
-    c.in_ok-fate.fate (c.in_ok-fate.ensures.does caller (record { dir = c.args.dir; name = c.args.name.now }) refl is_for) (c.in_ok-fate.ensures.tells caller (record { dir = c.args.dir; name = c.args.name.now }) refl is_for)
-    c.take_entry.new.draft (g.K.Keeper.seen c.take_entry.new.k) c.in_ok-take_entry.ensures w.change_status.new.draft (g.K.Keeper.seen w.change_status.new.k) w.in-Linked.is (w.in_ok-change_status-in-Linked.ensures))
-      | in-Trashed+in_ok-trash-in-Trashed w ↦ rw (w.draft-is, w.k-is) (loss-trashed-made c.args.who.now caller is_for (record { dir = c.args.dir; name = c.args.name.now }) c.args.inode c.args.draft.now (g.K.Keeper.seen c.args.k.now) (g.K.Keeper.seen c.fate_of.new.k)
-    c.in_ok-fate.fate (c.in_ok-fate.ensures.does caller (record { dir = c.args.dir; name = c.args.name.now }) refl is_for) (c.in_ok-fate.ensures.tells caller (record { dir = c.args.dir; name = c.args.name.now }) refl is_for)
-    c.take_entry.new.draft (g.K.Keeper.seen c.take_entry.new.k) c.in_ok-take_entry.ensures w.trash.new.draft (g.K.Keeper.seen w.trash.new.k) w.in-Trashed.is (w.in_ok-trash-in-Trashed.ensures))
-      | in-Sustained+in_ok-keep-in-Sustained w ↦ rw (w.draft-is, w.k-is) (loss-sustained-made c.args.who.now caller is_for (record { dir = c.args.dir; name = c.args.name.now }) c.args.inode c.args.draft.now (g.K.Keeper.seen c.args.k.now) (g.K.Keeper.seen c.fate_of.new.k)
-    c.in_ok-fate.fate (c.in_ok-fate.ensures.does caller (record { dir = c.args.dir; name = c.args.name.now }) refl is_for) (c.in_ok-fate.ensures.tells caller (record { dir = c.args.dir; name = c.args.name.now }) refl is_for)
-    c.take_entry.new.draft (g.K.Keeper.seen c.take_entry.new.k) c.in_ok-take_entry.ensures w.keep.new.draft (g.K.Keeper.seen w.keep.new.k) w.in-Sustained.is (w.in_ok-keep-in-Sustained.ensures caller is_for))
-      | in-Dropped+in_ok-drop_node-in-Dropped w ↦ rw (w.draft-is, w.k-is) (loss-dropped-made c.args.who.now caller is_for (record { dir = c.args.dir; name = c.args.name.now }) c.args.inode c.args.draft.now (g.K.Keeper.seen c.args.k.now) (g.K.Keeper.seen c.fate_of.new.k)
-    c.in_ok-fate.fate (c.in_ok-fate.ensures.does caller (record { dir = c.args.dir; name = c.args.name.now }) refl is_for) (c.in_ok-fate.ensures.tells caller (record { dir = c.args.dir; name = c.args.name.now }) refl is_for)
-    c.take_entry.new.draft (g.K.Keeper.seen c.take_entry.new.k) c.in_ok-take_entry.ensures w.drop_node.new.draft (g.K.Keeper.seen w.drop_node.new.k) w.in-Dropped.is (w.in_ok-drop_node-in-Dropped.ensures))
-    ]
+  | in-Linked+in_ok-change_status-in-Linked w ↦ rw (w.draft-is, w.k-is) (loss-linked-made c.args.who.now caller is_for (record { dir = c.args.dir; name = c.args.name.now }) c.args.inode c.args.draft.now (g.K.Keeper.seen c.args.k.now) (g.K.Keeper.seen c.fate_of.new.k)
+      c.in_ok-fate.fate (c.in_ok-fate.ensures.does caller (record { dir = c.args.dir; name = c.args.name.now }) refl is_for) (c.in_ok-fate.ensures.tells caller (record { dir = c.args.dir; name = c.args.name.now }) refl is_for)
+      c.take_entry.new.draft (g.K.Keeper.seen c.take_entry.new.k) c.in_ok-take_entry.ensures w.change_status.new.draft (g.K.Keeper.seen w.change_status.new.k) w.in-Linked.is (w.in_ok-change_status-in-Linked.ensures))
+  | in-Trashed+in_ok-trash-in-Trashed w ↦ rw (w.draft-is, w.k-is) (loss-trashed-made c.args.who.now caller is_for (record { dir = c.args.dir; name = c.args.name.now }) c.args.inode c.args.draft.now (g.K.Keeper.seen c.args.k.now) (g.K.Keeper.seen c.fate_of.new.k)
+      c.in_ok-fate.fate (c.in_ok-fate.ensures.does caller (record { dir = c.args.dir; name = c.args.name.now }) refl is_for) (c.in_ok-fate.ensures.tells caller (record { dir = c.args.dir; name = c.args.name.now }) refl is_for)
+      c.take_entry.new.draft (g.K.Keeper.seen c.take_entry.new.k) c.in_ok-take_entry.ensures w.trash.new.draft (g.K.Keeper.seen w.trash.new.k) w.in-Trashed.is (w.in_ok-trash-in-Trashed.ensures))
+  | in-Sustained+in_ok-keep-in-Sustained w ↦ rw (w.draft-is, w.k-is) (loss-sustained-made c.args.who.now caller is_for (record { dir = c.args.dir; name = c.args.name.now }) c.args.inode c.args.draft.now (g.K.Keeper.seen c.args.k.now) (g.K.Keeper.seen c.fate_of.new.k)
+      c.in_ok-fate.fate (c.in_ok-fate.ensures.does caller (record { dir = c.args.dir; name = c.args.name.now }) refl is_for) (c.in_ok-fate.ensures.tells caller (record { dir = c.args.dir; name = c.args.name.now }) refl is_for)
+      c.take_entry.new.draft (g.K.Keeper.seen c.take_entry.new.k) c.in_ok-take_entry.ensures w.keep.new.draft (g.K.Keeper.seen w.keep.new.k) w.in-Sustained.is (w.in_ok-keep-in-Sustained.ensures caller is_for))
+  | in-Dropped+in_ok-drop_node-in-Dropped w ↦ rw (w.draft-is, w.k-is) (loss-dropped-made c.args.who.now caller is_for (record { dir = c.args.dir; name = c.args.name.now }) c.args.inode c.args.draft.now (g.K.Keeper.seen c.args.k.now) (g.K.Keeper.seen c.fate_of.new.k)
+      c.in_ok-fate.fate (c.in_ok-fate.ensures.does caller (record { dir = c.args.dir; name = c.args.name.now }) refl is_for) (c.in_ok-fate.ensures.tells caller (record { dir = c.args.dir; name = c.args.name.now }) refl is_for)
+      c.take_entry.new.draft (g.K.Keeper.seen c.take_entry.new.k) c.in_ok-take_entry.ensures w.drop_node.new.draft (g.K.Keeper.seen w.drop_node.new.k) w.in-Dropped.is (w.in_ok-drop_node-in-Dropped.ensures))
+]
 
 pub returns-clause-tells : goal.returns-clause-tells
 returns-clause-tells g c caller is_for = c.in_ok-fate.ensures.tells caller (record { dir = c.args.dir; name = c.args.name.now }) refl is_for
