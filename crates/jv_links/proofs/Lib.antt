@@ -1,1 +1,4 @@
 -- What is proved of transactions on entries.
+pub mod EndsLaws
+pub mod StepLaws
+pub mod MoveEntryLaws

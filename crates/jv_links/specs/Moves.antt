@@ -102,3 +102,20 @@ StandsIf store (Some place) = Stands store place
 pub record FindsEntry (before after : Store) (result : Result (Option Place) TxFault) (place : EntryKey) : Type 0 where
   pub looks : Looks before after (inode_of result) (λ t. Ok (get t.entries place))
   pub stand : IfOk result (StandsIf after)
+
+-- An entry of a whole tree that may move to a free place. The links of all that it is about can be stored.
+pub record MayMove (t : Tree) (from : EntryKey) (source : ℕ) (to : EntryKey) : Type 0 where
+  pub whole : WholeShape (shape_of t)
+  pub is : get t.entries from ≡ Some source
+  pub free : get t.entries to ≡ None
+  pub name : IsTrue (is_entry_name to.name)
+  pub within : is_directory t to.dir ≡ true
+  pub outside : is_inside t to.dir source ≡ false
+  pub links_from : links_fit t from.dir ≡ true
+  pub links_source : links_fit t source ≡ true
+
+-- an inode moved from one entry to another, where the links of both directories can be stored
+abbrev pub moved_within : ℕ → EntryKey → ℕ → EntryKey → Tree → Result Tree Fault
+moved_within now from source to t = do
+  _ ← require (links_fit (moved t now from source to) from.dir && links_fit (moved t now from source to) to.dir) NoSpace
+  Ok (moved t now from source to)

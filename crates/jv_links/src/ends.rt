@@ -1,6 +1,6 @@
 //! The ends of a rename: the entry that goes, what it names, and the entry that comes.
-ghost use Rattle.std.specs.Prelude.{◌≡◌, IsTrue, Ok, IfOk, IfSome};
-ghost use Rattle.jv_links.specs.Moves.{EndsStand, FindsEnds, FindsEntry, Stands, move_asked, place_of};
+ghost use Rattle.std.specs.Prelude.{◌≡◌, ◌&&◌};
+ghost use Rattle.jv_links.specs.Moves.{FindsEnds, FindsEntry, move_asked, place_of};
 ghost use Rattle.jv_model.specs.tree.Making as model_making;
 ghost use Rattle.jv_model.specs.tree.Removing as model_removing;
 ghost use Rattle.jv_model.specs.tree.Renaming as model;
@@ -50,6 +50,13 @@ fn may_leave(how: How, entry: &EntryPlace) -> bool
     }
 }
 
+// Whether an entry may be renamed to another one.
+fn may_move(how: How, from: &EntryPlace, to: &EntryPlace) -> bool
+    ensures { result ≡ (model.may_leave how (place_of from.now) && model_making.may_be_new (place_of to.now)) }
+{
+    may_leave(how, from) && may_be_new(to)
+}
+
 /// Finds the ends of a rename, whose target may be there or not.
 ///
 /// # Errors
@@ -69,7 +76,7 @@ pub(crate) fn find_ends<K: Keeper>(
     in_session(alloc, k, sid)?;
     let from = walk_to_entry(alloc, k, path)?;
     let to = walk_to_entry(alloc, k, to)?;
-    if !may_leave(how, &from) || !may_be_new(&to) {
+    if !may_move(how, &from, &to) {
         return Err(TxFault::Refused(Fault::NotPermitted));
     }
     let source = child(alloc, k, from.dir.inode, &from.name)?;

@@ -7,6 +7,7 @@
 mod ends;
 mod fates;
 mod linking;
+mod moving;
 mod removing;
 mod renaming;
 
