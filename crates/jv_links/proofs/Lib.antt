@@ -2,3 +2,5 @@
 pub mod EndsLaws
 pub mod StepLaws
 pub mod MoveEntryLaws
+pub mod TellLaws
+pub mod FreeMoveLaws

@@ -84,6 +84,11 @@ pub record IsMove (t : Tree) (sid : ℕ) (how : How) (m : Move) : Type 0 where
   pub within : is_directory t m.to.dir ≡ true
   pub name : IsTrue (is_entry_name m.to.name)
 
+-- and that no entry is in its target's place
+pub record IsFreeMove (t : Tree) (sid : ℕ) (how : How) (from : EntryKey) (source : ℕ) (to : EntryKey) : Type 0 where
+  pub move : IsMove t sid how (record { from = from; source = source; to = to })
+  pub free : get t.entries to ≡ None
+
 -- a transaction that renames, and tells what became of what it replaced
 pub record Renames (sid : ℕ) (ready : Tree → Type 0) (before after : Store) (result : Result (Option Removed) TxFault) (act : Tree → Result Outcome Fault) : Type 0 where
   pub does : Transacts ready before after result (λ removed. Done) act

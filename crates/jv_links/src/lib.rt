@@ -4,6 +4,7 @@
 //! leave the rows as they were.
 #![tactic(auto)]
 
+mod climbing;
 mod ends;
 mod fates;
 mod linking;
