@@ -4,3 +4,4 @@ pub mod StepLaws
 pub mod MoveEntryLaws
 pub mod TellLaws
 pub mod FreeMoveLaws
+pub mod RenameLaws

@@ -1,9 +1,10 @@
 -- What a rename finds before it changes anything, and what a tree has to be for a move.
 use Rattle.std.specs.Prelude.{◌≡◌, ℕ, ◌≤◌, Bool, true, false, ◌&&◌, not, is_some, List, Option, None, Some, Result, Ok, Err, IfOk, IfSome, IsTrue}
 use Rattle.jv_model.specs.declared.basics.How.{How}
+use Rattle.jv_model.specs.declared.basics.How.TheVariants.{Plain, NoReplace, Exchange}
 use Rattle.jv_model.specs.declared.limits.TheConstants.{MAX_LINKS}
 use Rattle.jv_model.specs.declared.fault.Fault.{Fault}
-use Rattle.jv_model.specs.declared.fault.Fault.TheVariants.{NotFound, NotPermitted, NoSpace, Stale}
+use Rattle.jv_model.specs.declared.fault.Fault.TheVariants.{AlreadyExists, NotFound, NotPermitted, NoSpace, Stale}
 use Rattle.jv_model.specs.declared.fault.Gone.TheVariants.{Session}
 use Rattle.jv_model.specs.declared.fault.TxFault.{TxFault}
 use Rattle.jv_model.specs.declared.op.Reply.TheVariants.{Done}
@@ -13,8 +14,8 @@ use Rattle.jv_model.specs.tree.Tree.{Tree, EntryKey, is_directory, links_fit}
 use Rattle.jv_model.specs.tree.Walk.{entry_of}
 use Rattle.jv_model.specs.tree.Making.{may_be_new}
 use Rattle.jv_model.specs.tree.Removing.{may_go}
-use Rattle.jv_model.specs.tree.Renaming.{may_leave, moved, is_inside}
-use Rattle.jv_model.specs.tree.Caller.{Outcome}
+use Rattle.jv_model.specs.tree.Renaming.{may_leave, moved, is_inside, renamed, renamed_over, unless_same, exchanging}
+use Rattle.jv_model.specs.tree.Caller.{Caller, Outcome}
 use Rattle.jv_outside.specs.Store.{Store}
 use Rattle.jv_rows.specs.declared.walking.EntryPlace.{EntryPlace}
 use Rattle.jv_rows.specs.declared.walking.Place.{Place}
@@ -25,7 +26,7 @@ use Rattle.jv_volume.specs.Shape.{WholeShape, shape_of}
 use Rattle.jv_volume.specs.TypedRows.{is_entry_name}
 use Rattle.jv_links.specs.declared.ends.Ends.{Ends}
 use Rattle.jv_links.specs.declared.fates.Removed.{Removed}
-use Rattle.jv_links.specs.Removals.{TellsSustained, renamed_in}
+use Rattle.jv_links.specs.Removals.{HoldsFiles, TellsSustained, renamed_in}
 
 -- an inode that is to be moved from one entry to another
 pub record Move : Type 0 where
@@ -88,6 +89,22 @@ pub record IsMove (t : Tree) (sid : ℕ) (how : How) (m : Move) : Type 0 where
 pub record IsFreeMove (t : Tree) (sid : ℕ) (how : How) (from : EntryKey) (source : ℕ) (to : EntryKey) : Type 0 where
   pub move : IsMove t sid how (record { from = from; source = source; to = to })
   pub free : get t.entries to ≡ None
+
+-- and that its target names an inode; what the caller has open are files
+pub record IsOverMove (t : Tree) (who : Caller) (how : How) (from : EntryKey) (source : ℕ) (to : EntryKey) (other : ℕ) : Type 0 where
+  pub move : IsMove t who.sid how (record { from = from; source = source; to = to })
+  pub there : get t.entries to ≡ Some other
+  pub held : HoldsFiles who.held t
+
+-- the model's rename of a kind, by what its target names
+abbrev pub renamed_with : How → Tree → Caller → EntryKey → ℕ → EntryKey → Option ℕ → Result Outcome Fault
+renamed_with Plain t who from source to target = renamed_over t who from source to target
+renamed_with NoReplace t who from source to target = do
+  _ ← require (not (is_some target)) AlreadyExists
+  renamed t who from source to
+renamed_with Exchange t who from source to target = do
+  other ← some_or target NotFound
+  unless_same t source other (λ _. exchanging t who from source to other)
 
 -- a transaction that renames, and tells what became of what it replaced
 pub record Renames (sid : ℕ) (ready : Tree → Type 0) (before after : Store) (result : Result (Option Removed) TxFault) (act : Tree → Result Outcome Fault) : Type 0 where

@@ -6,11 +6,13 @@
 
 mod climbing;
 mod ends;
+mod exchanging;
 mod fates;
 mod linking;
 mod moving;
 mod removing;
 mod renaming;
+mod replacing;
 
 pub use fates::{Fate, Removed};
 pub use linking::link;
