@@ -5,3 +5,4 @@ pub mod MoveEntryLaws
 pub mod TellLaws
 pub mod FreeMoveLaws
 pub mod RenameLaws
+pub mod ClimbingLaws
