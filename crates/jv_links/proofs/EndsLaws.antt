@@ -1,5 +1,5 @@
 -- How the ends of a rename are found: the session, both entries, whether they may go and come, and what the first one names.
-use Rattle.std.proofs.Common.{◌≡◌, ℕ, Bool, true, false, ◌&&◌, List, Option, None, Some, is_some, Result, Ok, Err, refl, sym, ap, subst, ◌∙◌}
+use Rattle.std.proofs.Common.{◌≡◌, ℕ, true, false, ◌&&◌, List, Option, None, Some, is_some, Result, Ok, Err, refl, sym, ap, subst, ◌∙◌}
 use Rattle.std.specs.Prelude.{IsTrue, IfSome}
 use Rattle.std.proofs.lemmas.Bool.{and_parts}
 use Rattle.jv_model.specs.declared.basics.How.{How}
@@ -13,7 +13,7 @@ use Rattle.jv_model.specs.declared.row.Row.TheVariants.{OfNode}
 use Rattle.jv_model.specs.FiniteMap.{get}
 use Rattle.jv_model.specs.rows.RowPlaces.{node_key}
 use Rattle.jv_model.specs.tree.Attempt.{◌>>=◌, require, some_or}
-use Rattle.jv_model.specs.tree.Caller.{Caller, Outcome}
+use Rattle.jv_model.specs.tree.Caller.{Caller}
 use Rattle.jv_model.specs.tree.Making.{may_be_new}
 use Rattle.jv_model.specs.tree.Renaming.{may_leave, renamed_by, rename}
 use Rattle.jv_model.specs.tree.Tree.{Tree, EntryKey}
@@ -22,7 +22,7 @@ use Rattle.jv_outside.specs.Store.{Store}
 use Rattle.jv_rows.specs.declared.walking.EntryPlace.{EntryPlace}
 use Rattle.jv_rows.specs.declared.walking.Place.{Place}
 use Rattle.jv_rows.specs.Transactions.{Looks}
-use Rattle.jv_rows.specs.Walks.{HasNodeRow, pair_in, entry_pair, inode_in, Comes, ComesToEntry}
+use Rattle.jv_rows.specs.Walks.{HasNodeRow, pair_in, entry_pair, Comes, ComesToEntry}
 use Rattle.jv_rows.proofs.TransactionLaws.{Past, past-start, past-as, past-looks, past-stops, past-gives, past-refuses}
 use Rattle.jv_volume.specs.TypedRows.{typed}
 use Rattle.jv_volume.specs.TreeOf.{tree_of}
@@ -31,7 +31,7 @@ use Rattle.jv_volume.proofs.WalkShapeLaws.{went_on, required, was_some, entry_wi
 use Rattle.jv_volume.proofs.EntryNameLaws.{entry_of-name}
 use Rattle.jv_links.specs.declared.ends.Ends.{Ends}
 use Rattle.jv_links.specs.Removals.{has_no_zero}
-use Rattle.jv_links.specs.Moves.{Move, IsMove, place_of, move_of, move_asked, Stands, StandsDirectory, EndsStand, FindsEnds}
+use Rattle.jv_links.specs.Moves.{Move, IsMove, place_of, move_asked, Stands, StandsDirectory, EndsStand, FindsEnds}
 
 -- ---- rows that stay
 

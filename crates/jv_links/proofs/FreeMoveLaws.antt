@@ -1,7 +1,6 @@
 -- How a rename to a free place ends: each of its exits, by what was read and what was changed.
-use Rattle.std.proofs.Common.{◌≡◌, ℕ, ◌≤◌, Bool, true, false, not, ◌&&◌, List, [], Option, None, Some, Result, Ok, Err, refl, sym, ap, subst, ◌∙◌}
-use Rattle.std.specs.Prelude.{IsTrue}
-use Rattle.std.proofs.lemmas.Bool.{and_parts, not-true}
+use Rattle.std.proofs.Common.{◌≡◌, ℕ, ◌≤◌, Bool, true, false, not, ◌&&◌, List, [], Option, None, Result, Ok, Err, refl, sym, ap, subst, ◌∙◌}
+use Rattle.std.proofs.lemmas.Bool.{and_parts}
 use Rattle.jv_model.specs.declared.basics.How.{How}
 use Rattle.jv_model.specs.declared.basics.How.TheVariants.{Plain, NoReplace, Exchange}
 use Rattle.jv_model.specs.declared.limits.TheConstants.{MAX_LINKS}
@@ -12,26 +11,22 @@ use Rattle.jv_model.specs.declared.fault.TxFault.{TxFault}
 use Rattle.jv_model.specs.declared.fault.TxFault.TheVariants.{Refused, Rows as OfRows}
 use Rattle.jv_model.specs.declared.op.Reply.{Reply}
 use Rattle.jv_model.specs.declared.op.Reply.TheVariants.{Done}
-use Rattle.jv_model.specs.FiniteMap.{get}
 use Rattle.jv_model.specs.rows.RowFaults.{row_fault}
-use Rattle.jv_model.specs.rows.RowKeys.{RowMap}
 use Rattle.jv_model.specs.tree.Attempt.{◌>>=◌, require}
-use Rattle.jv_model.specs.tree.Caller.{Caller, Outcome, done, outcome}
-use Rattle.jv_model.specs.tree.Changes.{change_node, put_entry, take_entry, touched}
+use Rattle.jv_model.specs.tree.Caller.{Caller, Outcome, done}
+use Rattle.jv_model.specs.tree.Changes.{put_entry, take_entry, touched}
 use Rattle.jv_model.specs.tree.Making.{may_be_new}
 use Rattle.jv_model.specs.tree.Removing.{may_go}
 use Rattle.jv_model.specs.tree.Renaming.{may_leave, is_inside, moved, moved_node, within_links, renamed}
 use Rattle.jv_model.specs.tree.Tree.{Tree, EntryKey, links_fit}
 use Rattle.jv_outside.specs.declared.batch.Change.{Change}
 use Rattle.jv_outside.specs.Store.{Store, Commits}
-use Rattle.jv_rows.specs.Transactions.{Looks, Transacts}
+use Rattle.jv_rows.specs.Transactions.{Looks}
 use Rattle.jv_rows.proofs.TransactionLaws.{Past, past-start, past-looks, past-stops, past-refuses, transacts-refused, fails-commit}
 use Rattle.jv_changes.specs.Drafting.{Drafting}
 use Rattle.jv_changes.proofs.DraftingLaws.{PastSteps, OfWhole, steps-start, steps-on, steps-made, steps-stop, steps-fail, steps-commit}
-use Rattle.jv_volume.specs.Shape.{WholeShape, shape_of}
 use Rattle.jv_volume.specs.TypedRows.{typed}
 use Rattle.jv_volume.specs.TreeOf.{tree_of}
-use Rattle.jv_volume.specs.Whole.{Whole}
 use Rattle.jv_volume.proofs.ChangeLaws.{change_node-sustained}
 use Rattle.jv_volume.proofs.MoveLaws.{whole-moved_free}
 use Rattle.jv_volume.proofs.StoredLaws.{whole-shape}

@@ -1,13 +1,13 @@
 -- How an entry moves to a free place: it is taken, put, and its node has its new parent.
-use Rattle.std.proofs.Common.{◌≡◌, ◌≢◌, ℕ, zero, suc, ◌+◌, ◌≤◌, Bool, true, false, cond, ◌&&◌, inl, inr, List, Option, None, Some, is_some, Result, Ok, Err, refl, sym, ap, subst, ◌∙◌, arith}
-use Rattle.std.specs.Prelude.{IsTrue, nat_le, ◌==◌, if◌then◌else◌}
-use Rattle.std.proofs.lemmas.Bool.{cases_eq, false≢true, le-leb}
+use Rattle.std.proofs.Common.{◌≡◌, ◌≢◌, ℕ, zero, suc, ◌+◌, ◌≤◌, Bool, true, false, cond, ◌&&◌, List, None, Some, is_some, Result, Ok, Err, refl, sym, ap, subst, ◌∙◌, arith}
+use Rattle.std.specs.Prelude.{IsTrue, nat_le, ◌==◌}
+use Rattle.std.proofs.lemmas.Bool.{le-leb}
 use Rattle.std.proofs.lemmas.Bool.Decides.{nat_tests}
 use Rattle.jv_model.specs.declared.limits.TheConstants.{MAX_LINKS}
 use Rattle.jv_model.specs.declared.fault.Fault.{Fault}
 use Rattle.jv_model.specs.declared.fault.Fault.TheVariants.{NoSpace}
 use Rattle.jv_model.specs.declared.fault.TxFault.{TxFault}
-use Rattle.jv_model.specs.FiniteMap.{get, remove}
+use Rattle.jv_model.specs.FiniteMap.{get}
 use Rattle.jv_model.specs.tree.Attempt.{◌>>=◌, require}
 use Rattle.jv_model.specs.tree.Changes.{change_node, take_entry, put_entry}
 use Rattle.jv_model.specs.tree.Renaming.{moved, moved_node}
@@ -16,7 +16,7 @@ use Rattle.jv_outside.specs.declared.batch.Change.{Change}
 use Rattle.jv_outside.specs.Store.{Store}
 use Rattle.jv_changes.specs.Drafting.{Drafting}
 use Rattle.jv_changes.specs.Ready.{StandsAt, MayStandAt, IsThere, entry_put}
-use Rattle.jv_volume.specs.Shape.{Dir, Shape, WholeShape, shape_of, is_dir, is_there, named}
+use Rattle.jv_volume.specs.Shape.{Shape, WholeShape, shape_of, is_dir, is_there, named}
 use Rattle.jv_volume.proofs.ClimbLaws.{Avoids, avoids_outside, above_avoids}
 use Rattle.jv_volume.proofs.LinkLaws.{standing, standing_apart, standing_here, is_directory-take_entry, link_count-move_in, link_count-put_entry-leaf, link_count-take_entry-leaf, link_count-put_entry-dir, link_count-take_entry-dir}
 use Rattle.jv_volume.proofs.ShapeMapLaws.{get-remove_apart, parent_of_dir, is_directory-form, is_there-form, shape-take_entry, shape-put_entry}

@@ -1,6 +1,6 @@
 -- How a rename is made of its parts: the ends, what its target names, and then the change.
-use Rattle.std.proofs.Common.{◌≡◌, ◌≢◌, ℕ, Bool, true, false, not, ◌&&◌, ◌==◌, List, Option, None, Some, Result, Ok, Err, refl, sym, ap, subst, ◌∙◌}
-use Rattle.std.specs.Prelude.{IsTrue, is_some}
+use Rattle.std.proofs.Common.{◌≡◌, ℕ, true, false, ◌==◌, List, Option, None, Some, Result, Ok, Err, refl, sym, ap, ◌∙◌}
+use Rattle.std.specs.Prelude.{IsTrue}
 use Rattle.jv_model.specs.declared.basics.How.{How}
 use Rattle.jv_model.specs.declared.basics.How.TheVariants.{Plain, NoReplace, Exchange}
 use Rattle.jv_model.specs.declared.fault.Fault.{Fault}
@@ -15,7 +15,7 @@ use Rattle.jv_model.specs.tree.Renaming.{rename, renamed_by, unless_same}
 use Rattle.jv_model.specs.tree.Tree.{Tree, EntryKey}
 use Rattle.jv_outside.specs.Store.{Store}
 use Rattle.jv_rows.specs.declared.walking.Place.{Place}
-use Rattle.jv_rows.specs.Transactions.{Looks, Transacts}
+use Rattle.jv_rows.specs.Transactions.{Transacts}
 use Rattle.jv_rows.proofs.TransactionLaws.{Past, past-start, past-as, past-looks, past-stops, transacts-refused, transacts-answers}
 use Rattle.jv_volume.specs.TypedRows.{typed}
 use Rattle.jv_volume.specs.TreeOf.{tree_of}
@@ -25,8 +25,8 @@ use Rattle.jv_volume.proofs.WalkShapeLaws.{same_Ok}
 use Rattle.jv_links.specs.declared.ends.Ends.{Ends}
 use Rattle.jv_links.specs.declared.fates.Removed.{Removed}
 use Rattle.jv_links.specs.Removals.{HoldsFiles, has_no_zero}
-use Rattle.jv_links.specs.Moves.{Move, EndsStand, FindsEnds, FindsEntry, IsMove, IsFreeMove, IsOverMove, Renames, Stands, move_asked, move_of, place_of, inode_of, renamed_with}
-use Rattle.jv_links.proofs.EndsLaws.{ends_stand-on, rename-is, is_move}
+use Rattle.jv_links.specs.Moves.{Move, FindsEnds, FindsEntry, IsMove, IsFreeMove, IsOverMove, Renames, move_asked, move_of, place_of, renamed_with}
+use Rattle.jv_links.proofs.EndsLaws.{rename-is, is_move}
 use Rattle.jv_links.proofs.TellLaws.{renames-past, tells_none}
 
 -- ---- entries that name one inode

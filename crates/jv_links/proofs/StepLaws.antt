@@ -1,6 +1,6 @@
 -- How one change of a draft is made of several.
-use Rattle.std.proofs.Common.{◌≡◌, ℕ, List, Option, Some, Result, Ok, Err, refl, sym, ap, subst, ◌∙◌}
-use Rattle.std.specs.Prelude.{IfSome, IfErr, OnOk}
+use Rattle.std.proofs.Common.{◌≡◌, ℕ, List, Result, Ok, Err, sym, ap, subst, ◌∙◌}
+use Rattle.std.specs.Prelude.{IfSome, IfErr}
 use Rattle.jv_model.specs.declared.fault.Fault.{Fault}
 use Rattle.jv_model.specs.declared.fault.RowFault.TheVariants.{Bad, Failed, Memory}
 use Rattle.jv_model.specs.declared.fault.TxFault.{TxFault}
@@ -12,7 +12,7 @@ use Rattle.jv_outside.specs.declared.batch.Change.{Change}
 use Rattle.jv_outside.specs.Store.{Store}
 use Rattle.jv_rows.specs.Transactions.{BadFault, TransactionCounts}
 use Rattle.jv_volume.specs.TypedRows.{typed}
-use Rattle.jv_changes.specs.Drafting.{Minds, AreRows, Led, LeadsTo, Drafting}
+use Rattle.jv_changes.specs.Drafting.{LeadsTo, Drafting}
 
 -- the same change by another name
 pub drafting-as : {A : Type 0} (ready : Tree → Type 0) (was now : List Change) (before after : Store) (result : Result A TxFault) (step other : Tree → Result Tree Fault)

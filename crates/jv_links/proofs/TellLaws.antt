@@ -1,6 +1,6 @@
 -- What a rename tells of what it replaced, and how a rename goes on after readings.
-use Rattle.std.proofs.Common.{◌≡◌, ℕ, ◌≤◌, Bool, true, false, not, ◌&&◌, List, Option, None, Some, Result, Ok, Err, refl, sym, ap, subst, ◌∙◌}
-use Rattle.std.specs.Prelude.{IsTrue, IfErr, IfSome, OnErr, nat_le, is_some}
+use Rattle.std.proofs.Common.{◌≡◌, ℕ, ◌≤◌, Bool, true, false, not, ◌&&◌, Option, None, Some, Result, Ok, Err, refl, ap, subst, ◌∙◌}
+use Rattle.std.specs.Prelude.{IfErr, IfSome, OnErr, is_some}
 use Rattle.std.proofs.lemmas.Bool.{le-leb}
 use Rattle.jv_model.specs.declared.limits.TheConstants.{MAX_LINKS}
 use Rattle.jv_model.specs.declared.fault.Fault.{Fault}
@@ -17,7 +17,7 @@ use Rattle.jv_model.specs.tree.Caller.{Outcome, outcome}
 use Rattle.jv_model.specs.tree.Tree.{Tree, links_fit, link_count, is_sustained}
 use Rattle.jv_outside.specs.Store.{Store}
 use Rattle.jv_rows.specs.declared.walking.Place.{Place}
-use Rattle.jv_rows.specs.Transactions.{BadFault, Lands, Looks, TransactionCounts, Transacts}
+use Rattle.jv_rows.specs.Transactions.{BadFault, Lands, TransactionCounts}
 use Rattle.jv_rows.specs.Walks.{HasNodeRow}
 use Rattle.jv_rows.proofs.TransactionLaws.{Past, of_known}
 use Rattle.jv_volume.specs.TypedRows.{typed}

@@ -1,8 +1,7 @@
 -- What a rename finds before it changes anything, and what a tree has to be for a move.
-use Rattle.std.specs.Prelude.{◌≡◌, ℕ, ◌≤◌, Bool, true, false, ◌&&◌, not, is_some, List, Option, None, Some, Result, Ok, Err, IfOk, IfSome, IsTrue}
+use Rattle.std.specs.Prelude.{◌≡◌, ℕ, true, false, ◌&&◌, not, is_some, List, Option, None, Some, Result, Ok, Err, IfOk, IsTrue}
 use Rattle.jv_model.specs.declared.basics.How.{How}
 use Rattle.jv_model.specs.declared.basics.How.TheVariants.{Plain, NoReplace, Exchange}
-use Rattle.jv_model.specs.declared.limits.TheConstants.{MAX_LINKS}
 use Rattle.jv_model.specs.declared.fault.Fault.{Fault}
 use Rattle.jv_model.specs.declared.fault.Fault.TheVariants.{AlreadyExists, NotFound, NotPermitted, NoSpace, Stale}
 use Rattle.jv_model.specs.declared.fault.Gone.TheVariants.{Session}
@@ -13,7 +12,6 @@ use Rattle.jv_model.specs.tree.Attempt.{◌>>=◌, require, some_or}
 use Rattle.jv_model.specs.tree.Tree.{Tree, EntryKey, is_directory, links_fit}
 use Rattle.jv_model.specs.tree.Walk.{entry_of}
 use Rattle.jv_model.specs.tree.Making.{may_be_new}
-use Rattle.jv_model.specs.tree.Removing.{may_go}
 use Rattle.jv_model.specs.tree.Renaming.{may_leave, moved, is_inside, renamed, renamed_over, unless_same, exchanging}
 use Rattle.jv_model.specs.tree.Caller.{Caller, Outcome}
 use Rattle.jv_outside.specs.Store.{Store}

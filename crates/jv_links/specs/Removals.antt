@@ -73,4 +73,4 @@ abbrev pub TellsSustained : ℕ → (Tree → Type 0) → Store → Option (Opti
 TellsSustained sid ready before result act = IfSome result (λ removed. (known : RowMap) → before.rows ≡ Some known → Whole (typed known) → (bytes : ℕ → ℕ → ℕ)
     → ready (tree_of bytes (typed known)) → (inode : ℕ)
     → (is_sustained (outcome (tree_of bytes (typed known)) (act (tree_of bytes (typed known)))).tree sid inode && not (is_sustained (tree_of bytes (typed known)) sid inode))
-        ≡ keeps_removed removed inode)
+    ≡ keeps_removed removed inode)

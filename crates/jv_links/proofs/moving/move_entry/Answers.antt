@@ -1,6 +1,4 @@
-use Rattle.std.proofs.Common.{ℕ}
 use Rattle.std.proofs.lemmas.Result.{err_from_is_err_and}
-use Rattle.jv_model.specs.tree.Tree.{EntryKey}
 use Rattle.jv_links.specs.Moves.{place_of}
 use Rattle.jv_links.proofs.MoveEntryLaws.{move-not_taken, move-not_put, move-made}
 use Rattle.jv_links.proofs.moving.move_entry.Goals as goal

@@ -1,6 +1,6 @@
-use Rattle.std.proofs.Common.{ℕ, ◌≤◌, sym, ap, ◌∙◌, arith}
+use Rattle.std.proofs.Common.{◌≤◌, arith}
 use Rattle.std.proofs.lemmas.Result.{err_from_is_err_and}
-use Rattle.jv_links.proofs.FreeMoveLaws.{free-not_climbed, free-inside, free-not_moved, free-not_committed, free-made}
+use Rattle.jv_links.proofs.FreeMoveLaws.{free-not_moved, free-made}
 use Rattle.jv_links.proofs.moving.move_to_free.Goals as goal
 
 pub returns-in_err-move_entry : goal.returns-in_err-move_entry
