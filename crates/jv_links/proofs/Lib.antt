@@ -9,3 +9,10 @@ pub mod TrashStepLaws
 pub mod FateLaws
 pub mod TrashingLaws
 pub mod LossLaws
+pub mod EndsLaws
+pub mod StepLaws
+pub mod MoveEntryLaws
+pub mod TellLaws
+pub mod FreeMoveLaws
+pub mod RenameLaws
+pub mod ClimbingLaws

@@ -2,3 +2,4 @@
 pub mod Losses
 pub mod Removable
 pub mod Removals
+pub mod Moves

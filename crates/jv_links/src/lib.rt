@@ -4,11 +4,16 @@
 //! leave the rows as they were.
 #![tactic(auto)]
 
+mod climbing;
 mod emptiness;
+mod ends;
+mod exchanging;
 mod fates;
 mod linking;
+mod moving;
 mod removing;
 mod renaming;
+mod replacing;
 
 pub use fates::{Fate, Removed};
 pub use linking::link;

@@ -1,14 +1,20 @@
 //! Entries renamed, by POSIX.1-2017's "renameat" and Linux's "renameat2".
-ghost use Rattle.std.specs.Prelude.{◌≡◌, IsTrue};
+ghost use Rattle.std.specs.Prelude.{◌≡◌, IsTrue, None, Some};
+ghost use Rattle.jv_links.specs.Moves.{EndsStand, IsFreeMove, IsOverMove, Renames, Stands, place_of, renamed_with};
 ghost use Rattle.jv_links.specs.Removals.{HoldsFiles, TellsSustained, has_no_zero, renamed_in};
 ghost use Rattle.jv_model.specs.declared.op.Reply.TheVariants.{Done};
 ghost use Rattle.jv_model.specs.tree.Caller.{Caller};
 ghost use Rattle.jv_model.specs.tree.Renaming as model;
 ghost use Rattle.jv_rows.specs.Transactions.{IsFor, Transacts};
 
+use crate::ends::{Ends, entry_at, find_ends};
+use crate::exchanging::exchange;
 use crate::fates::Removed;
-use jv_model::{How, Path, RowFault, TxFault, Who};
+use crate::moving::move_to_free;
+use crate::replacing::replace;
+use jv_model::{Fault, How, Path, TxFault, Who};
 use jv_outside::Keeper;
+use jv_rows::Place;
 use std::alloc::Global;
 
 /// Renames an entry, over another, only where there is none, or in exchange with it. Returns what became of a file or a symlink
@@ -28,5 +34,56 @@ pub fn rename<K: Keeper>(
     ensures tells { (caller : Caller) → IsFor who.entry.now caller
         → TellsSustained caller.sid (HoldsFiles caller.held) (K.seen k.old) (renamed_in result) (λ t. model.rename t caller path.now to.now how) }
 {
-    Err(TxFault::Rows(RowFault::Memory))
+    let ends = find_ends(alloc, k, who.sid, path, to, how)?;
+    match entry_at(alloc, k, &ends.to)? {
+        None => rename_to_none(alloc, k, who, &ends, how),
+        Some(other) => rename_over(alloc, k, who, &ends, &other, how),
+    }
+}
+
+// Renames where no entry is in the target's place.
+fn rename_to_none<K: Keeper>(
+    alloc: Global,
+    k: &mut K,
+    who: &Who,
+    ends: &Ends,
+    how: How,
+) -> Result<Option<Removed>, TxFault>
+    requires { EndsStand (K.seen k.old) ends.now }
+    ensures { (caller : Caller) → IsFor who.entry.now caller
+        → Renames caller.sid (λ t. IsFreeMove t caller.sid how (place_of ends.now.from) ends.now.source.inode (place_of ends.now.to))
+        (K.seen k.old) (K.seen k.new) result
+        (λ t. renamed_with how t caller (place_of ends.now.from) ends.now.source.inode (place_of ends.now.to) None) }
+{
+    match how {
+        How::Exchange => Err(TxFault::Refused(Fault::NotFound)),
+        How::Plain => move_to_free(alloc, k, who, ends),
+        How::NoReplace => move_to_free(alloc, k, who, ends),
+    }
+}
+
+// Renames where an entry is in the target's place.
+fn rename_over<K: Keeper>(
+    alloc: Global,
+    k: &mut K,
+    who: &Who,
+    ends: &Ends,
+    other: &Place,
+    how: How,
+) -> Result<Option<Removed>, TxFault>
+    requires ends { EndsStand (K.seen k.old) ends.now }
+    requires other { Stands (K.seen k.old) other.now }
+    ensures { (caller : Caller) → IsFor who.entry.now caller
+        → Renames caller.sid (λ t. IsOverMove t caller how (place_of ends.now.from) ends.now.source.inode (place_of ends.now.to) other.now.inode)
+        (K.seen k.old) (K.seen k.new) result
+        (λ t. renamed_with how t caller (place_of ends.now.from) ends.now.source.inode (place_of ends.now.to) (Some other.now.inode)) }
+{
+    let is_same = ends.source.inode == other.inode;
+    match how {
+        How::NoReplace => Err(TxFault::Refused(Fault::AlreadyExists)),
+        How::Plain if is_same => Ok(None),
+        How::Exchange if is_same => Ok(None),
+        How::Plain => replace(alloc, k, who, ends, other),
+        How::Exchange => exchange(alloc, k, who, ends, other),
+    }
 }

@@ -1,0 +1,141 @@
+-- What a rename finds before it changes anything, and what a tree has to be for a move.
+use Rattle.std.specs.Prelude.{◌≡◌, ℕ, true, false, ◌&&◌, not, is_some, List, Option, None, Some, Result, Ok, Err, IfOk, IsTrue}
+use Rattle.jv_model.specs.declared.basics.How.{How}
+use Rattle.jv_model.specs.declared.basics.How.TheVariants.{Plain, NoReplace, Exchange}
+use Rattle.jv_model.specs.declared.fault.Fault.{Fault}
+use Rattle.jv_model.specs.declared.fault.Fault.TheVariants.{AlreadyExists, NotFound, NotPermitted, NoSpace, Stale}
+use Rattle.jv_model.specs.declared.fault.Gone.TheVariants.{Session}
+use Rattle.jv_model.specs.declared.fault.TxFault.{TxFault}
+use Rattle.jv_model.specs.declared.op.Reply.TheVariants.{Done}
+use Rattle.jv_model.specs.FiniteMap.{get}
+use Rattle.jv_model.specs.tree.Attempt.{◌>>=◌, require, some_or}
+use Rattle.jv_model.specs.tree.Tree.{Tree, EntryKey, is_directory, links_fit}
+use Rattle.jv_model.specs.tree.Walk.{entry_of}
+use Rattle.jv_model.specs.tree.Making.{may_be_new}
+use Rattle.jv_model.specs.tree.Renaming.{may_leave, moved, is_inside, renamed, renamed_over, unless_same, exchanging}
+use Rattle.jv_model.specs.tree.Caller.{Caller, Outcome}
+use Rattle.jv_outside.specs.Store.{Store}
+use Rattle.jv_rows.specs.declared.walking.EntryPlace.{EntryPlace}
+use Rattle.jv_rows.specs.declared.walking.Place.{Place}
+use Rattle.jv_model.specs.rows.RowGrammar.{is_node}
+use Rattle.jv_rows.specs.Transactions.{Looks, Transacts}
+use Rattle.jv_rows.specs.Walks.{HasNodeRow}
+use Rattle.jv_volume.specs.Shape.{WholeShape, shape_of}
+use Rattle.jv_volume.specs.TypedRows.{is_entry_name}
+use Rattle.jv_links.specs.declared.ends.Ends.{Ends}
+use Rattle.jv_links.specs.declared.fates.Removed.{Removed}
+use Rattle.jv_links.specs.Removals.{HoldsFiles, TellsSustained, renamed_in}
+
+-- an inode that is to be moved from one entry to another
+pub record Move : Type 0 where
+  pub from : EntryKey
+  pub source : ℕ
+  pub to : EntryKey
+
+-- the place of an entry that was walked to
+abbrev pub place_of : EntryPlace → EntryKey
+place_of entry = record { dir = entry.dir.inode; name = entry.name }
+
+abbrev pub move_of : Ends → Move
+move_of ends = record { from = place_of ends.from; source = ends.source.inode; to = place_of ends.to }
+
+abbrev pub move_in : Result Ends TxFault → Result Move TxFault
+move_in (Ok ends) = Ok (move_of ends)
+move_in (Err fault) = Err fault
+
+-- what a rename asks before it looks at its target
+abbrev pub move_asked : Tree → ℕ → List ℕ → List ℕ → How → Result Move Fault
+move_asked t sid path to how = do
+  _ ← require (is_some (get t.sessions sid)) (Stale (Session sid))
+  from ← entry_of t path
+  target ← entry_of t to
+  _ ← require (may_leave how from && may_be_new target) NotPermitted
+  source ← some_or (get t.entries from) NotFound
+  Ok (record { from = from; source = source; to = target })
+
+-- a node's row that was read stands at its inode, and its links can be stored
+pub record Stands (store : Store) (place : Place) : Type 0 where
+  pub row : HasNodeRow store place.inode place.node
+  pub allowed : IsTrue (is_node place.node)
+
+-- a directory's row that was read
+pub record StandsDirectory (store : Store) (place : Place) : Type 0 where
+  pub row : HasNodeRow store place.inode place.node
+  pub allowed : IsTrue (is_node place.node)
+  pub directory : place.node.kind ≡ 2
+
+pub record EndsStand (store : Store) (ends : Ends) : Type 0 where
+  pub from : StandsDirectory store ends.from.dir
+  pub to : StandsDirectory store ends.to.dir
+  pub source : Stands store ends.source
+
+-- the ends of a rename: over whole rows they are the model's, and the rows of their nodes stand there
+pub record FindsEnds (before after : Store) (result : Result Ends TxFault) (finds : Tree → Result Move Fault) : Type 0 where
+  pub looks : Looks before after (move_in result) finds
+  pub stand : IfOk result (EndsStand after)
+
+-- what a tree was found to be for a rename of a kind
+pub record IsMove (t : Tree) (sid : ℕ) (how : How) (m : Move) : Type 0 where
+  pub session : IsTrue (is_some (get t.sessions sid))
+  pub is : get t.entries m.from ≡ Some m.source
+  pub leaves : may_leave how m.from ≡ true
+  pub enters : may_be_new m.to ≡ true
+  pub within : is_directory t m.to.dir ≡ true
+  pub name : IsTrue (is_entry_name m.to.name)
+
+-- and that no entry is in its target's place
+pub record IsFreeMove (t : Tree) (sid : ℕ) (how : How) (from : EntryKey) (source : ℕ) (to : EntryKey) : Type 0 where
+  pub move : IsMove t sid how (record { from = from; source = source; to = to })
+  pub free : get t.entries to ≡ None
+
+-- and that its target names an inode; what the caller has open are files
+pub record IsOverMove (t : Tree) (who : Caller) (how : How) (from : EntryKey) (source : ℕ) (to : EntryKey) (other : ℕ) : Type 0 where
+  pub move : IsMove t who.sid how (record { from = from; source = source; to = to })
+  pub there : get t.entries to ≡ Some other
+  pub held : HoldsFiles who.held t
+
+-- the model's rename of a kind, by what its target names
+abbrev pub renamed_with : How → Tree → Caller → EntryKey → ℕ → EntryKey → Option ℕ → Result Outcome Fault
+renamed_with Plain t who from source to target = renamed_over t who from source to target
+renamed_with NoReplace t who from source to target = do
+  _ ← require (not (is_some target)) AlreadyExists
+  renamed t who from source to
+renamed_with Exchange t who from source to target = do
+  other ← some_or target NotFound
+  unless_same t source other (λ _. exchanging t who from source to other)
+
+-- a transaction that renames, and tells what became of what it replaced
+pub record Renames (sid : ℕ) (ready : Tree → Type 0) (before after : Store) (result : Result (Option Removed) TxFault) (act : Tree → Result Outcome Fault) : Type 0 where
+  pub does : Transacts ready before after result (λ removed. Done) act
+  pub tells : TellsSustained sid ready before (renamed_in result) act
+
+abbrev pub inode_of : Result (Option Place) TxFault → Result (Option ℕ) TxFault
+inode_of (Ok None) = Ok None
+inode_of (Ok (Some place)) = Ok (Some place.inode)
+inode_of (Err fault) = Err fault
+
+abbrev pub StandsIf : Store → Option Place → Type 0
+StandsIf store None = Unit {0}
+StandsIf store (Some place) = Stands store place
+
+-- what an entry names, if it is there: over whole rows it is the tree's, and the row of its node stands there
+pub record FindsEntry (before after : Store) (result : Result (Option Place) TxFault) (place : EntryKey) : Type 0 where
+  pub looks : Looks before after (inode_of result) (λ t. Ok (get t.entries place))
+  pub stand : IfOk result (StandsIf after)
+
+-- An entry of a whole tree that may move to a free place. The links of all that it is about can be stored.
+pub record MayMove (t : Tree) (from : EntryKey) (source : ℕ) (to : EntryKey) : Type 0 where
+  pub whole : WholeShape (shape_of t)
+  pub is : get t.entries from ≡ Some source
+  pub free : get t.entries to ≡ None
+  pub name : IsTrue (is_entry_name to.name)
+  pub within : is_directory t to.dir ≡ true
+  pub outside : is_inside t to.dir source ≡ false
+  pub links_from : links_fit t from.dir ≡ true
+  pub links_source : links_fit t source ≡ true
+
+-- an inode moved from one entry to another, where the links of both directories can be stored
+abbrev pub moved_within : ℕ → EntryKey → ℕ → EntryKey → Tree → Result Tree Fault
+moved_within now from source to t = do
+  _ ← require (links_fit (moved t now from source to) from.dir && links_fit (moved t now from source to) to.dir) NoSpace
+  Ok (moved t now from source to)
