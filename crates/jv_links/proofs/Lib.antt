@@ -16,3 +16,4 @@ pub mod TellLaws
 pub mod FreeMoveLaws
 pub mod RenameLaws
 pub mod ClimbingLaws
+pub mod UnlinkLaws

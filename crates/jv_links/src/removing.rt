@@ -8,7 +8,7 @@ ghost use Rattle.jv_model.specs.tree.Removing as model;
 ghost use Rattle.jv_rows.specs.Transactions.{IsFor, Transacts, Always};
 
 use crate::emptiness::has_entries;
-use crate::fates::Removed;
+use crate::fates::{Removed, remove_entry};
 use jv_changes::{drop_node, take_entry};
 use jv_model::{Fault, Name, Path, ROOT, RowFault, TRASH_ROOT, TxFault, Who};
 use jv_outside::Keeper;
@@ -70,7 +70,19 @@ pub fn unlink<K: Keeper>(
     ensures tells { (caller : Caller) → IsFor who.entry.now caller
         → TellsSustained caller.sid (HoldsFiles caller.held) (K.seen k.old) (removed_in result) (λ t. model.unlink t caller path.now) }
 {
-    Err(TxFault::Rows(RowFault::Memory))
+    let entry = find_removable(alloc, k, who.sid, path)?;
+    if entry.node.node.kind == 2 {
+        return Err(TxFault::Refused(Fault::NotPermitted));
+    }
+    // The trash has hours up to the clock's last moment: the call's clause says that no moment is after it.
+    let _ = who.now.seconds();
+    let inode = entry.node.inode;
+    let mut draft = Draft::new(alloc);
+    let fate = remove_entry(alloc, &mut draft, k, who, entry.dir, &entry.name, inode)?;
+    match draft.commit(k) {
+        Ok(()) => Ok(Removed { inode, fate }),
+        Err(down) => Err(TxFault::Rows(RowFault::from(down))),
+    }
 }
 
 /// Removes an empty directory.
