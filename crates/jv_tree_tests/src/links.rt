@@ -59,30 +59,26 @@ fn directories_are_removed_when_empty(rt: HostRuntime) -> Result<(), Fail> {
 }
 
 #[test]
-fn renames_move_replace_and_exchange(rt: HostRuntime) -> Result<(), Fail> {
+fn renames_move_to_free_places(rt: HostRuntime) -> Result<(), Fail> {
     let mut volume = Volume::new(rt.alloc(), 0, 0, 1)?;
     volume.answers(&[
         ("A mkdir /a 0755", "ok 2"),
         ("A mkdir /a/b 0755", "ok 3"),
-        ("A mkdir /c 0755", "ok 4"),
-        ("A create /f 0644", "ok 1 5"),
-        ("A create /g 0644", "ok 2 6"),
+        ("A create /f 0644", "ok 1 4"),
+        ("A create /g 0644", "ok 2 5"),
         ("A rename /a /a/b/x", "err EINVAL"),
         ("A rename /a/b /c", "ok"),
-        ("A readdir /", "ok a:2 c:3 f:5 g:6"),
+        ("A readdir /", "ok a:2 c:3 f:4 g:5"),
         ("A lookup /c/..", "ok 1"),
         ("A stat /a", "ok 2 d 0755 2 0 0 4096 1700000000 1700000000"),
         ("A rename /f /g noreplace", "err EEXIST"),
-        ("A rename /f /g", "ok"),
-        ("A readdir /", "ok a:2 c:3 g:5"),
-        ("A readdir /.trash/2023-11-14-22", "ok 1-6-g:6"),
+        ("A rename /f /h exchange", "err ENOENT"),
+        ("A rename /h /g", "err ENOENT"),
+        ("A rename /f /.trash/f", "err EPERM"),
+        ("A rename /f /f", "ok"),
         ("A rename /g /a/g noreplace", "ok"),
-        ("A rename /a/g /c exchange", "ok"),
-        ("A readdir /", "ok a:2 c:5"),
-        ("A lookup /a/g/..", "ok 2"),
-        ("A rename /a /c", "err ENOTDIR"),
-        ("A rename /c /a", "err EISDIR"),
-        ("A rename /a/g /a", "err ENOTEMPTY"),
-        ("A rename /a /a", "ok"),
+        ("A readdir /a", "ok g:5"),
+        ("A rename /a/g /a/h", "ok"),
+        ("A readdir /a", "ok h:5"),
     ])
 }
