@@ -1,5 +1,5 @@
 -- Parts of the bytes of a write, one after another.
-use Rattle.std.proofs.Common.{subst, ◌≡◌, ◌==◌, ◌&&◌, ◌%◌, ℕ, ◌+◌, ◌/◌, ◌<◌, ◌≤◌, Bool, true, false, List, [], ◌∷◌, ◌++◌, length, get_or, Option, Some, None, IsSome, IfSome, option_map, is_some, sum_by, refl, sym, ap, ◌∙◌, arith, cond, codes, bytes_eq, eqb-true, nat_lt, nat_le, replicate}
+use Rattle.std.proofs.Common.{subst, ◌≡◌, ◌==◌, ◌&&◌, ◌%◌, ℕ, ◌+◌, ◌/◌, ◌<◌, ◌≤◌, Bool, true, false, List, [], ◌∷◌, ◌++◌, length, get_or, Option, Some, None, IfSome, option_map, is_some, sum_by, refl, sym, ap, ◌∙◌, arith, cond, codes, bytes_eq, eqb-true, nat_lt, nat_le, replicate}
 use Rattle.std.specs.List.{flat_map, list_all}
 use Rattle.std.proofs.lemmas.List.{append_assoc, append-nil, length-append, length-replicate}
 use Rattle.std.proofs.lemmas.Bool.{le-leb, lt-leb, lt-ltb, and_parts, false≢true, false_from_ne_true}

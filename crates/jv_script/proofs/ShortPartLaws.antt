@@ -1,10 +1,10 @@
 -- Short parts at the front of a text: one pair of digits or two, and a pair with a count of one digit.
-use Rattle.std.proofs.Common.{◌≡◌, ℕ, zero, suc, ◌+◌, ◌-◌, ◌<◌, ◌≤◌, ◌&&◌, ◌==◌, Bool, true, false, List, [], ◌∷◌, ◌++◌, Some, length, get_or, take, drop, replicate, option_map, refl, sym, ap, ◌∙◌, arith}
+use Rattle.std.proofs.Common.{◌≡◌, ℕ, zero, suc, ◌-◌, ◌<◌, ◌≤◌, ◌&&◌, ◌==◌, Bool, true, false, List, [], ◌∷◌, ◌++◌, Some, length, get_or, take, drop, replicate, option_map, refl, sym, ap, ◌∙◌, arith}
 use Rattle.std.proofs.lemmas.Bool.{eq-eqb, eqb-true, le-leb, lt-ltb, false≢true, false_from_ne_true}
 use Rattle.std.proofs.lemmas.List.{take_rest}
 use Rattle.std.proofs.lemmas.List.Splits.{slice_split_at}
 use Rattle.jv_model.specs.script.Spelling.{is_hex_digit, number_of, value_of}
-use Rattle.jv_model.specs.script.Printed.{Plain, Repeated}
+use Rattle.jv_model.specs.script.Printed.{Repeated}
 use Rattle.jv_model.specs.script.Grammar.{provided, byte_of, parted, is_pairs, repeated_of, part_of, part_bytes}
 use Rattle.jv_script.specs.Reading.{IsShortPart}
 use Rattle.jv_script.proofs.DigitLaws.{number_in}
@@ -103,6 +103,6 @@ pairs_first (a ∷ b ∷ c ∷ d ∷ e ∷ rest) first next read more plus =
     let (is_c, is_d, is_next) = pair_given c d next more in
     let pairs : is_pairs (a ∷ b ∷ c ∷ d ∷ []) ≡ true = rw (is_a, is_b, is_c, is_d) refl in
     let spelled = ap (option_map part_bytes) (part_of_pairs (a ∷ b ∷ c ∷ d ∷ []) pairs)
-        ∙ ap (λ (byte : ℕ). Some (byte ∷ byte_of c d ∷ [])) is_first ∙ ap (λ (byte : ℕ). Some (first ∷ byte ∷ [])) is_next in
+    ∙ ap (λ (byte : ℕ). Some (byte ∷ byte_of c d ∷ [])) is_first ∙ ap (λ (byte : ℕ). Some (first ∷ byte ∷ [])) is_next in
     first_part (a ∷ b ∷ c ∷ d ∷ []) rest (take (length (a ∷ b ∷ c ∷ d ∷ e ∷ rest) - 5) (drop 5 (a ∷ b ∷ c ∷ d ∷ e ∷ rest))) e first next 1
     (omega arith) (digit_no_plus a is_a, (digit_no_plus b is_b, (digit_no_plus c is_c, (digit_no_plus d is_d, tt)))) plus spelled (take_rest (a ∷ b ∷ c ∷ d ∷ e ∷ rest) 5)

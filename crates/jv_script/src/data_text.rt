@@ -90,12 +90,7 @@ fn push_joint(text: &mut Vec<u8>, is_wanted: bool) -> Result<(), AllocError>
 }
 
 // Prints a repeat, and a `+` if there are more bytes.
-fn push_repeat(
-    text: &mut Vec<u8>,
-    byte: u8,
-    count: usize,
-    has_more: bool,
-) -> Result<(), AllocError>
+fn push_repeat(text: &mut Vec<u8>, byte: u8, count: usize, has_more: bool) -> Result<(), AllocError>
     ensures { OnOk result (text.new.items ≡ text.old.items
         ++ part_text (Repeated (record { byte = byte; count = count })) ++ joint has_more) }
 {
@@ -109,10 +104,7 @@ fn push_repeat(
 }
 
 // Prints a repeat with a count of one digit, and a `+`, at once.
-#[tactic(
-    auto,
-    using(std::proofs::lemmas::Fmt::decimal_digit, std::proofs::lemmas::List::append_assoc)
-)]
+#[tactic(auto, using(std::proofs::lemmas::Fmt::decimal_digit, std::proofs::lemmas::List::append_assoc))]
 fn push_short_repeat(text: &mut Vec<u8>, byte: u8, count: usize) -> Result<(), AllocError>
     requires { count < 10 }
     ensures { OnOk result (text.new.items ≡ text.old.items
