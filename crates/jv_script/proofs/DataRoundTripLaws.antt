@@ -1,20 +1,20 @@
 -- Bytes as they are printed are read as the same bytes.
-use Rattle.std.proofs.Common.{◌≡◌, ℕ, zero, suc, ◌+◌, ◌-◌, ◌*◌, ◌/◌, ◌%◌, ◌^◌, ◌<◌, ◌≤◌, ◌&&◌, ◌==◌, nat_lt, nat_le, Bool, true, false, not, cond, List, [], ◌∷◌, ◌++◌, length, get_or, map, replicate, Option, Some, None, codes, bytes_eq, refl, sym, ap, ◌∙◌, subst, arith, rules, fold}
+use Rattle.std.proofs.Common.{◌≡◌, ℕ, zero, suc, ◌+◌, ◌-◌, ◌*◌, ◌/◌, ◌%◌, ◌^◌, ◌<◌, ◌≤◌, ◌&&◌, ◌==◌, nat_lt, nat_le, Bool, true, false, not, cond, List, [], ◌∷◌, ◌++◌, length, get_or, map, replicate, Some, codes, bytes_eq, refl, sym, ap, ◌∙◌, arith, rules, fold}
 use Rattle.std.specs.Prelude.{All}
 use Rattle.std.specs.List.{list_all, flat_map, join_with_byte}
 use Rattle.std.specs.Fmt.{decimal}
-use Rattle.std.proofs.lemmas.Fmt.{digits_decimal, digits_value-decimal, decimal_nonempty, first_decimal}
+use Rattle.std.proofs.lemmas.Fmt.{digits_decimal, digits_value-decimal, first_decimal}
 use Rattle.std.proofs.lemmas.Str.Parse.{IsNumeralModel, numerals_by_fold}
-use Rattle.std.proofs.lemmas.Bool.{eq-eqb, ne_eqb, eqb-true, le-leb, lt-ltb, false≢true, false_from_ne_true, and_parts}
+use Rattle.std.proofs.lemmas.Bool.{ne_eqb, eqb-true, le-leb, lt-ltb, false≢true, false_from_ne_true, and_parts}
 use Rattle.std.proofs.Math.Bool.{and-false}
-use Rattle.std.proofs.lemmas.List.{append_assoc, append-nil, length-append, length-replicate}
+use Rattle.std.proofs.lemmas.List.{append_assoc, length-append, length-replicate}
 use Rattle.std.proofs.lemmas.List.Splits.{slice_split_at, slice_split_none}
 use Rattle.std.proofs.lemmas.List.Sums.{AllPass-from_list_all}
 use Rattle.jv_model.specs.declared.limits.TheConstants.{MAX_DATA}
 use Rattle.jv_model.specs.script.Spelling.{is_decimal_digit, is_hex_digit, hex_value, bytes_of_digits, value_of, is_numeral, number_of}
 use Rattle.jv_model.specs.script.Printed.{hex_digit, hex_pair, Run, with_byte, runs_of, Part, Plain, Repeated, with_short, parts_of, part_text, data_text}
-use Rattle.jv_model.specs.script.Grammar.{byte_of, parted, is_pairs, repeated_of, part_of, part_bytes, all_parts_of, bytes_of_parts, data_of}
-use Rattle.jv_script.specs.Reading.{bytes_after, limited_bytes}
+use Rattle.jv_model.specs.script.Grammar.{byte_of, parted, is_pairs, repeated_of, part_of, part_bytes, all_parts_of, data_of}
+use Rattle.jv_script.specs.Reading.{bytes_after}
 use Rattle.jv_script.specs.RoundTrips.{IsByte, DataIsReadAgain}
 use Rattle.jv_script.proofs.DigitLaws.{number_in}
 use Rattle.jv_script.proofs.PartLaws.{part_of_pairs, part_of_other, some_bytes, bytes_of_parts-after}

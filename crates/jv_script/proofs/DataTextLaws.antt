@@ -45,12 +45,12 @@ joined_before part (byte ∷ bytes) =
     ∙ sym (ap (λ (text : List ℕ). part_text part ++ 43 ∷ text) (at_start (parts_of (runs_of (byte ∷ bytes))) ∙ ap joined are)))
 
 -- a long repeat is printed, after a plain part or not
-pub long_printed : (old first second new bytes rest : List ℕ) (run : Run) (inside : Bool) → first ≡ old ++ joint inside → second ≡ first ++ part_text (Repeated run) → new ≡ second ++ joint (not (length rest == 0))
+pub long_printed : (old first new bytes rest : List ℕ) (run : Run) (inside : Bool) → first ≡ old ++ joint inside → new ≡ first ++ part_text (Repeated run) ++ joint (not (length rest == 0))
     → parts_of (runs_of bytes) ≡ Repeated run ∷ parts_of (runs_of rest) → new ++ rest_text rest false ≡ old ++ rest_text bytes inside
-long_printed old first second new bytes rest run inside opened repeated closed parts =
+long_printed old first new bytes rest run inside opened repeated parts =
     let after = joint (not (length rest == 0)) in
     let more = rest_text rest false in
-    ap (λ (text : List ℕ). text ++ more) (closed ∙ ap (λ (text : List ℕ). text ++ after) (repeated ∙ ap (λ (text : List ℕ). text ++ part_text (Repeated run)) opened))
+    ap (λ (text : List ℕ). text ++ more) (repeated ∙ ap (λ (text : List ℕ). text ++ part_text (Repeated run) ++ after) opened)
     ∙ append_assoc ((old ++ joint inside) ++ part_text (Repeated run)) after more
     ∙ append_assoc (old ++ joint inside) (part_text (Repeated run)) (after ++ more)
     ∙ append_assoc old (joint inside) (part_text (Repeated run) ++ (after ++ more))

@@ -1,5 +1,5 @@
 -- Parts of the bytes of a write, one after another.
-use Rattle.std.proofs.Common.{subst, ◌≡◌, ◌==◌, ◌&&◌, ◌%◌, ℕ, ◌+◌, ◌/◌, ◌<◌, ◌≤◌, Bool, true, false, List, [], ◌∷◌, ◌++◌, length, get_or, Option, Some, None, IsSome, IfSome, option_map, is_some, sum_by, refl, sym, ap, ◌∙◌, arith, cond, codes, bytes_eq, eqb-true, nat_lt, nat_le, replicate}
+use Rattle.std.proofs.Common.{subst, ◌≡◌, ◌==◌, ◌&&◌, ◌%◌, ℕ, ◌+◌, ◌/◌, ◌<◌, ◌≤◌, Bool, true, false, List, [], ◌∷◌, ◌++◌, length, get_or, Option, Some, None, IfSome, option_map, is_some, sum_by, refl, sym, ap, ◌∙◌, arith, cond, codes, bytes_eq, eqb-true, nat_lt, nat_le, replicate}
 use Rattle.std.specs.List.{flat_map, list_all}
 use Rattle.std.proofs.lemmas.List.{append_assoc, append-nil, length-append, length-replicate}
 use Rattle.std.proofs.lemmas.Bool.{le-leb, lt-leb, lt-ltb, and_parts, false≢true, false_from_ne_true}
@@ -264,10 +264,11 @@ onto : (before bytes : List ℕ) (part : Option Part) → option_map part_bytes 
 onto before bytes None e = cc
 onto before bytes (Some part) e = let same : part_bytes part ≡ bytes = cc in ap (λ (bytes : List ℕ). Some (before ++ bytes)) same
 
-pub leaves_short : (before text bytes rest after new : List ℕ) (byte count : ℕ) → Leaves before text bytes rest → IsShortPart rest byte count after → new ≡ bytes ++ replicate count byte → Leaves before text new after
-leaves_short before text bytes rest after new byte count left short joined = record {
+pub leaves_short : (before text bytes rest after new : List ℕ) (first next more : ℕ) → Leaves before text bytes rest → IsShortPart rest first next more after
+    → new ≡ bytes ++ first ∷ replicate more next → Leaves before text new after
+leaves_short before text bytes rest after new first next more left short joined = record {
   whole = left.whole ∙ ap (bytes_after bytes) short.parts
-      ∙ bytes_after-more bytes (bytes ++ replicate count byte) short.part (parted 43 after) (onto bytes (replicate count byte) (part_of short.part) short.bytes)
+      ∙ bytes_after-more bytes (bytes ++ first ∷ replicate more next) short.part (parted 43 after) (onto bytes (first ∷ replicate more next) (part_of short.part) short.bytes)
       ∙ ap (λ (bytes : List ℕ). bytes_after bytes (parted 43 after)) (sym joined);
   no_more = omega (arith, left.no_more, ap length short.parts);
 }

@@ -1,19 +1,16 @@
 -- What is printed is read again.
-use Rattle.std.proofs.Common.{◌≡◌, ◌≢◌, ℕ, zero, suc, ◌+◌, ◌-◌, ◌*◌, ◌/◌, ◌%◌, ◌^◌, ◌<◌, ◌≤◌, ◌&&◌, ◌==◌, nat_lt, nat_le, eqb, Bool, true, false, cond, List, [], ◌∷◌, ◌++◌, length, get_or, map, replicate, Option, Some, None, option_map, codes, bytes_eq, refl, sym, ap, ◌∙◌, subst, arith, fold, sum_by}
+use Rattle.std.proofs.Common.{◌≡◌, ℕ, zero, suc, ◌+◌, ◌/◌, ◌%◌, ◌<◌, ◌&&◌, ◌==◌, Bool, true, false, List, [], ◌∷◌, ◌++◌, length, get_or, map, Option, Some, None, option_map, codes, refl, sym, ap, ◌∙◌, arith}
 use Rattle.std.specs.Prelude.{All}
-use Rattle.std.specs.List.{list_all, flat_map, onto_first, join_with_byte}
-use Rattle.std.specs.Fmt.{decimal}
-use Rattle.std.proofs.lemmas.Fmt.{digits_decimal, digits_value-decimal, decimal_nonempty, first_decimal}
-use Rattle.std.proofs.lemmas.Str.Parse.{IsNumeralModel, numerals_by_fold}
-use Rattle.std.proofs.lemmas.Bool.{eq-eqb, ne_eqb, eqb-true, le-leb, lt-ltb, false≢true, false_from_ne_true, and_parts}
+use Rattle.std.specs.List.{list_all, flat_map, onto_first}
+use Rattle.std.proofs.lemmas.Bool.{eqb-true, lt-ltb, false≢true, false_from_ne_true, and_parts}
 use Rattle.std.proofs.lemmas.Bool.Decides.{nat_tests}
 use Rattle.std.proofs.lemmas.List.{append_assoc, append-nil}
 use Rattle.std.proofs.lemmas.List.Splits.{slice_split-cons_no, slice_split-cons_yes, length-slice_split}
-use Rattle.jv_model.specs.blocks.BlockNames.{upper_digit, upper_pair}
-use Rattle.jv_model.specs.script.Spelling.{is_hex_digit, hex_value, is_letter_or_digit}
+use Rattle.jv_model.specs.blocks.BlockNames.{upper_digit}
+use Rattle.jv_model.specs.script.Spelling.{is_hex_digit, hex_value}
 use Rattle.jv_model.specs.script.ReplyText.{is_kept_in_name, is_kept_in_path, escaped_byte, name_text, path_text}
 use Rattle.jv_model.specs.script.Grammar.{provided, byte_of, parted, is_plain, is_escape, escape_bytes, bytes_between, unescaped, begins_with_slash, path_of, target_of}
-use Rattle.jv_script.specs.RoundTrips.{IsByte, IsNameByte, PathsAreReadAgain, TargetsAreReadAgain, NamesAreReadAgain}
+use Rattle.jv_script.specs.RoundTrips.{IsNameByte, PathsAreReadAgain, TargetsAreReadAgain, NamesAreReadAgain}
 
 -- the numbers from one on
 unfoldable pub counted_from : ℕ → ℕ → List ℕ

@@ -1,10 +1,10 @@
--- Short parts at the front of a text: a pair of digits, alone or with a count of one digit.
-use Rattle.std.proofs.Common.{◌≡◌, ℕ, zero, suc, ◌+◌, ◌-◌, ◌<◌, ◌≤◌, ◌&&◌, ◌==◌, Bool, true, false, List, [], ◌∷◌, ◌++◌, Some, length, get_or, take, drop, replicate, option_map, refl, sym, ap, ◌∙◌, arith}
+-- Short parts at the front of a text: one pair of digits or two, and a pair with a count of one digit.
+use Rattle.std.proofs.Common.{◌≡◌, ℕ, zero, suc, ◌-◌, ◌<◌, ◌≤◌, ◌&&◌, ◌==◌, Bool, true, false, List, [], ◌∷◌, ◌++◌, Some, length, get_or, take, drop, replicate, option_map, refl, sym, ap, ◌∙◌, arith}
 use Rattle.std.proofs.lemmas.Bool.{eq-eqb, eqb-true, le-leb, lt-ltb, false≢true, false_from_ne_true}
 use Rattle.std.proofs.lemmas.List.{take_rest}
 use Rattle.std.proofs.lemmas.List.Splits.{slice_split_at}
 use Rattle.jv_model.specs.script.Spelling.{is_hex_digit, number_of, value_of}
-use Rattle.jv_model.specs.script.Printed.{Plain, Repeated}
+use Rattle.jv_model.specs.script.Printed.{Repeated}
 use Rattle.jv_model.specs.script.Grammar.{provided, byte_of, parted, is_pairs, repeated_of, part_of, part_bytes}
 use Rattle.jv_script.specs.Reading.{IsShortPart}
 use Rattle.jv_script.proofs.DigitLaws.{number_in}
@@ -34,8 +34,9 @@ no_plus_at (c ∷ text) others zero d below = others.0
 no_plus_at (c ∷ text) others (suc k) d below = no_plus_at text others.1 k d (omega arith)
 
 -- the first part of a text, where it ends
-first_part : (part rest tail : List ℕ) (c byte count : ℕ) → count ≤ 9 → NoPlus part → c ≡ 43 → option_map part_bytes (part_of part) ≡ Some (replicate count byte) → tail ≡ rest → IsShortPart (part ++ c ∷ rest) byte count tail
-first_part part rest tail c byte count few others plus spelled same = record {
+first_part : (part rest tail : List ℕ) (c first next more : ℕ) → more ≤ 8 → NoPlus part → c ≡ 43 → option_map part_bytes (part_of part) ≡ Some (first ∷ replicate more next) → tail ≡ rest
+    → IsShortPart (part ++ c ∷ rest) first next more tail
+first_part part rest tail c first next more few others plus spelled same = record {
   part = part;
   bytes = spelled;
   few = few;
@@ -46,7 +47,7 @@ first_part part rest tail c byte count few others plus spelled same = record {
 abbrev pub IsPairByte : List ℕ → ℕ → Type 0
 IsPairByte text byte = Some byte ≡ provided (is_hex_digit (get_or text 0 0) && is_hex_digit (get_or text 1 0)) (byte_of (get_or text 0 0) (get_or text 1 0))
 
-pub pair_first : (text : List ℕ) (byte : ℕ) → IsPairByte text byte → get_or text 2 0 ≡ 43 → IsShortPart text byte 1 (take (length text - 3) (drop 3 text))
+pub pair_first : (text : List ℕ) (byte : ℕ) → IsPairByte text byte → get_or text 2 0 ≡ 43 → IsShortPart text byte byte 0 (take (length text - 3) (drop 3 text))
 unfolding NoPlus
 pair_first [] byte read plus = absurd (omega (arith, plus))
 pair_first (high ∷ []) byte read plus = absurd (omega (arith, plus))
@@ -55,7 +56,7 @@ pair_first (high ∷ low ∷ c ∷ rest) byte read plus =
     let (is_high, is_low, is_byte) = pair_given high low byte read in
     let pair : is_pairs (high ∷ low ∷ []) ≡ true = rw (is_high, is_low) refl in
     let spelled = ap (option_map part_bytes) (part_of_pairs (high ∷ low ∷ []) pair) ∙ ap (λ (byte : ℕ). Some (byte ∷ [])) is_byte in
-    first_part (high ∷ low ∷ []) rest (take (length (high ∷ low ∷ c ∷ rest) - 3) (drop 3 (high ∷ low ∷ c ∷ rest))) c byte 1
+    first_part (high ∷ low ∷ []) rest (take (length (high ∷ low ∷ c ∷ rest) - 3) (drop 3 (high ∷ low ∷ c ∷ rest))) c byte byte 0
     (omega arith) (digit_no_plus high is_high, (digit_no_plus low is_low, tt)) plus spelled (take_rest (high ∷ low ∷ c ∷ rest) 3)
 
 digit_number : (c : ℕ) → 49 ≤ c → c ≤ 57 → number_of (c ∷ []) ≡ Some (c - 48)
@@ -72,7 +73,7 @@ counted high low x c byte is_high is_low is_byte is_x one nine =
     part_of_other (high ∷ low ∷ x ∷ c ∷ []) no_pairs ∙ rw (digit_number c one nine, is_high, is_low, eq-eqb x 120 is_x, lt-ltb 0 (c - 48) (omega arith), is_byte) refl
 
 pub counted_first : (text : List ℕ) (byte : ℕ) → IsPairByte text byte → get_or text 2 0 ≡ 120 → 49 ≤ get_or text 3 0 → get_or text 3 0 ≤ 57 → get_or text 4 0 ≡ 43
-    → IsShortPart text byte (get_or text 3 0 - 48) (take (length text - 5) (drop 5 text))
+    → IsShortPart text byte byte (get_or text 3 0 - 49) (take (length text - 5) (drop 5 text))
 unfolding NoPlus
 counted_first [] byte read is_x one nine plus = absurd (omega (arith, plus))
 counted_first (a ∷ []) byte read is_x one nine plus = absurd (omega (arith, plus))
@@ -83,6 +84,25 @@ counted_first (a ∷ b ∷ x ∷ d ∷ e ∷ rest) byte read is_x one nine plus 
     let (is_a, is_b, is_byte) = pair_given a b byte read in
     let x_no_plus : (x == 43) ≡ false = ap (λ (x : ℕ). x == 43) is_x in
     let digit_is_no_plus : (d == 43) ≡ false = false_from_ne_true (d == 43) (λ plus. absurd (omega (arith, eqb-true d 43 plus))) in
-    let spelled = ap (option_map part_bytes) (counted a b x d byte is_a is_b is_byte is_x one nine) in
-    first_part (a ∷ b ∷ x ∷ d ∷ []) rest (take (length (a ∷ b ∷ x ∷ d ∷ e ∷ rest) - 5) (drop 5 (a ∷ b ∷ x ∷ d ∷ e ∷ rest))) e byte (d - 48)
-    (omega arith) (digit_no_plus a is_a, (digit_no_plus b is_b, (x_no_plus, (digit_is_no_plus, tt)))) plus spelled (take_rest (a ∷ b ∷ x ∷ d ∷ e ∷ rest) 5)
+    let one_more : d - 48 ≡ suc (d - 49) = omega (arith, one) in
+    let spelled = ap (option_map part_bytes) (counted a b x d byte is_a is_b is_byte is_x one nine) ∙ ap (λ (count : ℕ). Some (replicate count byte)) one_more in
+    first_part (a ∷ b ∷ x ∷ d ∷ []) rest (take (length (a ∷ b ∷ x ∷ d ∷ e ∷ rest) - 5) (drop 5 (a ∷ b ∷ x ∷ d ∷ e ∷ rest))) e byte byte (d - 49)
+    (omega (arith, nine)) (digit_no_plus a is_a, (digit_no_plus b is_b, (x_no_plus, (digit_is_no_plus, tt)))) plus spelled (take_rest (a ∷ b ∷ x ∷ d ∷ e ∷ rest) 5)
+
+-- two pairs
+pub pairs_first : (text : List ℕ) (first next : ℕ) → IsPairByte text first → Some next ≡ provided (is_hex_digit (get_or text 2 0) && is_hex_digit (get_or text 3 0)) (byte_of (get_or text 2 0) (get_or text 3 0))
+    → get_or text 4 0 ≡ 43 → IsShortPart text first next 1 (take (length text - 5) (drop 5 text))
+unfolding NoPlus
+pairs_first [] first next read more plus = absurd (omega (arith, plus))
+pairs_first (a ∷ []) first next read more plus = absurd (omega (arith, plus))
+pairs_first (a ∷ b ∷ []) first next read more plus = absurd (omega (arith, plus))
+pairs_first (a ∷ b ∷ c ∷ []) first next read more plus = absurd (omega (arith, plus))
+pairs_first (a ∷ b ∷ c ∷ d ∷ []) first next read more plus = absurd (omega (arith, plus))
+pairs_first (a ∷ b ∷ c ∷ d ∷ e ∷ rest) first next read more plus =
+    let (is_a, is_b, is_first) = pair_given a b first read in
+    let (is_c, is_d, is_next) = pair_given c d next more in
+    let pairs : is_pairs (a ∷ b ∷ c ∷ d ∷ []) ≡ true = rw (is_a, is_b, is_c, is_d) refl in
+    let spelled = ap (option_map part_bytes) (part_of_pairs (a ∷ b ∷ c ∷ d ∷ []) pairs)
+    ∙ ap (λ (byte : ℕ). Some (byte ∷ byte_of c d ∷ [])) is_first ∙ ap (λ (byte : ℕ). Some (first ∷ byte ∷ [])) is_next in
+    first_part (a ∷ b ∷ c ∷ d ∷ []) rest (take (length (a ∷ b ∷ c ∷ d ∷ e ∷ rest) - 5) (drop 5 (a ∷ b ∷ c ∷ d ∷ e ∷ rest))) e first next 1
+    (omega arith) (digit_no_plus a is_a, (digit_no_plus b is_b, (digit_no_plus c is_c, (digit_no_plus d is_d, tt)))) plus spelled (take_rest (a ∷ b ∷ c ∷ d ∷ e ∷ rest) 5)

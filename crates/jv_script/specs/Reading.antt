@@ -68,9 +68,9 @@ Leaves before text after rest = record {
   no_more : length (parted 43 rest) ≤ length (parted 43 text);
 }
 
--- the first part of a text is `count` times a byte, and the others are those of the rest
-pub record IsShortPart (text : List ℕ) (byte count : ℕ) (rest : List ℕ) : Type 0 where
+-- the first part of a text is a byte and then `more` times the next one, and the others are those of the rest
+pub record IsShortPart (text : List ℕ) (first next more : ℕ) (rest : List ℕ) : Type 0 where
   pub part : List ℕ
-  pub bytes : option_map part_bytes (part_of part) ≡ Some (replicate count byte)
-  pub few : count ≤ 9
+  pub bytes : option_map part_bytes (part_of part) ≡ Some (first ∷ replicate more next)
+  pub few : more ≤ 8
   pub parts : parted 43 text ≡ part ∷ parted 43 rest

@@ -1,5 +1,5 @@
 //! Prints DATA, the bytes of a read: `-` for none, or parts joined by `+`.
-ghost use Rattle.std.specs.Prelude.{◌≡◌, ◌<◌, ◌++◌, false, true, length, IfOk, OnOk};
+ghost use Rattle.std.specs.Prelude.{◌≡◌, ◌<◌, [], ◌∷◌, ◌++◌, false, true, length, IfOk, OnOk};
 ghost use Rattle.jv_model.specs.script.Printed.{data_text, part_text, Repeated};
 ghost use Rattle.jv_script.specs.Printing.{begins_long, joint, PrintsFromAny, PrintsTo};
 
@@ -51,9 +51,8 @@ fn push_long<'a>(
 {
     push_joint(text, is_inside)?;
     let count = long_repeat_length(bytes);
-    push_repeat(text, bytes[0], count)?;
     let rest = bytes.split_at(count).1;
-    push_joint(text, !rest.is_empty())?;
+    push_repeat(text, bytes[0], count, !rest.is_empty())?;
     Ok(rest)
 }
 
@@ -90,15 +89,27 @@ fn push_joint(text: &mut Vec<u8>, is_wanted: bool) -> Result<(), AllocError>
     Ok(())
 }
 
-#[tactic(auto, using(std::proofs::lemmas::Fmt::decimal_digit))]
-fn push_repeat(text: &mut Vec<u8>, byte: u8, count: usize) -> Result<(), AllocError>
-    ensures { OnOk result (text.new.items
-        ≡ text.old.items ++ part_text (Repeated (record { byte = byte; count = count }))) }
+// Prints a repeat, and a `+` if there are more bytes.
+fn push_repeat(text: &mut Vec<u8>, byte: u8, count: usize, has_more: bool) -> Result<(), AllocError>
+    ensures { OnOk result (text.new.items ≡ text.old.items
+        ++ part_text (Repeated (record { byte = byte; count = count })) ++ joint has_more) }
+{
+    if count < 10 && has_more {
+        return push_short_repeat(text, byte, count);
+    }
+    let [high, low] = hex_pair(byte);
+    text.extend_from_slice(&[high, low, b'x'])?;
+    push_decimal(text, count as u64)?;
+    push_joint(text, has_more)
+}
+
+// Prints a repeat with a count of one digit, and a `+`, at once.
+#[tactic(auto, using(std::proofs::lemmas::Fmt::decimal_digit, std::proofs::lemmas::List::append_assoc))]
+fn push_short_repeat(text: &mut Vec<u8>, byte: u8, count: usize) -> Result<(), AllocError>
+    requires { count < 10 }
+    ensures { OnOk result (text.new.items ≡ text.old.items
+        ++ part_text (Repeated (record { byte = byte; count = count })) ++ 43 ∷ []) }
 {
     let [high, low] = hex_pair(byte);
-    if count < 10 {
-        return text.extend_from_slice(&[high, low, b'x', b'0' + count as u8]);
-    }
-    text.extend_from_slice(&[high, low, b'x'])?;
-    push_decimal(text, count as u64)
+    text.extend_from_slice(&[high, low, b'x', b'0' + count as u8, b'+'])
 }

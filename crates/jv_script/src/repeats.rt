@@ -25,11 +25,15 @@ pub(crate) fn begins_long_repeat(bytes: &[u8]) -> bool
     }
 }
 
-/// The bytes of the long repeat that begins at the first byte.
+/// The bytes of the long repeat that begins at the first byte. Four are tested first: where most repeats have four, the
+/// processor goes on before it has counted.
 pub(crate) fn long_repeat_length(bytes: &[u8]) -> usize
     requires { begins_long bytes.now ≡ true }
     ensures { IsFirstRepeat bytes.now result }
 {
+    if bytes.len() > LONG && bytes[LONG] != bytes[0] {
+        return LONG;
+    }
     let (_, next) = bytes.split_at(LONG);
     if next.len() >= FEW_MORE {
         let more = front_count(bytes[0], next.split_at(FEW_MORE).0);

@@ -10,8 +10,8 @@ returns c =
     let n = c.long_repeat_length-count.result in
     let repeat = c.long_repeat_length-count.ensures in
     record {
-      text = long_printed c.args.text.now.items c.push_joint.new.text.items c.push_repeat.new.text.items c.push_joint-2.new.text.items bytes rest (record { byte = get_or bytes 0 0; count = n }) c.args.is_inside
-          c.in_ok-push_joint.ensures c.in_ok-push_repeat.ensures (rw c.is_empty.ensures at c.in_ok-push_joint-2.ensures)
+      text = long_printed c.args.text.now.items c.push_joint.new.text.items c.push_repeat.new.text.items bytes rest (record { byte = get_or bytes 0 0; count = n }) c.args.is_inside
+          c.in_ok-push_joint.ensures (rw c.is_empty.ensures at c.in_ok-push_repeat.ensures)
           (rw c.split_at.ensures.back (long_part bytes n repeat (long_first bytes n c.requires repeat)));
       fewer = omega (arith, repeat.some, repeat.within, c.split_at.ensures.back_len);
     }

@@ -1,7 +1,12 @@
 use Rattle.std.proofs.Common.{arith, List, ℕ, get_or, ap, ◌∙◌}
 use Rattle.std.proofs.lemmas.List.{get_or-take, get_or-drop}
-use Rattle.jv_script.proofs.RepeatLaws.{long_count}
+use Rattle.jv_script.proofs.RepeatLaws.{first_repeat, long_count, long_same}
 use Rattle.jv_script.proofs.repeats.long_repeat_length.Goals as goal
+
+pub returns-then-bytes : goal.returns-then-bytes
+returns-then-bytes c =
+    let bytes = c.args.bytes.now in
+    first_repeat bytes 4 (omega arith) (omega arith) (λ k below. (long_same bytes c.requires k below).1) (λ _. c.if-bytes.true)
 
 pub returns-then-more-lt-FEW_MORE : goal.returns-then-more-lt-FEW_MORE
 returns-then-more-lt-FEW_MORE c =

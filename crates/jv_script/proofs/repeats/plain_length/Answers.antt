@@ -1,4 +1,4 @@
-use Rattle.std.proofs.Common.{arith, ◌≡◌, ◌<◌, ◌≤◌, List, ℕ, length, drop, true, sym, ap, ◌∙◌}
+use Rattle.std.proofs.Common.{arith, ◌≡◌, List, ℕ, length, drop, true, sym, ap, ◌∙◌}
 use Rattle.jv_script.specs.Printing.{begins_long}
 use Rattle.jv_script.proofs.RepeatLaws.{plain_part, not_first, none_after}
 use Rattle.jv_script.proofs.repeats.plain_length.Goals as goal
