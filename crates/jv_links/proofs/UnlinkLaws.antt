@@ -1,6 +1,7 @@
 -- How an unlink goes on once its entry is found, how it ends, and what it tells of the file that the session keeps.
-use Rattle.std.proofs.Common.{◌≡◌, ◌≢◌, ℕ, ◌≤◌, Bool, true, false, not, ◌&&◌, ◌==◌, inl, inr, List, [], Option, None, Some, is_some, Result, Ok, Err, refl, sym, ap, subst, ◌∙◌, arith, ne_eqb, eq-eqb}
-use Rattle.std.specs.Prelude.{IsErrAnd, IsTrue}
+use Rattle.std.proofs.Common.{◌≡◌, ℕ, ◌≤◌, Bool, true, false, not, ◌&&◌, ◌==◌, inl, inr, List, [], Option, None, Some, is_some, Result, Ok, Err}
+use Rattle.std.proofs.Common.{refl, sym, ap, subst, ◌∙◌, arith, ne_eqb, eq-eqb}
+use Rattle.std.specs.Prelude.{IsErrAnd}
 use Rattle.std.proofs.Math.Bool.{and-not_self}
 use Rattle.std.proofs.lemmas.Bool.{cases_eq, false_from_ne_true}
 use Rattle.jv_model.specs.declared.basics.Who.{Who}
@@ -27,7 +28,7 @@ use Rattle.jv_rows.proofs.TransactionLaws.{Past, fails-commit, transacts-refused
 use Rattle.jv_volume.specs.TreeOf.{tree_of}
 use Rattle.jv_volume.specs.TypedRows.{typed}
 use Rattle.jv_volume.proofs.ChangeLaws.{change_node-sustained}
-use Rattle.jv_volume.proofs.RemovalLaws.{MayRemove, whole-remove_entry}
+use Rattle.jv_volume.proofs.RemovalLaws.{whole-remove_entry}
 use Rattle.jv_volume.proofs.ShapeMapLaws.{get-inserted, get-insert_apart, pair_of, counted_once}
 use Rattle.jv_volume.proofs.StoredLaws.{whole-shape}
 use Rattle.jv_changes.specs.Drafting.{Drafting}
@@ -68,7 +69,8 @@ module _ (t : Tree) (who : Caller) (place : EntryKey) (inode : ℕ) (may : MayLo
 
   none_new : (after : Tree) → after.sustained ≡ t.sustained → newly after ≡ false
   none_new after same =
-      ap (λ (m : Map pair_key (Unit {0})). is_some (get m (pair_of who.sid i)) && not (is_sustained t who.sid i)) same ∙ and-not_self (is_sustained t who.sid i)
+      ap (λ (m : Map pair_key (Unit {0})). is_some (get m (pair_of who.sid i)) && not (is_sustained t who.sid i)) same
+      ∙ and-not_self (is_sustained t who.sid i)
 
   trashed_pairs : (with_fate Trashed less who place inode).sustained ≡ t.sustained
   trashed_pairs =
@@ -180,7 +182,8 @@ module _ (who : Who) (caller : Caller) (is_for : IsFor who caller) (path : List 
           (steps-stop ready before middle lost draft all (λ t. t) says removes rest begun fault (λ t. MayLose t caller place inode) loses d may
           (λ known at whole bytes held refused e. absurd (cc)))
 
-      module _ (fate : Told) (d : Drafting (λ t. MayLose t caller place inode) draft all middle lost (Ok fate) loses) (last : Store) where
+      module _ (fate : Told) (d : Drafting (λ t. MayLose t caller place inode) draft all middle lost (Ok fate) loses)
+          (last : Store) where
         abbrev left : Tree → Tree
         left t = remove_entry t caller place inode
 
@@ -189,7 +192,8 @@ module _ (who : Who) (caller : Caller) (is_for : IsFor who caller) (path : List 
             (λ known at whole bytes held. refl)
 
         -- the commit failed
-        pub unlink-fails : {A : Type 0} (down : Down) → Commits lost last (Err down) all → Transacts {A = A} ready before last (Err (OfRows (row_fault down))) says removes
+        pub unlink-fails : {A : Type 0} (down : Down) → Commits lost last (Err down) all
+            → Transacts {A = A} ready before last (Err (OfRows (row_fault down))) says removes
         unlink-fails down commits = steps-fail ready before lost last all all left says removes rest made (OfRows (row_fault down))
             (fails-commit lost last down all commits)
 

@@ -1,4 +1,4 @@
-use Rattle.std.proofs.Common.{Ok, eq-eqb, ne_eqb}
+use Rattle.std.proofs.Common.{eq-eqb, ne_eqb}
 use Rattle.jv_model.specs.declared.op.Reply.TheVariants.{Done}
 use Rattle.jv_model.specs.tree.Removing.{unlink}
 use Rattle.jv_links.specs.Removals.{HoldsFiles}
@@ -14,37 +14,37 @@ returns-in_err-entry-clause-does g c caller is_for =
 
 pub returns-then-entry-eq2-clause-does : goal.returns-then-entry-eq2-clause-does
 returns-then-entry-eq2-clause-does g c caller is_for =
-    unlink-directory c.args.who.now caller is_for c.args.path.now (g.K.Keeper.seen c.args.k.now) (g.K.Keeper.seen c.find_removable.new.k) c.in_ok-entry.entry c.in_ok-entry.ensures
-    (eq-eqb c.in_ok-entry.entry.node.node.kind 2 c.if-entry-eq2.true)
+    unlink-directory c.args.who.now caller is_for c.args.path.now (g.K.Keeper.seen c.args.k.now) (g.K.Keeper.seen c.find_removable.new.k)
+    c.in_ok-entry.entry c.in_ok-entry.ensures (eq-eqb c.in_ok-entry.entry.node.node.kind 2 c.if-entry-eq2.true)
 
 pub returns-in_err-fate-clause-does : goal.returns-in_err-fate-clause-does
 returns-in_err-fate-clause-does g c caller is_for =
-    unlink-not_lost c.args.who.now caller is_for c.args.path.now (g.K.Keeper.seen c.args.k.now) (g.K.Keeper.seen c.find_removable.new.k) c.in_ok-entry.entry c.in_ok-entry.ensures
-    (ne_eqb c.in_ok-entry.entry.node.node.kind 2 c.if-entry-eq2.false) c.seconds.result c.seconds.ensures.seconds c.seconds.ensures.limit
-    c.new-draft.result c.new-draft.ensures
+    unlink-not_lost c.args.who.now caller is_for c.args.path.now (g.K.Keeper.seen c.args.k.now) (g.K.Keeper.seen c.find_removable.new.k)
+    c.in_ok-entry.entry c.in_ok-entry.ensures (ne_eqb c.in_ok-entry.entry.node.node.kind 2 c.if-entry-eq2.false)
+    c.seconds.result c.seconds.ensures.seconds c.seconds.ensures.limit c.new-draft.result c.new-draft.ensures
     (g.K.Keeper.seen c.remove_entry.new.k) c.remove_entry.new.draft
     c.from_residual-in_err-fate.result c.in_err-fate.field-0.0 c.from_residual-in_err-fate.ensures.1 (c.in_err-fate.ensures.does caller is_for)
 
 pub returns-in-Ok-clause-does : goal.returns-in-Ok-clause-does
 returns-in-Ok-clause-does g c caller is_for =
-    unlink-done c.args.who.now caller is_for c.args.path.now (g.K.Keeper.seen c.args.k.now) (g.K.Keeper.seen c.find_removable.new.k) c.in_ok-entry.entry c.in_ok-entry.ensures
-    (ne_eqb c.in_ok-entry.entry.node.node.kind 2 c.if-entry-eq2.false) c.seconds.result c.seconds.ensures.seconds c.seconds.ensures.limit
-    c.new-draft.result c.new-draft.ensures
+    unlink-done c.args.who.now caller is_for c.args.path.now (g.K.Keeper.seen c.args.k.now) (g.K.Keeper.seen c.find_removable.new.k)
+    c.in_ok-entry.entry c.in_ok-entry.ensures (ne_eqb c.in_ok-entry.entry.node.node.kind 2 c.if-entry-eq2.false)
+    c.seconds.result c.seconds.ensures.seconds c.seconds.ensures.limit c.new-draft.result c.new-draft.ensures
     (g.K.Keeper.seen c.remove_entry.new.k) c.remove_entry.new.draft c.in_ok-fate.fate (c.in_ok-fate.ensures.does caller is_for)
     (g.K.Keeper.seen c.commit.new.k) (record { inode = c.in_ok-entry.entry.node.inode; fate = c.in_ok-fate.fate }) c.in-Ok.ensures
 
 pub returns-in-Ok-clause-tells : goal.returns-in-Ok-clause-tells
 returns-in-Ok-clause-tells g c caller is_for =
-    unlink-tells c.args.who.now caller is_for c.args.path.now (g.K.Keeper.seen c.args.k.now) (g.K.Keeper.seen c.find_removable.new.k) c.in_ok-entry.entry c.in_ok-entry.ensures
-    (ne_eqb c.in_ok-entry.entry.node.node.kind 2 c.if-entry-eq2.false) c.seconds.result c.seconds.ensures.seconds c.seconds.ensures.limit
-    c.new-draft.result c.new-draft.ensures
+    unlink-tells c.args.who.now caller is_for c.args.path.now (g.K.Keeper.seen c.args.k.now) (g.K.Keeper.seen c.find_removable.new.k)
+    c.in_ok-entry.entry c.in_ok-entry.ensures (ne_eqb c.in_ok-entry.entry.node.node.kind 2 c.if-entry-eq2.false)
+    c.seconds.result c.seconds.ensures.seconds c.seconds.ensures.limit c.new-draft.result c.new-draft.ensures
     c.in_ok-fate.fate (c.in_ok-fate.ensures.tells caller is_for)
 
 pub returns-clause-does : goal.returns-clause-does
 returns-clause-does g c caller is_for =
     rw c.from.ensures
-    (unlink-fails c.args.who.now caller is_for c.args.path.now (g.K.Keeper.seen c.args.k.now) (g.K.Keeper.seen c.find_removable.new.k) c.in_ok-entry.entry c.in_ok-entry.ensures
-    (ne_eqb c.in_ok-entry.entry.node.node.kind 2 c.if-entry-eq2.false) c.seconds.result c.seconds.ensures.seconds c.seconds.ensures.limit
-    c.new-draft.result c.new-draft.ensures
+    (unlink-fails c.args.who.now caller is_for c.args.path.now (g.K.Keeper.seen c.args.k.now) (g.K.Keeper.seen c.find_removable.new.k)
+    c.in_ok-entry.entry c.in_ok-entry.ensures (ne_eqb c.in_ok-entry.entry.node.node.kind 2 c.if-entry-eq2.false)
+    c.seconds.result c.seconds.ensures.seconds c.seconds.ensures.limit c.new-draft.result c.new-draft.ensures
     (g.K.Keeper.seen c.remove_entry.new.k) c.remove_entry.new.draft c.in_ok-fate.fate (c.in_ok-fate.ensures.does caller is_for)
     (g.K.Keeper.seen c.commit.new.k) c.in-Err.down c.in-Err.ensures)
