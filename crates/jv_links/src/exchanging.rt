@@ -25,9 +25,12 @@ pub(crate) fn exchange<K: Keeper>(
     requires other { Stands (K.seen k.old) other.now }
     requires apart { ends.now.source.inode ≢ other.now.inode }
     ensures { (caller : Caller) → IsFor who.entry.now caller
-        → Renames caller.sid (λ t. IsOverMove t caller Exchange (place_of ends.now.from) ends.now.source.inode (place_of ends.now.to) other.now.inode)
+        → Renames caller.sid
+        (λ t. IsOverMove t caller Exchange (place_of ends.now.from) ends.now.source.inode
+        (place_of ends.now.to) other.now.inode)
         (K.seen k.old) (K.seen k.new) result
-        (λ t. model.exchanging t caller (place_of ends.now.from) ends.now.source.inode (place_of ends.now.to) other.now.inode) }
+        (λ t. model.exchanging t caller (place_of ends.now.from) ends.now.source.inode
+        (place_of ends.now.to) other.now.inode) }
 {
     Err(TxFault::Rows(RowFault::Memory))
 }

@@ -50,7 +50,8 @@ pub(crate) fn move_to_free<K: Keeper>(
 ) -> Result<Option<Removed>, TxFault>
     requires { EndsStand (K.seen k.old) ends.now }
     ensures { (caller : Caller) (how : How) → IsFor who.entry.now caller
-        → Renames caller.sid (λ t. IsFreeMove t caller.sid how (place_of ends.now.from) ends.now.source.inode (place_of ends.now.to))
+        → Renames caller.sid
+        (λ t. IsFreeMove t caller.sid how (place_of ends.now.from) ends.now.source.inode (place_of ends.now.to))
         (K.seen k.old) (K.seen k.new) result
         (λ t. model.renamed t caller (place_of ends.now.from) ends.now.source.inode (place_of ends.now.to)) }
 {

@@ -68,7 +68,8 @@ pub fn unlink<K: Keeper>(
         → Transacts (HoldsFiles caller.held) (K.seen k.old) (K.seen k.new)
         result (λ removed. Done) (λ t. model.unlink t caller path.now) }
     ensures tells { (caller : Caller) → IsFor who.entry.now caller
-        → TellsSustained caller.sid (HoldsFiles caller.held) (K.seen k.old) (removed_in result) (λ t. model.unlink t caller path.now) }
+        → TellsSustained caller.sid (HoldsFiles caller.held) (K.seen k.old) (removed_in result)
+        (λ t. model.unlink t caller path.now) }
 {
     let entry = find_removable(alloc, k, who.sid, path)?;
     if entry.node.node.kind == 2 {

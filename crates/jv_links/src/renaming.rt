@@ -32,7 +32,8 @@ pub fn rename<K: Keeper>(
         → Transacts (HoldsFiles caller.held) (K.seen k.old) (K.seen k.new)
         result (λ removed. Done) (λ t. model.rename t caller path.now to.now how) }
     ensures tells { (caller : Caller) → IsFor who.entry.now caller
-        → TellsSustained caller.sid (HoldsFiles caller.held) (K.seen k.old) (renamed_in result) (λ t. model.rename t caller path.now to.now how) }
+        → TellsSustained caller.sid (HoldsFiles caller.held) (K.seen k.old) (renamed_in result)
+        (λ t. model.rename t caller path.now to.now how) }
 {
     let ends = find_ends(alloc, k, who.sid, path, to, how)?;
     match entry_at(alloc, k, &ends.to)? {
@@ -51,7 +52,8 @@ fn rename_to_none<K: Keeper>(
 ) -> Result<Option<Removed>, TxFault>
     requires { EndsStand (K.seen k.old) ends.now }
     ensures { (caller : Caller) → IsFor who.entry.now caller
-        → Renames caller.sid (λ t. IsFreeMove t caller.sid how (place_of ends.now.from) ends.now.source.inode (place_of ends.now.to))
+        → Renames caller.sid
+        (λ t. IsFreeMove t caller.sid how (place_of ends.now.from) ends.now.source.inode (place_of ends.now.to))
         (K.seen k.old) (K.seen k.new) result
         (λ t. renamed_with how t caller (place_of ends.now.from) ends.now.source.inode (place_of ends.now.to) None) }
 {
@@ -74,9 +76,12 @@ fn rename_over<K: Keeper>(
     requires ends { EndsStand (K.seen k.old) ends.now }
     requires other { Stands (K.seen k.old) other.now }
     ensures { (caller : Caller) → IsFor who.entry.now caller
-        → Renames caller.sid (λ t. IsOverMove t caller how (place_of ends.now.from) ends.now.source.inode (place_of ends.now.to) other.now.inode)
+        → Renames caller.sid
+        (λ t. IsOverMove t caller how (place_of ends.now.from) ends.now.source.inode
+        (place_of ends.now.to) other.now.inode)
         (K.seen k.old) (K.seen k.new) result
-        (λ t. renamed_with how t caller (place_of ends.now.from) ends.now.source.inode (place_of ends.now.to) (Some other.now.inode)) }
+        (λ t. renamed_with how t caller (place_of ends.now.from) ends.now.source.inode
+        (place_of ends.now.to) (Some other.now.inode)) }
 {
     let is_same = ends.source.inode == other.inode;
     match how {
