@@ -9,3 +9,4 @@ pub mod TrashStepLaws
 pub mod FateLaws
 pub mod TrashingLaws
 pub mod LossLaws
+pub mod LinkableLaws
