@@ -10,3 +10,4 @@ pub mod FateLaws
 pub mod TrashingLaws
 pub mod LossLaws
 pub mod LinkableLaws
+pub mod LinkingLaws
