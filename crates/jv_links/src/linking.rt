@@ -1,7 +1,8 @@
 //! Further entries of files and symlinks, by POSIX.1-2017's "linkat" without AT_SYMLINK_FOLLOW.
-ghost use Rattle.std.specs.Prelude.{◌≡◌, IsTrue};
+ghost use Rattle.std.specs.Prelude.{◌≡◌, ◌≤◌, IsTrue};
 ghost use Rattle.jv_links.specs.Linkable.{linkable};
 ghost use Rattle.jv_links.specs.Removals.{has_no_zero};
+ghost use Rattle.jv_model.specs.declared.limits.TheConstants.{MAX_LINKS};
 ghost use Rattle.jv_model.specs.declared.op.Reply.TheVariants.{Done};
 ghost use Rattle.jv_model.specs.tree.Caller.{Caller};
 ghost use Rattle.jv_model.specs.tree.Making as model;
@@ -36,6 +37,15 @@ fn find_linkable<K: Keeper>(
     Ok(node.inode)
 }
 
+// The links of a directory as its row has them, which are never too many: the proof wants the bound of their type, as an entry of
+// a file or a symlink adds none to them.
+fn stored_links(links: u32) -> u32
+    ensures is { result ≡ links }
+    ensures few { links ≤ MAX_LINKS }
+{
+    links
+}
+
 /// Adds an entry of a file or a symlink, which isn't followed.
 ///
 /// # Errors
@@ -57,6 +67,7 @@ pub fn link<K: Keeper>(
 {
     let inode = find_linkable(alloc, k, who.sid, path)?;
     let place = new_place(alloc, k, to)?;
+    let _links = stored_links(place.dir.node.nlink);
     let mut draft = Draft::new(alloc);
     put_entry(&mut draft, k, who.now, place.dir.inode, &place.name, inode)?;
     change_status(&mut draft, k, who.now, inode)?;

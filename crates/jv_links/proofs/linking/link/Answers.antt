@@ -17,7 +17,7 @@ returns-in_err-put_entry g c caller is_for =
     link-not_put c.args.who.now caller is_for c.args.path.now c.args.to.now (g.K.Keeper.seen c.args.k.now) (g.K.Keeper.seen c.find_linkable.new.k)
     c.in_ok-inode.inode c.in_ok-inode.ensures (g.K.Keeper.seen c.new_place.new.k) c.in_ok-place.place c.in_ok-place.ensures c.requires
     c.new-draft.result c.new-draft.ensures c.args.who.now.now is_for.now (g.K.Keeper.seen c.put_entry.new.k) c.put_entry.new.draft
-    ? c.from_residual-in_err-put_entry.result c.in_err-put_entry.field-0.0 c.from_residual-in_err-put_entry.ensures.1 c.in_err-put_entry.ensures
+    c.stored_links-links.ensures.few c.from_residual-in_err-put_entry.result c.in_err-put_entry.field-0.0 c.from_residual-in_err-put_entry.ensures.1 c.in_err-put_entry.ensures
 
 pub returns-in_err-change_status : goal.returns-in_err-change_status
 returns-in_err-change_status g c caller is_for =
