@@ -17,3 +17,5 @@ pub mod FreeMoveLaws
 pub mod RenameLaws
 pub mod ClimbingLaws
 pub mod UnlinkLaws
+pub mod LinkableLaws
+pub mod LinkingLaws
