@@ -17,12 +17,7 @@ use std::alloc::Global;
 
 // The file or the symlink that a path leads to. What has an entry in the trash has no other, so the path's own entry shows
 // whether there is one.
-fn find_linkable<K: Keeper>(
-    alloc: Global,
-    k: &mut K,
-    sid: u64,
-    path: &Path,
-) -> Result<u64, TxFault>
+fn find_linkable<K: Keeper>(alloc: Global, k: &mut K, sid: u64, path: &Path) -> Result<u64, TxFault>
     ensures { Looks (K.seen k.old) (K.seen k.new) result (λ t. linkable t sid path.now) }
 {
     in_session(alloc, k, sid)?;
