@@ -6,7 +6,7 @@ use jv_model::{
     ClientId, FILE_END, Fault, Line, Moment, Op, Reply, Sequence, Setting, TxFault, Who,
 };
 use jv_outside::{Keeper, NeverKeeper};
-use jv_rows::{default_setting, fresh_rows};
+use jv_rows::{allows_setting, default_setting, fresh_rows};
 use jv_script::{print_reply, read_line};
 use std::alloc::{AllocError, Global};
 use std::str::from_utf8;
@@ -40,6 +40,9 @@ impl Volume {
             trash_days,
             ..default_setting(alloc)?
         };
+        if !allows_setting(&setting) {
+            return Err(Fail::new("no volume has this setting"));
+        }
         let mut keeper = NeverKeeper::new(alloc, Sequence::new(alloc));
         keeper.commit(&fresh_rows(alloc, &setting, Moment(NOW))?)?;
         let mut volume = Volume {
@@ -76,10 +79,12 @@ impl Volume {
     pub(crate) fn answers(&mut self, table: &[(&str, &str)]) -> Result<(), Fail> {
         for (line, answer) in table {
             let printed = self.answer(line)?;
-            let text = printed.as_slice();
-            if &text[..text.len() - 1] != answer.as_bytes() {
-                let shown = from_utf8(text).unwrap_or("no text");
-                return Err(Fail::new(format_args!("{line} -> {shown}")));
+            match printed.as_slice() {
+                [text @ .., b'\n'] if text == answer.as_bytes() => {}
+                text => {
+                    let shown = from_utf8(text).unwrap_or("no text");
+                    return Err(Fail::new(format_args!("{line} -> {shown}")));
+                }
             }
         }
         Ok(())
