@@ -67,8 +67,8 @@ module _ (who : Caller) (place : EntryKey) (inode : ℕ) (was : List Change) (be
         (λ t m. stands t who place inode m) (λ t m. refl) d)
 
     module _ (d : Drafting {A = Unit {0}} (λ t. StandsAt t place inode) was taken before middle (Ok tt) takes) (changes : List Change) (after : Store) where
-      took : Drafting is_empty was taken before middle (Ok tt) takes
-      took = step-as (λ t. StandsAt t place inode) is_empty was taken before middle (Ok tt) takes takes (λ t m. stands t who place inode m) (λ t m. refl) d
+      took : Drafting {A = Unit {0}} is_empty was taken before middle (Ok tt) takes
+      took = step-as {A = Unit {0}} (λ t. StandsAt t place inode) is_empty was taken before middle (Ok (tt {0})) takes takes (λ t m. stands t who place inode m) (λ t m. refl) d
 
       goes : (t : Tree) → is_empty t → MayGo (take_entry t now place) inode
       goes t m = empty_goes t place inode m.whole m.is now m.kind (vacant_dir t who place inode m) m.goes
@@ -78,16 +78,16 @@ module _ (who : Caller) (place : EntryKey) (inode : ℕ) (was : List Change) (be
           → Drafting {A = Unit {0}} (λ t. MayGo t inode) taken changes middle after (Err fault) drops
           → Drafting is_empty was changes before after result step
       clear-not_dropped result fault is e = drafting-exit is_empty was changes before after step result fault is
-          (steps-ended is_empty was taken changes before middle after tt takes (λ t. take_entry t now place) took (λ known at bytes t m r. refl)
+          (steps-ended is_empty was taken changes before middle after (tt {0}) takes (λ t. take_entry t now place) took (λ known at bytes t m r. refl)
           (λ t. MayGo t inode) drops step (λ t. drop_node (take_entry t now place) inode) fault e
           (λ known at bytes t m r. goes t r) (λ known at bytes t m r. refl))
 
       -- it is gone
       pub clear-dropped : Drafting {A = Unit {0}} (λ t. MayGo t inode) taken changes middle after (Ok tt) drops
           → Drafting {A = Option Removed} is_empty was changes before after (Ok None) step
-      clear-dropped e = step-value is_empty was changes before after tt None step
-          (steps-then is_empty was taken changes before middle after tt takes (λ t. take_entry t now place) took (λ known at bytes t m r. refl)
-          (λ t. MayGo t inode) drops step (Ok tt) e
+      clear-dropped e = step-value is_empty was changes before after (tt {0}) None step
+          (steps-then is_empty was taken changes before middle after (tt {0}) takes (λ t. take_entry t now place) took (λ known at bytes t m r. refl)
+          (λ t. MayGo t inode) drops step (Ok (tt {0})) e
           (λ known at bytes t m r. goes t r)
           (λ known at bytes t m r. ap (λ n. Ok (remove_directory t n place inode)) (sym same) ∙ ap Ok (sym (target_dir t who place inode r.kind))))
 

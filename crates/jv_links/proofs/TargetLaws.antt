@@ -16,11 +16,11 @@ use Rattle.jv_model.specs.tree.Tree.{Tree, Node, Directory, EntryKey, trash_root
 use Rattle.jv_volume.specs.Shape.{Shape, WholeShape, shape_of, is_there, is_dir, names, named}
 use Rattle.jv_volume.specs.TypedRows.{is_entry_name}
 use Rattle.jv_volume.proofs.ClimbLaws.{avoids_outside, avoids_without, outside_avoids}
-use Rattle.jv_volume.proofs.LinkLaws.{IsFree, standing, standing_apart, naming_apart, is_directory-take_entry, link_count-change_node, link_count-put_entry-leaf, link_count-take_entry-leaf, link_count-beside_dir, link_count-without_leaf, link_count-without_dir}
+use Rattle.jv_volume.proofs.LinkLaws.{IsFree, standing, standing_apart, link_count-change_node, link_count-put_entry-leaf, link_count-take_entry-leaf, link_count-beside_dir, link_count-without_leaf, link_count-without_dir}
 use Rattle.jv_volume.proofs.MoveLaws.{MayRename, MayReplace, not_trash_root, whole-without_target, beside-without_target}
 use Rattle.jv_volume.proofs.RemovalLaws.{directory_may_go, leaf_empty}
 use Rattle.jv_volume.proofs.ShapeLossLaws.{parent_apart}
-use Rattle.jv_volume.proofs.ShapeMapLaws.{only_one, counted_once, parent_of_dir, is_dir-form, is_there-form, is_directory-form, there_of_dir, shape-take_entry}
+use Rattle.jv_volume.proofs.ShapeMapLaws.{naming_apart, only_one, counted_once, parent_of_dir, is_dir-form, is_there-form, is_directory-form, there_of_dir, shape-take_entry}
 use Rattle.jv_links.specs.Losses.{IsToTrash}
 use Rattle.jv_links.specs.Moves.{MayMove}
 use Rattle.jv_links.specs.Removals.{MayLose}
