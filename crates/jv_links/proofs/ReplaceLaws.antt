@@ -1,5 +1,5 @@
 -- How a rename over another entry ends: each of its exits, by what was read, removed and moved.
-use Rattle.std.proofs.Common.{◌≡◌, ◌≢◌, ℕ, ◌≤◌, Bool, true, false, not, ◌&&◌, ◌||◌, ◌==◌, List, [], Option, None, Some, is_some, Result, Ok, Err, refl, sym, ap, subst, ◌∙◌, arith, ne_eqb}
+use Rattle.std.proofs.Common.{◌≡◌, ◌≢◌, ℕ, ◌≤◌, Bool, true, false, not, ◌&&◌, ◌||◌, ◌==◌, List, [], Option, is_some, Result, Ok, Err, refl, sym, ap, subst, ◌∙◌, arith, ne_eqb}
 use Rattle.std.proofs.lemmas.Bool.{not-true, or_parts}
 use Rattle.jv_model.specs.declared.basics.How.{How}
 use Rattle.jv_model.specs.declared.limits.TheConstants.{MAX_LINKS, LAST_MOMENT}
@@ -35,7 +35,6 @@ use Rattle.jv_volume.proofs.WalkShapeLaws.{went_on, required}
 use Rattle.jv_links.specs.declared.ends.Ends.{Ends}
 use Rattle.jv_links.specs.declared.fates.Removed.{Removed}
 use Rattle.jv_links.specs.Moves.{EndsStand, IsOverMove, MayMove, Renames, Stands, place_of, moved_within}
-use Rattle.jv_links.specs.Removals.{keeps_removed}
 use Rattle.jv_links.specs.Replacements.{MayClear, TellsCleared, may_replace}
 use Rattle.jv_links.proofs.FreeMoveLaws.{leaves_by, moved-sustained, tested_by, refused_by}
 use Rattle.jv_links.proofs.TargetLaws.{may_move-without_target}

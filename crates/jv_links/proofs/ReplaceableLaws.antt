@@ -1,5 +1,5 @@
 -- Whether an inode may stand in place of another one: each exit of the tests.
-use Rattle.std.proofs.Common.{◌≡◌, ℕ, Bool, true, false, not, ◌&&◌, ◌==◌, Result, Ok, Err, ap, ◌∙◌}
+use Rattle.std.proofs.Common.{◌≡◌, ℕ, Bool, true, false, not, ◌&&◌, ◌==◌, Result, Ok, Err, ◌∙◌}
 use Rattle.jv_model.specs.declared.fault.Fault.{Fault}
 use Rattle.jv_model.specs.declared.fault.Fault.TheVariants.{Invalid, NotADirectory, IsADirectory, DirectoryNotEmpty}
 use Rattle.jv_model.specs.declared.fault.TxFault.{TxFault}
@@ -9,9 +9,8 @@ use Rattle.jv_model.specs.tree.Renaming.{is_inside}
 use Rattle.jv_model.specs.tree.Tree.{Tree, is_directory, has_entries}
 use Rattle.jv_outside.specs.Store.{Store}
 use Rattle.jv_rows.specs.declared.walking.Place.{Place}
-use Rattle.jv_rows.specs.Transactions.{Looks, Always}
+use Rattle.jv_rows.specs.Transactions.{Looks}
 use Rattle.jv_rows.proofs.TransactionLaws.{Past, past-start, past-as, past-looks, past-stops, past-gives, past-refuses}
-use Rattle.jv_changes.proofs.DraftingLaws.{OfWhole}
 use Rattle.jv_volume.specs.TypedRows.{typed}
 use Rattle.jv_volume.specs.TreeOf.{tree_of}
 use Rattle.jv_links.specs.declared.ends.Ends.{Ends}

@@ -1,13 +1,12 @@
 -- What a removal leaves of links, and that an entry may move to the place that it makes free.
-use Rattle.std.proofs.Common.{◌≡◌, ◌≢◌, ℕ, ◌+◌, ◌<◌, ◌≤◌, Bool, true, false, not, ◌&&◌, ◌==◌, inl, inr, Option, None, Some, is_some, refl, sym, ap, subst, ◌∙◌, arith}
-use Rattle.std.specs.Prelude.{IsTrue, nat_lt, if◌then◌else◌}
+use Rattle.std.proofs.Common.{◌≡◌, ◌≢◌, ℕ, ◌≤◌, Bool, true, false, not, ◌&&◌, ◌==◌, inl, inr, Option, None, Some, is_some, refl, sym, ap, ◌∙◌, arith}
+use Rattle.std.specs.Prelude.{IsTrue, nat_lt}
 use Rattle.std.specs.List.{list_any}
 use Rattle.std.proofs.lemmas.Bool.{false≢true, cases_Bool, cond_both, ltb-false, and_parts, not-true, le-leb}
 use Rattle.std.proofs.lemmas.Option.{same_Some}
 use Rattle.jv_model.specs.declared.limits.TheConstants.{MAX_LINKS}
-use Rattle.jv_model.specs.FiniteMap.{get}
 use Rattle.jv_model.specs.tree.Caller.{Caller}
-use Rattle.jv_model.specs.tree.Changes.{status_changed, change_node, drop_node, take_entry, put_entry, with_node}
+use Rattle.jv_model.specs.tree.Changes.{status_changed, take_entry, put_entry, with_node}
 use Rattle.jv_model.specs.tree.HourNames.{hour_at}
 use Rattle.jv_model.specs.tree.Removing.{Fate, Linked, Trashed, Sustained, Dropped, fate_of, with_fate, remove_entry, remove_directory}
 use Rattle.jv_model.specs.tree.Renaming.{without_target}
@@ -16,7 +15,7 @@ use Rattle.jv_model.specs.tree.Tree.{Tree, Node, Directory, EntryKey, trash_root
 use Rattle.jv_volume.specs.Shape.{Shape, WholeShape, shape_of, is_there, is_dir, names, named}
 use Rattle.jv_volume.specs.TypedRows.{is_entry_name}
 use Rattle.jv_volume.proofs.ClimbLaws.{avoids_outside, avoids_without, outside_avoids}
-use Rattle.jv_volume.proofs.LinkLaws.{IsFree, standing, standing_apart, link_count-change_node, link_count-put_entry-leaf, link_count-take_entry-leaf, link_count-beside_dir, link_count-without_leaf, link_count-without_dir}
+use Rattle.jv_volume.proofs.LinkLaws.{IsFree, standing_apart, link_count-change_node, link_count-put_entry-leaf, link_count-take_entry-leaf, link_count-beside_dir, link_count-without_leaf, link_count-without_dir}
 use Rattle.jv_volume.proofs.MoveLaws.{MayRename, MayReplace, not_trash_root, whole-without_target, beside-without_target}
 use Rattle.jv_volume.proofs.RemovalLaws.{directory_may_go, leaf_empty}
 use Rattle.jv_volume.proofs.ShapeLossLaws.{parent_apart}

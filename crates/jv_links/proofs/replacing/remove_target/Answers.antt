@@ -1,4 +1,4 @@
-use Rattle.std.proofs.Common.{Some, eq-eqb, ne_eqb, subst, sym, ◌==◌}
+use Rattle.std.proofs.Common.{Some, eq-eqb, ne_eqb}
 use Rattle.jv_links.specs.Moves.{place_of}
 use Rattle.jv_links.proofs.ClearingLaws.{clear-not_taken, clear-not_dropped, clear-dropped, clear-not_lost, clear-lost, clear-tells}
 use Rattle.jv_links.proofs.replacing.remove_target.Goals as goal
