@@ -17,5 +17,9 @@ pub mod FreeMoveLaws
 pub mod RenameLaws
 pub mod ClimbingLaws
 pub mod UnlinkLaws
+pub mod ClearingLaws
+pub mod ReplaceableLaws
+pub mod ReplaceLaws
+pub mod TargetLaws
 pub mod LinkableLaws
 pub mod LinkingLaws

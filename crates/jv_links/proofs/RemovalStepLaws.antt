@@ -25,7 +25,7 @@ module _ (t : Tree) (place : EntryKey) (inode : ℕ) (whole : WholeShape (shape_
   pub stands_at : place.dir ≢ inode → StandsAt t place inode
   stands_at apart = record { named = is; within = place_within; there = node_there; apart = apart }
 
-  top_apart : (inode ≢ root) × (inode ≢ trash_root)
+  pub top_apart : (inode ≢ root) × (inode ≢ trash_root)
   top_apart =
       let parts = or_parts (inode == root) (inode == trash_root) (whole.entry place inode is).free in
       (eqb-false inode root parts.0, eqb-false inode trash_root parts.1)

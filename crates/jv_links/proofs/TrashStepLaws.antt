@@ -145,7 +145,7 @@ module _ (less : Tree) (now : ℕ) (place : EntryKey) (inode : ℕ) (may : IsToT
       named_made at (λ e. absurd (omega (arith, high, e))) ∙ named_less at ∙ get-remove_apart entry_key s.entries place at (place_apart at (omega (arith, high)))
       ∙ trash_place_free t now place inode may.whole may.clock may.named may.leaf one may.outside
 
-  leaf_made : is_directory (with_hour less now (hour_at now)) inode ≡ false
+  pub leaf_made : is_directory (with_hour less now (hour_at now)) inode ≡ false
   leaf_made = is_directory-form made inode ∙ ap is_dir (form_made inode inode_apart) ∙ leaf_form
 
   there_made : is_some (node_at (with_hour less now (hour_at now)) inode) ≡ true
