@@ -82,3 +82,25 @@ fn renames_move_to_free_places(rt: HostRuntime) -> Result<(), Fail> {
         ("A readdir /a", "ok h:5"),
     ])
 }
+
+#[test]
+fn renames_replace_their_targets(rt: HostRuntime) -> Result<(), Fail> {
+    let mut volume = Volume::new(rt.alloc(), 0, 0, 1)?;
+    volume.answers(&[
+        ("A mkdir /a 0755", "ok 2"),
+        ("A mkdir /a/b 0755", "ok 3"),
+        ("A mkdir /c 0755", "ok 4"),
+        ("A create /f 0644", "ok 1 5"),
+        ("A create /g 0644", "ok 2 6"),
+        ("A rename /a/b /c", "ok"),
+        ("A readdir /", "ok a:2 c:3 f:5 g:6"),
+        ("A rename /f /g", "ok"),
+        ("A readdir /", "ok a:2 c:3 g:5"),
+        ("A readdir /.trash/2023-11-14-22", "ok 1-6-g:6"),
+        ("A rename /g /a/g", "ok"),
+        ("A rename /c /a", "err ENOTEMPTY"),
+        ("A rename /a/g /c", "err EISDIR"),
+        ("A rename /c /a/g", "err ENOTDIR"),
+        ("A statfs", "ok 16384 0 4 0"),
+    ])
+}
