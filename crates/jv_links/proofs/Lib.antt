@@ -19,3 +19,5 @@ pub mod ClimbingLaws
 pub mod UnlinkLaws
 pub mod LinkableLaws
 pub mod LinkingLaws
+pub mod ExchangeTreeLaws
+pub mod ExchangeStepLaws

@@ -4,3 +4,4 @@ pub mod Losses
 pub mod Removable
 pub mod Removals
 pub mod Moves
+pub mod Exchanges
