@@ -49,11 +49,11 @@ moved-sustained t now from source to =
     change_node-sustained (put_entry less now to source) source (moved_node now to.dir) ∙ change_node-sustained less to.dir (touched now) ∙ change_node-sustained t from.dir (touched now)
 
 -- the test of links, before or after the tree is answered
-tested_by : (b : Bool) (left after : Tree) → (require b NoSpace >>= (λ _. Ok left)) ≡ Ok after → (b ≡ true) × (left ≡ after)
+pub tested_by : (b : Bool) (left after : Tree) → (require b NoSpace >>= (λ _. Ok left)) ≡ Ok after → (b ≡ true) × (left ≡ after)
 tested_by true left after h = (refl, same_Ok left after h)
 tested_by false left after h = absurd cc
 
-refused_by : (b : Bool) (left : Tree) (fault : Fault) → (require b NoSpace >>= (λ _. Ok left)) ≡ Err fault → (require b NoSpace >>= (λ _. done left)) ≡ Err fault
+pub refused_by : (b : Bool) (left : Tree) (fault : Fault) → (require b NoSpace >>= (λ _. Ok left)) ≡ Err fault → (require b NoSpace >>= (λ _. done left)) ≡ Err fault
 refused_by true left fault h = absurd cc
 refused_by false left fault h = same (NoSpace) fault h
   where

@@ -21,3 +21,4 @@ pub mod LinkableLaws
 pub mod LinkingLaws
 pub mod ExchangeTreeLaws
 pub mod ExchangeStepLaws
+pub mod ExchangeLaws
