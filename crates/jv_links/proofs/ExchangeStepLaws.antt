@@ -1,6 +1,6 @@
 -- How two entries change places in a draft: both are taken, and then each comes in where the other one stood.
 use Rattle.std.proofs.Common.{◌≡◌, ◌≢◌, ℕ, ◌+◌, ◌≤◌, Bool, true, false, ◌&&◌, inl, inr, List, None, Some, is_some, Result, Ok, Err, refl, sym, ap, subst, ◌∙◌, arith}
-use Rattle.std.proofs.lemmas.Bool.{cases_eq, le-leb}
+use Rattle.std.proofs.lemmas.Bool.{cases_eq, false≢true, le-leb}
 use Rattle.std.proofs.lemmas.Option.{same_Some}
 use Rattle.std.specs.Prelude.{nat_le}
 use Rattle.jv_model.specs.declared.limits.TheConstants.{MAX_LINKS}
@@ -54,10 +54,13 @@ fits_least t after j least fit = (let known = le_of_test (link_count t j) MAX_LI
 
 -- ---- the tests of both entries are those of both directories
 
+plain : (a b : Bool) → ((a && true) && (b && true)) ≡ (a && b)
+plain true true = refl
+plain true false = refl
+plain false b = refl
+
 tests_agree : (a b c own others : Bool) → own ≡ true → others ≡ true → (a && b) ≡ (b && c) → ((a && own) && (b && others)) ≡ (b && c)
-tests_agree true true c own others is also same = grind (is, also, same)
-tests_agree true false c own others is also same = grind (is, also, same)
-tests_agree false b c own others is also same = grind (is, also, same)
+tests_agree a b c own others is also same = ap (λ o. (a && o) && (b && others)) is ∙ ap (λ o. (a && true) && (b && o)) also ∙ plain a b ∙ same
 
 both_apart : (a b c : Bool) → a ≡ c → (a && b) ≡ (b && c)
 both_apart true true c e = e
@@ -68,7 +71,7 @@ both_apart false false c e = refl
 both_same : (a b c : Bool) → b ≡ c → (b ≡ true → a ≡ true) → (a && b) ≡ (b && c)
 both_same true true c e h = e
 both_same true false c e h = refl
-both_same false true c e h = grind (e, h refl)
+both_same false true c e h = absurd (false≢true (h refl))
 both_same false false c e h = refl
 
 module _ (t : Tree) (now : ℕ) (from : EntryKey) (source : ℕ) (to : EntryKey) (other : ℕ) (m : MayExchange t from source to other) where
@@ -281,7 +284,7 @@ module _ (now : ℕ) (from : EntryKey) (source : ℕ) (to : EntryKey) (other : �
         (then-stops {A = A} {B = A} ready was before take_from take_to changes after fault
         (drafting-ready (λ t. StandsAt t from source) ready was changes before after (Err fault) take_from (λ t m. may_take_from t now from source to other m) d))))
 
-    module _ (one : List Change) (first : Store) (d : Drafting (λ t. StandsAt t from source) was one before first (Ok tt) take_from) where
+    module _ (one : List Change) (first : Store) (d : Drafting {A = Unit {0}} (λ t. StandsAt t from source) was one before first (Ok tt) take_from) where
       on_take : {A : Type 0} (changes : List Change) (after : Store) (result : Result A TxFault) → Drafting {A = A} (λ t. StandsAt t to other) one changes first after result take_to
           → Drafting {A = A} ready was changes before after result take_both
       on_take changes after result e = then-on ready was before take_from take_to tt one first (λ t. StandsAt t to other)
@@ -296,7 +299,7 @@ module _ (now : ℕ) (from : EntryKey) (source : ℕ) (to : EntryKey) (other : �
           (then-stops {A = A} {B = A} ready was before put_one (entry_moved now from other) changes after fault
           (then-stops {A = A} {B = A} ready was before take_both (entry_moved now to source) changes after fault (on_take changes after (Err fault) e)))
 
-      module _ (two : List Change) (second : Store) (e : Drafting (λ t. StandsAt t to other) one two first second (Ok tt) take_to) where
+      module _ (two : List Change) (second : Store) (e : Drafting {A = Unit {0}} (λ t. StandsAt t to other) one two first second (Ok tt) take_to) where
         on_put : {A : Type 0} (changes : List Change) (after : Store) (result : Result A TxFault)
             → Drafting {A = A} (λ t. MayStandAt t to source) two changes second after result (entry_moved now to source) → Drafting {A = A} ready was changes before after result put_one
         on_put changes after result f = then-on ready was before take_both (entry_moved now to source) tt two second (λ t. MayStandAt t to source)
@@ -312,7 +315,7 @@ module _ (now : ℕ) (from : EntryKey) (source : ℕ) (to : EntryKey) (other : �
 
         -- it did, and then the second one comes in or doesn't
         pub exchange-on : {A : Type 0} (three : List Change) (third : Store)
-            → Drafting (λ t. MayStandAt t to source) two three second third (Ok tt) (entry_moved now to source)
+            → Drafting {A = Unit {0}} (λ t. MayStandAt t to source) two three second third (Ok tt) (entry_moved now to source)
             → (changes : List Change) (after : Store) (result : Result A TxFault)
             → Drafting {A = A} (λ t. MayStandAt t from other) three changes third after result (entry_moved now from other) → Exchanges A changes after result
         exchange-on {A} three third f changes after result g = ends_as A changes after result
@@ -348,7 +351,7 @@ module _ (now : ℕ) (place : EntryKey) (inode : ℕ) (was put : List Change) (b
       let on = went_on (require (links_fit u place.dir && links_fit u inode) NoSpace) (λ _. Ok u) left is in
       subst (IsThere inode) (same_Ok u left on.2) (there-change_node t place.dir (touched now) inode ∙ m.there)
 
-  pub enter-on : {A : Type 0} → Drafting may_come was put before middle (Ok tt) (entry_put now place inode)
+  pub enter-on : {A : Type 0} → Drafting {A = Unit {0}} may_come was put before middle (Ok tt) (entry_put now place inode)
       → (changes : List Change) (after : Store) (result : Result A TxFault) → Drafting {A = A} (IsThere inode) put changes middle after result last_change
       → Drafting {A = A} may_come was changes before after result (entry_moved now place inode)
   enter-on d changes after result e = drafting-as may_come was changes before after result (λ t. entry_put now place inode t >>= last_change) (entry_moved now place inode) (λ t m. moved-is t)
