@@ -1,5 +1,5 @@
 -- How a rename that exchanges two entries ends: each of its exits, by what was read and what was changed.
-use Rattle.std.proofs.Common.{◌≡◌, ◌≢◌, ℕ, ◌≤◌, Bool, true, false, not, ◌&&◌, ◌||◌, List, [], Option, None, Some, Result, Ok, Err, refl, sym, ap, subst, ◌∙◌}
+use Rattle.std.proofs.Common.{◌≡◌, ◌≢◌, ℕ, ◌≤◌, Bool, true, false, not, ◌&&◌, ◌||◌, List, [], Option, None, Result, Ok, Err, sym, ap, subst, ◌∙◌}
 use Rattle.std.specs.Prelude.{IsTrue}
 use Rattle.std.specs.Option.{option_map}
 use Rattle.std.proofs.lemmas.Bool.{and_parts, or_from}
@@ -48,10 +48,12 @@ move_in-sustained t now place inode =
     change_node-sustained (put_entry t now place inode) inode (moved_node now place.dir) ∙ change_node-sustained t place.dir (touched now)
 
 -- an exchange keeps what sessions keep
-exchanged-sustained : (t : Tree) (now : ℕ) (from : EntryKey) (source : ℕ) (to : EntryKey) (other : ℕ) → (exchanged t now from source to other).sustained ≡ t.sustained
+exchanged-sustained : (t : Tree) (now : ℕ) (from : EntryKey) (source : ℕ) (to : EntryKey) (other : ℕ) → (exchanged t now from source to other).sustained
+    ≡ t.sustained
 exchanged-sustained t now from source to other = move_in-sustained (move_in t now to source) now from other ∙ move_in-sustained t now to source
 
-module _ (who : Caller) (ends : Ends) (place : Place) (before : Store) (stand : EndsStand before ends) (stands : Stands before place) (apart : ends.source.inode ≢ place.inode)
+module _ (who : Caller) (ends : Ends) (place : Place) (before : Store) (stand : EndsStand before ends) (stands : Stands before place)
+    (apart : ends.source.inode ≢ place.inode)
     (low_source : ends.source.node.nlink ≤ MAX_LINKS) (low_other : place.node.nlink ≤ MAX_LINKS) where
   abbrev from : EntryKey
   from = place_of ends.from
@@ -93,7 +95,8 @@ module _ (who : Caller) (ends : Ends) (place : Place) (before : Store) (stand : 
   started = past-start before act
 
   -- the first way up wasn't climbed
-  pub exchange-not_climbed : (after : Store) (fault : TxFault) → Looks {A = Bool} before after (Err fault) climbs → Renames who.sid ready before after (Err fault) act
+  pub exchange-not_climbed : (after : Store) (fault : TxFault) → Looks {A = Bool} before after (Err fault) climbs
+      → Renames who.sid ready before after (Err fault) act
   exchange-not_climbed after fault l = record {
     does = transacts-refused ready before after reply act fault (past-stops before before after act climbs climbed started fault l);
     tells = tt;
@@ -102,7 +105,8 @@ module _ (who : Caller) (ends : Ends) (place : Place) (before : Store) (stand : 
   -- the source would come into itself
   pub exchange-inside : (after : Store) → Looks before after (Ok true) climbs → Renames who.sid ready before after (Err (Refused Invalid)) act
   exchange-inside after l = record {
-    does = transacts-refused ready before after reply act (Refused Invalid) (past-refuses before after act Invalid (past-looks before before after act climbs climbed started true l));
+    does = transacts-refused ready before after reply act (Refused Invalid)
+        (past-refuses before after act Invalid (past-looks before before after act climbs climbed started true l));
     tells = tt;
   }
 
@@ -111,7 +115,8 @@ module _ (who : Caller) (ends : Ends) (place : Place) (before : Store) (stand : 
     halfway = past-looks before before between act climbs climbed started false first
 
     -- the second way up wasn't climbed
-    pub exchange-not_back : (after : Store) (fault : TxFault) → Looks {A = Bool} between after (Err fault) climbs_back → Renames who.sid ready before after (Err fault) act
+    pub exchange-not_back : (after : Store) (fault : TxFault) → Looks {A = Bool} between after (Err fault) climbs_back
+        → Renames who.sid ready before after (Err fault) act
     exchange-not_back after fault l = record {
       does = transacts-refused ready before after reply act fault (past-stops before between after act climbs_back climbed_back halfway fault l);
       tells = tt;
@@ -136,7 +141,8 @@ module _ (who : Caller) (ends : Ends) (place : Place) (before : Store) (stand : 
       outside known is whole bytes r = same_Ok (is_inside (tree_of bytes (typed known)) to.dir source) false (first.agrees known is whole bytes)
 
       beside : OfWhole ready before (λ t. is_inside t from.dir other ≡ false)
-      beside known is whole bytes r = same_Ok (is_inside (tree_of bytes (typed known)) from.dir other) false (second.agrees known (first.rows_are ∙ is) whole bytes)
+      beside known is whole bytes r = same_Ok (is_inside (tree_of bytes (typed known)) from.dir other) false
+          (second.agrees known (first.rows_are ∙ is) whole bytes)
 
       -- an entry that is there has a name of an entry
       from_name : OfWhole ready before (λ t. IsTrue (is_entry_name from.name))
@@ -156,8 +162,10 @@ module _ (who : Caller) (ends : Ends) (place : Place) (before : Store) (stand : 
         to_name = r.move.name;
         outside = outside known is whole bytes r;
         beside = beside known is whole bytes r;
-        links_source = links_low (tree_of bytes (typed known)) source ends.source (bytes source) (has_node before source ends.source known stand.source.row is whole bytes) low_source;
-        links_other = links_low (tree_of bytes (typed known)) other place (bytes other) (has_node before other place known stands.row is whole bytes) low_other;
+        links_source = links_low (tree_of bytes (typed known)) source ends.source (bytes source)
+            (has_node before source ends.source known stand.source.row is whole bytes) low_source;
+        links_other = links_low (tree_of bytes (typed known)) other place (bytes other)
+            (has_node before other place known stands.row is whole bytes) low_other;
       }
 
       module _ (now : ℕ) (same_now : who.now ≡ now) (was : List Change) (none : was ≡ []) (changes : List Change) (next : Store) where
@@ -177,8 +185,10 @@ module _ (who : Caller) (ends : Ends) (place : Place) (before : Store) (stand : 
         -- the entries weren't exchanged
         pub exchange-not_made : (fault : TxFault) → Exchanging (Err fault) → Renames who.sid ready before next (Err fault) act
         exchange-not_made fault d = record {
-          does = steps-stop ready before middle next [] changes (λ t. t) reply act rest started_steps fault step_ready step (as_model (Err fault) d) may_exchange
-              (λ known is whole bytes r refused h. (let after = swapped (tree_of bytes (typed known)) in refused_by (links_fit after from.dir && links_fit after to.dir) after refused h));
+          does = steps-stop ready before middle next [] changes (λ t. t) reply act rest started_steps fault step_ready step (as_model (Err fault) d)
+              may_exchange
+              (λ known is whole bytes r refused h. (let after = swapped (tree_of bytes (typed known)) in
+              refused_by (links_fit after from.dir && links_fit after to.dir) after refused h));
           tells = tt;
         }
 
@@ -193,12 +203,15 @@ module _ (who : Caller) (ends : Ends) (place : Place) (before : Store) (stand : 
 
           stepped : PastSteps ready before next changes swapped act rest
           stepped = steps-on ready before middle next [] changes (λ t. t) act rest started_steps tt step_ready step swapped (as_model (Ok tt) d) may_exchange
-              (λ known is whole bytes r. (let after = swapped (tree_of bytes (typed known)) in ap (λ b. require b NoSpace >>= (λ _. Ok after)) (fits known is whole bytes r)))
+              (λ known is whole bytes r. (let after = swapped (tree_of bytes (typed known)) in
+              ap (λ b. require b NoSpace >>= (λ _. Ok after)) (fits known is whole bytes r)))
 
           -- the changes weren't committed
-          pub exchange-not_committed : (after : Store) (down : Down) → Commits next after (Err down) changes → Renames who.sid ready before after (Err (OfRows (row_fault down))) act
+          pub exchange-not_committed : (after : Store) (down : Down) → Commits next after (Err down) changes
+              → Renames who.sid ready before after (Err (OfRows (row_fault down))) act
           exchange-not_committed after down c = record {
-            does = steps-fail ready before next after changes changes swapped reply act rest stepped (OfRows (row_fault down)) (fails-commit next after down changes c);
+            does = steps-fail ready before next after changes changes swapped reply act rest stepped (OfRows (row_fault down))
+                (fails-commit next after down changes c);
             tells = tt;
           }
 
@@ -211,10 +224,12 @@ module _ (who : Caller) (ends : Ends) (place : Place) (before : Store) (stand : 
           pub exchange-made : (after : Store) → Commits next after (Ok tt) changes → Renames who.sid ready before after (Ok None) act
           exchange-made after c = record {
             does = steps-commit ready before next after changes changes swapped reply act rest stepped None c
-                (λ known is whole bytes r. (let left = swapped (tree_of bytes (typed known)) in ap (λ b. require b NoSpace >>= (λ _. done left)) (fits known is whole bytes r)))
+                (λ known is whole bytes r. (let left = swapped (tree_of bytes (typed known)) in
+                ap (λ b. require b NoSpace >>= (λ _. done left)) (fits known is whole bytes r)))
                 (λ known is whole bytes r. (let t = tree_of bytes (typed known) in
                     whole-exchanged t who.now from source to other (whole-shape bytes (typed known) whole) r.move.is r.there apart
                     (and_parts (may_go from) (may_be_new from) r.move.leaves).1 r.move.enters
                     (or_from (is_inside t to.dir source) (is_inside t from.dir other) (outside known is whole bytes r) (beside known is whole bytes r))));
-            tells = λ known is whole bytes r inode. tells_none (tree_of bytes (typed known)) who.sid (act (tree_of bytes (typed known))) (told (tree_of bytes (typed known))) inode;
+            tells = λ known is whole bytes r inode. tells_none (tree_of bytes (typed known)) who.sid (act (tree_of bytes (typed known)))
+                (told (tree_of bytes (typed known))) inode;
           }

@@ -1,5 +1,6 @@
 -- How two entries change places in a draft: both are taken, and then each comes in where the other one stood.
-use Rattle.std.proofs.Common.{◌≡◌, ◌≢◌, ℕ, ◌+◌, ◌≤◌, Bool, true, false, ◌&&◌, inl, inr, List, None, Some, is_some, Result, Ok, Err, refl, sym, ap, subst, ◌∙◌, arith}
+use Rattle.std.proofs.Common.{◌≡◌, ◌≢◌, ℕ, ◌+◌, ◌≤◌, Bool, true, false, ◌&&◌, inl, inr, List}
+use Rattle.std.proofs.Common.{None, Some, is_some, Result, Ok, Err, refl, sym, ap, subst, ◌∙◌, arith}
 use Rattle.std.proofs.lemmas.Bool.{cases_eq, false≢true, le-leb}
 use Rattle.std.proofs.lemmas.Option.{same_Some}
 use Rattle.std.specs.Prelude.{nat_le}
@@ -16,11 +17,12 @@ use Rattle.jv_outside.specs.declared.batch.Change.{Change}
 use Rattle.jv_outside.specs.Store.{Store}
 use Rattle.jv_changes.specs.Drafting.{Drafting}
 use Rattle.jv_changes.specs.Ready.{StandsAt, MayStandAt, IsThere, entry_put}
-use Rattle.jv_volume.specs.Shape.{Shape, shape_of}
+use Rattle.jv_volume.specs.Shape.{shape_of}
 use Rattle.jv_volume.proofs.ChangeLaws.{move_in-entries}
 use Rattle.jv_volume.proofs.ClimbLaws.{avoids_outside}
-use Rattle.jv_volume.proofs.LinkLaws.{dirs_of, dirs-shape, link_share, share-leaf, share-dir, standing_apart, is_directory-take_entry, is_directory-move_in, link_count-move_in, link_count-put_entry, link_count-take_entry}
-use Rattle.jv_volume.proofs.ShapeMapLaws.{naming_same, naming_apart, get-inserted, get-insert_apart, get-removed, get-remove_apart, is_directory-form, is_there-form}
+use Rattle.jv_volume.proofs.LinkLaws.{dirs_of, dirs-shape, link_share, share-leaf, share-dir, standing_apart}
+use Rattle.jv_volume.proofs.LinkLaws.{is_directory-take_entry, is_directory-move_in, link_count-move_in, link_count-put_entry, link_count-take_entry}
+use Rattle.jv_volume.proofs.ShapeMapLaws.{naming_same, naming_apart, get-insert_apart, get-removed, get-remove_apart, is_directory-form, is_there-form}
 use Rattle.jv_volume.proofs.WalkShapeLaws.{went_on, same_Ok}
 use Rattle.jv_links.specs.Exchanges.{MayExchange, entry_moved, exchanged_within}
 use Rattle.jv_links.proofs.ExchangeTreeLaws.{there-change_node, exchanged-taken}
@@ -39,7 +41,8 @@ module _ (dirs : ℕ → Bool) (at : EntryKey) (inode j : ℕ) where
       by_dir false leaf = share-leaf dirs at inode j leaf ∙ naming_apart j at inode other
 
 -- and an entry gives no more to what it names than any other entry that names it
-share_least : (dirs : ℕ → Bool) (at place : EntryKey) (inode : ℕ) → dirs at.dir ≡ true → at.dir ≢ inode → link_share dirs at inode inode ≤ link_share dirs place inode inode
+share_least : (dirs : ℕ → Bool) (at place : EntryKey) (inode : ℕ) → dirs at.dir ≡ true → at.dir ≢ inode → link_share dirs at inode inode
+    ≤ link_share dirs place inode inode
 share_least dirs at place inode within away = by_dir (dirs inode) refl
   where
     by_dir : (b : Bool) → dirs inode ≡ b → link_share dirs at inode inode ≤ link_share dirs place inode inode
@@ -112,10 +115,14 @@ module _ (t : Tree) (now : ℕ) (from : EntryKey) (source : ℕ) (to : EntryKey)
   to_other = entry_apart (shape_of t) to other m.whole m.also
 
   to_source : to.dir ≢ source
-  to_source = (let up = avoids_outside t to.dir source m.whole (sym (is_directory-form t to.dir) ∙ to_within) m.outside in apart_first (shape_of t) source up.0 to.dir up.1)
+  to_source =
+      let up = avoids_outside t to.dir source m.whole (sym (is_directory-form t to.dir) ∙ to_within) m.outside in
+      apart_first (shape_of t) source up.0 to.dir up.1
 
   from_other : from.dir ≢ other
-  from_other = (let up = avoids_outside t from.dir other m.whole (sym (is_directory-form t from.dir) ∙ from_within) m.beside in apart_first (shape_of t) other up.0 from.dir up.1)
+  from_other =
+      let up = avoids_outside t from.dir other m.whole (sym (is_directory-form t from.dir) ∙ from_within) m.beside in
+      apart_first (shape_of t) other up.0 from.dir up.1
 
   source_there : is_some (node_at t source) ≡ true
   source_there = sym (is_there-form (node_at t source)) ∙ (m.whole.entry from source m.is).there
@@ -158,10 +165,22 @@ module _ (t : Tree) (now : ℕ) (from : EntryKey) (source : ℕ) (to : EntryKey)
   }
 
   pub may_put_to : MayStandAt less to source
-  may_put_to = record { free = less_free; name = m.to_name; within = within_less to.dir ∙ to_within; there = there_less source ∙ source_there; apart = to_source }
+  may_put_to = record {
+    free = less_free;
+    name = m.to_name;
+    within = within_less to.dir ∙ to_within;
+    there = there_less source ∙ source_there;
+    apart = to_source;
+  }
 
   pub may_put_from : MayStandAt half from other
-  may_put_from = record { free = half_free; name = m.from_name; within = within_half from.dir ∙ from_within; there = there_half other ∙ other_there; apart = from_other }
+  may_put_from = record {
+    free = half_free;
+    name = m.from_name;
+    within = within_half from.dir ∙ from_within;
+    there = there_half other ∙ other_there;
+    apart = from_other;
+  }
 
   -- ---- the link counts
 
@@ -185,11 +204,13 @@ module _ (t : Tree) (now : ℕ) (from : EntryKey) (source : ℕ) (to : EntryKey)
       (link_count-take_entry one now to other j one_named)
 
   count_first : (j : ℕ) → link_count first j ≡ link_count less j + link_share dirs to source j
-  count_first j = subst (λ d. link_count first j ≡ link_count less j + link_share d to source j) (dirs_at less within_less) (link_count-put_entry less now to source j less_free)
+  count_first j = subst (λ d. link_count first j ≡ link_count less j + link_share d to source j) (dirs_at less within_less)
+      (link_count-put_entry less now to source j less_free)
 
   count_second : (j : ℕ) → link_count second j ≡ link_count first j + link_share dirs from other j
   count_second j =
-      subst (λ d. link_count second j ≡ link_count half j + link_share d from other j) (dirs_at half within_half) (link_count-put_entry half now from other j half_free)
+      subst (λ d. link_count second j ≡ link_count half j + link_share d from other j) (dirs_at half within_half)
+          (link_count-put_entry half now from other j half_free)
       ∙ ap (λ n. n + link_share dirs from other j) (link_count-move_in less now to source j)
 
   fits_source : links_fit first source ≡ true
@@ -219,9 +240,11 @@ module _ (t : Tree) (now : ℕ) (from : EntryKey) (source : ℕ) (to : EntryKey)
   done_fit : (j : ℕ) → links_fit second j ≡ links_fit done j
   done_fit j = ap (λ n. nat_le n MAX_LINKS) (sym (link_count-move_in half now from other j))
 
-  pub tests : ((links_fit first to.dir && links_fit first source) && (links_fit second from.dir && links_fit second other)) ≡ (links_fit done from.dir && links_fit done to.dir)
+  pub tests : ((links_fit first to.dir && links_fit first source) && (links_fit second from.dir && links_fit second other))
+      ≡ (links_fit done from.dir && links_fit done to.dir)
   tests =
-      tests_agree (links_fit first to.dir) (links_fit second from.dir) (links_fit second to.dir) (links_fit first source) (links_fit second other) fits_source fits_other directories
+      tests_agree (links_fit first to.dir) (links_fit second from.dir) (links_fit second to.dir) (links_fit first source) (links_fit second other)
+          fits_source fits_other directories
       ∙ (λ i. done_fit from.dir i && done_fit to.dir i)
 
 -- ---- the four steps
@@ -272,7 +295,8 @@ module _ (now : ℕ) (from : EntryKey) (source : ℕ) (to : EntryKey) (other : �
     abbrev Exchanges : (A : Type 0) → List Change → Store → Result A TxFault → Type 0
     Exchanges A changes after result = Drafting {A = A} ready was changes before after result (exchanged_within now from source to other)
 
-    ends_as : (A : Type 0) (changes : List Change) (after : Store) (result : Result A TxFault) → Drafting {A = A} ready was changes before after result put_both → Exchanges A changes after result
+    ends_as : (A : Type 0) (changes : List Change) (after : Store) (result : Result A TxFault)
+        → Drafting {A = A} ready was changes before after result put_both → Exchanges A changes after result
     ends_as A changes after result d = drafting-as ready was changes before after result put_both (exchanged_within now from source to other) all-is d
 
     -- the first entry wasn't taken
@@ -282,10 +306,12 @@ module _ (now : ℕ) (from : EntryKey) (source : ℕ) (to : EntryKey) (other : �
         (then-stops {A = A} {B = A} ready was before put_one (entry_moved now from other) changes after fault
         (then-stops {A = A} {B = A} ready was before take_both (entry_moved now to source) changes after fault
         (then-stops {A = A} {B = A} ready was before take_from take_to changes after fault
-        (drafting-ready (λ t. StandsAt t from source) ready was changes before after (Err fault) take_from (λ t m. may_take_from t now from source to other m) d))))
+        (drafting-ready (λ t. StandsAt t from source) ready was changes before after (Err fault) take_from
+            (λ t m. may_take_from t now from source to other m) d))))
 
     module _ (one : List Change) (first : Store) (d : Drafting {A = Unit {0}} (λ t. StandsAt t from source) was one before first (Ok tt) take_from) where
-      on_take : {A : Type 0} (changes : List Change) (after : Store) (result : Result A TxFault) → Drafting {A = A} (λ t. StandsAt t to other) one changes first after result take_to
+      on_take : {A : Type 0} (changes : List Change) (after : Store) (result : Result A TxFault)
+          → Drafting {A = A} (λ t. StandsAt t to other) one changes first after result take_to
           → Drafting {A = A} ready was changes before after result take_both
       on_take changes after result e = then-on ready was before take_from take_to tt one first (λ t. StandsAt t to other)
           (drafting-ready (λ t. StandsAt t from source) ready was one before first (Ok tt) take_from (λ t m. may_take_from t now from source to other m) d)
@@ -301,15 +327,18 @@ module _ (now : ℕ) (from : EntryKey) (source : ℕ) (to : EntryKey) (other : �
 
       module _ (two : List Change) (second : Store) (e : Drafting {A = Unit {0}} (λ t. StandsAt t to other) one two first second (Ok tt) take_to) where
         on_put : {A : Type 0} (changes : List Change) (after : Store) (result : Result A TxFault)
-            → Drafting {A = A} (λ t. MayStandAt t to source) two changes second after result (entry_moved now to source) → Drafting {A = A} ready was changes before after result put_one
+            → Drafting {A = A} (λ t. MayStandAt t to source) two changes second after result (entry_moved now to source)
+            → Drafting {A = A} ready was changes before after result put_one
         on_put changes after result f = then-on ready was before take_both (entry_moved now to source) tt two second (λ t. MayStandAt t to source)
             (on_take two second (Ok tt) e)
-            (λ t left m is. subst (λ u. MayStandAt u to source) (same_Ok (take_entry (take_entry t now from) now to) left is) (may_put_to t now from source to other m))
+            (λ t left m is. subst (λ u. MayStandAt u to source) (same_Ok (take_entry (take_entry t now from) now to) left is)
+                (may_put_to t now from source to other m))
             changes after result f
 
         -- the first inode didn't come in
         pub exchange-not_source : {A : Type 0} (changes : List Change) (after : Store) (fault : TxFault)
-            → Drafting {A = A} (λ t. MayStandAt t to source) two changes second after (Err fault) (entry_moved now to source) → Exchanges A changes after (Err fault)
+            → Drafting {A = A} (λ t. MayStandAt t to source) two changes second after (Err fault) (entry_moved now to source)
+            → Exchanges A changes after (Err fault)
         exchange-not_source {A} changes after fault f = ends_as A changes after (Err fault)
             (then-stops {A = A} {B = A} ready was before put_one (entry_moved now from other) changes after fault (on_put changes after (Err fault) f))
 
@@ -326,7 +355,8 @@ module _ (now : ℕ) (from : EntryKey) (source : ℕ) (to : EntryKey) (other : �
 
 -- ---- an entry of an inode from elsewhere
 
-by_test : (b : Bool) (u : Tree) (change : Tree → Result Tree Fault) → ((require b NoSpace >>= (λ _. Ok u)) >>= change) ≡ (require b NoSpace >>= (λ _. change u))
+by_test : (b : Bool) (u : Tree) (change : Tree → Result Tree Fault) → ((require b NoSpace >>= (λ _. Ok u)) >>= change)
+    ≡ (require b NoSpace >>= (λ _. change u))
 by_test true u change = refl
 by_test false u change = refl
 
@@ -342,7 +372,8 @@ module _ (now : ℕ) (place : EntryKey) (inode : ℕ) (was put : List Change) (b
 
   pub enter-not_put : {A : Type 0} (fault : TxFault) → Drafting {A = A} may_come was put before middle (Err fault) (entry_put now place inode)
       → Drafting {A = A} may_come was put before middle (Err fault) (entry_moved now place inode)
-  enter-not_put {A} fault d = drafting-as may_come was put before middle (Err fault) (λ t. entry_put now place inode t >>= last_change) (entry_moved now place inode) (λ t m. moved-is t)
+  enter-not_put {A} fault d = drafting-as may_come was put before middle (Err fault) (λ t. entry_put now place inode t >>= last_change)
+      (entry_moved now place inode) (λ t m. moved-is t)
       (then-stops {A = A} {B = A} may_come was before (entry_put now place inode) last_change put middle fault d)
 
   put-there : (t left : Tree) → may_come t → entry_put now place inode t ≡ Ok left → IsThere inode left
@@ -354,5 +385,6 @@ module _ (now : ℕ) (place : EntryKey) (inode : ℕ) (was put : List Change) (b
   pub enter-on : {A : Type 0} → Drafting {A = Unit {0}} may_come was put before middle (Ok tt) (entry_put now place inode)
       → (changes : List Change) (after : Store) (result : Result A TxFault) → Drafting {A = A} (IsThere inode) put changes middle after result last_change
       → Drafting {A = A} may_come was changes before after result (entry_moved now place inode)
-  enter-on d changes after result e = drafting-as may_come was changes before after result (λ t. entry_put now place inode t >>= last_change) (entry_moved now place inode) (λ t m. moved-is t)
+  enter-on d changes after result e = drafting-as may_come was changes before after result (λ t. entry_put now place inode t >>= last_change)
+      (entry_moved now place inode) (λ t m. moved-is t)
       (then-on may_come was before (entry_put now place inode) last_change tt put middle (IsThere inode) d put-there changes after result e)

@@ -39,14 +39,16 @@ unchanged change (Some node) = refl
 abbrev is_at : ℕ → ℕ → Bool
 is_at q k = eq_by_cmp number_key.cmp q k
 
-get-nodes_changed : (m : Nodes) (k : ℕ) (change : Node → Node) (q : ℕ) → get (nodes_changed m k change) q ≡ option_map (changed_if (is_at q k) change) (get m q)
+get-nodes_changed : (m : Nodes) (k : ℕ) (change : Node → Node) (q : ℕ) → get (nodes_changed m k change) q
+    ≡ option_map (changed_if (is_at q k) change) (get m q)
 get-nodes_changed m k change q = by_test (is_at q k) refl (get m k) refl
   where
     same : is_at q k ≡ true → get m q ≡ get m k
     same e = ap (get m) (tied_same number_key k q e)
     put : (node : Node) (b : Bool) → is_at q k ≡ b → get (insert m k (change node)) q ≡ cond b (Some (change node)) (get m q)
     put node b e = get-insert m k (change node) q ∙ ap (λ b. cond b (Some (change node)) (get m q)) e
-    by_test : (b : Bool) → is_at q k ≡ b → (o : Option Node) → get m k ≡ o → get (nodes_with m k (option_map change o)) q ≡ option_map (changed_if b change) (get m q)
+    by_test : (b : Bool) → is_at q k ≡ b → (o : Option Node) → get m k ≡ o → get (nodes_with m k (option_map change o)) q
+        ≡ option_map (changed_if b change) (get m q)
     by_test true e None h = same e ∙ h ∙ sym (ap (option_map (changed_if true change)) (same e ∙ h))
     by_test true e (Some node) h = put node true e ∙ sym (ap (option_map (changed_if true change)) (same e ∙ h))
     by_test false e None h = sym (unchanged change (get m q))
@@ -65,7 +67,8 @@ there-change_node t k change q =
 -- ---- the changes of an exchange
 
 module _ (now : ℕ) where
-  take_entry-is : (t : Tree) (place : EntryKey) → take_entry t now place ≡ record t { nodes = nodes_changed t.nodes place.dir (touched now); entries = remove t.entries place }
+  take_entry-is : (t : Tree) (place : EntryKey) → take_entry t now place
+      ≡ record t { nodes = nodes_changed t.nodes place.dir (touched now); entries = remove t.entries place }
   take_entry-is t place = ap (λ (u : Tree). record u { entries = remove t.entries place }) (change_node-is t place.dir (touched now))
 
   put_entry-is : (t : Tree) (place : EntryKey) (inode : ℕ)
@@ -79,17 +82,20 @@ module _ (now : ℕ) where
       → move_in t now place inode ≡ record t { nodes = moved_nodes t.nodes place.dir inode; entries = insert t.entries place inode }
   move_in-is t place inode =
       ap (λ (u : Tree). change_node u inode (moved_node now place.dir)) (put_entry-is t place inode)
-      ∙ change_node-is (record t { nodes = nodes_changed t.nodes place.dir (touched now); entries = insert t.entries place inode }) inode (moved_node now place.dir)
+      ∙ change_node-is (record t { nodes = nodes_changed t.nodes place.dir (touched now); entries = insert t.entries place inode }) inode
+          (moved_node now place.dir)
 
   get-moved_nodes : (m : Nodes) (dir inode q : ℕ)
-      → get (moved_nodes m dir inode) q ≡ option_map (changed_if (is_at q inode) (moved_node now dir)) (option_map (changed_if (is_at q dir) (touched now)) (get m q))
+      → get (moved_nodes m dir inode) q ≡ option_map (changed_if (is_at q inode) (moved_node now dir))
+          (option_map (changed_if (is_at q dir) (touched now)) (get m q))
   get-moved_nodes m dir inode q =
       get-nodes_changed (nodes_changed m dir (touched now)) inode (moved_node now dir) q
       ∙ ap (option_map (changed_if (is_at q inode) (moved_node now dir))) (get-nodes_changed m dir (touched now) q)
 
   -- what is touched before as well is touched as much
   touched_before : (to_dir : ℕ) (from_is source_is to_is : Bool) (node : Node)
-      → changed_if from_is (touched now) (changed_if source_is (moved_node now to_dir) (changed_if to_is (touched now) (changed_if to_is (touched now) (changed_if from_is (touched now) node))))
+      → changed_if from_is (touched now) (changed_if source_is (moved_node now to_dir)
+          (changed_if to_is (touched now) (changed_if to_is (touched now) (changed_if from_is (touched now) node))))
       ≡ changed_if from_is (touched now) (changed_if source_is (moved_node now to_dir) (changed_if to_is (touched now) node))
   touched_before to_dir true true true node = refl
   touched_before to_dir true true false node = refl
@@ -118,18 +124,22 @@ module _ (now : ℕ) where
     both_touched m = nodes_changed (nodes_changed m from.dir (touched now)) to.dir (touched now)
 
     get-both_moved : (m : Nodes) (q : ℕ)
-        → get (both_moved m) q ≡ option_map (changed_if (is_at q other) (moved_node now from.dir)) (at_last to.dir (is_at q from.dir) (is_at q source) (is_at q to.dir) (get m q))
+        → get (both_moved m) q ≡ option_map (changed_if (is_at q other) (moved_node now from.dir))
+            (at_last to.dir (is_at q from.dir) (is_at q source) (is_at q to.dir) (get m q))
     get-both_moved m q =
         get-moved_nodes (moved_nodes m to.dir source) from.dir other q
-        ∙ ap (λ o. option_map (changed_if (is_at q other) (moved_node now from.dir)) (option_map (changed_if (is_at q from.dir) (touched now)) o)) (get-moved_nodes m to.dir source q)
+        ∙ ap (λ o. option_map (changed_if (is_at q other) (moved_node now from.dir)) (option_map (changed_if (is_at q from.dir) (touched now)) o))
+            (get-moved_nodes m to.dir source q)
 
     same_nodes : (m : Nodes) → both_moved (both_touched m) ≡ both_moved m
     same_nodes m = same_maps (both_moved (both_touched m)) (both_moved m) (λ q.
-        let last : Option Node → Option Node = λ o. option_map (changed_if (is_at q other) (moved_node now from.dir)) (at_last to.dir (is_at q from.dir) (is_at q source) (is_at q to.dir) o) in
+        let last : Option Node → Option Node = λ o. option_map (changed_if (is_at q other) (moved_node now from.dir))
+            (at_last to.dir (is_at q from.dir) (is_at q source) (is_at q to.dir) o) in
         get-both_moved (both_touched m) q
         ∙ ap last (get-nodes_changed (nodes_changed m from.dir (touched now)) to.dir (touched now) q
         ∙ ap (option_map (changed_if (is_at q to.dir) (touched now))) (get-nodes_changed m from.dir (touched now) q))
-        ∙ ap (option_map (changed_if (is_at q other) (moved_node now from.dir))) (all_touched to.dir (is_at q from.dir) (is_at q source) (is_at q to.dir) (get m q))
+        ∙ ap (option_map (changed_if (is_at q other) (moved_node now from.dir)))
+            (all_touched to.dir (is_at q from.dir) (is_at q source) (is_at q to.dir) (get m q))
         ∙ sym (get-both_moved m q))
 
     abbrev both_put : Map entry_key ℕ → Map entry_key ℕ

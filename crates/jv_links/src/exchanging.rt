@@ -43,8 +43,9 @@ fn exchange_entries<K: Keeper>(
     to: &EntryPlace,
     other: u64,
 ) -> Result<(), TxFault>
-    ensures { Drafting (λ t. MayExchange t (place_of from.now) source (place_of to.now) other) draft.old draft.new
-        (K.seen k.old) (K.seen k.new) result (exchanged_within now (place_of from.now) source (place_of to.now) other) }
+    ensures { Drafting (λ t. MayExchange t (place_of from.now) source (place_of to.now) other)
+        draft.old draft.new (K.seen k.old) (K.seen k.new) result
+        (exchanged_within now (place_of from.now) source (place_of to.now) other) }
 {
     take_entry(draft, k, now, from.dir.inode, &from.name, source)?;
     take_entry(draft, k, now, to.dir.inode, &to.name, other)?;
@@ -56,8 +57,8 @@ fn exchange_entries<K: Keeper>(
 ///
 /// # Errors
 ///
-/// Invalid where a directory would move into itself. NoSpace where the link count of a directory is at its greatest number.
-/// Bad for a malformed row, Failed if the keeper failed, Memory.
+/// Invalid where a directory would move into itself. NoSpace where the link count of a directory is at its greatest
+/// number. Bad for a malformed row of a directory or a node, Failed if the keeper failed. Memory.
 pub(crate) fn exchange<K: Keeper>(
     alloc: Global,
     k: &mut K,

@@ -13,8 +13,8 @@ returns-in_err-exchange_entries g c caller asks =
     let low_source : c.args.ends.now.source.node.nlink ≤ 4294967295 = omega (arith, first) in
     let low_other : c.args.other.now.node.nlink ≤ 4294967295 = omega (arith, second) in
     rw (p.1, p.2)
-    (exchange-not_made caller c.args.ends.now c.args.other.now (g.K.Keeper.seen c.args.k.now) c.requires.ends c.requires.other c.requires.apart low_source low_other
-    (g.K.Keeper.seen c.is_inside.new.k) inside (g.K.Keeper.seen c.is_inside-2.new.k) beside
+    (exchange-not_made caller c.args.ends.now c.args.other.now (g.K.Keeper.seen c.args.k.now) c.requires.ends c.requires.other c.requires.apart
+    low_source low_other (g.K.Keeper.seen c.is_inside.new.k) inside (g.K.Keeper.seen c.is_inside-2.new.k) beside
     c.args.who.now.now asks.now c.new-draft.result c.new-draft.ensures c.exchange_entries.new.draft (g.K.Keeper.seen c.exchange_entries.new.k)
     c.in_err-exchange_entries.field-0.0 c.in_err-exchange_entries.ensures)
 
