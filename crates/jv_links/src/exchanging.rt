@@ -88,7 +88,13 @@ pub(crate) fn exchange<K: Keeper>(
     let source = ends.source.inode;
     let mut draft = Draft::new(alloc);
     exchange_entries(
-        &mut draft, k, who.now, &ends.from, source, &ends.to, other.inode,
+        &mut draft,
+        k,
+        who.now,
+        &ends.from,
+        source,
+        &ends.to,
+        other.inode,
     )?;
     match draft.commit(k) {
         Ok(()) => Ok(None),
