@@ -23,3 +23,6 @@ pub mod ReplaceLaws
 pub mod TargetLaws
 pub mod LinkableLaws
 pub mod LinkingLaws
+pub mod ExchangeTreeLaws
+pub mod ExchangeStepLaws
+pub mod ExchangeLaws

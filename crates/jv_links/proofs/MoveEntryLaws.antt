@@ -25,7 +25,7 @@ use Rattle.jv_links.specs.Moves.{MayMove, moved_within}
 use Rattle.jv_links.proofs.StepLaws.{drafting-as, drafting-ready, then-stops, then-on}
 
 -- what avoids an inode is another one
-apart_first : (s : Shape) (inode n dir : ℕ) → Avoids s.form inode n dir → dir ≢ inode
+pub apart_first : (s : Shape) (inode n dir : ℕ) → Avoids s.form inode n dir → dir ≢ inode
 apart_first s inode zero dir h = h.0
 apart_first s inode (suc n) dir h = h.0
 

@@ -5,3 +5,4 @@ pub mod Removable
 pub mod Removals
 pub mod Moves
 pub mod Replacements
+pub mod Exchanges

@@ -104,3 +104,22 @@ fn renames_replace_their_targets(rt: HostRuntime) -> Result<(), Fail> {
         ("A statfs", "ok 16384 0 4 0"),
     ])
 }
+
+#[test]
+fn renames_exchange_two_entries(rt: HostRuntime) -> Result<(), Fail> {
+    let mut volume = Volume::new(rt.alloc(), 0, 0, 1)?;
+    volume.answers(&[
+        ("A mkdir /a 0755", "ok 2"),
+        ("A create /a/f 0644", "ok 1 3"),
+        ("A mkdir /d 0755", "ok 4"),
+        ("A rename /a/f /d exchange", "ok"),
+        ("A readdir /", "ok a:2 d:3"),
+        ("A lookup /a/f/..", "ok 2"),
+        ("A stat /a", "ok 2 d 0755 3 0 0 4096 1700000000 1700000000"),
+        ("A stat /", "ok 1 d 0777 3 0 0 4096 1700000000 1700000000"),
+        ("A rename /a /a/f exchange", "err EINVAL"),
+        ("A rename /a /d exchange", "ok"),
+        ("A readdir /", "ok a:3 d:2"),
+        ("A lookup /d/f", "ok 4"),
+    ])
+}
