@@ -27,11 +27,13 @@ year_begins : (day : ℕ) → day < era_days → days_before_year (year_in_era d
 year_begins day less = omega arith
 
 year_ends : (day : ℕ) → day < era_days
-    → day < 365 * (year_in_era day + 1) + (year_in_era day + 1) / 4 - (year_in_era day + 1) / 100 + (year_in_era day + 1) / 400
+    → day < 365 * (year_in_era day + 1) + (year_in_era day + 1) / 4 - (year_in_era day + 1) / 100 +
+    (year_in_era day + 1) / 400
 year_ends day less = omega arith
 
 -- days before a year that begins in March, counted from the year -10000
-era_years : (era year : ℕ) → year ≤ 399 → march_days (10000 + 400 * era + year) ≡ march_days 10000 + era_days * era + days_before_year year
+era_years : (era year : ℕ) → year ≤ 399
+    → march_days (10000 + 400 * era + year) ≡ march_days 10000 + era_days * era + days_before_year year
 era_years era year few = omega arith
 
 era_years_next : (era year : ℕ) → year ≤ 399
@@ -79,7 +81,13 @@ march_year day = 10000 + 400 * era_of day + year_in_era (in_era day)
 year_holds : (day : ℕ) → march_days (march_year day) + in_year day ≡ march_days 10000 + days_before_1970 + day
 year_holds day =
     let few = year_few (in_era day) (in_era_few day) in
-    omega (arith, era_years (era_of day) (year_in_era (in_era day)) few, day_parts day, year_begins (in_era day) (in_era_few day))
+    omega (
+      arith,
+      era_years (era_of day) (year_in_era (in_era day)) few,
+      day_parts day,
+      year_begins (in_era day)
+          (in_era_few day),
+    )
 
 year_within : (day : ℕ) → in_year day < 365 + leap_day (pos (suc (march_year day)))
 year_within day =
@@ -108,7 +116,8 @@ month_has : (y : ℤ) (year_day m : ℕ) → m ≡ month_in_year year_day + 3 �
     → year_day - days_before_month (month_in_year year_day) + 1 ≤ days_in_month y m
 month_has y year_day m is low =
     let same : (5 * year_day + 461) / 153 ≡ m = omega (arith, month_from_march year_day) in
-    let has = subst (λ k. (5 * year_day + 461) % 153 / 5 + 1 ≤ days_in_month y k) same (day_in_month y year_day (omega arith)) in
+    let has = subst (λ k. (5 * year_day + 461) % 153 / 5 + 1 ≤ days_in_month y k) same
+    (day_in_month y year_day (omega arith)) in
     omega (arith, has, month_parts year_day)
 
 early_month_has : (y : ℤ) (year_day m : ℕ) → m + 12 ≡ month_in_year year_day + 3 → 1 ≤ m → year_day < 365 + leap_day y
@@ -116,25 +125,31 @@ early_month_has : (y : ℤ) (year_day m : ℕ) → m + 12 ≡ month_in_year year
 early_month_has y year_day m is some within =
     let same : (5 * year_day + 461) / 153 - 12 ≡ m = omega (arith, month_from_march year_day) in
     let late : 12 < (5 * year_day + 461) / 153 = omega (arith, month_from_march year_day) in
-    let has = subst (λ k. (5 * year_day + 461) % 153 / 5 + 1 ≤ days_in_month y k) same (day_in_early_month y year_day late within) in
+    let has = subst (λ k. (5 * year_day + 461) % 153 / 5 + 1 ≤ days_in_month y k) same
+    (day_in_early_month y year_day late within) in
     omega (arith, has, month_parts year_day)
 
 year_low : (day : ℕ) → day ≤ last_day → 400 * era_of day + year_in_era (in_era day) ≤ 9000
-year_low day low = let few = year_few (in_era day) (in_era_few day) in let era : era_of day ≤ 15 = omega arith in omega arith
+year_low day low = let few = year_few (in_era day) (in_era_few day) in let era : era_of day ≤ 15 = omega arith in
+    omega arith
 
 month_few : (day : ℕ) → month_in_year (in_year day) ≤ 11
 month_few day =
-    let few : in_year day ≤ 365 = (let within = year_within day in let leap : leap_day (pos (suc (march_year day))) ≤ 1 = grind arith in omega arith) in
+    let few : in_year day ≤ 365 = (let within = year_within day in
+    let leap : leap_day (pos (suc (march_year day))) ≤ 1 = grind arith in omega arith) in
     omega arith
 
 -- a day from March to December
-civil_early : (day y m : ℕ) → day ≤ last_day → month_in_year (in_year day) < 10 → y ≡ 400 * era_of day + year_in_era (in_era day)
+civil_early : (day y m : ℕ) → day ≤ last_day → month_in_year (in_year day) < 10
+    → y ≡ 400 * era_of day + year_in_era (in_era day)
     → m ≡ month_in_year (in_year day) + 3 → IsCivilOf day y m (day_of_month day)
 civil_early day y m low early y_is m_is =
     let year = year_low day low in
     let from : pos y +ℤ pos 10000 ≡ pos (march_year day) = omega (arith, signed_arith) in
-    let counted = day_count-late (pos y) (march_year day) m (day_of_month day) from (omega arith) (omega arith) (omega arith) in
-    let months : march_months m ≡ days_before_month (month_in_year (in_year day)) = ap march_months m_is ∙ months_before (month_in_year (in_year day)) in
+    let counted = day_count-late (pos y) (march_year day) m (day_of_month day) from (omega arith) (omega arith)
+    (omega arith) in
+    let months : march_months m ≡ days_before_month (month_in_year (in_year day)) = ap march_months m_is
+    ∙ months_before (month_in_year (in_year day)) in
     record {
       civil = (
         (omega (arith, signed_arith), omega (arith, signed_arith)),
@@ -148,15 +163,19 @@ civil_early day y m low early y_is m_is =
     }
 
 -- one in January or February
-civil_late : (day y m : ℕ) → day ≤ last_day → 10 ≤ month_in_year (in_year day) → y ≡ 400 * era_of day + year_in_era (in_era day) + 1
+civil_late : (day y m : ℕ) → day ≤ last_day → 10 ≤ month_in_year (in_year day)
+    → y ≡ 400 * era_of day + year_in_era (in_era day) + 1
     → m + 12 ≡ month_in_year (in_year day) + 3 → IsCivilOf day y m (day_of_month day)
 civil_late day y m low late y_is m_is =
     let year = year_low day low in
     let few = month_few day in
     let from : pos y +ℤ pos 10000 ≡ pos (suc (march_year day)) = omega (arith, signed_arith) in
-    let counted = day_count-early (pos y) (march_year day) m (day_of_month day) from (omega arith) (omega arith) (omega arith) in
-    let months : march_months (m + 12) ≡ days_before_month (month_in_year (in_year day)) = ap march_months m_is ∙ months_before (month_in_year (in_year day)) in
-    let within : in_year day < 365 + leap_day (pos y) = omega (arith, year_within day, leap_day-shift (pos y) (suc (march_year day)) from) in
+    let counted = day_count-early (pos y) (march_year day) m (day_of_month day) from (omega arith) (omega arith)
+    (omega arith) in
+    let months : march_months (m + 12) ≡ days_before_month (month_in_year (in_year day)) = ap march_months m_is
+    ∙ months_before (month_in_year (in_year day)) in
+    let within : in_year day < 365 + leap_day (pos y) =
+    omega (arith, year_within day, leap_day-shift (pos y) (suc (march_year day)) from) in
     record {
       civil = (
         (omega (arith, signed_arith), omega (arith, signed_arith)),
@@ -172,10 +191,12 @@ civil_late day y m low late y_is m_is =
 civil_of : (day : ℕ) → day ≤ last_day → IsCivilOf day (date_of day).year (date_of day).month (date_of day).day
 civil_of day low = elim (cases_lt (month_in_year (in_year day)) 10) [
   | inl early ↦ civil_early day (date_of day).year (date_of day).month low early
-      (ap (λ n. 400 * era_of day + year_in_era (in_era day) + n) (cond-true _ 0 1 (lt-ltb (month_in_year (in_year day)) 10 early)) ∙ omega arith)
+      (ap (λ n. 400 * era_of day + year_in_era (in_era day) + n)
+      (cond-true _ 0 1 (lt-ltb (month_in_year (in_year day)) 10 early)) ∙ omega arith)
       (cond-true _ _ _ (lt-ltb (month_in_year (in_year day)) 10 early))
   | inr late ↦ civil_late day (date_of day).year (date_of day).month low late
-      (ap (λ n. 400 * era_of day + year_in_era (in_era day) + n) (cond-false _ 0 1 (le-ltb (month_in_year (in_year day)) 10 late)))
+      (ap (λ n. 400 * era_of day + year_in_era (in_era day) + n)
+      (cond-false _ 0 1 (le-ltb (month_in_year (in_year day)) 10 late)))
       (ap (λ n. n + 12) (cond-false _ _ _ (le-ltb (month_in_year (in_year day)) 10 late)) ∙ omega arith)
 ]
 
@@ -183,22 +204,33 @@ numbered : (y : ℤ) (m d day : ℕ) → day_count y m d ≡ day + 4371953 → d
 numbered y m d day count = omega (arith, signed_arith, days_from_civil-day_count y m d)
 
 -- the date of the calendar that has a day's number is the day's
-pub is_date_of : (date : CivilDate) (day : ℕ) → day ≤ LAST_MOMENT / HOUR / day_hours → epoch_day date ≡ pos day → IsDateOf date day
+pub is_date_of : (date : CivilDate) (day : ℕ) → day ≤ LAST_MOMENT / HOUR / day_hours → epoch_day date ≡ pos day
+    → IsDateOf date day
 is_date_of date day low is =
     let own = civil_of day low in
     let y = (date_of day).year in
     let m = (date_of day).month in
     let d = (date_of day).day in
-    let model : CivilDate = record { year = pos y; month = m; day = d; year_in = own.civil.0; month_in = own.civil.1; day_in = own.civil.2 } in
+    let model : CivilDate = record {
+      year = pos y;
+      month = m;
+      day = d;
+      year_in = own.civil.0;
+      month_in =
+          own.civil.1;
+      day_in = own.civil.2;
+    } in
     let same = epoch_day_injective date model (is ∙ sym (numbered (pos y) m d day own.count)) in
     record { year = same.0; month = same.1; day_is = same.2 }
 
 -- what a clock in UTC shows at a moment: the day, and the hour
-pub day_shown : (clock : DateTime) (moment : ℕ) → civil_nanos clock ≡ pos moment *ℤ pos 1_000_000_000 +ℤ nanos_of_seconds (pos 0)
+pub day_shown : (clock : DateTime) (moment : ℕ)
+    → civil_nanos clock ≡ pos moment *ℤ pos 1_000_000_000 +ℤ nanos_of_seconds (pos 0)
     → epoch_day clock.date ≡ pos (hour_at moment / day_hours)
 day_shown clock moment is = omega (arith, signed_arith, civil_nanos-parts clock, time_nanos_bound clock.time)
 
-pub hour_shown : (clock : DateTime) (moment : ℕ) → civil_nanos clock ≡ pos moment *ℤ pos 1_000_000_000 +ℤ nanos_of_seconds (pos 0)
+pub hour_shown : (clock : DateTime) (moment : ℕ)
+    → civil_nanos clock ≡ pos moment *ℤ pos 1_000_000_000 +ℤ nanos_of_seconds (pos 0)
     → clock.time.hour ≡ hour_at moment % day_hours
 hour_shown clock moment is =
     let minutes = clock.time.minute_in in
@@ -211,16 +243,20 @@ hour_shown clock moment is =
 
 -- signed numbers that are small are what they count, as unsigned ones too
 pub small_half : (z : ℤ) (n : ℕ) → z ≡ pos n → n < 32768 → unsigned_abs (to_z w16 (of_z w16 z)) ≡ n
-small_half z n is low = ap (λ (y : ℤ). unsigned_abs (to_z w16 (of_z w16 y))) is ∙ ap unsigned_abs (back_small w16 (pos n) (omega arith))
+small_half z n is low = ap (λ (y : ℤ). unsigned_abs (to_z w16 (of_z w16 y))) is
+    ∙ ap unsigned_abs (back_small w16 (pos n) (omega arith))
 
 pub small_byte : (z : ℤ) (n : ℕ) → z ≡ pos n → n < 128 → unsigned_abs (to_z w8 (of_z w8 z)) ≡ n
-small_byte z n is low = ap (λ (y : ℤ). unsigned_abs (to_z w8 (of_z w8 y))) is ∙ ap unsigned_abs (back_small w8 (pos n) (omega arith))
+small_byte z n is low = ap (λ (y : ℤ). unsigned_abs (to_z w8 (of_z w8 y))) is
+    ∙ ap unsigned_abs (back_small w8 (pos n) (omega arith))
 
-pub hour_text : (hour year month day rest : ℕ) → year ≡ (date_of (hour / day_hours)).year → month ≡ (date_of (hour / day_hours)).month
+pub hour_text : (hour year month day rest : ℕ) → year ≡ (date_of (hour / day_hours)).year
+    → month ≡ (date_of (hour / day_hours)).month
     → day ≡ (date_of (hour / day_hours)).day → rest ≡ hour % day_hours
     → date_text (record { year = year; month = month; day = day }) ++ 45 ∷ two_digits rest ≡ hour_name hour
 unfolding hour_name
-hour_text hour year month day rest y m d r = λ i. date_text (record { year = y i; month = m i; day = d i }) ++ 45 ∷ two_digits (r i)
+hour_text hour year month day rest y m d r =
+    λ i. date_text (record { year = y i; month = m i; day = d i }) ++ 45 ∷ two_digits (r i)
 
 -- a clock's numbers are small
 pub month_small : (date : CivilDate) → date.month < 128

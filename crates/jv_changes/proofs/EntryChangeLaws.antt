@@ -20,7 +20,7 @@ use Rattle.jv_model.specs.tree.Changes.{put_entry, take_entry}
 use Rattle.jv_outside.specs.declared.batch.Change.{Change}
 use Rattle.jv_outside.specs.Store.{Store}
 use Rattle.jv_rows.specs.Drafts.{drafted}
-use Rattle.jv_volume.specs.TypedRows.{Cell, Rows, is_entry_name}
+use Rattle.jv_volume.specs.TypedRows.{Cell, Rows, is_entry_name, typed}
 use Rattle.jv_volume.specs.Views.{row_in, node_in, node_row_at}
 use Rattle.jv_volume.specs.TreeOf.{tree_of}
 use Rattle.jv_volume.specs.Stored.{Stored}
@@ -36,36 +36,45 @@ use Rattle.jv_changes.proofs.PresentLaws.{stays-present, present-stands, draftin
 
 -- ---- three changes of rows: an entry's, its directory's, and its inode's
 
-module _ (rows : Rows) (at : EntryKey) (inode : ℕ) (row dir : NodeRow) (here : node_row_at rows inode ≡ Some row) (there : node_row_at rows at.dir ≡ Some dir)
+module _ (rows : Rows) (at : EntryKey) (inode : ℕ) (row dir : NodeRow) (here : node_row_at rows inode ≡ Some row)
+    (there : node_row_at rows at.dir ≡ Some dir)
     (apart : at.dir ≢ inode) (cell : Option Cell) where
   abbrev pub three : NodeRow → NodeRow → Rows
   three dir_after after =
-      insert (insert (alter rows (edge_key at.dir at.name) cell) (node_key at.dir) (Ok (OfNode dir_after))) (node_key inode) (Ok (OfNode after))
+      insert (insert (alter rows (edge_key at.dir at.name) cell) (node_key at.dir) (Ok (OfNode dir_after)))
+      (node_key inode) (Ok (OfNode after))
 
   -- the directory's row is still there after the entry's change, and the inode's after both
   dir_stands : node_row_at (alter rows (edge_key at.dir at.name) cell) at.dir ≡ Some dir
-  dir_stands = ap (λ c. node_in (row_in c)) (alter_kept rows (edge_key at.dir at.name) cell (node_key at.dir) refl) ∙ there
+  dir_stands = ap (λ c. node_in (row_in c)) (alter_kept rows (edge_key at.dir at.name) cell (node_key at.dir) refl)
+      ∙ there
 
   node_stands : (dir_after : NodeRow)
-      → node_row_at (insert (alter rows (edge_key at.dir at.name) cell) (node_key at.dir) (Ok (OfNode dir_after))) inode ≡ Some row
+      → node_row_at (insert (alter rows (edge_key at.dir at.name) cell) (node_key at.dir) (Ok (OfNode dir_after)))
+      inode ≡ Some row
   node_stands dir_after = ap (λ c. node_in (row_in c))
-      (node_apart (alter rows (edge_key at.dir at.name) cell) at.dir (Ok (OfNode dir_after)) inode (λ same. apart (sym same))
+      (node_apart (alter rows (edge_key at.dir at.name) cell) at.dir (Ok (OfNode dir_after)) inode
+      (λ same. apart (sym same))
       ∙ alter_kept rows (edge_key at.dir at.name) cell (node_key inode) refl) ∙ here
 
-  pub sound-three : (known : RowMap) → Sound known rows → ((x : Cell) → cell ≡ Some x → IsRowAt (edge_key at.dir at.name) x) → (now links more : ℕ)
-      → Sound known (three (directory_touched now links dir) (linked_row more row))
-  sound-three known sound new now links more =
+  pub sound-three : (start : Rows) → Sound start rows
+      → ((x : Cell) → cell ≡ Some x → IsRowAt (edge_key at.dir at.name) x) → (now links more : ℕ)
+      → Sound start (three (directory_touched now links dir) (linked_row more row))
+  sound-three start sound new now links more =
       let e1 = alter rows (edge_key at.dir at.name) cell in
       let e2 = insert e1 (node_key at.dir) (Ok (OfNode (directory_touched now links dir))) in
-      sound-node known e2
-      (sound-node known e1 (sound-edge known rows sound at.dir at.name cell new) at.dir dir (directory_touched now links dir) dir_stands refl refl)
+      sound-node start e2
+      (sound-node start e1 (sound-edge start rows sound at.dir at.name cell new) at.dir dir
+      (directory_touched now links dir) dir_stands refl refl)
       inode row (linked_row more row) (node_stands (directory_touched now links dir)) refl refl
 
 -- the same three in mind
-pub three-drafted : (at : EntryKey) (inode : ℕ) (cell : Option Cell) (dir_after after : NodeRow) (was one two now : List Change)
+pub three-drafted : (at : EntryKey) (inode : ℕ) (cell : Option Cell) (dir_after after : NodeRow)
+    (was one two now : List Change)
     → Drafted (edge_key at.dir at.name) cell was one → Drafted (node_key at.dir) (Some (Ok (OfNode dir_after))) one two
     → Drafted (node_key inode) (Some (Ok (OfNode after))) two now → (known : RowMap) → drafted now known
-    ≡ insert (insert (alter (drafted was known) (edge_key at.dir at.name) cell) (node_key at.dir) (Ok (OfNode dir_after))) (node_key inode) (Ok (OfNode after))
+    ≡ insert (insert (alter (drafted was known) (edge_key at.dir at.name) cell) (node_key at.dir)
+    (Ok (OfNode dir_after))) (node_key inode) (Ok (OfNode after))
 three-drafted at inode cell dir_after after was one two now first second third known =
     third known ∙ ap (λ (r : Rows). insert r (node_key inode) (Ok (OfNode after)))
     (second known ∙ ap (λ (r : Rows). insert r (node_key at.dir) (Ok (OfNode dir_after))) (first known))
@@ -74,31 +83,36 @@ three-drafted at inode cell dir_after after was one two now first second third k
 
 module _ (known : RowMap) (was : List Change) (bytes : ℕ → ℕ → ℕ) (t : Tree) (m : Minds known was bytes t)
     (now : ℕ) (at : EntryKey) (inode : ℕ) (row dir : NodeRow)
-    (here : node_row_at (drafted was known) inode ≡ Some row) (there : node_row_at (drafted was known) at.dir ≡ Some dir)
+    (here : node_row_at (drafted was known) inode ≡ Some row)
+    (there : node_row_at (drafted was known) at.dir ≡ Some dir)
     (within_t : is_directory t at.dir ≡ true) (apart : at.dir ≢ inode) where
   abbrev rows : Rows
   rows = drafted was known
 
   within : dir.kind ≡ 2
   within =
-      let has : HasNode (tree_of bytes rows) at.dir dir (bytes at.dir) = found_node bytes rows m.stored at.dir dir there in
+      let has : HasNode (tree_of bytes rows) at.dir dir (bytes at.dir) =
+      found_node bytes rows m.stored at.dir dir there in
       eqb-true dir.kind 2 (sym has.directory ∙ subst (λ (u : Tree). is_directory u at.dir ≡ true) (sym m.tree) within_t)
 
   -- an entry that goes
   module _ (named : get t.entries at ≡ Some inode) (changes : List Change)
       (is : drafted changes known ≡ three rows at inode row dir here there apart None
-      (directory_touched now (dir.nlink - to_directory row.kind) dir) (linked_row (row.nlink - to_node row.kind) row)) where
-    named_there : get (tree_of bytes rows).entries at ≡ Some inode
-    named_there = subst (λ (u : Tree). get u.entries at ≡ Some inode) (sym m.tree) named
+      (directory_touched now (dir.nlink - to_directory row.kind) dir) (linked_row (row.nlink - to_node row.kind) row))
+    where
+      named_there : get (tree_of bytes rows).entries at ≡ Some inode
+      named_there = subst (λ (u : Tree). get u.entries at ≡ Some inode) (sym m.tree) named
 
-    pub minds-entry_out : Minds known changes bytes (take_entry t now at)
-    minds-entry_out = minds-sound known changes bytes (take_entry t now at)
-        (rows_without_entry bytes rows now at inode row dir m.stored here there within apart)
-        (sound-three rows at inode row dir here there apart None known (sound-minds known was bytes t m) (λ x e. absurd (cc)) now
-        (dir.nlink - to_directory row.kind) (row.nlink - to_node row.kind))
-        is
-        (tree_of-entry_out bytes rows now at inode row dir m.stored here there within apart ∙ ap (λ (u : Tree). take_entry u now at) m.tree)
-        (stored-entry_out bytes rows now at inode row dir m.stored here there within apart named_there)
+      pub minds-entry_out : Minds known changes bytes (take_entry t now at)
+      minds-entry_out = minds-sound known changes bytes (take_entry t now at)
+          (rows_without_entry bytes rows now at inode row dir m.stored here there within apart)
+          (sound-three rows at inode row dir here there apart None (typed known) (sound-minds known was bytes t m)
+          (λ x e. absurd (cc)) now
+          (dir.nlink - to_directory row.kind) (row.nlink - to_node row.kind))
+          is
+          (tree_of-entry_out bytes rows now at inode row dir m.stored here there within apart ∙ ap
+          (λ (u : Tree). take_entry u now at) m.tree)
+          (stored-entry_out bytes rows now at inode row dir m.stored here there within apart named_there)
 
   -- an entry that comes
   module _ (free : get t.entries at ≡ None) where
@@ -109,7 +123,8 @@ module _ (known : RowMap) (was : List Change) (bytes : ℕ → ℕ → ℕ) (t :
     rows_in = rows_with_entry bytes rows now at inode row dir m.stored here there within apart
 
     tree_in : tree_of bytes rows_in ≡ put_entry t now at inode
-    tree_in = tree_of-entry_in bytes rows now at inode row dir m.stored here there within apart ∙ ap (λ (u : Tree). put_entry u now at inode) m.tree
+    tree_in = tree_of-entry_in bytes rows now at inode row dir m.stored here there within apart
+        ∙ ap (λ (u : Tree). put_entry u now at inode) m.tree
 
     stored_in : Stored rows_in (tree_of bytes rows_in)
     stored_in = stored-entry_in bytes rows now at inode row dir m.stored here there within apart free_there
@@ -133,9 +148,11 @@ module _ (known : RowMap) (was : List Change) (bytes : ℕ → ℕ → ℕ) (t :
 
     pub dir_links : link_count (put_entry t now at inode) at.dir ≡ dir.nlink + to_directory row.kind
     dir_links =
-        let has : HasNode (tree_of bytes rows_in) at.dir (directory_touched now (dir.nlink + to_directory row.kind) dir) (bytes at.dir) =
+        let has : HasNode (tree_of bytes rows_in) at.dir (directory_touched now (dir.nlink + to_directory row.kind) dir)
+        (bytes at.dir) =
         found_node bytes rows_in stored_in at.dir (directory_touched now (dir.nlink + to_directory row.kind) dir)
-        (ap (λ c. node_in (row_in c)) (node_apart e2 inode node_cell at.dir apart ∙ node_here e1 at.dir dir_cell at.dir refl)) in
+        (ap (λ c. node_in (row_in c)) (node_apart e2 inode node_cell at.dir apart ∙ node_here e1 at.dir dir_cell at.dir
+        refl)) in
         ap (λ (u : Tree). link_count u at.dir) (sym tree_in) ∙ sym has.links
 
     pub node_links : link_count (put_entry t now at inode) inode ≡ row.nlink + to_node row.kind
@@ -150,8 +167,10 @@ module _ (known : RowMap) (was : List Change) (bytes : ℕ → ℕ → ℕ) (t :
         (directory_touched now (dir.nlink + to_directory row.kind) dir) (linked_row (row.nlink + to_node row.kind) row)
         → Minds known changes bytes (put_entry t now at inode)
     minds-entry_in name changes is = minds-sound known changes bytes (put_entry t now at inode) rows_in
-        (sound-three rows at inode row dir here there apart (Some edge_cell) known (sound-minds known was bytes t m)
-        (λ x e. subst (IsRowAt (edge_key at.dir at.name)) (same_cell edge_cell x e) (record { key_is = name; cell_is = refl })) now
+        (sound-three rows at inode row dir here there apart (Some edge_cell) (typed known)
+        (sound-minds known was bytes t m)
+        (λ x e. subst (IsRowAt (edge_key at.dir at.name)) (same_cell edge_cell x e)
+        (record { key_is = name; cell_is = refl })) now
         (dir.nlink + to_directory row.kind) (row.nlink + to_node row.kind))
         is tree_in stored_in
       where
@@ -171,15 +190,18 @@ entry_put-made : (now : ℕ) (at : EntryKey) (inode : ℕ) (t : Tree) → links_
     → entry_put now at inode t ≡ Ok (put_entry t now at inode)
 entry_put-made now at inode t dir node =
     let u = put_entry t now at inode in
-    ap (λ b. require (b && links_fit u inode) NoSpace >>= (λ unit. Ok u)) dir ∙ ap (λ b. require b NoSpace >>= (λ unit. Ok u)) node
+    ap (λ b. require (b && links_fit u inode) NoSpace >>= (λ unit. Ok u)) dir
+    ∙ ap (λ b. require b NoSpace >>= (λ unit. Ok u)) node
 
-entry_put-full_dir : (now : ℕ) (at : EntryKey) (inode : ℕ) (t : Tree) → links_fit (put_entry t now at inode) at.dir ≡ false
+entry_put-full_dir : (now : ℕ) (at : EntryKey) (inode : ℕ) (t : Tree)
+    → links_fit (put_entry t now at inode) at.dir ≡ false
     → entry_put now at inode t ≡ Err NoSpace
 entry_put-full_dir now at inode t dir =
     let u = put_entry t now at inode in
     ap (λ b. require (b && links_fit u inode) NoSpace >>= (λ unit. Ok u)) dir
 
-entry_put-full_node : (now : ℕ) (at : EntryKey) (inode : ℕ) (t : Tree) → links_fit (put_entry t now at inode) inode ≡ false
+entry_put-full_node : (now : ℕ) (at : EntryKey) (inode : ℕ) (t : Tree)
+    → links_fit (put_entry t now at inode) inode ≡ false
     → entry_put now at inode t ≡ Err NoSpace
 entry_put-full_node now at inode t node =
     let u = put_entry t now at inode in
@@ -197,20 +219,26 @@ directory_there t inode is = by_node (node_at t inode) is
 -- ---- the small changes
 
 module _ {A : Type 0} (was : List Change) (before middle after : Store) (at : EntryKey) (inode : ℕ) (row : NodeRow)
-    (read : Presents inode was before middle (Ok row)) (fault : TxFault) (unread : Presents at.dir was middle after (Err fault)) where
+    (read : Presents inode was before middle (Ok row)) (fault : TxFault)
+    (unread : Presents at.dir was middle after (Err fault)) where
   -- the directory's row wasn't read
-  pub take-no_dir : (step : Tree → Result Tree Fault) → Drafting {A = A} (λ t. StandsAt t at inode) was was before after (Err fault) step
-  take-no_dir step = drafting-absent at.dir was middle after (λ t. StandsAt t at inode) was before (stays-present inode was before middle row read) step
+  pub take-no_dir : (step : Tree → Result Tree Fault)
+      → Drafting {A = A} (λ t. StandsAt t at inode) was was before after (Err fault) step
+  take-no_dir step = drafting-absent at.dir was middle after (λ t. StandsAt t at inode) was before
+      (stays-present inode was before middle row read) step
       (λ t ready. directory_there t at.dir ready.within) fault unread
 
-  pub put-no_dir : (step : Tree → Result Tree Fault) → Drafting {A = A} (λ t. MayStandAt t at inode) was was before after (Err fault) step
-  put-no_dir step = drafting-absent at.dir was middle after (λ t. MayStandAt t at inode) was before (stays-present inode was before middle row read) step
+  pub put-no_dir : (step : Tree → Result Tree Fault)
+      → Drafting {A = A} (λ t. MayStandAt t at inode) was was before after (Err fault) step
+  put-no_dir step = drafting-absent at.dir was middle after (λ t. MayStandAt t at inode) was before
+      (stays-present inode was before middle row read) step
       (λ t ready. directory_there t at.dir ready.within) fault unread
 
 module _ (was : List Change) (before middle after : Store) (now : ℕ) (at : EntryKey) (inode : ℕ) (row dir : NodeRow)
     (node_read : Presents inode was before middle (Ok row)) (dir_read : Presents at.dir was middle after (Ok dir)) where
   stays : Stays before after
-  stays = stays-then before middle after (stays-present inode was before middle row node_read) (stays-present at.dir was middle after dir dir_read)
+  stays = stays-then before middle after (stays-present inode was before middle row node_read)
+      (stays-present at.dir was middle after dir dir_read)
 
   node_at_row : (known : RowMap) → before.rows ≡ Some known → node_row_at (drafted was known) inode ≡ Some row
   node_at_row known is = present-stands inode was before middle row node_read known is
@@ -221,15 +249,17 @@ module _ (was : List Change) (before middle after : Store) (now : ℕ) (at : Ent
   -- an entry that goes
   pub take-made : (one two changes : List Change)
       → Drafted (edge_key at.dir at.name) None was one
-      → Drafted (node_key at.dir) (Some (Ok (OfNode (directory_touched now (dir.nlink - to_directory row.kind) dir)))) one two
+      → Drafted (node_key at.dir) (Some (Ok (OfNode (directory_touched now (dir.nlink - to_directory row.kind) dir))))
+      one two
       → Drafted (node_key inode) (Some (Ok (OfNode (linked_row (row.nlink - to_node row.kind) row)))) two changes
       → Drafting (λ t. StandsAt t at inode) was changes before after (Ok (tt {0})) (λ t. Ok (take_entry t now at))
   take-made one two changes first second third =
       let dir_after = directory_touched now (dir.nlink - to_directory row.kind) dir in
       let node_after = linked_row (row.nlink - to_node row.kind) row in
       drafting-made (λ t. StandsAt t at inode) was changes before after stays (λ t. Ok (take_entry t now at)) (tt {0})
-      (λ are. are_rows-put (node_key inode) two changes (OfNode node_after) third (are_rows-put (node_key at.dir) one two (OfNode dir_after) second
-      (are_rows-drop (edge_key at.dir at.name) was one first are)))
+      (λ are. are_rows-put (node_key inode) two changes (OfNode node_after) third
+      (are_rows-put (node_key at.dir) one two (OfNode dir_after) second
+      (are_rows-drop (edge_key at.dir at.name) was one refl first are)))
       (λ known is bytes t m ready. record {
         left = take_entry t now at;
         is = refl;
@@ -247,21 +277,27 @@ module _ (was : List Change) (before middle after : Store) (now : ℕ) (at : Ent
   -- the directory's link count is full
   pub put-full_dir : (changes : List Change) → MAX_LINKS < dir.nlink + to_directory row.kind
       → Drafting {A = Unit {0}} place_ready was changes before after (Err (Refused NoSpace)) step
-  put-full_dir changes full = drafting-refused place_ready was changes before after stays step NoSpace (λ known is bytes t m ready.
+  put-full_dir changes full = drafting-refused place_ready was changes before after stays step NoSpace
+      (λ known is bytes t m ready.
       entry_put-full_dir now at inode t (fits-no (put_entry t now at inode) at.dir (dir.nlink + to_directory row.kind)
-      (dir_links known was bytes t m now at inode row dir (node_at_row known is) (dir_at_row known is) ready.within ready.apart ready.free) full))
+      (dir_links known was bytes t m now at inode row dir (node_at_row known is) (dir_at_row known is) ready.within
+      ready.apart ready.free) full))
 
   -- the inode's link count is full
   pub put-full_node : (changes : List Change) → MAX_LINKS < row.nlink + to_node row.kind
       → Drafting {A = Unit {0}} place_ready was changes before after (Err (Refused NoSpace)) step
-  put-full_node changes full = drafting-refused place_ready was changes before after stays step NoSpace (λ known is bytes t m ready.
+  put-full_node changes full = drafting-refused place_ready was changes before after stays step NoSpace
+      (λ known is bytes t m ready.
       entry_put-full_node now at inode t (fits-no (put_entry t now at inode) inode (row.nlink + to_node row.kind)
-      (node_links known was bytes t m now at inode row dir (node_at_row known is) (dir_at_row known is) ready.within ready.apart ready.free) full))
+      (node_links known was bytes t m now at inode row dir (node_at_row known is) (dir_at_row known is) ready.within
+      ready.apart ready.free) full))
 
   -- an entry that comes
-  pub put-made : (one two changes : List Change) → dir.nlink + to_directory row.kind ≤ MAX_LINKS → row.nlink + to_node row.kind ≤ MAX_LINKS
+  pub put-made : (one two changes : List Change) → dir.nlink + to_directory row.kind ≤ MAX_LINKS
+      → row.nlink + to_node row.kind ≤ MAX_LINKS
       → Drafted (edge_key at.dir at.name) (Some (Ok (OfEdge (record { kind = row.kind; inode = inode })))) was one
-      → Drafted (node_key at.dir) (Some (Ok (OfNode (directory_touched now (dir.nlink + to_directory row.kind) dir)))) one two
+      → Drafted (node_key at.dir) (Some (Ok (OfNode (directory_touched now (dir.nlink + to_directory row.kind) dir))))
+      one two
       → Drafted (node_key inode) (Some (Ok (OfNode (linked_row (row.nlink + to_node row.kind) row)))) two changes
       → Drafting place_ready was changes before after (Ok (tt {0})) step
   put-made one two changes dir_low node_low first second third =
@@ -269,16 +305,20 @@ module _ (was : List Change) (before middle after : Store) (now : ℕ) (at : Ent
       let dir_after = directory_touched now (dir.nlink + to_directory row.kind) dir in
       let node_after = linked_row (row.nlink + to_node row.kind) row in
       drafting-made place_ready was changes before after stays step (tt {0})
-      (λ are. are_rows-put (node_key inode) two changes (OfNode node_after) third (are_rows-put (node_key at.dir) one two (OfNode dir_after) second
+      (λ are. are_rows-put (node_key inode) two changes (OfNode node_after) third
+      (are_rows-put (node_key at.dir) one two (OfNode dir_after) second
       (are_rows-put (edge_key at.dir at.name) was one (OfEdge edge) first are)))
       (λ known is bytes t m ready. record {
         left = put_entry t now at inode;
         is = entry_put-made now at inode t
             (fits-yes (put_entry t now at inode) at.dir (dir.nlink + to_directory row.kind)
-            (dir_links known was bytes t m now at inode row dir (node_at_row known is) (dir_at_row known is) ready.within ready.apart ready.free) dir_low)
+            (dir_links known was bytes t m now at inode row dir (node_at_row known is)
+            (dir_at_row known is) ready.within ready.apart ready.free) dir_low)
             (fits-yes (put_entry t now at inode) inode (row.nlink + to_node row.kind)
-            (node_links known was bytes t m now at inode row dir (node_at_row known is) (dir_at_row known is) ready.within ready.apart ready.free) node_low);
+            (node_links known was bytes t m now at inode row dir (node_at_row known is)
+            (dir_at_row known is) ready.within ready.apart ready.free) node_low);
         minds = minds-entry_in known was bytes t m now at inode row dir (node_at_row known is) (dir_at_row known is)
             ready.within ready.apart ready.free ready.name changes
-            (three-drafted at inode (Some (Ok (OfEdge edge))) dir_after node_after was one two changes first second third known);
+            (three-drafted at inode (Some (Ok (OfEdge edge))) dir_after node_after was one two changes first second
+            third known);
       })

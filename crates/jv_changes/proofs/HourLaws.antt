@@ -41,7 +41,8 @@ use Rattle.jv_changes.proofs.HourLinkLaws.{trash_links}
 abbrev pub hour_dir : ℕ → Node
 hour_dir now = new_node (Directory trash_root) read_only_mode now
 
-pub with_hour-there : (t : Tree) (now hour : ℕ) (node : Node) → node_at t (hour_inode hour) ≡ Some node → with_hour t now hour ≡ t
+pub with_hour-there : (t : Tree) (now hour : ℕ) (node : Node) → node_at t (hour_inode hour) ≡ Some node
+    → with_hour t now hour ≡ t
 unfolding with_hour
 with_hour-there t now hour node there = ap (λ (o : Option Node). elim o as (λ _. Tree) [
   | None ↦ with_node t now (hour_place hour) (hour_inode hour) (hour_dir now)
@@ -49,7 +50,8 @@ with_hour-there t now hour node there = ap (λ (o : Option Node). elim o as (λ 
 ]) there
 
 pub with_hour-comes : (t : Tree) (now hour : ℕ) → node_at t (hour_inode hour) ≡ None
-    → with_hour t now hour ≡ put_entry (put_node t (hour_inode hour) (hour_dir now)) now (hour_place hour) (hour_inode hour)
+    → with_hour t now hour ≡ put_entry (put_node t (hour_inode hour) (hour_dir now)) now (hour_place hour)
+    (hour_inode hour)
 unfolding with_hour
 with_hour-comes t now hour none = ap (λ (o : Option Node). elim o as (λ _. Tree) [
   | None ↦ with_node t now (hour_place hour) (hour_inode hour) (hour_dir now)
@@ -57,7 +59,8 @@ with_hour-comes t now hour none = ap (λ (o : Option Node). elim o as (λ _. Tre
 ]) none
 
 uncounted : (inode : ℕ) → trash_root < inode → is_counted inode ≡ false
-uncounted inode high = ap (λ b. not (inode == root) && b) (le-ltb inode trash_root (omega arith)) ∙ neither (not (inode == root))
+uncounted inode high = ap (λ b. not (inode == root) && b) (le-ltb inode trash_root (omega arith))
+    ∙ neither (not (inode == root))
   where
     neither : (b : Bool) → (b && false) ≡ false
     neither true = refl
@@ -67,22 +70,26 @@ uncounted inode high = ap (λ b. not (inode == root) && b) (le-ltb inode trash_r
 digit_is_text : (n : ℕ) → not ((48 + n == 47) || (48 + n == 0)) ≡ true
 digit_is_text n = grind arith
 
-digits_are_name : (a b c d e f g h j k : ℕ) → IsTrue (is_entry_name ((48 + a) ∷ (48 + b) ∷ (48 + c) ∷ (48 + d) ∷ 45 ∷ (48 + e) ∷ (48 + f) ∷ 45
+digits_are_name : (a b c d e f g h j k : ℕ)
+    → IsTrue (is_entry_name ((48 + a) ∷ (48 + b) ∷ (48 + c) ∷ (48 + d) ∷ 45 ∷ (48 + e) ∷ (48 + f) ∷ 45
     ∷ (48 + g) ∷ (48 + h) ∷ 45 ∷ (48 + j) ∷ (48 + k) ∷ []))
 digits_are_name a b c d e f g h j k =
-    λ i. digit_is_text a i && (digit_is_text b i && (digit_is_text c i && (digit_is_text d i && (digit_is_text e i && (digit_is_text f i
+    λ i. digit_is_text a i && (digit_is_text b i &&
+    (digit_is_text c i && (digit_is_text d i && (digit_is_text e i && (digit_is_text f i
     && (digit_is_text g i && (digit_is_text h i && (digit_is_text j i && (digit_is_text k i && true)))))))))
 
 date_is_name : (date : Date) (rest : ℕ) → IsTrue (is_entry_name (date_text date ++ 45 ∷ two_digits rest))
 date_is_name date rest =
-    digits_are_name (date.year / 100 / 10 % 10) (date.year / 100 % 10) (date.year / 10 % 10) (date.year % 10) (date.month / 10 % 10) (date.month % 10)
+    digits_are_name (date.year / 100 / 10 % 10) (date.year / 100 % 10) (date.year / 10 % 10) (date.year % 10)
+    (date.month / 10 % 10) (date.month % 10)
     (date.day / 10 % 10) (date.day % 10) (rest / 10 % 10) (rest % 10)
 
 pub hour_is_name : (hour : ℕ) → IsTrue (is_entry_name (hour_name hour))
 unfolding hour_name
 hour_is_name hour = date_is_name (date_of (hour / day_hours)) (hour % day_hours)
 
-module _ (t : Tree) (now hour : ℕ) (may : MayHaveHour t hour) (low : hour ≤ last_hour) (none : node_at t (hour_inode hour) ≡ None) where
+module _ (t : Tree) (now hour : ℕ) (may : MayHaveHour t hour) (low : hour ≤ last_hour)
+    (none : node_at t (hour_inode hour) ≡ None) where
   abbrev dir : ℕ
   dir = hour_inode hour
 
@@ -115,30 +122,42 @@ module _ (t : Tree) (now hour : ℕ) (may : MayHaveHour t hour) (low : hour ≤ 
 
   trash_fits : links_fit (put_entry with_dir now (hour_place hour) dir) trash_root ≡ true
   trash_fits =
-      let one = link_count-put_entry-dir with_dir now (hour_place hour) dir trash_root (may.free none) dir_there trash_stays in
-      let same = link_count-put_unnamed t dir (hour_dir now) trash_root (may.unnamed none) (λ same. absurd (let more = high in omega (arith, more, same))) in
+      let one = link_count-put_entry-dir with_dir now (hour_place hour) dir trash_root (may.free none) dir_there
+      trash_stays in
+      let same = link_count-put_unnamed t dir (hour_dir now) trash_root (may.unnamed none)
+      (λ same. absurd (let more = high in omega (arith, more, same))) in
       let few = trash_links t may.hours (sym (dirs-shape t trash_root) ∙ may.trash) in
       le-leb (link_count (put_entry with_dir now (hour_place hour) dir) trash_root) MAX_LINKS
       (omega (arith, one, same, few, standing_here trash_root (hour_place hour) refl))
 
   dir_fits : links_fit (put_entry with_dir now (hour_place hour) dir) dir ≡ true
   dir_fits =
-      let none_more = link_count-put_entry-dir with_dir now (hour_place hour) dir dir (may.free none) dir_there trash_stays in
+      let none_more = link_count-put_entry-dir with_dir now (hour_place hour) dir dir (may.free none) dir_there
+      trash_stays in
       let two = link_count-put_alone t dir (hour_dir now) hour_free in
       le-leb (link_count (put_entry with_dir now (hour_place hour) dir) dir) MAX_LINKS
-      (omega (arith, none_more, two, standing_apart dir (hour_place hour) (λ same. absurd (let more = high in omega (arith, more, same)))))
+      (omega (
+        arith,
+        none_more,
+        two,
+        standing_apart dir (hour_place hour)
+            (λ same. absurd (let more = high in omega (arith, more, same))),
+      ))
 
   -- the entry is put, and the tree has the hour
-  pub hour_entered : entry_put now (hour_place hour) (hour_inode hour) (put_node t (hour_inode hour) (hour_dir now)) ≡ Ok (with_hour t now hour)
+  pub hour_entered : entry_put now (hour_place hour) (hour_inode hour)
+      (put_node t (hour_inode hour) (hour_dir now)) ≡ Ok (with_hour t now hour)
   hour_entered =
-      ap (λ b. require (b && links_fit (put_entry with_dir now (hour_place hour) dir) dir) NoSpace >>= (λ _. Ok (put_entry with_dir now (hour_place hour) dir)))
+      ap (λ b. require (b && links_fit (put_entry with_dir now (hour_place hour) dir) dir) NoSpace >>=
+      (λ _. Ok (put_entry with_dir now (hour_place hour) dir)))
       trash_fits
       ∙ ap (λ b. require b NoSpace >>= (λ _. Ok (put_entry with_dir now (hour_place hour) dir))) dir_fits
       ∙ ap (λ (u : Tree). Ok u) (sym (with_hour-comes t now hour none))
 
 -- ---- the rows
 
-module _ (start rows : Rows) (bytes : ℕ → ℕ → ℕ) (now hour : ℕ) (m : OfTree start rows bytes (tree_of bytes rows)) (may : MayHaveHour (tree_of bytes rows) hour)
+module _ (start rows : Rows) (bytes : ℕ → ℕ → ℕ) (now hour : ℕ) (m : OfTree start rows bytes (tree_of bytes rows))
+    (may : MayHaveHour (tree_of bytes rows) hour)
     (low : hour ≤ last_hour) (absent : node_row_at rows (hour_inode hour) ≡ None) where
   abbrev inode : ℕ
   inode = hour_inode hour
@@ -169,23 +188,28 @@ module _ (start rows : Rows) (bytes : ℕ → ℕ → ℕ) (now hour : ℕ) (m :
         used_inodes = same_inodes none i;
       }
     where
-      same_space : is_counted inode ≡ false → c.used_space + node_space inode (node_of (bytes inode) (hour_row now)) ≡ c.used_space
+      same_space : is_counted inode ≡ false
+          → c.used_space + node_space inode (node_of (bytes inode) (hour_row now)) ≡ c.used_space
       same_space none = ap (λ b. c.used_space + (if b then 4096 else 0)) none ∙ omega arith
 
-      same_inodes : is_counted inode ≡ false → c.used_inodes + node_count inode (node_of (bytes inode) (hour_row now)) ≡ c.used_inodes
+      same_inodes : is_counted inode ≡ false
+          → c.used_inodes + node_count inode (node_of (bytes inode) (hour_row now)) ≡ c.used_inodes
       same_inodes none = ap (λ b. c.used_inodes + (if b then 1 else 0)) none ∙ omega arith
 
   same_rows : rows_with_node bytes rows inode (hour_row now) c c.inode m.stored counters_are free refl ≡ with_row
   same_rows =
       ap (λ (x : Counters). insert with_row counters_key (of_counters x)) same_counters
-      ∙ alter-same row_key with_row counters_key (Some (of_counters c)) (put_kept rows (node_key inode) cell counters_key refl ∙ m.stored.counters)
+      ∙ alter-same row_key with_row counters_key (Some (of_counters c))
+      (put_kept rows (node_key inode) cell counters_key refl ∙ m.stored.counters)
 
-  hour_typed : (x : Cell) → ◌≡◌ {A = Option Cell} (Some (of_node (hour_row now))) (Some x) → IsRowAt (node_key (hour_inode hour)) x
-  hour_typed x e = (let same : cell ≡ x = cc in subst (IsRowAt (node_key inode)) same (record { key_is = refl; cell_is = refl }))
+  hour_typed : (x : Cell) → ◌≡◌ {A = Option Cell} (Some (of_node (hour_row now))) (Some x)
+      → IsRowAt (node_key (hour_inode hour)) x
+  hour_typed x e = (let same : cell ≡ x = cc in
+      subst (IsRowAt (node_key inode)) same (record { key_is = refl; cell_is = refl }))
 
   not_dropped : dropped_at rows (hour_inode hour) ≢ None → ⊥
   not_dropped there =
-      let given = (m.files.gone inode there).1 in
+      let given = (m.sound.files.gone inode there).1 in
       let more = hour_inode_high hour low in
       omega (arith, given, more, may.below, next_inode-tree_of bytes rows)
 
@@ -193,13 +217,16 @@ module _ (start rows : Rows) (bytes : ℕ → ℕ → ℕ) (now hour : ℕ) (m :
       (put_node (tree_of bytes rows) (hour_inode hour) (hour_dir now))
   rows-hour = record {
     tree = tree_of-put_node bytes rows inode (hour_row now);
-    cells = rows-alter rows (node_key inode) (Some cell) m.cells hour_typed;
     stored = subst (λ (r : Rows). Stored r (tree_of bytes r)) same_rows
         (stored-new_node bytes rows inode (hour_row now) c c.inode m.stored counters_are free refl);
-    files = files-node rows inode (Some cell) m.files (λ node is file. absurd (a_directory node is file)) (λ was there file. absurd (cc))
-        (λ there. absurd (not_dropped there));
-    quiet = quiet-then start rows with_row m.quiet (quiet-alter rows (node_key inode) (Some cell) refl refl);
+    sound = record {
+      cells = rows-alter rows (node_key inode) (Some cell) m.sound.cells hour_typed;
+      files = files-node rows inode (Some cell) m.sound.files (λ node is file. absurd (a_directory node is file))
+          (λ was there file. absurd (cc)) (λ there. absurd (not_dropped there));
+      quiet = quiet-then start rows with_row m.sound.quiet (quiet-alter rows (node_key inode) (Some cell) refl refl);
+    };
   }
     where
       a_directory : (node : NodeRow) → ◌≡◌ {A = Option NodeRow} (Some (hour_row now)) (Some node) → node.kind ≡ 1 → ⊥
-      a_directory node is file = (let same : hour_row now ≡ node = cc in let two : 2 ≡ 1 = ap (λ (r : NodeRow). r.kind) same ∙ file in omega (arith, two))
+      a_directory node is file = (let same : hour_row now ≡ node = cc in
+          let two : 2 ≡ 1 = ap (λ (r : NodeRow). r.kind) same ∙ file in omega (arith, two))

@@ -26,7 +26,8 @@ module _ (f : EntryKey → ℕ → ℕ) where
 
   fewer : (n : ℕ) (at : EntryKey) (adds : ℕ) → at ≢ hour_place n → AddsFew (suc n) at adds → AddsFew n at adds
   fewer n at adds apart (AddsNone is) = AddsNone is
-  fewer n at adds apart (AddsOne one hour less is) = AddsOne one hour (below hour less (λ same. apart (is ∙ ap hour_place same))) is
+  fewer n at adds apart (AddsOne one hour less is) =
+      AddsOne one hour (below hour less (λ same. apart (is ∙ ap hour_place same))) is
     where
       below : (h : ℕ) → h < suc n → h ≢ n → h < n
       below h small other = omega arith
@@ -37,8 +38,10 @@ module _ (f : EntryKey → ℕ → ℕ) where
 
   few_removed : (n : ℕ) (m : Map entry_key ℕ) → Few (suc n) m → Few n (remove m (hour_place n))
   few_removed n m few at inode there = elim (same_or_apart entry_key at (hour_place n)) [
-    | inl same ↦ absurd (gone (sym there ∙ ap (get (remove m (hour_place n))) same ∙ get-removed entry_key m (hour_place n)))
-    | inr apart ↦ fewer n at (f at inode) apart (few at inode (sym (get-remove_apart entry_key m (hour_place n) at apart) ∙ there))
+    | inl same ↦ absurd (gone (sym there ∙ ap (get (remove m (hour_place n))) same ∙ get-removed entry_key m
+        (hour_place n)))
+    | inr apart ↦ fewer n at (f at inode) apart
+        (few at inode (sym (get-remove_apart entry_key m (hour_place n) at apart) ∙ there))
   ]
     where
       gone : ◌≡◌ {A = Option ℕ} (Some inode) None → ⊥
@@ -46,10 +49,16 @@ module _ (f : EntryKey → ℕ → ℕ) where
 
   -- as many as the bound says
   sum-few : (n : ℕ) (m : Map entry_key ℕ) → Few n m → sum_over f m ≤ n
-  sum-few zero m few = omega (arith, sum-nothing entry_key f m (λ at inode there. none_left at (f at inode) (few at inode there)))
-  sum-few (suc n) m few = by_place (sum-few n (remove m (hour_place n)) (few_removed n m few)) (get m (hour_place n)) refl
+  sum-few zero m few = omega (
+    arith,
+    sum-nothing entry_key f m
+        (λ at inode there. none_left at (f at inode) (few at inode there)),
+  )
+  sum-few (suc n) m few = by_place (sum-few n (remove m (hour_place n)) (few_removed n m few))
+      (get m (hour_place n)) refl
     where
-      by_place : sum_over f (remove m (hour_place n)) ≤ n → (o : Option ℕ) → get m (hour_place n) ≡ o → sum_over f m ≤ suc n
+      by_place : sum_over f (remove m (hour_place n)) ≤ n → (o : Option ℕ) → get m (hour_place n) ≡ o
+          → sum_over f m ≤ suc n
       by_place rest None none = omega (arith, rest, ap (sum_over f) (remove-absent entry_key m (hour_place n) none))
       by_place rest (Some inode) there =
           omega (
@@ -68,7 +77,8 @@ hour_small : (at : EntryKey) (inode : ℕ) → NamesHour at inode → hour_of in
 hour_small at inode n = elim (cases_eq inode FIRST_HOUR) [
   | inl same ↦ subst (λ i. hour_of i < hours_end) (sym same) (omega arith)
   | inr apart ↦
-      let high : inode ≤ FIRST_HOUR = leb-true inode FIRST_HOUR (and_parts (nat_lt trash_root inode) (nat_le inode FIRST_HOUR) n.hour).1 in
+      let high : inode ≤ FIRST_HOUR =
+      leb-true inode FIRST_HOUR (and_parts (nat_lt trash_root inode) (nat_le inode FIRST_HOUR) n.hour).1 in
       let is : hour_of inode ≡ inode - trash_root = cond-false _ _ _ (ne_eqb inode FIRST_HOUR apart) in
       omega (arith, high, is)
 ]
@@ -78,7 +88,8 @@ adds_few : (dirs : ℕ → Bool) (at : EntryKey) (inode : ℕ) → (at.dir ≡ t
 adds_few dirs at inode hours = elim (cases_eq at.dir trash_root) [
   | inl same ↦
       let n = hours same in
-      AddsOne (at_most (at.dir == trash_root && dirs inode)) (hour_of inode) (hour_small at inode n) (λ i. record { dir = same i; name = n.name i })
+      AddsOne (at_most (at.dir == trash_root && dirs inode)) (hour_of inode) (hour_small at inode n)
+      (λ i. record { dir = same i; name = n.name i })
   | inr apart ↦ AddsNone (ap (λ b. if b && dirs inode then 1 else 0) (ne_eqb at.dir trash_root apart))
 ]
   where
@@ -87,11 +98,13 @@ adds_few dirs at inode hours = elim (cases_eq at.dir trash_root) [
     at_most false = omega arith
 
 -- the trash has links to spare
-pub trash_links : (t : Tree) → ((at : EntryKey) (inode : ℕ) → get t.entries at ≡ Some inode → at.dir ≡ trash_root → NamesHour at inode)
+pub trash_links : (t : Tree) → ((at : EntryKey) (inode : ℕ) → get t.entries at ≡ Some inode → at.dir ≡ trash_root
+    → NamesHour at inode)
     → dirs_of (shape_of t) trash_root ≡ true → link_count t trash_root ≤ 38177491
 trash_links t hours trash =
     let dirs = dirs_of (shape_of t) in
-    let few = sum-few (within_of dirs trash_root) hours_end t.entries (λ at inode there. adds_few dirs at inode (hours at inode there)) in
+    let few = sum-few (within_of dirs trash_root) hours_end t.entries
+    (λ at inode there. adds_few dirs at inode (hours at inode there)) in
     let counted = link_count-shape t trash_root
     ∙ ap (λ b. if b then 2 + sum_over (within_of dirs trash_root) t.entries else count_of t.entries trash_root) trash in
     omega (arith, few, counted)

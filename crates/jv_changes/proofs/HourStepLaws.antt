@@ -45,7 +45,8 @@ pub record GoesOn (known : RowMap) (changes : List Change) (bytes : ℕ → ℕ 
   pub is_ready : ready then
   pub same : step then ≡ model
 
-as_fault : (A B : Type 0) (fault : TxFault) (known : RowMap) (changes : List Change) (bytes : ℕ → ℕ → ℕ) (model : Result Tree Fault)
+as_fault : (A B : Type 0) (fault : TxFault) (known : RowMap) (changes : List Change) (bytes : ℕ → ℕ → ℕ)
+    (model : Result Tree Fault)
     → LeadsTo {A = B} known changes bytes (Err fault) model → LeadsTo {A = A} known changes bytes (Err fault) model
 as_fault A B (Refused fault) known changes bytes model h = h
 as_fault A B (Moved list) known changes bytes model h = h
@@ -53,9 +54,11 @@ as_fault A B (OfRows (Bad at bad)) known changes bytes model h = h
 as_fault A B (OfRows Failed) known changes bytes model h = tt
 as_fault A B (OfRows Memory) known changes bytes model h = tt
 
-module _ {A B : Type 0} (ready next_ready : Tree → Type 0) (was one now : List Change) (before middle after : Store) (p : Stays before middle)
+module _ {A B : Type 0} (ready next_ready : Tree → Type 0) (was one now : List Change) (before middle after : Store)
+    (p : Stays before middle)
     (step next : Tree → Result Tree Fault) (formed : AreRows was → AreRows one)
-    (on : (known : RowMap) → before.rows ≡ Some known → (bytes : ℕ → ℕ → ℕ) (t : Tree) → Minds known was bytes t → ready t
+    (on : (known : RowMap) → before.rows ≡ Some known → (bytes : ℕ → ℕ → ℕ) (t : Tree) → Minds known was bytes t
+    → ready t
     → GoesOn known one bytes next_ready next (step t)) where
   -- it fails, and all fails
   pub drafting-then_fails : (fault : TxFault) → Drafting {A = B} next_ready one now middle after (Err fault) next
@@ -67,7 +70,8 @@ module _ {A B : Type 0} (ready next_ready : Tree → Type 0) (was one now : List
     formed = λ are. tt;
     leads = λ known is bytes t m is_ready. (let g = on known is bytes t m is_ready in
         subst (LeadsTo {A = A} known now bytes (Err fault)) g.same
-        (as_fault A B fault known now bytes (next g.then) (d.leads known (p.rows_are ∙ is) bytes g.then g.minds g.is_ready)));
+        (as_fault A B fault known now bytes (next g.then)
+        (d.leads known (p.rows_are ∙ is) bytes g.then g.minds g.is_ready)));
     bad = λ are. subst (λ o. IfSome o (λ known. BadFault (typed known) fault)) p.rows_are (d.bad (formed are));
   }
 
@@ -93,7 +97,8 @@ HasHour now hour was last before after result =
 
 abbrev pub HasEntry : ℕ → List ℕ → ℕ → List Change → List Change → Store → Store → Result (Unit {0}) TxFault → Type 0
 HasEntry now name inode one last middle after result =
-    Drafting {A = Unit {0}} (λ u. MayStandAt u (record { dir = trash_root; name = name }) inode) one last middle after result
+    Drafting {A = Unit {0}} (λ u. MayStandAt u (record { dir = trash_root; name = name }) inode) one last middle after
+    result
     (entry_put now (record { dir = trash_root; name = name }) inode)
 
 -- the hour of a moment
@@ -129,7 +134,8 @@ module _ (before middle : Store) (was : List Change) (now hour : ℕ) (low : hou
       as_cell o e = e
 
   -- the node of the row that was read
-  node_is : (o : Option NodeRow) → found ≡ o → (known : RowMap) → before.rows ≡ Some known → (bytes : ℕ → ℕ → ℕ) (t : Tree) → Minds known was bytes t
+  node_is : (o : Option NodeRow) → found ≡ o → (known : RowMap) → before.rows ≡ Some known
+      → (bytes : ℕ → ℕ → ℕ) (t : Tree) → Minds known was bytes t
       → node_at t (hour_inode hour) ≡ option_map (node_of (bytes (hour_inode hour))) o
   node_is o same known is bytes t m =
       ap (λ (u : Tree). node_at u inode) (sym m.tree) ∙ node_at-tree_of bytes (drafted was known) inode
@@ -138,15 +144,18 @@ module _ (before middle : Store) (was : List Change) (now hour : ℕ) (low : hou
   -- it is there
   pub hour-there : is_some found ≡ true → HasHour now hour was was before middle (Ok (hour_inode hour))
   hour-there there = drafting-made {A = ℕ} ready was was before middle stays step inode (λ are. are)
-      (λ known is bytes t m may. record { left = t; is = ap (λ (u : Tree). Ok u) (same found refl there known is bytes t m); minds = m })
+      (λ known is bytes t m may. record
+      { left = t; is = ap (λ (u : Tree). Ok u) (same found refl there known is bytes t m); minds = m })
     where
-      same : (o : Option NodeRow) → found ≡ o → is_some o ≡ true → (known : RowMap) → before.rows ≡ Some known → (bytes : ℕ → ℕ → ℕ) (t : Tree)
+      same : (o : Option NodeRow) → found ≡ o → is_some o ≡ true → (known : RowMap) → before.rows ≡ Some known
+          → (bytes : ℕ → ℕ → ℕ) (t : Tree)
           → Minds known was bytes t → with_hour t now hour ≡ t
       same None is_none some known is bytes t m = absurd (false≢true some)
       same (Some row) is_row some known is bytes t m =
           with_hour-there t now hour (node_of (bytes inode) row) (node_is (Some row) is_row known is bytes t m)
 
-  module _ (none : is_some found ≡ false) (one : List Change) (put : Drafted (node_key (hour_inode hour)) (Some (of_node (hour_row now))) was one) where
+  module _ (none : is_some found ≡ false) (one : List Change)
+      (put : Drafted (node_key (hour_inode hour)) (Some (of_node (hour_row now))) was one) where
     formed : AreRows was → AreRows one
     formed are = are_rows-put (node_key inode) was one (OfNode (hour_row now)) put are
 
@@ -154,7 +163,8 @@ module _ (before middle : Store) (was : List Change) (now hour : ℕ) (low : hou
     absent None e = refl
     absent (Some row) e = absurd (true≢false e)
 
-    on : (known : RowMap) → before.rows ≡ Some known → (bytes : ℕ → ℕ → ℕ) (t : Tree) → Minds known was bytes t → ready t
+    on : (known : RowMap) → before.rows ≡ Some known → (bytes : ℕ → ℕ → ℕ) (t : Tree) → Minds known was bytes t
+        → ready t
         → GoesOn known one bytes may_stand put_step (step t)
     on known is bytes t m may =
         let rows = drafted was known in
@@ -163,53 +173,65 @@ module _ (before middle : Store) (was : List Change) (now hour : ℕ) (low : hou
         let gone = absent found none in
         let no_node = node_is None gone known is bytes t m in
         let left = rows-hour (typed known) rows bytes now hour
-        (record { tree = refl; cells = own.cells; stored = own.stored; files = own.files; quiet = own.quiet })
+        (record { tree = refl; stored = own.stored; sound = own.sound })
         (subst (λ (u : Tree). MayHaveHour u hour) (sym m.tree) may) low (row_is known is ∙ gone) in
         record {
           then = put_node t inode (hour_dir now);
           minds = minds-of_rows known one bytes (put_node t inode (hour_dir now)) rows_then (put known)
-              (subst (λ (u : Tree). OfTree (typed known) rows_then bytes (put_node u inode (hour_dir now))) m.tree left);
+              (subst (λ (u : Tree). OfTree (typed known) rows_then bytes (put_node u inode (hour_dir now))) m.tree
+              left);
           is_ready = hour_may_stand t now hour may low no_node;
           same = hour_entered t now hour may low no_node;
         }
 
     -- its entry isn't put
     pub hour-fails : (after : Store) (last : List Change) (fault : TxFault)
-        → HasEntry now (hour_name hour) (hour_inode hour) one last middle after (Err fault) → HasHour now hour was last before after (Err fault)
+        → HasEntry now (hour_name hour) (hour_inode hour) one last middle after (Err fault)
+        → HasHour now hour was last before after (Err fault)
     hour-fails after last fault d =
-        drafting-then_fails {A = ℕ} {B = Unit {0}} ready may_stand was one last before middle after stays step put_step formed on fault d
+        drafting-then_fails {A = ℕ} {B = Unit {0}} ready may_stand was one last before middle after stays step put_step
+        formed on fault d
 
     -- it comes
     pub hour-comes : (after : Store) (last : List Change)
-        → HasEntry now (hour_name hour) (hour_inode hour) one last middle after (Ok tt) → HasHour now hour was last before after (Ok (hour_inode hour))
+        → HasEntry now (hour_name hour) (hour_inode hour) one last middle after (Ok tt)
+        → HasHour now hour was last before after (Ok (hour_inode hour))
     hour-comes after last d =
-        drafting-then_made {A = ℕ} {B = Unit {0}} ready may_stand was one last before middle after stays step put_step formed on tt inode d
+        drafting-then_made {A = ℕ} {B = Unit {0}} ready may_stand was one last before middle after stays step put_step
+        formed on tt inode d
 
 -- ---- the same, of what was read and put by other names
 
-module _ (before middle : Store) (was : List Change) (now hour : ℕ) (low : hour ≤ last_hour) (found : Option NodeRow) (given : ℕ)
-    (given_is : given ≡ hour_inode hour) (read : Sees OfNode is_node (node_key given) was before middle (Ok found)) where
-  read_hour : Sees OfNode is_node (node_key (hour_inode hour)) was before middle (Ok found)
-  read_hour = subst (λ i. Sees OfNode is_node (node_key i) was before middle (Ok found)) given_is read
+module _ (before middle : Store) (was : List Change) (now hour : ℕ) (low : hour ≤ last_hour) (found : Option NodeRow)
+    (given : ℕ)
+    (given_is : given ≡ hour_inode hour) (read : Sees OfNode is_node (node_key given) was before middle (Ok found))
+  where
+    read_hour : Sees OfNode is_node (node_key (hour_inode hour)) was before middle (Ok found)
+    read_hour = subst (λ i. Sees OfNode is_node (node_key i) was before middle (Ok found)) given_is read
 
-  pub enter_hour-there : is_some found ≡ true → HasHour now hour was was before middle (Ok given)
-  enter_hour-there there =
-      subst (λ i. HasHour now hour was was before middle (Ok i)) (sym given_is) (hour-there before middle was now hour low found read_hour there)
+    pub enter_hour-there : is_some found ≡ true → HasHour now hour was was before middle (Ok given)
+    enter_hour-there there =
+        subst (λ i. HasHour now hour was was before middle (Ok i)) (sym given_is)
+        (hour-there before middle was now hour low found read_hour there)
 
-  module _ (none : is_some found ≡ false) (one : List Change) (row : NodeRow) (row_of : row ≡ hour_row now)
-      (put : Drafted (node_key given) (Some (of_node row)) was one) (name : List ℕ) (name_is : name ≡ hour_name hour) (after : Store) (last : List Change) where
-    put_hour : Drafted (node_key (hour_inode hour)) (Some (of_node (hour_row now))) was one
-    put_hour = subst (λ i. Drafted (node_key i) (Some (of_node (hour_row now))) was one) given_is
-        (subst (λ (r : NodeRow). Drafted (node_key given) (Some (of_node r)) was one) row_of put)
+    module _ (none : is_some found ≡ false) (one : List Change) (row : NodeRow) (row_of : row ≡ hour_row now)
+        (put : Drafted (node_key given) (Some (of_node row)) was one) (name : List ℕ) (name_is : name ≡ hour_name hour)
+        (after : Store) (last : List Change) where
+      put_hour : Drafted (node_key (hour_inode hour)) (Some (of_node (hour_row now))) was one
+      put_hour = subst (λ i. Drafted (node_key i) (Some (of_node (hour_row now))) was one) given_is
+          (subst (λ (r : NodeRow). Drafted (node_key given) (Some (of_node r)) was one) row_of put)
 
-    as_hour : (result : Result (Unit {0}) TxFault) → HasEntry now name given one last middle after result
-        → HasEntry now (hour_name hour) (hour_inode hour) one last middle after result
-    as_hour result d = subst (λ i. HasEntry now (hour_name hour) i one last middle after result) given_is
-        (subst (λ text. HasEntry now text given one last middle after result) name_is d)
+      as_hour : (result : Result (Unit {0}) TxFault) → HasEntry now name given one last middle after result
+          → HasEntry now (hour_name hour) (hour_inode hour) one last middle after result
+      as_hour result d = subst (λ i. HasEntry now (hour_name hour) i one last middle after result) given_is
+          (subst (λ text. HasEntry now text given one last middle after result) name_is d)
 
-    pub enter_hour-fails : (fault : TxFault) → HasEntry now name given one last middle after (Err fault) → HasHour now hour was last before after (Err fault)
-    enter_hour-fails fault d = hour-fails before middle was now hour low found read_hour none one put_hour after last fault (as_hour (Err fault) d)
+      pub enter_hour-fails : (fault : TxFault) → HasEntry now name given one last middle after (Err fault)
+          → HasHour now hour was last before after (Err fault)
+      enter_hour-fails fault d = hour-fails before middle was now hour low found read_hour none one put_hour after last
+          fault (as_hour (Err fault) d)
 
-    pub enter_hour-comes : HasEntry now name given one last middle after (Ok tt) → HasHour now hour was last before after (Ok given)
-    enter_hour-comes d = subst (λ i. HasHour now hour was last before after (Ok i)) (sym given_is)
-        (hour-comes before middle was now hour low found read_hour none one put_hour after last (as_hour (Ok tt) d))
+      pub enter_hour-comes : HasEntry now name given one last middle after (Ok tt)
+          → HasHour now hour was last before after (Ok given)
+      enter_hour-comes d = subst (λ i. HasHour now hour was last before after (Ok i)) (sym given_is)
+          (hour-comes before middle was now hour low found read_hour none one put_hour after last (as_hour (Ok tt) d))

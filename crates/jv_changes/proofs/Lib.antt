@@ -1,6 +1,8 @@
 -- What is proved of small changes.
 pub mod CivilDateLaws
 pub mod DraftingLaws
+pub mod StepLaws
+pub mod DraftSteps
 pub mod DraftedLaws
 pub mod PresentLaws
 pub mod NodeChangeLaws

@@ -13,7 +13,7 @@ use Rattle.jv_model.specs.tree.Renaming.{kind_under, moved_node}
 use Rattle.jv_outside.specs.declared.batch.Change.{Change}
 use Rattle.jv_outside.specs.Store.{Store}
 use Rattle.jv_rows.specs.Drafts.{drafted}
-use Rattle.jv_volume.specs.TypedRows.{Rows}
+use Rattle.jv_volume.specs.TypedRows.{Rows, typed}
 use Rattle.jv_volume.specs.Views.{node_row_at}
 use Rattle.jv_volume.specs.TreeOf.{node_of, tree_of}
 use Rattle.jv_volume.proofs.NodeRowLaws.{IsNodeRow, moved_row, node_of-moved, IsNodeRow-moved_dir, IsNodeRow-moved_leaf}
@@ -34,7 +34,8 @@ pub record IsRowChanged (change : Node → Node) (row new : NodeRow) : Type 0 wh
   pub node : (byte : ℕ → ℕ) → node_of byte new ≡ change (node_of byte row)
   pub space : (node : Node) → kind_space (change node).kind ≡ kind_space node.kind
 
-module _ (known : RowMap) (was now : List Change) (bytes : ℕ → ℕ → ℕ) (t : Tree) (m : Minds known was bytes t) (inode : ℕ) (change : Node → Node)
+module _ (known : RowMap) (was now : List Change) (bytes : ℕ → ℕ → ℕ) (t : Tree) (m : Minds known was bytes t)
+    (inode : ℕ) (change : Node → Node)
     (row new : NodeRow) (is : IsRowChanged change row new) (there : node_row_at (drafted was known) inode ≡ Some row)
     (one : Drafted (node_key inode) (Some (Ok (OfNode new))) was now) where
   abbrev before : Rows
@@ -50,8 +51,9 @@ module _ (known : RowMap) (was now : List Change) (bytes : ℕ → ℕ → ℕ) 
       ∙ ap (λ (u : Tree). change_node u inode change) m.tree
 
   pub minds-changed_row : Minds known now bytes (change_node t inode change)
-  minds-changed_row = minds-sound known now bytes (change_node t inode change) (insert before (node_key inode) (Ok (OfNode new)))
-      (sound-node known before (sound-minds known was bytes t m) inode row new there is.kind is.length)
+  minds-changed_row = minds-sound known now bytes (change_node t inode change)
+      (insert before (node_key inode) (Ok (OfNode new)))
+      (sound-node (typed known) before (sound-minds known was bytes t m) inode row new there is.kind is.length)
       (one known)
       (tree_of-put_node bytes before inode new ∙ as_changed)
       (stored-change_node bytes before inode row new m.stored there
@@ -60,20 +62,24 @@ module _ (known : RowMap) (was now : List Change) (bytes : ℕ → ℕ → ℕ) 
 
 -- the small change that puts such a row
 pub change-made : (inode : ℕ) (was now : List Change) (before after : Store) (change : Node → Node) (row new : NodeRow)
-    → Presents inode was before after (Ok row) → IsRowChanged change row new → Drafted (node_key inode) (Some (Ok (OfNode new))) was now
+    → Presents inode was before after (Ok row) → IsRowChanged change row new
+    → Drafted (node_key inode) (Some (Ok (OfNode new))) was now
     → Drafting (IsThere inode) was now before after (Ok (tt {0})) (λ t. Ok (change_node t inode change))
 change-made inode was now before after change row new p is one =
-    drafting-made (IsThere inode) was now before after (stays-present inode was before after row p) (λ t. Ok (change_node t inode change)) (tt {0})
+    drafting-made (IsThere inode) was now before after (stays-present inode was before after row p)
+    (λ t. Ok (change_node t inode change)) (tt {0})
     (are_rows-put (node_key inode) was now (OfNode new) one)
     (λ known here bytes t m is_ready. record {
       left = change_node t inode change;
       is = refl;
-      minds = minds-changed_row known was now bytes t m inode change row new is (present-stands inode was before after row p known here) one;
+      minds = minds-changed_row known was now bytes t m inode change row new is
+          (present-stands inode was before after row p known here) one;
     })
 
 -- ---- the changes
 
-pub is_row-status_changed : (now : ℕ) (row : NodeRow) → IsRowChanged (status_changed now) row (record row { ctime = now })
+pub is_row-status_changed : (now : ℕ) (row : NodeRow)
+    → IsRowChanged (status_changed now) row (record row { ctime = now })
 is_row-status_changed now row = record {
   kind = refl;
   length = refl;
@@ -91,7 +97,8 @@ is_row-moved now dir row = record {
   space = λ node. same_space node.kind;
 }
   where
-    by_kind : (byte : ℕ → ℕ) (b : Bool) → (row.kind == 2) ≡ b → IsNodeRow row.nlink byte row → IsNodeRow row.nlink byte (moved_row now dir row)
+    by_kind : (byte : ℕ → ℕ) (b : Bool) → (row.kind == 2) ≡ b → IsNodeRow row.nlink byte row
+        → IsNodeRow row.nlink byte (moved_row now dir row)
     by_kind byte true two is = IsNodeRow-moved_dir byte row now dir row.nlink row.nlink (eqb-true row.kind 2 two) is
     by_kind byte false leaf is = IsNodeRow-moved_leaf byte row now dir row.nlink row.nlink leaf is
 

@@ -1,5 +1,5 @@
 -- What changes in mind make of a volume's rows, and what one more step of a transaction adds to them.
-use Rattle.std.specs.Prelude.{◌≡◌, ℕ, List, Some, Result, Ok, Err, IfErr, IfSome, OnOk}
+use Rattle.std.specs.Prelude.{◌≡◌, ℕ, List, None, Some, Result, Ok, Err, IfErr, IfSome, IsTrue, OnOk}
 use Rattle.jv_model.specs.declared.fault.Fault.{Fault}
 use Rattle.jv_model.specs.declared.fault.RowFault.TheVariants.{Bad, Failed, Memory}
 use Rattle.jv_model.specs.declared.fault.TxFault.{TxFault}
@@ -11,7 +11,7 @@ use Rattle.jv_model.specs.tree.Tree.{Tree}
 use Rattle.jv_outside.specs.declared.batch.Change.{Change}
 use Rattle.jv_outside.specs.Store.{Store}
 use Rattle.jv_rows.specs.Drafts.{drafted}
-use Rattle.jv_rows.specs.Transactions.{TransactionCounts, BadFault}
+use Rattle.jv_rows.specs.Transactions.{TransactionCounts, BadFault, is_needed}
 use Rattle.jv_volume.specs.TypedRows.{Cell, typed}
 use Rattle.jv_volume.specs.TreeOf.{tree_of}
 use Rattle.jv_volume.specs.Stored.{Stored}
@@ -26,9 +26,12 @@ pub record Minds (known : RowMap) (changes : List Change) (bytes : ℕ → ℕ �
   pub files : WholeFiles (drafted changes known)
   pub quiet : Quiet (typed known) (drafted changes known)
 
--- no change leaves bytes that are malformed
-abbrev pub AreRows : List Change → Type 0
-AreRows changes = (known : RowMap) (key : RowKey) (bytes : List ℕ) → get (drafted changes known) key ≡ Some (Err bytes) → get (typed known) key ≡ Some (Err bytes)
+-- no change leaves bytes that are malformed, or takes a row away that each volume has
+pub record AreRows (changes : List Change) : Type 0 where
+  pub spelled : (known : RowMap) (key : RowKey) (bytes : List ℕ) → get (drafted changes known) key ≡ Some (Err bytes)
+      → get (typed known) key ≡ Some (Err bytes)
+  pub needed : (known : RowMap) (key : RowKey) → IsTrue (is_needed key) → get (drafted changes known) key ≡ None
+      → get (typed known) key ≡ None
 
 -- a step that the model makes too, and the tree of the rows after it
 pub record Led (known : RowMap) (changes : List Change) (bytes : ℕ → ℕ → ℕ) (model : Result Tree Fault) : Type 0 where
@@ -44,13 +47,16 @@ LeadsTo known changes bytes (Err (OfRows (Bad at bad))) model = ⊥
 LeadsTo known changes bytes (Err (OfRows Failed)) model = Unit {0}
 LeadsTo known changes bytes (Err (OfRows Memory)) model = Unit {0}
 
--- A step of a transaction: it adds changes to those in mind, and the keeper's rows stay. Where the rows are known, and those
+-- A step of a transaction: it adds changes to those in mind, and the keeper's rows stay. Where the rows are known, and
+-- those
 -- in mind are a tree's that is ready for it, it does what the model does to that tree.
-pub record Drafting {A : Type 0} (ready : Tree → Type 0) (was now : List Change) (before after : Store) (result : Result A TxFault) (step : Tree → Result Tree Fault) : Type 0 where
+pub record Drafting {A : Type 0} (ready : Tree → Type 0) (was now : List Change) (before after : Store)
+    (result : Result A TxFault) (step : Tree → Result Tree Fault) : Type 0 where
   pub rows_are : after.rows ≡ before.rows
   pub opened_at : after.opened ≡ before.opened
   pub counts : TransactionCounts before.faults after.faults result
   pub formed : AreRows was → OnOk result (AreRows now)
-  pub leads : (known : RowMap) → before.rows ≡ Some known → (bytes : ℕ → ℕ → ℕ) (t : Tree) → Minds known was bytes t → ready t
+  pub leads : (known : RowMap) → before.rows ≡ Some known → (bytes : ℕ → ℕ → ℕ) (t : Tree) → Minds known was bytes t
+      → ready t
       → LeadsTo known now bytes result (step t)
   pub bad : AreRows was → IfErr result (λ fault. IfSome before.rows (λ known. BadFault (typed known) fault))

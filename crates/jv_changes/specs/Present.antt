@@ -19,18 +19,21 @@ use Rattle.jv_rows.specs.Transactions.{TransactionCounts}
 
 -- why a node wasn't read: it isn't there, its bytes are malformed, the keeper failed, or out of memory
 abbrev pub RefusesNode : ℕ → List Change → Option RowMap → TxFault → Type 0
-RefusesNode inode changes rows (Refused fault) = (fault ≡ Stale (GoneNode inode)) × IfSome rows (λ known. get (drafted changes known) (node_key inode) ≡ None)
+RefusesNode inode changes rows (Refused fault) = (fault ≡ Stale (GoneNode inode)) × IfSome rows
+    (λ known. get (drafted changes known) (node_key inode) ≡ None)
 RefusesNode inode changes rows (Moved list) = ⊥
 RefusesNode inode changes rows (OfRows fault) = RefusesCell (node_key inode) changes rows fault
 
 -- A reading of an inode's node, over changes: rows and place are the same.
-pub record Presents (inode : ℕ) (changes : List Change) (before after : Store) (result : Result Node TxFault) : Type 0 where
-  pub rows_are : after.rows ≡ before.rows
-  pub opened_at : after.opened ≡ before.opened
-  pub counts : TransactionCounts before.faults after.faults result
-  pub found : IfOk result (λ node. IfSome before.rows (λ known. get (drafted changes known) (node_key inode) ≡ Some (Ok (OfNode node))))
-  pub allowed : IfOk result (λ node. IsTrue (is_node node))
-  pub refused : IfErr result (RefusesNode inode changes before.rows)
+pub record Presents (inode : ℕ) (changes : List Change) (before after : Store) (result : Result Node TxFault) : Type 0
+  where
+    pub rows_are : after.rows ≡ before.rows
+    pub opened_at : after.opened ≡ before.opened
+    pub counts : TransactionCounts before.faults after.faults result
+    pub found : IfOk result (λ node. IfSome before.rows
+        (λ known. get (drafted changes known) (node_key inode) ≡ Some (Ok (OfNode node))))
+    pub allowed : IfOk result (λ node. IsTrue (is_node node))
+    pub refused : IfErr result (RefusesNode inode changes before.rows)
 
 -- what an entry of an inode of this kind adds to the link count of its directory, and to that of the inode
 abbrev pub to_directory : ℕ → ℕ

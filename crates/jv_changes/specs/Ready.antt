@@ -30,7 +30,8 @@ pub record MayStandAt (t : Tree) (place : EntryKey) (inode : ℕ) : Type 0 where
 -- the tree with one more entry, where the link counts of directory and node can be stored
 abbrev pub entry_put : ℕ → EntryKey → ℕ → Tree → Result Tree Fault
 entry_put now place inode t = do
-  _ ← require (links_fit (put_entry t now place inode) place.dir && links_fit (put_entry t now place inode) inode) NoSpace
+  _ ← require (links_fit (put_entry t now place inode) place.dir && links_fit (put_entry t now place inode) inode)
+      NoSpace
   Ok (put_entry t now place inode)
 
 -- a node is there
@@ -48,13 +49,15 @@ pub record MayGo (t : Tree) (inode : ℕ) : Type 0 where
 abbrev pub sustaining : ℕ → ℕ → Tree → Tree
 sustaining sid inode t = record t { sustained = insert t.sustained (record { sid = sid; inode = inode }) tt }
 
--- The directory of an hour is there, or may come: the trash is there, no entry has its place, none names it, and none is in it.
+-- The directory of an hour is there, or may come: the trash is there, no entry has its place, none names it, and none
+-- is in it.
 -- Entries of the trash are directories of hours, so there are few, and inodes that are given stay below it.
 pub record MayHaveHour (t : Tree) (hour : ℕ) : Type 0 where
   pub trash : is_directory t trash_root ≡ true
   pub free : node_at t (hour_inode hour) ≡ None → get t.entries (hour_place hour) ≡ None
   pub unnamed : node_at t (hour_inode hour) ≡ None → (at : EntryKey) → get t.entries at ≢ Some (hour_inode hour)
-  pub empty : node_at t (hour_inode hour) ≡ None → (at : EntryKey) (inode : ℕ) → get t.entries at ≡ Some inode → at.dir ≢ hour_inode hour
+  pub empty : node_at t (hour_inode hour) ≡ None → (at : EntryKey) (inode : ℕ) → get t.entries at ≡ Some inode
+      → at.dir ≢ hour_inode hour
   pub hours : (at : EntryKey) (inode : ℕ) → get t.entries at ≡ Some inode → at.dir ≡ trash_root → NamesHour at inode
   pub below : t.next_inode ≤ trash_root
 

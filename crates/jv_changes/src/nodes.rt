@@ -1,10 +1,9 @@
 //! Nodes that change, go, or stay for a session alone.
-ghost use Rattle.std.specs.Prelude.{◌≡◌, ◌==◌, if◌then◌else◌, Ok, OnOk, IfSome, IsTrue};
+ghost use Rattle.std.specs.Prelude.{◌≡◌, ◌==◌, if◌then◌else◌, Ok, OnOk};
 ghost use Rattle.jv_changes.specs.Drafting.{Drafting};
-ghost use Rattle.jv_changes.specs.Lowered.{lowered, with_dropped, with_lowered};
+ghost use Rattle.jv_changes.specs.Lowered.{lowered, with_dropped};
 ghost use Rattle.jv_changes.specs.Present.{Presents};
 ghost use Rattle.jv_changes.specs.Ready.{IsThere, MayGo, sustaining};
-ghost use Rattle.jv_model.specs.rows.RowGrammar.{is_counters};
 ghost use Rattle.jv_model.specs.rows.RowKeys.{RowMap};
 ghost use Rattle.jv_model.specs.tree.Changes as model;
 ghost use Rattle.jv_model.specs.tree.Renaming.{moved_node};
@@ -13,8 +12,8 @@ ghost use Rattle.jv_rows.specs.Transactions.{Always};
 
 use jv_model::{Counters, Dropped, Fault, Gone, Moment, Node, SPACE_UNIT, TxFault};
 use jv_outside::Keeper;
-use jv_rows::Draft;
-use std::alloc::AllocError;
+use jv_rows::{Draft, is_top, needed_counters};
+use std::alloc::{AllocError, Global};
 
 /// The node of an inode, as a draft's changes leave it.
 ///
@@ -87,20 +86,27 @@ pub fn move_under<K: Keeper>(
 
 /// Takes away a node that no entry names; a file leaves a row that its lists are still to go.
 ///
-/// Where the volume has no counters, none are lowered.
-///
 /// # Errors
 ///
-/// As of [`change_status`].
-pub fn drop_node<K: Keeper>(draft: &mut Draft, k: &mut K, inode: u64) -> Result<(), TxFault>
+/// NotPermitted for the root and the trash. Else as of [`change_status`], and Bad where the counters are malformed, or without
+/// bytes where there are none.
+pub fn drop_node<K: Keeper>(
+    alloc: Global,
+    draft: &mut Draft,
+    k: &mut K,
+    inode: u64,
+) -> Result<(), TxFault>
     ensures { Drafting (λ t. MayGo t inode) draft.old draft.new (K.seen k.old) (K.seen k.new)
         result (λ t. Ok (model.drop_node t inode)) }
 {
+    if is_top(inode) {
+        return Err(TxFault::Refused(Fault::NotPermitted));
+    }
     let node = present(draft, k, inode)?;
-    let counters = draft.counters(k)?;
+    let counters = needed_counters(alloc, k, draft)?;
     draft.drop_node(inode)?;
     leave_lists(draft, inode, &node)?;
-    lower(draft, &node, counters)?;
+    draft.put_counters(&without(&counters, &node))?;
     Ok(())
 }
 
@@ -114,18 +120,6 @@ fn leave_lists(draft: &mut Draft, inode: u64, node: &Node) -> Result<(), AllocEr
             length: node.length,
         };
         draft.put_dropped(inode, &dropped)?;
-    }
-    Ok(())
-}
-
-// Adds the counters without a node, where there are any.
-fn lower(draft: &mut Draft, node: &Node, counters: Option<Counters>) -> Result<(), AllocError>
-    requires { IfSome counters (λ c. IsTrue (is_counters c)) }
-    ensures { OnOk result ((known : RowMap) →
-        drafted draft.new known ≡ with_lowered node.now counters (drafted draft.old known)) }
-{
-    if let Some(counters) = counters {
-        draft.put_counters(&without(&counters, node))?;
     }
     Ok(())
 }

@@ -17,10 +17,13 @@ use Rattle.jv_model.proofs.ClientsLaws.{own_client}
 use Rattle.jv_client.specs.declared.doing.Doing.{Doing}
 use Rattle.jv_client.specs.declared.made.Made.{Made}
 use Rattle.jv_client.specs.ClientValue.{ClientValue}
-use Rattle.jv_client.specs.StoreValue.{StoreValue, HasStore}
-use Rattle.jv_client.specs.Held.{IsDoing, IsClient, flush_of_code, stage_of}
-use Rattle.jv_client.specs.Makes.{StepsTo, Makes}
+use Rattle.jv_files.specs.Stored.{FilesValue}
+use Rattle.jv_volume.specs.Holding.{Stays}
+use Rattle.jv_client.specs.Shared.{Shared, HasStore}
+use Rattle.jv_client.specs.Held.{IsDoing, IsClient, Holds, flush_of_code, stage_of}
+use Rattle.jv_client.specs.Makes.{StepsTo, Makes, is_keeper_failure}
 use Rattle.jv_client.proofs.TableLaws.{there_in}
+use Rattle.jv_client.proofs.HeldLaws.{stays-same}
 
 -- what the model's client is doing
 
@@ -44,9 +47,9 @@ doing-is m d h =
     ∙ ap (λ stage. record m { op = d.op; does = d.does; flush = flush_of_code d.flush; stage = stage }) h.stage
     ∙ ap (λ moved. record m { op = d.op; does = d.does; flush = flush_of_code d.flush; stage = stage_of d.progress; moved = moved }) h.moved
 
-pub client-doing : {m : ModelClient} {count : ℕ} {store : StoreValue} {h : ClientValue} (d : Doing) → h.doing ≡ Some d → IsClient m count store h
+pub client-doing : {m : ModelClient} {count : ℕ} {files : FilesValue} {h : ClientValue} (d : Doing) → h.doing ≡ Some d → IsClient m count files h
     → m.doing ≡ Some (doing_of d)
-client-doing {m} {count} {store} {h} d busy is = let there = there_in IsDoing m.doing h.doing d busy is.doing in there.1 ∙ ap Some (doing-is there.0 d there.2)
+client-doing {m} {count} {files} {h} d busy is = let there = there_in IsDoing m.doing h.doing d busy is.doing in there.1 ∙ ap Some (doing-is there.0 d there.2)
 
 -- a request that changed nothing of the tree
 
@@ -87,26 +90,31 @@ answered-is : (s : State) (client now : ℕ) (told : Told) (c : ModelClient) (d 
 answered-is s client now told c d at busy own = own_client s.clients client _ ∙ ap (answered_client told) at ∙ answered_client-doing told c d busy own
 
 -- an answer alone
-pub steps_alone : (s : State) (client now : ℕ) (d : ModelDoing) (told : Told) (reply : Reply) (after : ClientValue) (store : StoreValue)
+pub steps_alone : (s : State) (client now : ℕ) (d : ModelDoing) (told : Told) (reply : Reply) (after : ClientValue) (v : Shared)
     → (s.clients client).doing ≡ Some d → begins_step d (Answered told) ≡ true → Says s client now (s.clients client) d told reply
-    → HasStore s.tree store → IsClient (after_told d.op told (s.clients client)) (s.count + 1) store after
-    → StepsTo s client now (Answered told ∷ []) (Done reply) after store
-steps_alone s client now d told reply after store busy begins says has_store is = record {
+    → HasStore s.tree v → Holds s.tree (after_told d.op told (s.clients client)) → IsClient (after_told d.op told (s.clients client)) (s.count + 1) v.files after
+    → StepsTo s client now (Answered told ∷ []) (Done reply) after v
+steps_alone s client now d told reply after v busy begins says has_store holds is = record {
   allows = λ start alone. AnswersAlone told reply refl refl (record { doing = d; busy = busy; begins_is = begins; may = says.may start alone })
       (answer_is (s.clients client) d told reply busy says.says);
   count = refl;
   has_store = has_store;
-  is_client = subst (λ c. IsClient c (s.count + 1) store after) (sym (answered-is s client now told (s.clients client) d refl busy says.own)) is;
+  no_failure = tt;
+  is_client = subst (λ c. IsClient c (s.count + 1) v.files after) (sym (answered-is s client now told (s.clients client) d refl busy says.own)) is;
+  stays = stays-same s.tree;
+  holds = subst (Holds s.tree) (sym (answered-is s client now told (s.clients client) d refl busy says.own)) holds;
 }
 
 -- a request, and its answer
-pub steps_after : (s : State) (client now : ℕ) (kind : ActKind) (c : ModelClient) (d : ModelDoing) (told : Told) (reply : Reply) (after : ClientValue) (store : StoreValue)
+pub steps_after : (s : State) (client now : ℕ) (kind : ActKind) (c : ModelClient) (d : ModelDoing) (told : Told) (reply : Reply) (after : ClientValue) (v : Shared)
     → ((start : Start) (alone : Bool) → IsEntry start alone s client now kind true) → is_answer kind ≡ false
     → (stepped s client now kind).clients client ≡ c → c.doing ≡ Some d → begins_step d (Answered told) ≡ false
     → Says (stepped s client now kind) client now c d told reply
-    → HasStore (stepped s client now kind).tree store → IsClient (after_told d.op told c) (s.count + 1 + 1) store after
-    → StepsTo s client now (kind ∷ Answered told ∷ []) (Done reply) after store
-steps_after s client now kind c d told reply after store entry asks leads busy begins says has_store is = record {
+    → is_keeper_failure told ≡ false
+    → HasStore (stepped s client now kind).tree v → Stays s.tree (stepped s client now kind).tree
+    → Holds (stepped s client now kind).tree (after_told d.op told c) → IsClient (after_told d.op told c) (s.count + 1 + 1) v.files after
+    → StepsTo s client now (kind ∷ Answered told ∷ []) (Done reply) after v
+steps_after s client now kind c d told reply after v entry asks leads busy begins says fine has_store stays holds is = record {
   allows = λ start alone. AnswersAfter kind told reply refl refl (entry start alone) asks
       (record {
         doing = d;
@@ -117,26 +125,33 @@ steps_after s client now kind c d told reply after store entry asks leads busy b
       (ap (λ c. answer_of c told) leads ∙ answer_is c d told reply busy says.says);
   count = omega arith;
   has_store = has_store;
-  is_client = subst (λ c. IsClient c (s.count + 1 + 1) store after) (sym (answered-is (stepped s client now kind) client now told c d leads busy says.own)) is;
+  no_failure = fine;
+  is_client = subst (λ c. IsClient c (s.count + 1 + 1) v.files after) (sym (answered-is (stepped s client now kind) client now told c d leads busy says.own)) is;
+  stays = stays;
+  holds = subst (Holds (stepped s client now kind).tree) (sym (answered-is (stepped s client now kind) client now told c d leads busy says.own)) holds;
 }
 
 -- a request, after which the operation goes on
-pub steps_on : (s : State) (client now : ℕ) (kind : ActKind) (c : ModelClient) (after : ClientValue) (store : StoreValue)
+pub steps_on : (s : State) (client now : ℕ) (kind : ActKind) (c : ModelClient) (after : ClientValue) (v : Shared)
     → ((start : Start) (alone : Bool) → IsEntry start alone s client now kind true) → is_answer kind ≡ false
     → (stepped s client now kind).clients client ≡ c → ends_in_step c ≡ false
-    → HasStore (stepped s client now kind).tree store → IsClient c (s.count + 1) store after
-    → StepsTo s client now (kind ∷ []) More after store
-steps_on s client now kind c after store entry asks leads goes has_store is = record {
+    → HasStore (stepped s client now kind).tree v → Stays s.tree (stepped s client now kind).tree → Holds (stepped s client now kind).tree c
+    → IsClient c (s.count + 1) v.files after
+    → StepsTo s client now (kind ∷ []) More after v
+steps_on s client now kind c after v entry asks leads goes has_store stays holds is = record {
   allows = λ start alone. GoesOn kind refl refl (entry start alone) asks (ap ends_in_step leads ∙ goes);
   count = refl;
   has_store = has_store;
-  is_client = subst (λ c. IsClient c (s.count + 1) store after) (sym leads) is;
+  no_failure = tt;
+  is_client = subst (λ c. IsClient c (s.count + 1) v.files after) (sym leads) is;
+  stays = stays;
+  holds = subst (Holds (stepped s client now kind).tree) (sym leads) holds;
 }
 
 -- a step under other names
-pub makes_as : {now entry : ℕ} {h after end : ClientValue} {store grown larger : StoreValue} {made is : Made} → after ≡ end → grown ≡ larger → made ≡ is
-    → Makes now entry h end store larger is → Makes now entry h after store grown made
-makes_as {now} {entry} {h} {after} {end} {store} {grown} {larger} {made} {is} same_end same_store same_made makes =
-    subst (λ x. Makes now entry h after store grown x) (sym same_made)
-    (subst (λ x. Makes now entry h after store x is) (sym same_store)
-    (subst (λ x. Makes now entry h x store larger is) (sym same_end) makes))
+pub makes_as : {now entry : ℕ} {h after end : ClientValue} {v grown larger : Shared} {made is : Made} → after ≡ end → grown ≡ larger → made ≡ is
+    → Makes now entry h end v larger is → Makes now entry h after v grown made
+makes_as {now} {entry} {h} {after} {end} {v} {grown} {larger} {made} {is} same_end same_store same_made makes =
+    subst (λ x. Makes now entry h after v grown x) (sym same_made)
+    (subst (λ x. Makes now entry h after v x is) (sym same_store)
+    (subst (λ x. Makes now entry h x v larger is) (sym same_end) makes))

@@ -1,53 +1,88 @@
--- What a tree that has the store has: the session of a client, and the node and the bytes of a file.
-use Rattle.std.proofs.Common.{◌≡◌, ℕ, ◌+◌, ◌-◌, true, List, length, slice_get, Option, None, Some, ap, subst, ◌∙◌, arith}
-use Rattle.std.specs.Prelude.{is_some, unwrap_or, IfSome, IsSomeAnd}
-use Rattle.jv_model.specs.FiniteMap.{get}
-use Rattle.jv_model.specs.tree.Tree.{Tree, node_at, content_at}
-use Rattle.jv_model.specs.client.ModelClient.{ModelClient}
-use Rattle.jv_model.specs.journal.State.{has_session}
-use Rattle.jv_files.specs.declared.files.StoredFile.{StoredFile}
-use Rattle.jv_files.specs.Stored.{IsFile}
+-- What a client's transaction is made in the name of, and that rows and files stand for the tree that it leads to.
+use Rattle.std.proofs.Common.{◌≡◌, ℕ, false, List, [], Err, refl, sym, ap, subst, ◌∙◌, arith}
+use Rattle.std.specs.Prelude.{unwrap_or}
+use Rattle.jv_model.specs.declared.fault.Fault.{Fault}
+use Rattle.jv_model.specs.declared.op.Op.{Op}
+use Rattle.jv_model.specs.declared.op.Reply.{Reply}
+use Rattle.jv_model.specs.declared.op.Reply.TheVariants.{Refused}
+use Rattle.jv_model.specs.tree.Tree.{Tree, Content, content_at}
+use Rattle.jv_model.specs.tree.Caller.{Caller, Outcome, outcome}
+use Rattle.jv_model.specs.tree.TreeAct.{tree_act}
+use Rattle.jv_model.specs.client.ModelClient.{ModelClient, held_inodes}
+use Rattle.jv_model.specs.client.Profile.{handle_of}
+use Rattle.jv_model.specs.journal.State.{caller}
+use Rattle.jv_outside.specs.Store.{Store}
+use Rattle.jv_rows.specs.Transactions.{Landed}
+use Rattle.jv_volume.specs.TypedRows.{typed}
+use Rattle.jv_volume.specs.TreeOf.{tree_of}
+use Rattle.jv_volume.specs.Shape.{WholeShape, shape_of}
+use Rattle.jv_volume.specs.Holding.{HasBytes, Kept, New, changes_bytes}
+use Rattle.jv_volume.proofs.StoredLaws.{whole-shape}
+use Rattle.jv_volume.proofs.HoldingLaws.{stays-tree_act, has_bytes-tree_act}
+use Rattle.jv_files.specs.declared.files.StoredSegment.{StoredSegment}
+use Rattle.jv_files.specs.Stored.{FilesValue, segments_at}
 use Rattle.jv_files.specs.Holds.{Keeps}
-use Rattle.jv_files.proofs.FileLaws.{slice_get_inside, some_and}
-use Rattle.jv_files.proofs.NodeLaws.{file_node}
+use Rattle.jv_files.proofs.FileLaws.{keeps-empty}
+use Rattle.jv_links.specs.Removals.{HoldsFiles}
+use Rattle.jv_metadata.specs.Attempts.{attempt}
+use Rattle.jv_metadata.proofs.AttemptLaws.{tree_act-attempt}
 use Rattle.jv_client.specs.ClientValue.{ClientValue}
-use Rattle.jv_client.specs.StoreValue.{StoreValue, IsSession, HasStore}
-use Rattle.jv_client.specs.Held.{IsHeld}
+use Rattle.jv_client.specs.Shared.{shared, HasStore}
+use Rattle.jv_client.specs.Held.{IsHandle, IsHeld, Holds}
+use Rattle.jv_client.specs.Transacting.{IsCaller}
+use Rattle.jv_client.proofs.TableLaws.{free-same}
+use Rattle.jv_client.proofs.LastLaws.{inode-same, held-same}
 
--- the session of a mounted client
+-- the caller of the model's transaction is the one that the client makes it for
+pub caller-is : {m : ModelClient} {count : ℕ} {files : FilesValue} {h : ClientValue} → IsHeld m count files h
+    → (now : ℕ) (o : Op) → IsCaller h o now (caller m h.id now o)
+caller-is {m} {count} {files} {h} held now o = record {
+  client = refl;
+  sid = ap (λ session. unwrap_or session 0) held.session;
+  now_is = refl;
+  held = held-same m.views count files 1 m.handles h.handles held.handles;
+  free = free-same (IsHandle m.views count files) 1 1 m.handles h.handles held.handles;
+  inode = inode-same held (handle_of o);
+}
 
-session_in : (t : Tree) (store : StoreValue) (session : Option ℕ) → HasStore t store → IfSome session (IsSession store) → is_some session ≡ true
-    → is_some (get t.sessions (unwrap_or session 0)) ≡ true
-session_in t store None has made some = absurd (cc some)
-session_in t store (Some sid) has made some = has.sessions sid made
+-- what a client has open of a tree are files
+pub holds-files : {t : Tree} (m : ModelClient) → Holds t m → HoldsFiles (held_inodes m.handles) t
+holds-files m holds inode among there = (holds.opened inode among).file there
 
-pub session-there : {m : ModelClient} {count : ℕ} {h : ClientValue} (t : Tree) (store : StoreValue) → HasStore t store → IsHeld m count store h
-    → is_some h.session ≡ true → has_session t m ≡ true
-session-there {m} {count} {h} t store has held some =
-    ap (λ session. is_some (get t.sessions (unwrap_or session 0))) held.session ∙ session_in t store h.session has held.mounted some
+module _ {t : Tree} {files : FilesValue} {before : Store} (has : HasStore t (shared files before)) where
+  abbrev rows_tree : Tree
+  rows_tree = tree_of has.bytes (typed has.known)
 
--- the stored file of an inode, and its bytes in the tree
+  pub shape-whole : WholeShape (shape_of t)
+  shape-whole = subst (λ u. WholeShape (shape_of u)) (sym has.tree) (whole-shape has.bytes (typed has.known) has.whole)
 
-pub file_of_inode : (files : List StoredFile) (inode : ℕ) → IsFile (length files) inode → (file : StoredFile) × (slice_get files (inode - 2) ≡ Some file)
-file_of_inode files inode is =
-    let low = is.low in
-    let high = is.high in
-    slice_get_inside files (inode - 2) (omega (arith, low, high))
+  module _ (who : Caller) (o : Op) where
+    -- a transaction that is refused leaves the tree
+    pub acted-refused : (fault : Fault) → attempt rows_tree who o ≡ Err fault
+        → tree_act t who o ≡ record { tree = t; reply = Refused fault }
+    acted-refused fault refused =
+        tree_act-attempt t who o ∙ ap (λ u. outcome t (attempt u who o)) has.tree ∙ ap (outcome t) refused
 
-pub record IsStored (t : Tree) (store : StoreValue) (inode : ℕ) : Type 0 where
-  pub file : StoredFile
-  pub stored : slice_get store.files.files (inode - 2) ≡ Some file
-  pub keeps : IsSomeAnd (content_at t inode) (Keeps file)
+    module _ (later : Store) (reply : Reply) (landed : Landed has.known later.rows has.bytes reply (λ u. attempt u who o)) where
+      pub acted : tree_act t who o ≡ record { tree = tree_of has.bytes (typed landed.left); reply = reply }
+      acted =
+          tree_act-attempt t who o ∙ ap (λ u. outcome t (attempt u who o)) has.tree ∙ ap (outcome t) landed.model
 
-pub is_stored : (t : Tree) (store : StoreValue) (inode : ℕ) → HasStore t store → IsFile (length store.files.files) inode → IsStored t store inode
-is_stored t store inode has is =
-    let low = is.low in
-    let file = file_of_inode store.files.files inode is in
-    let here : 2 + (inode - 2) ≡ inode = omega (arith, low) in
-    let keeps = subst (λ o. IfSome o (λ file. IsSomeAnd (content_at t (2 + (inode - 2))) (Keeps file))) file.1 (has.files.files (inode - 2)) in
-    record { file = file.0; stored = file.1; keeps = subst (λ i. IsSomeAnd (content_at t i) (Keeps file.0)) here keeps }
+      stored_since : (inode : ℕ) (content : Content) → HasBytes t inode content → Keeps (segments_at files inode) content
+      stored_since inode content (Kept same) = has.stored inode content same
+      stored_since inode content (New high empty) =
+          subst (λ (segments : List StoredSegment). Keeps segments content) (sym (has.fresh inode high))
+          (subst (Keeps []) (sym empty) keeps-empty)
 
-pub node-there : (t : Tree) (store : StoreValue) (inode : ℕ) → IsStored t store inode → is_some (node_at t inode) ≡ true
-node-there t store inode h =
-    let content = some_and (content_at t inode) (Keeps h.file) h.keeps in
-    ap is_some (file_node (node_at t inode) content.0 content.1).there
+      -- rows and files stand for the tree after a transaction that changes no bytes
+      pub stored-transacted : changes_bytes o ≡ false → HasStore (tree_act t who o).tree (shared files later)
+      stored-transacted plain = record {
+        known = landed.left;
+        is = landed.is;
+        whole = landed.whole;
+        bytes = has.bytes;
+        tree = ap (λ (done : Outcome). done.tree) acted;
+        stored = λ inode content is.
+            stored_since inode content (has_bytes-tree_act t who shape-whole o plain inode content is);
+        fresh = λ inode high. has.fresh inode (let next = (stays-tree_act t who shape-whole o).next in omega (arith, next, high));
+      }

@@ -1,5 +1,5 @@
 -- A client in memory is refused, and flushes, as the client of the model that it stands for.
-use Rattle.std.proofs.Common.{◌≡◌, ℕ, ◌+◌, Bool, true, false, not, List, [], ◌∷◌, length, map, Option, None, Some, refl, sym, ap, ◌∙◌}
+use Rattle.std.proofs.Common.{◌≡◌, ℕ, ◌+◌, Bool, true, false, not, List, [], ◌∷◌, length, map, Option, Some, refl, sym, ap, ◌∙◌}
 use Rattle.std.specs.Prelude.{is_some, ◌||◌, nat_lt, if◌then◌else◌}
 use Rattle.jv_model.specs.declared.fault.Fault.{Fault}
 use Rattle.jv_model.specs.declared.op.Op.{Op}
@@ -9,19 +9,21 @@ use Rattle.jv_model.specs.declared.profile.Flushes.TheVariants.{Nothing, ItsFile
 use Rattle.jv_model.specs.declared.profile.Handles.{Handles}
 use Rattle.jv_model.specs.declared.profile.Handles.TheVariants as named
 use Rattle.jv_model.specs.client.Pending.{PendingByte}
-use Rattle.jv_model.specs.client.ModelClient.{ModelClient, OpenFile, OfFiles, OfAll, open_count, inode_in, inode_at}
+use Rattle.jv_model.specs.client.ModelClient.{ModelClient, OpenFile, OfFiles, OfAll, open_count, inode_at}
 use Rattle.jv_model.specs.client.Profile.{profile, handle_list}
 use Rattle.jv_model.specs.client.Submission.{submission, submission_of, submitted, names_closed, is_closed, flush_of, by_limits}
+use Rattle.jv_files.specs.Stored.{FilesValue}
 use Rattle.jv_client.specs.declared.doing.Flush.TheVariants as flush
 use Rattle.jv_client.specs.declared.handles.Handle.{Handle}
 use Rattle.jv_client.specs.ClientValue.{ClientValue}
-use Rattle.jv_client.specs.StoreValue.{StoreValue}
-use Rattle.jv_client.specs.Held.{SamePlace, SameTable, IsHandle, IsDoing, IsHeld, IsClient, inode_of_handle, inode_here, files_here, flush_here, begun, flush_of_code}
+use Rattle.jv_client.specs.Held.{SameTable, IsHandle, IsDoing, IsHeld, IsClient, inode_here, files_here, flush_here, begun, flush_of_code}
 use Rattle.jv_client.proofs.HeldLaws.{held-doing}
 use Rattle.jv_client.proofs.TableLaws.{some-same, count-same, file-same}
+use Rattle.jv_client.proofs.LastLaws.{inode-same}
 
 module _ {X Y : Type 0} (P : ℕ → X → Y → Type 0) where
-  closed-same : (xs : List (Option X)) (ys : List (Option Y)) → SameTable P 1 xs ys → (handle : ℕ) → is_closed xs handle ≡ is_closed ys handle
+  closed-same : (xs : List (Option X)) (ys : List (Option Y)) → SameTable P 1 xs ys → (handle : ℕ)
+      → is_closed xs handle ≡ is_closed ys handle
   closed-same xs ys h handle = ap not (some-same (P handle) _ _ (file-same P xs ys h handle))
 
   -- a handle that isn't open
@@ -33,62 +35,65 @@ module _ {X Y : Type 0} (P : ℕ → X → Y → Type 0) where
       ap (λ b. b || (is_closed xs second || false)) (closed-same xs ys h first)
       ∙ ap (λ b. is_closed ys first || (b || false)) (closed-same xs ys h second)
 
-module _ (m : ModelClient) (count : ℕ) (store : StoreValue) (c : ClientValue) where
+module _ (m : ModelClient) (count : ℕ) (files : FilesValue) (c : ClientValue) where
   abbrev Same : ℕ → OpenFile → Handle → Type 0
-  Same = IsHandle m.views count store
+  Same = IsHandle m.views count files
 
   -- the refusals are the same
-  pub submission-same : (o : Op) → IsClient m count store c
-      → submission m o ≡ submission_of (is_some c.doing) (is_some c.session) (names_closed c.handles (profile o).handles) (open_count c.handles) (profile o)
+  pub submission-same : (o : Op) → IsClient m count files c
+      → submission m o ≡ submission_of (is_some c.doing) (is_some c.session)
+      (names_closed c.handles (profile o).handles) (open_count c.handles) (profile o)
   submission-same o h =
       let closed = names_closed m.handles (profile o).handles in
       let row = profile o in
-      ap (λ b. submission_of b (is_some m.session) closed (open_count m.handles) row) (some-same IsDoing m.doing c.doing h.doing)
+      ap (λ b. submission_of b (is_some m.session) closed (open_count m.handles) row)
+      (some-same IsDoing m.doing c.doing h.doing)
       ∙ ap (λ x. submission_of (is_some c.doing) (is_some x) closed (open_count m.handles) row) h.held.session
-      ∙ ap (λ b. submission_of (is_some c.doing) (is_some c.session) b (open_count m.handles) row) (names_closed-same Same m.handles c.handles h.held.handles row.handles)
-      ∙ ap (λ n. submission_of (is_some c.doing) (is_some c.session) (names_closed c.handles row.handles) n row) (count-same Same 1 m.handles c.handles h.held.handles)
+      ∙ ap (λ b. submission_of (is_some c.doing) (is_some c.session) b (open_count m.handles) row)
+      (names_closed-same Same m.handles c.handles h.held.handles row.handles)
+      ∙ ap (λ n. submission_of (is_some c.doing) (is_some c.session) (names_closed c.handles row.handles) n row)
+      (count-same Same 1 m.handles c.handles h.held.handles)
 
-  inode-same : (n : ℕ) (file : Option OpenFile) (handle : Option Handle) → SamePlace (Same n) file handle → inode_in file ≡ inode_of_handle handle
-  inode-same n None None h = refl
-  inode-same n None (Some handle) h = absurd h
-  inode-same n (Some file) None h = absurd h
-  inode-same n (Some file) (Some handle) h = h.inode
-
-  pub inode_at-same : IsHeld m count store c → (handle : ℕ) → inode_at m handle ≡ inode_here c.handles handle
-  inode_at-same h handle = inode-same handle _ _ (file-same Same m.handles c.handles h.handles handle)
-
-  files-same : IsHeld m count store c → (handles : Handles) → OfFiles (map (inode_at m) (handle_list handles)) ≡ flush_of_code (files_here c.handles handles)
+  files-same : IsHeld m count files c → (handles : Handles)
+      → OfFiles (map (inode_at m) (handle_list handles)) ≡ flush_of_code (files_here c.handles handles)
   files-same h named.None = refl
-  files-same h (named.One handle) = ap (λ i. OfFiles (i ∷ [])) (inode_at-same h handle)
+  files-same h (named.One handle) = ap (λ i. OfFiles (i ∷ [])) (inode-same h handle)
   files-same h (named.Two first second) =
-      ap (λ i. OfFiles (i ∷ inode_at m second ∷ [])) (inode_at-same h first) ∙ ap (λ i. OfFiles (inode_here c.handles first ∷ i ∷ [])) (inode_at-same h second)
+      ap (λ i. OfFiles (i ∷ inode_at m second ∷ [])) (inode-same h first)
+      ∙ ap (λ i. OfFiles (inode_here c.handles first ∷ i ∷ [])) (inode-same h second)
 
   full-same : (b : Bool) → (if b then OfAll else OfFiles []) ≡ flush_of_code (if b then flush.All else flush.Nothing)
   full-same true = refl
   full-same false = refl
 
-  by-flushes : IsHeld m count store c → (row : Profile) (flushes : Flushes) → row.flushes ≡ flushes
+  by-flushes : IsHeld m count files c → (row : Profile) (flushes : Flushes) → row.flushes ≡ flushes
       → flush_of c.limits.buffer m row ≡ flush_of_code (flush_here c row)
   by-flushes h row Nothing e = rw e refl
   by-flushes h row ItsFiles e = rw e (files-same h row.handles)
-  by-flushes h row (IfFull len) e = rw e (ap (λ (bytes : List PendingByte). if nat_lt c.limits.buffer (length bytes + len) then OfAll else OfFiles []) h.pending ∙ full-same (nat_lt c.limits.buffer (length c.pending + len)))
+  by-flushes h row (IfFull len) e = rw e (ap (λ (bytes : List PendingByte). if nat_lt c.limits.buffer
+      (length bytes + len) then OfAll else OfFiles []) h.pending
+      ∙ full-same (nat_lt c.limits.buffer (length c.pending + len)))
   by-flushes h row Everything e = rw e refl
 
   -- what is committed first is the same
-  pub flush-same : IsHeld m count store c → (row : Profile) → flush_of c.limits.buffer m row ≡ flush_of_code (flush_here c row)
+  pub flush-same : IsHeld m count files c → (row : Profile)
+      → flush_of c.limits.buffer m row ≡ flush_of_code (flush_here c row)
   flush-same h row = by-flushes h row row.flushes refl
 
   -- an operation that isn't refused is in progress
-  pub begun-stands : (o : Op) → IsClient m count store c
-      → IsClient (submitted c.limits o m) count store (record c { doing = Some (begun o (by_limits c.limits (profile o).does) (flush_here c (profile o))) })
+  pub begun-stands : (o : Op) → IsClient m count files c
+      → IsClient (submitted c.limits o m) count files (record c
+      { doing = Some (begun o (by_limits c.limits (profile o).does) (flush_here c (profile o))) })
   begun-stands o h = record {
     held = held-doing _ _ h.held;
     doing = record { op = refl; does = refl; flush = flush-same h.held (profile o); stage = refl; moved = refl };
   }
 
   -- the refusal by a row that is the operation's
-  pub refusal-by : (o : Op) (row : Profile) (refusal : Option Fault) → IsClient m count store c → row ≡ profile o
-      → refusal ≡ submission_of (is_some c.doing) (is_some c.session) (names_closed c.handles row.handles) (open_count c.handles) row
+  pub refusal-by : (o : Op) (row : Profile) (refusal : Option Fault) → IsClient m count files c → row ≡ profile o
+      → refusal ≡ submission_of (is_some c.doing) (is_some c.session) (names_closed c.handles row.handles)
+      (open_count c.handles) row
       → refusal ≡ submission m o
   refusal-by o row refusal h same is =
-      is ∙ ap (λ (r : Profile). submission_of (is_some c.doing) (is_some c.session) (names_closed c.handles r.handles) (open_count c.handles) r) same ∙ sym (submission-same o h)
+      is ∙ ap (λ (r : Profile). submission_of (is_some c.doing) (is_some c.session) (names_closed c.handles r.handles)
+      (open_count c.handles) r) same ∙ sym (submission-same o h)

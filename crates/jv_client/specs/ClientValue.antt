@@ -1,5 +1,5 @@
 -- What contracts see of a client.
-use Rattle.std.specs.Prelude.{ℕ, List, [], Option, None}
+use Rattle.std.specs.Prelude.{ℕ, List, [], Option, None, unwrap_or}
 use Rattle.jv_model.specs.declared.basics.Limits.{Limits}
 use Rattle.jv_model.specs.client.Pending.{PendingByte}
 use Rattle.jv_client.specs.declared.doing.Doing.{Doing}
@@ -10,12 +10,17 @@ pub record ClientValue : Type 0 where
   pub limits : Limits
   pub session : Option ℕ
   pub handles : List (Option Handle)
+  pub sustained : List ℕ  -- inodes that lost their last name by this client's own hand while it had them open
   pub pending : List PendingByte
   pub doing : Option Doing
 
 abbrev pub fresh_client : ℕ → Limits → ClientValue
-fresh_client id limits = record { id = id; limits = limits; session = None; handles = []; pending = []; doing = None }
+fresh_client id limits = record { id = id; limits = limits; session = None; handles = []; sustained = []; pending = []; doing = None }
 
 -- after a crash a client is as before any mount
 abbrev pub crashed : ClientValue → ClientValue
 crashed c = fresh_client c.id c.limits
+
+-- the session's number, 0 where there is none
+abbrev pub session_here : ClientValue → ℕ
+session_here c = unwrap_or c.session 0

@@ -1,5 +1,5 @@
 -- When a client in memory stands for one of the model.
-use Rattle.std.specs.Prelude.{◌≡◌, ℕ, false, ◌+◌, ◌-◌, ◌≤◌, nat_lt, if◌then◌else◌, List, [], ◌∷◌, length, slice_get, Option, None, Some, Result, Ok, Err, IfSome, IsSomeAnd}
+use Rattle.std.specs.Prelude.{◌≡◌, ℕ, Bool, true, false, ◌+◌, ◌≤◌, ◌&&◌, not, nat_lt, if◌then◌else◌, List, [], ◌∷◌, length, Option, None, Some, Result, Ok, Err}
 use Rattle.std.specs.List.{AllByRecursion}
 use Rattle.jv_model.specs.declared.fault.Fault.{Fault}
 use Rattle.jv_model.specs.declared.op.Op.{Op}
@@ -8,9 +8,13 @@ use Rattle.jv_model.specs.declared.profile.Profile.{Profile}
 use Rattle.jv_model.specs.declared.profile.Flushes.TheVariants.{Nothing, ItsFiles, IfFull, Everything}
 use Rattle.jv_model.specs.declared.profile.Handles.{Handles}
 use Rattle.jv_model.specs.declared.profile.Handles.TheVariants as named
-use Rattle.jv_model.specs.client.ModelClient.{ModelClient, OpenFile, View as ModelView, Doing as ModelDoing, Flush as ModelFlush, OfFiles, OfAll, Stage, Working, Reading, file_of}
+use Rattle.jv_model.specs.tree.Tree.{Tree}
+use Rattle.jv_model.specs.client.Pending.{PendingByte}
+use Rattle.jv_model.specs.client.ModelClient.{ModelClient, OpenFile, View as ModelView, Doing as ModelDoing, Flush as ModelFlush, OfFiles, OfAll, Stage, Working, Reading, file_of, with_file, held_inodes, is_among}
 use Rattle.jv_model.specs.journal.Reading.{fresh_view}
-use Rattle.jv_files.specs.declared.files.StoredFile.{StoredFile}
+use Rattle.jv_volume.specs.Holding.{IsHoldable}
+use Rattle.jv_files.specs.declared.files.StoredSegment.{StoredSegment}
+use Rattle.jv_files.specs.Stored.{FilesValue, segments_at}
 use Rattle.jv_files.specs.Holds.{Keeps}
 use Rattle.jv_files.specs.Shown.{as_seen}
 use Rattle.jv_client.specs.declared.doing.Doing.{Doing}
@@ -21,7 +25,6 @@ use Rattle.jv_client.specs.declared.doing.Progress.TheVariants as progress
 use Rattle.jv_client.specs.declared.handles.Handle.{Handle}
 use Rattle.jv_client.specs.declared.handles.View.{View}
 use Rattle.jv_client.specs.ClientValue.{ClientValue}
-use Rattle.jv_client.specs.StoreValue.{StoreValue, IsSession}
 
 abbrev pub SamePlace : {X Y : Type 0} → (X → Y → Type 0) → Option X → Option Y → Type 0
 SamePlace P None None = Unit {0}
@@ -37,21 +40,22 @@ SameTable P number (x ∷ xs) [] = ⊥
 SameTable P number (x ∷ xs) (y ∷ ys) = SamePlace (P number) x y × SameTable P (number + 1) xs ys
 
 -- a file as a look saw it has these bytes; it has gone on since
-pub record ShowsContent (view : View) (content : ModelView) (file : StoredFile) : Type 0 where
-  pub seen : view.seen.commits ≤ length file.segments
-  pub keeps : Keeps (as_seen view.seen file) content.content
+pub record ShowsContent (view : View) (content : ModelView) (segments : List StoredSegment) : Type 0 where
+  pub seen : view.seen.commits ≤ length segments
+  pub long : content.content.length ≡ view.seen.length
+  pub keeps : Keeps (as_seen view.seen segments) content.content
 
 -- a view of the model is the one that a handle on this inode keeps
-pub record IsView (store : StoreValue) (inode : ℕ) (m : ModelView) (view : View) : Type 0 where
+pub record IsView (files : FilesValue) (inode : ℕ) (m : ModelView) (view : View) : Type 0 where
   pub entry : m.entry ≡ view.entry
-  pub shows : IsSomeAnd (slice_get store.files.files (inode - 2)) (ShowsContent view m)
+  pub shows : ShowsContent view m (segments_at files inode)
 
 -- an open file of the model is the one of a handle, opened by now, with the fresh view of its first window
-pub record IsHandle (views : List ModelView) (count : ℕ) (store : StoreValue) (number : ℕ) (file : OpenFile) (handle : Handle) : Type 0 where
+pub record IsHandle (views : List ModelView) (count : ℕ) (files : FilesValue) (number : ℕ) (file : OpenFile) (handle : Handle) : Type 0 where
   pub inode : file.inode ≡ handle.inode
   pub opened : file.opened ≡ handle.opened
   pub before : file.opened ≤ count
-  pub view : SamePlace (IsView store handle.inode) (fresh_view views number file 0) handle.view
+  pub view : SamePlace (IsView files handle.inode) (fresh_view views number file 0) handle.view
 
 -- what is committed first
 abbrev pub flush_of_code : Flush → ModelFlush
@@ -61,14 +65,18 @@ flush_of_code (flush.Files first second) = OfFiles (first ∷ second ∷ [])
 flush_of_code flush.All = OfAll
 
 -- a client without its operation, after so many entries
-pub record IsHeld (m : ModelClient) (count : ℕ) (store : StoreValue) (c : ClientValue) : Type 0 where
+pub record IsHeld (m : ModelClient) (count : ℕ) (files : FilesValue) (c : ClientValue) : Type 0 where
   pub session : m.session ≡ c.session
-  pub mounted : IfSome c.session (IsSession store)
   pub direct : m.writeback ≡ false
-  pub none_removed : m.sustained ≡ []
-  pub handles : SameTable (IsHandle m.views count store) 1 m.handles c.handles
+  pub removed : (inode : ℕ) → is_among inode m.sustained ≡ is_among inode c.sustained
+  pub handles : SameTable (IsHandle m.views count files) 1 m.handles c.handles
   pub views : AllByRecursion (λ (view : ModelView). view.entry ≤ count) m.views
   pub pending : m.pending ≡ c.pending
+
+-- What a client has open, and what it wrote, is of inodes that were given to files.
+pub record Holds (t : Tree) (m : ModelClient) : Type 0 where
+  pub opened : (inode : ℕ) → is_among inode (held_inodes m.handles) ≡ true → IsHoldable t inode
+  pub pending : AllByRecursion (λ (b : PendingByte). IsHoldable t b.inode) m.pending
 
 -- the inode of a handle's file, 0 where it isn't open
 abbrev pub inode_of_handle : Option Handle → ℕ
@@ -77,6 +85,17 @@ inode_of_handle (Some handle) = handle.inode
 
 abbrev pub inode_here : List (Option Handle) → ℕ → ℕ
 inode_here handles handle = inode_of_handle (file_of handles handle)
+
+-- the inodes of all open files
+abbrev pub held_here : List (Option Handle) → List ℕ
+held_here [] = []
+held_here (None ∷ handles) = held_here handles
+held_here (Some handle ∷ handles) = handle.inode ∷ held_here handles
+
+-- whether a handle is the client's last one on a file that it removed itself while it had it open
+abbrev pub is_last_here : ClientValue → ℕ → Bool
+is_last_here c handle = is_among (inode_here c.handles handle) c.sustained
+    && not (is_among (inode_here c.handles handle) (held_here (with_file handle None c.handles)))
 
 abbrev pub files_here : List (Option Handle) → Handles → Flush
 files_here handles named.None = flush.Nothing
@@ -113,8 +132,8 @@ pub record IsDoing (m : ModelDoing) (d : Doing) : Type 0 where
   pub moved : m.moved ≡ d.has_moved
 
 -- a client of the model is the one in memory, after so many entries
-pub record IsClient (m : ModelClient) (count : ℕ) (store : StoreValue) (c : ClientValue) : Type 0 where
-  pub held : IsHeld m count store c
+pub record IsClient (m : ModelClient) (count : ℕ) (files : FilesValue) (c : ClientValue) : Type 0 where
+  pub held : IsHeld m count files c
   pub doing : SamePlace IsDoing m.doing c.doing
 
 -- the refusal of a call that begins an operation

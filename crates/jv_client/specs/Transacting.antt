@@ -1,33 +1,61 @@
--- What a metadata transaction gives, without a journal.
-use Rattle.std.specs.Prelude.{◌≡◌, ℕ, Bool, true, false, List, length, is_some, IsTrue, Option, None, Some, Result, Ok, Err}
+-- What the transaction of an operation promises, without a journal, and what its answer makes of the client.
+use Rattle.std.specs.Prelude.{◌≡◌, ℕ, Bool, true, ◌&&◌, List, ◌∷◌, [], ◌++◌, Option, None, Some, Result, Ok, Err, IfSome}
+use Rattle.jv_model.specs.declared.act.ActKind.{ActKind}
+use Rattle.jv_model.specs.declared.act.Told.TheVariants.{Refused as ToldRefused}
+use Rattle.jv_model.specs.declared.fault.Busy.TheVariants.{Lists}
+use Rattle.jv_model.specs.declared.fault.Device.TheVariants.{Keeper}
+use Rattle.jv_model.specs.declared.fault.Fault.{Fault}
+use Rattle.jv_model.specs.declared.fault.Fault.TheVariants.{Contended, DeviceFailed, NoMemory}
+use Rattle.jv_model.specs.declared.fault.RowFault.TheVariants.{Bad, Failed, Memory}
+use Rattle.jv_model.specs.declared.fault.TxFault.{TxFault}
+use Rattle.jv_model.specs.declared.fault.TxFault.TheVariants.{Refused, Moved, Rows as OfRows}
 use Rattle.jv_model.specs.declared.op.Op.{Op}
+use Rattle.jv_model.specs.declared.op.Op.TheVariants as op
 use Rattle.jv_model.specs.declared.op.Reply.{Reply}
-use Rattle.jv_model.specs.declared.op.Reply.TheVariants.{Refused, SessionMade, FileOpened}
-use Rattle.jv_model.specs.FiniteMap.{get}
-use Rattle.jv_model.specs.tree.Tree.{Tree}
-use Rattle.jv_model.specs.tree.Caller.{Caller, Outcome}
-use Rattle.jv_model.specs.tree.TreeAct.{tree_act}
-use Rattle.jv_model.specs.client.ModelClient.{ModelClient, free_handle, with_file}
-use Rattle.jv_model.specs.client.Profile.{profile}
-use Rattle.jv_model.specs.journal.State.{Gift, NewSession, NewHandle, Nothing, gift_of, after_told}
-use Rattle.jv_model.specs.journal.Steps.{told_of, is_failure}
-use Rattle.jv_files.specs.Stored.{IsFile}
+use Rattle.jv_model.specs.declared.op.Reply.TheVariants.{Refused as RefusedReply}
+use Rattle.jv_model.specs.script.Spelled.{is_spelled}
+use Rattle.jv_model.specs.tree.Caller.{Caller}
+use Rattle.jv_model.specs.client.ModelClient.{free_handle, with_file}
+use Rattle.jv_model.specs.client.Profile.{handle_of}
+use Rattle.jv_model.specs.journal.State.{Gift, NewSession, NewHandle, Nothing, gift_of}
+use Rattle.jv_model.specs.journal.Steps.{entry_of_gift, told_of}
+use Rattle.jv_outside.specs.Store.{Store}
+use Rattle.jv_rows.specs.Transactions.{Transacts, FaultCause, BadFault}
+use Rattle.jv_volume.specs.TypedRows.{typed}
+use Rattle.jv_links.specs.Removals.{HoldsFiles}
+use Rattle.jv_metadata.specs.declared.answers.Answer.{Answer}
+use Rattle.jv_metadata.specs.Attempts.{attempt, is_metadata, TellsKept}
 use Rattle.jv_client.specs.declared.handles.Handle.{Handle}
-use Rattle.jv_client.specs.ClientValue.{ClientValue}
-use Rattle.jv_client.specs.StoreValue.{StoreValue, IsSession, HasStore, Grows}
+use Rattle.jv_client.specs.declared.made.Made.{Made}
+use Rattle.jv_client.specs.declared.made.Made.TheVariants as made
+use Rattle.jv_client.specs.ClientValue.{ClientValue, session_here}
+use Rattle.jv_client.specs.Held.{held_here, inode_here}
+use Rattle.jv_client.specs.Ending.{ended, refused_here, told_here}
 
--- the replies of the transactions that are built
-abbrev pub is_transacted : Reply → Bool
-is_transacted (Refused fault) = true
-is_transacted (SessionMade sid) = true
-is_transacted (FileOpened handle inode) = true
-is_transacted _ = false
+-- in whose name the transaction of a client's operation is made
+pub record IsCaller (h : ClientValue) (o : Op) (now : ℕ) (who : Caller) : Type 0 where
+  pub client : who.client ≡ h.id
+  pub sid : who.sid ≡ session_here h
+  pub now_is : who.now ≡ now
+  pub held : who.held ≡ held_here h.handles
+  pub free : who.free_handle ≡ free_handle h.handles
+  pub inode : who.inode ≡ inode_here h.handles (handle_of o)
+
+-- the operations whose transaction may be tried: a mount, and those on metadata
+abbrev pub is_tried : Op → Bool
+is_tried (op.Mount writeback) = true
+is_tried o = is_metadata o && is_spelled o
+
+-- the transaction of an operation was tried
+pub record Attempts (h : ClientValue) (o : Op) (now : ℕ) (before after : Store) (result : Result Answer TxFault) : Type 0 where
+  pub does : (who : Caller) → IsCaller h o now who → Transacts (HoldsFiles who.held) before after result (λ answer. answer.reply) (λ t. attempt t who o)
+  pub tells : (who : Caller) → IsCaller h o now who → TellsKept who o before result
 
 -- a handle that was just opened
 abbrev pub new_handle : ℕ → ℕ → Handle
 new_handle inode entry = record { inode = inode; opened = entry; view = None }
 
--- the client's session and its handles with what a reply hands to it, by the entry with this number
+-- a client's session and its handles with what a reply hands to it, by the entry with this number
 abbrev pub session_given : Gift → Option ℕ → Option ℕ
 session_given (NewSession sid) session = Some sid
 session_given (NewHandle handle inode) session = session
@@ -35,47 +63,54 @@ session_given Nothing session = session
 
 abbrev pub handles_given : ℕ → Gift → List (Option Handle) → List (Option Handle)
 handles_given entry (NewSession sid) handles = handles
-handles_given entry (NewHandle handle inode) handles = with_file handle (Some (new_handle inode entry)) handles
+handles_given entry (NewHandle handle inode) handles = with_file (free_handle handles) (Some (new_handle inode entry)) handles
 handles_given entry Nothing handles = handles
 
--- the client once its transaction is answered
-abbrev pub given_here : ℕ → Gift → ClientValue → ClientValue
-given_here entry gift h = record h {
-  session = session_given gift h.session;
-  handles = handles_given entry gift h.handles;
-  doing = None;
+-- with the file that its session keeps from then on
+abbrev pub sustained_with : Option ℕ → List ℕ → List ℕ
+sustained_with None sustained = sustained
+sustained_with (Some inode) sustained = sustained ++ inode ∷ []
+
+abbrev pub given_here : ℕ → Answer → ClientValue → ClientValue
+given_here entry answer h = record h {
+  session = session_given (gift_of answer.reply) h.session;
+  handles = handles_given entry (gift_of answer.reply) h.handles;
+  sustained = sustained_with answer.kept h.sustained;
 }
 
--- what is handed out is there: the session was made, and the least free handle names a file
-abbrev pub IsGift : StoreValue → List (Option Handle) → Gift → Type 0
-IsGift store handles (NewSession sid) = IsSession store sid
-IsGift store handles (NewHandle handle inode) = (handle ≡ free_handle handles) × IsFile (length store.files.files) inode
-IsGift store handles Nothing = Unit {0}
+-- the client once its transaction is answered
+abbrev pub answered_here : ℕ → Op → Answer → ClientValue → ClientValue
+answered_here entry o answer h = told_here o (told_of answer.reply) (given_here entry answer h)
 
--- A tree's transaction is answered so, and leads to a tree that has the store; no file lost its last name while it was open.
-pub record LeadsTo (t : Tree) (reply : Reply) (grown : StoreValue) (done : Outcome) : Type 0 where
-  pub same : done.reply ≡ reply
-  pub kept : done.tree.sustained ≡ t.sustained
-  pub has_store : HasStore done.tree grown
+-- no row is Bad, and no list moved: so it is over whole rows
+abbrev pub IsPlain : TxFault → Type 0
+IsPlain (Refused fault) = Unit {0}
+IsPlain (Moved list) = ⊥
+IsPlain (OfRows (Bad at bytes)) = ⊥
+IsPlain (OfRows Failed) = Unit {0}
+IsPlain (OfRows Memory) = Unit {0}
 
--- What a transaction promises of every tree that has the store: the store has grown as the tree did. It reads the client's
--- session and its least free handle alone, and the answer ends the operation and changes nothing further.
-pub record Transacts (o : Op) (handles : List (Option Handle)) (store grown : StoreValue) (reply : Reply) : Type 0 where
-  pub plain : IsTrue (is_transacted reply)
-  pub fine : is_failure (told_of reply) ≡ false
-  pub ends : (c : ModelClient) → after_told o (told_of reply) c ≡ record c { doing = None }
-  pub grows : Grows store grown
-  pub gift : IsGift grown handles (gift_of reply)
-  pub leads : (t : Tree) (who : Caller) → HasStore t store → ((profile o).needs_mount ≡ true → IsTrue (is_some (get t.sessions who.sid)))
-      → who.free_handle ≡ free_handle handles → LeadsTo t reply grown (tree_act t who o)
+-- A transaction wasn't made: rows and place are as before, the keeper's count rose where it failed, and where the rows are known,
+-- a row that is called Bad is so.
+pub record NotMade (fault : TxFault) (before after : Store) : Type 0 where
+  pub rows_are : after.rows ≡ before.rows
+  pub opened_at : after.opened ≡ before.opened
+  pub counts : FaultCause before.faults after.faults fault
+  pub bad : IfSome before.rows (λ known. BadFault (typed known) fault)
 
--- A transaction of a mounted client, and its handles with what the reply hands out.
-pub record Gives (o : Op) (entry : ℕ) (handles after : List (Option Handle)) (store grown : StoreValue) (reply : Reply) : Type 0 where
-  pub done : Transacts o handles store grown reply
-  pub given : after ≡ handles_given entry (gift_of reply) handles
-  pub mounts_none : (session : Option ℕ) → session_given (gift_of reply) session ≡ session
+-- what a refusal leaves of the client, and how the step ends: with the request that was refused, or, where the keeper failed or
+-- memory ran out, without one
+pub record Refuses (kind : ActKind) (fault : Fault) (h after : ClientValue) (done : Made) : Type 0 where
+  pub after_is : after ≡ refused_here fault h
+  pub made_is : done ≡ made.Both kind (ToldRefused fault) (RefusedReply fault)
 
--- Where memory ran out nothing has changed.
-abbrev pub MayGive : {E : Type 0} → Op → ℕ → (handles after : List (Option Handle)) → (store grown : StoreValue) → Result Reply E → Type 0
-MayGive o entry handles after store grown (Ok reply) = Gives o entry handles after store grown reply
-MayGive o entry handles after store grown (Err error) = (after ≡ handles) × (grown ≡ store)
+pub record Fails (fault : Fault) (h after : ClientValue) (done : Made) : Type 0 where
+  pub after_is : after ≡ ended h
+  pub made_is : done ≡ made.Answer (ToldRefused fault) (RefusedReply fault)
+
+abbrev pub EndsUnmade : ActKind → TxFault → ClientValue → ClientValue → Made → Type 0
+EndsUnmade kind (Refused fault) h after done = Refuses kind fault h after done
+EndsUnmade kind (Moved list) h after done = (count : ℕ) × Refuses kind (Contended (Lists count count)) h after done
+EndsUnmade kind (OfRows (Bad at bytes)) h after done = (after ≡ h) × (done ≡ made.Broken at bytes)
+EndsUnmade kind (OfRows Failed) h after done = Fails (DeviceFailed Keeper) h after done
+EndsUnmade kind (OfRows Memory) h after done = Fails NoMemory h after done

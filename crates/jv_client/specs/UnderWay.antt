@@ -1,6 +1,5 @@
 -- What holds of a client's own state before each step.
-use Rattle.std.specs.Prelude.{◌≡◌, ℕ, ◌+◌, ◌-◌, ◌*◌, ◌≤◌, ◌<◌, ◌==◌, Bool, true, false, ◌||◌, nat_lt, if◌then◌else◌, IsTrue, IfSome, List, [], length, is_some, Option, None, Some}
-use Rattle.std.specs.List.{AllByRecursion}
+use Rattle.std.specs.Prelude.{◌≡◌, ℕ, ◌+◌, ◌-◌, ◌*◌, ◌≤◌, ◌<◌, ◌==◌, Bool, true, false, ◌||◌, not, nat_lt, if◌then◌else◌, IsTrue, IfSome, List, [], length, is_some, Option, None, Some}
 use Rattle.jv_model.specs.declared.limits.TheConstants.{FILE_END, WINDOW}
 use Rattle.jv_model.specs.declared.op.Op.{Op}
 use Rattle.jv_model.specs.declared.op.Op.TheVariants as op
@@ -12,14 +11,14 @@ use Rattle.jv_model.specs.declared.profile.Answer.{Answer}
 use Rattle.jv_model.specs.declared.profile.Answer.TheVariants as answer
 use Rattle.jv_model.specs.declared.profile.Does.{Does}
 use Rattle.jv_model.specs.declared.profile.Does.TheVariants as does
-use Rattle.jv_model.specs.script.Spelling.{is_root_path}
+use Rattle.jv_model.specs.script.Spelled.{is_spelled}
 use Rattle.jv_pending.specs.Held.{PendingValue}
 use Rattle.jv_model.specs.client.Pending.{PendingByte, Segment, written}
 use Rattle.jv_model.specs.client.Profile.{handle_of}
-use Rattle.jv_model.specs.client.ModelClient.{file_of, with_file}
+use Rattle.jv_model.specs.client.ModelClient.{file_of}
 use Rattle.jv_model.specs.client.Submission.{next_segment}
-use Rattle.jv_model.specs.journal.Built.{pending_limit}
-use Rattle.jv_files.specs.Stored.{IsFile}
+use Rattle.jv_client.specs.Built.{pending_limit}
+use Rattle.jv_metadata.specs.Attempts.{is_metadata}
 use Rattle.jv_client.specs.declared.doing.Doing.{Doing}
 use Rattle.jv_client.specs.declared.doing.Flush.{Flush}
 use Rattle.jv_client.specs.declared.doing.Flush.TheVariants as flush
@@ -28,8 +27,8 @@ use Rattle.jv_client.specs.declared.doing.Progress.TheVariants.{Working, Reading
 use Rattle.jv_client.specs.declared.handles.Handle.{Handle}
 use Rattle.jv_client.specs.declared.handles.View.{View}
 use Rattle.jv_client.specs.ClientValue.{ClientValue}
-use Rattle.jv_client.specs.Held.{flush_of_code, inode_here}
-use Rattle.jv_client.specs.StoreValue.{StoreValue}
+use Rattle.jv_client.specs.Held.{flush_of_code, inode_here, is_last_here}
+use Rattle.jv_client.specs.Ending.{told_here}
 
 -- the segment that is committed next
 abbrev pub segment_left : Flush → List PendingByte → Option Segment
@@ -51,13 +50,13 @@ abbrev pub shows_from : ℕ → Option View → Bool
 shows_from offset None = true
 shows_from offset (Some view) = nat_lt offset view.seen.length
 
--- whether a reading has a look or a block to ask for
-abbrev pub reads_more : ClientValue → Doing → Bool
-reads_more h d = elim d.does [
+-- whether the operation has something to ask for once it has flushed: a look or a block of a reading, or a transaction
+abbrev pub asks_more : ClientValue → Doing → Bool
+asks_more h d = elim d.does [
   | does.Answers told ↦ false
-  | does.Mounts writeback ↦ false
-  | does.Transacts ↦ false
-  | does.Releases ↦ false
+  | does.Mounts writeback ↦ true
+  | does.Transacts ↦ true
+  | does.Releases ↦ is_last_here h (handle_of d.op)
   | does.Reads offset len ↦ shows_from offset (view_here h d)
   | does.Truncates ↦ false
   | does.Copies ↦ false
@@ -67,22 +66,32 @@ reads_more h d = elim d.does [
   | does.Uploads ↦ false
 ]
 
--- the metadata transactions that are built
+-- the operations that are one transaction, but for a close, which may be none
 abbrev pub is_transaction : Op → Bool
-is_transaction (op.Create path mode) = is_root_path path
-is_transaction (op.Open path) = is_root_path path
-is_transaction _ = false
+is_transaction (op.Close handle) = false
+is_transaction o = is_metadata o
+
+-- the handle that an operation closes, which is open
+abbrev pub closed_by : Op → Option ℕ
+closed_by (op.Close handle) = Some handle
+closed_by _ = None
+
+abbrev pub ClosesOpen : Op → List (Option Handle) → Type 0
+ClosesOpen o handles = IfSome (closed_by o) (λ handle. IsTrue (is_some (file_of handles handle)))
 
 -- what comes after the flush of a handle's file
 pub data FlushesFor (d : Doing) (handle : ℕ) : Type 0 where
   Closes : d.op ≡ op.Close handle → d.does ≡ does.Releases → FlushesFor d handle
+  Syncs : d.op ≡ op.Flush handle → d.does ≡ does.Answers answer.Done → FlushesFor d handle
+  Describes : d.op ≡ op.Fstat handle → d.does ≡ does.Transacts → FlushesFor d handle
   ReadsNothing : (offset len : ℕ) → d.op ≡ op.Read handle offset len → d.does ≡ does.Answers answer.NoData → FlushesFor d handle
   Reads : (offset len : ℕ) → d.op ≡ op.Read handle offset len → d.does ≡ does.Reads offset len → 0 < len → offset + len ≤ WINDOW → FlushesFor d handle
 
--- the operations that are built, each as it was begun
+-- the operations that are built, each as it was begun: an umount flushes all, and some others the file of their handle
 pub data IsForm (h : ClientValue) (d : Doing) : Type 0 where
   Mounts : d.op ≡ op.Mount false → d.does ≡ does.Mounts false → d.flush ≡ flush.Nothing → IsForm h d
-  Transacts : IsTrue (is_transaction d.op) → d.does ≡ does.Transacts → d.flush ≡ flush.Nothing → IsTrue (is_some h.session) → IsForm h d
+  Transacts : IsTrue (is_transaction d.op) → IsTrue (is_spelled d.op) → d.does ≡ does.Transacts → d.flush ≡ flush.Nothing → IsTrue (is_some h.session) → IsForm h d
+  Leaves : d.op ≡ op.Umount → d.does ≡ does.Transacts → d.flush ≡ flush.All → IsTrue (is_some h.session) → IsForm h d
   Writes : (handle offset : ℕ) (bytes : List ℕ) (file : Handle) → d.op ≡ op.Write handle offset bytes → d.does ≡ does.Answers (answer.Count (length bytes))
       → d.flush ≡ flush.Nothing → file_of h.handles handle ≡ Some file → offset + length bytes ≤ WINDOW
       → length h.pending + length bytes ≤ pending_limit h.limits → IsForm h d
@@ -95,8 +104,9 @@ pub record IsWorking (h : ClientValue) (d : Doing) (quiets : ℕ) : Type 0 where
   pub segment : 0 < quiets → IsTrue (has_segment h d)
 
 pub record IsReading (h : ClientValue) (d : Doing) : Type 0 where
+  pub read : (offset len : ℕ) × (d.does ≡ does.Reads offset len)
   pub flushed : has_segment h d ≡ false
-  pub reads : IsTrue (reads_more h d)
+  pub reads : IsTrue (asks_more h d)
   pub seen : IsTrue (is_some (view_here h d))
 
 abbrev pub IsAt : ClientValue → Doing → Progress → Type 0
@@ -107,16 +117,11 @@ IsAt h d Reading = IsReading h d
 pub record IsUnderWay (h : ClientValue) (d : Doing) : Type 0 where
   pub form : IsForm h d
   pub at : IsAt h d d.progress
-  pub asks : d.has_moved ≡ true → IsTrue (has_segment h d || reads_more h d)
+  pub asks : d.has_moved ≡ true → IsTrue (has_segment h d || asks_more h d)
 
-abbrev pub IsOfFile : StoreValue → Option Handle → Type 0
-IsOfFile store None = Unit {0}
-IsOfFile store (Some handle) = IsFile (length store.files.files) handle.inode
-
--- its open files are in the store, and its operation goes on well
-pub record IsReady (store : StoreValue) (h : ClientValue) : Type 0 where
-  pub files : AllByRecursion (IsOfFile store) h.handles
-  pub doing : IfSome h.doing (IsUnderWay h)
+-- its operation goes on well
+abbrev pub IsReady : ClientValue → Type 0
+IsReady h = IfSome h.doing (IsUnderWay h)
 
 -- the most steps that an operation still makes before its last one
 abbrev pub steps_in : ℕ → Progress → ℕ
@@ -167,33 +172,38 @@ abbrev pub names_open : ClientValue → Doing → Type 0
 names_open h d = IsTrue (is_some (file_of h.handles (handle_of d.op)))
 
 -- whether an operation has nothing to ask for once it has flushed
-abbrev pub ends_itself : Does → Bool
-ends_itself (does.Answers told) = true
-ends_itself does.Releases = true
-ends_itself _ = false
+abbrev pub ends_itself : ClientValue → Doing → Bool
+ends_itself h d = elim d.does [
+  | does.Answers told ↦ true
+  | does.Mounts writeback ↦ false
+  | does.Transacts ↦ false
+  | does.Releases ↦ not (is_last_here h (handle_of d.op))
+  | does.Reads offset len ↦ false
+  | does.Truncates ↦ false
+  | does.Copies ↦ false
+  | does.Compacts ↦ false
+  | does.Cleans ↦ false
+  | does.Collects delete ↦ false
+  | does.Uploads ↦ false
+]
 
--- a client whose operation ended, and one that closed its handle
-abbrev pub ended : ClientValue → ClientValue
-ended h = record h { doing = None }
-
-abbrev pub closed : Doing → ClientValue → ClientValue
-closed d h = record h { handles = with_file (handle_of d.op) None h.handles; doing = None }
+-- the answer of such an operation: of a read of no bytes, and of a close or a flush
+abbrev pub answer_here : Does → Told × Reply
+answer_here (does.Answers answer.NoData) = (Looks 0 0 0, Data [])
+answer_here _ = (Fine 0 0 0 0, Done)
 
 -- how an operation ends that has nothing to ask for once it has flushed; another one goes on
 pub data Ends (d : Doing) (h after : ClientValue) (answer : Option (Told × Reply)) : Type 0 where
-  Closed : d.does ≡ does.Releases → answer ≡ Some (Fine 0 0 0 0, Done) → after ≡ closed d h → Ends d h after answer
-  ReadNothing : (told : Answer) → d.does ≡ does.Answers told → answer ≡ Some (Looks 0 0 0, Data []) → after ≡ ended h → Ends d h after answer
-  GoesOn : ends_itself d.does ≡ false → answer ≡ None → after ≡ h → Ends d h after answer
+  Answered : IsTrue (ends_itself h d) → answer ≡ Some (answer_here d.does) → after ≡ told_here d.op (answer_here d.does).0 h → Ends d h after answer
+  GoesOn : ends_itself h d ≡ false → answer ≡ None → after ≡ h → Ends d h after answer
 
 -- what an operation does, told apart
 
-abbrev pub mounts : Does → Bool
-mounts (does.Mounts writeback) = true
-mounts _ = false
-
-abbrev pub transacts : Does → Bool
-transacts does.Transacts = true
-transacts _ = false
+abbrev pub makes_transaction : Does → Bool
+makes_transaction (does.Mounts writeback) = true
+makes_transaction does.Transacts = true
+makes_transaction does.Releases = true
+makes_transaction _ = false
 
 abbrev pub keeps : Does → Bool
 keeps (does.Answers (answer.Count bytes)) = true

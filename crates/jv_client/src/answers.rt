@@ -1,42 +1,96 @@
 //! Answers that need no further request.
-ghost use Rattle.std.specs.Prelude.{◌≡◌, ℕ, ◌+◌, ◌≤◌, length, min, IfSome, IsSome, IsTrue, IfOk, OnErr, false, None, Some};
+ghost use Rattle.std.specs.Prelude.{◌≡◌, ℕ, ◌+◌, ◌≤◌, length, min, IfSome, IsSome, IsTrue, IfOk, OnErr, false, None, Some, if◌then◌else◌};
 ghost use Rattle.jv_model.specs.declared.limits.TheConstants.{FILE_END};
-ghost use Rattle.jv_model.specs.declared.act.ActKind.TheVariants.{Quiet};
-ghost use Rattle.jv_model.specs.declared.act.Told.TheVariants.{Looks, Refused as ToldRefused};
-ghost use Rattle.jv_model.specs.declared.fault.Fault.TheVariants.{NoMemory};
-ghost use Rattle.jv_model.specs.declared.op.Reply.TheVariants.{Refused};
+ghost use Rattle.jv_model.specs.declared.act.Told.TheVariants.{Looks};
+ghost use Rattle.jv_model.specs.client.ModelClient.{file_of};
 ghost use Rattle.jv_model.specs.client.Profile.{handle_of};
-ghost use Rattle.jv_client.specs.UnderWay.{IsReady, Ends, HasKept, MayKeep, does_of, ended, ends_itself, keeps, left, names_open};
+ghost use Rattle.jv_client.specs.Shared.{Shared};
+ghost use Rattle.jv_client.specs.Ending.{Finishes, closed, finished_here, refused_here, told_here, without};
+ghost use Rattle.jv_client.specs.UnderWay.{IsReady, ClosesOpen, Ends, HasKept, MayKeep, closed_by, does_of, ends_itself, keeps, left};
+ghost use Rattle.jv_client.specs.Transacting.{Fails, Refuses};
 ghost use Rattle.jv_client.specs.Makes.{Makes};
 
 use crate::client::{Client, forget};
-use crate::handles::{Handle, clear, named};
+use crate::handles::{Handle, clear, inode_at, named};
 use crate::made::Made;
-use crate::store::Store;
-use jv_model::{ActKind, Does, Fault, Handles, Op, Reply, Sequence, Told};
+use jv_model::{ActKind, Answer, Does, Fault, Gone, Handles, Op, Reply, Sequence, Told};
 use jv_pending::Pending;
 use std::alloc::AllocError;
 
 impl Client {
-    /// Ends the operation with a refusal, after a request that changed nothing.
-    pub(crate) fn refuse(&mut self, fault: Fault) -> Made
-        ensures ended { self.new ≡ ended self.old }
-        ensures made { result ≡ Made.Both Quiet (ToldRefused fault) (Refused fault) }
+    /// Ends the operation with an answer, and does what that says of the client. A close, whose handle has to be open, takes it
+    /// away, and after an `umount` the client is as before any mount.
+    pub(crate) fn end_as(&mut self, told: Told)
+        requires busy { IsSome self.old.doing }
+        requires closes { IfSome self.old.doing (λ d. ClosesOpen d.op self.old.handles) }
+        ensures { IfSome self.old.doing (λ d. self.new ≡ told_here d.op told self.old) }
     {
-        forget(&mut self.doing);
-        Made::Both(ActKind::Quiet, Told::Refused(fault), Reply::Refused(fault))
+        match told {
+            Told::Refused(fault) => self.give_up(fault),
+            _ => self.finish(),
+        }
     }
 
-    /// Ends the operation: out of memory.
-    pub(crate) fn fail(&mut self) -> Made
-        ensures ended { self.new ≡ ended self.old }
-        ensures made { result ≡ Made.Answer (ToldRefused NoMemory) (Refused NoMemory) }
+    /// Ends an operation that is refused. Where its session is gone, the client is as before any mount; what is pending of an
+    /// inode that is gone is dropped.
+    fn give_up(&mut self, fault: Fault)
+        ensures { self.new ≡ refused_here fault self.old }
+    {
+        match fault {
+            Fault::Stale(Gone::Session(_)) => self.crash(),
+            Fault::Stale(Gone::Node(inode)) => {
+                self.pending.clear(inode);
+                forget(&mut self.doing);
+            }
+            _ => forget(&mut self.doing),
+        }
+    }
+
+    /// Ends an operation that is done.
+    fn finish(&mut self)
+        requires busy { IsSome self.old.doing }
+        requires closes { IfSome self.old.doing (λ d. ClosesOpen d.op self.old.handles) }
+        ensures { IfSome self.old.doing (λ d. self.new ≡ finished_here d.op self.old) }
+    {
+        let (leaves, closes) = match &self.doing {
+            Some(doing) => ends_of(&doing.op),
+            None => unreachable!(),
+        };
+        if leaves {
+            self.crash();
+        } else if let Some(handle) = closes {
+            self.drop_handle(handle);
+        } else {
+            forget(&mut self.doing);
+        }
+    }
+
+    /// Ends a close.
+    fn drop_handle(&mut self, handle: u64)
+        requires { IsSome (file_of self.old.handles handle) }
+        ensures { self.new ≡ closed handle self.old }
+    {
+        let is_last = self.is_last(handle);
+        let inode = inode_at(&self.handles, handle);
+        release(&mut self.sustained, inode, is_last);
+        clear(&mut self.handles, handle);
+        forget(&mut self.doing);
+    }
+
+    /// Ends the operation with a refusal, after a request of this kind.
+    pub(crate) fn refuse(&mut self, kind: ActKind, fault: Fault) -> Made
+        ensures { Refuses kind fault self.old self.new result }
+    {
+        self.give_up(fault);
+        Made::Both(kind, Told::Refused(fault), Reply::Refused(fault))
+    }
+
+    /// Ends the operation where the keeper failed or memory ran out.
+    pub(crate) fn fail(&mut self, fault: Fault) -> Made
+        ensures { Fails fault self.old self.new result }
     {
         forget(&mut self.doing);
-        Made::Answer(
-            Told::Refused(Fault::NoMemory),
-            Reply::Refused(Fault::NoMemory),
-        )
+        Made::Answer(Told::Refused(fault), Reply::Refused(fault))
     }
 
     /// What the operation in progress does once it has flushed.
@@ -61,35 +115,33 @@ impl Client {
         }
     }
 
-    /// Ends an operation that has nothing to ask for once it has flushed: a close, or a read of no bytes.
+    /// Ends an operation that has nothing to ask for once it has flushed: a close, a flush, or a read of no bytes.
     pub(crate) fn end(&mut self) -> Option<(Told, Reply)>
         requires busy { IsSome self.old.doing }
-        requires named { IfSome self.old.doing (λ d. names_open self.old d) }
+        requires closes { IfSome self.old.doing (λ d. ClosesOpen d.op self.old.handles) }
         ensures { IfSome self.old.doing (λ d. Ends d self.old self.new result) }
     {
-        match self.does() {
-            Does::Releases => {
-                let handle = self.handle_in_use();
-                clear(&mut self.handles, handle);
-                forget(&mut self.doing);
-                Some((Told::Fine(0, 0, 0, 0), Reply::Done))
+        let handle = self.handle_in_use();
+        let (told, reply) = match self.does() {
+            Does::Answers(Answer::NoData) => {
+                (looks(0, 0), Reply::Data(Sequence::new(self.alloc)))
             }
-            Does::Answers(_) => {
-                forget(&mut self.doing);
-                Some((looks(0, 0), Reply::Data(Sequence::new(self.alloc))))
-            }
-            _ => None,
-        }
+            Does::Answers(_) => (Told::Fine(0, 0, 0, 0), Reply::Done),
+            Does::Releases if !self.is_last(handle) => (Told::Fine(0, 0, 0, 0), Reply::Done),
+            _ => return None,
+        };
+        self.end_as(told);
+        Some((told, reply))
     }
 
-    /// Answers a close or a read of no bytes whose file has nothing pending.
-    pub(crate) fn end_at_once(&mut self, store: &mut Store) -> Made
+    /// Answers an operation that has nothing to ask for, and whose files have nothing pending.
+    pub(crate) fn end_at_once(&mut self) -> Made
         requires busy { IsSome self.old.doing }
-        requires ready { IsReady store.old self.old }
+        requires ready { IsReady self.old }
         requires flushed { left self.old ≡ None }
         requires not_write { IfSome self.old.doing (λ d. keeps d.does ≡ false) }
-        requires ends { IfSome self.old.doing (λ d. IsTrue (ends_itself d.does)) }
-        ensures { (now entry : ℕ) → Makes now entry self.old self.new store.old store.new result }
+        requires ends { IfSome self.old.doing (λ d. IsTrue (ends_itself self.old d)) }
+        ensures { (now entry : ℕ) (v : Shared) → Makes now entry self.old self.new v v result }
     {
         match self.end() {
             Some((told, reply)) => Made::Answer(told, reply),
@@ -98,18 +150,18 @@ impl Client {
     }
 
     /// Keeps what is written as pending.
-    pub(crate) fn write(&mut self, store: &mut Store) -> Made
+    pub(crate) fn write(&mut self) -> Made
         requires busy { IsSome self.old.doing }
-        requires ready { IsReady store.old self.old }
+        requires ready { IsReady self.old }
         requires writes { IfSome self.old.doing (λ d. IsTrue (keeps d.does)) }
-        ensures { (now entry : ℕ) → Makes now entry self.old self.new store.old store.new result }
+        ensures { (now entry : ℕ) (v : Shared) → Makes now entry self.old self.new v v result }
     {
         let kept = match &self.doing {
             Some(doing) => keep(&doing.op, &self.handles, &mut self.pending),
             None => unreachable!(),
         };
         let Ok(count) = kept else {
-            return self.fail();
+            return self.fail(Fault::NoMemory);
         };
         forget(&mut self.doing);
         Made::Answer(Told::Fine(count, 0, 0, 0), Reply::Count { bytes: count })
@@ -117,13 +169,35 @@ impl Client {
 }
 
 /// The first handle that an operation names, 0 where it names none.
-fn handle_of(op: &Op) -> u64
+pub(crate) fn handle_of(op: &Op) -> u64
     ensures { result ≡ handle_of op.now }
 {
     match op.profile().handles {
         Handles::None => 0,
         Handles::One(handle) => handle,
         Handles::Two(handle, _) => handle,
+    }
+}
+
+/// Whether an operation ends its client's mount, and which handle it closes.
+fn ends_of(op: &Op) -> (bool, Option<u64>)
+    ensures finishes { Finishes op.now result }
+    ensures closes { result.1 ≡ closed_by op.now }
+{
+    match op {
+        Op::Umount => (true, None),
+        Op::Close { handle } => (false, Some(*handle)),
+        _ => (false, None),
+    }
+}
+
+/// Drops a file from those that the client's session keeps, where it does so by its last handle.
+fn release(sustained: &mut Vec<u64>, inode: u64, is_last: bool)
+    ensures { sustained.new.items
+        ≡ (if is_last then without inode sustained.old.items else sustained.old.items) }
+{
+    if is_last {
+        sustained.retain(|kept| *kept != inode);
     }
 }
 

@@ -1,7 +1,7 @@
 //! A client: its session, its open files, what it wrote and didn't commit, and what it is doing.
 ghost use Rattle.std.specs.Prelude.{◌≡◌, ◌≤◌, is_some, length, None};
 ghost use Rattle.jv_model.specs.declared.limits.TheConstants.{MAX_DATA};
-ghost use Rattle.jv_client.specs.ClientValue.{fresh_client, crashed};
+ghost use Rattle.jv_client.specs.ClientValue.{fresh_client, crashed, session_here};
 
 use crate::doing::Doing;
 use crate::handles::Handle;
@@ -18,6 +18,8 @@ pub struct Client {
     pub(crate) limits: Limits,
     pub(crate) session: Option<u64>,
     pub(crate) handles: Vec<Option<Handle>>,
+    /// The inodes that lost their last name by this client's own hand while it had them open.
+    pub(crate) sustained: Vec<u64>,
     pub(crate) pending: Pending,
     pub(crate) doing: Option<Doing>,
 }
@@ -34,6 +36,7 @@ impl Model for Client {
       limits = c.limits;
       session = c.session;
       handles = c.handles.items;
+      sustained = c.sustained.items;
       pending = c.pending.bytes;
       doing = c.doing;
     } };
@@ -53,6 +56,7 @@ impl Client {
             limits,
             session: None,
             handles: Vec::new(alloc),
+            sustained: Vec::new(alloc),
             pending: Pending::new(alloc, limits.buffer.min(DEFAULT_BUFFER)),
             doing: None,
         }
@@ -72,6 +76,13 @@ impl Client {
         self.pending.bytes()
     }
 
+    /// The number of its session, 0 where it isn't mounted.
+    pub(crate) fn sid(&self) -> u64
+        ensures { result ≡ session_here self.now }
+    {
+        self.session.unwrap_or(0)
+    }
+
     /// Ends the client without an `umount`: it drops its session, its operation, handles, views and pending bytes. Takes
     /// no memory.
     pub fn crash(&mut self)
@@ -79,6 +90,7 @@ impl Client {
     {
         self.session = None;
         self.handles.clear();
+        self.sustained.clear();
         self.pending.clear_all();
         forget(&mut self.doing);
     }

@@ -1,5 +1,5 @@
 //! An operation in progress.
-use jv_model::{Does, Op};
+use jv_model::{Does, Moment, Op};
 
 /// What an operation commits before it goes on.
 #[derive(Clone, Copy, Debug, PartialEq, Eq)]
@@ -16,10 +16,18 @@ pub enum Flush {
 /// How far an operation is.
 #[derive(Clone, Copy, Debug, PartialEq, Eq)]
 pub enum Progress {
-    /// It made so many requests of the next segment, the second of them at the moment `started` in seconds.
-    Working { quiets: u32, started: u64 },
+    /// It made so many requests of the next segment, the second of them at the moment `started`.
+    Working { quiets: u32, started: Moment },
     /// It made a request of a reading.
     Reading,
+}
+
+impl Progress {
+    /// No request of the next segment was made.
+    pub const FIRST: Progress = Progress::Working {
+        quiets: 0,
+        started: Moment(0),
+    };
 }
 
 /// An operation, and how far it is.

@@ -1,14 +1,14 @@
 //! The flush of an operation: of each segment its slice's number, its block and its commit are asked for.
-ghost use Rattle.std.specs.Prelude.{◌≡◌, ℕ, ◌+◌, ◌*◌, ◌≤◌, ◌<◌, true, length, IfSome, IsSome, OnOk, OnErr, Option, None, Some};
+ghost use Rattle.std.specs.Prelude.{◌≡◌, ℕ, ◌+◌, ◌*◌, ◌≤◌, ◌<◌, length, IfSome, IsSome, Option, None, Some};
 ghost use Rattle.std.specs.Option.{option_map};
 ghost use Rattle.jv_model.specs.declared.limits.TheConstants.{FILE_END, WINDOW};
 ghost use Rattle.jv_model.specs.client.Pending.{next_segment, window_size};
 ghost use Rattle.jv_pending.specs.At.{segment_at};
-ghost use Rattle.jv_model.specs.declared.lifetimes.TheConstants.{UPLOAD_LIFE};
-ghost use Rattle.jv_files.specs.Stored.{IsFile};
+ghost use Rattle.jv_files.specs.Stored.{FilesValue};
 ghost use Rattle.jv_client.specs.declared.doing.Progress.TheVariants.{Working};
-ghost use Rattle.jv_client.specs.UnderWay.{IsReady, left, moved_to, names_open, progress_of, segment_left};
-ghost use Rattle.jv_client.specs.Flushing.{FitsIf, Follows, Puts, without_segment};
+ghost use Rattle.jv_client.specs.Shared.{shared};
+ghost use Rattle.jv_client.specs.UnderWay.{IsReady, ClosesOpen, left, moved_to, progress_of, segment_left};
+ghost use Rattle.jv_client.specs.Flushing.{Follows, without_segment};
 ghost use Rattle.jv_client.specs.Makes.{Makes};
 
 use crate::client::Client;
@@ -16,11 +16,12 @@ use crate::doing::{Flush, Progress};
 use crate::handles::forget_views;
 use crate::made::Made;
 use crate::step::go_on;
-use crate::store::Store;
-use jv_model::lifetimes::UPLOAD_LIFE;
-use jv_model::{ActKind, Fault, WINDOW};
+use jv_data::commit_length;
+use jv_files::Files;
+use jv_model::{ActKind, Fault, Moment, WINDOW};
+use jv_outside::Keeper;
 use jv_pending::{Pending, SegmentAt};
-use std::alloc::AllocError;
+use jv_rows::in_session;
 
 impl Client {
     /// The segment that the operation in progress commits next.
@@ -39,33 +40,36 @@ impl Client {
     }
 
     /// Makes the next request for a segment.
-    pub(crate) fn flush_on(&mut self, at: SegmentAt, store: &mut Store, now: u64) -> Made
+    pub(crate) fn flush_on<K: Keeper>(
+        &mut self,
+        at: SegmentAt,
+        k: &mut K,
+        files: &mut Files,
+        now: Moment,
+    ) -> Made
         requires busy { IsSome self.old.doing }
-        requires ready { IsReady store.old self.old }
+        requires ready { IsReady self.old }
         requires next { left self.old ≡ Some (segment_at at) }
         requires own { next_segment (Some at.inode) self.old.pending ≡ Some (segment_at at) }
         requires some { 0 < at.len }
         requires inside { at.pos + at.len ≤ window_size }
         requires window { at.window * WINDOW < FILE_END }
-        ensures { (entry : ℕ) → Makes now entry self.old self.new store.old store.new result }
+        ensures { (entry : ℕ) → Makes now entry self.old self.new
+            (shared files.old (K.seen k.old)) (shared files.new (K.seen k.new)) result }
     {
-        match self.progress() {
-            Progress::Working { quiets: 0, .. } => self.request(
-                ActKind::Quiet,
-                Progress::Working {
-                    quiets: 1,
-                    started: 0,
-                },
-            ),
-            Progress::Working { quiets: 1, .. } => self.request(
+        let Progress::Working { quiets, started } = self.progress() else {
+            unreachable!();
+        };
+        match quiets {
+            0 => self.ask_number(k),
+            1 => self.request(
                 ActKind::Quiet,
                 Progress::Working {
                     quiets: 2,
                     started: now,
                 },
             ),
-            Progress::Working { started, .. } => self.commit_in_time(at, started, store, now),
-            Progress::Reading => unreachable!(),
+            _ => self.commit(at, started, k, files, now),
         }
     }
 
@@ -122,85 +126,92 @@ impl Client {
         Made::Request(kind)
     }
 
-    /// Asks for a segment's commit, which is refused with `TimedOut` where its block is as old as uploads live, and with
-    /// `NoSpace` where the volume has no room.
-    fn commit_in_time(&mut self, at: SegmentAt, started: u64, store: &mut Store, now: u64) -> Made
+    /// Asks for the number of a segment's slice, for which the session has to be there. There are no numbers yet.
+    fn ask_number<K: Keeper>(&mut self, k: &mut K) -> Made
+        requires busy { (started : ℕ) × (progress_of self.old.doing ≡ Some (Working 0 started)) }
+        requires ready { IsReady self.old }
+        requires next { IsSome (left self.old) }
+        ensures { (now entry : ℕ) (files : FilesValue) → Makes now entry self.old self.new
+            (shared files (K.seen k.old)) (shared files (K.seen k.new)) result }
+    {
+        let next = Progress::Working {
+            quiets: 1,
+            started: Moment(0),
+        };
+        match in_session(self.alloc, k, self.sid()) {
+            Ok(()) => self.request(ActKind::Quiet, next),
+            Err(fault) => self.unmade(ActKind::Quiet, fault),
+        }
+    }
+
+    /// Commits a segment. Refused with `Stale` where its session or its file is gone, with `TimedOut` where its block is as
+    /// old as uploads live, and with `NoSpace` where the volume has no room.
+    fn commit<K: Keeper>(
+        &mut self,
+        at: SegmentAt,
+        started: Moment,
+        k: &mut K,
+        files: &mut Files,
+        now: Moment,
+    ) -> Made
         requires busy { progress_of self.old.doing ≡ Some (Working 2 started) }
-        requires ready { IsReady store.old self.old }
+        requires ready { IsReady self.old }
         requires next { left self.old ≡ Some (segment_at at) }
         requires own { next_segment (Some at.inode) self.old.pending ≡ Some (segment_at at) }
         requires some { 0 < at.len }
         requires inside { at.pos + at.len ≤ window_size }
         requires window { at.window * WINDOW < FILE_END }
-        ensures { (entry : ℕ) → Makes now entry self.old self.new store.old store.new result }
+        ensures { (entry : ℕ) → Makes now entry self.old self.new
+            (shared files.old (K.seen k.old)) (shared files.new (K.seen k.new)) result }
     {
-        if now.saturating_sub(started) >= UPLOAD_LIFE {
-            return self.refuse(Fault::TimedOut { started, now });
-        }
         let from = start_of(at);
-        let len = self.pending.segment(at).len() as u64;
-        if !store.fits(at.inode, from + len) {
-            return self.refuse(Fault::NoSpace);
+        let len = u64::from(at.len);
+        match files.commit(at.inode, from, self.pending.segment(at)) {
+            Ok(()) => {}
+            Err(_) => return self.fail(Fault::NoMemory),
         }
-        self.commit(at, from, len, store)
+        match commit_length(
+            self.alloc,
+            k,
+            self.sid(),
+            now,
+            at.inode,
+            from + len,
+            started,
+        ) {
+            Ok(()) => {
+                self.drop_segment(at);
+                self.after_commit(ActKind::Commit {
+                    inode: at.inode,
+                    from,
+                    len,
+                    staged: 0,
+                })
+            }
+            Err(fault) => {
+                files.take_back(at.inode);
+                self.unmade(ActKind::Quiet, fault)
+            }
+        }
     }
 
-    /// Commits a segment.
-    fn commit(&mut self, at: SegmentAt, from: u64, len: u64, store: &mut Store) -> Made
-        requires busy { IsSome self.old.doing }
-        requires ready { IsReady store.old self.old }
-        requires next { left self.old ≡ Some (segment_at at) }
-        requires own { next_segment (Some at.inode) self.old.pending ≡ Some (segment_at at) }
-        requires file { IsFile (length store.old.files.files) at.inode }
-        requires range { (from ≡ (segment_at at).from) × (len ≡ at.len) }
-        requires end { from + len ≤ FILE_END }
-        ensures { (now entry started : ℕ)
-            → progress_of self.old.doing ≡ Some (Working 2 started) → now < started + UPLOAD_LIFE
-            → FitsIf store.old at.inode (from + len) true
-            → Makes now entry self.old self.new store.old store.new result }
+    /// Drops a segment that was committed, and the views of its file.
+    fn drop_segment(&mut self, at: SegmentAt)
+        requires { next_segment (Some at.inode) self.old.pending ≡ Some (segment_at at) }
+        ensures rest { self.new ≡ without_segment (segment_at at) self.old }
+        ensures fewer { length self.new.pending < length self.old.pending }
     {
-        let Ok(()) = self.put(at, from, store) else {
-            return self.fail();
-        };
-        self.after_commit(ActKind::Commit {
-            inode: at.inode,
-            from,
-            len,
-            staged: 0,
-        })
-    }
-
-    /// Puts a segment's bytes into its file. They aren't pending any more, and views of the file are dropped. On error
-    /// nothing has changed.
-    fn put(&mut self, at: SegmentAt, from: u64, store: &mut Store) -> Result<(), AllocError>
-        requires own { next_segment (Some at.inode) self.old.pending ≡ Some (segment_at at) }
-        requires file { IsFile (length store.old.files.files) at.inode }
-        requires from { from ≡ (segment_at at).from }
-        requires end { from + at.len ≤ FILE_END }
-        ensures rest { OnOk result (self.new ≡ without_segment (segment_at at) self.old) }
-        ensures fewer { OnOk result (length self.new.pending < length self.old.pending) }
-        ensures stored { OnOk result (Puts store.old (segment_at at) self.old.pending store.new) }
-        ensures still { OnErr result (self.new ≡ self.old) }
-        ensures kept { OnErr result (store.new ≡ store.old) }
-    {
-        store
-            .files
-            .commit(at.inode, from, self.pending.segment(at))?;
         self.pending.remove(at);
         forget_views(&mut self.handles, at.inode);
-        Ok(())
     }
 
     /// Goes on after a commit, or answers with it where nothing is left to ask for.
     fn after_commit(&mut self, commit: ActKind) -> Made
         requires busy { IsSome self.old.doing }
-        requires named { IfSome self.old.doing (λ d. names_open self.old d) }
+        requires closes { IfSome self.old.doing (λ d. ClosesOpen d.op self.old.handles) }
         ensures { IfSome self.old.doing (λ d. Follows d commit self.old self.new result) }
     {
-        let next = Progress::Working {
-            quiets: 0,
-            started: 0,
-        };
+        let next = Progress::FIRST;
         if self.segment_left().is_some() {
             return self.request(commit, next);
         }

@@ -1,10 +1,12 @@
 //! The open files of a client: the handle numbered `h` stands at index `h - 1`.
-ghost use Rattle.std.specs.Prelude.{◌≡◌, ◌+◌, ◌-◌, ◌<◌, ◌≤◌, ◌^◌, None, Some, IsSome, is_some, length, map, vec_len, vec_capacity};
-ghost use Rattle.jv_model.specs.client.ModelClient.{file_of, free_handle, open_count, with_file};
+ghost use Rattle.std.specs.Prelude.{◌≡◌, ◌+◌, ◌-◌, ◌<◌, ◌≤◌, ◌^◌, ◌==◌, ◌&&◌, not, None, Some, IsSome, IfOk, is_some, [], ◌∷◌, length, map, vec_len, vec_capacity};
+ghost use Rattle.jv_model.specs.client.ModelClient.{file_of, free_handle, is_among, open_count, with_file};
+ghost use Rattle.jv_client.specs.Held.{held_here, inode_here};
 ghost use Rattle.jv_client.specs.UnderWay.{seen_by, unseen};
 
 use jv_files::Seen;
-use jv_model::push_in_room;
+use jv_model::{InodeList, Sequence, push_in_room};
+use std::alloc::{AllocError, Global};
 
 /// What a handle saw of the first window of its file.
 #[derive(Clone, Copy, Debug, PartialEq, Eq)]
@@ -32,6 +34,52 @@ pub(crate) fn named(handles: &[Option<Handle>], handle: u64) -> Option<Handle>
     }
     let index = usize::try_from(handle - 1).ok()?;
     handles.get(index).copied().flatten()
+}
+
+/// The inode of a handle's file, 0 where it isn't open.
+pub(crate) fn inode_at(handles: &[Option<Handle>], handle: u64) -> u64
+    ensures { result ≡ inode_here handles.now handle }
+{
+    match named(handles, handle) {
+        Some(open) => open.inode,
+        None => 0,
+    }
+}
+
+/// The inodes of all open files, in the order of their handles.
+pub(crate) fn held(alloc: Global, handles: &[Option<Handle>]) -> Result<InodeList, AllocError>
+    ensures { IfOk result (λ inodes. inodes ≡ held_here handles.now) }
+{
+    let mut inodes = Vec::new(alloc);
+    for open in handles {
+        if let Some(handle) = open {
+            inodes.push(handle.inode)?;
+        }
+    }
+    Ok(Sequence::from_vec(inodes))
+}
+
+/// Whether another handle than this one, which is open, is on the inode.
+pub(crate) fn is_open_elsewhere(handles: &[Option<Handle>], handle: u64, inode: u64) -> bool
+    ensures { result ≡ is_among inode (held_here (with_file handle None handles.now)) }
+{
+    let place = handle.saturating_sub(1);
+    for (index, open) in handles.iter().enumerate() {
+        if is_on_other(index as u64, place, *open, inode) {
+            return true;
+        }
+    }
+    false
+}
+
+/// Whether the handle at another place than this one is on the inode.
+fn is_on_other(index: u64, place: u64, slot: Option<Handle>, inode: u64) -> bool
+    ensures { result ≡ (not (index == place) && is_among inode (held_here (slot ∷ []))) }
+{
+    match slot {
+        Some(handle) => index != place && handle.inode == inode,
+        None => false,
+    }
 }
 
 /// The number of handles in use.

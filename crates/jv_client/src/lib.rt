@@ -9,11 +9,9 @@ mod handles;
 mod made;
 mod reading;
 mod step;
-mod store;
 mod submission;
 mod transactions;
 
 pub use client::Client;
 pub use doing::{Doing, Flush, Progress};
 pub use handles::{Handle, View};
-pub use store::Store;

@@ -4,7 +4,7 @@ ghost use Rattle.jv_model.specs.declared.act.ActKind.TheVariants.{Answered};
 ghost use Rattle.jv_model.specs.journal.Stepping.{entry_of};
 ghost use Rattle.jv_client.specs.Makes.{kinds_of, step_of, entries_of};
 
-use jv_model::{Act, ActKind, ClientId, Journal, Moment, Reply, Step, Told};
+use jv_model::{Act, ActKind, Bytes, ClientId, Journal, Moment, Reply, RowKey, Step, Told};
 
 /// A step of an operation.
 #[derive(Debug, Drop)]
@@ -15,6 +15,8 @@ pub enum Made {
     Answer(Told, Reply),
     /// A request, and the answer.
     Both(ActKind, Told, Reply),
+    /// The row at this key, which has these bytes, is malformed, or names one that isn't there.
+    Broken(RowKey, Bytes),
 }
 
 impl Made {
@@ -26,6 +28,7 @@ impl Made {
             Made::Request(_) => Step::More,
             Made::Answer(_, reply) => Step::Done(reply),
             Made::Both(_, _, reply) => Step::Done(reply),
+            Made::Broken(key, bytes) => Step::Broken(key, bytes),
         }
     }
 
@@ -53,6 +56,7 @@ impl Made {
                     ActKind::Answered { told: *told },
                 );
             }
+            Made::Broken(..) => {}
         }
     }
 }

@@ -4,14 +4,14 @@ ghost use Rattle.jv_model.specs.declared.limits.TheConstants.{MAX_HANDLES, FILE_
 ghost use Rattle.jv_model.specs.client.ModelClient.{ModelClient, open_count};
 ghost use Rattle.jv_model.specs.client.Profile.{profile};
 ghost use Rattle.jv_model.specs.client.Submission.{submission, submission_of, submitted, names_closed, is_closed, is_mount, by_limits};
-ghost use Rattle.jv_model.specs.journal.Built.{is_built_op};
-ghost use Rattle.jv_client.specs.StoreValue.{StoreValue};
+ghost use Rattle.jv_client.specs.Built.{is_built_op};
+ghost use Rattle.jv_files.specs.Stored.{FilesValue};
 ghost use Rattle.jv_client.specs.UnderWay.{IsReady};
 ghost use Rattle.jv_client.specs.Held.{IsClient, begun, flush_here, full_flush, files_here, inode_here, refused_with};
 
 use crate::client::Client;
 use crate::doing::{Doing, Flush, Progress};
-use crate::handles::{Handle, named, open_count};
+use crate::handles::{Handle, inode_at, named, open_count};
 use jv_model::{Does, FILE_END, Fault, Flushes, Handles, Limits, MAX_HANDLES, Op, Profile};
 
 impl Client {
@@ -20,14 +20,14 @@ impl Client {
     /// handle that it names isn't open, `TooManyHandles` where it would open one handle more than there may be, and
     /// `FileTooLarge` where a write ends past the longest file. On error nothing has changed.
     pub fn submit(&mut self, op: Op) -> Result<(), (Op, Fault)>
-        ensures refusal { (m : ModelClient) (count : ℕ) (store : StoreValue)
-            → IsClient m count store self.old → refused_with result ≡ submission m op }
-        ensures begun { (m : ModelClient) (count : ℕ) (store : StoreValue)
-            → IsClient m count store self.old
-            → OnOk result (IsClient (submitted self.old.limits op m) count store self.new) }
-        ensures ready { (store : StoreValue) → IsReady store self.old
+        ensures refusal { (m : ModelClient) (count : ℕ) (files : FilesValue)
+            → IsClient m count files self.old → refused_with result ≡ submission m op }
+        ensures begun { (m : ModelClient) (count : ℕ) (files : FilesValue)
+            → IsClient m count files self.old
+            → OnOk result (IsClient (submitted self.old.limits op m) count files self.new) }
+        ensures ready { IsReady self.old
             → IsTrue (is_built_op self.old.limits (length self.old.pending) op)
-            → OnOk result (IsReady store self.new) }
+            → OnOk result (IsReady self.new) }
         ensures busy { OnOk result (IsSome self.new.doing) }
         ensures still { self.new ≡ record self.old { doing = self.new.doing } }
         ensures err { OnErr result (self.new ≡ self.old) }
@@ -97,10 +97,7 @@ fn begun(op: Op, does: Does, flush: Flush) -> Doing
         op,
         does,
         flush,
-        progress: Progress::Working {
-            quiets: 0,
-            started: 0,
-        },
+        progress: Progress::FIRST,
         has_moved: false,
     }
 }
@@ -153,15 +150,5 @@ fn files_of(handles: &[Option<Handle>], named_handles: Handles) -> Flush
         Handles::Two(first, second) => {
             Flush::Files(inode_at(handles, first), inode_at(handles, second))
         }
-    }
-}
-
-/// The inode of a handle's file, 0 where it isn't open.
-fn inode_at(handles: &[Option<Handle>], handle: u64) -> u64
-    ensures { result ≡ inode_here handles.now handle }
-{
-    match named(handles, handle) {
-        Some(open) => open.inode,
-        None => 0,
     }
 }

@@ -1,147 +1,214 @@
-//! Operations that are one metadata transaction: mount, create and open.
-ghost use Rattle.std.specs.Prelude.{◌≡◌, ℕ, ◌+◌, ◌≤◌, IsSome, IsTrue, IfSome, None, Some, vec_len, vec_capacity};
-ghost use Rattle.jv_model.specs.declared.op.Op.TheVariants.{Create, Open};
-ghost use Rattle.jv_model.specs.declared.op.Reply.TheVariants.{FileOpened};
-ghost use Rattle.jv_model.specs.script.Spelling.{is_root_path};
+//! Operations that are one metadata transaction, after what they flush.
+ghost use Rattle.std.specs.Prelude.{◌≡◌, ℕ, ◌+◌, ◌≤◌, IsSome, IsTrue, IfSome, OnOk, None, Some, vec_len, vec_capacity};
 ghost use Rattle.jv_model.specs.client.ModelClient.{free_handle, with_file};
 ghost use Rattle.jv_model.specs.journal.State.{gift_of};
 ghost use Rattle.jv_model.specs.journal.Steps.{entry_of_gift, told_of};
-ghost use Rattle.jv_client.specs.UnderWay.{IsReady, is_transaction, mounts, transacts};
+ghost use Rattle.jv_metadata.specs.Attempts.{mapped, plain};
+ghost use Rattle.jv_files.specs.Stored.{FilesValue};
+ghost use Rattle.jv_client.specs.ClientValue.{ClientValue};
+ghost use Rattle.jv_client.specs.Shared.{shared};
+ghost use Rattle.jv_client.specs.Held.{is_last_here};
+ghost use Rattle.jv_client.specs.UnderWay.{IsReady, asks_more, does_of, left, makes_transaction};
 ghost use Rattle.jv_client.specs.Makes.{Makes};
-ghost use Rattle.jv_client.specs.Transacting.{MayGive, is_transacted, new_handle};
+ghost use Rattle.jv_client.specs.Transacting.{Attempts, EndsUnmade, handles_given, is_tried, new_handle, session_given, sustained_with};
+ghost use Rattle.jv_model.specs.declared.op.Reply.TheVariants.{SessionMade};
+ghost use Rattle.jv_model.specs.declared.profile.Does.TheVariants.{Releases};
 
-use crate::client::{Client, forget};
-use crate::handles::{Handle, free_handle, set};
+use crate::answers::{handle_of, looks};
+use crate::client::Client;
+use crate::handles::{Handle, free_handle, held, inode_at, is_open_elsewhere, set};
 use crate::made::Made;
-use crate::store::Store;
-use jv_model::{ActKind, Fault, Op, Path, Reply, Told};
-use std::alloc::AllocError;
+use jv_live::mount;
+use jv_metadata::{Answer, transact};
+use jv_model::{
+    ActKind, Busy, ClientId, Device, Fault, Moment, Op, Reply, RowFault, Told, TxFault, Who,
+    push_in_room,
+};
+use jv_outside::Keeper;
+use std::alloc::{AllocError, Global};
 
 impl Client {
-    /// Makes a session.
-    pub(crate) fn mount(&mut self, store: &mut Store) -> Made
+    /// Makes the transaction of the operation in progress, which has flushed, and answers.
+    pub(crate) fn transact<K: Keeper>(&mut self, k: &mut K, now: Moment, entry: u64) -> Made
         requires busy { IsSome self.old.doing }
-        requires ready { IsReady store.old self.old }
-        requires mounts { IfSome self.old.doing (λ d. IsTrue (mounts d.does)) }
-        ensures { (now entry : ℕ) → Makes now entry self.old self.new store.old store.new result }
+        requires ready { IsReady self.old }
+        requires flushed { left self.old ≡ None }
+        requires asks { IfSome self.old.doing (λ d. IsTrue (asks_more self.old d)) }
+        requires transacts { IfSome self.old.doing (λ d. IsTrue (makes_transaction d.does)) }
+        ensures { (files : FilesValue) → Makes now entry self.old self.new
+            (shared files (K.seen k.old)) (shared files (K.seen k.new)) result }
     {
-        forget(&mut self.doing);
-        match store.make_session() {
-            Some(sid) => {
-                self.session = Some(sid);
-                transacted(Reply::SessionMade { sid })
+        if make_room(&mut self.handles, &mut self.sustained).is_err() {
+            return self.fail(Fault::NoMemory);
+        }
+        let tried = match &self.doing {
+            Some(doing) => attempt(
+                self.alloc,
+                k,
+                self.id,
+                self.session,
+                &self.handles,
+                now,
+                &doing.op,
+            ),
+            None => unreachable!(),
+        };
+        match tried {
+            Ok(answer) => {
+                keep(&mut self.sustained, answer.kept);
+                let kind = give(&answer.reply, &mut self.session, &mut self.handles, entry);
+                let told = told_of(&answer.reply);
+                self.end_as(told);
+                Made::Both(kind, told, answer.reply)
             }
-            None => transacted(Reply::Refused(Fault::NoSpace)),
+            Err(fault) => self.unmade(ActKind::Meta, fault),
         }
     }
 
-    /// Makes the transaction of an operation on a path.
-    pub(crate) fn transact(&mut self, store: &mut Store, entry: u64) -> Made
+    /// Drops the handle of a close, whose file has nothing pending. Where it is the last one on a file that this client
+    /// removed, a transaction releases the file.
+    pub(crate) fn close<K: Keeper>(&mut self, k: &mut K, now: Moment, entry: u64) -> Made
         requires busy { IsSome self.old.doing }
-        requires ready { IsReady store.old self.old }
-        requires transacts { IfSome self.old.doing (λ d. IsTrue (transacts d.does)) }
-        ensures { (now : ℕ) → Makes now entry self.old self.new store.old store.new result }
+        requires ready { IsReady self.old }
+        requires flushed { left self.old ≡ None }
+        requires releases { does_of self.old.doing ≡ Some Releases }
+        ensures { (files : FilesValue) → Makes now entry self.old self.new
+            (shared files (K.seen k.old)) (shared files (K.seen k.new)) result }
     {
-        let reply = match &self.doing {
-            Some(doing) => transact(&doing.op, &mut self.handles, store, entry),
-            None => unreachable!(),
-        };
-        let Ok(reply) = reply else {
-            return self.fail();
-        };
-        forget(&mut self.doing);
-        transacted(reply)
+        let handle = self.handle_in_use();
+        if self.is_last(handle) {
+            self.transact(k, now, entry)
+        } else {
+            self.end_at_once()
+        }
+    }
+
+    /// Whether a handle is the last one on a file that this client removed while it had it open.
+    pub(crate) fn is_last(&self, handle: u64) -> bool
+        ensures { result ≡ is_last_here self.now handle }
+    {
+        let inode = inode_at(&self.handles, handle);
+        self.sustained.contains(&inode) && !is_open_elsewhere(&self.handles, handle, inode)
+    }
+
+    /// Ends the operation, or stops, after a transaction that wasn't made: with the request of this kind where the
+    /// transaction was refused, and without one where the keeper failed or memory ran out.
+    pub(crate) fn unmade(&mut self, kind: ActKind, fault: TxFault) -> Made
+        ensures { EndsUnmade kind fault self.old self.new result }
+    {
+        match fault {
+            TxFault::Refused(fault) => self.refuse(kind, fault),
+            TxFault::Moved(list) => {
+                let found = u32::try_from(list.len()).unwrap_or(u32::MAX);
+                self.refuse(
+                    kind,
+                    Fault::Contended(Busy::Lists {
+                        looked: found,
+                        found,
+                    }),
+                )
+            }
+            TxFault::Rows(RowFault::Bad(key, bytes)) => Made::Broken(key, bytes),
+            TxFault::Rows(RowFault::Failed) => self.fail(Fault::DeviceFailed(Device::Keeper)),
+            TxFault::Rows(RowFault::Memory) => self.fail(Fault::NoMemory),
+        }
     }
 }
 
-/// A transaction, and the answer that its reply is.
-fn transacted(reply: Reply) -> Made
-    requires { IsTrue (is_transacted reply) }
-    ensures { result ≡ Made.Both (entry_of_gift (gift_of reply)) (told_of reply) reply }
+/// Makes room for one handle more, and for one file more that a session keeps.
+fn make_room(handles: &mut Vec<Option<Handle>>, sustained: &mut Vec<u64>) -> Result<(), AllocError>
+    ensures handles { handles.new.items ≡ handles.old.items }
+    ensures sustained { sustained.new.items ≡ sustained.old.items }
+    ensures handle { OnOk result (vec_len handles.new + 1 ≤ vec_capacity handles.new) }
+    ensures file { OnOk result (vec_len sustained.new + 1 ≤ vec_capacity sustained.new) }
+{
+    handles.reserve(1)?;
+    sustained.reserve(1)
+}
+
+/// Tries the transaction of an operation, in the name of a client with this session and these open files.
+fn attempt<K: Keeper>(
+    alloc: Global,
+    k: &mut K,
+    id: ClientId,
+    session: Option<u64>,
+    handles: &[Option<Handle>],
+    now: Moment,
+    op: &Op,
+) -> Result<Answer, TxFault>
+    requires { IsTrue (is_tried op.now) }
+    ensures { (h : ClientValue) → h.id ≡ id → h.session ≡ session → h.handles ≡ handles.now
+        → Attempts h op.now now (K.seen k.old) (K.seen k.new) result }
+{
+    if let Op::Mount { .. } = op {
+        return mounted(mount(alloc, k, id, now));
+    }
+    let who = Who {
+        sid: session.unwrap_or(0),
+        held: held(alloc, handles)?,
+        now,
+    };
+    let handle = free_handle(handles);
+    let inode = inode_at(handles, handle_of(op));
+    transact(alloc, k, &who, handle, inode, op)
+}
+
+/// The answer of a mount.
+fn mounted(made: Result<u64, TxFault>) -> Result<Answer, TxFault>
+    ensures { result ≡ mapped (λ sid. plain (SessionMade sid)) made }
+{
+    let sid = made?;
+    Ok(Answer {
+        reply: Reply::SessionMade { sid },
+        kept: None,
+    })
+}
+
+/// The file that a session keeps, if there is one, beside those that it keeps already. There must be room for one more.
+fn keep(sustained: &mut Vec<u64>, kept: Option<u64>)
+    requires { vec_len sustained.old + 1 ≤ vec_capacity sustained.old }
+    ensures { sustained.new.items ≡ sustained_with kept sustained.old.items }
+{
+    if let Some(inode) = kept {
+        push_in_room(sustained, inode);
+    }
+}
+
+/// Hands to a client what a reply gives it, by the entry with this number, and returns that entry. There must be room for one
+/// handle more.
+fn give(
+    reply: &Reply,
+    session: &mut Option<u64>,
+    handles: &mut Vec<Option<Handle>>,
+    entry: u64,
+) -> ActKind
+    requires { vec_len handles.old + 1 ≤ vec_capacity handles.old }
+    ensures kind { result ≡ entry_of_gift (gift_of reply.now) }
+    ensures session { session.new ≡ session_given (gift_of reply.now) session.old }
+    ensures handles { handles.new.items
+        ≡ handles_given entry (gift_of reply.now) handles.old.items }
 {
     match reply {
-        Reply::SessionMade { sid } => Made::Both(
-            ActKind::Mounted { sid },
-            Told::Fine(sid, 0, 0, 0),
-            Reply::SessionMade { sid },
-        ),
-        Reply::FileOpened { handle, inode } => Made::Both(
-            ActKind::Opened { handle, inode },
-            Told::Fine(handle, inode, 0, 0),
-            Reply::FileOpened { handle, inode },
-        ),
-        Reply::Refused(fault) => Made::Both(
-            ActKind::Meta,
-            Told::Refused(fault),
-            Reply::Refused(fault),
-        ),
-        _ => unreachable!(),
+        Reply::SessionMade { sid } => {
+            *session = Some(*sid);
+            ActKind::Mounted { sid: *sid }
+        }
+        Reply::FileOpened { handle, inode } => {
+            open(handles, *inode, entry);
+            ActKind::Opened {
+                handle: *handle,
+                inode: *inode,
+            }
+        }
+        _ => ActKind::Meta,
     }
 }
 
-/// The transaction of an operation. On error nothing has changed.
-fn transact(
-    op: &Op,
-    handles: &mut Vec<Option<Handle>>,
-    store: &mut Store,
-    entry: u64,
-) -> Result<Reply, AllocError>
-    requires { IsTrue (is_transaction op.now) }
-    ensures { MayGive op.now entry handles.old.items handles.new.items store.old store.new result }
-{
-    match op {
-        Op::Create { path, .. } => create(path, handles, store, entry),
-        Op::Open { path } => open(path, handles, store, entry),
-        _ => unreachable!(),
-    }
-}
-
-/// Makes a file and opens it. On error nothing has changed.
-fn create(
-    path: &Path,
-    handles: &mut Vec<Option<Handle>>,
-    store: &mut Store,
-    entry: u64,
-) -> Result<Reply, AllocError>
-    requires { IsTrue (is_root_path path.now) }
-    ensures { (mode : ℕ) → MayGive (Create path.now mode) entry handles.old.items handles.new.items
-        store.old store.new result }
-{
-    if store.files.find(path).is_some() {
-        return Ok(Reply::Refused(Fault::AlreadyExists));
-    }
-    if !store.has_room() {
-        return Ok(Reply::Refused(Fault::NoSpace));
-    }
-    handles.reserve(1)?;
-    let inode = store.files.create(path)?;
-    Ok(give(handles, inode, entry))
-}
-
-/// Opens a file. On error nothing has changed.
-fn open(
-    path: &Path,
-    handles: &mut Vec<Option<Handle>>,
-    store: &Store,
-    entry: u64,
-) -> Result<Reply, AllocError>
-    requires { IsTrue (is_root_path path.now) }
-    ensures { MayGive (Open path.now) entry handles.old.items handles.new.items store.now store.now
-        result }
-{
-    let Some(inode) = store.files.find(path) else {
-        return Ok(Reply::Refused(Fault::NotFound));
-    };
-    handles.reserve(1)?;
-    Ok(give(handles, inode, entry))
-}
-
-/// Gives the least free handle to a file. There must be room for one more.
-fn give(handles: &mut Vec<Option<Handle>>, inode: u64, entry: u64) -> Reply
-    requires room { vec_len handles.old + 1 ≤ vec_capacity handles.old }
-    ensures handles { handles.new.items ≡ with_file (free_handle handles.old.items)
+/// Opens a file at the least free handle. There must be room for one more.
+fn open(handles: &mut Vec<Option<Handle>>, inode: u64, entry: u64)
+    requires { vec_len handles.old + 1 ≤ vec_capacity handles.old }
+    ensures { handles.new.items ≡ with_file (free_handle handles.old.items)
         (Some (new_handle inode entry)) handles.old.items }
-    ensures reply { result ≡ FileOpened (free_handle handles.old.items) inode }
 {
     let handle = free_handle(handles);
     let open = Handle {
@@ -150,5 +217,45 @@ fn give(handles: &mut Vec<Option<Handle>>, inode: u64, entry: u64) -> Reply
         view: None,
     };
     set(handles, handle, open);
-    Reply::FileOpened { handle, inode }
+}
+
+/// What an answer is in numbers, those of its reply in their order.
+fn told_of(reply: &Reply) -> Told
+    ensures { result ≡ told_of reply.now }
+{
+    match reply {
+        Reply::Refused(fault) => Told::Refused(*fault),
+        Reply::Done | Reply::Described(_) | Reply::Entries(_) | Reply::Target(_) => Told::Fine(
+            0, 0, 0, 0,
+        ),
+        Reply::SessionMade { sid } => Told::Fine(*sid, 0, 0, 0),
+        Reply::Found { inode } => Told::Fine(*inode, 0, 0, 0),
+        Reply::FileOpened { handle, inode } => Told::Fine(*handle, *inode, 0, 0),
+        Reply::Data(bytes) => looks(0, bytes.len() as u64),
+        Reply::Count { bytes } => Told::Fine(*bytes, 0, 0, 0),
+        Reply::Usage(space) => Told::Fine(space.used, space.capacity, space.inodes, space.limit),
+        Reply::Compaction { before, after } => Told::Fine(
+            u64::from(*before),
+            u64::from(*after),
+            0,
+            0,
+        ),
+        Reply::Cleanup {
+            sessions,
+            trash,
+            files,
+            slices,
+        } => Told::Fine(*sessions, *trash, *files, *slices),
+        Reply::Leaked { count, bytes } => Told::Fine(*count, *bytes, 0, 0),
+        Reply::Uploaded(None) => Told::Fine(0, 0, 0, 0),
+        Reply::Uploaded(Some(block)) => {
+            Told::Fine(block.id, u64::from(block.index), u64::from(block.size), 1)
+        }
+        Reply::CacheStats {
+            hits,
+            misses,
+            cached,
+            pending,
+        } => Told::Fine(*hits, *misses, *cached, *pending),
+    }
 }

@@ -4,6 +4,7 @@ pub mod Buffers
 pub mod CuttingLaws
 pub mod StepLaws
 pub mod FreshLaws
+pub mod FormattedLaws
 pub mod ActLaws
 pub mod GoingLaws
 pub mod SayingLaws

@@ -8,9 +8,11 @@ use Rattle.jv_model.specs.declared.op.Line.TheVariants.{Empty}
 use Rattle.jv_model.specs.journal.Legal.{Legal, AllAllowed, may_be_cut, may_stop}
 use Rattle.jv_model.specs.journal.Past.{Past, Setup, NoMore, is_over, at_start, begun, turned, begin_from, begin_next, begun_by, begun_to, past, reached, at_end, text_of}
 use Rattle.jv_laws.proofs.JournalGrowthLaws.{begun_to-twice, begun_to-next, past-append, AllAllowed-append, past-begun_to, AllAllowed-begun_to}
+use Rattle.jv_client.specs.Shared.{HasStore, shared}
+use Rattle.jv_outside.specs.Store.{Store}
 use Rattle.jv_outside.specs.Ticks.{Ticks, Passes}
 use Rattle.jv_outside.proofs.TicksLaws.{Passes-zero}
-use Rattle.jv_session.specs.Lines.{LeavesAll, SaysLine, Cut}
+use Rattle.jv_session.specs.Lines.{LineState, LeavesAll, SaysLine, Cut}
 use Rattle.jv_session.specs.Stands.{ScheduleValue, Stands}
 use Rattle.jv_cmd.specs.Steps.{IsAt, Reaches, Goes, Advances, used}
 use Rattle.jv_cmd.specs.Worlds.{WorldValue}
@@ -27,31 +29,39 @@ low n p e = elim (cases_lt n p.line) [
 ]
 
 -- the entries of a line after those of the lines before it
-joined : (n : ℕ) (p : Past) (journal acts : List Act) → (begun_to n (past p journal)).line ≡ n → AllAllowed p journal → AllAllowed (begun_to n (past p journal)) acts
-    → AllAllowed p (journal ++ acts) × (begun_to (n + 1) (past (begun_to n (past p journal)) acts) ≡ begun_to (n + 1) (past p (journal ++ acts)))
+joined : (n : ℕ) (p : Past) (journal acts : List Act) → (begun_to n (past p journal)).line ≡ n → AllAllowed p journal
+    → AllAllowed (begun_to n (past p journal)) acts
+    → AllAllowed p (journal ++ acts) × (begun_to (n + 1) (past (begun_to n (past p journal)) acts) ≡ begun_to (n + 1)
+    (past p (journal ++ acts)))
 joined n p journal [] e before allowed = (
   subst (λ acts. AllAllowed p acts) (sym (append-nil journal)) before,
-  begun_to-twice (n + 1) n (past p journal) (low n (past p journal) e) (omega arith) ∙ ap (λ acts. begun_to (n + 1) (past p acts)) (sym (append-nil journal)),
+  begun_to-twice (n + 1) n (past p journal) (low n (past p journal) e) (omega arith)
+      ∙ ap (λ acts. begun_to (n + 1) (past p acts)) (sym (append-nil journal)),
 )
 joined n p journal (act ∷ acts) e before allowed =
     let here = low n (past p journal) e in
     let later = low act.line (begun_to n (past p journal)) allowed.0.line in
     let own : n ≤ act.line = omega (arith, later, e) in (
-      AllAllowed-append p journal (act ∷ acts) before (AllAllowed-begun_to n (past p journal) act acts here own allowed),
-      ap (begun_to (n + 1)) (past-begun_to n (past p journal) act acts here own ∙ sym (past-append p journal (act ∷ acts))),
+      AllAllowed-append p journal (act ∷ acts) before (AllAllowed-begun_to n
+          (past p journal) act acts here own allowed),
+      ap (begun_to (n + 1)) (past-begun_to n (past p journal) act acts here own
+          ∙ sym (past-append p journal (act ∷ acts))),
     )
 
 -- one line more
-pub Reaches-more : (run : Setup) (line : Line) (more : List Line) (n asked asks : ℕ) (text printed : List ℕ) (journal journal' : List Act) (s s' : ScheduleValue)
-    → Reaches run (line ∷ more) n asked text journal s → Goes (begun_to n (reached run journal)) more (n + 1) asks journal journal' printed s'
-    → Reaches run more (n + 1) (asked + asks) (text ++ printed) journal' s'
-Reaches-more run line more n asked asks text printed journal journal' s s' r g =
+pub Reaches-more : (run : Setup) (line : Line) (more : List Line) (n asked asks failed : ℕ) (text printed : List ℕ)
+    (journal journal' : List Act) (s s' : ScheduleValue) (k k' : Store)
+    → Reaches run (line ∷ more) n asked text journal s k
+    → Goes (begun_to n (reached run journal)) more (n + 1) asks failed journal journal' printed s' k'
+    → Reaches run more (n + 1) (asked + asks) (text ++ printed) journal' s' k'
+Reaches-more run line more n asked asks failed text printed journal journal' s s' k k' r g =
     let both = joined n (at_start run) journal g.acts r.at.line r.allowed g.allowed in
-    let there : begun_to (n + 1) (past (begun_to n (reached run journal)) g.acts) ≡ begun_to (n + 1) (reached run journal') =
+    let there : begun_to (n + 1) (past (begun_to n (reached run journal)) g.acts) ≡ begun_to (n + 1)
+    (reached run journal') =
     both.1 ∙ ap (λ acts. begun_to (n + 1) (reached run acts)) (sym g.grows) in
     record {
       allowed = subst (λ acts. AllAllowed (at_start run) acts) (sym g.grows) both.0;
-      at = subst (λ q. IsAt q run more (n + 1) (asked + asks) (length journal') (text ++ printed) s') there (record {
+      at = subst (λ q. IsAt q run more (n + 1) (asked + asks) (length journal') (text ++ printed) s' k') there (record {
         line = g.at.line;
         stands = g.at.stands;
         same_run = g.at.same_run ∙ r.at.same_run;
@@ -67,7 +77,8 @@ pub Advances-said : (line : Line) (number : ℕ) (before after : WorldValue) (s 
     → SaysLine line number (used before s) (used after s') text → Advances line number before after s s' text
 Advances-said line number before after s s' text says = record {
   asks = says.asks;
-  passes = says.passes;
+  failed = says.failed;
+  uses = says.uses;
   goes = λ p more stands next rest count clock.
       let ran = says.runs p more stands next rest count clock in
       let a = ran.appends in
@@ -75,21 +86,23 @@ Advances-said line number before after s s' text says = record {
         acts = ran.acts;
         grows = a.grows;
         allowed = a.allowed;
-        at = subst (λ q. IsAt q p.run more number (p.asked + says.asks) (length after.journal) (p.printed ++ p.said ++ text) s') (sym a.reaches) (record {
-          line = a.line;
-          stands = ran.stands;
-          same_run = a.same_run;
-          rest = a.rest;
-          count = a.count;
-          asked = a.asked;
-          text = ap (λ printed. printed ++ ran.end.said) a.printed ∙ ap (λ said. p.printed ++ p.said ++ said) ran.said;
-        });
+        failures = ran.failures;
+        at = subst (λ q. IsAt q p.run more number (p.asked + says.asks) (length after.journal)
+            (p.printed ++ p.said ++ text) s' after.keeper) (sym a.reaches) (record {
+              line = a.line;
+              stands = ran.stands;
+              same_run = a.same_run;
+              rest = a.rest;
+              count = a.count;
+              asked = a.asked;
+              text = ap (λ printed. printed ++ ran.end.said) a.printed ∙ ap (λ said. p.printed ++ p.said ++ said) ran.said;
+            });
       };
 }
 
 -- where nothing more is due of the present line, the schedule stands too
-pub Stands-settled : (p : Past) (s : ScheduleValue) → Stands p s → Stands (record p { due = NoMore }) s
-Stands-settled p s st = record {
+pub Stands-settled : (p : Past) (s : ScheduleValue) (k : Store) → Stands p s k → Stands (record p { due = NoMore }) s k
+Stands-settled p s k st = record {
   complete = st.complete;
   over = refl;
   at = st.at;
@@ -97,12 +110,14 @@ Stands-settled p s st = record {
   ticks = st.ticks;
   alone = st.alone;
   limits = st.limits;
+  setting = st.setting;
   state = st.state;
 }
 
 -- an empty line does nothing
-Stands-turned : (p : Past) (more : List Line) (s : ScheduleValue) → Stands p s → Stands (begun (turned p more) Empty) s
-Stands-turned p more s st = record {
+Stands-turned : (p : Past) (more : List Line) (s : ScheduleValue) (k : Store) → Stands p s k
+    → Stands (begun (turned p more) Empty) s k
+Stands-turned p more s k st = record {
   complete = and_from p.complete (is_over p) st.complete st.over;
   over = refl;
   at = st.at;
@@ -110,6 +125,7 @@ Stands-turned p more s st = record {
   ticks = st.ticks;
   alone = st.alone;
   limits = st.limits;
+  setting = st.setting;
   state = st.state;
 }
 
@@ -121,7 +137,13 @@ pub Advances-quiet : (line : Line) (number : ℕ) (before after : WorldValue) (s
     → line ≡ Empty → LeavesAll (used before s) (used after s') → Advances line number before after s s' []
 Advances-quiet line number before after s s' empty leaves = record {
   asks = 0;
-  passes = subst (λ (later : Ticks). Passes before.clock.answers later.answers 0) (sym leaves.clock) (Passes-zero before.clock.answers);
+  failed = 0;
+  uses = record {
+    passes = subst (λ (later : Ticks). Passes before.clock.answers later.answers 0) (sym leaves.clock)
+        (Passes-zero before.clock.answers);
+    opened_at = ap (λ (k : Store). k.opened) leaves.keeper;
+    counts = ap (λ (k : Store). k.faults) leaves.keeper;
+  };
   goes = λ p more stands next rest count clock.
       let is : begun (turned p more) Empty ≡ begun_to number p =
       sym (begun_to-next number p next ∙ next_is p more (rest ∙ ap (λ (l : Line). l ∷ more) empty)) in
@@ -129,48 +151,63 @@ Advances-quiet line number before after s s' empty leaves = record {
         acts = [];
         grows = leaves.journal ∙ sym (append-nil before.journal);
         allowed = tt;
-        at = subst (λ q. IsAt q p.run more number (p.asked + 0) (length after.journal) (p.printed ++ p.said ++ []) s') is (record {
-          line = next;
-          stands = subst (λ v. Stands (begun (turned p more) Empty) v) (sym leaves.schedule) (Stands-turned p more s stands);
-          same_run = refl;
-          rest = refl;
-          count = count ∙ ap length (sym leaves.journal);
-          asked = omega arith;
-          text = refl;
-        });
+        failures = refl;
+        at = subst (λ q. IsAt q p.run more number (p.asked + 0) (length after.journal)
+            (p.printed ++ p.said ++ []) s' after.keeper) is (record {
+              line = next;
+              stands = subst (λ v. Stands (begun (turned p more) Empty) v after.keeper) (sym leaves.schedule)
+                  (subst (λ k. Stands (begun (turned p more) Empty) s k) (sym leaves.keeper)
+                  (Stands-turned p more s before.keeper stands));
+              same_run = refl;
+              rest = refl;
+              count = count ∙ ap length (sym leaves.journal);
+              asked = omega arith;
+              text = refl;
+            });
       };
 }
 
 -- the end of a run all of whose lines were run
-at_the_end : (run : Setup) (n asked : ℕ) (text : List ℕ) (journal : List Act) (s : ScheduleValue) → length run.script ≡ n → Reaches run [] n asked text journal s
-    → IsAt (at_end run journal) run [] n asked (length journal) text s
-at_the_end run n asked text journal s size r = subst (λ k. IsAt (begun_to k (reached run journal)) run [] n asked (length journal) text s) (sym size) r.at
+at_the_end : (run : Setup) (n asked : ℕ) (text : List ℕ) (journal : List Act) (s : ScheduleValue) (k : Store)
+    → length run.script ≡ n → Reaches run [] n asked text journal s k
+    → IsAt (at_end run journal) run [] n asked (length journal) text s k
+at_the_end run n asked text journal s k size r = subst
+    (λ m. IsAt (begun_to m (reached run journal)) run [] n asked (length journal) text s k) (sym size) r.at
 
-pub Legal-reached : (run : Setup) (n asked : ℕ) (text : List ℕ) (journal : List Act) (s : ScheduleValue) → length run.script ≡ n → Reaches run [] n asked text journal s → Legal run journal
-Legal-reached run n asked text journal s size r =
-    let end = at_the_end run n asked text journal s size r in
+pub Legal-reached : (run : Setup) (n asked : ℕ) (text : List ℕ) (journal : List Act) (s : ScheduleValue) (k : Store)
+    → length run.script ≡ n → Reaches run [] n asked text journal s k → Legal run journal
+Legal-reached run n asked text journal s k size r =
+    let end = at_the_end run n asked text journal s k size r in
     record {
       allowed = r.allowed;
-      ends = and_from (at_end run journal).complete (is_over (at_end run journal) || may_be_cut run.status && may_stop (at_end run journal)) end.stands.complete
-          (or_left (is_over (at_end run journal)) (may_be_cut run.status && may_stop (at_end run journal)) end.stands.over);
+      ends = and_from (at_end run journal).complete (is_over (at_end run journal) || may_be_cut run.status && may_stop
+          (at_end run journal)) end.stands.complete
+          (or_left (is_over (at_end run journal)) (may_be_cut run.status && may_stop (at_end run journal))
+          end.stands.over);
     }
 
-pub text_of-reached : (run : Setup) (n asked : ℕ) (text : List ℕ) (journal : List Act) (s : ScheduleValue) → length run.script ≡ n → Reaches run [] n asked text journal s → text_of run journal ≡ text
-text_of-reached run n asked text journal s size r = (at_the_end run n asked text journal s size r).text
+pub text_of-reached : (run : Setup) (n asked : ℕ) (text : List ℕ) (journal : List Act) (s : ScheduleValue) (k : Store)
+    → length run.script ≡ n → Reaches run [] n asked text journal s k → text_of run journal ≡ text
+text_of-reached run n asked text journal s k size r = (at_the_end run n asked text journal s k size r).text
 
-pub Stands-reached : (run : Setup) (n asked : ℕ) (text : List ℕ) (journal : List Act) (s : ScheduleValue) → length run.script ≡ n → Reaches run [] n asked text journal s → Stands (at_end run journal) s
-Stands-reached run n asked text journal s size r = (at_the_end run n asked text journal s size r).stands
+pub Stands-reached : (run : Setup) (n asked : ℕ) (text : List ℕ) (journal : List Act) (s : ScheduleValue) (k : Store)
+    → length run.script ≡ n → Reaches run [] n asked text journal s k → Stands (at_end run journal) s k
+Stands-reached run n asked text journal s k size r = (at_the_end run n asked text journal s k size r).stands
 
 -- the end of a run whose last line was cut off
-module _ (run : Setup) (line : Line) (n asked asks : ℕ) (text : List ℕ) (journal journal' : List Act) (s : ScheduleValue) (size : length run.script ≡ n + 1) (r : Reaches run (line ∷ []) n asked text journal s)
-    (s' : ScheduleValue) (c : Cut (begun_to n (reached run journal)) [] (n + 1) asks journal journal' s') where
-  both : AllAllowed (at_start run) (journal ++ c.acts) × (begun_to (n + 1) (past (begun_to n (reached run journal)) c.acts) ≡ begun_to (n + 1) (reached run (journal ++ c.acts)))
-  both = joined n (at_start run) journal c.acts r.at.line r.allowed c.appends.allowed
+module _ (run : Setup) (line : Line) (n asked asks failed : ℕ) (text : List ℕ) (now later : LineState)
+    (size : length run.script ≡ n + 1) (r : Reaches run (line ∷ []) n asked text now.journal now.schedule now.keeper)
+    (c : Cut (begun_to n (reached run now.journal)) [] (n + 1) asks failed now later) where
+  both : AllAllowed (at_start run) (now.journal ++ c.acts) ×
+      (begun_to (n + 1) (past (begun_to n (reached run now.journal)) c.acts) ≡ begun_to (n + 1)
+      (reached run (now.journal ++ c.acts)))
+  both = joined n (at_start run) now.journal c.acts r.at.line r.allowed c.appends.allowed
 
-  cut_end : c.end ≡ at_end run journal'
-  cut_end = sym c.appends.reaches ∙ both.1 ∙ ap (λ acts. begun_to (n + 1) (reached run acts)) (sym c.appends.grows) ∙ ap (λ k. begun_to k (reached run journal')) (sym size)
+  cut_end : c.end ≡ at_end run later.journal
+  cut_end = sym c.appends.reaches ∙ both.1 ∙ ap (λ acts. begun_to (n + 1) (reached run acts)) (sym c.appends.grows)
+      ∙ ap (λ k. begun_to k (reached run later.journal)) (sym size)
 
-  pub Legal-cut : may_be_cut run.status ≡ true → Legal run journal'
+  pub Legal-cut : may_be_cut run.status ≡ true → Legal run later.journal
   Legal-cut cuts = record {
     allowed = subst (λ acts. AllAllowed (at_start run) acts) (sym c.appends.grows) both.0;
     ends = subst (λ q. (q.complete && (is_over q || may_be_cut run.status && may_stop q)) ≡ true) cut_end
@@ -178,5 +215,9 @@ module _ (run : Setup) (line : Line) (n asked asks : ℕ) (text : List ℕ) (jou
         (subst (λ cut. (is_over c.end || cut && may_stop c.end) ≡ true) (sym cuts) c.stops));
   }
 
-  pub printed-cut : (at_end run journal').printed ≡ text
+  pub printed-cut : (at_end run later.journal).printed ≡ text
   printed-cut = ap (λ (q : Past). q.printed) (sym cut_end) ∙ c.appends.printed ∙ r.at.text
+
+  pub HasStore-cut : HasStore (at_end run later.journal).state.tree (shared later.schedule.files later.keeper)
+  HasStore-cut = subst (λ (q : Past). HasStore q.state.tree (shared later.schedule.files later.keeper)) cut_end
+      c.stands.state.has_store

@@ -2,6 +2,7 @@
 use Rattle.std.specs.Prelude.{◌≡◌, ℕ, List, Option, None, Some}
 use Rattle.clap.specs.Words.{Text}
 use Rattle.jv_model.specs.declared.setting.Setting.{Setting}
+use Rattle.jv_outside.specs.Store.{Store}
 use Rattle.jv_cmd.specs.declared.ended.Ended.{Ended}
 use Rattle.jv_cmd.specs.declared.ended.Ended.TheVariants.{OutOfMemory}
 use Rattle.jv_cmd.specs.declared.words.request.Command.{Command}
@@ -22,31 +23,34 @@ pub record LeavesLines (before after : WorldValue) : Type 0 where
   pub clock : after.clock ≡ before.clock
   pub journal : after.journal ≡ before.journal
 
--- A session: there is no volume to run on, or the lines run, once the keeper is opened, on the volume of that setting, as
--- it was formatted at some moment.
-pub data SessionEnds (before after : WorldValue) (ended : Ended) : Type 0 where
-  NotOpened : CannotOpen before.keeper.rows ended → LeavesLines before after → SessionEnds before after ended
-  Opened : (setting : Setting) → IsKnown before.keeper.rows setting
-      → ((made : ℕ) → RunsLines (record { setting = setting; made = made }) (record before { keeper = after.keeper }) after ended) → SessionEnds before after ended
+-- A session: there is no volume to run on, or the lines run, once the keeper is opened, on the volume of that setting.
+-- So many operations were answered that the keeper failed.
+pub data SessionEnds (answers : ℕ) (before after : WorldValue) (ended : Ended) : Type 0 where
+  NotOpened : CannotOpen before.keeper.rows ended → answers ≡ 0 → LeavesLines before after → after.keeper.rows ≡ before.keeper.rows
+      → SessionEnds answers before after ended
+  Opened : (setting : Setting) (opened : Store) → IsKnown before.keeper.rows setting → opened.rows ≡ before.keeper.rows
+      → RunsLines answers (record before { keeper = opened }) after ended → SessionEnds answers before after ended
 
--- a session changes no row yet
-pub record RunsSession (before after : WorldValue) (ended : Ended) : Type 0 where
-  pub ends : SessionEnds before after ended
-  pub rows : after.keeper.rows ≡ before.keeper.rows
-
-abbrev pub Does : Command → WorldValue → WorldValue → Ended → Type 0
-Does (Format place setting) before after ended = Formats setting before after ended
-Does (Session place options) before after ended = RunsSession before after ended
+abbrev pub Does : Command → ℕ → WorldValue → WorldValue → Ended → Type 0
+Does (Format place setting) answers before after ended = Formats setting before after ended × (answers ≡ 0)
+Does (Session place options) answers before after ended = SessionEnds answers before after ended
 
 abbrev pub place_of : Command → List ℕ
 place_of (Format place setting) = place
 place_of (Session place options) = place
 
+-- a session at a place: how it ended, and what it did with the keeper
+pub record RunsSession (place : List ℕ) (before after : WorldValue) (ended : Ended) : Type 0 where
+  pub answers : ℕ
+  pub ends : SessionEnds answers before after ended
+  pub keeper : UsesKeeper ended answers place before.keeper after.keeper
+
 -- a command: what it did, which device failed, and where the keeper is opened
 pub record RunsCommand (command : Command) (before after : WorldValue) (ended : Ended) : Type 0 where
-  pub does : Does command before after ended
+  pub answers : ℕ
+  pub does : Does command answers before after ended
   pub faults : CountsFaults ended before after
-  pub keeper : UsesKeeper ended (place_of command) before.keeper after.keeper
+  pub keeper : UsesKeeper ended answers (place_of command) before.keeper after.keeper
 
 -- how the command ended: what it did apart from standard error, its status, and its text there
 pub record EndsCommand (command : Command) (before after : WorldValue) (status : ℕ) : Type 0 where

@@ -1,7 +1,19 @@
 -- What each end of a command is to the caller.
-use Rattle.std.specs.Prelude.{ℕ, List, [], ◌++◌, codes, decimal}
+use Rattle.std.specs.Prelude.{ℕ, List, [], ◌∷◌, ◌++◌, codes, decimal}
+use Rattle.std.specs.List.{flat_map}
+use Rattle.jv_model.specs.declared.row.RowKey.{RowKey}
+use Rattle.jv_model.specs.script.Printed.{hex_pair}
 use Rattle.jv_cmd.specs.declared.ended.Ended.{Ended}
-use Rattle.jv_cmd.specs.declared.ended.Ended.TheVariants.{Whole, OffLine, NoVolume, VolumeExists, NewerVersion, SettingOff, SourceFailed, OutFailed, ClockFailed, KeeperFailed, OutOfMemory}
+use Rattle.jv_cmd.specs.declared.ended.Ended.TheVariants.{Whole, OffLine, NoVolume, VolumeExists, NewerVersion, SettingOff, BadRow, SourceFailed, OutFailed, ClockFailed, KeeperFailed, OutOfMemory}
+
+-- bytes as pairs of hexadecimal digits, or a dash where there are none
+abbrev pub digits_or_dash : List ℕ → List ℕ
+digits_or_dash [] = codes "-"
+digits_or_dash (byte ∷ bytes) = flat_map hex_pair (byte ∷ bytes)
+
+-- the table of a row and the two parts of its key
+abbrev pub key_text : RowKey → List ℕ
+key_text key = decimal key.tab ++ codes " " ++ decimal key.a ++ codes " " ++ digits_or_dash key.b
 
 abbrev pub status_of : Ended → ℕ
 status_of Whole = 0
@@ -10,6 +22,7 @@ status_of NoVolume = 4
 status_of VolumeExists = 4
 status_of (NewerVersion version) = 4
 status_of SettingOff = 4
+status_of (BadRow key bytes) = 4
 status_of SourceFailed = 5
 status_of OutFailed = 5
 status_of ClockFailed = 5
@@ -24,6 +37,7 @@ message_of NoVolume = codes "juicevol: no volume\n"
 message_of VolumeExists = codes "juicevol: volume exists\n"
 message_of (NewerVersion version) = codes "juicevol: version " ++ decimal version ++ codes "\n"
 message_of SettingOff = codes "juicevol: row 0 0 -: not a row\n"
+message_of (BadRow key bytes) = codes "juicevol: row " ++ key_text key ++ codes ": not a row\n"
 message_of SourceFailed = codes "juicevol: source failed\n"
 message_of OutFailed = codes "juicevol: out failed\n"
 message_of ClockFailed = codes "juicevol: clock failed\n"

@@ -1,6 +1,6 @@
 -- Which device's count of faults rose, by how a command ended.
-use Rattle.std.specs.Prelude.{◌≡◌, ℕ, Bool, true, false, List, Option, Some, Result, Ok, Err}
-use Rattle.jv_outside.specs.Causes.{Rose}
+use Rattle.std.specs.Prelude.{◌≡◌, ℕ, suc, Bool, true, false, List, Option, Some, Result, Ok, Err}
+use Rattle.jv_outside.specs.Causes.{RoseIf, RoseTimes}
 use Rattle.jv_outside.specs.Store.{Store}
 use Rattle.jv_cmd.specs.declared.ended.Ended.{Ended}
 use Rattle.jv_cmd.specs.declared.ended.Ended.TheVariants.{Whole, SourceFailed, OutFailed, ClockFailed, KeeperFailed, OutOfMemory}
@@ -22,16 +22,11 @@ abbrev pub keeper_failed : Ended → Bool
 keeper_failed KeeperFailed = true
 keeper_failed _ = false
 
--- the count rose where the device failed, and is the same otherwise
-abbrev pub CountsFault : Bool → ℕ → ℕ → Type 0
-CountsFault true before now = Rose before now
-CountsFault false before now = now ≡ before
-
 -- of the devices that a script's lines use
 pub record CountsFaults (ended : Ended) (before after : WorldValue) : Type 0 where
-  pub source : CountsFault (source_failed ended) before.source.faults after.source.faults
-  pub out : CountsFault (out_failed ended) before.out.faults after.out.faults
-  pub clock : CountsFault (clock_failed ended) before.clock.faults after.clock.faults
+  pub source : RoseIf (source_failed ended) before.source.faults after.source.faults
+  pub out : RoseIf (out_failed ended) before.out.faults after.out.faults
+  pub clock : RoseIf (clock_failed ended) before.clock.faults after.clock.faults
 
 -- the keeper was opened at a place, or it failed or memory ran out before
 pub data MayOpen (place : List ℕ) (before after : Option (List ℕ)) : Type 0 where
@@ -43,10 +38,16 @@ IsOpened KeeperFailed place before after = MayOpen place before after
 IsOpened OutOfMemory place before after = MayOpen place before after
 IsOpened _ place before after = after ≡ Some place
 
--- where the keeper is opened after a command at a place, and its count of faults
-pub record UsesKeeper (ended : Ended) (place : List ℕ) (before after : Store) : Type 0 where
+-- how often the keeper failed: at operations that were answered so, and once more where it ended the command
+abbrev pub failures_of : Ended → ℕ → ℕ
+failures_of KeeperFailed answers = suc answers
+failures_of _ answers = answers
+
+-- where the keeper is opened after a command at a place, and its count of faults, when so many operations were answered that it
+-- failed
+pub record UsesKeeper (ended : Ended) (answers : ℕ) (place : List ℕ) (before after : Store) : Type 0 where
   pub opened : IsOpened ended place before.opened after.opened
-  pub faults : CountsFault (keeper_failed ended) before.faults after.faults
+  pub faults : RoseTimes (failures_of ended answers) before.faults after.faults
 
 -- how a part of a command ended, where it goes on after success
 abbrev pub ended_by : {T : Type 0} → Result T Ended → Ended

@@ -52,7 +52,7 @@ IsStored rows (Some setting) = SettingRow rows (Spells setting)
 -- the keeper was opened, and the setting read; the rows are the same
 pub record ReadsSetting (place : List ℕ) (before after : Store) (result : Result (Option Setting) Ended) : Type 0 where
   pub rows_are : after.rows ≡ before.rows
-  pub keeper : UsesKeeper (ended_by result) place before after
+  pub keeper : UsesKeeper (ended_by result) 0 place before after
   pub found : IfOk result (IsStored before.rows)
   pub allowed : IfOk result (λ found. IfSome found (λ setting. IsTrue (is_setting setting)))
   pub refused : IfErr result (CannotRead before.rows)
@@ -71,6 +71,6 @@ pub record IsKnown (rows : Option RowMap) (setting : Setting) : Type 0 where
 -- the volume's setting was read, or there is no volume to run a session on; the rows are the same
 pub record OpensVolume (place : List ℕ) (before after : Store) (result : Result Setting Ended) : Type 0 where
   pub rows_are : after.rows ≡ before.rows
-  pub keeper : UsesKeeper (ended_by result) place before after
+  pub keeper : UsesKeeper (ended_by result) 0 place before after
   pub ok : IfOk result (IsKnown before.rows)
   pub refused : IfErr result (CannotOpen before.rows)

@@ -16,12 +16,13 @@ use std::alloc::Global;
 /// Runs the command that the words are, over the devices of the world, with an emptied journal.
 ///
 /// `format` puts the rows of a fresh volume where the keeper has none, in one commit, and prints its name. `session`
-/// runs the script of the source over the volume, which is one that was just formatted, and prints an answer for each
-/// line that has one.
+/// runs the script of the source over the rows of the volume, and prints an answer for each line that has one; the bytes of
+/// files are kept until the run ends.
 ///
 /// The status is 0 if the command did its work: every line of the source was run, or the volume is formatted. It is 2 if
 /// the words are refused, 3 if the next line isn't run, 4 if there is no volume for a session, or one for `format`, or the
-/// row of its setting is malformed or of a later version, 5 if a device failed, and 6 if the process is out of memory.
+/// row of its setting is of a later version, or a row that is read is malformed or names one that isn't there, 5 if a device
+/// failed, and 6 if the process is out of memory. A keeper that fails inside an operation of a script is answered `EIO`.
 /// Standard error has a text for each but the first, which ends with a line feed. Nothing after the end of the run is done,
 /// and everything before it is done, printed and in the journal. Where the clock fails or memory runs out on a line, the
 /// steps that the line made are in the journal, and it prints nothing. A device's count of faults rises only with status 5,
@@ -39,7 +40,7 @@ pub fn run<S: Source, O: Sink, E: Sink, K: Keeper, C: Clock>(
     match read_words(alloc, words) {
         Ok(command) => {
             let ended = run_command(alloc, command, &mut world);
-            report(ended, &mut world.err);
+            report(&ended, &mut world.err);
             let status = ended.status();
             Finish { status, world }
         }
@@ -48,7 +49,7 @@ pub fn run<S: Source, O: Sink, E: Sink, K: Keeper, C: Clock>(
             Finish { status: 2, world }
         }
         Err(WordsFault::Memory) => {
-            report(Ended::OutOfMemory, &mut world.err);
+            report(&Ended::OutOfMemory, &mut world.err);
             let status = Ended::OutOfMemory.status();
             Finish { status, world }
         }
@@ -80,10 +81,9 @@ fn run_session<S: Source, O: Sink, E: Sink, K: Keeper, C: Clock>(
 ) -> Ended
     requires { world.old.journal.acts ≡ [] }
     ensures runs { let seen = ⟦<World<S, O, E, K, C> as Observed>⟧.seen in
-        RunsSession (seen world.old) (seen world.new) result }
+        RunsSession place.now (seen world.old) (seen world.new) result }
     ensures faults { let seen = ⟦<World<S, O, E, K, C> as Observed>⟧.seen in
         CountsFaults result (seen world.old) (seen world.new) }
-    ensures keeper { UsesKeeper result place.now (K.seen world.old.keeper) (K.seen world.new.keeper) }
     ensures err { world.new.err ≡ world.old.err }
 {
     match open_volume(alloc, &mut world.keeper, place) {

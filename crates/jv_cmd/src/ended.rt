@@ -1,14 +1,16 @@
-ghost use Rattle.std.specs.Prelude.{◌≡◌, ◌++◌, decimal};
-ghost use Rattle.jv_cmd.specs.Ends.{status_of, message_of};
+ghost use Rattle.std.specs.Prelude.{◌≡◌, ◌++◌, codes, decimal};
+ghost use Rattle.std.specs.List.{flat_map};
+ghost use Rattle.jv_model.specs.script.Printed.{hex_pair};
+ghost use Rattle.jv_cmd.specs.Ends.{status_of, message_of, key_text, digits_or_dash};
 ghost use Rattle.jv_cmd.specs.Saying.{Says};
 ghost use Rattle.jv_outside.specs.Stream.{WritesAll};
 
 use itoa::Buffer;
-use jv_model::Down;
+use jv_model::{Bytes, Down, RowKey};
 use jv_outside::{Sink, write_whole};
 
 /// How a command ended.
-#[derive(Clone, Copy, Debug, PartialEq, Eq)]
+#[derive(Debug, Drop, PartialEq, Eq)]
 pub(crate) enum Ended {
     /// The command did its work; a session ran all lines of the source.
     Whole,
@@ -22,6 +24,8 @@ pub(crate) enum Ended {
     NewerVersion(u32),
     /// The row of the setting is malformed.
     SettingOff,
+    /// The row at this key, which has these bytes, is malformed, or names one that isn't there.
+    BadRow(RowKey, Bytes),
     SourceFailed,
     OutFailed,
     ClockFailed,
@@ -32,13 +36,14 @@ pub(crate) enum Ended {
 
 impl Ended {
     /// The exit status.
-    pub(crate) fn status(self) -> u8
-        ensures { result ≡ status_of self }
+    pub(crate) fn status(&self) -> u8
+        ensures { result ≡ status_of self.now }
     {
         match self {
             Ended::Whole => 0,
             Ended::OffLine(_) => 3,
             Ended::NoVolume | Ended::VolumeExists | Ended::NewerVersion(_) | Ended::SettingOff => 4,
+            Ended::BadRow(..) => 4,
             Ended::SourceFailed | Ended::OutFailed | Ended::ClockFailed | Ended::KeeperFailed => 5,
             Ended::OutOfMemory => 6,
         }
@@ -46,21 +51,22 @@ impl Ended {
 }
 
 /// Says on standard error how the command ended. Takes no memory. A fault there is passed over.
-pub(crate) fn report<E: Sink>(ended: Ended, err: &mut E)
-    ensures { Says (E.seen err.old) (E.seen err.new) (message_of ended) }
+pub(crate) fn report<E: Sink>(ended: &Ended, err: &mut E)
+    ensures { Says (E.seen err.old) (E.seen err.new) (message_of ended.now) }
 {
     match ended {
         Ended::Whole => {}
         Ended::OffLine(number) => say_number(
             b"juicevol: line ",
-            number,
+            *number,
             b": not a script line\n",
             err,
         ),
         Ended::NoVolume => say(b"juicevol: no volume\n", err),
         Ended::VolumeExists => say(b"juicevol: volume exists\n", err),
-        Ended::NewerVersion(version) => say_number(b"juicevol: version ", version, b"\n", err),
+        Ended::NewerVersion(version) => say_number(b"juicevol: version ", *version, b"\n", err),
         Ended::SettingOff => say(b"juicevol: row 0 0 -: not a row\n", err),
+        Ended::BadRow(key, _) => say_key(key, err),
         Ended::SourceFailed => say(b"juicevol: source failed\n", err),
         Ended::OutFailed => say(b"juicevol: out failed\n", err),
         Ended::ClockFailed => say(b"juicevol: clock failed\n", err),
@@ -90,4 +96,54 @@ fn write_number<E: Sink>(before: &[u8], number: u32, after: &[u8], err: &mut E) 
     write_whole(err, before)?;
     write_whole(err, Buffer::new().format(number).as_bytes())?;
     write_whole(err, after)
+}
+
+/// Says on standard error that a row is none. A fault there is passed over.
+fn say_key<E: Sink>(key: &RowKey, err: &mut E)
+    ensures { Says (E.seen err.old) (E.seen err.new)
+        (codes "juicevol: row " ++ key_text key.now ++ codes ": not a row\n") }
+{
+    let _ = write_key(key, err);
+}
+
+fn write_key<E: Sink>(key: &RowKey, err: &mut E) -> Result<(), Down>
+    ensures { WritesAll (E.seen err.old) (E.seen err.new) result
+        (codes "juicevol: row " ++ key_text key.now ++ codes ": not a row\n") }
+{
+    write_number(b"juicevol: row ", u32::from(key.tab), b" ", err)?;
+    write_whole(err, Buffer::new().format(key.a).as_bytes())?;
+    write_whole(err, b" ")?;
+    write_digits(key.b.as_slice(), err)?;
+    write_whole(err, b": not a row\n")
+}
+
+/// Writes bytes as pairs of hexadecimal digits, or a dash where there are none.
+fn write_digits<E: Sink>(bytes: &[u8], err: &mut E) -> Result<(), Down>
+    ensures { WritesAll (E.seen err.old) (E.seen err.new) result (digits_or_dash bytes.now) }
+{
+    if bytes.is_empty() {
+        write_whole(err, b"-")
+    } else {
+        write_pairs(bytes, err)
+    }
+}
+
+/// Writes bytes as pairs of hexadecimal digits.
+fn write_pairs<E: Sink>(bytes: &[u8], err: &mut E) -> Result<(), Down>
+    ensures { WritesAll (E.seen err.old) (E.seen err.new) result (flat_map hex_pair bytes.now) }
+{
+    for byte in bytes {
+        write_whole(err, &hex_pair(*byte))?;
+    }
+    Ok(())
+}
+
+fn hex_pair(byte: u8) -> [u8; 2]
+    ensures { result ≡ hex_pair byte }
+{
+    const DIGITS: &[u8; 16] = b"0123456789abcdef";
+    [
+        DIGITS[usize::from(byte / 16)],
+        DIGITS[usize::from(byte % 16)],
+    ]
 }

@@ -1,6 +1,7 @@
 ghost use Rattle.std.specs.Prelude.{◌≡◌, IfOk, IsTrue};
 ghost use Rattle.jv_model.specs.rows.RowGrammar.{is_setting};
-ghost use Rattle.jv_cmd.specs.Faults.{CountsFault, CountsFaults, UsesKeeper, clock_failed, ended_by};
+ghost use Rattle.jv_outside.specs.Causes.{RoseIf};
+ghost use Rattle.jv_cmd.specs.Faults.{CountsFaults, UsesKeeper, clock_failed, ended_by};
 ghost use Rattle.jv_cmd.specs.Formatting.{formatted_text, Formats, PutsVolume};
 
 use crate::ended::Ended;
@@ -32,8 +33,8 @@ fn put_volume<K: Keeper, C: Clock>(
     requires { IsTrue (is_setting setting.now) }
     ensures puts { PutsVolume setting.now (K.seen keeper.old) (K.seen keeper.new)
         (C.seen clock.old) (C.seen clock.new) result }
-    ensures keeper { UsesKeeper (ended_by result) place.now (K.seen keeper.old) (K.seen keeper.new) }
-    ensures clock { CountsFault (clock_failed (ended_by result)) (C.seen clock.old).faults
+    ensures keeper { UsesKeeper (ended_by result) 0 place.now (K.seen keeper.old) (K.seen keeper.new) }
+    ensures clock { RoseIf (clock_failed (ended_by result)) (C.seen clock.old).faults
         (C.seen clock.new).faults }
 {
     if stored_setting(alloc, keeper, place)?.is_some() {
@@ -64,7 +65,7 @@ pub(crate) fn run_format<S: Source, O: Sink, E: Sink, K: Keeper, C: Clock>(
         Formats setting.now (seen world.old) (seen world.new) result }
     ensures faults { let seen = ⟦<World<S, O, E, K, C> as Observed>⟧.seen in
         CountsFaults result (seen world.old) (seen world.new) }
-    ensures keeper { UsesKeeper result place.now (K.seen world.old.keeper) (K.seen world.new.keeper) }
+    ensures keeper { UsesKeeper result 0 place.now (K.seen world.old.keeper) (K.seen world.new.keeper) }
     ensures err { world.new.err ≡ world.old.err }
 {
     let Ok(text) = formatted_text(alloc, setting) else {

@@ -1,6 +1,6 @@
 ghost use Rattle.std.specs.Prelude.{◌≡◌, ℕ, ◌≤◌, ◌<◌, [], OnOk};
 ghost use Rattle.std.specs.Io.KnownBytes.{prepend_known};
-ghost use Rattle.jv_cmd.specs.Run.{FreshVolume, session_limits};
+ghost use Rattle.jv_cmd.specs.Opening.{IsKnown};
 ghost use Rattle.jv_cmd.specs.Steps.{IsBuiltHere, TellsBuilt, TextReads, LineEnds, TextEnds, Going, EndsLines, Turns};
 ghost use Rattle.jv_cmd.specs.Worlds.{WorldValue};
 
@@ -61,16 +61,22 @@ fn run_line<S: Source, O: Sink, E: Sink, K: Keeper, C: Clock>(
     ensures ends { let seen = ⟦<World<S, O, E, K, C> as Observed>⟧.seen in
         LineEnds line number (seen world.old) (seen world.new) schedule.old schedule.new result }
     ensures source { world.new.source ≡ world.old.source }
-    ensures keeper { world.new.keeper ≡ world.old.keeper }
     ensures err { world.new.err ≡ world.old.err }
 {
-    match schedule.line(line, number, &mut world.clock, &mut world.journal) {
+    match schedule.line(
+        line,
+        number,
+        &mut world.keeper,
+        &mut world.clock,
+        &mut world.journal,
+    ) {
         LineEnd::Said(answer) => match write_whole(&mut world.out, answer.as_slice()) {
             Ok(()) => Ok(()),
             Err(_) => Err(Ended::OutFailed),
         },
         LineEnd::Quiet => Ok(()),
         LineEnd::ClockFailed => Err(Ended::ClockFailed),
+        LineEnd::Broken(key, bytes) => Err(Ended::BadRow(key, bytes)),
         LineEnd::Memory => Err(Ended::OutOfMemory),
     }
 }
@@ -86,7 +92,6 @@ fn run_text<S: Source, O: Sink, E: Sink, K: Keeper, C: Clock>(
     ensures ends { let seen = ⟦<World<S, O, E, K, C> as Observed>⟧.seen in
         TextEnds number text.now (seen world.old) (seen world.new) schedule.old schedule.new result }
     ensures source { world.new.source ≡ world.old.source }
-    ensures keeper { world.new.keeper ≡ world.old.keeper }
     ensures err { world.new.err ≡ world.old.err }
 {
     match read_built(alloc, number, text, schedule) {
@@ -105,12 +110,11 @@ fn turn<S: Source, O: Sink, E: Sink, K: Keeper, C: Clock>(
 ) -> Result<(), Ended>
     requires { done ≤ MAX_LINES }
     ensures turns { let seen = ⟦<World<S, O, E, K, C> as Observed>⟧.seen in
-        (v : FreshVolume) (before : WorldValue)
-        → Going v (prepend_known reader.old (seen world.old).source.content) before (seen world.old) done schedule.old
-        → Turns v (prepend_known reader.new (seen world.new).source.content) before (seen world.new) done schedule.new
+        (before : WorldValue)
+        → Going (prepend_known reader.old (seen world.old).source.content) before (seen world.old) done schedule.old
+        → Turns (prepend_known reader.new (seen world.new).source.content) before (seen world.new) done schedule.new
         result }
     ensures more { OnOk result (done < MAX_LINES) }
-    ensures keeper { world.new.keeper ≡ world.old.keeper }
     ensures err { world.new.err ≡ world.old.err }
 {
     match reader.next(&mut world.source) {
@@ -136,10 +140,9 @@ fn run_lines<S: Source, O: Sink, E: Sink, K: Keeper, C: Clock>(
     world: &mut World<S, O, E, K, C>,
 ) -> Ended
     ensures runs { let seen = ⟦<World<S, O, E, K, C> as Observed>⟧.seen in
-        (v : FreshVolume) (before : WorldValue)
-        → Going v (prepend_known reader.old (seen world.old).source.content) before (seen world.old) 0 schedule.old
-        → EndsLines v before (seen world.new) result }
-    ensures keeper { world.new.keeper ≡ world.old.keeper }
+        (before : WorldValue)
+        → Going (prepend_known reader.old (seen world.old).source.content) before (seen world.old) 0 schedule.old
+        → EndsLines before (seen world.new) result }
     ensures err { world.new.err ≡ world.old.err }
 {
     let mut done = 0;
@@ -151,17 +154,16 @@ fn run_lines<S: Source, O: Sink, E: Sink, K: Keeper, C: Clock>(
     }
 }
 
-/// Runs the script of the source over a volume that was just formatted with this setting.
+/// Runs the script of the source over the rows of the keeper, whose setting this is.
 pub(crate) fn run_script<S: Source, O: Sink, E: Sink, K: Keeper, C: Clock>(
     alloc: Global,
     setting: Setting,
     world: &mut World<S, O, E, K, C>,
 ) -> Ended
-    requires { world.old.journal.acts ≡ [] }
+    requires empty { world.old.journal.acts ≡ [] }
+    requires stored { IsKnown (K.seen world.old.keeper).rows setting }
     ensures runs { let seen = ⟦<World<S, O, E, K, C> as Observed>⟧.seen in
-        (made : ℕ)
-        → EndsLines (record { setting = setting; made = made }) (seen world.old) (seen world.new) result }
-    ensures keeper { world.new.keeper ≡ world.old.keeper }
+        EndsLines (seen world.old) (seen world.new) result }
     ensures err { world.new.err ≡ world.old.err }
 {
     let Ok(mut reader) = LineReader::new(alloc) else {

@@ -134,7 +134,7 @@ may_have_looked _ = false
 pub try_again_after_look : {start : Start} {s : State} {client now : ℕ} {c : ModelClient} {d : Doing} {commit : ℕ}
     → may_have_looked d.stage ≡ false → IsRefusedIn start s client now c d (TryAgain commit) → ⊥
 try_again_after_look unlooked (SessionGone asks gone e) = absurd (cc)
-try_again_after_look unlooked (InodeGone asks here gone e) = absurd (cc)
+try_again_after_look unlooked (InodeGone inode asks here given gone e) = absurd (cc)
 try_again_after_look unlooked (CommitLate segment asked late e) = absurd (cc)
 try_again_after_look unlooked (CommitTooLarge segment asked early large e) = absurd (cc)
 try_again_after_look unlooked (NumberRefused first crowded e) = absurd (cc)
@@ -153,7 +153,7 @@ is_compacting _ = false
 pub timed_out_late : {start : Start} {s : State} {client now : ℕ} {c : ModelClient} {o : Op} {does : Does} {flush : Flush} {moved : Bool} {quiets started m n : ℕ}
     → IsRefusedIn start s client now c (record { op = o; does = does; flush = flush; stage = Working quiets started; moved = moved }) (TimedOut m n) → started + UPLOAD_LIFE ≤ now
 timed_out_late (SessionGone asks gone e) = absurd (cc)
-timed_out_late (InodeGone asks here gone e) = absurd (cc)
+timed_out_late (InodeGone inode asks here given gone e) = absurd (cc)
 timed_out_late (CommitLate segment asked late e) = late
 timed_out_late (CommitTooLarge segment asked early large e) = absurd (cc)
 timed_out_late (NumberRefused first crowded e) = absurd (cc)
@@ -189,7 +189,7 @@ any_changed_after s entry = list_any (λ change. nat_lt entry change.entry) s.ch
 pub refused_for_a_change : {start : Start} {s : State} {client now : ℕ} {c : ModelClient} {o : Op} {does : Does} {flush : Flush} {moved : Bool} {k : Compaction} {m n : ℕ}
     → IsRefusedIn start s client now c (record { op = o; does = does; flush = flush; stage = Compacting k; moved = moved }) (Contended (Lists m n)) → IsTrue (any_changed_after s k.first)
 refused_for_a_change (SessionGone asks gone e) = absurd (cc)
-refused_for_a_change (InodeGone asks here gone e) = absurd (cc)
+refused_for_a_change (InodeGone inode asks here given gone e) = absurd (cc)
 refused_for_a_change (CommitLate segment asked late e) = absurd (cc)
 refused_for_a_change (CommitTooLarge segment asked early large e) = absurd (cc)
 refused_for_a_change (NumberRefused first crowded e) = absurd (cc)
@@ -285,7 +285,7 @@ is_stats _ = false
 pub settled_not_refused : {start : Start} {s : State} {client now : ℕ} {c : ModelClient} {o : Op} {does : Does} {flush : Flush} {moved : Bool} {answer : Reply} {fault : Fault}
     → IsRefusedIn start s client now c (record { op = o; does = does; flush = flush; stage = Replying answer; moved = moved }) fault → ⊥
 settled_not_refused (SessionGone asks gone e) = absurd (cc)
-settled_not_refused (InodeGone asks here gone e) = absurd (cc)
+settled_not_refused (InodeGone inode asks here given gone e) = absurd (cc)
 settled_not_refused (CommitLate segment asked late e) = let few = asked.requests in absurd (omega (arith, few))
 settled_not_refused (CommitTooLarge segment asked early large e) = let few = asked.requests in absurd (omega (arith, few))
 settled_not_refused (NumberRefused first crowded e) = absurd (omega (arith, first))

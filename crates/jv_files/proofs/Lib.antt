@@ -1,9 +1,5 @@
--- Laws about stored files, and about the tree that has them.
+-- Laws about committed bytes, and about what stays of them.
 pub mod PaintLaws
-pub mod SpaceLaws
-pub mod AttemptLaws
-pub mod PathLaws
-pub mod SumLaws
-pub mod NodeLaws
 pub mod FileLaws
-pub mod TreeLaws
+pub mod GrowthLaws
+pub mod ListLaws

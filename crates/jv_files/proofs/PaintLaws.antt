@@ -6,7 +6,6 @@ use Rattle.std.proofs.lemmas.List.{get_or_append_left, get_or-append_right, get_
 use Rattle.std.proofs.lemmas.List.Edits.{get_or-between, length-between}
 use Rattle.std.specs.List.{between}
 use Rattle.jv_model.specs.journal.Reading.{bytes_from}
-use Rattle.jv_files.specs.declared.files.StoredFile.{StoredFile}
 use Rattle.jv_files.specs.declared.files.StoredSegment.{StoredSegment}
 use Rattle.jv_files.specs.Stored.{covers, shown_over, stored_byte}
 use Rattle.jv_files.specs.Shown.{shown_between}
@@ -107,12 +106,14 @@ module _ (byte : ℕ → ℕ) where
       ap (bytes_from byte (min from end)) none ∙ sym (ap (bytes_from byte from) none_left))
       (cases_lt from end)
 
--- once all segments are painted, the bytes are those that the file shows
-pub shown_all : (file : StoredFile) (segments : List StoredSegment) (bytes : List ℕ) (from to start end i : ℕ) → end ≡ min to file.length → start ≡ min from end
-    → segments ≡ file.segments → length segments ≤ i → length bytes ≡ end - start
-    → ((k : ℕ) → k < length bytes → slice_index bytes k ≡ shown_over 0 (take i segments) (start + k)) → bytes ≡ shown_between file from to
-shown_all file segments bytes from to start end i end_is start_is all past long each =
-    let whole : take i segments ≡ file.segments = take_all i segments past ∙ all in
-    same_bytes_from (stored_byte file.segments) bytes start (end - start) long (λ k less. each k (omega (arith, less, long)) ∙ ap (λ (xs : List StoredSegment). shown_over 0 xs (start + k)) whole)
-    ∙ ap (λ n. bytes_from (stored_byte file.segments) n (end - n)) start_is ∙ from_within (stored_byte file.segments) from end
-    ∙ ap (λ n. bytes_from (stored_byte file.segments) from (n - from)) end_is
+-- once all segments are painted, the bytes are those that a file of this length shows
+pub shown_all : (len : ℕ) (segments : List StoredSegment) (bytes : List ℕ) (from to start end i : ℕ)
+    → end ≡ min to len → start ≡ min from end → length segments ≤ i → length bytes ≡ end - start
+    → ((k : ℕ) → k < length bytes → slice_index bytes k ≡ shown_over 0 (take i segments) (start + k))
+    → bytes ≡ shown_between len segments from to
+shown_all len segments bytes from to start end i end_is start_is past long each =
+    let whole : take i segments ≡ segments = take_all i segments past in
+    same_bytes_from (stored_byte segments) bytes start (end - start) long
+    (λ k less. each k (omega (arith, less, long)) ∙ ap (λ (xs : List StoredSegment). shown_over 0 xs (start + k)) whole)
+    ∙ ap (λ n. bytes_from (stored_byte segments) n (end - n)) start_is ∙ from_within (stored_byte segments) from end
+    ∙ ap (λ n. bytes_from (stored_byte segments) from (n - from)) end_is

@@ -1,14 +1,14 @@
--- What a read gives of a stored file.
+-- What a read gives of a file's segments.
 use Rattle.std.specs.Prelude.{ℕ, ◌-◌, min, List, take}
 use Rattle.jv_model.specs.journal.Reading.{bytes_from}
 use Rattle.jv_files.specs.declared.files.Seen.{Seen}
-use Rattle.jv_files.specs.declared.files.StoredFile.{StoredFile}
+use Rattle.jv_files.specs.declared.files.StoredSegment.{StoredSegment}
 use Rattle.jv_files.specs.Stored.{stored_byte}
 
--- the bytes from a position up to another, as far as the file goes
-abbrev pub shown_between : StoredFile → ℕ → ℕ → List ℕ
-shown_between file from to = bytes_from (stored_byte file.segments) from (min to file.length - from)
+-- the bytes from a position up to another, as far as a file of this length goes
+abbrev pub shown_between : ℕ → List StoredSegment → ℕ → ℕ → List ℕ
+shown_between length segments from to = bytes_from (stored_byte segments) from (min to length - from)
 
--- a file as a look saw it: the length that it had then, and its first segments
-abbrev pub as_seen : Seen → StoredFile → StoredFile
-as_seen seen file = record { length = seen.length; segments = take seen.commits file.segments }
+-- the segments that a look saw: the first ones
+abbrev pub as_seen : Seen → List StoredSegment → List StoredSegment
+as_seen seen segments = take seen.commits segments

@@ -1,18 +1,15 @@
-//! Files in the root as plain data, each with its committed segments.
-ghost use Rattle.std.specs.Prelude.{◌≡◌, ℕ, ◌+◌, ◌-◌, ◌<◌, ◌≤◌, ◌^◌, [], ◌∷◌, ◌++◌, List, length, max, cond, slice_get, slice_set, slice_index, Some, None, IfOk, OnOk, OnErr, IsSome, IfSome, IsSomeAnd, if◌then◌else◌};
-ghost use Rattle.std.specs.Ordering.{nat_cmp, is_eq};
-ghost use Rattle.std.specs.Cmp.Lexicographic.{slice_cmp};
-ghost use Rattle.jv_model.specs.tree.Tree.{paged};
-ghost use Rattle.jv_files.specs.Stored.{inode_named, with_segment, space_of, covers, Creates, Commits, IsFile, OfFileAt};
+//! Bytes of files as plain data: the segments that were committed, by inode.
+ghost use Rattle.std.specs.Prelude.{◌≡◌, ℕ, ◌+◌, ◌-◌, ◌<◌, ◌≤◌, [], length, slice_index, IfOk, OnOk, OnErr, IsSome, if◌then◌else◌};
+ghost use Rattle.std.specs.BTreeMap.{get};
+ghost use Rattle.std.specs.Ordering.{nat_cmp};
+ghost use Rattle.jv_model.specs.declared.limits.TheConstants.{FILE_END};
+ghost use Rattle.jv_files.specs.Stored.{segments_at, covers, AddsSegment, LosesSegment, SameSegments};
 ghost use Rattle.jv_files.specs.Shown.{shown_between, as_seen};
 
-use jv_model::{Bytes, FILE_END, Path, SPACE_UNIT, Sequence, copied, push_in_room};
+use jv_model::{Bytes, FILE_END, Sequence, copied};
 use std::alloc::{AllocError, Global};
 use std::collections::BTreeMap;
 use std::marker::Model;
-
-/// The inode of the first file.
-const FIRST_INODE: u64 = 2;
 
 /// Bytes that one commit put into a file.
 #[derive(Debug, Drop)]
@@ -20,13 +17,6 @@ pub struct StoredSegment {
     /// The position of the first byte.
     pub from: u64,
     pub bytes: Bytes,
-}
-
-/// A file: its length and its commits, the latest last.
-#[derive(Debug, Drop)]
-pub struct StoredFile {
-    pub length: u64,
-    pub segments: Sequence<StoredSegment>,
 }
 
 /// What a look at a file shows: its length, and how many commits it had.
@@ -37,187 +27,116 @@ pub struct Seen {
     pub commits: usize,
 }
 
-/// Files in the root by their paths, and the space that they use. Inodes count up from 2.
+/// Segments by inode, in the order of their commits.
+type Segments = BTreeMap<u64, Vec<StoredSegment>>;
+
+/// The committed bytes of files, by inode, until they lie in blocks.
 #[derive(Drop)]
 pub struct Files {
     alloc: Global,
-    names: BTreeMap<Path, u64>,
-    files: Vec<StoredFile>,
-    used_space: u128,
+    segments: Segments,
 }
 
 impl Model for Files {
-    ghost use Rattle.jv_files.specs.Stored.{FilesValue, AreFiles};
+    ghost use Rattle.jv_files.specs.Stored.{FilesValue};
 
     ghost Value = { FilesValue };
 
-    ghost view = { λ v. record {
-      names = v.names.entries;
-      files = v.files.items;
-      used_space = v.used_space;
-    } };
-
-    ghost invariant = { λ v. AreFiles v.names.entries v.files.items v.used_space };
-}
-
-/// The space of a file of that length: whole units, at least one.
-fn paged(length: u64) -> u64
-    requires { length ≤ FILE_END }
-    ensures { result ≡ paged length }
-{
-    SPACE_UNIT.max(length.div_ceil(SPACE_UNIT) * SPACE_UNIT)
+    ghost view = { λ v. v.segments.entries };
 }
 
 impl Files {
-    /// No files. Takes no memory.
+    /// No bytes. Takes no memory.
     pub fn new(alloc: Global) -> Files
-        ensures { result ≡ record { names = []; files = []; used_space = 0 } }
+        ensures { result ≡ [] }
     {
         Files {
             alloc,
-            names: BTreeMap::new(alloc),
-            files: Vec::new(alloc),
-            used_space: 0,
+            segments: BTreeMap::new(alloc),
         }
     }
 
-    /// The inode of a path.
-    pub fn find(&self, path: &Path) -> Option<u64>
-        ensures inode { result ≡ inode_named self.now.names path.now }
-        ensures file { IfSome result (IsFile (length self.now.files)) }
+    /// The segments of an inode.
+    fn of(&self, inode: u64) -> &[StoredSegment]
+        ensures { result.now ≡ segments_at self.now inode }
     {
-        self.names.get(path).copied()
+        match self.segments.get(&inode) {
+            Some(segments) => segments.as_slice(),
+            None => &[],
+        }
     }
 
-    /// The number of files.
-    pub fn count(&self) -> u64
-        ensures count { result ≡ length self.now.files }
-        ensures small { result < 2 ^ 63 }
+    /// How many commits a file had.
+    pub fn commits(&self, inode: u64) -> usize
+        ensures { result ≡ length (segments_at self.now inode) }
     {
-        self.files.len() as u64
+        self.of(inode).len()
     }
 
-    /// Makes a file without bytes, and returns its inode. On error nothing has changed.
-    pub fn create(&mut self, path: &Path) -> Result<u64, AllocError>
-        ensures ok { IfOk result (λ inode. (inode ≡ 2 + length self.old.files) × Creates self.old
-            path.now self.new) }
-        ensures err { OnErr result (self.new ≡ self.old) }
-    {
-        let key = copied(self.alloc, path.as_slice())?;
-        let file = StoredFile {
-            length: 0,
-            segments: Sequence::new(self.alloc),
-        };
-        let inode = FIRST_INODE + self.files.len() as u64;
-        self.files.reserve(1)?;
-        self.names.insert(key, inode)?;
-        push_in_room(&mut self.files, file);
-        self.used_space += u128::from(SPACE_UNIT);
-        Ok(inode)
-    }
-
-    /// The space that all files use.
-    pub fn used_space(&self) -> u128
-        ensures { result ≡ self.now.used_space }
-    {
-        self.used_space
-    }
-
-    /// The space that all files use once one of them reaches at least to a position.
-    pub fn space_with(&self, inode: u64, end: u64) -> u128
-        requires file { IsFile (length self.now.files) inode }
-        requires end { end ≤ FILE_END }
-        ensures { IfSome (slice_get self.now.files (inode - 2)) (λ file.
-            result + paged file.length ≡ self.now.used_space + paged (max file.length end)) }
-    {
-        let length = self.files[(inode - FIRST_INODE) as usize].length;
-        self.used_space - u128::from(paged(length)) + u128::from(paged(length.max(end)))
-    }
-
-    /// Puts bytes into a file. On error nothing has changed.
+    /// Puts bytes into a file. On error no file's bytes have changed.
     pub fn commit(&mut self, inode: u64, from: u64, bytes: &[u8]) -> Result<(), AllocError>
-        requires file { IsFile (length self.old.files) inode }
-        requires end { from + length bytes.now ≤ FILE_END }
-        ensures ok { OnOk result (OfFileAt self.old inode (λ file.
-            Commits self.old (inode - 2) from bytes.now file self.new)) }
-        ensures counted { OnOk result (self.old.used_space ≡ space_of self.old.files) }
-        ensures err { OnErr result (self.new ≡ self.old) }
+        ensures ok { OnOk result (AddsSegment self.old self.new inode
+            (record { from = from; bytes = bytes.now })) }
+        ensures err { OnErr result (SameSegments self.old self.new) }
     {
-        let used_space = self.space_with(inode, from + bytes.len() as u64);
         let bytes = copied(self.alloc, bytes)?;
-        add_segment(&mut self.files, (inode - FIRST_INODE) as usize, from, bytes)?;
-        self.used_space = used_space;
-        Ok(())
+        make_list(self.alloc, &mut self.segments, inode)?;
+        push_segment(&mut self.segments, inode, StoredSegment { from, bytes })
     }
 
-    /// The bytes of a file from one position up to another, as far as the file goes.
-    pub fn read(&self, inode: u64, from: u64, to: u64) -> Result<Bytes, AllocError>
-        requires file { IsFile (length self.now.files) inode }
-        requires end { to ≤ FILE_END }
-        ensures { IfOk result (λ bytes.
-            OfFileAt self.now inode (λ file. bytes ≡ shown_between file from to)) }
+    /// Takes back the last commit of a file, which had one.
+    pub fn take_back(&mut self, inode: u64)
+        requires { 0 < length (segments_at self.old inode) }
+        ensures { LosesSegment self.old self.new inode }
     {
-        let file = &self.files[(inode - FIRST_INODE) as usize];
-        shown(self.alloc, file.length, file.segments.as_slice(), from, to)
-    }
-
-    /// What a look at a file shows now.
-    pub fn look(&self, inode: u64) -> Seen
-        requires { IsFile (length self.now.files) inode }
-        ensures { OfFileAt self.now inode (λ file. (result.length ≡ file.length) × (result.commits
-            ≡ length file.segments)) }
-    {
-        let file = &self.files[(inode - FIRST_INODE) as usize];
-        Seen {
-            length: file.length,
-            commits: file.segments.len(),
-        }
+        pop_segment(&mut self.segments, inode);
     }
 
     /// The bytes of a file as a look saw it, from one position up to another, as far as the file went then.
     pub fn read_seen(&self, inode: u64, seen: Seen, from: u64, to: u64) -> Result<Bytes, AllocError>
-        requires file { IsFile (length self.now.files) inode }
-        requires end { to ≤ FILE_END }
-        ensures { IfOk result (λ bytes.
-            OfFileAt self.now inode (λ file. bytes ≡ shown_between (as_seen seen file) from to)) }
+        requires { to ≤ FILE_END }
+        ensures { IfOk result (λ bytes. bytes
+            ≡ shown_between seen.length (as_seen seen (segments_at self.now inode)) from to) }
     {
-        let file = &self.files[(inode - FIRST_INODE) as usize];
-        let commits = seen.commits.min(file.segments.len());
-        let segments = &file.segments.as_slice()[..commits];
-        shown(self.alloc, seen.length, segments, from, to)
+        let segments = self.of(inode);
+        let commits = seen.commits.min(segments.len());
+        shown(self.alloc, seen.length, &segments[..commits], from, to)
     }
 }
 
-impl StoredFile {
-    ghost use Rattle.jv_files.specs.Stored.{with_segment};
-
-    /// Puts bytes into the file. On error nothing has changed.
-    fn add(&mut self, from: u64, bytes: Bytes) -> Result<(), AllocError>
-        requires { from + length bytes < 2 ^ 64 }
-        ensures ok { OnOk result (self.new ≡ with_segment from bytes self.old) }
-        ensures err { OnErr result (self.new ≡ self.old) }
-    {
-        let length = self.length.max(from + bytes.len() as u64);
-        self.segments.push(StoredSegment { from, bytes })?;
-        self.length = length;
-        Ok(())
-    }
-}
-
-fn add_segment(
-    files: &mut [StoredFile],
-    index: usize,
-    from: u64,
-    bytes: Bytes,
-) -> Result<(), AllocError>
-    requires index { index < length files.old }
-    requires end { from + length bytes < 2 ^ 64 }
-    ensures ok { OnOk result (IfSome (slice_get files.old index) (λ file.
-        files.new ≡ slice_set files.old index (with_segment from bytes file))) }
-    ensures err { OnErr result (files.new ≡ files.old) }
+/// Makes sure that an inode has a list of segments, an empty one where there was none. No file's bytes have changed.
+fn make_list(alloc: Global, segments: &mut Segments, inode: u64) -> Result<(), AllocError>
+    ensures same { SameSegments segments.old.entries segments.new.entries }
+    ensures there { OnOk result (IsSome (get nat_cmp segments.new inode)) }
 {
-    let file = &mut files[index];
-    file.add(from, bytes)
+    if !segments.contains_key(&inode) {
+        segments.insert(inode, Vec::new(alloc))?;
+    }
+    Ok(())
+}
+
+/// Puts a segment behind those of an inode that has a list. On error no file's bytes have changed.
+fn push_segment(
+    segments: &mut Segments,
+    inode: u64,
+    segment: StoredSegment,
+) -> Result<(), AllocError>
+    requires { IsSome (get nat_cmp segments.old inode) }
+    ensures ok { OnOk result (AddsSegment segments.old.entries segments.new.entries inode segment) }
+    ensures err { OnErr result (SameSegments segments.old.entries segments.new.entries) }
+{
+    segments.get_mut(&inode).unwrap().push(segment)?;
+    Ok(())
+}
+
+/// Takes away the last segment of an inode, which has one.
+fn pop_segment(segments: &mut Segments, inode: u64)
+    requires { 0 < length (segments_at segments.old.entries inode) }
+    ensures { LosesSegment segments.old.entries segments.new.entries inode }
+{
+    if let Some(own) = segments.get_mut(&inode) {
+        own.pop();
+    }
 }
 
 /// The bytes of a file of this length from one position up to another, as far as the file goes: each segment is painted
@@ -230,8 +149,7 @@ fn shown(
     to: u64,
 ) -> Result<Bytes, AllocError>
     requires { to ≤ FILE_END }
-    ensures { IfOk result (λ bytes.
-        bytes ≡ shown_between (record { length = length; segments = segments.now }) from to) }
+    ensures { IfOk result (λ bytes. bytes ≡ shown_between length segments.now from to) }
 {
     let end = to.min(length);
     let start = from.min(end);

@@ -1,6 +1,6 @@
-//! Files in memory: their paths in the root, their lengths, and the segments that were committed to them.
+//! The committed bytes of files in memory, by inode, until they lie in blocks.
 #![tactic(auto)]
 
 mod files;
 
-pub use files::{Files, Seen, StoredFile, StoredSegment};
+pub use files::{Files, Seen, StoredSegment};

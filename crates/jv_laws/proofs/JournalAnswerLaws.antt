@@ -61,7 +61,7 @@ none_row s c d r table key false h = none_cleaned s c d r MoreBlocks h.1
 module _ (start : Start) (alone : Bool) (s : State) (client now : ℕ) (c : ModelClient) (d : Doing) (r : Reply) (no_answer : (told : Answer) → d.does ≡ Answers told → ⊥) where
   none_refused : (fault : Fault) → IsRefusedIn start s client now c (settled_doing d r) fault → ⊥
   none_refused fault (SessionGone a b e) = cc
-  none_refused fault (InodeGone a b g e) = cc
+  none_refused fault (InodeGone inode a b g n e) = cc
   none_refused fault (CommitLate segment a b e) = let q = a.requests in omega arith
   none_refused fault (CommitTooLarge segment a b g e) = let q = a.requests in omega arith
   none_refused fault (NumberRefused q b e) = omega arith

@@ -19,13 +19,17 @@ use Rattle.jv_links.specs.declared.fates.Fate.{Fate}
 use Rattle.jv_links.specs.declared.fates.Removed.{Removed}
 use Rattle.jv_links.specs.Removals.{MayLose, TellsFate, is_kept}
 use Rattle.jv_links.specs.Replacements.{MayClear, TellsCleared}
-use Rattle.jv_links.proofs.DraftSteps.{steps-then, steps-ended, step-as, step-fails, step-value, drafting-err, drafting-exit}
+use Rattle.jv_changes.proofs.DraftSteps.{steps-then, steps-ended, step-as, step-fails, step-value, drafting-err, drafting-exit}
 use Rattle.jv_links.proofs.RemovalStepLaws.{stands_at, empty_apart, empty_goes}
 use Rattle.jv_links.proofs.UnlinkLaws.{kept-remove_entry}
 
 module _ (t : Tree) (who : Caller) (place : EntryKey) (inode : ℕ) where
   abbrev by_kind : Bool → Tree
-  by_kind b = elim b as (λ _. Tree) [ true ↦ remove_directory t who.now place inode | false ↦ remove_entry t who place inode ]
+  by_kind b = elim b as (λ _. Tree) [
+    | true ↦ remove_directory t who.now place inode
+    | false ↦
+        remove_entry t who place inode
+  ]
 
   target_dir : is_directory t inode ≡ true → without_target t who place inode ≡ remove_directory t who.now place inode
   target_dir e = ap by_kind e
@@ -59,26 +63,32 @@ module _ (who : Caller) (place : EntryKey) (inode : ℕ) (was : List Change) (be
     drops t = Ok (drop_node t inode)
 
     -- its entry wasn't taken
-    pub clear-not_taken : (result : Result (Option Removed) TxFault) (fault : TxFault) → IsErrAnd result (λ e. e ≡ fault)
+    pub clear-not_taken : (result : Result (Option Removed) TxFault) (fault : TxFault)
+        → IsErrAnd result (λ e. e ≡ fault)
         → Drafting {A = Unit {0}} (λ t. StandsAt t place inode) was taken before middle (Err fault) takes
         → Drafting is_empty was taken before middle result step
     clear-not_taken result fault is d = drafting-exit is_empty was taken before middle step result fault is
-        (step-fails (λ t. StandsAt t place inode) is_empty was taken before middle fault takes step (λ t. take_entry t now place)
+        (step-fails (λ t. StandsAt t place inode) is_empty was taken before middle fault takes step
+        (λ t. take_entry t now place)
         (λ t m. stands t who place inode m) (λ t m. refl) d)
 
-    module _ (d : Drafting {A = Unit {0}} (λ t. StandsAt t place inode) was taken before middle (Ok tt) takes) (changes : List Change) (after : Store) where
+    module _ (d : Drafting {A = Unit {0}} (λ t. StandsAt t place inode) was taken before middle (Ok tt) takes)
+        (changes : List Change) (after : Store) where
       took : Drafting {A = Unit {0}} is_empty was taken before middle (Ok tt) takes
-      took = step-as {A = Unit {0}} (λ t. StandsAt t place inode) is_empty was taken before middle (Ok (tt {0})) takes takes (λ t m. stands t who place inode m) (λ t m. refl) d
+      took = step-as {A = Unit {0}} (λ t. StandsAt t place inode) is_empty was taken before middle
+          (Ok (tt {0})) takes takes (λ t m. stands t who place inode m) (λ t m. refl) d
 
       goes : (t : Tree) → is_empty t → MayGo (take_entry t now place) inode
       goes t m = empty_goes t place inode m.whole m.is now m.kind (vacant_dir t who place inode m) m.goes
 
       -- its node wasn't dropped
-      pub clear-not_dropped : (result : Result (Option Removed) TxFault) (fault : TxFault) → IsErrAnd result (λ e. e ≡ fault)
+      pub clear-not_dropped : (result : Result (Option Removed) TxFault) (fault : TxFault)
+          → IsErrAnd result (λ e. e ≡ fault)
           → Drafting {A = Unit {0}} (λ t. MayGo t inode) taken changes middle after (Err fault) drops
           → Drafting is_empty was changes before after result step
       clear-not_dropped result fault is e = drafting-exit is_empty was changes before after step result fault is
-          (steps-ended is_empty was taken changes before middle after (tt {0}) takes (λ t. take_entry t now place) took (λ known at bytes t m r. refl)
+          (steps-ended is_empty was taken changes before middle after (tt {0}) takes (λ t. take_entry t now place) took
+          (λ known at bytes t m r. refl)
           (λ t. MayGo t inode) drops step (λ t. drop_node (take_entry t now place) inode) fault e
           (λ known at bytes t m r. goes t r) (λ known at bytes t m r. refl))
 
@@ -86,16 +96,20 @@ module _ (who : Caller) (place : EntryKey) (inode : ℕ) (was : List Change) (be
       pub clear-dropped : Drafting {A = Unit {0}} (λ t. MayGo t inode) taken changes middle after (Ok tt) drops
           → Drafting {A = Option Removed} is_empty was changes before after (Ok None) step
       clear-dropped e = step-value is_empty was changes before after (tt {0}) None step
-          (steps-then is_empty was taken changes before middle after (tt {0}) takes (λ t. take_entry t now place) took (λ known at bytes t m r. refl)
+          (steps-then is_empty was taken changes before middle after (tt {0}) takes (λ t. take_entry t now place) took
+          (λ known at bytes t m r. refl)
           (λ t. MayGo t inode) drops step (Ok (tt {0})) e
           (λ known at bytes t m r. goes t r)
-          (λ known at bytes t m r. ap (λ n. Ok (remove_directory t n place inode)) (sym same) ∙ ap Ok (sym (target_dir t who place inode r.kind))))
+          (λ known at bytes t m r. ap (λ n. Ok (remove_directory t n place inode)) (sym same) ∙ ap Ok
+          (sym (target_dir t who place inode r.kind))))
 
   -- no session keeps it
   pub clear-tells_none : TellsCleared who place inode true was before (Ok None)
   clear-tells_none known at bytes t m r i =
-      ap (λ (u : Tree). is_sustained u who.sid i && not (is_sustained t who.sid i)) (target_dir t who place inode r.kind)
-      ∙ ap (λ p. is_some (get p (record { sid = who.sid; inode = i })) && not (is_sustained t who.sid i)) (change_node-sustained t place.dir (touched who.now))
+      ap (λ (u : Tree). is_sustained u who.sid i && not (is_sustained t who.sid i))
+      (target_dir t who place inode r.kind)
+      ∙ ap (λ p. is_some (get p (record { sid = who.sid; inode = i })) && not (is_sustained t who.sid i))
+      (change_node-sustained t place.dir (touched who.now))
       ∙ and-not_self (is_sustained t who.sid i)
 
   -- ---- a file or a symlink
@@ -106,13 +120,16 @@ module _ (who : Caller) (place : EntryKey) (inode : ℕ) (was : List Change) (be
   abbrev loses : Tree → Result Tree Fault
   loses t = Ok (remove_entry t who place inode)
 
-  as_target : {A : Type 0} (changes : List Change) (after : Store) (result : Result A TxFault) → Drafting (λ t. MayLose t who place inode) was changes before after result loses
+  as_target : {A : Type 0} (changes : List Change) (after : Store) (result : Result A TxFault)
+      → Drafting (λ t. MayLose t who place inode) was changes before after result loses
       → Drafting is_leaf was changes before after result step
-  as_target changes after result d = step-as (λ t. MayLose t who place inode) is_leaf was changes before after result loses step
+  as_target changes after result d = step-as (λ t. MayLose t who place inode) is_leaf was changes before after result
+      loses step
       (λ t m. may_lose t who place inode m) (λ t m. ap Ok (sym (target_leaf t who place inode m.kind))) d
 
   -- it didn't lose its entry
-  pub clear-not_lost : (changes : List Change) (after : Store) (result : Result (Option Removed) TxFault) (fault : TxFault) → IsErrAnd result (λ e. e ≡ fault)
+  pub clear-not_lost : (changes : List Change) (after : Store) (result : Result (Option Removed) TxFault)
+      (fault : TxFault) → IsErrAnd result (λ e. e ≡ fault)
       → Drafting {A = Fate} (λ t. MayLose t who place inode) was changes before after (Err fault) loses
       → Drafting is_leaf was changes before after result step
   clear-not_lost changes after result fault is d = drafting-exit is_leaf was changes before after step result fault is
@@ -120,12 +137,16 @@ module _ (who : Caller) (place : EntryKey) (inode : ℕ) (was : List Change) (be
 
   -- it did
   pub clear-lost : (changes : List Change) (after : Store) (fate : Fate) (removed : Option Removed)
-      → Drafting (λ t. MayLose t who place inode) was changes before after (Ok fate) loses → Drafting is_leaf was changes before after (Ok removed) step
-  clear-lost changes after fate removed d = step-value is_leaf was changes before after fate removed step (as_target changes after (Ok fate) d)
+      → Drafting (λ t. MayLose t who place inode) was changes before after (Ok fate) loses
+      → Drafting is_leaf was changes before after (Ok removed) step
+  clear-lost changes after fate removed d = step-value is_leaf was changes before after fate removed step
+      (as_target changes after (Ok fate) d)
 
   -- the session keeps it where that is its fate
-  pub clear-tells : (fate : Fate) → TellsFate who place inode was before (Ok fate) → TellsCleared who place inode false was before (Ok (Some (record { inode = inode; fate = fate })))
+  pub clear-tells : (fate : Fate) → TellsFate who place inode was before (Ok fate)
+      → TellsCleared who place inode false was before (Ok (Some (record { inode = inode; fate = fate })))
   clear-tells fate tells known at bytes t m r i =
-      ap (λ (u : Tree). is_sustained u who.sid i && not (is_sustained t who.sid i)) (target_leaf t who place inode r.kind)
+      ap (λ (u : Tree). is_sustained u who.sid i && not (is_sustained t who.sid i))
+      (target_leaf t who place inode r.kind)
       ∙ kept-remove_entry t who place inode (may_lose t who place inode r) i
       ∙ ap (λ f. is_kept f && (inode == i)) (sym (tells known at bytes t m (may_lose t who place inode r)))

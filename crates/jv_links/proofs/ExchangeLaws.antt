@@ -43,16 +43,21 @@ use Rattle.jv_links.specs.Moves.{EndsStand, IsOverMove, Renames, Stands, place_o
 use Rattle.jv_links.proofs.FreeMoveLaws.{tested_by, refused_by, within-sustained}
 use Rattle.jv_links.proofs.TellLaws.{has_node, links_low, tells_none}
 
-move_in-sustained : (t : Tree) (now : ℕ) (place : EntryKey) (inode : ℕ) → (move_in t now place inode).sustained ≡ t.sustained
+move_in-sustained : (t : Tree) (now : ℕ) (place : EntryKey) (inode : ℕ)
+    → (move_in t now place inode).sustained ≡ t.sustained
 move_in-sustained t now place inode =
-    change_node-sustained (put_entry t now place inode) inode (moved_node now place.dir) ∙ change_node-sustained t place.dir (touched now)
+    change_node-sustained (put_entry t now place inode) inode (moved_node now place.dir)
+    ∙ change_node-sustained t place.dir (touched now)
 
 -- an exchange keeps what sessions keep
-exchanged-sustained : (t : Tree) (now : ℕ) (from : EntryKey) (source : ℕ) (to : EntryKey) (other : ℕ) → (exchanged t now from source to other).sustained
+exchanged-sustained : (t : Tree) (now : ℕ) (from : EntryKey) (source : ℕ) (to : EntryKey) (other : ℕ)
+    → (exchanged t now from source to other).sustained
     ≡ t.sustained
-exchanged-sustained t now from source to other = move_in-sustained (move_in t now to source) now from other ∙ move_in-sustained t now to source
+exchanged-sustained t now from source to other = move_in-sustained (move_in t now to source) now from other
+    ∙ move_in-sustained t now to source
 
-module _ (who : Caller) (ends : Ends) (place : Place) (before : Store) (stand : EndsStand before ends) (stands : Stands before place)
+module _ (who : Caller) (ends : Ends) (place : Place) (before : Store) (stand : EndsStand before ends)
+    (stands : Stands before place)
     (apart : ends.source.inode ≢ place.inode)
     (low_source : ends.source.node.nlink ≤ MAX_LINKS) (low_other : place.node.nlink ≤ MAX_LINKS) where
   abbrev from : EntryKey
@@ -83,7 +88,8 @@ module _ (who : Caller) (ends : Ends) (place : Place) (before : Store) (stand : 
   climbs_back t = Ok (is_inside t from.dir other)
 
   abbrev climbed : Tree → Bool → Result Outcome Fault
-  climbed t inside = climbs_back t >>= (λ beside. require (not (inside || beside)) Invalid >>= (λ _. within_links from to (swapped t)))
+  climbed t inside = climbs_back t >>=
+      (λ beside. require (not (inside || beside)) Invalid >>= (λ _. within_links from to (swapped t)))
 
   abbrev climbed_back : Tree → Bool → Result Outcome Fault
   climbed_back t beside = require (not beside) Invalid >>= (λ _. within_links from to (swapped t))
@@ -98,12 +104,14 @@ module _ (who : Caller) (ends : Ends) (place : Place) (before : Store) (stand : 
   pub exchange-not_climbed : (after : Store) (fault : TxFault) → Looks {A = Bool} before after (Err fault) climbs
       → Renames who.sid ready before after (Err fault) act
   exchange-not_climbed after fault l = record {
-    does = transacts-refused ready before after reply act fault (past-stops before before after act climbs climbed started fault l);
+    does = transacts-refused ready before after reply act fault
+        (past-stops before before after act climbs climbed started fault l);
     tells = tt;
   }
 
   -- the source would come into itself
-  pub exchange-inside : (after : Store) → Looks before after (Ok true) climbs → Renames who.sid ready before after (Err (Refused Invalid)) act
+  pub exchange-inside : (after : Store) → Looks before after (Ok true) climbs
+      → Renames who.sid ready before after (Err (Refused Invalid)) act
   exchange-inside after l = record {
     does = transacts-refused ready before after reply act (Refused Invalid)
         (past-refuses before after act Invalid (past-looks before before after act climbs climbed started true l));
@@ -118,15 +126,18 @@ module _ (who : Caller) (ends : Ends) (place : Place) (before : Store) (stand : 
     pub exchange-not_back : (after : Store) (fault : TxFault) → Looks {A = Bool} between after (Err fault) climbs_back
         → Renames who.sid ready before after (Err fault) act
     exchange-not_back after fault l = record {
-      does = transacts-refused ready before after reply act fault (past-stops before between after act climbs_back climbed_back halfway fault l);
+      does = transacts-refused ready before after reply act fault
+          (past-stops before between after act climbs_back climbed_back halfway fault l);
       tells = tt;
     }
 
     -- the other one would come into itself
-    pub exchange-beside : (after : Store) → Looks between after (Ok true) climbs_back → Renames who.sid ready before after (Err (Refused Invalid)) act
+    pub exchange-beside : (after : Store) → Looks between after (Ok true) climbs_back
+        → Renames who.sid ready before after (Err (Refused Invalid)) act
     exchange-beside after l = record {
       does = transacts-refused ready before after reply act (Refused Invalid)
-          (past-refuses before after act Invalid (past-looks before between after act climbs_back climbed_back halfway true l));
+          (past-refuses before after act Invalid
+          (past-looks before between after act climbs_back climbed_back halfway true l));
       tells = tt;
     }
 
@@ -135,10 +146,12 @@ module _ (who : Caller) (ends : Ends) (place : Place) (before : Store) (stand : 
       rest t = within_links from to (swapped t)
 
       started_steps : PastSteps ready before middle [] (λ t. t) act rest
-      started_steps = steps-start ready before middle act rest (past-looks before between middle act climbs_back climbed_back halfway false second)
+      started_steps = steps-start ready before middle act rest
+          (past-looks before between middle act climbs_back climbed_back halfway false second)
 
       outside : OfWhole ready before (λ t. is_inside t to.dir source ≡ false)
-      outside known is whole bytes r = same_Ok (is_inside (tree_of bytes (typed known)) to.dir source) false (first.agrees known is whole bytes)
+      outside known is whole bytes r = same_Ok (is_inside (tree_of bytes (typed known)) to.dir source) false
+          (first.agrees known is whole bytes)
 
       beside : OfWhole ready before (λ t. is_inside t from.dir other ≡ false)
       beside known is whole bytes r = same_Ok (is_inside (tree_of bytes (typed known)) from.dir other) false
@@ -168,7 +181,8 @@ module _ (who : Caller) (ends : Ends) (place : Place) (before : Store) (stand : 
             (has_node before other place known stands.row is whole bytes) low_other;
       }
 
-      module _ (now : ℕ) (same_now : who.now ≡ now) (was : List Change) (none : was ≡ []) (changes : List Change) (next : Store) where
+      module _ (now : ℕ) (same_now : who.now ≡ now) (was : List Change) (none : was ≡ []) (changes : List Change)
+          (next : Store) where
         abbrev step_ready : Tree → Type 0
         step_ready t = MayExchange t from source to other
 
@@ -176,16 +190,22 @@ module _ (who : Caller) (ends : Ends) (place : Place) (before : Store) (stand : 
         step = exchanged_within who.now from source to other
 
         abbrev Exchanging : Result (Unit {0}) TxFault → Type 0
-        Exchanging result = Drafting step_ready was changes middle next result (exchanged_within now from source to other)
+        Exchanging result = Drafting step_ready was changes middle next result
+            (exchanged_within now from source to other)
 
-        as_model : (result : Result (Unit {0}) TxFault) → Exchanging result → Drafting step_ready [] changes middle next result step
-        as_model result d = subst (λ n. Drafting step_ready [] changes middle next result (exchanged_within n from source to other)) (sym same_now)
-            (subst (λ (w : List Change). Drafting step_ready w changes middle next result (exchanged_within now from source to other)) none d)
+        as_model : (result : Result (Unit {0}) TxFault) → Exchanging result
+            → Drafting step_ready [] changes middle next result step
+        as_model result d = subst (λ n. Drafting step_ready [] changes middle next result
+            (exchanged_within n from source to other)) (sym same_now)
+            (subst (λ (w : List Change). Drafting step_ready w changes middle next result
+            (exchanged_within now from source to other)) none d)
 
         -- the entries weren't exchanged
-        pub exchange-not_made : (fault : TxFault) → Exchanging (Err fault) → Renames who.sid ready before next (Err fault) act
+        pub exchange-not_made : (fault : TxFault) → Exchanging (Err fault)
+            → Renames who.sid ready before next (Err fault) act
         exchange-not_made fault d = record {
-          does = steps-stop ready before middle next [] changes (λ t. t) reply act rest started_steps fault step_ready step (as_model (Err fault) d)
+          does = steps-stop ready before middle next [] changes (λ t. t) reply act rest started_steps fault step_ready
+              step (as_model (Err fault) d)
               may_exchange
               (λ known is whole bytes r refused h. (let after = swapped (tree_of bytes (typed known)) in
               refused_by (links_fit after from.dir && links_fit after to.dir) after refused h));
@@ -194,15 +214,18 @@ module _ (who : Caller) (ends : Ends) (place : Place) (before : Store) (stand : 
 
         module _ (d : Exchanging (Ok tt)) where
           made : OfWhole ready before (λ t. (left : Tree) × (step t ≡ Ok left))
-          made = steps-made ready before middle next [] changes (λ t. t) act rest started_steps tt step_ready step (as_model (Ok tt) d) may_exchange
+          made = steps-made ready before middle next [] changes (λ t. t) act rest started_steps tt step_ready step
+              (as_model (Ok tt) d) may_exchange
 
-          fits : OfWhole ready before (λ t. (let after = swapped t in (links_fit after from.dir && links_fit after to.dir) ≡ true))
+          fits : OfWhole ready before (λ t. (let after = swapped t in
+              (links_fit after from.dir && links_fit after to.dir) ≡ true))
           fits known is whole bytes r =
               (let after = swapped (tree_of bytes (typed known)) in let m = made known is whole bytes r in
               (tested_by (links_fit after from.dir && links_fit after to.dir) after m.0 m.1).0)
 
           stepped : PastSteps ready before next changes swapped act rest
-          stepped = steps-on ready before middle next [] changes (λ t. t) act rest started_steps tt step_ready step swapped (as_model (Ok tt) d) may_exchange
+          stepped = steps-on ready before middle next [] changes (λ t. t) act rest started_steps tt step_ready step
+              swapped (as_model (Ok tt) d) may_exchange
               (λ known is whole bytes r. (let after = swapped (tree_of bytes (typed known)) in
               ap (λ b. require b NoSpace >>= (λ _. Ok after)) (fits known is whole bytes r)))
 
@@ -210,26 +233,32 @@ module _ (who : Caller) (ends : Ends) (place : Place) (before : Store) (stand : 
           pub exchange-not_committed : (after : Store) (down : Down) → Commits next after (Err down) changes
               → Renames who.sid ready before after (Err (OfRows (row_fault down))) act
           exchange-not_committed after down c = record {
-            does = steps-fail ready before next after changes changes swapped reply act rest stepped (OfRows (row_fault down))
+            does = steps-fail ready before next after changes changes swapped reply act rest stepped
+                (OfRows (row_fault down))
                 (fails-commit next after down changes c);
             tells = tt;
           }
 
           told : (t : Tree) (o : Outcome) → act t ≡ Ok o → o.tree.sustained ≡ t.sustained
           told t o h =
-              let on = went_on (require (not (is_inside t to.dir source || is_inside t from.dir other)) Invalid) (λ _. within_links from to (swapped t)) o h in
+              let on = went_on (require (not (is_inside t to.dir source || is_inside t from.dir other)) Invalid)
+              (λ _. within_links from to (swapped t)) o h in
               within-sustained from to t (swapped t) o (exchanged-sustained t who.now from source to other) on.2
 
           -- they were
-          pub exchange-made : (after : Store) → Commits next after (Ok tt) changes → Renames who.sid ready before after (Ok None) act
+          pub exchange-made : (after : Store) → Commits next after (Ok tt) changes
+              → Renames who.sid ready before after (Ok None) act
           exchange-made after c = record {
             does = steps-commit ready before next after changes changes swapped reply act rest stepped None c
                 (λ known is whole bytes r. (let left = swapped (tree_of bytes (typed known)) in
                 ap (λ b. require b NoSpace >>= (λ _. done left)) (fits known is whole bytes r)))
                 (λ known is whole bytes r. (let t = tree_of bytes (typed known) in
-                whole-exchanged t who.now from source to other (whole-shape bytes (typed known) whole) r.move.is r.there apart
+                whole-exchanged t who.now from source to other (whole-shape bytes (typed known) whole) r.move.is r.there
+                apart
                 (and_parts (may_go from) (may_be_new from) r.move.leaves).1 r.move.enters
-                (or_from (is_inside t to.dir source) (is_inside t from.dir other) (outside known is whole bytes r) (beside known is whole bytes r))));
-            tells = λ known is whole bytes r inode. tells_none (tree_of bytes (typed known)) who.sid (act (tree_of bytes (typed known)))
+                (or_from (is_inside t to.dir source) (is_inside t from.dir other) (outside known is whole bytes r)
+                (beside known is whole bytes r))));
+            tells = λ known is whole bytes r inode. tells_none (tree_of bytes (typed known)) who.sid
+                (act (tree_of bytes (typed known)))
                 (told (tree_of bytes (typed known))) inode;
           }

@@ -25,7 +25,8 @@ set_node-is : (t : Tree) (k : ℕ) (o : Option Node) → set_node t k o ≡ reco
 set_node-is t k None = refl
 set_node-is t k (Some node) = refl
 
-change_node-is : (t : Tree) (k : ℕ) (change : Node → Node) → change_node t k change ≡ record t { nodes = nodes_changed t.nodes k change }
+change_node-is : (t : Tree) (k : ℕ) (change : Node → Node)
+    → change_node t k change ≡ record t { nodes = nodes_changed t.nodes k change }
 change_node-is t k change = set_node-is t k (option_map change (node_at t k))
 
 -- a node changed by a test
@@ -46,10 +47,12 @@ get-nodes_changed m k change q = by_test (is_at q k) refl (get m k) refl
     same : is_at q k ≡ true → get m q ≡ get m k
     same e = ap (get m) (tied_same number_key k q e)
 
-    put : (node : Node) (b : Bool) → is_at q k ≡ b → get (insert m k (change node)) q ≡ cond b (Some (change node)) (get m q)
+    put : (node : Node) (b : Bool) → is_at q k ≡ b
+        → get (insert m k (change node)) q ≡ cond b (Some (change node)) (get m q)
     put node b e = get-insert m k (change node) q ∙ ap (λ b. cond b (Some (change node)) (get m q)) e
 
-    by_test : (b : Bool) → is_at q k ≡ b → (o : Option Node) → get m k ≡ o → get (nodes_with m k (option_map change o)) q
+    by_test : (b : Bool) → is_at q k ≡ b → (o : Option Node) → get m k ≡ o
+        → get (nodes_with m k (option_map change o)) q
         ≡ option_map (changed_if b change) (get m q)
     by_test true e None h = same e ∙ h ∙ sym (ap (option_map (changed_if true change)) (same e ∙ h))
     by_test true e (Some node) h = put node true e ∙ sym (ap (option_map (changed_if true change)) (same e ∙ h))
@@ -61,7 +64,8 @@ still_some change None = refl
 still_some change (Some node) = refl
 
 -- a change of a node leaves the same nodes there
-pub there-change_node : (t : Tree) (k : ℕ) (change : Node → Node) (q : ℕ) → is_some (node_at (change_node t k change) q) ≡ is_some (node_at t q)
+pub there-change_node : (t : Tree) (k : ℕ) (change : Node → Node) (q : ℕ)
+    → is_some (node_at (change_node t k change) q) ≡ is_some (node_at t q)
 there-change_node t k change q =
     ap (λ (u : Tree). is_some (node_at u q)) (change_node-is t k change)
     ∙ ap is_some (get-nodes_changed t.nodes k change q) ∙ still_some (changed_if (is_at q k) change) (get t.nodes q)
@@ -71,20 +75,34 @@ there-change_node t k change q =
 module _ (now : ℕ) where
   take_entry-is : (t : Tree) (place : EntryKey) → take_entry t now place
       ≡ record t { nodes = nodes_changed t.nodes place.dir (touched now); entries = remove t.entries place }
-  take_entry-is t place = ap (λ (u : Tree). record u { entries = remove t.entries place }) (change_node-is t place.dir (touched now))
+  take_entry-is t place = ap (λ (u : Tree). record u { entries = remove t.entries place })
+      (change_node-is t place.dir (touched now))
 
   put_entry-is : (t : Tree) (place : EntryKey) (inode : ℕ)
-      → put_entry t now place inode ≡ record t { nodes = nodes_changed t.nodes place.dir (touched now); entries = insert t.entries place inode }
-  put_entry-is t place inode = ap (λ (u : Tree). record u { entries = insert t.entries place inode }) (change_node-is t place.dir (touched now))
+      → put_entry t now place inode ≡ record t {
+        nodes = nodes_changed t.nodes place.dir (touched now);
+        entries =
+            insert t.entries place inode;
+      }
+  put_entry-is t place inode = ap (λ (u : Tree). record u { entries = insert t.entries place inode })
+      (change_node-is t place.dir (touched now))
 
   abbrev moved_nodes : Nodes → ℕ → ℕ → Nodes
   moved_nodes m dir inode = nodes_changed (nodes_changed m dir (touched now)) inode (moved_node now dir)
 
   move_in-is : (t : Tree) (place : EntryKey) (inode : ℕ)
-      → move_in t now place inode ≡ record t { nodes = moved_nodes t.nodes place.dir inode; entries = insert t.entries place inode }
+      → move_in t now place inode ≡ record t {
+        nodes = moved_nodes t.nodes place.dir inode;
+        entries =
+            insert t.entries place inode;
+      }
   move_in-is t place inode =
       ap (λ (u : Tree). change_node u inode (moved_node now place.dir)) (put_entry-is t place inode)
-      ∙ change_node-is (record t { nodes = nodes_changed t.nodes place.dir (touched now); entries = insert t.entries place inode }) inode
+      ∙ change_node-is (record t {
+        nodes = nodes_changed t.nodes place.dir (touched now);
+        entries =
+            insert t.entries place inode;
+      }) inode
       (moved_node now place.dir)
 
   get-moved_nodes : (m : Nodes) (dir inode q : ℕ)
@@ -98,7 +116,8 @@ module _ (now : ℕ) where
   touched_before : (to_dir : ℕ) (from_is source_is to_is : Bool) (node : Node)
       → changed_if from_is (touched now) (changed_if source_is (moved_node now to_dir)
       (changed_if to_is (touched now) (changed_if to_is (touched now) (changed_if from_is (touched now) node))))
-      ≡ changed_if from_is (touched now) (changed_if source_is (moved_node now to_dir) (changed_if to_is (touched now) node))
+      ≡ changed_if from_is (touched now)
+      (changed_if source_is (moved_node now to_dir) (changed_if to_is (touched now) node))
   touched_before to_dir true true true node = refl
   touched_before to_dir true true false node = refl
   touched_before to_dir true false true node = refl
@@ -110,13 +129,16 @@ module _ (now : ℕ) where
 
   abbrev at_last : ℕ → Bool → Bool → Bool → Option Node → Option Node
   at_last to_dir from_is source_is to_is o =
-      option_map (changed_if from_is (touched now)) (option_map (changed_if source_is (moved_node now to_dir)) (option_map (changed_if to_is (touched now)) o))
+      option_map (changed_if from_is (touched now))
+      (option_map (changed_if source_is (moved_node now to_dir)) (option_map (changed_if to_is (touched now)) o))
 
   all_touched : (to_dir : ℕ) (from_is source_is to_is : Bool) (o : Option Node)
-      → at_last to_dir from_is source_is to_is (option_map (changed_if to_is (touched now)) (option_map (changed_if from_is (touched now)) o))
+      → at_last to_dir from_is source_is to_is
+      (option_map (changed_if to_is (touched now)) (option_map (changed_if from_is (touched now)) o))
       ≡ at_last to_dir from_is source_is to_is o
   all_touched to_dir from_is source_is to_is None = refl
-  all_touched to_dir from_is source_is to_is (Some node) = ap (λ n. Some n) (touched_before to_dir from_is source_is to_is node)
+  all_touched to_dir from_is source_is to_is (Some node) =
+      ap (λ n. Some n) (touched_before to_dir from_is source_is to_is node)
 
   module _ (from : EntryKey) (source : ℕ) (to : EntryKey) (other : ℕ) where
     abbrev both_moved : Nodes → Nodes
@@ -130,7 +152,8 @@ module _ (now : ℕ) where
         (at_last to.dir (is_at q from.dir) (is_at q source) (is_at q to.dir) (get m q))
     get-both_moved m q =
         get-moved_nodes (moved_nodes m to.dir source) from.dir other q
-        ∙ ap (λ o. option_map (changed_if (is_at q other) (moved_node now from.dir)) (option_map (changed_if (is_at q from.dir) (touched now)) o))
+        ∙ ap (λ o. option_map (changed_if (is_at q other) (moved_node now from.dir))
+        (option_map (changed_if (is_at q from.dir) (touched now)) o))
         (get-moved_nodes m to.dir source q)
 
     same_nodes : (m : Nodes) → both_moved (both_touched m) ≡ both_moved m
@@ -148,11 +171,14 @@ module _ (now : ℕ) where
     both_put m = insert (insert m to source) from other
 
     get-both_put : (m : Map entry_key ℕ) (q : EntryKey)
-        → get (both_put m) q ≡ cond (eq_by_cmp entry_key.cmp q from) (Some other) (cond (eq_by_cmp entry_key.cmp q to) (Some source) (get m q))
-    get-both_put m q = get-insert (insert m to source) from other q ∙ ap (cond (eq_by_cmp entry_key.cmp q from) (Some other)) (get-insert m to source q)
+        → get (both_put m) q ≡ cond (eq_by_cmp entry_key.cmp q from) (Some other)
+        (cond (eq_by_cmp entry_key.cmp q to) (Some source) (get m q))
+    get-both_put m q = get-insert (insert m to source) from other q
+        ∙ ap (cond (eq_by_cmp entry_key.cmp q from) (Some other)) (get-insert m to source q)
 
     put_over : (from_is to_is : Bool) (o : Option ℕ)
-        → cond from_is (Some other) (cond to_is (Some source) (cond to_is None (cond from_is None o))) ≡ cond from_is (Some other) (cond to_is (Some source) o)
+        → cond from_is (Some other) (cond to_is (Some source) (cond to_is None (cond from_is None o))) ≡ cond from_is
+        (Some other) (cond to_is (Some source) o)
     put_over true to_is o = refl
     put_over false true o = refl
     put_over false false o = refl
@@ -162,24 +188,40 @@ module _ (now : ℕ) where
         let from_is = eq_by_cmp entry_key.cmp q from in
         let to_is = eq_by_cmp entry_key.cmp q to in
         get-both_put (remove (remove m from) to) q
-        ∙ ap (λ o. cond from_is (Some other) (cond to_is (Some source) o)) (get-remove (remove m from) to q ∙ ap (cond to_is None) (get-remove m from q))
+        ∙ ap (λ o. cond from_is (Some other) (cond to_is (Some source) o))
+        (get-remove (remove m from) to q ∙ ap (cond to_is None) (get-remove m from q))
         ∙ put_over from_is to_is (get m q) ∙ sym (get-both_put m q))
 
-    exchanged-is : (t : Tree) → exchanged t now from source to other ≡ record t { nodes = both_moved t.nodes; entries = both_put t.entries }
+    exchanged-is : (t : Tree) → exchanged t now from source to other ≡ record t {
+      nodes = both_moved t.nodes;
+      entries =
+          both_put t.entries;
+    }
     exchanged-is t =
         ap (λ (u : Tree). move_in u now from other) (move_in-is t to source)
-        ∙ move_in-is (record t { nodes = moved_nodes t.nodes to.dir source; entries = insert t.entries to source }) from other
+        ∙ move_in-is (record t { nodes = moved_nodes t.nodes to.dir source; entries = insert t.entries to source }) from
+        other
 
     abbrev both_taken : Tree → Tree
     both_taken t = take_entry (take_entry t now from) now to
 
-    both_taken-is : (t : Tree) → both_taken t ≡ record t { nodes = both_touched t.nodes; entries = remove (remove t.entries from) to }
+    both_taken-is : (t : Tree) → both_taken t ≡ record t {
+      nodes = both_touched t.nodes;
+      entries =
+          remove (remove t.entries from) to;
+    }
     both_taken-is t =
         ap (λ (u : Tree). take_entry u now to) (take_entry-is t from)
-        ∙ take_entry-is (record t { nodes = nodes_changed t.nodes from.dir (touched now); entries = remove t.entries from }) to
+        ∙ take_entry-is (record t {
+          nodes = nodes_changed t.nodes from.dir (touched now);
+          entries =
+              remove t.entries from;
+        }) to
 
     -- without both entries, the exchange leaves the same tree
-    pub exchanged-taken : (t : Tree) → exchanged (take_entry (take_entry t now from) now to) now from source to other ≡ exchanged t now from source to other
+    pub exchanged-taken : (t : Tree)
+        → exchanged (take_entry (take_entry t now from) now to) now from source to other ≡ exchanged t now from source
+        to other
     exchanged-taken t =
         ap (λ (u : Tree). exchanged u now from source to other) (both_taken-is t)
         ∙ exchanged-is (record t { nodes = both_touched t.nodes; entries = remove (remove t.entries from) to })

@@ -43,17 +43,21 @@ leaves_by NoReplace place h = h
 leaves_by Exchange place h = (and_parts (may_go place) (may_be_new place) h).0
 
 -- a move keeps what sessions keep
-pub moved-sustained : (t : Tree) (now : ℕ) (from : EntryKey) (source : ℕ) (to : EntryKey) → (moved t now from source to).sustained ≡ t.sustained
+pub moved-sustained : (t : Tree) (now : ℕ) (from : EntryKey) (source : ℕ) (to : EntryKey)
+    → (moved t now from source to).sustained ≡ t.sustained
 moved-sustained t now from source to =
     let less = take_entry t now from in
-    change_node-sustained (put_entry less now to source) source (moved_node now to.dir) ∙ change_node-sustained less to.dir (touched now) ∙ change_node-sustained t from.dir (touched now)
+    change_node-sustained (put_entry less now to source) source (moved_node now to.dir)
+    ∙ change_node-sustained less to.dir (touched now) ∙ change_node-sustained t from.dir (touched now)
 
 -- the test of links, before or after the tree is answered
-pub tested_by : (b : Bool) (left after : Tree) → (require b NoSpace >>= (λ _. Ok left)) ≡ Ok after → (b ≡ true) × (left ≡ after)
+pub tested_by : (b : Bool) (left after : Tree) → (require b NoSpace >>= (λ _. Ok left)) ≡ Ok after
+    → (b ≡ true) × (left ≡ after)
 tested_by true left after h = (refl, same_Ok left after h)
 tested_by false left after h = absurd cc
 
-pub refused_by : (b : Bool) (left : Tree) (fault : Fault) → (require b NoSpace >>= (λ _. Ok left)) ≡ Err fault → (require b NoSpace >>= (λ _. done left)) ≡ Err fault
+pub refused_by : (b : Bool) (left : Tree) (fault : Fault) → (require b NoSpace >>= (λ _. Ok left)) ≡ Err fault
+    → (require b NoSpace >>= (λ _. done left)) ≡ Err fault
 refused_by true left fault h = absurd cc
 refused_by false left fault h = same (NoSpace) fault h
   where
@@ -61,7 +65,8 @@ refused_by false left fault h = same (NoSpace) fault h
     same f g e = cc
 
 -- an answer within links keeps what its tree keeps
-pub within-sustained : (from to : EntryKey) (t after : Tree) (d : Outcome) → after.sustained ≡ t.sustained → within_links from to after ≡ Ok d → d.tree.sustained ≡ t.sustained
+pub within-sustained : (from to : EntryKey) (t after : Tree) (d : Outcome) → after.sustained ≡ t.sustained
+    → within_links from to after ≡ Ok d → d.tree.sustained ≡ t.sustained
 within-sustained from to t after d same h =
     let fit = went_on (require (links_fit after from.dir && links_fit after to.dir) NoSpace) (λ _. done after) d h in
     ap (λ (o : Outcome). o.tree.sustained) (sym (same_Ok (record { tree = after; reply = Done }) d fit.2)) ∙ same
@@ -96,16 +101,20 @@ module _ (who : Caller) (how : How) (ends : Ends) (before : Store) (stand : Ends
   started = past-start before act
 
   -- the way up wasn't climbed
-  pub free-not_climbed : (after : Store) (fault : TxFault) → Looks {A = Bool} before after (Err fault) climbs → Renames who.sid ready before after (Err fault) act
+  pub free-not_climbed : (after : Store) (fault : TxFault) → Looks {A = Bool} before after (Err fault) climbs
+      → Renames who.sid ready before after (Err fault) act
   free-not_climbed after fault l = record {
-    does = transacts-refused ready before after reply act fault (past-stops before before after act climbs climbed started fault l);
+    does = transacts-refused ready before after reply act fault
+        (past-stops before before after act climbs climbed started fault l);
     tells = tt;
   }
 
   -- the directory would move into itself
-  pub free-inside : (after : Store) → Looks before after (Ok true) climbs → Renames who.sid ready before after (Err (Refused Invalid)) act
+  pub free-inside : (after : Store) → Looks before after (Ok true) climbs
+      → Renames who.sid ready before after (Err (Refused Invalid)) act
   free-inside after l = record {
-    does = transacts-refused ready before after reply act (Refused Invalid) (past-refuses before after act Invalid (past-looks before before after act climbs climbed started true l));
+    does = transacts-refused ready before after reply act (Refused Invalid)
+        (past-refuses before after act Invalid (past-looks before before after act climbs climbed started true l));
     tells = tt;
   }
 
@@ -114,10 +123,12 @@ module _ (who : Caller) (how : How) (ends : Ends) (before : Store) (stand : Ends
     rest t = within_links from to (moved t who.now from source to)
 
     started_steps : PastSteps ready before middle [] (λ t. t) act rest
-    started_steps = steps-start ready before middle act rest (past-looks before before middle act climbs climbed started false l)
+    started_steps = steps-start ready before middle act rest
+        (past-looks before before middle act climbs climbed started false l)
 
     outside : OfWhole ready before (λ t. is_inside t to.dir source ≡ false)
-    outside known is whole bytes r = same_Ok (is_inside (tree_of bytes (typed known)) to.dir source) false (l.agrees known is whole bytes)
+    outside known is whole bytes r = same_Ok (is_inside (tree_of bytes (typed known)) to.dir source) false
+        (l.agrees known is whole bytes)
 
     may_move : OfWhole ready before (λ t. MayMove t from source to)
     may_move known is whole bytes r = record {
@@ -127,65 +138,88 @@ module _ (who : Caller) (how : How) (ends : Ends) (before : Store) (stand : Ends
       name = r.move.name;
       within = r.move.within;
       outside = outside known is whole bytes r;
-      links_from = links_low (tree_of bytes (typed known)) from.dir ends.from.dir (bytes from.dir) (has_node before from.dir ends.from.dir known stand.from.row is whole bytes) low_from;
-      links_source = links_low (tree_of bytes (typed known)) source ends.source (bytes source) (has_node before source ends.source known stand.source.row is whole bytes) low_source;
+      links_from = links_low (tree_of bytes (typed known)) from.dir ends.from.dir (bytes from.dir)
+          (has_node before from.dir ends.from.dir known stand.from.row is whole bytes) low_from;
+      links_source = links_low (tree_of bytes (typed known)) source ends.source (bytes source)
+          (has_node before source ends.source known stand.source.row is whole bytes) low_source;
     }
 
-    module _ (now : ℕ) (same_now : who.now ≡ now) (was : List Change) (none : was ≡ []) (changes : List Change) (next : Store) where
+    module _ (now : ℕ) (same_now : who.now ≡ now) (was : List Change) (none : was ≡ []) (changes : List Change)
+        (next : Store) where
       abbrev Moving : Result (Unit {0}) TxFault → Type 0
-      Moving result = Drafting (λ t. MayMove t from source to) was changes middle next result (moved_within now from source to)
+      Moving result = Drafting (λ t. MayMove t from source to) was changes middle next result
+          (moved_within now from source to)
 
-      as_model : (result : Result (Unit {0}) TxFault) → Moving result → Drafting (λ t. MayMove t from source to) [] changes middle next result (moved_within who.now from source to)
-      as_model result d = subst (λ n. Drafting (λ t. MayMove t from source to) [] changes middle next result (moved_within n from source to)) (sym same_now)
-          (subst (λ (w : List Change). Drafting (λ t. MayMove t from source to) w changes middle next result (moved_within now from source to)) none d)
+      as_model : (result : Result (Unit {0}) TxFault) → Moving result
+          → Drafting (λ t. MayMove t from source to) [] changes middle next result (moved_within who.now from source to)
+      as_model result d = subst (λ n. Drafting (λ t. MayMove t from source to) [] changes middle next result
+          (moved_within n from source to)) (sym same_now)
+          (subst (λ (w : List Change). Drafting (λ t. MayMove t from source to) w changes middle next result
+          (moved_within now from source to)) none d)
 
       -- the entry wasn't moved
       pub free-not_moved : (fault : TxFault) → Moving (Err fault) → Renames who.sid ready before next (Err fault) act
       free-not_moved fault d = record {
-        does = steps-stop ready before middle next [] changes (λ t. t) reply act rest started_steps fault (λ t. MayMove t from source to) (moved_within who.now from source to) (as_model (Err fault) d)
+        does = steps-stop ready before middle next [] changes (λ t. t) reply act rest started_steps fault
+            (λ t. MayMove t from source to) (moved_within who.now from source to) (as_model (Err fault) d)
             may_move
-            (λ known is whole bytes r refused h. (let after = moved (tree_of bytes (typed known)) who.now from source to in refused_by (links_fit after from.dir && links_fit after to.dir) after refused h));
+            (λ known is whole bytes r refused h.
+            (let after = moved (tree_of bytes (typed known)) who.now from source to in
+            refused_by (links_fit after from.dir && links_fit after to.dir) after refused h));
         tells = tt;
       }
 
       module _ (d : Moving (Ok tt)) where
         made : OfWhole ready before (λ t. (left : Tree) × (moved_within who.now from source to t ≡ Ok left))
-        made = steps-made ready before middle next [] changes (λ t. t) act rest started_steps tt (λ t. MayMove t from source to) (moved_within who.now from source to) (as_model (Ok tt) d) may_move
+        made = steps-made ready before middle next [] changes (λ t. t) act rest started_steps tt
+            (λ t. MayMove t from source to) (moved_within who.now from source to) (as_model (Ok tt) d) may_move
 
-        fits : OfWhole ready before (λ t. (let after = moved t who.now from source to in (links_fit after from.dir && links_fit after to.dir) ≡ true))
+        fits : OfWhole ready before (λ t. (let after = moved t who.now from source to in
+            (links_fit after from.dir && links_fit after to.dir) ≡ true))
         fits known is whole bytes r =
-            (let after = moved (tree_of bytes (typed known)) who.now from source to in let m = made known is whole bytes r in
+            (let after = moved (tree_of bytes (typed known)) who.now from source to in
+            let m = made known is whole bytes r in
             (tested_by (links_fit after from.dir && links_fit after to.dir) after m.0 m.1).0)
 
         stepped : PastSteps ready before next changes (λ t. moved t who.now from source to) act rest
-        stepped = steps-on ready before middle next [] changes (λ t. t) act rest started_steps tt (λ t. MayMove t from source to) (moved_within who.now from source to)
+        stepped = steps-on ready before middle next [] changes (λ t. t) act rest started_steps tt
+            (λ t. MayMove t from source to) (moved_within who.now from source to)
             (λ t. moved t who.now from source to) (as_model (Ok tt) d) may_move
-            (λ known is whole bytes r. (let after = moved (tree_of bytes (typed known)) who.now from source to in ap (λ b. require b NoSpace >>= (λ _. Ok after)) (fits known is whole bytes r)))
+            (λ known is whole bytes r. (let after = moved (tree_of bytes (typed known)) who.now from source to in
+            ap (λ b. require b NoSpace >>= (λ _. Ok after)) (fits known is whole bytes r)))
 
         -- the changes weren't committed
-        pub free-not_committed : (after : Store) (down : Down) → Commits next after (Err down) changes → Renames who.sid ready before after (Err (OfRows (row_fault down))) act
+        pub free-not_committed : (after : Store) (down : Down) → Commits next after (Err down) changes
+            → Renames who.sid ready before after (Err (OfRows (row_fault down))) act
         free-not_committed after down c = record {
-          does = steps-fail ready before next after changes changes (λ t. moved t who.now from source to) reply act rest stepped (OfRows (row_fault down)) (fails-commit next after down changes c);
+          does = steps-fail ready before next after changes changes (λ t. moved t who.now from source to) reply act rest
+              stepped (OfRows (row_fault down)) (fails-commit next after down changes c);
           tells = tt;
         }
 
         told : (t : Tree) (d : Outcome) → act t ≡ Ok d → d.tree.sustained ≡ t.sustained
         told t d h =
             let after = moved t who.now from source to in
-            let on = went_on (require (not (is_inside t to.dir source)) Invalid) (λ _. within_links from to after) d h in
+            let on = went_on (require (not (is_inside t to.dir source)) Invalid) (λ _. within_links from to after) d h
+            in
             within-sustained from to t after d (moved-sustained t who.now from source to) on.2
 
         -- they were
-        pub free-made : (after : Store) → Commits next after (Ok tt) changes → Renames who.sid ready before after (Ok None) act
+        pub free-made : (after : Store) → Commits next after (Ok tt) changes
+            → Renames who.sid ready before after (Ok None) act
         free-made after c = record {
-          does = steps-commit ready before next after changes changes (λ t. moved t who.now from source to) reply act rest stepped None c
-              (λ known is whole bytes r. (let left = moved (tree_of bytes (typed known)) who.now from source to in ap (λ b. require b NoSpace >>= (λ _. done left)) (fits known is whole bytes r)))
-              (λ known is whole bytes r. whole-moved_free (tree_of bytes (typed known)) who.now from source to (whole-shape bytes (typed known) whole) (record {
+          does = steps-commit ready before next after changes changes (λ t. moved t who.now from source to) reply act
+              rest stepped None c
+              (λ known is whole bytes r. (let left = moved (tree_of bytes (typed known)) who.now from source to in
+              ap (λ b. require b NoSpace >>= (λ _. done left)) (fits known is whole bytes r)))
+              (λ known is whole bytes r. whole-moved_free (tree_of bytes (typed known)) who.now from source to
+              (whole-shape bytes (typed known) whole) (record {
                 is = r.move.is;
                 leaves = leaves_by how from r.move.leaves;
                 enters = r.move.enters;
                 within = r.move.within;
                 outside = outside known is whole bytes r;
               }) r.free);
-          tells = λ known is whole bytes r inode. tells_none (tree_of bytes (typed known)) who.sid (act (tree_of bytes (typed known))) (told (tree_of bytes (typed known))) inode;
+          tells = λ known is whole bytes r inode. tells_none (tree_of bytes (typed known)) who.sid
+              (act (tree_of bytes (typed known))) (told (tree_of bytes (typed known))) inode;
         }

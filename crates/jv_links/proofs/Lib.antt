@@ -1,5 +1,4 @@
 -- What is proved of transactions on entries.
-pub mod DraftSteps
 pub mod EmptinessLaws
 pub mod RemovableLaws
 pub mod RemovalStepLaws
@@ -10,7 +9,6 @@ pub mod FateLaws
 pub mod TrashingLaws
 pub mod LossLaws
 pub mod EndsLaws
-pub mod StepLaws
 pub mod MoveEntryLaws
 pub mod TellLaws
 pub mod FreeMoveLaws

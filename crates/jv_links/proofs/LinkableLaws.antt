@@ -1,7 +1,8 @@
--- The file or the symlink that gets one more entry: the path's own entry names it, and shows whether it has one in the trash.
-use Rattle.std.proofs.Common.{◌≡◌, ℕ, zero, suc, ◌≤◌, ◌<◌, ◌≢◌, Bool, true, false, cond, not, ◌&&◌, ◌||◌, ◌==◌, if◌then◌else◌, inl, inr, List, [], ◌∷◌, ◌++◌, length, Option, None, Some, is_some, Result, Ok, Err, refl, sym, ap, subst, ◌∙◌, arith}
+-- The file or the symlink that gets one more entry: the path's own entry names it, and shows whether it has one in the
+-- trash.
+use Rattle.std.proofs.Common.{◌≡◌, ℕ, zero, suc, ◌≤◌, ◌<◌, ◌≢◌, Bool, true, false, not, ◌&&◌, ◌||◌, ◌==◌, if◌then◌else◌, inl, inr, List, [], ◌∷◌, ◌++◌, length, Option, None, Some, is_some, Result, Ok, Err, refl, sym, ap, ◌∙◌, arith}
 use Rattle.std.specs.Prelude.{nat_le, nat_lt, IsTrue}
-use Rattle.std.proofs.lemmas.Bool.{cases_Bool, cases_cond, false≢true, and_from, and_parts, eq-eqb, eqb-true, leb-true, lt-ltb, ltb-true, ltb-false, cases_eq}
+use Rattle.std.proofs.lemmas.Bool.{false≢true, and_from, and_parts, eq-eqb, eqb-true, leb-true, lt-ltb, ltb-true, ltb-false, cases_eq}
 use Rattle.jv_model.specs.declared.limits.TheConstants.{MAX_NAME, MAX_PATH, MAX_SYMLINKS}
 use Rattle.jv_model.specs.declared.fault.Fault.{Fault}
 use Rattle.jv_model.specs.declared.fault.Fault.TheVariants.{NotFound, NotADirectory, Invalid, NameTooLong, NotPermitted, SymlinkLoop}
@@ -11,7 +12,7 @@ use Rattle.jv_model.specs.declared.fault.TxFault.TheVariants.{Refused}
 use Rattle.jv_model.specs.rows.RowKeys.{RowMap}
 use Rattle.jv_model.specs.tree.Attempt.{◌>>=◌, require, some_or}
 use Rattle.jv_model.specs.tree.Making.{is_trashed}
-use Rattle.jv_model.specs.tree.Tree.{Tree, EntryKey, entry_key, root, trash_root, in_trash, node_at, parent_at, is_directory, trash_entry}
+use Rattle.jv_model.specs.tree.Tree.{Tree, EntryKey, entry_key, root, trash_root, in_trash, parent_at, is_directory, trash_entry}
 use Rattle.jv_model.specs.tree.Walk.{is_absolute, is_empty, names_of, is_dot, is_dot_dot, is_trash, named_from, stepped, way_on, walk_names, walk, inode_by, last_name, all_but_last, entry_of}
 use Rattle.jv_model.proofs.FiniteMapLaws.{IsFound, first_where-found}
 use Rattle.jv_outside.specs.Store.{Store}
@@ -37,9 +38,11 @@ use Rattle.jv_links.specs.Linkable.{linkable}
 abbrev then_last : Tree → List ℕ → Result ℕ Fault → Result ℕ Fault
 then_last t last r = r >>= (λ dir. stepped t dir last)
 
-abbrev goes_by : (ℕ → List (List ℕ) → Result ℕ Fault) → Tree → Bool → ℕ → List (List ℕ) → ℕ → Option (List ℕ) → Result ℕ Fault
+abbrev goes_by : (ℕ → List (List ℕ) → Result ℕ Fault) → Tree → Bool → ℕ → List (List ℕ) → ℕ → Option (List ℕ)
+    → Result ℕ Fault
 goes_by again t follow inode names next None = walk_names again t follow next names
-goes_by again t follow inode names next (Some target) = again (if is_absolute target then root else inode) (names_of target ++ names)
+goes_by again t follow inode names next (Some target) = again (if is_absolute target then root else inode)
+    (names_of target ++ names)
 
 append_more : (xs ys : List (List ℕ)) (z : List ℕ) → xs ++ (ys ++ (z ∷ [])) ≡ (xs ++ ys) ++ (z ∷ [])
 append_more [] ys z = refl
@@ -50,18 +53,23 @@ not_last [] last = refl
 not_last (name ∷ names) last = refl
 
 abbrev Splits : Tree → List ℕ → (ℕ → List (List ℕ) → Result ℕ Fault) → (ℕ → List (List ℕ) → Result ℕ Fault) → Type 0
-Splits t last again onto = (dir : ℕ) (names : List (List ℕ)) → again dir (names ++ (last ∷ [])) ≡ then_last t last (onto dir names)
+Splits t last again onto = (dir : ℕ) (names : List (List ℕ))
+    → again dir (names ++ (last ∷ [])) ≡ then_last t last (onto dir names)
 
-goes_split : (t : Tree) (last : List ℕ) (again onto : ℕ → List (List ℕ) → Result ℕ Fault) (inode : ℕ) (names : List (List ℕ)) (next : ℕ) (o : Option (List ℕ))
-    → Splits t last again onto → walk_names again t false next (names ++ (last ∷ [])) ≡ then_last t last (walk_names onto t true next names)
-    → goes_by again t false inode (names ++ (last ∷ [])) next o ≡ then_last t last (goes_by onto t true inode names next o)
+goes_split : (t : Tree) (last : List ℕ) (again onto : ℕ → List (List ℕ) → Result ℕ Fault) (inode : ℕ)
+    (names : List (List ℕ)) (next : ℕ) (o : Option (List ℕ))
+    → Splits t last again onto → walk_names again t false next (names ++ (last ∷ [])) ≡ then_last t last
+    (walk_names onto t true next names)
+    → goes_by again t false inode (names ++ (last ∷ [])) next o ≡ then_last t last
+    (goes_by onto t true inode names next o)
 goes_split t last again onto inode names next None splits rest = rest
 goes_split t last again onto inode names next (Some target) splits rest =
     ap (again (if is_absolute target then root else inode)) (append_more (names_of target) names last)
     ∙ splits (if is_absolute target then root else inode) (names_of target ++ names)
 
 -- the step of a name, and the rest by what it came to
-bind_then : (r : Result ℕ Fault) (t : Tree) (last : List ℕ) (f g : ℕ → Result ℕ Fault) → ((next : ℕ) → f next ≡ then_last t last (g next))
+bind_then : (r : Result ℕ Fault) (t : Tree) (last : List ℕ) (f g : ℕ → Result ℕ Fault)
+    → ((next : ℕ) → f next ≡ then_last t last (g next))
     → (r >>= f) ≡ then_last t last (r >>= g)
 bind_then (Ok next) t last f g same = same next
 bind_then (Err fault) t last f g same = refl
@@ -70,15 +78,19 @@ ends_at : (r : Result ℕ Fault) → (r >>= (λ next. Ok next)) ≡ r
 ends_at (Ok next) = refl
 ends_at (Err fault) = refl
 
-names_split : (t : Tree) (last : List ℕ) (again onto : ℕ → List (List ℕ) → Result ℕ Fault) → Splits t last again onto → (names : List (List ℕ)) (inode : ℕ)
+names_split : (t : Tree) (last : List ℕ) (again onto : ℕ → List (List ℕ) → Result ℕ Fault) → Splits t last again onto
+    → (names : List (List ℕ)) (inode : ℕ)
     → walk_names again t false inode (names ++ (last ∷ [])) ≡ then_last t last (walk_names onto t true inode names)
 unfolding walk_names
 names_split t last again onto splits [] inode = ends_at (stepped t inode last)
 names_split t last again onto splits (name ∷ names) inode =
-    bind_then (stepped t inode name) t last (λ next. goes_by again t false inode (names ++ (last ∷ [])) next (way_on t false (names ++ (last ∷ [])) next))
+    bind_then (stepped t inode name) t last
+    (λ next. goes_by again t false inode (names ++ (last ∷ [])) next (way_on t false (names ++ (last ∷ [])) next))
     (λ next. goes_by onto t true inode names next (way_on t true names next))
-    (λ next. ap (λ b. goes_by again t false inode (names ++ (last ∷ [])) next (if not b then target_of next else None)) (not_last names last)
-    ∙ goes_split t last again onto inode names next (target_of next) splits (names_split t last again onto splits names next))
+    (λ next. ap (λ b. goes_by again t false inode (names ++ (last ∷ [])) next (if not b then target_of next else None))
+    (not_last names last)
+    ∙ goes_split t last again onto inode names next (target_of next) splits
+    (names_split t last again onto splits names next))
   where
     target_of : ℕ → Option (List ℕ)
     target_of next = way_on t true [] next
@@ -87,9 +99,11 @@ names_split t last again onto splits (name ∷ names) inode =
 walk_split : (t : Tree) (last : List ℕ) (left : ℕ) (inode : ℕ) (names : List (List ℕ))
     → walk left t false inode (names ++ (last ∷ [])) ≡ then_last t last (walk left t true inode names)
 unfolding walk
-walk_split t last zero inode names = names_split t last (λ at rest. Err SymlinkLoop) (λ at rest. Err SymlinkLoop) (λ dir rest. refl) names inode
+walk_split t last zero inode names = names_split t last (λ at rest. Err SymlinkLoop) (λ at rest. Err SymlinkLoop)
+    (λ dir rest. refl) names inode
 walk_split t last (suc left) inode names =
-    names_split t last (λ at rest. walk left t false at rest) (λ at rest. walk left t true at rest) (λ dir rest. walk_split t last left dir rest) names inode
+    names_split t last (λ at rest. walk left t false at rest) (λ at rest. walk left t true at rest)
+    (λ dir rest. walk_split t last left dir rest) names inode
 
 -- ---- the entry of the path
 
@@ -123,13 +137,18 @@ module _ (t : Tree) (w : WholeShape (shape_of t)) (inode : ℕ) (leaf : is_direc
   no_directory : {A : Type 0} (other : ℕ) → inode ≡ other → is_directory t other ≡ true → A
   no_directory other e is = absurd (false≢true (sym leaf ∙ ap (is_directory t) e ∙ is))
 
-  step_by : (dir parent : ℕ) (last : List ℕ) (dot dots trash : Bool) → is_dot last ≡ dot → is_dot_dot last ≡ dots → is_trash dir last ≡ trash
+  step_by : (dir parent : ℕ) (last : List ℕ) (dot dots trash : Bool) → is_dot last ≡ dot → is_dot_dot last ≡ dots
+      → is_trash dir last ≡ trash
       → parent_at t dir ≡ Some parent → nat_le (length last) MAX_NAME ≡ true
-      → (if dot then Ok dir else if dots then Ok parent else if trash then Ok trash_root else some_or (get t.entries (record { dir = dir; name = last })) NotFound) ≡ Ok inode
+      → (if dot then Ok dir else if dots then Ok parent else if trash then Ok trash_root else some_or
+      (get t.entries (record { dir = dir; name = last })) NotFound) ≡ Ok inode
       → IsStep t dir last inode
-  step_by dir parent last true dots trash e f g is short h = no_directory dir (sym (same_Ok dir inode h)) (ap is_some is)
-  step_by dir parent last false true trash e f g is short h = no_directory parent (sym (same_Ok parent inode h)) (parent_directory t w dir parent is)
-  step_by dir parent last false false true e f g is short h = no_directory trash_root (sym (same_Ok trash_root inode h)) (trash_directory t w)
+  step_by dir parent last true dots trash e f g is short h = no_directory dir (sym (same_Ok dir inode h))
+      (ap is_some is)
+  step_by dir parent last false true trash e f g is short h = no_directory parent (sym (same_Ok parent inode h))
+      (parent_directory t w dir parent is)
+  step_by dir parent last false false true e f g is short h = no_directory trash_root (sym (same_Ok trash_root inode h))
+      (trash_directory t w)
   step_by dir parent last false false false e f g is short h = record {
     within = ap is_some is;
     short = short;
@@ -139,10 +158,13 @@ module _ (t : Tree) (w : WholeShape (shape_of t)) (inode : ℕ) (leaf : is_direc
 
   is_step : (dir : ℕ) (last : List ℕ) → stepped t dir last ≡ Ok inode → IsStep t dir last inode
   is_step dir last h =
-      let from = λ (parent : ℕ). require (nat_le (length last) MAX_NAME) NameTooLong >>= (λ _. named_from t dir parent last) in
+      let from = λ (parent : ℕ). require (nat_le (length last) MAX_NAME) NameTooLong >>=
+      (λ _. named_from t dir parent last) in
       let parent = went_on (some_or (parent_at t dir) NotADirectory) from inode h in
-      let short = went_on (require (nat_le (length last) MAX_NAME) NameTooLong) (λ _. named_from t dir parent.0 last) inode parent.2 in
-      step_by dir parent.0 last (is_dot last) (is_dot_dot last) (is_trash dir last) refl refl refl (was_some _ NotADirectory parent.0 parent.1)
+      let short = went_on (require (nat_le (length last) MAX_NAME) NameTooLong) (λ _. named_from t dir parent.0 last)
+      inode parent.2 in
+      step_by dir parent.0 last (is_dot last) (is_dot_dot last) (is_trash dir last) refl refl refl
+      (was_some _ NotADirectory parent.0 parent.1)
       (required _ NameTooLong short.0 short.1) short.2
 
   module _ (path : List ℕ) (h : inode_by false t path ≡ Ok inode) where
@@ -161,13 +183,17 @@ module _ (t : Tree) (w : WholeShape (shape_of t)) (inode : ℕ) (leaf : is_direc
     abbrev of_name : List ℕ → Result EntryKey Fault
     of_name name = require (not (is_dot name || is_dot_dot name)) Invalid >>= (λ _. above >>= of_dir name)
 
-    own_by : nat_le (length path) MAX_PATH ≡ true → walk MAX_SYMLINKS t false root (names_of path) ≡ Ok inode → Lasts (names_of path) → IsOwn t path inode
+    own_by : nat_le (length path) MAX_PATH ≡ true → walk MAX_SYMLINKS t false root (names_of path) ≡ Ok inode
+        → Lasts (names_of path) → IsOwn t path inode
     unfolding walk walk_names
     own_by fits walked (Nameless none) =
-        no_directory root (same_Ok inode root (sym walked ∙ ap (walk MAX_SYMLINKS t false root) none)) (root_directory t w)
+        no_directory root (same_Ok inode root (sym walked ∙ ap (walk MAX_SYMLINKS t false root) none))
+        (root_directory t w)
     own_by fits walked (Last last is split) =
-        let by_last = sym (walk_split t last MAX_SYMLINKS root (all_but_last (names_of path))) ∙ ap (walk MAX_SYMLINKS t false root) (sym split) ∙ walked in
-        let dir = went_on (walk MAX_SYMLINKS t true root (all_but_last (names_of path))) (λ dir. stepped t dir last) inode by_last in
+        let by_last = sym (walk_split t last MAX_SYMLINKS root (all_but_last (names_of path)))
+        ∙ ap (walk MAX_SYMLINKS t false root) (sym split) ∙ walked in
+        let dir = went_on (walk MAX_SYMLINKS t true root (all_but_last (names_of path))) (λ dir. stepped t dir last)
+        inode by_last in
         let step = is_step dir.0 last dir.2 in
         record {
           place = record { dir = dir.0; name = last };
@@ -175,8 +201,10 @@ module _ (t : Tree) (w : WholeShape (shape_of t)) (inode : ℕ) (leaf : is_direc
           names_it = step.names_it;
         }
       where
-        ends : nat_le (length path) MAX_PATH ≡ true → (last : List ℕ) → last_name (names_of path) ≡ Some last → not (is_dot last || is_dot_dot last) ≡ true
-            → (dir : ℕ) → walk MAX_SYMLINKS t true root (all_but_last (names_of path)) ≡ Ok dir → is_directory t dir ≡ true → nat_le (length last) MAX_NAME ≡ true
+        ends : nat_le (length path) MAX_PATH ≡ true → (last : List ℕ) → last_name (names_of path) ≡ Some last
+            → not (is_dot last || is_dot_dot last) ≡ true
+            → (dir : ℕ) → walk MAX_SYMLINKS t true root (all_but_last (names_of path)) ≡ Ok dir
+            → is_directory t dir ≡ true → nat_le (length last) MAX_NAME ≡ true
             → entry_of t path ≡ Ok (record { dir = dir; name = last })
         ends fits last is plain dir walked within short =
             ap (λ b. require b NameTooLong >>= (λ _. some_or (last_name (names_of path)) Invalid >>= of_name)) fits
@@ -189,7 +217,8 @@ module _ (t : Tree) (w : WholeShape (shape_of t)) (inode : ℕ) (leaf : is_direc
     -- the path's own entry names what it leads to
     own : IsOwn t path inode
     own =
-        let short = went_on (require (nat_le (length path) MAX_PATH) NameTooLong) (λ _. walk MAX_SYMLINKS t false root (names_of path)) inode h in
+        let short = went_on (require (nat_le (length path) MAX_PATH) NameTooLong)
+        (λ _. walk MAX_SYMLINKS t false root (names_of path)) inode h in
         own_by (required _ NameTooLong short.0 short.1) short.2 (lasts (names_of path))
 
     -- ---- the trash
@@ -202,12 +231,15 @@ module _ (t : Tree) (w : WholeShape (shape_of t)) (inode : ℕ) (leaf : is_direc
         no_directory inode refl (is_directory-form t inode ∙ ap is_dir (w.hours inode there (and_parts _ _ hour).0).1)
 
     -- an entry in the trash is the only one
-    only_there : (at place : EntryKey) → get t.entries at ≡ Some inode → in_trash at.dir ≡ true → get t.entries place ≡ Some inode → place ≡ at
+    only_there : (at place : EntryKey) → get t.entries at ≡ Some inode → in_trash at.dir ≡ true
+        → get t.entries place ≡ Some inode → place ≡ at
     only_there at place is high names_it = elim (cases_eq at.dir trash_root) [
       | inl e ↦ no_hour (w.entry at inode is).there ((w.entry at inode is).hour e).hour
       | inr apart ↦
           let low = leb-true trash_root at.dir high in
-          only_one t.entries at place inode ((w.entry at inode is).trashed (high_hour at.dir (w.entry at inode is).within (strictly at.dir low apart))).only is names_it
+          only_one t.entries at place inode
+          ((w.entry at inode is).trashed
+          (high_hour at.dir (w.entry at inode is).within (strictly at.dir low apart))).only is names_it
     ]
       where
         strictly : (d : ℕ) → trash_root ≤ d → d ≢ trash_root → trash_root < d
@@ -218,11 +250,13 @@ module _ (t : Tree) (w : WholeShape (shape_of t)) (inode : ℕ) (leaf : is_direc
             by_test false is = (let high = ltb-false trash_root d is in absurd (apart (omega (arith, low, high))))
 
     -- so any entry shows whether there is one in the trash
-    trashed_by : (place : EntryKey) → get t.entries place ≡ Some inode → (b : Bool) → in_trash place.dir ≡ b → (o : Option (EntryKey × ℕ)) → trash_entry t inode ≡ o
+    trashed_by : (place : EntryKey) → get t.entries place ≡ Some inode → (b : Bool) → in_trash place.dir ≡ b
+        → (o : Option (EntryKey × ℕ)) → trash_entry t inode ≡ o
         → is_some o ≡ b
     trashed_by place names_it true high (Some e) found = refl
     trashed_by place names_it true high None none =
-        absurd (first_where-none entry_key (λ key i. (i == inode) && in_trash key.dir) t.entries place inode none names_it (and_from _ _ (eq-eqb inode inode refl) high))
+        absurd (first_where-none entry_key (λ key i. (i == inode) && in_trash key.dir) t.entries place inode none
+        names_it (and_from _ _ (eq-eqb inode inode refl) high))
     trashed_by place names_it false low None none = refl
     trashed_by place names_it false low (Some e) found =
         let first : IsFound (λ key named. (named == inode) && in_trash key.dir) t.entries e.0 e.1 =
@@ -237,8 +271,10 @@ module _ (t : Tree) (w : WholeShape (shape_of t)) (inode : ℕ) (leaf : is_direc
         (entry_pair t path >>= (λ pair. require (not (in_trash pair.0)) NotPermitted >>= (λ _. Ok inode)))
         ≡ (require (not (is_trashed t inode)) NotPermitted >>= (λ _. Ok inode))
     linkable_by_entry =
-        ap (λ (r : Result EntryKey Fault). (r >>= (λ at. Ok (pair_in at))) >>= (λ pair. require (not (in_trash pair.0)) NotPermitted >>= (λ _. Ok inode))) own.is
-        ∙ ap (λ b. require (not b) NotPermitted >>= (λ _. Ok inode)) (sym (trashed_by own.place own.names_it (in_trash own.place.dir) refl (trash_entry t inode) refl))
+        ap (λ (r : Result EntryKey Fault). (r >>= (λ at. Ok (pair_in at))) >>=
+        (λ pair. require (not (in_trash pair.0)) NotPermitted >>= (λ _. Ok inode))) own.is
+        ∙ ap (λ b. require (not b) NotPermitted >>= (λ _. Ok inode))
+        (sym (trashed_by own.place own.names_it (in_trash own.place.dir) refl (trash_entry t inode) refl))
 
 -- ---- the search
 
@@ -256,53 +292,75 @@ module _ (sid : ℕ) (path : List ℕ) (before middle : Store) where
   act t = linkable t sid path
 
   -- the session is gone, or wasn't read
-  pub linkable-no_session : (fault : TxFault) → Looks before middle (Err fault) (session_is sid) → Looks before middle (Err fault) (λ t. linkable t sid path)
-  linkable-no_session fault l = past-stops before before middle act (session_is sid) (λ t _. inode_by false t path >>= tested t) (past-start before act) fault l
+  pub linkable-no_session : (fault : TxFault) → Looks before middle (Err fault) (session_is sid)
+      → Looks before middle (Err fault) (λ t. linkable t sid path)
+  linkable-no_session fault l = past-stops before before middle act (session_is sid)
+      (λ t _. inode_by false t path >>= tested t) (past-start before act) fault l
 
   module _ (session : Looks before middle (Ok tt) (session_is sid)) (walked : Store) where
     inside : Past before middle act (λ t. inode_by false t path >>= tested t)
-    inside = past-looks before before middle act (session_is sid) (λ t _. inode_by false t path >>= tested t) (past-start before act) tt session
+    inside = past-looks before before middle act (session_is sid) (λ t _. inode_by false t path >>= tested t)
+        (past-start before act) tt session
 
     -- the path leads nowhere
-    pub linkable-no_node : (fault : TxFault) → Comes middle walked (Err fault) (λ t. inode_by false t path) → Looks before walked (Err fault) (λ t. linkable t sid path)
-    linkable-no_node fault c = past-stops before middle walked act (λ t. inode_by false t path) tested inside fault c.looks
+    pub linkable-no_node : (fault : TxFault) → Comes middle walked (Err fault) (λ t. inode_by false t path)
+        → Looks before walked (Err fault) (λ t. linkable t sid path)
+    linkable-no_node fault c = past-stops before middle walked act (λ t. inode_by false t path) tested inside fault
+        c.looks
 
     module _ (node : Place) (c : Comes middle walked (Ok node) (λ t. inode_by false t path)) where
       arrived : Past before walked act (λ t. tested t node.inode)
       arrived = past-looks before middle walked act (λ t. inode_by false t path) tested inside node.inode c.looks
 
-      kind_is : (b : Bool) → (node.node.kind == 2) ≡ b → (known : RowMap) → before.rows ≡ Some known → Whole (typed known) → (bytes : ℕ → ℕ → ℕ)
+      kind_is : (b : Bool) → (node.node.kind == 2) ≡ b → (known : RowMap) → before.rows ≡ Some known
+          → Whole (typed known) → (bytes : ℕ → ℕ → ℕ)
           → is_directory (tree_of bytes (typed known)) node.inode ≡ b
-      kind_is b is known at whole bytes = (has-node before walked node.inode node.node (c.looks.rows_are ∙ session.rows_are) c.stands known at whole bytes).directory ∙ is
+      kind_is b is known at whole bytes =
+          (has-node before walked node.inode node.node (c.looks.rows_are ∙ session.rows_are) c.stands known at whole
+          bytes).directory ∙ is
 
       -- to a directory
-      pub linkable-directory : (node.node.kind == 2) ≡ true → Looks before walked (Err (Refused NotPermitted)) (λ t. linkable t sid path)
-      linkable-directory two = past-refuses before walked act NotPermitted (past-as before walked walked act (λ t. tested t node.inode) arrived (λ t. Err NotPermitted)
+      pub linkable-directory : (node.node.kind == 2) ≡ true
+          → Looks before walked (Err (Refused NotPermitted)) (λ t. linkable t sid path)
+      linkable-directory two = past-refuses before walked act NotPermitted
+          (past-as before walked walked act (λ t. tested t node.inode) arrived (λ t. Err NotPermitted)
           (λ known at whole bytes. (let t = tree_of bytes (typed known) in
-          ap (λ b. require (not (b || is_trashed t node.inode)) NotPermitted >>= (λ _. Ok node.inode)) (kind_is true two known at whole bytes))))
+          ap (λ b. require (not (b || is_trashed t node.inode)) NotPermitted >>= (λ _. Ok node.inode))
+          (kind_is true two known at whole bytes))))
 
       module _ (leaf : (node.node.kind == 2) ≡ false) (entered : Store) where
         by_entry : Past before walked act (λ t. entry_pair t path >>= outside t node.inode)
-        by_entry = past-as before walked walked act (λ t. tested t node.inode) arrived (λ t. entry_pair t path >>= outside t node.inode)
+        by_entry = past-as before walked walked act (λ t. tested t node.inode) arrived
+            (λ t. entry_pair t path >>= outside t node.inode)
             (λ known at whole bytes. (let t = tree_of bytes (typed known) in
             let none = kind_is false leaf known at whole bytes in
             ap (λ b. require (not (b || is_trashed t node.inode)) NotPermitted >>= (λ _. Ok node.inode)) none
-            ∙ sym (linkable_by_entry t (whole-shape bytes (typed known) whole) node.inode none path (c.looks.agrees known (session.rows_are ∙ at) whole bytes))))
+            ∙ sym (linkable_by_entry t (whole-shape bytes (typed known) whole) node.inode none path
+            (c.looks.agrees known (session.rows_are ∙ at) whole bytes))))
 
         -- its entry wasn't read
-        pub linkable-no_entry : (fault : TxFault) → ComesToEntry walked entered (Err fault) (λ t. entry_pair t path) → Looks before entered (Err fault) (λ t. linkable t sid path)
-        linkable-no_entry fault e = past-stops before walked entered act (λ t. entry_pair t path) (λ t. outside t node.inode) by_entry fault e.looks
+        pub linkable-no_entry : (fault : TxFault) → ComesToEntry walked entered (Err fault) (λ t. entry_pair t path)
+            → Looks before entered (Err fault) (λ t. linkable t sid path)
+        linkable-no_entry fault e = past-stops before walked entered act (λ t. entry_pair t path)
+            (λ t. outside t node.inode) by_entry fault e.looks
 
         module _ (entry : EntryPlace) (e : ComesToEntry walked entered (Ok entry) (λ t. entry_pair t path)) where
           shown : Past before entered act (λ t. outside t node.inode (entry.dir.inode, entry.name))
-          shown = past-looks before walked entered act (λ t. entry_pair t path) (λ t. outside t node.inode) by_entry (entry.dir.inode, entry.name) e.looks
+          shown = past-looks before walked entered act (λ t. entry_pair t path) (λ t. outside t node.inode) by_entry
+              (entry.dir.inode, entry.name) e.looks
 
           -- it is in the trash
-          pub linkable-trashed : in_trash entry.dir.inode ≡ true → Looks before entered (Err (Refused NotPermitted)) (λ t. linkable t sid path)
-          linkable-trashed high = past-refuses before entered act NotPermitted (past-as before entered entered act (λ t. outside t node.inode (entry.dir.inode, entry.name)) shown
-              (λ t. Err NotPermitted) (λ known at whole bytes. ap (λ b. require (not b) NotPermitted >>= (λ _. Ok node.inode)) high))
+          pub linkable-trashed : in_trash entry.dir.inode ≡ true
+              → Looks before entered (Err (Refused NotPermitted)) (λ t. linkable t sid path)
+          linkable-trashed high = past-refuses before entered act NotPermitted
+              (past-as before entered entered act (λ t. outside t node.inode (entry.dir.inode, entry.name)) shown
+              (λ t. Err NotPermitted) (λ known at whole bytes. ap
+              (λ b. require (not b) NotPermitted >>= (λ _. Ok node.inode)) high))
 
           -- it isn't
-          pub linkable-found : in_trash entry.dir.inode ≡ false → Looks before entered (Ok node.inode) (λ t. linkable t sid path)
-          linkable-found low = past-gives before entered act node.inode (past-as before entered entered act (λ t. outside t node.inode (entry.dir.inode, entry.name)) shown
-              (λ t. Ok node.inode) (λ known at whole bytes. ap (λ b. require (not b) NotPermitted >>= (λ _. Ok node.inode)) low))
+          pub linkable-found : in_trash entry.dir.inode ≡ false
+              → Looks before entered (Ok node.inode) (λ t. linkable t sid path)
+          linkable-found low = past-gives before entered act node.inode
+              (past-as before entered entered act (λ t. outside t node.inode (entry.dir.inode, entry.name)) shown
+              (λ t. Ok node.inode) (λ known at whole bytes. ap
+              (λ b. require (not b) NotPermitted >>= (λ _. Ok node.inode)) low))

@@ -1,13 +1,12 @@
 -- How an entry that may be removed is found: each exit, and what holds of it over a whole tree.
-use Rattle.std.proofs.Common.{◌≡◌, ℕ, Bool, true, false, List, Option, None, Some, Result, Ok, Err, refl, sym, ap, subst, ◌∙◌}
-use Rattle.std.specs.Prelude.{is_some, IsTrue, IsErrAnd}
+use Rattle.std.proofs.Common.{◌≡◌, ℕ, true, false, List, Some, Result, Ok, Err, sym, ap, subst, ◌∙◌}
+use Rattle.std.specs.Prelude.{is_some, IsTrue}
 use Rattle.jv_model.specs.declared.fault.Fault.{Fault}
 use Rattle.jv_model.specs.declared.fault.Fault.TheVariants.{NotFound, NotPermitted, Stale}
 use Rattle.jv_model.specs.declared.fault.Gone.TheVariants.{Session}
 use Rattle.jv_model.specs.declared.fault.TxFault.{TxFault}
 use Rattle.jv_model.specs.declared.fault.TxFault.TheVariants.{Refused}
 use Rattle.jv_model.specs.FiniteMap.{get}
-use Rattle.jv_model.specs.rows.RowKeys.{RowMap}
 use Rattle.jv_model.specs.tree.Attempt.{◌>>=◌, require, some_or}
 use Rattle.jv_model.specs.tree.Removing.{may_go}
 use Rattle.jv_model.specs.tree.Tree.{Tree, EntryKey, is_directory}
@@ -23,7 +22,6 @@ use Rattle.jv_tree.proofs.MakeLaws.{by_pair}
 use Rattle.jv_volume.specs.TypedRows.{typed}
 use Rattle.jv_volume.specs.TreeOf.{tree_of}
 use Rattle.jv_volume.proofs.WalkShapeLaws.{went_on, required, was_some, same_Ok, entry_within}
-use Rattle.jv_links.specs.declared.removing.Removable.{Removable}
 use Rattle.jv_links.specs.Removable.{removable_at, ComesToRemovable}
 
 -- the entry of a place, with its inode
@@ -42,46 +40,63 @@ module _ (sid : ℕ) (path : List ℕ) (before middle : Store) where
   act t = removable_at t sid path
 
   -- the session is gone, or wasn't read
-  pub removable-no_session : (fault : TxFault) → Looks before middle (Err fault) (session_is sid) → ComesToRemovable before middle (Err fault) act
+  pub removable-no_session : (fault : TxFault) → Looks before middle (Err fault) (session_is sid)
+      → ComesToRemovable before middle (Err fault) act
   removable-no_session fault l = record {
-    looks = past-stops before before middle act (session_is sid) (λ t _. entry_of t path >>= tested t) (past-start before act) fault l;
+    looks = past-stops before before middle act (session_is sid) (λ t _. entry_of t path >>= tested t)
+        (past-start before act) fault l;
     stands = tt;
   }
 
   module _ (session : Looks before middle (Ok tt) (session_is sid)) (walked : Store) where
     inside : Past before middle act (λ t. entry_pair t path >>= at_pair t)
     inside = past-as before middle middle act (λ t. entry_of t path >>= tested t)
-        (past-looks before before middle act (session_is sid) (λ t _. entry_of t path >>= tested t) (past-start before act) tt session)
-        (λ t. entry_pair t path >>= at_pair t) (λ known is whole bytes. (let t = tree_of bytes (typed known) in by_pair (entry_of t path) (tested t)))
+        (past-looks before before middle act (session_is sid) (λ t _. entry_of t path >>= tested t)
+        (past-start before act) tt session)
+        (λ t. entry_pair t path >>= at_pair t) (λ known is whole bytes. (let t = tree_of bytes (typed known) in
+        by_pair (entry_of t path) (tested t)))
 
     -- no entry was walked to
-    pub removable-no_place : (fault : TxFault) → ComesToEntry middle walked (Err fault) (λ t. entry_pair t path) → ComesToRemovable before walked (Err fault) act
-    removable-no_place fault w = record { looks = past-stops before middle walked act (λ t. entry_pair t path) at_pair inside fault w.looks; stands = tt }
+    pub removable-no_place : (fault : TxFault) → ComesToEntry middle walked (Err fault) (λ t. entry_pair t path)
+        → ComesToRemovable before walked (Err fault) act
+    removable-no_place fault w = record {
+      looks = past-stops before middle walked act (λ t. entry_pair t path) at_pair inside fault w.looks;
+      stands =
+          tt;
+    }
 
     module _ (place : EntryPlace) (w : ComesToEntry middle walked (Ok place) (λ t. entry_pair t path)) where
       abbrev here : EntryKey
       here = record { dir = place.dir.inode; name = place.name }
 
       arrived : Past before walked act (λ t. tested t here)
-      arrived = past-looks before middle walked act (λ t. entry_pair t path) at_pair inside (place.dir.inode, place.name) w.looks
+      arrived = past-looks before middle walked act (λ t. entry_pair t path) at_pair inside
+          (place.dir.inode, place.name) w.looks
 
       -- it is `.trash` or one of its hours
-      pub removable-not_permitted : may_go here ≡ false → ComesToRemovable before walked (Err (Refused NotPermitted)) act
+      pub removable-not_permitted : may_go here ≡ false
+          → ComesToRemovable before walked (Err (Refused NotPermitted)) act
       removable-not_permitted is = record {
-        looks = past-refuses before walked act NotPermitted (past-as before walked walked act (λ t. tested t here) arrived (λ t. Err NotPermitted)
-            (λ known at whole bytes. (let t = tree_of bytes (typed known) in ap (λ b. require b NotPermitted >>= (λ _. named_at t here)) is)));
+        looks = past-refuses before walked act NotPermitted
+            (past-as before walked walked act (λ t. tested t here) arrived (λ t. Err NotPermitted)
+            (λ known at whole bytes. (let t = tree_of bytes (typed known) in
+            ap (λ b. require b NotPermitted >>= (λ _. named_at t here)) is)));
         stands = tt;
       }
 
       module _ (may : may_go here ≡ true) (after : Store) where
         allowed : Past before walked act (λ t. named_at t here)
         allowed = past-as before walked walked act (λ t. tested t here) arrived (λ t. named_at t here)
-            (λ known at whole bytes. (let t = tree_of bytes (typed known) in ap (λ b. require b NotPermitted >>= (λ _. named_at t here)) may))
+            (λ known at whole bytes. (let t = tree_of bytes (typed known) in
+            ap (λ b. require b NotPermitted >>= (λ _. named_at t here)) may))
 
         -- it isn't there, or wasn't read
-        pub removable-none : (fault : TxFault) → Comes walked after (Err fault) (λ t. some_or (get t.entries here) NotFound) → ComesToRemovable before after (Err fault) act
+        pub removable-none : (fault : TxFault)
+            → Comes walked after (Err fault) (λ t. some_or (get t.entries here) NotFound)
+            → ComesToRemovable before after (Err fault) act
         removable-none fault c = record {
-          looks = past-stops before walked after act (λ t. some_or (get t.entries here) NotFound) (λ t inode. Ok (here, inode)) allowed fault c.looks;
+          looks = past-stops before walked after act (λ t. some_or (get t.entries here) NotFound)
+              (λ t inode. Ok (here, inode)) allowed fault c.looks;
           stands = tt;
         }
 
@@ -90,7 +105,8 @@ module _ (sid : ℕ) (path : List ℕ) (before middle : Store) where
             → ComesToRemovable before after (Ok (record { dir = place.dir.inode; name = place.name; node = node })) act
         removable-found node c = record {
           looks = past-gives before after act (here, node.inode)
-              (past-looks before walked after act (λ t. some_or (get t.entries here) NotFound) (λ t inode. Ok (here, inode)) allowed node.inode c.looks);
+              (past-looks before walked after act (λ t. some_or (get t.entries here) NotFound)
+              (λ t inode. Ok (here, inode)) allowed node.inode c.looks);
           stands = c.stands;
         }
 
@@ -105,10 +121,12 @@ pub record IsRemovable (t : Tree) (sid : ℕ) (place : EntryKey) (inode : ℕ) :
 same_pair : (x y : EntryKey × ℕ) → x ≡ y → (x.0 ≡ y.0) × (x.1 ≡ y.1)
 same_pair x y e = (ap (λ p. p.0) e, ap (λ p. p.1) e)
 
-pub is_removable : (t : Tree) (sid : ℕ) (path : List ℕ) (place : EntryKey) (inode : ℕ) → removable_at t sid path ≡ Ok (place, inode)
+pub is_removable : (t : Tree) (sid : ℕ) (path : List ℕ) (place : EntryKey) (inode : ℕ)
+    → removable_at t sid path ≡ Ok (place, inode)
     → IsRemovable t sid place inode
 is_removable t sid path place inode h =
-    let in_it = went_on (require (is_some (get t.sessions sid)) (Stale (Session sid))) (λ _. entry_of t path >>= tested t) (place, inode) h in
+    let in_it = went_on (require (is_some (get t.sessions sid)) (Stale (Session sid)))
+    (λ _. entry_of t path >>= tested t) (place, inode) h in
     let entry = went_on (entry_of t path) (tested t) (place, inode) in_it.2 in
     let test = went_on (require (may_go entry.0) NotPermitted) (λ _. named_at t entry.0) (place, inode) entry.2 in
     let there = went_on (some_or (get t.entries entry.0) NotFound) (λ i. Ok (entry.0, i)) (place, inode) test.2 in

@@ -1,19 +1,20 @@
 -- What lets the small changes of a removal be made: facts of whole trees.
-use Rattle.std.proofs.Common.{◌≡◌, ◌≢◌, ℕ, ◌<◌, ◌≤◌, Bool, true, false, not, ◌&&◌, ◌||◌, ◌==◌, inl, inr, List, Option, None, Some, is_some, refl, sym, ap, subst, ◌∙◌, arith, ne_eqb, eq-eqb, eqb-true}
-use Rattle.std.specs.Prelude.{IsTrue, nat_lt}
-use Rattle.std.proofs.lemmas.Bool.{false≢true, and_from, and_parts, not-true, or_parts, lt-ltb, ltb-true, ltb-false, eqb-false, cases_lt, cases_eq}
-use Rattle.jv_model.specs.FiniteMap.{get, remove}
+use Rattle.std.proofs.Common.{◌≡◌, ◌≢◌, ℕ, ◌<◌, true, false, not, ◌==◌, inl, inr, Some, is_some, sym, ap, subst, ◌∙◌, arith, ne_eqb}
+use Rattle.std.specs.Prelude.{nat_lt}
+use Rattle.std.proofs.lemmas.Bool.{false≢true, and_from, not-true, or_parts, lt-ltb, eqb-false, cases_lt}
+use Rattle.jv_model.specs.FiniteMap.{get}
 use Rattle.jv_model.specs.tree.Changes.{touched, take_entry}
 use Rattle.jv_model.specs.tree.Removing.{may_go}
-use Rattle.jv_model.specs.tree.Tree.{Tree, EntryKey, entry_key, root, trash_root, in_trash, is_counted, is_directory, has_entries, node_at}
+use Rattle.jv_model.specs.tree.Tree.{Tree, EntryKey, entry_key, root, trash_root, is_counted, is_directory, has_entries, node_at}
 use Rattle.jv_model.specs.tree.Walk.{is_trash}
 use Rattle.jv_changes.specs.Ready.{StandsAt, MayGo}
-use Rattle.jv_volume.specs.Shape.{Dir, WholeShape, shape_of, is_there, is_dir, is_top, named, names}
+use Rattle.jv_volume.specs.Shape.{WholeShape, shape_of, is_dir, names}
 use Rattle.jv_volume.proofs.ChangeLaws.{change_node-apart, change_node-next_inode}
 use Rattle.jv_volume.proofs.RemovalLaws.{directory_may_go, leaf_empty}
-use Rattle.jv_volume.proofs.ShapeMapLaws.{was_kept, only_one, is_there-form, is_dir-form, there_of_dir}
+use Rattle.jv_volume.proofs.ShapeMapLaws.{was_kept, only_one, is_there-form, is_dir-form}
 
-module _ (t : Tree) (place : EntryKey) (inode : ℕ) (whole : WholeShape (shape_of t)) (is : get t.entries place ≡ Some inode) where
+module _ (t : Tree) (place : EntryKey) (inode : ℕ) (whole : WholeShape (shape_of t))
+    (is : get t.entries place ≡ Some inode) where
   -- its node is there
   pub node_there : is_some (node_at t inode) ≡ true
   node_there = sym (is_there-form (node_at t inode)) ∙ (whole.entry place inode is).there
@@ -31,15 +32,18 @@ module _ (t : Tree) (place : EntryKey) (inode : ℕ) (whole : WholeShape (shape_
       (eqb-false inode root parts.0, eqb-false inode trash_root parts.1)
 
   counted_low : inode < trash_root → is_counted inode ≡ true
-  counted_low low = and_from (not (inode == root)) (nat_lt inode trash_root) (ap not (ne_eqb inode root top_apart.0)) (lt-ltb inode trash_root low)
+  counted_low low = and_from (not (inode == root)) (nat_lt inode trash_root) (ap not (ne_eqb inode root top_apart.0))
+      (lt-ltb inode trash_root low)
 
   -- what goes with its only entry
-  may_go_low : (now : ℕ) → place.dir ≢ inode → inode < trash_root → ((at : EntryKey) → get t.entries at ≡ Some inode → at ≡ place) → MayGo (take_entry t now place) inode
+  may_go_low : (now : ℕ) → place.dir ≢ inode → inode < trash_root
+      → ((at : EntryKey) → get t.entries at ≡ Some inode → at ≡ place) → MayGo (take_entry t now place) inode
   may_go_low now apart low only = record {
     there = ap is_some (change_node-apart t place.dir (touched now) inode (λ e. apart (sym e))) ∙ node_there;
     unnamed = λ at there. (let kept = was_kept entry_key t.entries place at inode there in kept.0 (only at kept.1));
     counted = counted_low low;
-    given = subst (λ n. inode < n) (sym (change_node-next_inode t place.dir (touched now))) (whole.below inode (whole.entry place inode is).there (lt-ltb inode trash_root low));
+    given = subst (λ n. inode < n) (sym (change_node-next_inode t place.dir (touched now)))
+        (whole.below inode (whole.entry place inode is).there (lt-ltb inode trash_root low));
   }
 
   -- a file or a symlink is none of the trash's directories, and a directory that may go isn't either
@@ -48,7 +52,8 @@ module _ (t : Tree) (place : EntryKey) (inode : ℕ) (whole : WholeShape (shape_
     | inl low ↦ low
     | inr high ↦
         let other = top_apart.1 in
-        let hours = whole.hours inode (whole.entry place inode is).there (lt-ltb trash_root inode (omega (arith, high, other))) in
+        let hours = whole.hours inode (whole.entry place inode is).there
+        (lt-ltb trash_root inode (omega (arith, high, other))) in
         absurd (false≢true (sym (is_dir-form (node_at t inode) ∙ leaf) ∙ ap is_dir hours.1))
   ]
 
@@ -76,10 +81,14 @@ module _ (t : Tree) (place : EntryKey) (inode : ℕ) (whole : WholeShape (shape_
   empty_apart dir vacant = (directory_may_go t place inode whole is dir vacant).empty place inode is
 
   -- an empty directory goes with its entry
-  pub empty_goes : (now : ℕ) → is_directory t inode ≡ true → has_entries t inode ≡ false → may_go place ≡ true → MayGo (take_entry t now place) inode
+  pub empty_goes : (now : ℕ) → is_directory t inode ≡ true → has_entries t inode ≡ false → may_go place ≡ true
+      → MayGo (take_entry t now place) inode
   empty_goes now dir vacant may =
-      may_go_low now (empty_apart dir vacant) (directory_low may) (directory_may_go t place inode whole is dir vacant).only
+      may_go_low now (empty_apart dir vacant) (directory_low may)
+      (directory_may_go t place inode whole is dir vacant).only
 
   -- and so does a file or a symlink with its last
-  pub leaf_goes : (now : ℕ) → is_directory t inode ≡ false → names (shape_of t) inode ≡ 1 → MayGo (take_entry t now place) inode
-  leaf_goes now leaf one = may_go_low now (leaf_apart_dir leaf) (leaf_low leaf) (λ at also. only_one t.entries place at inode one is also)
+  pub leaf_goes : (now : ℕ) → is_directory t inode ≡ false → names (shape_of t) inode ≡ 1
+      → MayGo (take_entry t now place) inode
+  leaf_goes now leaf one = may_go_low now (leaf_apart_dir leaf) (leaf_low leaf)
+      (λ at also. only_one t.entries place at inode one is also)

@@ -31,7 +31,8 @@ use Rattle.jv_links.proofs.TellLaws.{renames-past, tells_none}
 
 -- ---- entries that name one inode
 
-module _ (sid : ℕ) (ready : Tree → Type 0) (store : Store) (source other : ℕ) (otherwise : Tree → Unit {0} → Result Outcome Fault) (same : (source == other) ≡ true) where
+module _ (sid : ℕ) (ready : Tree → Type 0) (store : Store) (source other : ℕ) (otherwise : Tree → Unit {0}
+    → Result Outcome Fault) (same : (source == other) ≡ true) where
   abbrev unless : Tree → Result Outcome Fault
   unless t = unless_same t source other (otherwise t)
 
@@ -39,38 +40,48 @@ module _ (sid : ℕ) (ready : Tree → Type 0) (store : Store) (source other : �
   unless-done t = ap (λ b. elim b as (λ _. Result Outcome Fault) [ true ↦ done t | false ↦ otherwise t tt ]) same
 
   kept : (t : Tree) (d : Outcome) → unless t ≡ Ok d → d.tree.sustained ≡ t.sustained
-  kept t d h = ap (λ (o : Outcome). o.tree.sustained) (sym (same_Ok (record { tree = t; reply = Done }) d (sym (unless-done t) ∙ h)))
+  kept t d h = ap (λ (o : Outcome). o.tree.sustained)
+      (sym (same_Ok (record { tree = t; reply = Done }) d (sym (unless-done t) ∙ h)))
 
   -- nothing changes
   pub renames-same : Renames sid ready store store (Ok None) unless
   renames-same = record {
     does = transacts-answers ready store store (λ removed. Done) unless None
-        (past-as store store store unless unless (past-start store unless) done (λ known is whole bytes. unless-done (tree_of bytes (typed known))));
-    tells = λ known is whole bytes r inode. tells_none (tree_of bytes (typed known)) sid (unless (tree_of bytes (typed known))) (kept (tree_of bytes (typed known))) inode;
+        (past-as store store store unless unless (past-start store unless) done
+        (λ known is whole bytes. unless-done (tree_of bytes (typed known))));
+    tells = λ known is whole bytes r inode. tells_none (tree_of bytes (typed known)) sid
+        (unless (tree_of bytes (typed known))) (kept (tree_of bytes (typed known))) inode;
   }
 
 -- without the test, where they name two
-pub unless-apart : (t : Tree) (source other : ℕ) (otherwise : Unit {0} → Result Outcome Fault) → (source == other) ≡ false → unless_same t source other otherwise ≡ otherwise tt
-unless-apart t source other otherwise apart = ap (λ b. elim b as (λ _. Result Outcome Fault) [ true ↦ done t | false ↦ otherwise tt ]) apart
+pub unless-apart : (t : Tree) (source other : ℕ) (otherwise : Unit {0} → Result Outcome Fault)
+    → (source == other) ≡ false → unless_same t source other otherwise ≡ otherwise tt
+unless-apart t source other otherwise apart =
+    ap (λ b. elim b as (λ _. Result Outcome Fault) [ true ↦ done t | false ↦ otherwise tt ]) apart
 
-module _ (sid : ℕ) (ready : Tree → Type 0) (before after : Store) (source other : ℕ) (otherwise : Tree → Unit {0} → Result Outcome Fault) (apart : (source == other) ≡ false) where
+module _ (sid : ℕ) (ready : Tree → Type 0) (before after : Store) (source other : ℕ) (otherwise : Tree → Unit {0}
+    → Result Outcome Fault) (apart : (source == other) ≡ false) where
   abbrev unless_apart : Tree → Result Outcome Fault
   unless_apart t = unless_same t source other (otherwise t)
 
-  pub renames-apart : (result : Result (Option Removed) TxFault) → Renames sid ready before after result (λ t. otherwise t tt) → Renames sid ready before after result unless_apart
+  pub renames-apart : (result : Result (Option Removed) TxFault)
+      → Renames sid ready before after result (λ t. otherwise t tt) → Renames sid ready before after result unless_apart
   renames-apart result r = renames-past sid ready ready before before after unless_apart (λ t. otherwise t tt)
       (past-as before before before unless_apart unless_apart (past-start before unless_apart) (λ t. otherwise t tt)
-      (λ known is whole bytes. unless-apart (tree_of bytes (typed known)) source other (otherwise (tree_of bytes (typed known))) apart))
+      (λ known is whole bytes. unless-apart (tree_of bytes (typed known)) source other
+      (otherwise (tree_of bytes (typed known))) apart))
       (λ known is whole bytes h. h) result r
 
 -- ---- the parts
 
-by_target : (how : How) (t : Tree) (who : Caller) (from : EntryKey) (source : ℕ) (to : EntryKey) → renamed_by how t who from source to ≡ renamed_with how t who from source to (get t.entries to)
+by_target : (how : How) (t : Tree) (who : Caller) (from : EntryKey) (source : ℕ) (to : EntryKey)
+    → renamed_by how t who from source to ≡ renamed_with how t who from source to (get t.entries to)
 by_target Plain t who from source to = refl
 by_target NoReplace t who from source to = refl
 by_target Exchange t who from source to = refl
 
-module _ (who : Caller) (path to : List ℕ) (how : How) (plain : IsTrue (has_no_zero to)) (sid : ℕ) (same_sid : who.sid ≡ sid) (before middle : Store) where
+module _ (who : Caller) (path to : List ℕ) (how : How) (plain : IsTrue (has_no_zero to)) (sid : ℕ)
+    (same_sid : who.sid ≡ sid) (before middle : Store) where
   abbrev act : Tree → Result Outcome Fault
   act t = rename t who path to how
 
@@ -84,12 +95,15 @@ module _ (who : Caller) (path to : List ℕ) (how : How) (plain : IsTrue (has_no
   reply removed = Done
 
   started : Past before before act (λ t. asks t >>= by_move t)
-  started = past-as before before before act act (past-start before act) (λ t. asks t >>= by_move t) (λ known is whole bytes. (let t = tree_of bytes (typed known) in
+  started = past-as before before before act act (past-start before act) (λ t. asks t >>= by_move t)
+      (λ known is whole bytes. (let t = tree_of bytes (typed known) in
       rename-is t who path to how ∙ ap (λ s. move_asked t s path to how >>= by_move t) same_sid))
 
   -- the ends weren't found
-  pub rename-no_ends : (fault : TxFault) → FindsEnds before middle (Err fault) asks → Transacts {A = Option Removed} (HoldsFiles who.held) before middle (Err fault) reply act
-  rename-no_ends fault f = transacts-refused (HoldsFiles who.held) before middle reply act fault (past-stops before before middle act asks by_move started fault f.looks)
+  pub rename-no_ends : (fault : TxFault) → FindsEnds before middle (Err fault) asks
+      → Transacts {A = Option Removed} (HoldsFiles who.held) before middle (Err fault) reply act
+  rename-no_ends fault f = transacts-refused (HoldsFiles who.held) before middle reply act fault
+      (past-stops before before middle act asks by_move started fault f.looks)
 
   module _ (ends : Ends) (f : FindsEnds before middle (Ok ends) asks) where
     abbrev from : EntryKey
@@ -108,36 +122,52 @@ module _ (who : Caller) (path to : List ℕ) (how : How) (plain : IsTrue (has_no
     looks_up t = Ok (get t.entries target)
 
     found : Past before middle act (λ t. looks_up t >>= with_target t)
-    found = past-as before middle middle act (λ t. by_move t (move_of ends)) (past-looks before before middle act asks by_move started (move_of ends) f.looks)
-        (λ t. looks_up t >>= with_target t) (λ known is whole bytes. by_target how (tree_of bytes (typed known)) who from source target)
+    found = past-as before middle middle act (λ t. by_move t (move_of ends))
+        (past-looks before before middle act asks by_move started (move_of ends) f.looks)
+        (λ t. looks_up t >>= with_target t)
+        (λ known is whole bytes. by_target how (tree_of bytes (typed known)) who from source target)
 
-    is_found : (known : RowMap) → before.rows ≡ Some known → Whole (typed known) → (bytes : ℕ → ℕ → ℕ) → IsMove (tree_of bytes (typed known)) who.sid how (move_of ends)
-    is_found known is whole bytes = is_move (tree_of bytes (typed known)) who.sid path to how (move_of ends) (whole-shape bytes (typed known) whole) plain
-        (ap (λ s. move_asked (tree_of bytes (typed known)) s path to how) same_sid ∙ f.looks.agrees known is whole bytes)
+    is_found : (known : RowMap) → before.rows ≡ Some known → Whole (typed known) → (bytes : ℕ → ℕ → ℕ)
+        → IsMove (tree_of bytes (typed known)) who.sid how (move_of ends)
+    is_found known is whole bytes = is_move (tree_of bytes (typed known)) who.sid path to how (move_of ends)
+        (whole-shape bytes (typed known) whole) plain
+        (ap (λ s. move_asked (tree_of bytes (typed known)) s path to how) same_sid ∙ f.looks.agrees known is whole
+        bytes)
 
     -- the target wasn't looked up
-    pub rename-no_target : (after : Store) (fault : TxFault) → FindsEntry middle after (Err fault) target → Transacts {A = Option Removed} (HoldsFiles who.held) before after (Err fault) reply act
-    rename-no_target after fault e = transacts-refused (HoldsFiles who.held) before after reply act fault (past-stops before middle after act looks_up with_target found fault e.looks)
+    pub rename-no_target : (after : Store) (fault : TxFault) → FindsEntry middle after (Err fault) target
+        → Transacts {A = Option Removed} (HoldsFiles who.held) before after (Err fault) reply act
+    rename-no_target after fault e = transacts-refused (HoldsFiles who.held) before after reply act fault
+        (past-stops before middle after act looks_up with_target found fault e.looks)
 
     -- its place is free
-    pub rename-free : (after last : Store) (result : Result (Option Removed) TxFault) → FindsEntry middle after (Ok None) target
-        → Renames who.sid (λ t. IsFreeMove t who.sid how from source target) after last result (λ t. with_target t None) → Renames who.sid (HoldsFiles who.held) before last result act
-    rename-free after last result e r = renames-past who.sid (λ t. IsFreeMove t who.sid how from source target) (HoldsFiles who.held) before after last act (λ t. with_target t None)
+    pub rename-free : (after last : Store) (result : Result (Option Removed) TxFault)
+        → FindsEntry middle after (Ok None) target
+        → Renames who.sid (λ t. IsFreeMove t who.sid how from source target) after last result (λ t. with_target t None)
+        → Renames who.sid (HoldsFiles who.held) before last result act
+    rename-free after last result e r = renames-past who.sid (λ t. IsFreeMove t who.sid how from source target)
+        (HoldsFiles who.held) before after last act (λ t. with_target t None)
         (past-looks before middle after act looks_up with_target found None e.looks)
         (λ known is whole bytes held. record {
           move = is_found known is whole bytes;
-          free = same_Ok (get (tree_of bytes (typed known)).entries target) None (e.looks.agrees known (f.looks.rows_are ∙ is) whole bytes);
+          free = same_Ok (get (tree_of bytes (typed known)).entries target) None
+              (e.looks.agrees known (f.looks.rows_are ∙ is) whole bytes);
         }) result r
 
     -- an entry is there
-    pub rename-there : (after last : Store) (other : Place) (result : Result (Option Removed) TxFault) → FindsEntry middle after (Ok (Some other)) target
-        → Renames who.sid (λ t. IsOverMove t who how from source target other.inode) after last result (λ t. with_target t (Some other.inode))
+    pub rename-there : (after last : Store) (other : Place) (result : Result (Option Removed) TxFault)
+        → FindsEntry middle after (Ok (Some other)) target
+        → Renames who.sid (λ t. IsOverMove t who how from source target other.inode) after last result
+        (λ t. with_target t (Some other.inode))
         → Renames who.sid (HoldsFiles who.held) before last result act
-    rename-there after last other result e r = renames-past who.sid (λ t. IsOverMove t who how from source target other.inode) (HoldsFiles who.held) before after last act
+    rename-there after last other result e r =
+        renames-past who.sid (λ t. IsOverMove t who how from source target other.inode) (HoldsFiles who.held) before
+        after last act
         (λ t. with_target t (Some other.inode))
         (past-looks before middle after act looks_up with_target found (Some other.inode) e.looks)
         (λ known is whole bytes held. record {
           move = is_found known is whole bytes;
-          there = same_Ok (get (tree_of bytes (typed known)).entries target) (Some other.inode) (e.looks.agrees known (f.looks.rows_are ∙ is) whole bytes);
+          there = same_Ok (get (tree_of bytes (typed known)).entries target) (Some other.inode)
+              (e.looks.agrees known (f.looks.rows_are ∙ is) whole bytes);
           held = held;
         }) result r

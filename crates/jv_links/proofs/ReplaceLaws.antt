@@ -45,12 +45,14 @@ goes_by : (place : EntryKey) → may_be_new place ≡ true → may_go place ≡ 
 goes_by place may =
     let low = new_below place may in
     let off : (place.dir == trash_root) ≡ false = ne_eqb place.dir trash_root (λ e. absurd (omega (arith, low, e))) in
-    let plain : is_trash place.dir place.name ≡ false = (or_parts (in_trash place.dir) (is_trash place.dir place.name) (not-true _ may)).1 in
+    let plain : is_trash place.dir place.name ≡ false =
+    (or_parts (in_trash place.dir) (is_trash place.dir place.name) (not-true _ may)).1 in
     ap (λ b. not (b || is_trash place.dir place.name)) off ∙ ap (λ b. not b) plain
 
 -- the tests before the change
 by_tests : (a b c d : Result (Unit {0}) Fault) (r : Result Outcome Fault)
-    → (a >>= (λ _. b >>= (λ _. c >>= (λ _. d >>= (λ _. r))))) ≡ ((a >>= (λ _. b >>= (λ _. c >>= (λ _. d)))) >>= (λ _. r))
+    → (a >>= (λ _. b >>= (λ _. c >>= (λ _. d >>= (λ _. r))))) ≡
+    ((a >>= (λ _. b >>= (λ _. c >>= (λ _. d)))) >>= (λ _. r))
 by_tests (Err fault) b c d r = refl
 by_tests (Ok u) (Err fault) c d r = refl
 by_tests (Ok u) (Ok v) (Err fault) d r = refl
@@ -60,17 +62,22 @@ by_tests (Ok u) (Ok v) (Ok w) d r = refl
 not_false : (b : Bool) → not b ≡ true → b ≡ false
 not_false b h = not-true b h
 
-allowed : (t : Tree) (dir source other : ℕ) → may_replace t dir source other ≡ Ok tt → (is_inside t dir source ≡ false) × ((is_directory t other && has_entries t other) ≡ false)
+allowed : (t : Tree) (dir source other : ℕ) → may_replace t dir source other ≡ Ok tt
+    → (is_inside t dir source ≡ false) × ((is_directory t other && has_entries t other) ≡ false)
 allowed t dir source other h =
     let last = require (not (is_directory t other && has_entries t other)) DirectoryNotEmpty in
-    let third = λ (u : Unit {0}). require (not (not (is_directory t source) && is_directory t other)) IsADirectory >>= (λ _. last) in
-    let second = λ (u : Unit {0}). require (not (is_directory t source && not (is_directory t other))) NotADirectory >>= third in
+    let third = λ (u : Unit {0}). require (not (not (is_directory t source) && is_directory t other)) IsADirectory >>=
+    (λ _. last) in
+    let second = λ (u : Unit {0}). require (not (is_directory t source && not (is_directory t other))) NotADirectory >>=
+    third in
     let a = went_on (require (not (is_inside t dir source)) Invalid) second tt h in
     let b = went_on (require (not (is_directory t source && not (is_directory t other))) NotADirectory) third tt a.2 in
-    let c = went_on (require (not (not (is_directory t source) && is_directory t other)) IsADirectory) (λ _. last) tt b.2 in
+    let c = went_on (require (not (not (is_directory t source) && is_directory t other)) IsADirectory)
+    (λ _. last) tt b.2 in
     (not_false _ (required _ Invalid a.0 a.1), not_false _ (required _ DirectoryNotEmpty tt c.2))
 
-module _ (who : Caller) (how : How) (ends : Ends) (place : Place) (before : Store) (stand : EndsStand before ends) (there : Stands before place)
+module _ (who : Caller) (how : How) (ends : Ends) (place : Place) (before : Store) (stand : EndsStand before ends)
+    (there : Stands before place)
     (apart : ends.source.inode ≢ place.inode) where
   abbrev from : EntryKey
   from = place_of ends.from
@@ -103,24 +110,33 @@ module _ (who : Caller) (how : How) (ends : Ends) (place : Place) (before : Stor
   reply removed = Done
 
   started : Past before before act (λ t. asks t >>= (λ _. rest t))
-  started = past-as before before before act act (past-start before act) (λ t. asks t >>= (λ _. rest t)) (λ known is whole bytes. (let t = tree_of bytes (typed known) in
-      by_tests (require (not (is_inside t to.dir source)) Invalid) (require (not (is_directory t source && not (is_directory t other))) NotADirectory)
-      (require (not (not (is_directory t source) && is_directory t other)) IsADirectory) (require (not (is_directory t other && has_entries t other)) DirectoryNotEmpty) (rest t)))
+  started = past-as before before before act act (past-start before act) (λ t. asks t >>= (λ _. rest t))
+      (λ known is whole bytes. (let t = tree_of bytes (typed known) in
+      by_tests (require (not (is_inside t to.dir source)) Invalid)
+      (require (not (is_directory t source && not (is_directory t other))) NotADirectory)
+      (require (not (not (is_directory t source) && is_directory t other)) IsADirectory)
+      (require (not (is_directory t other && has_entries t other)) DirectoryNotEmpty) (rest t)))
 
   -- it may not be replaced, or that wasn't read
-  pub replace-refused : (after : Store) (fault : TxFault) → Looks {A = Unit {0}} before after (Err fault) asks → Renames who.sid ready before after (Err fault) act
+  pub replace-refused : (after : Store) (fault : TxFault) → Looks {A = Unit {0}} before after (Err fault) asks
+      → Renames who.sid ready before after (Err fault) act
   replace-refused after fault l = record {
-    does = transacts-refused ready before after reply act fault (past-stops before before after act asks (λ t _. rest t) started fault l);
+    does = transacts-refused ready before after reply act fault
+        (past-stops before before after act asks (λ t _. rest t) started fault l);
     tells = tt;
   }
 
-  module _ (middle : Store) (l : Looks before middle (Ok tt) asks) (low_from : ends.from.dir.node.nlink ≤ MAX_LINKS) (low_source : ends.source.node.nlink ≤ MAX_LINKS)
+  module _ (middle : Store) (l : Looks before middle (Ok tt) asks) (low_from : ends.from.dir.node.nlink ≤ MAX_LINKS)
+      (low_source : ends.source.node.nlink ≤ MAX_LINKS)
       (seconds : ℕ) (now_is : seconds ≡ who.now) (clock : seconds ≤ LAST_MOMENT) where
     started_steps : PastSteps ready before middle [] (λ t. t) act rest
-    started_steps = steps-start ready before middle act rest (past-looks before before middle act asks (λ t _. rest t) started tt l)
+    started_steps = steps-start ready before middle act rest
+        (past-looks before before middle act asks (λ t _. rest t) started tt l)
 
-    may_by : OfWhole ready before (λ t. (is_inside t to.dir source ≡ false) × ((is_directory t other && has_entries t other) ≡ false))
-    may_by known is whole bytes r = allowed (tree_of bytes (typed known)) to.dir source other (l.agrees known is whole bytes)
+    may_by : OfWhole ready before (λ t. (is_inside t to.dir source ≡ false) ×
+        ((is_directory t other && has_entries t other) ≡ false))
+    may_by known is whole bytes r = allowed (tree_of bytes (typed known)) to.dir source other
+        (l.agrees known is whole bytes)
 
     in_time : who.now ≤ LAST_MOMENT
     in_time = subst (λ (n : ℕ). n ≤ LAST_MOMENT) now_is clock
@@ -157,49 +173,66 @@ module _ (who : Caller) (how : How) (ends : Ends) (place : Place) (before : Stor
 
     may_move : OfWhole ready before (λ t. MayMove (without_target t who to other) from source to)
     may_move known is whole bytes r = (let t = tree_of bytes (typed known) in
-        may_move-without_target t who from source to other (whole-shape bytes (typed known) whole) (may_replaced known is whole bytes r) (may_rename known is whole bytes r)
+        may_move-without_target t who from source to other (whole-shape bytes (typed known) whole)
+        (may_replaced known is whole bytes r) (may_rename known is whole bytes r)
         r.move.name apart
-        (links_low t from.dir ends.from.dir (bytes from.dir) (has_node before from.dir ends.from.dir known stand.from.row is whole bytes) low_from)
-        (links_low t source ends.source (bytes source) (has_node before source ends.source known stand.source.row is whole bytes) low_source))
+        (links_low t from.dir ends.from.dir (bytes from.dir)
+        (has_node before from.dir ends.from.dir known stand.from.row is whole bytes) low_from)
+        (links_low t source ends.source (bytes source)
+        (has_node before source ends.source known stand.source.row is whole bytes) low_source))
 
     module _ (was : List Change) (none : was ≡ []) (cleared : List Change) (next : Store) where
       abbrev clears : Tree → Result Tree Fault
       clears t = Ok (left t)
 
       abbrev Clears : Result (Option Removed) TxFault → Type 0
-      Clears result = Drafting (λ t. MayClear t who to other (place.node.kind == 2)) was cleared middle next result clears
+      Clears result = Drafting (λ t. MayClear t who to other (place.node.kind == 2)) was cleared middle next result
+          clears
 
-      from_none : (result : Result (Option Removed) TxFault) → Clears result → Drafting (λ t. MayClear t who to other (place.node.kind == 2)) [] cleared middle next result clears
-      from_none result d = subst (λ (w : List Change). Drafting (λ t. MayClear t who to other (place.node.kind == 2)) w cleared middle next result clears) none d
+      from_none : (result : Result (Option Removed) TxFault) → Clears result
+          → Drafting (λ t. MayClear t who to other (place.node.kind == 2)) [] cleared middle next result clears
+      from_none result d = subst (λ (w : List Change). Drafting (λ t. MayClear t who to other (place.node.kind == 2)) w
+          cleared middle next result clears) none d
 
       -- what is there wasn't removed
-      pub replace-not_cleared : (fault : TxFault) → Clears (Err fault) → Renames who.sid ready before next (Err fault) act
+      pub replace-not_cleared : (fault : TxFault) → Clears (Err fault)
+          → Renames who.sid ready before next (Err fault) act
       replace-not_cleared fault d = record {
-        does = steps-stop ready before middle next [] cleared (λ t. t) reply act rest started_steps fault (λ t. MayClear t who to other (place.node.kind == 2)) clears (from_none (Err fault) d)
+        does = steps-stop ready before middle next [] cleared (λ t. t) reply act rest started_steps fault
+            (λ t. MayClear t who to other (place.node.kind == 2)) clears (from_none (Err fault) d)
             may_clear (λ known is whole bytes r refused h. absurd (cc));
         tells = tt;
       }
 
-      module _ (removed : Option Removed) (d : Clears (Ok removed)) (now : ℕ) (same_now : who.now ≡ now) (changes : List Change) (last : Store) where
+      module _ (removed : Option Removed) (d : Clears (Ok removed)) (now : ℕ) (same_now : who.now ≡ now)
+          (changes : List Change) (last : Store) where
         stepped : PastSteps ready before next cleared left act rest
-        stepped = steps-on ready before middle next [] cleared (λ t. t) act rest started_steps removed (λ t. MayClear t who to other (place.node.kind == 2)) clears left (from_none (Ok removed) d)
+        stepped = steps-on ready before middle next [] cleared (λ t. t) act rest started_steps removed
+            (λ t. MayClear t who to other (place.node.kind == 2)) clears left (from_none (Ok removed) d)
             may_clear (λ known is whole bytes r. refl)
 
         abbrev moves : Tree → Result Tree Fault
         moves = moved_within who.now from source to
 
         abbrev Moving : Result (Unit {0}) TxFault → Type 0
-        Moving result = Drafting (λ t. MayMove t from source to) cleared changes next last result (moved_within now from source to)
+        Moving result = Drafting (λ t. MayMove t from source to) cleared changes next last result
+            (moved_within now from source to)
 
-        as_model : (result : Result (Unit {0}) TxFault) → Moving result → Drafting (λ t. MayMove t from source to) cleared changes next last result moves
-        as_model result m = subst (λ n. Drafting (λ t. MayMove t from source to) cleared changes next last result (moved_within n from source to)) (sym same_now) m
+        as_model : (result : Result (Unit {0}) TxFault) → Moving result
+            → Drafting (λ t. MayMove t from source to) cleared changes next last result moves
+        as_model result m = subst (λ n. Drafting (λ t. MayMove t from source to) cleared changes next last result
+            (moved_within n from source to)) (sym same_now) m
 
         -- the entry wasn't moved
-        pub replace-not_moved : (fault : TxFault) → Moving (Err fault) → Renames who.sid ready before last (Err fault) act
+        pub replace-not_moved : (fault : TxFault) → Moving (Err fault)
+            → Renames who.sid ready before last (Err fault) act
         replace-not_moved fault m = record {
-          does = steps-stop ready before next last cleared changes left reply act rest stepped fault (λ t. MayMove t from source to) moves (as_model (Err fault) m)
+          does = steps-stop ready before next last cleared changes left reply act rest stepped fault
+              (λ t. MayMove t from source to) moves (as_model (Err fault) m)
               may_move
-              (λ known is whole bytes r refused h. (let after = moved (left (tree_of bytes (typed known))) who.now from source to in refused_by (links_fit after from.dir && links_fit after to.dir) after refused h));
+              (λ known is whole bytes r refused h.
+              (let after = moved (left (tree_of bytes (typed known))) who.now from source to in
+              refused_by (links_fit after from.dir && links_fit after to.dir) after refused h));
           tells = tt;
         }
 
@@ -209,35 +242,46 @@ module _ (who : Caller) (how : How) (ends : Ends) (place : Place) (before : Stor
 
           fits : OfWhole ready before (λ t. (links_fit (final t) from.dir && links_fit (final t) to.dir) ≡ true)
           fits known is whole bytes r =
-              let made = steps-made ready before next last cleared changes left act rest stepped tt (λ t. MayMove t from source to) moves (as_model (Ok tt) m) may_move known is whole bytes r in
+              let made = steps-made ready before next last cleared changes left act rest stepped tt
+              (λ t. MayMove t from source to) moves (as_model (Ok tt) m) may_move known is whole bytes r in
               let after = final (tree_of bytes (typed known)) in
               (tested_by (links_fit after from.dir && links_fit after to.dir) after made.0 made.1).0
 
           went : PastSteps ready before last changes final act rest
-          went = steps-on ready before next last cleared changes left act rest stepped tt (λ t. MayMove t from source to) moves final (as_model (Ok tt) m) may_move
-              (λ known is whole bytes r. (let after = final (tree_of bytes (typed known)) in ap (λ b. require b NoSpace >>= (λ _. Ok after)) (fits known is whole bytes r)))
+          went = steps-on ready before next last cleared changes left act rest stepped tt
+              (λ t. MayMove t from source to) moves final (as_model (Ok tt) m) may_move
+              (λ known is whole bytes r. (let after = final (tree_of bytes (typed known)) in
+              ap (λ b. require b NoSpace >>= (λ _. Ok after)) (fits known is whole bytes r)))
 
           -- the changes weren't committed
-          pub replace-not_committed : (after : Store) (down : Down) → Commits last after (Err down) changes → Renames who.sid ready before after (Err (OfRows (row_fault down))) act
+          pub replace-not_committed : (after : Store) (down : Down) → Commits last after (Err down) changes
+              → Renames who.sid ready before after (Err (OfRows (row_fault down))) act
           replace-not_committed after down c = record {
-            does = steps-fail ready before last after changes changes final reply act rest went (OfRows (row_fault down)) (fails-commit last after down changes c);
+            does = steps-fail ready before last after changes changes final reply act rest went
+                (OfRows (row_fault down)) (fails-commit last after down changes c);
             tells = tt;
           }
 
           ends_done : OfWhole ready before (λ t. rest t ≡ done (final t))
-          ends_done known is whole bytes r = (let after = final (tree_of bytes (typed known)) in ap (λ b. require b NoSpace >>= (λ _. done after)) (fits known is whole bytes r))
+          ends_done known is whole bytes r = (let after = final (tree_of bytes (typed known)) in
+              ap (λ b. require b NoSpace >>= (λ _. done after)) (fits known is whole bytes r))
 
           -- they were
-          pub replace-made : TellsCleared who to other (place.node.kind == 2) was middle (Ok removed) → (after : Store) → Commits last after (Ok tt) changes
+          pub replace-made : TellsCleared who to other (place.node.kind == 2) was middle (Ok removed) → (after : Store)
+              → Commits last after (Ok tt) changes
               → Renames who.sid ready before after (Ok removed) act
           replace-made tells after c = record {
             does = steps-commit ready before last after changes changes final reply act rest went removed c ends_done
-                (λ known is whole bytes r. whole-replaced (tree_of bytes (typed known)) who to other (whole-shape bytes (typed known) whole) (may_replaced known is whole bytes r) from source
+                (λ known is whole bytes r. whole-replaced (tree_of bytes (typed known)) who to other
+                (whole-shape bytes (typed known) whole) (may_replaced known is whole bytes r) from source
                 (may_rename known is whole bytes r) apart);
             tells = λ known is whole bytes r inode.
                 let t = tree_of bytes (typed known) in
-                ap (λ o. is_sustained (outcome t o).tree who.sid inode && not (is_sustained t who.sid inode)) (went.goes_on known is whole bytes r ∙ ends_done known is whole bytes r)
-                ∙ ap (λ p. is_some (get p (record { sid = who.sid; inode = inode })) && not (is_sustained t who.sid inode)) (moved-sustained (left t) who.now from source to)
-                ∙ subst (λ (w : List Change). TellsCleared who to other (place.node.kind == 2) w middle (Ok removed)) none tells known (l.rows_are ∙ is) bytes t
+                ap (λ o. is_sustained (outcome t o).tree who.sid inode && not (is_sustained t who.sid inode))
+                (went.goes_on known is whole bytes r ∙ ends_done known is whole bytes r)
+                ∙ ap (λ p. is_some (get p (record { sid = who.sid; inode = inode })) && not
+                (is_sustained t who.sid inode)) (moved-sustained (left t) who.now from source to)
+                ∙ subst (λ (w : List Change). TellsCleared who to other (place.node.kind == 2) w middle (Ok removed))
+                none tells known (l.rows_are ∙ is) bytes t
                 (started_steps.minds known is whole bytes r) (may_clear known is whole bytes r) inode;
           }

@@ -1,8 +1,8 @@
 -- What a removal leaves of links, and that an entry may move to the place that it makes free.
-use Rattle.std.proofs.Common.{◌≡◌, ◌≢◌, ℕ, ◌≤◌, Bool, true, false, not, ◌&&◌, ◌==◌, inl, inr, Option, None, Some, is_some, refl, sym, ap, ◌∙◌, arith}
+use Rattle.std.proofs.Common.{◌≡◌, ◌≢◌, ℕ, ◌≤◌, Bool, true, false, not, ◌&&◌, ◌==◌, Option, None, Some, is_some, refl, sym, ap, ◌∙◌, arith}
 use Rattle.std.specs.Prelude.{IsTrue, nat_lt}
 use Rattle.std.specs.List.{list_any}
-use Rattle.std.proofs.lemmas.Bool.{false≢true, cases_Bool, cond_both, ltb-false, and_parts, not-true, le-leb}
+use Rattle.std.proofs.lemmas.Bool.{false≢true, cond_both, and_parts, not-true, le-leb}
 use Rattle.std.proofs.lemmas.Option.{same_Some}
 use Rattle.jv_model.specs.declared.limits.TheConstants.{MAX_LINKS}
 use Rattle.jv_model.specs.tree.Caller.{Caller}
@@ -11,15 +11,15 @@ use Rattle.jv_model.specs.tree.HourNames.{hour_at}
 use Rattle.jv_model.specs.tree.Removing.{Fate, Linked, Trashed, Sustained, Dropped, fate_of, with_fate, remove_entry, remove_directory}
 use Rattle.jv_model.specs.tree.Renaming.{without_target}
 use Rattle.jv_model.specs.tree.Trash.{hour_inode, hour_place, trash_place, trash_name, with_hour}
-use Rattle.jv_model.specs.tree.Tree.{Tree, Node, Directory, EntryKey, trash_root, in_trash, new_node, read_only_mode, node_at, is_directory, has_entries, entry_count, link_count, links_fit}
+use Rattle.jv_model.specs.tree.Tree.{Tree, Node, Directory, EntryKey, trash_root, in_trash, new_node, read_only_mode, node_at, is_directory, entry_count, link_count, links_fit}
 use Rattle.jv_volume.specs.Shape.{Shape, WholeShape, shape_of, is_there, is_dir, names, named}
 use Rattle.jv_volume.specs.TypedRows.{is_entry_name}
 use Rattle.jv_volume.proofs.ClimbLaws.{avoids_outside, avoids_without, outside_avoids}
 use Rattle.jv_volume.proofs.LinkLaws.{IsFree, standing_apart, link_count-change_node, link_count-put_entry-leaf, link_count-take_entry-leaf, link_count-beside_dir, link_count-without_leaf, link_count-without_dir}
-use Rattle.jv_volume.proofs.MoveLaws.{MayRename, MayReplace, not_trash_root, whole-without_target, beside-without_target}
-use Rattle.jv_volume.proofs.RemovalLaws.{directory_may_go, leaf_empty}
+use Rattle.jv_volume.proofs.MoveLaws.{MayRename, MayReplace, no_entries, not_trash_root, target_empty, whole-without_target, beside-without_target}
+use Rattle.jv_volume.proofs.RemovalLaws.{directory_may_go, one_entry}
 use Rattle.jv_volume.proofs.ShapeLossLaws.{parent_apart}
-use Rattle.jv_volume.proofs.ShapeMapLaws.{naming_apart, only_one, counted_once, parent_of_dir, is_dir-form, is_there-form, is_directory-form, there_of_dir, shape-take_entry}
+use Rattle.jv_volume.proofs.ShapeMapLaws.{naming_apart, only_one, parent_of_dir, is_dir-form, is_there-form, is_directory-form, there_of_dir, shape-take_entry}
 use Rattle.jv_links.specs.Losses.{IsToTrash}
 use Rattle.jv_links.specs.Moves.{MayMove}
 use Rattle.jv_links.specs.Removals.{MayLose}
@@ -31,7 +31,8 @@ use Rattle.jv_links.proofs.TrashStepLaws.{trash_hour, trash_stands, leaf_made}
 -- ---- the links of what a file or a symlink leaves
 
 -- an hour's directory that comes changes the links of the trash alone
-module _ (less : Tree) (now : ℕ) (place : EntryKey) (inode : ℕ) (may : IsToTrash less now place inode) (j : ℕ) (off : j ≢ trash_root) (here : is_some (node_at less j) ≡ true) where
+module _ (less : Tree) (now : ℕ) (place : EntryKey) (inode : ℕ) (may : IsToTrash less now place inode) (j : ℕ)
+    (off : j ≢ trash_root) (here : is_some (node_at less j) ≡ true) where
   abbrev hour_node : Node
   hour_node = new_node (Directory trash_root) read_only_mode now
 
@@ -45,24 +46,30 @@ module _ (less : Tree) (now : ℕ) (place : EntryKey) (inode : ℕ) (may : IsToT
       ]) j ≡ link_count less j
       by_node None none =
           let m = trash_hour less now place inode may in
-          let apart : j ≢ hour_inode (hour_at now) = λ e. false≢true (sym (ap (λ o. is_some o) (ap (node_at less) e ∙ none)) ∙ here) in
-          let free : IsFree less (hour_inode (hour_at now)) = record { absent = none; unnamed = m.unnamed none; empty = m.empty none } in
-          link_count-beside_dir less now (hour_place (hour_at now)) (hour_inode (hour_at now)) hour_node free (m.free none) refl m.trash j apart
+          let apart : j ≢ hour_inode (hour_at now) =
+          λ e. false≢true (sym (ap (λ o. is_some o) (ap (node_at less) e ∙ none)) ∙ here) in
+          let free : IsFree less (hour_inode (hour_at now)) =
+          record { absent = none; unnamed = m.unnamed none; empty = m.empty none } in
+          link_count-beside_dir less now (hour_place (hour_at now)) (hour_inode (hour_at now)) hour_node free
+          (m.free none) refl m.trash j apart
           ∙ (let alone = standing_apart j (hour_place (hour_at now)) (λ e. off (sym e)) in omega (arith, alone))
       by_node (Some node) is = refl
 
   -- so does its entry there
   pub links-trashed : IsTrue (is_entry_name (trash_name place inode)) → j ≢ inode
-      → link_count (put_entry (with_hour less now (hour_at now)) now (trash_place (hour_at now) place inode) inode) j ≡ link_count less j
+      → link_count (put_entry (with_hour less now (hour_at now)) now (trash_place (hour_at now) place inode) inode)
+      j ≡ link_count less j
   links-trashed name other =
       let made = with_hour less now (hour_at now) in
       let at = trash_place (hour_at now) place inode in
-      let all = link_count-put_entry-leaf made now at inode j (trash_stands less now place inode may name).free (leaf_made less now place inode may) in
+      let all = link_count-put_entry-leaf made now at inode j (trash_stands less now place inode may name).free
+      (leaf_made less now place inode may) in
       let nothing = naming_apart j at inode (λ e. other (sym e)) in
       let same = beside in
       omega (arith, all, nothing, same)
 
-module _ (t : Tree) (who : Caller) (place : EntryKey) (inode : ℕ) (may : MayLose t who place inode) (name : IsTrue (is_entry_name place.name))
+module _ (t : Tree) (who : Caller) (place : EntryKey) (inode : ℕ) (may : MayLose t who place inode)
+    (name : IsTrue (is_entry_name place.name))
     (j : ℕ) (other : j ≢ inode) (off : j ≢ trash_root) (here : IsTrue (is_there ((shape_of t).form j))) where
   abbrev less : Tree
   less = take_entry t who.now place
@@ -72,12 +79,6 @@ module _ (t : Tree) (who : Caller) (place : EntryKey) (inode : ℕ) (may : MayLo
       let all = link_count-take_entry-leaf t who.now place inode j may.is may.leaf in
       let nothing = naming_apart j place inode (λ e. other (sym e)) in
       omega (arith, all, nothing)
-
-  one_entry : nat_lt 1 (entry_count t inode) ≡ false → names (shape_of t) inode ≡ 1
-  one_entry few =
-      let most : entry_count t inode ≤ 1 = ltb-false 1 (entry_count t inode) few in
-      let least : 1 ≤ names (shape_of t) inode = counted_once t.entries place inode may.is in
-      omega (arith, most, least)
 
   abbrev Keeps : Fate → Type 0
   Keeps fate = link_count (with_fate fate less who place inode) j ≡ link_count t j
@@ -89,9 +90,11 @@ module _ (t : Tree) (who : Caller) (place : EntryKey) (inode : ℕ) (may : MayLo
   keeps_sustained = keeps_linked
 
   keeps_dropped : names (shape_of t) inode ≡ 1 → Keeps Dropped
-  keeps_dropped one = link_count-without_leaf t who.now place inode may.is (λ at also. only_one t.entries place at inode one may.is also) j other may.leaf
+  keeps_dropped one = link_count-without_leaf t who.now place inode may.is
+      (λ at also. only_one t.entries place at inode one may.is also) j other may.leaf
 
-  keeps_trashed : names (shape_of t) inode ≡ 1 → (nat_lt 0 t.setting.trash_days && not (in_trash place.dir)) ≡ true → Keeps Trashed
+  keeps_trashed : names (shape_of t) inode ≡ 1 → (nat_lt 0 t.setting.trash_days && not (in_trash place.dir)) ≡ true
+      → Keeps Trashed
   keeps_trashed one days =
       let to_trash : IsToTrash less who.now place inode = record {
         before = t;
@@ -104,15 +107,19 @@ module _ (t : Tree) (who : Caller) (place : EntryKey) (inode : ℕ) (may : MayLo
         clock = may.clock;
         name = name;
       } in
-      let there : is_some (node_at less j) ≡ true = sym (is_there-form (node_at less j)) ∙ ap (λ (s : Shape). is_there (s.form j)) (shape-take_entry t who.now place) ∙ here in
-      link_count-change_node (put_entry (with_hour less who.now (hour_at who.now)) who.now (trash_place (hour_at who.now) place inode) inode) inode (status_changed who.now) (λ node. refl) j
+      let there : is_some (node_at less j) ≡ true = sym (is_there-form (node_at less j))
+      ∙ ap (λ (s : Shape). is_there (s.form j)) (shape-take_entry t who.now place) ∙ here in
+      link_count-change_node (put_entry (with_hour less who.now (hour_at who.now)) who.now
+      (trash_place (hour_at who.now) place inode) inode) inode (status_changed who.now) (λ node. refl) j
       ∙ links-trashed less who.now place inode to_trash j off there (trash_name-entry place inode name) other
       ∙ less_links
 
   kept_links : Keeps (fate_of t who place inode)
   kept_links = cond_both (nat_lt 1 (entry_count t inode)) _ _ Keeps (λ several. keeps_linked) (λ few.
-      cond_both (nat_lt 0 t.setting.trash_days && not (in_trash place.dir)) _ _ Keeps (keeps_trashed (one_entry few)) (λ keeps_none.
-      cond_both (list_any (λ held. held == inode) who.held) _ _ Keeps (λ used. keeps_sustained) (λ closed. keeps_dropped (one_entry few))))
+      cond_both (nat_lt 0 t.setting.trash_days && not (in_trash place.dir)) _ _ Keeps
+      (keeps_trashed (one_entry t place inode may.is few)) (λ keeps_none.
+      cond_both (list_any (λ held. held == inode) who.held) _ _ Keeps (λ used. keeps_sustained)
+      (λ closed. keeps_dropped (one_entry t place inode may.is few))))
 
   -- other inodes have the links that they had, but the trash
   pub links-remove_entry : link_count (remove_entry t who place inode) j ≡ link_count t j
@@ -121,7 +128,8 @@ module _ (t : Tree) (who : Caller) (place : EntryKey) (inode : ℕ) (may : MayLo
 
 -- ---- the tree without the target of a rename
 
-module _ (t : Tree) (who : Caller) (from : EntryKey) (source : ℕ) (to : EntryKey) (other : ℕ) (whole : WholeShape (shape_of t)) (may : MayReplace t who to other)
+module _ (t : Tree) (who : Caller) (from : EntryKey) (source : ℕ) (to : EntryKey) (other : ℕ)
+    (whole : WholeShape (shape_of t)) (may : MayReplace t who to other)
     (rename : MayRename t from source to) (name : IsTrue (is_entry_name to.name)) (apart : source ≢ other) where
   abbrev s : Shape
   s = shape_of t
@@ -129,37 +137,43 @@ module _ (t : Tree) (who : Caller) (from : EntryKey) (source : ℕ) (to : EntryK
   abbrev after : Tree
   after = without_target t who to other
 
-  no_entries : is_directory t other ≡ true → has_entries t other ≡ false
-  no_entries dir = sym (ap (λ b. b && has_entries t other) dir) ∙ may.vacant
-
-  -- no entry stands in the target
-  target_empty : (at : EntryKey) (i : ℕ) → named (shape_of t) at ≡ Some i → at.dir ≢ other
-  target_empty = elim (cases_Bool (is_directory t other)) [
-    | inl dir ↦ (directory_may_go t to other whole may.is dir (no_entries dir)).empty
-    | inr leaf ↦ leaf_empty (shape_of t) other whole (is_dir-form (node_at t other) ∙ leaf)
-  ]
-
   to_within : is_directory t to.dir ≡ true
   to_within = rename.within
 
-  least_by : (b : Bool) → is_directory t other ≡ b → (j : ℕ) → j ≢ other → j ≢ trash_root → IsTrue (is_there ((shape_of t).form j))
-      → link_count (elim b as (λ _. Tree) [ true ↦ remove_directory t who.now to other | false ↦ remove_entry t who to other ]) j ≤ link_count t j
+  least_by : (b : Bool) → is_directory t other ≡ b → (j : ℕ) → j ≢ other → j ≢ trash_root
+      → IsTrue (is_there ((shape_of t).form j))
+      → link_count (elim b as (λ _. Tree) [
+        | true ↦ remove_directory t who.now to other
+        | false ↦
+            remove_entry t who to other
+      ]) j ≤ link_count t j
   least_by true dir j aside off here =
-      let only = (directory_may_go t to other whole may.is dir (no_entries dir)).only in
+      let only = (directory_may_go t to other whole may.is dir (no_entries t who to other whole may dir)).only in
       let all = link_count-without_dir t who.now to other may.is only j aside dir rename.within in
       omega (arith, all)
   least_by false leaf j aside off here =
-      let all = links-remove_entry t who to other (record { whole = whole; is = may.is; leaf = leaf; session = may.session; held = may.held; clock = may.clock }) name j aside off here in
+      let all = links-remove_entry t who to other
+      (record {
+        whole = whole;
+        is = may.is;
+        leaf = leaf;
+        session = may.session;
+        held = may.held;
+        clock =
+            may.clock;
+      }) name j aside off here in
       omega (arith, all)
 
-  fits : (j : ℕ) → j ≢ other → j ≢ trash_root → IsTrue (is_there ((shape_of t).form j)) → links_fit t j ≡ true → links_fit (without_target t who to other) j ≡ true
+  fits : (j : ℕ) → j ≢ other → j ≢ trash_root → IsTrue (is_there ((shape_of t).form j)) → links_fit t j ≡ true
+      → links_fit (without_target t who to other) j ≡ true
   fits j aside off here fit =
       let least = least_by (is_directory t other) refl j aside off here in
       let known = le_of_test (link_count t j) MAX_LINKS fit in
       le-leb (link_count (without_target t who to other) j) MAX_LINKS (omega (arith, least, known))
 
   -- what is left may move there
-  pub may_move-without_target : links_fit t from.dir ≡ true → links_fit t source ≡ true → MayMove (without_target t who to other) from source to
+  pub may_move-without_target : links_fit t from.dir ≡ true → links_fit t source ≡ true
+      → MayMove (without_target t who to other) from source to
   may_move-without_target fit_from fit_source =
       let beside = beside-without_target t who to other whole may in
       let left = whole-without_target t who to other whole may in
@@ -168,16 +182,19 @@ module _ (t : Tree) (who : Caller) (from : EntryKey) (source : ℕ) (to : EntryK
       let parent = parent_of_dir (s.form to.dir) dir in
       let out = not_trash_root from rename.leaves in
       let up = avoids_outside t to.dir source whole dir rename.outside in
-      let away : to.dir ≢ other = target_empty to other may.is in
+      let away : to.dir ≢ other = target_empty t who to other whole may to other may.is in
       record {
         whole = left;
-        is = beside.still from source (λ e. apart (same_Some _ _ (sym rename.is ∙ ap (named s) e ∙ may.is))) out rename.is;
+        is = beside.still from source (λ e. apart (same_Some _ _ (sym rename.is ∙ ap (named s) e ∙ may.is))) out
+            rename.is;
         free = beside.gone;
         name = name;
         within = is_directory-form after to.dir ∙ ap is_dir (beside.dirs to.dir parent.0 parent.1 away);
         outside = outside_avoids after to.dir source up.0 left own.free
             (avoids_without s.form (shape_of after).form other source (λ q p is not_it. beside.dirs q p is not_it)
-            (parent_apart s other whole (whole.entry to other may.is).free target_empty) up.0 to.dir away up.1);
-        links_from = fits from.dir (target_empty from source rename.is) out (there_of_dir (s.form from.dir) own.within) fit_from;
+            (parent_apart s other whole (whole.entry to other may.is).free (target_empty t who to other whole may)) up.0
+            to.dir away up.1);
+        links_from = fits from.dir (target_empty t who to other whole may from source rename.is) out
+            (there_of_dir (s.form from.dir) own.within) fit_from;
         links_source = fits source apart (top_apart t from source whole rename.is).1 own.there fit_source;
       }

@@ -32,14 +32,17 @@ use Rattle.jv_links.specs.Moves.{Renames}
 -- ---- a row that was read
 
 -- the tree of whole rows has the node of a row that stands there
-pub has_node : (store : Store) (inode : ℕ) (place : Place) (known : RowMap) → HasNodeRow store inode place.node → store.rows ≡ Some known → Whole (typed known) → (bytes : ℕ → ℕ → ℕ)
+pub has_node : (store : Store) (inode : ℕ) (place : Place) (known : RowMap) → HasNodeRow store inode place.node
+    → store.rows ≡ Some known → Whole (typed known) → (bytes : ℕ → ℕ → ℕ)
     → HasNode (tree_of bytes (typed known)) inode place.node (bytes inode)
 has_node store inode place known row is whole bytes =
     found_node bytes (typed known) (whole-stored bytes (typed known) whole) inode place.node
-    (ap (λ o. node_in (row_in o)) (of_known (λ known. get (typed known) (node_key inode) ≡ Some (Ok (OfNode place.node))) store.rows known is row))
+    (ap (λ o. node_in (row_in o)) (of_known
+    (λ known. get (typed known) (node_key inode) ≡ Some (Ok (OfNode place.node))) store.rows known is row))
 
 -- and links that were stored can be stored
-pub links_low : (t : Tree) (inode : ℕ) (place : Place) (byte : ℕ → ℕ) → HasNode t inode place.node byte → place.node.nlink ≤ MAX_LINKS → links_fit t inode ≡ true
+pub links_low : (t : Tree) (inode : ℕ) (place : Place) (byte : ℕ → ℕ) → HasNode t inode place.node byte
+    → place.node.nlink ≤ MAX_LINKS → links_fit t inode ≡ true
 links_low t inode place byte n low = le-leb (link_count t inode) MAX_LINKS (subst (λ m. m ≤ MAX_LINKS) n.links low)
 
 -- ---- what is told
@@ -49,39 +52,49 @@ gained true = refl
 gained false = refl
 
 -- nothing is kept anew where what is kept stays
-pub tells_none : (t : Tree) (sid : ℕ) (r : Result Outcome Fault) → ((d : Outcome) → r ≡ Ok d → d.tree.sustained ≡ t.sustained) → (inode : ℕ)
+pub tells_none : (t : Tree) (sid : ℕ) (r : Result Outcome Fault)
+    → ((d : Outcome) → r ≡ Ok d → d.tree.sustained ≡ t.sustained) → (inode : ℕ)
     → (is_sustained (outcome t r).tree sid inode && not (is_sustained t sid inode)) ≡ keeps_removed None inode
 tells_none t sid (Ok d) same inode =
-    ap (λ m. is_some (get m (record { sid = sid; inode = inode })) && not (is_sustained t sid inode)) (same d refl) ∙ gained (is_sustained t sid inode)
+    ap (λ m. is_some (get m (record { sid = sid; inode = inode })) && not (is_sustained t sid inode)) (same d refl)
+    ∙ gained (is_sustained t sid inode)
 tells_none t sid (Err fault) same inode = gained (is_sustained t sid inode)
 
 -- ---- after readings
 
-module _ (sid : ℕ) (ready more : Tree → Type 0) (before middle after : Store) (act rest : Tree → Result Outcome Fault) (p : Past before middle act rest)
-    (is_ready : (known : RowMap) → before.rows ≡ Some known → Whole (typed known) → (bytes : ℕ → ℕ → ℕ) → more (tree_of bytes (typed known)) → ready (tree_of bytes (typed known))) where
+module _ (sid : ℕ) (ready more : Tree → Type 0) (before middle after : Store) (act rest : Tree → Result Outcome Fault)
+    (p : Past before middle act rest)
+    (is_ready : (known : RowMap) → before.rows ≡ Some known → Whole (typed known) → (bytes : ℕ → ℕ → ℕ)
+    → more (tree_of bytes (typed known)) → ready (tree_of bytes (typed known))) where
   abbrev reply : Option Removed → Reply
   reply removed = Done
 
-  lands_past : (result : Result (Option Removed) TxFault) (known : RowMap) (bytes : ℕ → ℕ → ℕ) → act (tree_of bytes (typed known)) ≡ rest (tree_of bytes (typed known))
+  lands_past : (result : Result (Option Removed) TxFault) (known : RowMap) (bytes : ℕ → ℕ → ℕ)
+      → act (tree_of bytes (typed known)) ≡ rest (tree_of bytes (typed known))
       → Lands known after.rows bytes reply rest result → Lands known after.rows bytes reply act result
-  lands_past (Ok x) known bytes same l = record { left = l.left; is = l.is; whole = l.whole; quiet = l.quiet; model = same ∙ l.model }
+  lands_past (Ok x) known bytes same l =
+      record { left = l.left; is = l.is; whole = l.whole; quiet = l.quiet; model = same ∙ l.model }
   lands_past (Err (Refused fault)) known bytes same l = same ∙ l
   lands_past (Err (Moved list)) known bytes same l = l
   lands_past (Err (OfRows (Bad at bad))) known bytes same l = l
   lands_past (Err (OfRows Failed)) known bytes same l = tt
   lands_past (Err (OfRows Memory)) known bytes same l = tt
 
-  undone_past : (result : Result (Option Removed) TxFault) → OnErr result (after.rows ≡ middle.rows) → OnErr result (after.rows ≡ before.rows)
+  undone_past : (result : Result (Option Removed) TxFault) → OnErr result (after.rows ≡ middle.rows)
+      → OnErr result (after.rows ≡ before.rows)
   undone_past (Ok x) h = tt
   undone_past (Err fault) h = h ∙ p.rows_are
 
-  told_past : (told : Option (Option Removed)) → TellsSustained sid ready middle told rest → TellsSustained sid more before told act
+  told_past : (told : Option (Option Removed)) → TellsSustained sid ready middle told rest
+      → TellsSustained sid more before told act
   told_past None h = tt
   told_past (Some removed) h = λ known is whole bytes m inode. (let t = tree_of bytes (typed known) in
-      ap (λ r. is_sustained (outcome t r).tree sid inode && not (is_sustained t sid inode)) (p.goes_on known is whole bytes)
+      ap (λ r. is_sustained (outcome t r).tree sid inode && not (is_sustained t sid inode))
+      (p.goes_on known is whole bytes)
       ∙ h known (p.rows_are ∙ is) whole bytes (is_ready known is whole bytes m) inode)
 
-  pub renames-past : (result : Result (Option Removed) TxFault) → Renames sid ready middle after result rest → Renames sid more before after result act
+  pub renames-past : (result : Result (Option Removed) TxFault) → Renames sid ready middle after result rest
+      → Renames sid more before after result act
   renames-past result r = record {
     does = record {
       opened_at = r.does.opened_at ∙ p.opened_at;

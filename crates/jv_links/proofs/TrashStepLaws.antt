@@ -1,43 +1,51 @@
--- What lets a file or a symlink that lost its last entry go to the trash: the steps' premises, over the tree that it was whole in.
-use Rattle.std.proofs.Common.{◌≡◌, ◌≢◌, ℕ, ◌+◌, ◌<◌, ◌≤◌, Bool, true, false, cond, not, ◌&&◌, ◌||◌, ◌==◌, inl, inr, List, ◌++◌, ◌∷◌, take, length, Option, None, Some, is_some, Ok, refl, sym, ap, subst, ◌∙◌, arith, ne_eqb, eq-eqb, eqb-true, le-leb}
-use Rattle.std.specs.Prelude.{IsTrue, nat_lt, nat_le, if◌then◌else◌}
-use Rattle.std.proofs.lemmas.Bool.{false≢true, and_from, and_parts, cases_eq, lt-ltb}
-use Rattle.jv_model.specs.declared.limits.TheConstants.{LAST_MOMENT, MAX_LINKS}
+-- What lets a file or a symlink that lost its last entry go to the trash: the steps' premises, over the tree that it
+-- was whole in.
+use Rattle.std.proofs.Common.{◌≡◌, ◌≢◌, ℕ, ◌+◌, ◌<◌, ◌≤◌, Bool, true, false, ◌&&◌, ◌==◌, inl, inr, None, Some, is_some, Ok, refl, sym, ap, subst, ◌∙◌, arith, ne_eqb, le-leb}
+use Rattle.std.specs.Prelude.{IsTrue, if◌then◌else◌}
+use Rattle.std.proofs.lemmas.Bool.{false≢true, cases_eq, lt-ltb}
+use Rattle.jv_model.specs.declared.limits.TheConstants.{MAX_LINKS}
 use Rattle.jv_model.specs.declared.fault.Fault.TheVariants.{NoSpace}
-use Rattle.jv_model.specs.FiniteMap.{get, remove, insert, sum_over}
+use Rattle.jv_model.specs.FiniteMap.{get, remove, sum_over}
 use Rattle.jv_model.specs.tree.Attempt.{◌>>=◌, require}
-use Rattle.jv_model.specs.tree.Changes.{put_entry, take_entry}
+use Rattle.jv_model.specs.tree.Changes.{put_entry}
 use Rattle.jv_model.specs.tree.HourNames.{hour_at}
 use Rattle.jv_model.specs.tree.Trash.{hour_inode, hour_place, with_hour, trash_place, trash_name}
 use Rattle.jv_model.specs.tree.Tree.{Tree, EntryKey, entry_key, trash_root, in_trash, is_directory, link_count, links_fit, node_at}
 use Rattle.jv_changes.specs.Ready.{MayHaveHour, MayStandAt, IsThere, entry_put}
 use Rattle.jv_links.specs.Losses.{IsToTrash}
-use Rattle.jv_volume.specs.Shape.{Form, Absent, Dir, Shape, WholeShape, Names, form_of, shape_of, is_there, is_dir, named, names, is_hour}
+use Rattle.jv_volume.specs.Shape.{Form, Absent, Dir, Shape, Names, form_of, shape_of, is_there, is_dir, named, names, is_hour}
 use Rattle.jv_volume.specs.TypedRows.{is_entry_name}
 use Rattle.jv_volume.proofs.HourNameLaws.{last_hour, is_hour-hour_inode}
-use Rattle.jv_volume.proofs.HourShapeLaws.{hour_inode_high, free_hour, with_hour_in, WithHour, Was, Comes, shape-with_hour}
-use Rattle.jv_volume.proofs.LinkLaws.{link_count-shape, link_count-put_entry-leaf, dirs_of, within_of, links}
+use Rattle.jv_volume.proofs.HourShapeLaws.{hour_inode_high, free_hour, WithHour, Was, Comes, shape-with_hour}
+use Rattle.jv_volume.proofs.LinkLaws.{link_count-shape, link_count-put_entry-leaf, dirs_of, within_of}
 use Rattle.jv_volume.proofs.MapLaws.{sum-nothing}
-use Rattle.jv_volume.proofs.ShapeMapLaws.{was_kept, was_inserted, get-insert_apart, get-remove_apart, count-remove_same, count-insert_apart, count_of, naming_same, naming_apart, with_form-here, with_form-apart, with_entries, there_of_dir, is_there-form, is_dir-form, is_directory-form, shape-take_entry, shape-put_entry}
+use Rattle.jv_volume.proofs.ShapeMapLaws.{was_kept, get-insert_apart, get-remove_apart, count-remove_same, count-insert_apart, count_of, with_form-here, with_form-apart, with_entries, there_of_dir, is_there-form, is_dir-form, is_directory-form, shape-take_entry, shape-put_entry}
 use Rattle.jv_volume.proofs.TrashLaws.{trash_place_free}
 
 -- ---- the entries and the forms with an hour's directory
 
-hour_entries : (s after : Shape) (hour : ℕ) → WithHour s hour after → (at : EntryKey) → at.dir ≢ trash_root → named after at ≡ named s at
+hour_entries : (s after : Shape) (hour : ℕ) → WithHour s hour after → (at : EntryKey) → at.dir ≢ trash_root
+    → named after at ≡ named s at
 hour_entries s after hour (Was there same) at apart = ap (λ (x : Shape). named x at) same
 hour_entries s after hour (Comes absent same) at apart = ap (λ (x : Shape). named x at) same
-    ∙ get-insert_apart entry_key s.entries (hour_place hour) (hour_inode hour) at (λ e. apart (ap (λ (x : EntryKey). x.dir) e))
+    ∙ get-insert_apart entry_key s.entries (hour_place hour) (hour_inode hour) at
+    (λ e. apart (ap (λ (x : EntryKey). x.dir) e))
 
-hour_forms : (s after : Shape) (hour : ℕ) → WithHour s hour after → (inode : ℕ) → inode ≢ hour_inode hour → after.form inode ≡ s.form inode
+hour_forms : (s after : Shape) (hour : ℕ) → WithHour s hour after → (inode : ℕ) → inode ≢ hour_inode hour
+    → after.form inode ≡ s.form inode
 hour_forms s after hour (Was there same) inode apart = ap (λ (x : Shape). x.form inode) same
-hour_forms s after hour (Comes absent same) inode apart = ap (λ (x : Shape). x.form inode) same ∙ with_form-apart s.form (hour_inode hour) (Dir trash_root) inode apart
+hour_forms s after hour (Comes absent same) inode apart = ap (λ (x : Shape). x.form inode) same
+    ∙ with_form-apart s.form (hour_inode hour) (Dir trash_root) inode apart
 
-hour_form : (s after : Shape) (hour : ℕ) → WithHour s hour after → (IsTrue (is_there (s.form (hour_inode hour))) → s.form (hour_inode hour) ≡ Dir trash_root)
+hour_form : (s after : Shape) (hour : ℕ) → WithHour s hour after
+    → (IsTrue (is_there (s.form (hour_inode hour))) → s.form (hour_inode hour) ≡ Dir trash_root)
     → after.form (hour_inode hour) ≡ Dir trash_root
 hour_form s after hour (Was there same) is = ap (λ (x : Shape). x.form (hour_inode hour)) same ∙ is there
-hour_form s after hour (Comes absent same) is = ap (λ (x : Shape). x.form (hour_inode hour)) same ∙ with_form-here s.form (hour_inode hour) (Dir trash_root)
+hour_form s after hour (Comes absent same) is = ap (λ (x : Shape). x.form (hour_inode hour)) same
+    ∙ with_form-here s.form (hour_inode hour) (Dir trash_root)
 
-hour_counts : (s after : Shape) (hour : ℕ) → WithHour s hour after → (s.form (hour_inode hour) ≡ Absent → named s (hour_place hour) ≡ None)
+hour_counts : (s after : Shape) (hour : ℕ) → WithHour s hour after
+    → (s.form (hour_inode hour) ≡ Absent → named s (hour_place hour) ≡ None)
     → (inode : ℕ) → inode ≢ hour_inode hour → names after inode ≡ names s inode
 hour_counts s after hour (Was there same) free inode apart = ap (λ (x : Shape). names x inode) same
 hour_counts s after hour (Comes absent same) free inode apart = ap (λ (x : Shape). names x inode) same
@@ -92,21 +100,25 @@ module _ (less : Tree) (now : ℕ) (place : EntryKey) (inode : ℕ) (may : IsToT
   was_there : (q : EntryKey) (i : ℕ) → get less.entries q ≡ Some i → named s q ≡ Some i
   was_there q i e = (was_kept entry_key s.entries place q i (sym (named_less q) ∙ e)).1
 
-  hour_is_dir : IsTrue (is_there (s.form (hour_inode (hour_at now)))) → s.form (hour_inode (hour_at now)) ≡ Dir trash_root
+  hour_is_dir : IsTrue (is_there (s.form (hour_inode (hour_at now))))
+      → s.form (hour_inode (hour_at now)) ≡ Dir trash_root
   hour_is_dir there = (may.whole.hours dir there (lt-ltb trash_root dir high)).1
 
   inode_apart : inode ≢ hour_inode (hour_at now)
-  inode_apart e = false≢true (sym leaf_form ∙ ap is_dir (ap s.form e ∙ hour_is_dir (subst (λ i. IsTrue (is_there (s.form i))) e own.there)))
+  inode_apart e = false≢true (sym leaf_form ∙ ap is_dir
+      (ap s.form e ∙ hour_is_dir (subst (λ i. IsTrue (is_there (s.form i))) e own.there)))
 
   place_apart : (q : EntryKey) → trash_root ≤ q.dir → q ≢ place
-  place_apart q in_it e = false≢true (sym may.outside ∙ ap (λ (x : EntryKey). in_trash x.dir) (sym e) ∙ le-leb trash_root q.dir in_it)
+  place_apart q in_it e = false≢true
+      (sym may.outside ∙ ap (λ (x : EntryKey). in_trash x.dir) (sym e) ∙ le-leb trash_root q.dir in_it)
 
   hour_off : (node_at less (hour_inode (hour_at now)) ≡ None) → s.form (hour_inode (hour_at now)) ≡ Absent
   hour_off none = sym (form_less dir) ∙ ap form_of none
 
   free_less : s.form (hour_inode (hour_at now)) ≡ Absent → named (shape_of less) (hour_place (hour_at now)) ≡ None
   free_less absent =
-      named_less (hour_place hour) ∙ get-remove_apart entry_key s.entries place (hour_place hour) (place_apart (hour_place hour) (omega arith))
+      named_less (hour_place hour) ∙ get-remove_apart entry_key s.entries place (hour_place hour)
+      (place_apart (hour_place hour) (omega arith))
       ∙ free_hour s hour may.whole low absent
 
   not_there : (i : ℕ) → s.form i ≡ Absent → IsTrue (is_there (s.form i)) → ⊥
@@ -119,7 +131,8 @@ module _ (less : Tree) (now : ℕ) (place : EntryKey) (inode : ℕ) (may : IsToT
     free = λ none. free_less (hour_off none);
     unnamed = λ none q e. not_there dir (hour_off none) (may.whole.entry q dir (was_there q dir e)).there;
     empty = λ none q i e within. not_there dir (hour_off none)
-        (subst (λ d. IsTrue (is_there (s.form d))) within (there_of_dir (s.form q.dir) (may.whole.entry q i (was_there q i e)).within));
+        (subst (λ d. IsTrue (is_there (s.form d))) within
+        (there_of_dir (s.form q.dir) (may.whole.entry q i (was_there q i e)).within));
     hours = λ q i e within. (may.whole.entry q i (was_there q i e)).hour within;
     below = (let next : (shape_of less).next_inode ≡ s.next_inode = ap (λ (x : Shape). x.next_inode) shape_less in
         let last = may.whole.inodes_end in omega (arith, next, last));
@@ -132,9 +145,11 @@ module _ (less : Tree) (now : ℕ) (place : EntryKey) (inode : ℕ) (may : IsToT
   form_made i apart = hour_forms (shape_of less) (shape_of made) hour with_it i apart ∙ form_less i
 
   dir_made : (shape_of (with_hour less now (hour_at now))).form (hour_inode (hour_at now)) ≡ Dir trash_root
-  dir_made = hour_form (shape_of less) (shape_of made) hour with_it (λ there. form_less dir ∙ hour_is_dir (subst (λ f. IsTrue (is_there f)) (form_less dir) there))
+  dir_made = hour_form (shape_of less) (shape_of made) hour with_it
+      (λ there. form_less dir ∙ hour_is_dir (subst (λ f. IsTrue (is_there f)) (form_less dir) there))
 
-  named_made : (q : EntryKey) → q.dir ≢ trash_root → get (with_hour less now (hour_at now)).entries q ≡ get less.entries q
+  named_made : (q : EntryKey) → q.dir ≢ trash_root
+      → get (with_hour less now (hour_at now)).entries q ≡ get less.entries q
   named_made q apart = hour_entries (shape_of less) (shape_of made) hour with_it q apart
 
   one : names s inode ≡ 1
@@ -142,7 +157,8 @@ module _ (less : Tree) (now : ℕ) (place : EntryKey) (inode : ℕ) (may : IsToT
 
   free_at : get (with_hour less now (hour_at now)).entries (trash_place (hour_at now) place inode) ≡ None
   free_at =
-      named_made at (λ e. absurd (omega (arith, high, e))) ∙ named_less at ∙ get-remove_apart entry_key s.entries place at (place_apart at (omega (arith, high)))
+      named_made at (λ e. absurd (omega (arith, high, e))) ∙ named_less at
+      ∙ get-remove_apart entry_key s.entries place at (place_apart at (omega (arith, high)))
       ∙ trash_place_free t now place inode may.whole may.clock may.named may.leaf one may.outside
 
   pub leaf_made : is_directory (with_hour less now (hour_at now)) inode ≡ false
@@ -152,7 +168,8 @@ module _ (less : Tree) (now : ℕ) (place : EntryKey) (inode : ℕ) (may : IsToT
   there_made = sym (is_there-form (node_at made inode)) ∙ ap is_there (form_made inode inode_apart) ∙ own.there
 
   -- its entry in the trash may come
-  pub trash_stands : IsTrue (is_entry_name (trash_name place inode)) → MayStandAt (with_hour less now (hour_at now)) (trash_place (hour_at now) place inode) inode
+  pub trash_stands : IsTrue (is_entry_name (trash_name place inode))
+      → MayStandAt (with_hour less now (hour_at now)) (trash_place (hour_at now) place inode) inode
   trash_stands name = record {
     free = free_at;
     name = name;
@@ -166,27 +183,35 @@ module _ (less : Tree) (now : ℕ) (place : EntryKey) (inode : ℕ) (may : IsToT
   unnamed_less : names (shape_of less) inode ≡ 0
   unnamed_less =
       let all = count-remove_same s.entries place inode may.named in
-      let left : names (shape_of less) inode ≡ count_of (remove s.entries place) inode = ap (λ (x : Shape). names x inode) shape_less in
+      let left : names (shape_of less) inode ≡ count_of (remove s.entries place) inode =
+      ap (λ (x : Shape). names x inode) shape_less in
       let all_one = one in
       omega (arith, all, left, all_one)
 
   unnamed_made : names (shape_of (with_hour less now (hour_at now))) inode ≡ 0
-  unnamed_made = hour_counts (shape_of less) (shape_of made) hour with_it (λ absent. free_less (sym (form_less dir) ∙ absent)) inode inode_apart ∙ unnamed_less
+  unnamed_made = hour_counts (shape_of less) (shape_of made) hour with_it
+      (λ absent. free_less (sym (form_less dir) ∙ absent)) inode inode_apart ∙ unnamed_less
 
   links_inode : link_count (with_hour less now (hour_at now)) inode ≡ 0
   links_inode =
       link_count-shape made inode
-      ∙ ap (λ b. if b then 2 + sum_over (within_of (dirs_of (shape_of made)) inode) made.entries else count_of made.entries inode) (sym (is_directory-form made inode) ∙ leaf_made)
+      ∙ ap (λ b. if b then 2 + sum_over (within_of (dirs_of (shape_of made)) inode) made.entries
+      else count_of made.entries inode) (sym (is_directory-form made inode) ∙ leaf_made)
       ∙ unnamed_made
 
   -- no directory stands in an hour
-  none_in : (q : EntryKey) (i : ℕ) → get (with_hour less now (hour_at now)).entries q ≡ Some i → within_of (dirs_of (shape_of (with_hour less now (hour_at now)))) (hour_inode (hour_at now)) q i ≡ 0
+  none_in : (q : EntryKey) (i : ℕ) → get (with_hour less now (hour_at now)).entries q ≡ Some i
+      → within_of (dirs_of (shape_of (with_hour less now (hour_at now)))) (hour_inode (hour_at now)) q i ≡ 0
   none_in q i e = elim (cases_eq q.dir dir) [
     | inl in_it ↦
-        let there : named s q ≡ Some i = was_there q i (sym (named_made q (λ is. absurd (omega (arith, high, is, in_it)))) ∙ e) in
-        let leaf = ((may.whole.entry q i there).trashed (subst (λ d. IsTrue (is_hour d)) (sym in_it) (is_hour-hour_inode hour low))).leaf in
+        let there : named s q ≡ Some i =
+        was_there q i (sym (named_made q (λ is. absurd (omega (arith, high, is, in_it)))) ∙ e) in
+        let leaf = ((may.whole.entry q i there).trashed
+        (subst (λ d. IsTrue (is_hour d)) (sym in_it) (is_hour-hour_inode hour low))).leaf in
         let here = (may.whole.entry q i there).there in
-        let off : i ≢ dir = λ same. false≢true (sym leaf ∙ ap is_dir (ap s.form same ∙ hour_is_dir (subst (λ j. IsTrue (is_there (s.form j))) same here))) in
+        let off : i ≢ dir = λ same. false≢true
+        (sym leaf ∙ ap is_dir (ap s.form same ∙ hour_is_dir (subst (λ j. IsTrue (is_there (s.form j))) same here)))
+        in
         let none : is_dir ((shape_of made).form i) ≡ false = ap is_dir (form_made i off) ∙ leaf in
         ap (λ b. one_if ((q.dir == dir) && b)) none ∙ no_both (q.dir == dir)
     | inr off ↦ ap (λ b. one_if (b && is_dir ((shape_of made).form i))) (ne_eqb q.dir dir off)
@@ -199,13 +224,16 @@ module _ (less : Tree) (now : ℕ) (place : EntryKey) (inode : ℕ) (may : IsToT
   links_dir : link_count (with_hour less now (hour_at now)) (hour_inode (hour_at now)) ≡ 2
   links_dir =
       link_count-shape made dir
-      ∙ ap (λ (f : Form). if is_dir f then 2 + sum_over (within_of (dirs_of (shape_of made)) dir) made.entries else count_of made.entries dir) dir_made
+      ∙ ap (λ (f : Form). if is_dir f then 2 + sum_over (within_of (dirs_of (shape_of made)) dir) made.entries
+      else count_of made.entries dir) dir_made
       ∙ ap (λ n. 2 + n) (sum-nothing entry_key (within_of (dirs_of (shape_of made)) dir) made.entries none_in)
 
   abbrev entered : Tree
   entered = put_entry (with_hour less now (hour_at now)) now (trash_place (hour_at now) place inode) inode
 
-  links_at : (j n : ℕ) → link_count (with_hour less now (hour_at now)) j ≡ n → n ≤ 2 → links_fit (put_entry (with_hour less now (hour_at now)) now (trash_place (hour_at now) place inode) inode) j ≡ true
+  links_at : (j n : ℕ) → link_count (with_hour less now (hour_at now)) j ≡ n → n ≤ 2
+      → links_fit (put_entry (with_hour less now (hour_at now)) now (trash_place (hour_at now) place inode) inode)
+      j ≡ true
   links_at j n is few =
       let all = link_count-put_entry-leaf made now at inode j free_at leaf_made in
       let most = naming_most j in
@@ -222,10 +250,14 @@ module _ (less : Tree) (now : ℕ) (place : EntryKey) (inode : ℕ) (may : IsToT
   pub trash_enters : entry_put now (trash_place (hour_at now) place inode) inode (with_hour less now (hour_at now))
       ≡ Ok (put_entry (with_hour less now (hour_at now)) now (trash_place (hour_at now) place inode) inode)
   trash_enters =
-      ap (λ b. require b NoSpace >>= (λ _. Ok entered)) (ap (λ b. b && links_fit entered inode) (links_at dir 2 links_dir (omega arith)) ∙ links_at inode 0 links_inode (omega arith))
+      ap (λ b. require b NoSpace >>= (λ _. Ok entered))
+      (ap (λ b. b && links_fit entered inode) (links_at dir 2 links_dir (omega arith))
+      ∙ links_at inode 0 links_inode (omega arith))
 
   -- its node is there then
-  pub trash_there : IsThere inode (put_entry (with_hour less now (hour_at now)) now (trash_place (hour_at now) place inode) inode)
+  pub trash_there : IsThere inode
+      (put_entry (with_hour less now (hour_at now)) now (trash_place (hour_at now) place inode) inode)
   trash_there =
-      sym (is_there-form (node_at entered inode)) ∙ ap (λ (x : Shape). is_there (x.form inode)) (shape-put_entry made now at inode)
+      sym (is_there-form (node_at entered inode))
+      ∙ ap (λ (x : Shape). is_there (x.form inode)) (shape-put_entry made now at inode)
       ∙ is_there-form (node_at made inode) ∙ there_made

@@ -18,7 +18,7 @@ use Rattle.jv_volume.proofs.ChangeLaws.{change_node-sustained}
 use Rattle.jv_changes.specs.Drafting.{Drafting}
 use Rattle.jv_changes.specs.Ready.{MayHaveHour, MayStandAt, IsThere, entry_put, sustaining}
 use Rattle.jv_links.specs.Losses.{IsToTrash}
-use Rattle.jv_links.proofs.DraftSteps.{steps-then, steps-ended, step-as, step-fails, drafting-exit}
+use Rattle.jv_changes.proofs.DraftSteps.{steps-then, steps-ended, step-as, step-fails, drafting-exit}
 use Rattle.jv_links.proofs.TrashEntryLaws.{trash_name-entry}
 use Rattle.jv_links.proofs.TrashStepLaws.{trash_hour, trash_stands, trash_enters, trash_there}
 
@@ -36,13 +36,16 @@ module _ (now : ℕ) (place : EntryKey) (inode : ℕ) (start one : List Change) 
 
   -- the hour's directory wasn't entered
   pub trash-no_hour : (result : Result (Unit {0}) TxFault) (fault : TxFault) → IsErrAnd result (λ e. e ≡ fault)
-      → Drafting {A = ℕ} (λ t. MayHaveHour t (hour_at now)) start one before entered (Err fault) (λ t. Ok (with_hour t now (hour_at now)))
+      → Drafting {A = ℕ} (λ t. MayHaveHour t (hour_at now)) start one before entered (Err fault)
+      (λ t. Ok (with_hour t now (hour_at now)))
       → Drafting ready start one before entered result ends
   trash-no_hour result fault is d = drafting-exit ready start one before entered ends result fault is
-      (step-fails (λ t. MayHaveHour t (hour_at now)) ready start one before entered fault hours ends (λ t. with_hour t now (hour_at now)) (λ t r. trash_hour t now place inode r) (λ t r. refl) d)
+      (step-fails (λ t. MayHaveHour t (hour_at now)) ready start one before entered fault hours ends
+      (λ t. with_hour t now (hour_at now)) (λ t r. trash_hour t now place inode r) (λ t r. refl) d)
 
   module _ (hour : ℕ) (hour_is : hour ≡ hour_inode (hour_at now))
-      (d : Drafting (λ t. MayHaveHour t (hour_at now)) start one before entered (Ok hour) (λ t. Ok (with_hour t now (hour_at now))))
+      (d : Drafting (λ t. MayHaveHour t (hour_at now)) start one before entered (Ok hour)
+      (λ t. Ok (with_hour t now (hour_at now))))
       (name : List ℕ) (name_is : name ≡ trash_name place inode) (two : List Change) (put : Store) where
     abbrev at : EntryKey
     at = trash_place (hour_at now) place inode
@@ -54,40 +57,57 @@ module _ (now : ℕ) (place : EntryKey) (inode : ℕ) (start one : List Change) 
     at_is = λ i. record { dir = hour_is i; name = name_is i }
 
     hour_there : Drafting ready start one before entered (Ok hour) hours
-    hour_there = step-as (λ t. MayHaveHour t (hour_at now)) ready start one before entered (Ok hour) hours hours (λ t r. trash_hour t now place inode r) (λ t r. refl) d
+    hour_there = step-as (λ t. MayHaveHour t (hour_at now)) ready start one before entered (Ok hour) hours hours
+        (λ t r. trash_hour t now place inode r) (λ t r. refl) d
 
-    putting : (r : Result (Unit {0}) TxFault) → Drafting (λ t. MayStandAt t given inode) one two entered put r (entry_put now given inode)
-        → Drafting (λ t. MayStandAt t (trash_place (hour_at now) place inode) inode) one two entered put r (entry_put now (trash_place (hour_at now) place inode) inode)
-    putting r e = subst (λ q. Drafting (λ t. MayStandAt t q inode) one two entered put r (entry_put now q inode)) at_is e
+    putting : (r : Result (Unit {0}) TxFault)
+        → Drafting (λ t. MayStandAt t given inode) one two entered put r (entry_put now given inode)
+        → Drafting (λ t. MayStandAt t (trash_place (hour_at now) place inode) inode) one two entered put r
+        (entry_put now (trash_place (hour_at now) place inode) inode)
+    putting r e = subst (λ q. Drafting (λ t. MayStandAt t q inode) one two entered put r (entry_put now q inode)) at_is
+        e
 
     -- its entry wasn't added
     pub trash-no_entry : (result : Result (Unit {0}) TxFault) (fault : TxFault) → IsErrAnd result (λ e. e ≡ fault)
-        → Drafting {A = Unit {0}} (λ t. MayStandAt t (record { dir = hour; name = name }) inode) one two entered put (Err fault) (entry_put now (record { dir = hour; name = name }) inode)
+        → Drafting {A = Unit {0}} (λ t. MayStandAt t (record { dir = hour; name = name }) inode) one two entered put
+        (Err fault) (entry_put now (record { dir = hour; name = name }) inode)
         → Drafting ready start two before put result ends
     trash-no_entry result fault is e = drafting-exit ready start two before put ends result fault is
-        (steps-ended ready start one two before entered put hour hours (λ t. with_hour t now (hour_at now)) hour_there (λ known at bytes t m r. refl)
-        (λ t. MayStandAt t (trash_place (hour_at now) place inode) inode) (entry_put now (trash_place (hour_at now) place inode) inode) ends
-        (λ t. put_entry (with_hour t now (hour_at now)) now (trash_place (hour_at now) place inode) inode) fault (putting (Err fault) e)
-        (λ known at bytes t m r. trash_stands t now place inode r (trash_name-entry place inode r.name)) (λ known at bytes t m r. trash_enters t now place inode r))
+        (steps-ended ready start one two before entered put hour hours (λ t. with_hour t now (hour_at now)) hour_there
+        (λ known at bytes t m r. refl)
+        (λ t. MayStandAt t (trash_place (hour_at now) place inode) inode)
+        (entry_put now (trash_place (hour_at now) place inode) inode) ends
+        (λ t. put_entry (with_hour t now (hour_at now)) now (trash_place (hour_at now) place inode) inode) fault
+        (putting (Err fault) e)
+        (λ known at bytes t m r. trash_stands t now place inode r (trash_name-entry place inode r.name))
+        (λ known at bytes t m r. trash_enters t now place inode r))
 
     -- it was, and its status changes or doesn't
     pub trash-ends : (result : Result (Unit {0}) TxFault) (all : List Change) (last : Store)
-        → Drafting {A = Unit {0}} (λ t. MayStandAt t (record { dir = hour; name = name }) inode) one two entered put (Ok tt) (entry_put now (record { dir = hour; name = name }) inode)
+        → Drafting {A = Unit {0}} (λ t. MayStandAt t (record { dir = hour; name = name }) inode) one two entered put
+        (Ok tt) (entry_put now (record { dir = hour; name = name }) inode)
         → Drafting (IsThere inode) two all put last result (λ t. Ok (change_node t inode (status_changed now)))
         → Drafting ready start all before last result ends
     trash-ends result all last e f =
-        let puts = λ (t : Tree). entry_put now (trash_place (hour_at now) place inode) inode (with_hour t now (hour_at now)) in
-        let both : Drafting {A = Unit {0}} ready start two before put (Ok tt) puts = steps-then ready start one two before entered put hour hours (λ t. with_hour t now (hour_at now)) hour_there (λ known at bytes t m r. refl)
-        (λ t. MayStandAt t (trash_place (hour_at now) place inode) inode) (entry_put now (trash_place (hour_at now) place inode) inode) puts (Ok tt) (putting (Ok tt) e)
-        (λ known at bytes t m r. trash_stands t now place inode r (trash_name-entry place inode r.name)) (λ known at bytes t m r. refl) in
-        steps-then ready start two all before put last tt puts (λ t. put_entry (with_hour t now (hour_at now)) now (trash_place (hour_at now) place inode) inode) both
+        let puts = λ (t : Tree). entry_put now (trash_place (hour_at now) place inode) inode
+        (with_hour t now (hour_at now)) in
+        let both : Drafting {A = Unit {0}} ready start two before put (Ok tt) puts =
+        steps-then ready start one two before entered put hour hours (λ t. with_hour t now (hour_at now)) hour_there
+        (λ known at bytes t m r. refl)
+        (λ t. MayStandAt t (trash_place (hour_at now) place inode) inode)
+        (entry_put now (trash_place (hour_at now) place inode) inode) puts (Ok tt) (putting (Ok tt) e)
+        (λ known at bytes t m r. trash_stands t now place inode r (trash_name-entry place inode r.name))
+        (λ known at bytes t m r. refl) in
+        steps-then ready start two all before put last tt puts
+        (λ t. put_entry (with_hour t now (hour_at now)) now (trash_place (hour_at now) place inode) inode) both
         (λ known at bytes t m r. trash_enters t now place inode r)
         (IsThere inode) (λ t. Ok (change_node t inode (status_changed now))) ends result f
         (λ known at bytes t m r. trash_there t now place inode r) (λ known at bytes t m r. refl)
 
 -- ---- a file that a session keeps
 
-module _ (who : Who) (caller : Caller) (is_for : IsFor who caller) (inode : ℕ) (start one : List Change) (before changed : Store) where
+module _ (who : Who) (caller : Caller) (is_for : IsFor who caller) (inode : ℕ) (start one : List Change)
+    (before changed : Store) where
   abbrev kept : Tree → Result Tree Fault
   kept t = Ok (sustained_by t caller inode)
 
@@ -96,21 +116,29 @@ module _ (who : Who) (caller : Caller) (is_for : IsFor who caller) (inode : ℕ)
 
   -- its status wasn't changed
   pub keep-no_status : (result : Result (Unit {0}) TxFault) (fault : TxFault) → IsErrAnd result (λ e. e ≡ fault)
-      → Drafting {A = Unit {0}} (IsThere inode) start one before changed (Err fault) (λ t. Ok (change_node t inode (status_changed who.now)))
+      → Drafting {A = Unit {0}} (IsThere inode) start one before changed (Err fault)
+      (λ t. Ok (change_node t inode (status_changed who.now)))
       → Drafting (IsThere inode) start one before changed result (λ t. Ok (sustained_by t caller inode))
   keep-no_status result fault is d = drafting-exit (IsThere inode) start one before changed kept result fault is
-      (step-fails (IsThere inode) (IsThere inode) start one before changed fault (λ t. Ok (change_node t inode (status_changed who.now))) kept statused (λ t r. r) (λ t r. refl) d)
+      (step-fails (IsThere inode) (IsThere inode) start one before changed fault
+      (λ t. Ok (change_node t inode (status_changed who.now))) kept statused (λ t r. r) (λ t r. refl) d)
 
-  kept_is : (t : Tree) → sustaining who.sid inode (change_node t inode (status_changed who.now)) ≡ sustained_by t caller inode
+  kept_is : (t : Tree) → sustaining who.sid inode (change_node t inode (status_changed who.now)) ≡ sustained_by t caller
+      inode
   kept_is t =
-      ap (λ m. record (statused t) { sustained = insert m (record { sid = who.sid; inode = inode }) tt }) (change_node-sustained t inode (status_changed who.now))
-      ∙ (λ i. record (change_node t inode (status_changed (sym is_for.now i))) { sustained = insert t.sustained (record { sid = sym is_for.sid i; inode = inode }) tt })
+      ap (λ m. record (statused t) { sustained = insert m (record { sid = who.sid; inode = inode }) tt })
+      (change_node-sustained t inode (status_changed who.now))
+      ∙ (λ i. record (change_node t inode (status_changed (sym is_for.now i)))
+      { sustained = insert t.sustained (record { sid = sym is_for.sid i; inode = inode }) tt })
 
   -- it was, and the session keeps it or doesn't
   pub keep-ends : (result : Result (Unit {0}) TxFault) (all : List Change) (last : Store)
-      → Drafting {A = Unit {0}} (IsThere inode) start one before changed (Ok tt) (λ t. Ok (change_node t inode (status_changed who.now)))
+      → Drafting {A = Unit {0}} (IsThere inode) start one before changed (Ok tt)
+      (λ t. Ok (change_node t inode (status_changed who.now)))
       → Drafting Always one all changed last result (λ t. Ok (sustaining who.sid inode t))
       → Drafting (IsThere inode) start all before last result (λ t. Ok (sustained_by t caller inode))
   keep-ends result all last d e =
-      steps-then (IsThere inode) start one all before changed last tt (λ t. Ok (change_node t inode (status_changed who.now))) statused d (λ known at bytes t m r. refl)
-      Always (λ t. Ok (sustaining who.sid inode t)) kept result e (λ known at bytes t m r. tt) (λ known at bytes t m r. ap (λ (x : Tree). (let left : Result Tree Fault = Ok x in left)) (kept_is t))
+      steps-then (IsThere inode) start one all before changed last tt
+      (λ t. Ok (change_node t inode (status_changed who.now))) statused d (λ known at bytes t m r. refl)
+      Always (λ t. Ok (sustaining who.sid inode t)) kept result e (λ known at bytes t m r. tt)
+      (λ known at bytes t m r. ap (λ (x : Tree). (let left : Result Tree Fault = Ok x in left)) (kept_is t))

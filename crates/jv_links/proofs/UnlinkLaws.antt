@@ -90,16 +90,19 @@ module _ (t : Tree) (who : Caller) (place : EntryKey) (inode : ℕ) (may : MayLo
 
   -- the pair that a kept inode adds
   abbrev added : ℕ → Bool
-  added j = is_some (get (insert less.sustained (pair_of who.sid inode) tt) (pair_of who.sid j)) && not (is_sustained t who.sid j)
+  added j = is_some (get (insert less.sustained (pair_of who.sid inode) tt) (pair_of who.sid j)) && not
+      (is_sustained t who.sid j)
 
   kept_new : added i ≡ (inode == i)
   kept_new = elim (cases_eq i inode) [
     | inl same ↦ subst (λ (j : ℕ). added j ≡ (inode == j)) (sym same)
-        (ap (λ (o : Option (Unit {0})). is_some o && not (is_sustained t who.sid inode)) (get-inserted pair_key less.sustained (pair_of who.sid inode) tt)
+        (ap (λ (o : Option (Unit {0})). is_some o && not (is_sustained t who.sid inode))
+        (get-inserted pair_key less.sustained (pair_of who.sid inode) tt)
         ∙ ap not not_kept ∙ sym (eq-eqb inode inode refl))
     | inr apart ↦
         ap (λ (o : Option (Unit {0})). is_some o && not (is_sustained t who.sid i))
-        (get-insert_apart pair_key less.sustained (pair_of who.sid inode) tt (pair_of who.sid i) (λ e. apart (same_inode e)))
+        (get-insert_apart pair_key less.sustained (pair_of who.sid inode) tt (pair_of who.sid i)
+        (λ e. apart (same_inode e)))
         ∙ none_new less less_pairs ∙ sym (ne_eqb inode i (λ e. apart (sym e)))
   ]
     where
@@ -107,19 +110,22 @@ module _ (t : Tree) (who : Caller) (place : EntryKey) (inode : ℕ) (may : MayLo
       same_inode e = ap (λ p. p.inode) e
 
   kept_by : (f : Fate) → newly (with_fate f less who place inode) ≡ (is_kept (fate_in f) && (inode == i))
-  kept_by Linked = none_new (with_fate Linked less who place inode) (change_node-sustained less inode (status_changed who.now) ∙ less_pairs)
+  kept_by Linked = none_new (with_fate Linked less who place inode)
+      (change_node-sustained less inode (status_changed who.now) ∙ less_pairs)
   kept_by Trashed = none_new (with_fate Trashed less who place inode) trashed_pairs
   kept_by Sustained = kept_new
   kept_by Dropped = none_new (with_fate Dropped less who place inode) less_pairs
 
   -- the session keeps what lost its entry where that is its fate, and nothing else is new
-  pub kept-remove_entry : newly (remove_entry t who place inode) ≡ (is_kept (fate_in (fate_of t who place inode)) && (inode == i))
+  pub kept-remove_entry : newly (remove_entry t who place inode) ≡
+      (is_kept (fate_in (fate_of t who place inode)) && (inode == i))
   unfolding remove_entry
   kept-remove_entry = kept_by (fate_of t who place inode)
 
 -- ---- an unlink
 
-module _ (who : Who) (caller : Caller) (is_for : IsFor who caller) (path : List ℕ) (before middle : Store) (entry : Removable)
+module _ (who : Who) (caller : Caller) (is_for : IsFor who caller) (path : List ℕ) (before middle : Store)
+    (entry : Removable)
     (c : ComesToRemovable before middle (Ok entry) (λ t. removable_at t who.sid path)) where
   abbrev removes : Tree → Result Outcome Fault
   removes t = unlink t caller path
@@ -143,25 +149,30 @@ module _ (who : Who) (caller : Caller) (is_for : IsFor who caller) (path : List 
   came = removing-comes who caller is_for path before middle removes (unlink_at caller) (unlink-is caller path) entry c
 
   kind_is : (b : Bool) → (entry.node.node.kind == 2) ≡ b → OfWhole Always before (λ t. is_directory t inode ≡ b)
-  kind_is b is = removing-kind who caller is_for path before middle removes (unlink_at caller) (unlink-is caller path) entry c b is
+  kind_is b is = removing-kind who caller is_for path before middle removes (unlink_at caller) (unlink-is caller path)
+      entry c b is
 
   -- it is a directory
-  pub unlink-directory : {A : Type 0} → (entry.node.node.kind == 2) ≡ true → Transacts {A = A} ready before middle (Err (Refused NotPermitted)) says removes
+  pub unlink-directory : {A : Type 0} → (entry.node.node.kind == 2) ≡ true
+      → Transacts {A = A} ready before middle (Err (Refused NotPermitted)) says removes
   unlink-directory is = transacts-refused ready before middle says removes (Refused NotPermitted)
       (past-refused before middle removes rest (λ t. not (is_directory t inode)) NotPermitted came
       (λ known at whole bytes unit. ap not (kind_is true is known at whole bytes unit)))
 
-  module _ (leaf : (entry.node.node.kind == 2) ≡ false) (seconds : ℕ) (now_is : seconds ≡ who.now) (clock : seconds ≤ LAST_MOMENT)
+  module _ (leaf : (entry.node.node.kind == 2) ≡ false) (seconds : ℕ) (now_is : seconds ≡ who.now)
+      (clock : seconds ≤ LAST_MOMENT)
       (draft : List Change) (none : draft ≡ []) where
     begun : PastSteps ready before middle draft (λ t. t) removes rest
-    begun = subst (λ ch. PastSteps ready before middle ch (λ t. t) removes rest) (sym none) (steps-start ready before middle removes rest
+    begun = subst (λ ch. PastSteps ready before middle ch (λ t. t) removes rest) (sym none)
+        (steps-start ready before middle removes rest
         (past-passes before middle removes rest (λ t. not (is_directory t inode)) NotPermitted came
         (λ known at whole bytes unit. ap not (kind_is false leaf known at whole bytes unit))))
 
     may : OfWhole ready before (λ t. MayLose t caller place inode)
     may known is whole bytes held =
         let t = tree_of bytes (typed known) in
-        let at = removing-at who caller is_for path before middle removes (unlink_at caller) (unlink-is caller path) entry c known is whole bytes tt in
+        let at = removing-at who caller is_for path before middle removes (unlink_at caller) (unlink-is caller path)
+        entry c known is whole bytes tt in
         record {
           whole = whole-shape bytes (typed known) whole;
           is = at.is;
@@ -176,10 +187,13 @@ module _ (who : Who) (caller : Caller) (is_for : IsFor who caller) (path : List 
       loses t = Ok (remove_entry t caller place inode)
 
       -- it didn't lose its entry
-      pub unlink-not_lost : {A : Type 0} (result : Result A TxFault) (fault : TxFault) → IsErrAnd result (λ e. e ≡ fault)
-          → Drafting {A = Told} (λ t. MayLose t caller place inode) draft all middle lost (Err fault) loses → Transacts ready before lost result says removes
+      pub unlink-not_lost : {A : Type 0} (result : Result A TxFault) (fault : TxFault)
+          → IsErrAnd result (λ e. e ≡ fault)
+          → Drafting {A = Told} (λ t. MayLose t caller place inode) draft all middle lost (Err fault) loses
+          → Transacts ready before lost result says removes
       unlink-not_lost result fault is d = transacts-error ready before lost says removes result fault is
-          (steps-stop ready before middle lost draft all (λ t. t) says removes rest begun fault (λ t. MayLose t caller place inode) loses d may
+          (steps-stop ready before middle lost draft all (λ t. t) says removes rest begun fault
+          (λ t. MayLose t caller place inode) loses d may
           (λ known at whole bytes held refused e. absurd (cc)))
 
       module _ (fate : Told) (d : Drafting (λ t. MayLose t caller place inode) draft all middle lost (Ok fate) loses)
@@ -188,18 +202,22 @@ module _ (who : Who) (caller : Caller) (is_for : IsFor who caller) (path : List 
         left t = remove_entry t caller place inode
 
         made : PastSteps ready before lost all left removes rest
-        made = steps-on ready before middle lost draft all (λ t. t) removes rest begun fate (λ t. MayLose t caller place inode) loses left d may
+        made = steps-on ready before middle lost draft all (λ t. t) removes rest begun fate
+            (λ t. MayLose t caller place inode) loses left d may
             (λ known at whole bytes held. refl)
 
         -- the commit failed
         pub unlink-fails : {A : Type 0} (down : Down) → Commits lost last (Err down) all
             → Transacts {A = A} ready before last (Err (OfRows (row_fault down))) says removes
-        unlink-fails down commits = steps-fail ready before lost last all all left says removes rest made (OfRows (row_fault down))
+        unlink-fails down commits = steps-fail ready before lost last all all left says removes rest made
+            (OfRows (row_fault down))
             (fails-commit lost last down all commits)
 
         -- it lost its entry
-        pub unlink-done : {A : Type 0} (removed : A) → Commits lost last (Ok tt) all → Transacts ready before last (Ok removed) says removes
-        unlink-done removed commits = steps-commit ready before lost last all all left says removes rest made removed commits
+        pub unlink-done : {A : Type 0} (removed : A) → Commits lost last (Ok tt) all
+            → Transacts ready before last (Ok removed) says removes
+        unlink-done removed commits = steps-commit ready before lost last all all left says removes rest made removed
+            commits
             (λ known is whole bytes held. refl)
             (λ known is whole bytes held.
             let m = may known is whole bytes held in
@@ -212,6 +230,8 @@ module _ (who : Who) (caller : Caller) (is_for : IsFor who caller) (path : List 
     unlink-tells fate tells known is whole bytes held i =
         let t = tree_of bytes (typed known) in
         let m = may known is whole bytes held in
-        ap (λ r. is_sustained (outcome t r).tree caller.sid i && not (is_sustained t caller.sid i)) (begun.goes_on known is whole bytes held)
+        ap (λ r. is_sustained (outcome t r).tree caller.sid i && not (is_sustained t caller.sid i))
+        (begun.goes_on known is whole bytes held)
         ∙ kept-remove_entry t caller place inode m i
-        ∙ ap (λ f. is_kept f && (inode == i)) (sym (tells known (c.looks.rows_are ∙ is) bytes t (begun.minds known is whole bytes held) m))
+        ∙ ap (λ f. is_kept f && (inode == i))
+        (sym (tells known (c.looks.rows_are ∙ is) bytes t (begun.minds known is whole bytes held) m))

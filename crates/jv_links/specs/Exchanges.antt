@@ -26,11 +26,13 @@ pub record MayExchange (t : Tree) (from : EntryKey) (source : ℕ) (to : EntryKe
 -- an inode moved in from elsewhere, where the link counts of its new directory and its own can be stored
 abbrev pub entry_moved : ℕ → EntryKey → ℕ → Tree → Result Tree Fault
 entry_moved now place inode t = do
-  _ ← require (links_fit (put_entry t now place inode) place.dir && links_fit (put_entry t now place inode) inode) NoSpace
+  _ ← require (links_fit (put_entry t now place inode) place.dir && links_fit (put_entry t now place inode) inode)
+      NoSpace
   Ok (move_in t now place inode)
 
 -- the inodes of two entries exchanged, where the links of both directories can be stored
 abbrev pub exchanged_within : ℕ → EntryKey → ℕ → EntryKey → ℕ → Tree → Result Tree Fault
 exchanged_within now from source to other t = do
-  _ ← require (links_fit (exchanged t now from source to other) from.dir && links_fit (exchanged t now from source to other) to.dir) NoSpace
+  _ ← require (links_fit (exchanged t now from source to other) from.dir && links_fit
+      (exchanged t now from source to other) to.dir) NoSpace
   Ok (exchanged t now from source to other)

@@ -1,4 +1,5 @@
 -- What is said of transactions on entries.
+pub mod Climbs
 pub mod Linkable
 pub mod Losses
 pub mod Removable

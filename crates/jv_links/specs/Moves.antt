@@ -20,7 +20,7 @@ use Rattle.jv_rows.specs.declared.walking.Place.{Place}
 use Rattle.jv_model.specs.rows.RowGrammar.{is_node}
 use Rattle.jv_rows.specs.Transactions.{Looks, Transacts}
 use Rattle.jv_rows.specs.Walks.{HasNodeRow}
-use Rattle.jv_volume.specs.Shape.{WholeShape, shape_of}
+use Rattle.jv_volume.specs.Shape.{WholeShape, is_top, shape_of}
 use Rattle.jv_volume.specs.TypedRows.{is_entry_name}
 use Rattle.jv_links.specs.declared.ends.Ends.{Ends}
 use Rattle.jv_links.specs.declared.fates.Removed.{Removed}
@@ -53,10 +53,13 @@ move_asked t sid path to how = do
   source ← some_or (get t.entries from) NotFound
   Ok (record { from = from; source = source; to = target })
 
--- a node's row that was read stands at its inode, and its links can be stored
+-- The row of a node that an entry names was read, and stands at its inode. Its links can be stored. It is neither the
+-- root nor
+-- the trash, which no entry of a whole volume names.
 pub record Stands (store : Store) (place : Place) : Type 0 where
   pub row : HasNodeRow store place.inode place.node
   pub allowed : IsTrue (is_node place.node)
+  pub low : is_top place.inode ≡ false
 
 -- a directory's row that was read
 pub record StandsDirectory (store : Store) (place : Place) : Type 0 where
@@ -70,9 +73,10 @@ pub record EndsStand (store : Store) (ends : Ends) : Type 0 where
   pub source : Stands store ends.source
 
 -- the ends of a rename: over whole rows they are the model's, and the rows of their nodes stand there
-pub record FindsEnds (before after : Store) (result : Result Ends TxFault) (finds : Tree → Result Move Fault) : Type 0 where
-  pub looks : Looks before after (move_in result) finds
-  pub stand : IfOk result (EndsStand after)
+pub record FindsEnds (before after : Store) (result : Result Ends TxFault) (finds : Tree → Result Move Fault) : Type 0
+  where
+    pub looks : Looks before after (move_in result) finds
+    pub stand : IfOk result (EndsStand after)
 
 -- what a tree was found to be for a rename of a kind
 pub record IsMove (t : Tree) (sid : ℕ) (how : How) (m : Move) : Type 0 where
@@ -89,7 +93,8 @@ pub record IsFreeMove (t : Tree) (sid : ℕ) (how : How) (from : EntryKey) (sour
   pub free : get t.entries to ≡ None
 
 -- and that its target names an inode; what the caller has open are files
-pub record IsOverMove (t : Tree) (who : Caller) (how : How) (from : EntryKey) (source : ℕ) (to : EntryKey) (other : ℕ) : Type 0 where
+pub record IsOverMove (t : Tree) (who : Caller) (how : How) (from : EntryKey) (source : ℕ) (to : EntryKey)
+    (other : ℕ) : Type 0 where
   pub move : IsMove t who.sid how (record { from = from; source = source; to = to })
   pub there : get t.entries to ≡ Some other
   pub held : HoldsFiles who.held t
@@ -105,7 +110,8 @@ renamed_with Exchange t who from source to target = do
   unless_same t source other (λ _. exchanging t who from source to other)
 
 -- a transaction that renames, and tells what became of what it replaced
-pub record Renames (sid : ℕ) (ready : Tree → Type 0) (before after : Store) (result : Result (Option Removed) TxFault) (act : Tree → Result Outcome Fault) : Type 0 where
+pub record Renames (sid : ℕ) (ready : Tree → Type 0) (before after : Store) (result : Result (Option Removed) TxFault)
+    (act : Tree → Result Outcome Fault) : Type 0 where
   pub does : Transacts ready before after result (λ removed. Done) act
   pub tells : TellsSustained sid ready before (renamed_in result) act
 

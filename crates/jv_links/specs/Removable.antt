@@ -1,11 +1,10 @@
 -- An entry that may be removed, and the readings that come to it.
-use Rattle.std.specs.Prelude.{ℕ, List, is_some, Result, Ok, Err, IfOk, IsTrue}
+use Rattle.std.specs.Prelude.{ℕ, List, is_some, Result, Ok, Err, IfOk}
 use Rattle.jv_model.specs.declared.fault.Fault.{Fault}
 use Rattle.jv_model.specs.declared.fault.Fault.TheVariants.{NotFound, NotPermitted, Stale}
 use Rattle.jv_model.specs.declared.fault.Gone.TheVariants.{Session}
 use Rattle.jv_model.specs.declared.fault.TxFault.{TxFault}
 use Rattle.jv_model.specs.FiniteMap.{get}
-use Rattle.jv_model.specs.rows.RowGrammar.{is_node}
 use Rattle.jv_model.specs.tree.Attempt.{◌>>=◌, require, some_or}
 use Rattle.jv_model.specs.tree.Removing.{may_go}
 use Rattle.jv_model.specs.tree.Tree.{Tree, EntryKey}
@@ -32,8 +31,10 @@ abbrev pub removable_in : Result Removable TxFault → Result (EntryKey × ℕ) 
 removable_in (Ok entry) = Ok (place_of entry, entry.node.inode)
 removable_in (Err fault) = Err fault
 
--- Readings that come to an entry and its node: over whole rows they are the model's, and the node's row, one that the grammar
+-- Readings that come to an entry and its node: over whole rows they are the model's, and the node's row, one that the
+-- grammar
 -- allows, stands there.
-pub record ComesToRemovable (before after : Store) (result : Result Removable TxFault) (finds : Tree → Result (EntryKey × ℕ) Fault) : Type 0 where
+pub record ComesToRemovable (before after : Store) (result : Result Removable TxFault) (finds : Tree
+    → Result (EntryKey × ℕ) Fault) : Type 0 where
   pub looks : Looks before after (removable_in result) finds
   pub stands : IfOk result (λ entry. HasNodeRow after entry.node.inode entry.node.node)

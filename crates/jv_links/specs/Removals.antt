@@ -1,6 +1,6 @@
 -- What becomes of inodes that lose an entry.
 use Rattle.std.specs.Prelude.{◌≡◌, ℕ, ◌≤◌, Bool, true, false, ◌&&◌, not, ◌==◌, List, is_some, Option, None, Some, Result, Ok, Err, IfSome, IfOk, IsTrue}
-use Rattle.std.specs.List.{list_any, list_all}
+use Rattle.std.specs.List.{list_any}
 use Rattle.jv_model.specs.declared.fault.Fault.{Fault}
 use Rattle.jv_model.specs.declared.fault.TxFault.{TxFault}
 use Rattle.jv_model.specs.declared.limits.TheConstants.{LAST_MOMENT}
@@ -19,16 +19,15 @@ use Rattle.jv_volume.specs.Whole.{Whole}
 use Rattle.jv_links.specs.declared.fates.Fate.{Fate}
 use Rattle.jv_links.specs.declared.fates.Fate.TheVariants.{Linked, Trashed, Dropped, Sustained}
 use Rattle.jv_links.specs.declared.fates.Removed.{Removed}
-
--- bytes without the byte 0, which no name has
-abbrev pub has_no_zero : List ℕ → Bool
-has_no_zero bytes = list_all (λ b. not (b == 0)) bytes
+pub use Rattle.jv_model.specs.script.Spelled.{has_no_zero}
 
 -- what a caller has open of a tree's inodes are files
 abbrev pub HoldsFiles : List ℕ → Tree → Type 0
-HoldsFiles held t = (inode : ℕ) → IsTrue (list_any (λ h. h == inode) held) → IsTrue (is_there ((shape_of t).form inode)) → (shape_of t).form inode ≡ Regular
+HoldsFiles held t = (inode : ℕ) → IsTrue (list_any (λ h. h == inode) held) → IsTrue (is_there ((shape_of t).form inode))
+    → (shape_of t).form inode ≡ Regular
 
--- an entry of a file or a symlink of a whole tree, which a caller whose session is there removes at a moment of the clock
+-- an entry of a file or a symlink of a whole tree, which a caller whose session is there removes at a moment of the
+-- clock
 pub record MayLose (t : Tree) (who : Caller) (place : EntryKey) (inode : ℕ) : Type 0 where
   pub whole : WholeShape (shape_of t)
   pub is : get t.entries place ≡ Some inode
@@ -45,7 +44,8 @@ fate_in model.Dropped = Dropped
 
 -- the fate that a removal tells is the model's, for each tree that the rows in mind are those of
 abbrev pub TellsFate : Caller → EntryKey → ℕ → List Change → Store → Result Fate TxFault → Type 0
-TellsFate who place inode was before result = IfOk result (λ fate. (known : RowMap) → before.rows ≡ Some known → (bytes : ℕ → ℕ → ℕ) (t : Tree)
+TellsFate who place inode was before result = IfOk result (λ fate. (known : RowMap) → before.rows ≡ Some known
+    → (bytes : ℕ → ℕ → ℕ) (t : Tree)
     → Minds known was bytes t → MayLose t who place inode → fate ≡ fate_in (model.fate_of t who place inode))
 
 abbrev pub is_kept : Fate → Bool
@@ -69,8 +69,11 @@ keeps_removed None inode = false
 keeps_removed (Some removed) inode = is_kept removed.fate && (removed.inode == inode)
 
 -- Over whole rows, whose tree is ready, what was removed tells which file the session keeps from then on.
-abbrev pub TellsSustained : ℕ → (Tree → Type 0) → Store → Option (Option Removed) → (Tree → Result Outcome Fault) → Type 0
-TellsSustained sid ready before result act = IfSome result (λ removed. (known : RowMap) → before.rows ≡ Some known → Whole (typed known) → (bytes : ℕ → ℕ → ℕ)
+abbrev pub TellsSustained : ℕ → (Tree → Type 0) → Store → Option (Option Removed) → (Tree → Result Outcome Fault)
+    → Type 0
+TellsSustained sid ready before result act = IfSome result (λ removed. (known : RowMap) → before.rows ≡ Some known
+    → Whole (typed known) → (bytes : ℕ → ℕ → ℕ)
     → ready (tree_of bytes (typed known)) → (inode : ℕ)
-    → (is_sustained (outcome (tree_of bytes (typed known)) (act (tree_of bytes (typed known)))).tree sid inode && not (is_sustained (tree_of bytes (typed known)) sid inode))
+    → (is_sustained (outcome (tree_of bytes (typed known)) (act (tree_of bytes (typed known)))).tree sid inode && not
+    (is_sustained (tree_of bytes (typed known)) sid inode))
     ≡ keeps_removed removed inode)

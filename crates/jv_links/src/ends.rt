@@ -1,14 +1,19 @@
 //! The ends of a rename: the entry that goes, what it names, and the entry that comes.
-ghost use Rattle.std.specs.Prelude.{◌≡◌, ◌&&◌};
+ghost use Rattle.std.specs.Prelude.{◌≡◌, ◌&&◌, IfOk, false};
 ghost use Rattle.jv_links.specs.Moves.{FindsEnds, FindsEntry, move_asked, place_of};
+ghost use Rattle.jv_model.specs.FiniteMap.{get};
+ghost use Rattle.jv_model.specs.declared.fault.Fault.TheVariants.{NotFound};
+ghost use Rattle.jv_model.specs.tree.Attempt.{some_or};
 ghost use Rattle.jv_model.specs.tree.Making as model_making;
 ghost use Rattle.jv_model.specs.tree.Removing as model_removing;
 ghost use Rattle.jv_model.specs.tree.Renaming as model;
 ghost use Rattle.jv_model.specs.tree.Walk as model_walk;
+ghost use Rattle.jv_rows.specs.Walks.{Comes};
+ghost use Rattle.jv_volume.specs.Shape.{is_top};
 
 use jv_model::{Fault, How, Path, ROOT, TRASH_ROOT, TxFault};
 use jv_outside::Keeper;
-use jv_rows::{EntryPlace, Place, child, in_session, walk_to_entry};
+use jv_rows::{EntryPlace, Place, child, in_session, is_top, walk_to_entry};
 use std::alloc::Global;
 
 /// An entry that is to be renamed, the node that it names, and the entry that it is to be.
@@ -57,12 +62,28 @@ fn may_move(how: How, from: &EntryPlace, to: &EntryPlace) -> bool
     may_leave(how, from) && may_be_new(to)
 }
 
+// The node that an entry names.
+//
+// Everything is inside the root or the trash, so what would move one of them is refused as Invalid: no entry of a whole volume
+// names them.
+fn entered<K: Keeper>(alloc: Global, k: &mut K, entry: &EntryPlace) -> Result<Place, TxFault>
+    ensures comes { Comes (K.seen k.old) (K.seen k.new) result
+        (λ t. some_or (get t.entries (place_of entry.now)) NotFound) }
+    ensures low { IfOk result (λ place. is_top place.inode ≡ false) }
+{
+    let place = child(alloc, k, entry.dir.inode, &entry.name)?;
+    if is_top(place.inode) {
+        return Err(TxFault::Refused(Fault::Invalid));
+    }
+    Ok(place)
+}
+
 /// Finds the ends of a rename, whose target may be there or not.
 ///
 /// # Errors
 ///
 /// Stale where the session is gone, then as of [`walk_to_entry`] for the one path and the other, NotPermitted for an entry of
-/// the trash, and as of [`child`].
+/// the trash, and as of [`child`]. Invalid for an entry that names the root or the trash.
 pub(crate) fn find_ends<K: Keeper>(
     alloc: Global,
     k: &mut K,
@@ -79,7 +100,7 @@ pub(crate) fn find_ends<K: Keeper>(
     if !may_move(how, &from, &to) {
         return Err(TxFault::Refused(Fault::NotPermitted));
     }
-    let source = child(alloc, k, from.dir.inode, &from.name)?;
+    let source = entered(alloc, k, &from)?;
     Ok(Ends { from, source, to })
 }
 
@@ -87,7 +108,7 @@ pub(crate) fn find_ends<K: Keeper>(
 ///
 /// # Errors
 ///
-/// As of [`child`], but for NotFound.
+/// As of [`child`], but for NotFound. Invalid for an entry that names the root or the trash.
 pub(crate) fn entry_at<K: Keeper>(
     alloc: Global,
     k: &mut K,
@@ -95,9 +116,9 @@ pub(crate) fn entry_at<K: Keeper>(
 ) -> Result<Option<Place>, TxFault>
     ensures { FindsEntry (K.seen k.old) (K.seen k.new) result (place_of entry.now) }
 {
-    match child(alloc, k, entry.dir.inode, &entry.name) {
+    match entered(alloc, k, entry) {
         Ok(place) => Ok(Some(place)),
-        Err(TxFault::Refused(_)) => Ok(None),
+        Err(TxFault::Refused(Fault::NotFound)) => Ok(None),
         Err(fault) => Err(fault),
     }
 }

@@ -15,7 +15,7 @@ use jv_changes::{
 };
 use jv_model::{Fault, Gone, Moment, Name, TRASH_ROOT, TxFault, Who};
 use jv_outside::Keeper;
-use jv_rows::Draft;
+use jv_rows::{Draft, needed_setting};
 use std::alloc::Global;
 
 /// What becomes of a file or a symlink that loses an entry.
@@ -40,6 +40,7 @@ pub struct Removed {
 
 // What becomes of a file or a symlink that is about to lose its entry in a directory.
 fn fate_of<K: Keeper>(
+    alloc: Global,
     draft: &Draft,
     k: &mut K,
     who: &Who,
@@ -58,9 +59,7 @@ fn fate_of<K: Keeper>(
     if node.nlink > 1 {
         return Ok(Fate::Linked);
     }
-    let Some(setting) = draft.setting(k)? else {
-        return Err(TxFault::Refused(Fault::Invalid));
-    };
+    let setting = needed_setting(alloc, k, draft)?;
     if setting.trash_days > 0 && dir < TRASH_ROOT {
         Ok(Fate::Trashed)
     } else if who.held.as_slice().contains(&inode) {
@@ -105,8 +104,8 @@ fn keep<K: Keeper>(draft: &mut Draft, k: &mut K, who: &Who, inode: u64) -> Resul
 ///
 /// # Errors
 ///
-/// Stale where a node isn't there, Invalid where the volume has no setting. Bad for a malformed row, Failed if the keeper
-/// failed, Memory.
+/// Stale where a node isn't there. Bad for a malformed row, and without bytes where the volume has no setting or no counters.
+/// Failed if the keeper failed, Memory.
 pub fn remove_entry<K: Keeper>(
     alloc: Global,
     draft: &mut Draft,
@@ -123,13 +122,13 @@ pub fn remove_entry<K: Keeper>(
     ensures tells { (caller : Caller) → IsFor who.entry.now caller
         → TellsFate caller (record { dir = dir; name = name.now }) inode draft.old (K.seen k.old) result }
 {
-    let fate = fate_of(draft, k, who, dir, inode)?;
+    let fate = fate_of(alloc, draft, k, who, dir, inode)?;
     take_entry(draft, k, who.now, dir, name, inode)?;
     match fate {
         Fate::Linked => change_status(draft, k, who.now, inode)?,
         Fate::Trashed => trash(alloc, draft, k, who.now, dir, name, inode)?,
         Fate::Sustained => keep(draft, k, who, inode)?,
-        Fate::Dropped => drop_node(draft, k, inode)?,
+        Fate::Dropped => drop_node(alloc, draft, k, inode)?,
     }
     Ok(fate)
 }

@@ -106,7 +106,7 @@ pub fn rmdir<K: Keeper>(alloc: Global, k: &mut K, who: &Who, path: &Path) -> Res
     }
     let mut draft = Draft::new(alloc);
     take_entry(&mut draft, k, who.now, entry.dir, &entry.name, inode)?;
-    drop_node(&mut draft, k, inode)?;
+    drop_node(alloc, &mut draft, k, inode)?;
     match draft.commit(k) {
         Ok(()) => Ok(()),
         Err(down) => Err(TxFault::Rows(RowFault::from(down))),

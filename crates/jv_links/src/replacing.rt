@@ -69,7 +69,7 @@ fn remove_target<K: Keeper>(
     let inode = other.inode;
     if other.node.kind == 2 {
         take_entry(draft, k, who.now, to.dir.inode, &to.name, inode)?;
-        drop_node(draft, k, inode)?;
+        drop_node(alloc, draft, k, inode)?;
         return Ok(None);
     }
     let fate = remove_entry(alloc, draft, k, who, to.dir.inode, &to.name, inode)?;

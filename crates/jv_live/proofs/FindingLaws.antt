@@ -9,7 +9,7 @@ use Rattle.std.specs.Ordering.{is_lt}
 use Rattle.std.proofs.lemmas.Bool.{cases_order, ltb-true, ltb-false}
 use Rattle.jv_model.specs.declared.fault.Fault.{Fault}
 use Rattle.jv_model.specs.declared.fault.RowFault.{RowFault}
-use Rattle.jv_model.specs.declared.fault.RowFault.TheVariants.{Bad, Failed, Memory}
+use Rattle.jv_model.specs.declared.fault.RowFault.TheVariants.{Memory}
 use Rattle.jv_model.specs.declared.fault.TxFault.TheVariants.{Rows as OfRows}
 use Rattle.jv_model.specs.declared.row.Row.{Row}
 use Rattle.jv_model.specs.declared.row.Row.TheVariants.{OfSustained}
@@ -23,19 +23,18 @@ use Rattle.jv_model.specs.rows.RowPlaces.{sustained_key}
 use Rattle.jv_model.specs.tree.Tree.{Tree}
 use Rattle.jv_outside.specs.Rows.{is_after, rows_after}
 use Rattle.jv_outside.specs.Store.{Store}
-use Rattle.jv_rows.specs.Scans.{row_then, rows_read, RefusesScan, ScansRows}
+use Rattle.jv_rows.specs.Scans.{row_then, rows_read, ScansRows}
 use Rattle.jv_rows.specs.Tables.{sustained_row}
-use Rattle.jv_rows.specs.Transactions.{Malformed}
-use Rattle.jv_rows.proofs.TransactionLaws.{of_known, if_known, FailsBy, fails-memory, fails-looks}
+use Rattle.jv_rows.proofs.ScannedLaws.{fails-scan, number-rises}
+use Rattle.jv_rows.proofs.TransactionLaws.{of_known, if_known, fails-memory, fails-looks}
 use Rattle.jv_volume.specs.TypedRows.{cell_of, typed, is_key}
 use Rattle.jv_volume.specs.Views.{row_in, sustained_in, sustained_at}
 use Rattle.jv_volume.specs.Whole.{Whole}
 use Rattle.jv_volume.proofs.ShapeMapLaws.{first_where-none}
-use Rattle.jv_volume.proofs.StoredLaws.{whole-typed}
 use Rattle.jv_volume.proofs.TableLaws.{same_key_parts, long_below}
 use Rattle.jv_volume.proofs.TypedLaws.{get-typed}
 use Rattle.jv_live.specs.Steps.{HasPair, is_past, is_ahead, last_key, number_in, if_past, first_kept, IsSpelled, KeepsNone, FindsKept}
-use Rattle.jv_live.proofs.NextLaws.{key-less, key-past, number-rises, not_both, not_itself, first_where-least}
+use Rattle.jv_live.proofs.NextLaws.{key-less, key-past, not_both, not_itself, first_where-least}
 
 -- ---- one row behind a key
 
@@ -88,39 +87,14 @@ module _ (last : RowKey) (known : RowMap) (list : List (RowKey × Row)) where
   reads-one : rows_read (rows_after known 7 (Some last) 1) ≡ Ok list → ReadsOne last known list
   reads-one h = by_first (first_behind last known) refl (ap rows_read (sym (one-behind known last)) ∙ h)
 
--- ---- a scan that failed
-
-module _ (last : RowKey) (known : RowMap) (at : RowKey) (bytes : List ℕ) where
-  off_row : (e : RowKey × List ℕ) → get known e.0 ≡ Some e.1 → (o : Option Row) → row_then e.0 e.1 o (Ok []) ≡ Err (at, bytes) → get known at ≡ Some bytes
-  off_row e there None h = (let same : e ≡ (at, bytes) = cc in subst (λ (p : RowKey × List ℕ). get known p.0 ≡ Some p.1) same there)
-  off_row e there (Some row) h = absurd (cc)
-
-  off_first : (o : Option (RowKey × List ℕ)) → first_behind last known ≡ o → rows_read (as_list o) ≡ Err (at, bytes) → get known at ≡ Some bytes
-  off_first None first h = absurd (cc)
-  off_first (Some e) first h = off_row e (first_where-found row_key (passes last) known e first).there (row_of e.0.tab e.1) h
-
-  off-there : rows_read (rows_after known 7 (Some last) 1) ≡ Err (at, bytes) → get known at ≡ Some bytes
-  off-there h = off_first (first_behind last known) refl (ap rows_read (sym (one-behind known last)) ∙ h)
-
 abbrev finds : Tree → Result (Unit {0}) Fault
 finds t = Ok tt
 
 module _ (sid : ℕ) (after : Option ℕ) (last : RowKey) (before now : Store) where
-  why_unscanned : (fault : RowFault) → RefusesScan before.rows 7 (Some last) 1 fault → FailsBy before.rows (OfRows fault)
-  why_unscanned (Bad at bytes) h = λ known is.
-      let there = off-there last known at bytes (of_known (λ known. rows_read (rows_after known 7 (Some last) 1) ≡ Err (at, bytes)) before.rows known
-      is h.1) in
-      let bad : get (typed known) at ≡ Some (Err bytes) = get-typed known at ∙ ap (option_map (cell_of at)) there ∙ ap
-      (λ (r : Option Row). Some (ok_or r bytes)) h.0 in
-      (Malformed bad, λ whole. whole-typed (typed known) at bytes whole bad)
-  why_unscanned Failed h = tt
-  why_unscanned Memory h = tt
-
   -- the row wasn't read
   pub finds-unread : (fault : RowFault) → ScansRows 7 (Some last) 1 before now (Err fault) → FindsKept sid after before now (Err (OfRows fault))
   finds-unread fault s = record {
-    looks = fails-looks before now finds (OfRows fault)
-        (record { rows_are = s.rows_are; opened_at = s.opened_at; cause = s.counts; why = why_unscanned fault s.refused });
+    looks = fails-looks before now finds (OfRows fault) (fails-scan 7 (Some last) 1 before now fault s);
     past = tt;
     small = tt;
     there = tt;
@@ -277,12 +251,12 @@ module _ (sid : ℕ) (after : Option ℕ) (before now : Store) (list : List (Row
       below_sid : e.0.a ≤ sid
       below_sid = elim least [
         | inl same ↦ (let e_is : e.0.a ≡ sid = ap (λ (k : RowKey). k.a) (sym same) in omega (arith, e_is))
-        | inr less ↦ number-rises e.0 (sustained_key sid j) table.0 refl less
+        | inr less ↦ number-rises e.0 (sustained_key sid j) table.0 less
       ]
 
       sid_is : e.0.a ≡ sid
       sid_is =
-          let up = number-rises last e.0 (last_tab sid after) table.0 table.1 in
+          let up = number-rises last e.0 (last_tab sid after ∙ sym table.0) table.1 in
           let from = last_number sid after in
           let down = below_sid in
           omega (arith, up, from, down)

@@ -124,11 +124,11 @@ module _ (was now : List Change) (store : Store) where
   pub drafting-end_session : (sid : ℕ) → Drafted (session_key sid) None was now → Drafting Always was now store store (Ok (tt {0}))
       (λ t. Ok (ending_session sid t))
   drafting-end_session sid done = drafting-made Always was now store store (stays-none store) (λ t. Ok (ending_session sid t)) (tt {0})
-      (are_rows-drop (session_key sid) was now done)
+      (are_rows-drop (session_key sid) was now refl done)
       (λ known is bytes t m is_ready. record { left = ending_session sid t; is = refl; minds = minds-end_session known was now bytes t m sid done })
 
   pub drafting-let_go : (sid inode : ℕ) → inode < 2 ^ 64 → Drafted (sustained_key sid inode) None was now
       → Drafting Always was now store store (Ok (tt {0})) (λ t. Ok (letting_go sid inode t))
   drafting-let_go sid inode small done = drafting-made Always was now store store (stays-none store) (λ t. Ok (letting_go sid inode t)) (tt {0})
-      (are_rows-drop (sustained_key sid inode) was now done)
+      (are_rows-drop (sustained_key sid inode) was now refl done)
       (λ known is bytes t m is_ready. record { left = letting_go sid inode t; is = refl; minds = minds-let_go known was now bytes t m sid inode small done })

@@ -4,13 +4,12 @@ use Rattle.std.specs.Int.{w64, from_be_bytes}
 use Rattle.std.specs.List.{AllByRecursion}
 use Rattle.std.specs.declared.cmp.Ordering.{Ordering}
 use Rattle.std.specs.declared.cmp.Ordering.TheVariants.{Less, Equal, Greater}
-use Rattle.std.specs.Ordering.{is_lt, is_eq, is_le, nat_cmp, ordering_then, ordering_reverse, eq_by_cmp}
+use Rattle.std.specs.Ordering.{is_eq, nat_cmp, ordering_then, ordering_reverse, eq_by_cmp}
 use Rattle.std.specs.Cmp.{nat_cmp_total, tied_itself}
 use Rattle.std.specs.Cmp.Lexicographic.{slice_cmp}
 use Rattle.std.specs.FinMap.Entries.{find, below_all, is_sorted}
 use Rattle.std.proofs.Math.Nat.{mul-le-mul_right}
 use Rattle.std.proofs.lemmas.Bool.{cases_order, lt-ltb, ltb-true}
-use Rattle.std.proofs.lemmas.Map.Keys.{le_from_is_le}
 use Rattle.std.proofs.lemmas.Nat.{from_be_bytes-to_be_bytes_8}
 use Rattle.jv_model.specs.FiniteMap.{KeyOrder, Map, get, first_passing, first_where}
 use Rattle.jv_model.specs.rows.RowFields.{long}
@@ -18,6 +17,7 @@ use Rattle.jv_model.specs.rows.RowKeys.{row_cmp, row_cmp_total}
 use Rattle.jv_model.specs.declared.row.RowKey.{RowKey}
 use Rattle.jv_model.specs.rows.RowPlaces.{sustained_key}
 use Rattle.jv_volume.proofs.MapLaws.{first_of_both, second_of_both}
+use Rattle.jv_rows.proofs.ScannedLaws.{less_by}
 use Rattle.jv_live.specs.Steps.{is_past, last_key}
 
 -- ---- numbers and their bytes
@@ -113,18 +113,6 @@ pub key-past : (sid : ℕ) (after : Option ℕ) (inode : ℕ) → inode < 2 ^ 64
 key-past sid None inode small past = ap (λ o. ordering_then (nat_cmp 7 7) (ordering_then o Less)) (tied_itself nat_cmp_total sid)
 key-past sid (Some last) inode small past = key-less sid last inode (ltb-true last inode past) small
 
-at_most : (o p : Ordering) → ordering_then o p ≡ Less → is_le o ≡ true
-at_most Less p e = refl
-at_most Equal p e = refl
-at_most Greater p e = absurd (true≢false (sym (ap is_lt e)))
-
--- a later key of the table has no lower number
-pub number-rises : (x y : RowKey) → x.tab ≡ 7 → y.tab ≡ 7 → row_cmp x y ≡ Less → x.a ≤ y.a
-number-rises x y tx ty less =
-    let tabs : nat_cmp x.tab y.tab ≡ Equal = ap (λ (n : ℕ). nat_cmp n y.tab) (tx ∙ sym ty) ∙ tied_itself nat_cmp_total y.tab in
-    le_from_is_le x.a y.a (at_most (nat_cmp x.a y.a) (slice_cmp nat_cmp x.b y.b)
-    (sym (ap (λ o. ordering_then o (ordering_then (nat_cmp x.a y.a) (slice_cmp nat_cmp x.b y.b))) tabs) ∙ less))
-
 -- no key is both before and behind another
 pub not_both : (x y : RowKey) → row_cmp x y ≡ Less → row_cmp y x ≡ Less → ⊥
 not_both x y p q = (let back = row_cmp_total.antisymm x y ∙ ap ordering_reverse q in let both = sym p ∙ back in absurd (cc))
@@ -133,11 +121,6 @@ pub not_itself : (x : RowKey) → row_cmp x x ≡ Less → ⊥
 not_itself x p = not_both x x p p
 
 -- ---- the first row that passes is the least
-
-less_by : (o : Ordering) → T (is_lt o) → o ≡ Less
-less_by Less p = refl
-less_by Equal p = absurd p
-less_by Greater p = absurd p
 
 equal_by : (o : Ordering) → is_eq o ≡ true → o ≡ Equal
 equal_by Less p = absurd (true≢false (sym p))

@@ -49,7 +49,7 @@ pub fn release<K: Keeper>(alloc: Global, k: &mut K, who: &Who, inode: u64) -> Re
     }
     kept_node(alloc, k, who.sid, inode)?;
     let_go(&mut draft, who.sid, inode)?;
-    drop_node(&mut draft, k, inode)?;
+    drop_node(alloc, &mut draft, k, inode)?;
     match draft.commit(k) {
         Ok(()) => Ok(()),
         Err(down) => Err(TxFault::Rows(RowFault::from(down))),
@@ -73,7 +73,7 @@ pub fn close_session<K: Keeper>(alloc: Global, k: &mut K, who: &Who) -> Result<(
     while let Some(inode) = next_kept(alloc, k, who.sid, after)? {
         kept_node(alloc, k, who.sid, inode)?;
         let_go(&mut draft, who.sid, inode)?;
-        drop_node(&mut draft, k, inode)?;
+        drop_node(alloc, &mut draft, k, inode)?;
         after = Some(inode);
     }
     end_session(&mut draft, who.sid)?;

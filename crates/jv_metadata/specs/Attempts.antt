@@ -22,7 +22,9 @@ use Rattle.jv_volume.specs.Whole.{Whole}
 use Rattle.jv_links.specs.declared.fates.Fate.{Fate}
 use Rattle.jv_links.specs.declared.fates.Fate.TheVariants.{Linked, Trashed, Dropped, Sustained}
 use Rattle.jv_links.specs.declared.fates.Removed.{Removed}
-use Rattle.jv_links.specs.Removals.{has_no_zero, HoldsFiles, TellsSustained}
+use Rattle.jv_links.specs.Removals.{HoldsFiles, TellsSustained}
+use Rattle.jv_volume.specs.Holding.{takes_entries}
+pub use Rattle.jv_model.specs.script.Spelled.{is_spelled}
 use Rattle.jv_metadata.specs.declared.answers.Answer.{Answer}
 
 -- a result with its value changed
@@ -80,17 +82,6 @@ is_metadata (op.Gc delete) = false
 is_metadata op.Upload = false
 is_metadata op.Stats = false
 
--- What a line of a script spells of what these operations write: paths and targets without the byte 0, permission bits of four
--- octal digits, and targets of at least one byte.
-abbrev pub is_spelled : Op → Bool
-is_spelled (op.Mkdir path mode) = has_no_zero path && nat_le mode 4095
-is_spelled (op.Create path mode) = has_no_zero path && nat_le mode 4095
-is_spelled (op.Chmod path mode) = nat_le mode 4095
-is_spelled (op.Symlink target path) = has_no_zero target && nat_lt 0 (length target) && has_no_zero path
-is_spelled (op.Link path to) = has_no_zero to
-is_spelled (op.Rename path to how) = has_no_zero to
-is_spelled _ = true
-
 -- the model's transaction of an operation
 abbrev pub attempt : Tree → Caller → Op → Result Outcome Fault
 attempt t who (op.Mount writeback) = sessions.mount t who
@@ -130,12 +121,6 @@ attempt t who op.Stats = done t
 pub record Asks (caller : Caller) (handle inode : ℕ) : Type 0 where
   pub gets : caller.free_handle ≡ handle
   pub names : caller.inode ≡ inode
-
--- whether an operation may take a file's last entry
-abbrev pub takes_entries : Op → Bool
-takes_entries (op.Unlink path) = true
-takes_entries (op.Rename path to how) = true
-takes_entries _ = false
 
 abbrev pub is_inode : Option ℕ → ℕ → Bool
 is_inode None inode = false

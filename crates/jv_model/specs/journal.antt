@@ -7,4 +7,3 @@ pub mod Steps
 pub mod Past
 pub mod Stepping
 pub mod Legal
-pub mod Built

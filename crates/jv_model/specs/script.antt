@@ -3,3 +3,4 @@ pub mod Spelling
 pub mod Printed
 pub mod ReplyText
 pub mod Grammar
+pub mod Spelled

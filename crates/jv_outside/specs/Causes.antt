@@ -1,5 +1,5 @@
 -- What a device's error says of its count of faults.
-use Rattle.std.specs.Prelude.{◌≡◌, ℕ, ◌+◌, ◌-◌, ◌^◌, ◌≤◌, min, max}
+use Rattle.std.specs.Prelude.{◌≡◌, ℕ, zero, suc, ◌+◌, ◌-◌, ◌^◌, ◌≤◌, min, max, Bool, true, false}
 use Rattle.jv_model.specs.declared.fault.Down.{Down}
 use Rattle.jv_model.specs.declared.fault.Down.TheVariants.{Failed, Memory}
 
@@ -16,3 +16,13 @@ pub record HasFailed (before now : ℕ) (down : Down) : Type 0 where
 abbrev pub IsCaused : ℕ → ℕ → Down → Type 0
 IsCaused before now Failed = Rose before now
 IsCaused before now Memory = now ≡ before
+
+-- the count rose where the device failed, and is the same otherwise
+abbrev pub RoseIf : Bool → ℕ → ℕ → Type 0
+RoseIf true before now = Rose before now
+RoseIf false before now = now ≡ before
+
+-- the count rose so many times, and not otherwise
+abbrev pub RoseTimes : ℕ → ℕ → ℕ → Type 0
+RoseTimes zero before now = now ≡ before
+RoseTimes (suc n) before now = (between : ℕ) × RoseTimes n before between × Rose between now

@@ -19,5 +19,6 @@ pub mod NamesLaws
 pub mod CourseLaws
 pub mod EntryLaws
 pub mod TransactionLaws
+pub mod ScannedLaws
 pub mod NeedingLaws
 pub mod ArrivalLaws

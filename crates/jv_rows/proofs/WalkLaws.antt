@@ -1,15 +1,16 @@
 -- A walk's places: what a reading of a node or an entry comes to, and which rows whole volumes have.
-use Rattle.std.proofs.Common.{◌≡◌, ℕ, Bool, true, false, List, [], Option, None, Some, Result, Ok, Err, option_map, refl, sym, ap, subst, ◌∙◌, true≢false, eqb-true}
+use Rattle.std.proofs.Common.{◌≡◌, ◌≢◌, ℕ, Bool, true, false, List, [], Option, None, Some, Result, Ok, Err, option_map, refl, sym, ap, subst, ◌∙◌, true≢false, eqb-true}
 use Rattle.std.specs.Prelude.{if◌then◌else◌, ◌&&◌, ◌||◌, ◌==◌, IsTrue}
 use Rattle.jv_model.specs.declared.row.RowKey.{RowKey}
 use Rattle.jv_model.specs.declared.row.Row.TheVariants.{OfNode, OfEdge}
 use Rattle.jv_model.specs.declared.row.Node.{Node as NodeRow}
 use Rattle.jv_model.specs.declared.row.Edge.{Edge}
 use Rattle.jv_model.specs.declared.fault.Fault.{Fault}
+use Rattle.jv_model.specs.declared.fault.Fault.TheVariants.{NotADirectory}
 use Rattle.jv_model.specs.declared.fault.RowFault.{RowFault}
 use Rattle.jv_model.specs.declared.fault.RowFault.TheVariants.{Bad}
 use Rattle.jv_model.specs.declared.fault.TxFault.{TxFault}
-use Rattle.jv_model.specs.declared.fault.TxFault.TheVariants.{Rows as OfRows}
+use Rattle.jv_model.specs.declared.fault.TxFault.TheVariants.{Refused, Rows as OfRows}
 use Rattle.jv_model.specs.FiniteMap.{get}
 use Rattle.jv_model.specs.rows.RowGrammar.{node_bytes, is_node, edge_bytes, is_edge}
 use Rattle.jv_model.specs.rows.RowKeys.{RowMap, row_key}
@@ -24,6 +25,7 @@ use Rattle.jv_volume.specs.Whole.{Whole}
 use Rattle.jv_volume.proofs.ShapeMapLaws.{tied_here}
 use Rattle.jv_volume.proofs.TreeOfLaws.{get-entries}
 use Rattle.jv_volume.proofs.StoredLaws.{whole-stored, whole-shape, found_node, no_node}
+use Rattle.jv_volume.proofs.WalkShapeLaws.{parent_directory}
 use Rattle.jv_rows.specs.Drafts.{Sees}
 use Rattle.jv_rows.specs.Transactions.{NamesNone, Lacks, Looks, is_key_of, names, is_needed}
 use Rattle.jv_rows.specs.Walks.{HasNodeRow, HasEdgeRow, Comes}
@@ -137,6 +139,16 @@ module _ (known : RowMap) (whole : Whole (typed known)) where
       let parent : parent_at bare inode ≡ Some node.parent = h.parent ∙ ap (λ k. if k == 2 then Some node.parent else None) directory in
       absent_form (absent node.parent none) refl (parent_there inode node.parent (is_top inode) refl (dir_form (node_at bare inode) node.parent parent))
 
+  -- nor is it a file or a symlink
+  pub has_directory : (inode : ℕ) (node parent : NodeRow) → get (typed known) (node_key inode) ≡ Some (Ok (OfNode node)) → node.kind ≡ 2
+      → get (typed known) (node_key node.parent) ≡ Some (Ok (OfNode parent)) → parent.kind ≢ 2 → ⊥
+  has_directory inode node parent there directory above leaf =
+      let stored = whole-stored (λ inode position. 0) (typed known) whole in
+      let h = found_node (λ inode position. 0) (typed known) stored inode node (ap (λ cell. node_in (row_in cell)) there) in
+      let p = found_node (λ inode position. 0) (typed known) stored node.parent parent (ap (λ cell. node_in (row_in cell)) above) in
+      let is : parent_at bare inode ≡ Some node.parent = h.parent ∙ ap (λ k. if k == 2 then Some node.parent else None) directory in
+      leaf (eqb-true parent.kind 2 (sym p.directory ∙ parent_directory bare shape inode node.parent is))
+
 -- ---- a row that is Bad since another isn't there
 
 names_it : (key : RowKey) → IsTrue (is_key_of key key)
@@ -173,3 +185,18 @@ lacks_parent {before = before} {after = after} inode node there directory r =
     (if_known _ before.rows (λ known is. NamesNone (OfNode node) (node_key node.parent) (of_known _ before.rows known is there) refl
     (names_parent inode node directory) (stands_there OfNode is_node (node_key node.parent) before after None r known is)))
     (λ known is whole. has_parent known whole inode node (of_known _ before.rows known is there) directory (stands_there OfNode is_node (node_key node.parent) before after None r known is)))
+
+-- the parent of a directory is a file or a symlink, as in no whole rows
+pub no_parent : {before after : Store} (inode : ℕ) (node parent : NodeRow) → HasNodeRow before inode node → node.kind ≡ 2
+    → Sees OfNode is_node (node_key node.parent) [] before after (Ok (Some parent)) → parent.kind ≢ 2
+    → Comes before after (Err (Refused NotADirectory)) (λ t. Ok node.parent)
+no_parent {before = before} {after = after} inode node parent there directory r leaf =
+    let l = was_read OfNode is_node (node_key node.parent) before after (Some parent) (λ t. Ok node.parent) r in
+    failed_to_come (record {
+      rows_are = l.rows_are;
+      opened_at = l.opened_at;
+      counts = l.calm;
+      agrees = λ known is whole bytes. absurd (has_directory known whole inode node parent (of_known _ before.rows known is there) directory
+          (stands_there OfNode is_node (node_key node.parent) before after (Some parent) r known is) leaf);
+      bad = if_known _ before.rows (λ known is. tt);
+    })

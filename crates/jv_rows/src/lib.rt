@@ -46,7 +46,9 @@ pub use spelling::{
     spell_counters, spell_dead, spell_dropped, spell_edge, spell_list, spell_node, spell_session,
     spell_setting, spell_slice,
 };
-pub use walking::{EntryPlace, Place, child, walk, walk_entry, walk_to, walk_to_entry};
+pub use walking::{
+    EntryPlace, Place, child, is_top, parent, walk, walk_entry, walk_to, walk_to_entry,
+};
 pub use writing::{
     put_counters, put_dead, put_dropped, put_edge, put_list, put_node, put_session, put_setting,
     put_slice, put_sustained,

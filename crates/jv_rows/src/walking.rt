@@ -276,8 +276,8 @@ fn begins_at_root(path: &[u8]) -> bool
 }
 
 impl Place {
-    // A copy of the place.
-    fn copied(&self, alloc: Global) -> Result<Place, AllocError>
+    /// A copy of the place.
+    pub fn copied(&self, alloc: Global) -> Result<Place, AllocError>
         ensures { IfOk result (λ copy. copy ≡ self.now) }
     {
         Ok(Place {
@@ -305,6 +305,13 @@ fn copied_node(alloc: Global, node: &Node) -> Result<Node, AllocError>
     })
 }
 
+/// Whether an inode is the root or the trash, which no entry of a whole volume names.
+pub fn is_top(inode: u64) -> bool
+    ensures { result ≡ is_top inode }
+{
+    inode == ROOT || inode == TRASH_ROOT
+}
+
 // The root or the trash, of which each volume has the node.
 fn top<K: Keeper>(alloc: Global, k: &mut K, inode: u64) -> Result<Place, TxFault>
     requires { IsTrue (is_top inode) }
@@ -316,16 +323,27 @@ fn top<K: Keeper>(alloc: Global, k: &mut K, inode: u64) -> Result<Place, TxFault
     }
 }
 
-// The parent of a directory.
-fn parent<K: Keeper>(alloc: Global, k: &mut K, dir: &Place) -> Result<Place, TxFault>
+/// The parent of a directory, with its row. Rows and the keeper's place are as before, whatever is returned.
+///
+/// # Errors
+///
+/// Bad for a malformed row of the parent, and for the directory's own where its parent isn't there. NotADirectory where the
+/// parent is a file or a symlink, which it is over no whole rows. Failed if the keeper failed. Memory.
+pub fn parent<K: Keeper>(alloc: Global, k: &mut K, dir: &Place) -> Result<Place, TxFault>
     requires stands { HasNodeRow (K.seen k.old) dir.now.inode dir.now.node }
     requires is_directory { dir.now.node.kind ≡ 2 }
-    ensures { Comes (K.seen k.old) (K.seen k.new) result (λ t. Ok dir.now.node.parent) }
+    ensures comes { Comes (K.seen k.old) (K.seen k.new) result (λ t. Ok dir.now.node.parent) }
+    ensures directory { IfOk result (λ above. above.node.kind ≡ 2) }
 {
     let inode = dir.node.parent;
     match read_node(alloc, k, inode)? {
-        Some(node) => Ok(Place { inode, node }),
         None => Err(bad(key_of_node(alloc, dir.inode), spell_node(alloc, &dir.node)?)),
+        Some(node) => {
+            if node.kind != 2 {
+                return Err(TxFault::Refused(Fault::NotADirectory));
+            }
+            Ok(Place { inode, node })
+        }
     }
 }
 

@@ -1,6 +1,9 @@
 -- Laws about the definitions.
-pub mod BeginLaws
-pub mod InLineLaws
-pub mod NoteLaws
 pub mod MemberLaws
+pub mod StateLaws
+pub mod BeginLaws
+pub mod UsesLaws
+pub mod InLineLaws
+pub mod RunLaws
+pub mod NoteLaws
 pub mod WholeLineLaws

@@ -7,11 +7,13 @@ use Rattle.jv_model.specs.declared.op.Op.{Op}
 use Rattle.jv_model.specs.declared.setting.Setting.{Setting}
 use Rattle.jv_model.specs.journal.State.{State}
 use Rattle.jv_model.specs.journal.Past.{Past, is_over}
-use Rattle.jv_model.specs.journal.Built.{is_built_op, is_built_line}
+use Rattle.jv_client.specs.Built.{is_built_op, is_built_line}
 use Rattle.jv_laws.specs.OnLines.{IsAlone}
 use Rattle.jv_client.specs.ClientValue.{ClientValue, fresh_client}
-use Rattle.jv_client.specs.StoreValue.{StoreValue, HasStore, fresh_store}
-use Rattle.jv_client.specs.Held.{IsClient}
+use Rattle.jv_outside.specs.Store.{Store}
+use Rattle.jv_files.specs.Stored.{FilesValue}
+use Rattle.jv_client.specs.Shared.{Shared, HasStore, shared}
+use Rattle.jv_client.specs.Held.{IsClient, Holds}
 use Rattle.jv_client.specs.UnderWay.{IsReady}
 
 -- what contracts see of a schedule
@@ -20,7 +22,8 @@ pub record ScheduleValue : Type 0 where
   pub at : ℕ
   pub ticks : ℕ
   pub clients : List ClientValue
-  pub store : StoreValue
+  pub setting : Setting
+  pub files : FilesValue
 
 -- before its first line
 abbrev pub fresh_schedule : Setting → Limits → ScheduleValue
@@ -30,29 +33,35 @@ fresh_schedule setting limits = record {
   ticks = 0;
   clients = fresh_client 0 limits ∷ fresh_client 1 limits ∷ fresh_client 2 limits ∷ fresh_client 3 limits
       ∷ fresh_client 4 limits ∷ fresh_client 5 limits ∷ fresh_client 6 limits ∷ fresh_client 7 limits ∷ [];
-  store = fresh_store setting;
+  setting = setting;
+  files = [];
 }
 
 -- a client of a schedule has its place's number and the schedule's limits, and goes on well
-pub record IsMember (limits : Limits) (store : StoreValue) (k : ℕ) (c : ClientValue) : Type 0 where
+pub record IsMember (limits : Limits) (k : ℕ) (c : ClientValue) : Type 0 where
   pub id : c.id ≡ k
   pub limits_are : c.limits ≡ limits
-  pub ready : IsReady store c
+  pub ready : IsReady c
 
 -- what each schedule holds to: eight clients, and moments that there are
-pub record IsSchedule (limits : Limits) (at ticks : ℕ) (clients : List ClientValue) (store : StoreValue) : Type 0 where
+pub record IsSchedule (limits : Limits) (at ticks : ℕ) (clients : List ClientValue) : Type 0 where
   pub last : at ≤ LAST_MOMENT
   pub passed : ticks ≤ LAST_MOMENT
   pub eight : length clients ≡ 8
-  pub members : (k : ℕ) → IfSome (slice_get clients k) (IsMember limits store k)
+  pub members : (k : ℕ) → IfSome (slice_get clients k) (IsMember limits k)
 
--- the tree is the store's, and each client of the model is the one of its number
-pub record IsState (q : State) (clients : List ClientValue) (store : StoreValue) : Type 0 where
-  pub has_store : HasStore q.tree store
-  pub clients_are : (k : ℕ) → IfSome (slice_get clients k) (IsClient (q.clients k) q.count store)
+-- the client of the model is the one of its number, and what it holds may be held
+pub record IsClientAt (q : State) (v : Shared) (k : ℕ) (c : ClientValue) : Type 0 where
+  pub is_client : IsClient (q.clients k) q.count v.files c
+  pub holds : Holds q.tree (q.clients k)
+
+-- the tree is that of the keeper's rows and the bytes in memory, and each client of the model is the one of its number
+pub record IsState (q : State) (clients : List ClientValue) (v : Shared) : Type 0 where
+  pub has_store : HasStore q.tree v
+  pub clients_are : (k : ℕ) → IfSome (slice_get clients k) (IsClientAt q v k)
 
 -- between two lines; no uploading thread makes an entry
-pub record Stands (q : Past) (s : ScheduleValue) : Type 0 where
+pub record Stands (q : Past) (s : ScheduleValue) (keeper : Store) : Type 0 where
   pub complete : q.complete ≡ true
   pub over : is_over q ≡ true
   pub at : q.at ≡ s.at
@@ -60,17 +69,19 @@ pub record Stands (q : Past) (s : ScheduleValue) : Type 0 where
   pub ticks : min LAST_MOMENT q.ticks ≡ s.ticks
   pub alone : (n : ℕ) → q.run.by_worker n ≡ false
   pub limits : q.run.limits ≡ s.limits
-  pub state : IsState q.state s.clients s.store
+  pub setting : q.state.tree.setting ≡ s.setting
+  pub state : IsState q.state s.clients (shared s.files keeper)
 
 -- the schedule stands where the past is, whose present line is begun
-pub record InLine (q : Past) (s : ScheduleValue) : Type 0 where
+pub record InLine (q : Past) (s : ScheduleValue) (keeper : Store) : Type 0 where
   pub complete : q.complete ≡ true
   pub at : q.at ≡ s.at
   pub last : q.at ≤ LAST_MOMENT
   pub ticks : min LAST_MOMENT q.ticks ≡ s.ticks
   pub alone : IsAlone q
   pub limits : q.run.limits ≡ s.limits
-  pub state : IsState q.state s.clients s.store
+  pub setting : q.state.tree.setting ≡ s.setting
+  pub state : IsState q.state s.clients (shared s.files keeper)
 
 -- the pending bytes of the client at a place
 abbrev pub held_in : Option ClientValue → ℕ

@@ -1,19 +1,20 @@
 //! Which lines a session runs today.
 ghost use Rattle.std.specs.Prelude.{◌≡◌, ◌+◌, ◌<◌, ◌≤◌, nat_le, length};
 ghost use Rattle.jv_model.specs.declared.limits.TheConstants.{WINDOW};
-ghost use Rattle.jv_model.specs.journal.Built.{has_form, is_built, may_hold};
+ghost use Rattle.jv_client.specs.Built.{has_form, is_built, may_hold};
 ghost use Rattle.jv_model.specs.journal.Past.{Past};
+ghost use Rattle.jv_outside.specs.Store.{Store};
 ghost use Rattle.jv_session.specs.Stands.{Stands, built_here, built_op_here};
 
-use crate::root_paths::is_root_path;
 use crate::schedule::Schedule;
+use jv_metadata::is_spelled;
 use jv_model::{ClientId, DEFAULT_BUFFER, FILE_END, Limits, Line, Op, WINDOW};
 
 impl Schedule {
     /// Whether the line is one that a session runs today.
     pub fn is_built(&self, line: &Line) -> bool
         ensures here { result ≡ built_here self.now line.now }
-        ensures model { (p : Past) → Stands p self.now → result ≡ is_built p line.now }
+        ensures model { (p : Past) (keeper : Store) → Stands p self.now keeper → result ≡ is_built p line.now }
     {
         match line {
             Line::Empty | Line::Step(_) | Line::Run(_) | Line::Crash(_) | Line::Tick(_) => true,
@@ -38,16 +39,20 @@ fn has_form(limits: &Limits, op: &Op) -> bool
 {
     match op {
         Op::Mount { writeback } => !*writeback && !limits.writeback,
-        Op::Create { path, .. } => is_root_path(path.as_slice()),
-        Op::Open { path } => is_root_path(path.as_slice()),
-        Op::Close { .. } => true,
         Op::Read { offset, len, .. } => ends_in_window(*offset, u64::from(*len)),
         Op::Write { offset, bytes, .. } => {
             let len = bytes.len() as u64;
             ends_in_window(*offset, len)
                 || u128::from(*offset) + u128::from(len) > u128::from(FILE_END)
         }
-        _ => false,
+        Op::Truncate { .. }
+        | Op::Copy { .. }
+        | Op::Compact { .. }
+        | Op::Clean
+        | Op::Gc { .. }
+        | Op::Upload
+        | Op::Stats => false,
+        _ => is_spelled(op),
     }
 }
 

@@ -4,7 +4,6 @@
 mod built;
 mod line_end;
 mod lines;
-mod root_paths;
 mod schedule;
 mod texts;
 

@@ -2,7 +2,7 @@
 ghost use Rattle.std.specs.Prelude.{◌≡◌};
 ghost use Rattle.jv_session.specs.InLine.{end_of};
 
-use jv_model::Bytes;
+use jv_model::{Bytes, RowKey};
 
 /// What a line of a script came to.
 #[derive(Debug, Drop, PartialEq, Eq)]
@@ -13,6 +13,9 @@ pub enum LineEnd {
     Quiet,
     /// The clock failed before a step of the line. The steps before it are made, and the session stands where they lead.
     ClockFailed,
+    /// The row at this key, which has these bytes, is malformed, or names one that isn't there. A step of the line stopped
+    /// there with nothing changed; the steps before it are made.
+    Broken(RowKey, Bytes),
     /// There was no memory for a step's entries or for the line's text. The session stands where the steps so far lead.
     Memory,
 }

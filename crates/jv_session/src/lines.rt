@@ -2,6 +2,7 @@
 ghost use Rattle.std.specs.Prelude.{◌≡◌, ◌≢◌, ℕ, ◌+◌, ◌<◌, ◌≤◌, ◌^◌, IsTrue, IsSome, IsSomeAnd, OnOk, OnErr, false, length, slice_get};
 ghost use Rattle.jv_model.specs.declared.op.Line.TheVariants as line;
 ghost use Rattle.jv_model.specs.declared.act.ActKind.TheVariants.{Crashed};
+ghost use Rattle.jv_outside.specs.Store.{Store};
 ghost use Rattle.jv_session.specs.Stands.{built_op_here, client_is_busy};
 ghost use Rattle.jv_session.specs.Lines.{LineRuns, line_state};
 ghost use Rattle.jv_session.specs.InLine.{Crashes, IsRefused, LineGoes, LineSays, MakesStep, Moments, Notes, Passing, RunsToEnd, StepsOnce, Submits};
@@ -13,7 +14,7 @@ use jv_model::{
     Act, ActKind, Bytes, ClientId, Fault, Journal, LAST_MOMENT, Moment, NO_CLIENT, Op, Reply, Step,
     Told,
 };
-use jv_outside::Clock;
+use jv_outside::{Clock, Keeper};
 use std::alloc::AllocError;
 
 /// Drops an operation, which has many forms: a proof of this function alone goes over them.
@@ -33,39 +34,41 @@ fn said(text: Result<Bytes, AllocError>) -> LineEnd
 
 impl Schedule {
     /// Submits an operation and runs it to its end.
-    pub(crate) fn run_whole<C: Clock>(
+    pub(crate) fn run_whole<K: Keeper, C: Clock>(
         &mut self,
         client: ClientId,
         op: Op,
         number: u32,
+        k: &mut K,
         clock: &mut C,
         journal: &mut Journal,
     ) -> LineEnd
         requires built { IsTrue (built_op_here self.old client op) }
         ensures runs { LineRuns (line.Do client op) number
-            (line_state (C.seen clock.old) journal.old.acts self.old)
-            (line_state (C.seen clock.new) journal.new.acts self.new) result }
+            (line_state (C.seen clock.old) (K.seen k.old) journal.old.acts self.old)
+            (line_state (C.seen clock.new) (K.seen k.new) journal.new.acts self.new) result }
         ensures some { result ≢ LineEnd.Quiet }
     {
         match self.submit(client, op) {
-            Ok(()) => self.run_to_end(client, number, clock, journal),
+            Ok(()) => self.run_to_end(client, number, k, clock, journal),
             Err(fault) => self.refuse(client, fault, number, clock, journal),
         }
     }
 
     /// Submits an operation.
-    pub(crate) fn begin<C: Clock>(
+    pub(crate) fn begin<K: Keeper, C: Clock>(
         &mut self,
         client: ClientId,
         op: Op,
         number: u32,
+        k: &mut K,
         clock: &mut C,
         journal: &mut Journal,
     ) -> LineEnd
         requires built { IsTrue (built_op_here self.old client op) }
         ensures runs { LineRuns (line.Begin client op) number
-            (line_state (C.seen clock.old) journal.old.acts self.old)
-            (line_state (C.seen clock.new) journal.new.acts self.new) result }
+            (line_state (C.seen clock.old) (K.seen k.old) journal.old.acts self.old)
+            (line_state (C.seen clock.new) (K.seen k.new) journal.new.acts self.new) result }
         ensures some { result ≢ LineEnd.Quiet }
     {
         match self.submit(client, op) {
@@ -97,9 +100,9 @@ impl Schedule {
         clock: &mut C,
         journal: &mut Journal,
     ) -> LineEnd
-        ensures goes { LineGoes (IsRefused client fault) number
-            (line_state (C.seen clock.old) journal.old.acts self.old)
-            (line_state (C.seen clock.new) journal.new.acts self.new) result }
+        ensures goes { (keeper : Store) → LineGoes (IsRefused client fault) number
+            (line_state (C.seen clock.old) keeper journal.old.acts self.old)
+            (line_state (C.seen clock.new) keeper journal.new.acts self.new) result }
     {
         let told = ActKind::Answered {
             told: Told::Refused(fault),
@@ -119,100 +122,106 @@ impl Schedule {
     }
 
     /// Makes one step of the client's operation.
-    pub(crate) fn step<C: Clock>(
+    pub(crate) fn step<K: Keeper, C: Clock>(
         &mut self,
         client: ClientId,
         number: u32,
+        k: &mut K,
         clock: &mut C,
         journal: &mut Journal,
     ) -> LineEnd
         ensures runs { LineRuns (line.Step client) number
-            (line_state (C.seen clock.old) journal.old.acts self.old)
-            (line_state (C.seen clock.new) journal.new.acts self.new) result }
+            (line_state (C.seen clock.old) (K.seen k.old) journal.old.acts self.old)
+            (line_state (C.seen clock.new) (K.seen k.new) journal.new.acts self.new) result }
         ensures some { result ≢ LineEnd.Quiet }
     {
         if !self.is_busy(client) {
             return said(text(self.alloc, b"idle\n"));
         }
-        self.step_once(client, number, clock, journal)
+        self.step_once(client, number, k, clock, journal)
     }
 
-    fn step_once<C: Clock>(
+    fn step_once<K: Keeper, C: Clock>(
         &mut self,
         client: ClientId,
         number: u32,
+        k: &mut K,
         clock: &mut C,
         journal: &mut Journal,
     ) -> LineEnd
         requires busy { IsTrue (client_is_busy self.old client) }
         ensures goes { LineGoes (StepsOnce client) number
-            (line_state (C.seen clock.old) journal.old.acts self.old)
-            (line_state (C.seen clock.new) journal.new.acts self.new) result }
+            (line_state (C.seen clock.old) (K.seen k.old) journal.old.acts self.old)
+            (line_state (C.seen clock.new) (K.seen k.new) journal.new.acts self.new) result }
     {
-        match self.make_step(client, number, clock, journal) {
+        match self.make_step(client, number, k, clock, journal) {
             Ok(Step::More) => said(text(self.alloc, b"more\n")),
             Ok(Step::Done(reply)) => said(self.print(&reply)),
-            Ok(Step::Broken(..)) => unreachable!(),
+            Ok(Step::Broken(key, bytes)) => LineEnd::Broken(key, bytes),
             Err(stopped) => stopped.into_end(),
         }
     }
 
     /// Runs the client's operation to its end.
-    pub(crate) fn run_on<C: Clock>(
+    pub(crate) fn run_on<K: Keeper, C: Clock>(
         &mut self,
         client: ClientId,
         number: u32,
+        k: &mut K,
         clock: &mut C,
         journal: &mut Journal,
     ) -> LineEnd
         ensures runs { LineRuns (line.Run client) number
-            (line_state (C.seen clock.old) journal.old.acts self.old)
-            (line_state (C.seen clock.new) journal.new.acts self.new) result }
+            (line_state (C.seen clock.old) (K.seen k.old) journal.old.acts self.old)
+            (line_state (C.seen clock.new) (K.seen k.new) journal.new.acts self.new) result }
         ensures some { result ≢ LineEnd.Quiet }
     {
         if !self.is_busy(client) {
             return said(text(self.alloc, b"idle\n"));
         }
-        self.run_to_end(client, number, clock, journal)
+        self.run_to_end(client, number, k, clock, journal)
     }
 
-    fn run_to_end<C: Clock>(
+    fn run_to_end<K: Keeper, C: Clock>(
         &mut self,
         client: ClientId,
         number: u32,
+        k: &mut K,
         clock: &mut C,
         journal: &mut Journal,
     ) -> LineEnd
         requires busy { IsTrue (client_is_busy self.old client) }
         ensures goes { LineGoes (RunsToEnd client) number
-            (line_state (C.seen clock.old) journal.old.acts self.old)
-            (line_state (C.seen clock.new) journal.new.acts self.new) result }
+            (line_state (C.seen clock.old) (K.seen k.old) journal.old.acts self.old)
+            (line_state (C.seen clock.new) (K.seen k.new) journal.new.acts self.new) result }
     {
         loop {
-            match self.make_step(client, number, clock, journal) {
+            match self.make_step(client, number, k, clock, journal) {
                 Ok(Step::More) => {}
                 Ok(Step::Done(reply)) => return said(self.print(&reply)),
-                Ok(Step::Broken(..)) => unreachable!(),
+                Ok(Step::Broken(key, bytes)) => return LineEnd::Broken(key, bytes),
                 Err(stopped) => return stopped.into_end(),
             }
         }
     }
 
     /// Makes a step, at the moment that the clock answers. On error nothing has changed.
-    fn make_step<C: Clock>(
+    fn make_step<K: Keeper, C: Clock>(
         &mut self,
         client: ClientId,
         number: u32,
+        k: &mut K,
         clock: &mut C,
         journal: &mut Journal,
     ) -> Result<Step, Stopped>
         requires busy { IsTrue (client_is_busy self.old client) }
         ensures steps { MakesStep self.old self.new number client (C.seen clock.old) (C.seen clock.new)
-            journal.old.acts journal.new.acts result }
+            (K.seen k.old) (K.seen k.new) journal.old.acts journal.new.acts result }
     {
         let now = self.next_moment(0, 2, clock, journal)?;
         let step = self.clients[client.number() as usize].step(
-            &mut self.store,
+            k,
+            &mut self.files,
             now,
             number,
             journal,
@@ -229,9 +238,9 @@ impl Schedule {
         clock: &mut C,
         journal: &mut Journal,
     ) -> LineEnd
-        ensures goes { LineGoes (Crashes client) number
-            (line_state (C.seen clock.old) journal.old.acts self.old)
-            (line_state (C.seen clock.new) journal.new.acts self.new) result }
+        ensures goes { (keeper : Store) → LineGoes (Crashes client) number
+            (line_state (C.seen clock.old) keeper journal.old.acts self.old)
+            (line_state (C.seen clock.new) keeper journal.new.acts self.new) result }
     {
         match self.note(client.number(), ActKind::Crashed, 0, number, clock, journal) {
             Ok(_) => {
@@ -250,9 +259,9 @@ impl Schedule {
         clock: &mut C,
         journal: &mut Journal,
     ) -> LineEnd
-        ensures goes { LineGoes (Passing by) number
-            (line_state (C.seen clock.old) journal.old.acts self.old)
-            (line_state (C.seen clock.new) journal.new.acts self.new) result }
+        ensures goes { (keeper : Store) → LineGoes (Passing by) number
+            (line_state (C.seen clock.old) keeper journal.old.acts self.old)
+            (line_state (C.seen clock.new) keeper journal.new.acts self.new) result }
     {
         match self.note(
             NO_CLIENT,

@@ -7,9 +7,10 @@ ghost use Rattle.jv_session.specs.Stands.{ScheduleValue, built_here, fresh_sched
 ghost use Rattle.jv_session.specs.Lines.{LineRuns, line_state};
 
 use crate::line_end::LineEnd;
-use jv_client::{Client, Store};
+use jv_client::Client;
+use jv_files::Files;
 use jv_model::{Bytes, ClientId, Journal, Limits, Line, Reply, Setting};
-use jv_outside::Clock;
+use jv_outside::{Clock, Keeper};
 use jv_script::print_reply;
 use std::alloc::{AllocError, Global};
 use std::marker::Model;
@@ -24,7 +25,8 @@ pub struct Schedule {
     /// The seconds that lines let pass, at most the last moment there is.
     pub(crate) ticks: u64,
     pub(crate) clients: [Client; 8],
-    pub(crate) store: Store,
+    pub(crate) setting: Setting,
+    pub(crate) files: Files,
 }
 
 impl Model for Schedule {
@@ -37,14 +39,15 @@ impl Model for Schedule {
       at = s.at;
       ticks = s.ticks;
       clients = s.clients;
-      store = s.store;
+      setting = s.setting;
+      files = s.files;
     } };
 
-    ghost invariant = { λ s. IsSchedule s.limits s.at s.ticks s.clients s.store };
+    ghost invariant = { λ s. IsSchedule s.limits s.at s.ticks s.clients };
 }
 
 impl Schedule {
-    /// A session over a volume that was just formatted with this setting. Takes no memory.
+    /// A session over a volume of this setting, of which no file has bytes. Takes no memory.
     pub fn new(alloc: Global, setting: Setting, limits: Limits) -> Schedule
         requires { MAX_DATA ≤ limits.buffer }
         ensures { result ≡ fresh_schedule setting limits }
@@ -64,31 +67,33 @@ impl Schedule {
                 Client::new(alloc, ClientId(6), limits),
                 Client::new(alloc, ClientId(7), limits),
             ],
-            store: Store::new(alloc, setting),
+            setting,
+            files: Files::new(alloc),
         }
     }
 
-    /// Runs a line that is built, and whose number is one above that of the line before. Asks the clock before each
-    /// step, and not for a line that makes none.
-    pub fn line<C: Clock>(
+    /// Runs a line that is built, and whose number is one above that of the line before, over the rows of the keeper. Asks
+    /// the clock before each step, and not for a line that makes none.
+    pub fn line<K: Keeper, C: Clock>(
         &mut self,
         line: Line,
         number: u32,
+        k: &mut K,
         clock: &mut C,
         journal: &mut Journal,
     ) -> LineEnd
         requires built { IsTrue (built_here self.old line) }
-        ensures runs { LineRuns line number (line_state (C.seen clock.old) journal.old.acts
-            self.old)
-            (line_state (C.seen clock.new) journal.new.acts self.new) result }
+        ensures runs { LineRuns line number
+            (line_state (C.seen clock.old) (K.seen k.old) journal.old.acts self.old)
+            (line_state (C.seen clock.new) (K.seen k.new) journal.new.acts self.new) result }
         ensures quiet { (result ≡ LineEnd.Quiet) ↔ (line ≡ Empty) }
     {
         match line {
             Line::Empty => LineEnd::Quiet,
-            Line::Do(client, op) => self.run_whole(client, op, number, clock, journal),
-            Line::Begin(client, op) => self.begin(client, op, number, clock, journal),
-            Line::Step(client) => self.step(client, number, clock, journal),
-            Line::Run(client) => self.run_on(client, number, clock, journal),
+            Line::Do(client, op) => self.run_whole(client, op, number, k, clock, journal),
+            Line::Begin(client, op) => self.begin(client, op, number, k, clock, journal),
+            Line::Step(client) => self.step(client, number, k, clock, journal),
+            Line::Run(client) => self.run_on(client, number, k, clock, journal),
             Line::Crash(client) => self.crash(client, number, clock, journal),
             Line::Tick(by) => self.tick(by, number, clock, journal),
             Line::Drain(_) => unreachable!(),
@@ -97,8 +102,8 @@ impl Schedule {
 
     /// The printed line of an answer.
     pub(crate) fn print(&self, reply: &Reply) -> Result<Bytes, AllocError>
-        ensures { IfOk result (λ line. line ≡ printed_line self.now.store.setting reply.now) }
+        ensures { IfOk result (λ line. line ≡ printed_line self.now.setting reply.now) }
     {
-        print_reply(self.alloc, self.store.setting(), reply)
+        print_reply(self.alloc, &self.setting, reply)
     }
 }

@@ -13,6 +13,7 @@ use Rattle.jv_model.specs.declared.row.RowKey.{RowKey}
 use Rattle.jv_model.specs.rows.RowKeys.{row_cmp, row_cmp_total}
 use Rattle.jv_outside.specs.Rows.{is_after}
 use Rattle.jv_volume.proofs.MapLaws.{first_of_both, second_of_both}
+use Rattle.jv_rows.proofs.ScannedLaws.{less_by}
 
 -- whether a row is an edge's behind a key
 abbrev pub behind : RowKey → RowKey × List ℕ → Bool
@@ -42,11 +43,6 @@ less_of : (o : Ordering) → is_lt o ≡ true → o ≡ Less
 less_of Less e = refl
 less_of Equal e = absurd (true≢false (sym e))
 less_of Greater e = absurd (true≢false (sym e))
-
-pub less_by : (o : Ordering) → T (is_lt o) → o ≡ Less
-less_by Less p = refl
-less_by Equal p = absurd p
-less_by Greater p = absurd p
 
 pub both_true : (a b : Bool) → (a && b) ≡ true → (a ≡ true) × (b ≡ true)
 both_true true b e = (refl, e)
@@ -154,17 +150,3 @@ again_at k q low e es false is rest = rest ∙ sym (ap (λ (b : Bool). cond b (e
 pub behind-again : (k q : RowKey) → IsAtMost k q → (es : List (RowKey × List ℕ)) → filter (behind q) (filter (behind k) es) ≡ filter (behind q) es
 behind-again k q low [] = refl
 behind-again k q low (e ∷ es) = again_at k q low e es (behind k e) refl (behind-again k q low es)
-
--- ---- numbers of directories
-
-at_most : (o p : Ordering) → ordering_then o p ≡ Less → is_le o ≡ true
-at_most Less p e = refl
-at_most Equal p e = refl
-at_most Greater p e = absurd (true≢false (sym (ap is_lt e)))
-
--- a later edge has no lower directory
-pub number-rises : (k r : RowKey) → k.tab ≡ 3 → r.tab ≡ 3 → row_cmp k r ≡ Less → k.a ≤ r.a
-number-rises k r of_edge also less =
-    let tabs : nat_cmp k.tab r.tab ≡ Equal = ap (λ (n : ℕ). nat_cmp n r.tab) (of_edge ∙ sym also) ∙ tied_itself nat_cmp_total r.tab in
-    le_from_is_le k.a r.a (at_most (nat_cmp k.a r.a) (slice_cmp nat_cmp k.b r.b)
-    (sym (ap (λ o. ordering_then o (ordering_then (nat_cmp k.a r.a) (slice_cmp nat_cmp k.b r.b))) tabs) ∙ less))

@@ -37,10 +37,11 @@ use Rattle.jv_volume.proofs.TypedLaws.{get-typed}
 use Rattle.jv_rows.specs.Scans.{row_then, rows_read, RefusesScan, ScansRows}
 use Rattle.jv_rows.specs.Tables.{edge_row}
 use Rattle.jv_rows.specs.Transactions.{IsBad, Malformed, Looks}
-use Rattle.jv_rows.proofs.TransactionLaws.{of_known, Past, Fails, FailsBy, past-fails, looks-exit}
+use Rattle.jv_rows.proofs.ScannedLaws.{all-stored, fails-scan, less_by}
+use Rattle.jv_rows.proofs.TransactionLaws.{Past, past-fails, looks-exit}
 use Rattle.jv_tree.specs.Directories.{entries_within}
 use Rattle.jv_tree.proofs.DirectoryLaws.{edge_then, entries_from, edges_after, IsReadTo}
-use Rattle.jv_tree.proofs.EdgeOrderLaws.{behind, less_by, both_true}
+use Rattle.jv_tree.proofs.EdgeOrderLaws.{behind, both_true}
 use Rattle.jv_tree.proofs.PageLaws.{IsEnd, read-all}
 
 -- ---- rows by their types, in their order
@@ -56,32 +57,6 @@ module _ {K X : Type 0} (order : KeyOrder K) where
   unfolding insert
   map_of-list [] sorted = refl
   map_of-list (e ∷ es) sorted = ap (put order.cmp e.0 e.1) (map_of-list es (second_of_both _ _ sorted)) ∙ put_first e.0 e.1 es (first_of_both _ _ sorted)
-
-  found_here : (e : K × X) (es : List (K × X)) → find order.cmp e.0 (e ∷ es) ≡ Some e.1
-  found_here e es = ap (λ (b : Bool). cond b (Some e.1) (find order.cmp e.0 es)) (tied_here order e.0)
-
-  apart_from : (e : K × X) (es : List (K × X)) (k : K) (x : X) → T (below_all order.cmp e.0 es) → find order.cmp k es ≡ Some x → k ≢ e.0
-  apart_from e es k x below there same =
-      let none : find order.cmp k es ≡ None = ap (λ q. find order.cmp q es) same ∙ find-below_all order e.0 es below in
-      true≢false (sym (ap is_some (sym none ∙ there)))
-
-  found_later : (e : K × X) (es : List (K × X)) (k : K) (x : X) → T (below_all order.cmp e.0 es) → find order.cmp k es ≡ Some x
-      → find order.cmp k (e ∷ es) ≡ Some x
-  found_later e es k x below there =
-      ap (λ (b : Bool). cond b (Some e.1) (find order.cmp k es)) (tied_apart order e.0 k (apart_from e es k x below there)) ∙ there
-
-  all_found : (P : K → X → Type 0) (es : List (K × X)) → T (is_sorted order.cmp es) → ((k : K) (x : X) → find order.cmp k es ≡ Some x → P k x)
-      → AllByRecursion (λ (e : K × X). P e.0 e.1) es
-  all_found P [] sorted has = tt
-  all_found P (e ∷ es) sorted has = (
-    has e.0 e.1 (found_here e es),
-    all_found P es (second_of_both _ _ sorted) (λ k x there. has k x (found_later e es k x (first_of_both _ _ sorted) there)),
-  )
-
-  -- each entry of a map stands at its key
-  all-stored : (m : Map order X) → AllByRecursion (λ (e : K × X). get m e.0 ≡ Some e.1) m.list
-  unfolding get
-  all-stored m = all_found (λ k x. find order.cmp k m.list ≡ Some x) m.list m.sorted (λ k x there. there)
 
 typed-list : (known : RowMap) → (typed known).list ≡ typed_entries known.list
 unfolding typed
@@ -190,52 +165,6 @@ pub entries-known : (bytes : ℕ → ℕ → ℕ) (known : RowMap) (dir : ℕ) �
 entries-known bytes known dir whole =
     entries_of-rows bytes (typed known) dir ∙ ap (λ (l : List (RowKey × Cell)). shown dir (entries_selected entry_of_key inode_named l)) (typed-list known)
     ∙ entries-listed dir known.list ∙ sym (from_start dir known.list (all_named known whole))
-
--- ---- a page that wasn't read
-
-module _ {A : Type 0} (P : A → Type 0) where
-  all_kept : (b : Bool) (x : A) (xs : List A) → P x → AllByRecursion P xs → AllByRecursion P (cond b (x ∷ xs) xs)
-  all_kept true x xs p all = (p, all)
-  all_kept false x xs p all = all
-
-  all_filter : (test : A → Bool) (xs : List A) → AllByRecursion P xs → AllByRecursion P (filter test xs)
-  all_filter test [] all = tt
-  all_filter test (x ∷ xs) all = all_kept (test x) x (filter test xs) all.0 (all_filter test xs all.1)
-
-  all_take : (n : ℕ) (xs : List A) → AllByRecursion P xs → AllByRecursion P (take n xs)
-  all_take zero xs all = tt
-  all_take (suc n) [] all = tt
-  all_take (suc n) (x ∷ xs) all = (all.0, all_take n xs all.1)
-
-same_err : {A E : Type 0} (x y : E) → ◌≡◌ {A = Result A E} (Err x) (Err y) → x ≡ y
-same_err x y e = cc
-
-module _ (P : RowKey × List ℕ → Type 0) (off : RowKey × List ℕ) where
-  off_at : (r : RowKey × List ℕ) (o : Option Row) (others : Result (List (RowKey × Row)) (RowKey × List ℕ)) → P r → (others ≡ Err off → P off)
-      → row_then r.0 r.1 o others ≡ Err off → P off
-  off_at r None others p later e = subst P (same_err (r.0, r.1) off e) p
-  off_at r (Some found) (Ok rest) p later e = absurd (true≢false (ap is_ok e))
-  off_at r (Some found) (Err x) p later e = later e
-
-  read_off : (rows : List (RowKey × List ℕ)) → AllByRecursion P rows → rows_read rows ≡ Err off → P off
-  read_off [] all e = absurd (true≢false (ap is_ok e))
-  read_off (r ∷ rows) all e = off_at r (row_of r.0.tab r.1) (rows_read rows) all.0 (read_off rows all.1) e
-
-module _ (tab : ℕ) (last : Option RowKey) (n : ℕ) (before after : Store) where
-  why_unscanned : (fault : RowFault) → RefusesScan before.rows tab last n fault → FailsBy before.rows (OfRows fault)
-  why_unscanned (Bad at bytes) h = λ known is.
-      let read = of_known (λ known. rows_read (rows_after known tab last n) ≡ Err (at, bytes)) before.rows known is h.1 in
-      let there : get known at ≡ Some bytes = read_off (IsStored known) (at, bytes) (rows_after known tab last n)
-      (all_take (IsStored known) n (filter (λ (r : RowKey × List ℕ). is_after tab last r.0) known.list)
-      (all_filter (IsStored known) (λ (r : RowKey × List ℕ). is_after tab last r.0) known.list (all-stored row_key known))) read in
-      let bad : get (typed known) at ≡ Some (Err bytes) =
-      get-typed known at ∙ ap (option_map (cell_of at)) there ∙ ap (λ (r : Option Row). Some (ok_or r bytes)) h.0 in
-      (Malformed bad, λ whole. whole-typed (typed known) at bytes whole bad)
-  why_unscanned Failed h = tt
-  why_unscanned Memory h = tt
-
-  pub fails-scan : (fault : RowFault) → ScansRows tab last n before after (Err fault) → Fails before after (OfRows fault)
-  fails-scan fault s = record { rows_are = s.rows_are; opened_at = s.opened_at; cause = s.counts; why = why_unscanned fault s.refused }
 
 -- ---- the reading
 

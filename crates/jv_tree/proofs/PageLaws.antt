@@ -18,7 +18,8 @@ use Rattle.jv_rows.specs.Tables.{edge_row}
 use Rattle.jv_rows.proofs.TransactionLaws.{of_known, if_known}
 use Rattle.jv_tree.specs.Directories.{last_of, is_entry, entry_then, entries_within, all_within}
 use Rattle.jv_tree.proofs.DirectoryLaws.{edge_then, entries_from, edges_after, IsReadSoFar, IsReadTo}
-use Rattle.jv_tree.proofs.EdgeOrderLaws.{behind, Chain, last_or, IsAtMost, chain-behind, last-above, chain-table, suffix, behind-again, number-rises}
+use Rattle.jv_tree.proofs.EdgeOrderLaws.{behind, Chain, last_or, IsAtMost, chain-behind, last-above, chain-table, suffix, behind-again}
+use Rattle.jv_rows.proofs.ScannedLaws.{number-rises}
 
 -- ---- the last row of a list
 
@@ -134,7 +135,7 @@ skip_other dir r rows other =
 none-from : (dir : ℕ) (k : RowKey) (rows : List (RowKey × List ℕ)) → Chain k rows → k.tab ≡ 3 → dir < k.a → entries_from dir rows ≡ []
 none-from dir k [] c tab low = refl
 none-from dir k (r ∷ rows) c tab low =
-    let up : k.a ≤ r.0.a = number-rises k r.0 tab c.0.table c.0.above in
+    let up : k.a ≤ r.0.a = number-rises k r.0 (tab ∙ sym c.0.table) c.0.above in
     let past : dir < r.0.a = omega (arith, low, up) in
     skip_other dir r rows (ne_eqb r.0.a dir (λ e. absurd (omega (arith, past, e)))) ∙ none-from dir r.0 rows c.1 c.0.table past
 
@@ -144,14 +145,14 @@ ends_at : (dir : ℕ) (k : RowKey) (r : RowKey × List ℕ) (rows : List (RowKey
     → (r.0.a == dir) ≡ d
     → entries_from dir (r ∷ rows) ≡ entries_within dir ((r.0, row) ∷ rest)
 ends_at dir k r rows row rest c tab low e other more true is =
-    let up : k.a ≤ r.0.a = number-rises k r.0 tab c.0.table c.0.above in
+    let up : k.a ≤ r.0.a = number-rises k r.0 (tab ∙ sym c.0.table) c.0.above in
     let all_rest : all_within dir ((r.0, row) ∷ rest) ≡ all_within dir rest =
     ap (λ (x : Row). is_entry x && (r.0.a == dir) && all_within dir rest) e.is ∙ ap (λ (b : Bool). b && all_within dir rest) is in
     from_first dir r rows e.edge c.0.table e.spelled true is
     ∙ ap (λ (l : List (List ℕ × ℕ)). (r.0.b, e.edge.inode) ∷ l) (more (sym all_rest ∙ other) (omega (arith, low, up)))
     ∙ sym (cons_within dir (r.0, row) rest e.edge e.is is)
 ends_at dir k r rows row rest c tab low e other more false is =
-    let up : k.a ≤ r.0.a = number-rises k r.0 tab c.0.table c.0.above in
+    let up : k.a ≤ r.0.a = number-rises k r.0 (tab ∙ sym c.0.table) c.0.above in
     let apart : r.0.a ≡ dir → ⊥ = eqb-false r.0.a dir is in
     let past : dir < r.0.a = omega (arith, low, up, apart) in
     from_first dir r rows e.edge c.0.table e.spelled false is ∙ none-from dir r.0 rows c.1 c.0.table past
@@ -318,7 +319,7 @@ first-of-page dir [] key row rest c read = absurd (true≢false (sym (last_some 
 first-of-page dir (r ∷ rows) key row rest c read =
     let f = read_first r.0 r.1 (row_of r.0.tab r.1) (rows_read (take 0 rows)) ((key, row) ∷ rest) read in
     let e = edge_is r.0 r.1 f.row c.0.table f.is in
-    let low : dir ≤ r.0.a = number-rises (edge_key dir []) r.0 refl c.0.table c.0.above in
+    let low : dir ≤ r.0.a = number-rises (edge_key dir []) r.0 (sym c.0.table) c.0.above in
     first_by dir r rows e.edge c.0.table e.spelled low c.1 (r.0.a == dir) refl ∙ ap (λ (k : RowKey). k.a == dir) (sym (ap (first_key key) f.list_is))
 
 -- where no row is behind it, it has none

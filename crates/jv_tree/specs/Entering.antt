@@ -1,6 +1,5 @@
 -- How a new node comes under a new entry: what its row is, what the volume's limits let in, and what becomes of its directory.
 use Rattle.std.specs.Prelude.{◌≡◌, ℕ, ◌+◌, Bool, true, false, ◌&&◌, not, ◌==◌, ◌<◌, nat_le, nat_lt, if◌then◌else◌, List, None, Result, Ok, Err, IsTrue}
-use Rattle.std.specs.List.{list_all}
 use Rattle.jv_model.specs.declared.limits.TheConstants.{FULL_COUNT, MAX_LINKS, SPACE_UNIT}
 use Rattle.jv_model.specs.declared.fault.Fault.{Fault}
 use Rattle.jv_model.specs.declared.fault.Fault.TheVariants.{NoSpace}
@@ -18,10 +17,7 @@ use Rattle.jv_rows.specs.Walks.{pair_in}
 use Rattle.jv_rows.specs.declared.walking.EntryPlace.{EntryPlace}
 use Rattle.jv_volume.specs.TypedRows.{is_entry_name}
 use Rattle.jv_volume.specs.Stored.{node_row}
-
--- bytes without the byte 0, which no name and no target has
-abbrev pub has_no_zero : List ℕ → Bool
-has_no_zero bytes = list_all (λ b. not (b == 0)) bytes
+pub use Rattle.jv_model.specs.script.Spelled.{has_no_zero}
 
 -- the place of a new entry, as a pair
 abbrev pub new_pair : Tree → List ℕ → Result (ℕ × List ℕ) Fault

@@ -38,6 +38,11 @@ fn store<K: Keeper>(alloc: Global, k: &mut K, inode: u64, node: &Node) -> Result
 }
 
 /// Sets the permission bits of what a path leads to, at most 0o7777.
+///
+/// # Errors
+///
+/// Stale where the session is gone, then as of [`walk_to`], and NotPermitted for the trash and its hours. Failed if the keeper
+/// failed. Memory.
 pub fn chmod<K: Keeper>(
     alloc: Global,
     k: &mut K,
@@ -61,6 +66,10 @@ pub fn chmod<K: Keeper>(
 }
 
 /// Sets the owner and the group of what a path leads to.
+///
+/// # Errors
+///
+/// As of [`chmod`].
 pub fn chown<K: Keeper>(
     alloc: Global,
     k: &mut K,
@@ -85,6 +94,10 @@ pub fn chown<K: Keeper>(
 }
 
 /// Sets the time of the last modification of what a path leads to, in seconds.
+///
+/// # Errors
+///
+/// As of [`chmod`].
 pub fn utimes<K: Keeper>(
     alloc: Global,
     k: &mut K,

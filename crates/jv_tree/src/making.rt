@@ -144,6 +144,12 @@ fn new_node(alloc: Global, kind: u8, mode: u16, now: Moment) -> Node
 }
 
 /// Makes an empty directory with these permission bits, at most 0o7777, and returns its inode.
+///
+/// # Errors
+///
+/// Stale where the session is gone, then as of [`new_place`], and NoSpace where a limit of the volume, the inodes or the link
+/// count of the directory leaves no room. Bad for a malformed setting or malformed counters, and without bytes where one of
+/// them is absent. Failed if the keeper failed. Memory.
 pub fn mkdir<K: Keeper>(
     alloc: Global,
     k: &mut K,
@@ -169,6 +175,10 @@ pub fn mkdir<K: Keeper>(
 }
 
 /// Makes an empty file with these permission bits, at most 0o7777, and returns its inode.
+///
+/// # Errors
+///
+/// As of [`mkdir`], but that the link count of the directory stays.
 pub fn create<K: Keeper>(
     alloc: Global,
     k: &mut K,
@@ -194,6 +204,10 @@ pub fn create<K: Keeper>(
 }
 
 /// Makes a symlink with a target, and returns its inode.
+///
+/// # Errors
+///
+/// As of [`create`], and NameTooLong for a target of over 4,096 bytes, before the path is looked at.
 pub fn symlink<K: Keeper>(
     alloc: Global,
     k: &mut K,

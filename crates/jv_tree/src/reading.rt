@@ -15,7 +15,11 @@ use jv_outside::Keeper;
 use jv_rows::{Draft, in_session, needed_counters, needed_setting, scan_rows, walk_to};
 use std::alloc::{AllocError, Global};
 
-/// The inode of a path, whose last symlink isn't followed.
+/// The inode of a path, whose last symlink isn't followed. No row changes.
+///
+/// # Errors
+///
+/// Stale where the session is gone, and then as of [`walk_to`].
 pub fn lookup<K: Keeper>(alloc: Global, k: &mut K, who: &Who, path: &Path) -> Result<u64, TxFault>
     ensures { (caller : Caller) → IsFor who.entry.now caller
         → Transacts Always (K.seen k.old) (K.seen k.new)
@@ -52,7 +56,11 @@ fn attr_of(inode: u64, node: &Node) -> Attr
     }
 }
 
-/// The attributes of what a path leads to, where a last symlink is followed or isn't.
+/// The attributes of what a path leads to, where a last symlink is followed or isn't. No row changes.
+///
+/// # Errors
+///
+/// As of [`lookup`].
 pub fn stat<K: Keeper>(
     alloc: Global,
     k: &mut K,
@@ -72,7 +80,11 @@ pub fn stat<K: Keeper>(
     Ok(attr_of(place.inode, &place.node))
 }
 
-/// The attributes of an open file, which may be gone: then it is refused with ESTALE.
+/// The attributes of an open file, which may be gone. No row changes.
+///
+/// # Errors
+///
+/// Stale where the session is gone, or then the file. Bad for a malformed row of the file, Failed if the keeper failed. Memory.
 pub fn fstat<K: Keeper>(alloc: Global, k: &mut K, who: &Who, inode: u64) -> Result<Attr, TxFault>
     ensures { (caller : Caller) → IsFor who.entry.now caller → caller.inode ≡ inode
         → Transacts Always (K.seen k.old) (K.seen k.new) result (λ attr. Described attr) (λ t. model.fstat t caller) }
@@ -84,7 +96,11 @@ pub fn fstat<K: Keeper>(alloc: Global, k: &mut K, who: &Who, inode: u64) -> Resu
     }
 }
 
-/// The inode of a file to open for reading and writing: no directory, and behind a followed walk no symlink.
+/// The inode of a file to open for reading and writing: no directory, and behind a followed walk no symlink. No row changes.
+///
+/// # Errors
+///
+/// As of [`lookup`], and IsADirectory.
 pub fn open_node<K: Keeper>(
     alloc: Global,
     k: &mut K,
@@ -159,7 +175,11 @@ fn entries_in<K: Keeper>(alloc: Global, k: &mut K, dir: u64) -> Result<EntryList
 }
 
 /// The entries of a directory in the order of their names' bytes; `.` and `..` aren't listed, nor
-/// `.trash` in the root. A malformed entry is Bad, here or in a directory that comes right behind.
+/// `.trash` in the root. No row changes.
+///
+/// # Errors
+///
+/// As of [`lookup`], and NotADirectory. Bad also for a malformed entry, here or in a directory that comes right behind.
 pub fn readdir<K: Keeper>(
     alloc: Global,
     k: &mut K,
@@ -178,7 +198,11 @@ pub fn readdir<K: Keeper>(
     }
 }
 
-/// The target of a symlink, which is refused with EINVAL where the path leads to none.
+/// The target of a symlink. No row changes.
+///
+/// # Errors
+///
+/// As of [`lookup`], and Invalid where the path leads to no symlink.
 pub fn readlink<K: Keeper>(
     alloc: Global,
     k: &mut K,
@@ -197,7 +221,12 @@ pub fn readlink<K: Keeper>(
     }
 }
 
-/// Used space and inodes, and the two limits as they were set.
+/// Used space and inodes, and the two limits as they were set. No row changes.
+///
+/// # Errors
+///
+/// Stale where the session is gone. Bad for a malformed setting or malformed counters, and without bytes where one of them is
+/// absent. Failed if the keeper failed. Memory.
 pub fn statfs<K: Keeper>(alloc: Global, k: &mut K, who: &Who) -> Result<Space, TxFault>
     ensures { (caller : Caller) → IsFor who.entry.now caller
         → Transacts Always (K.seen k.old) (K.seen k.new)

@@ -25,41 +25,49 @@ abbrev pub Avoids : (ℕ → Form) → ℕ → ℕ → ℕ → Type 0
 Avoids form inode zero dir = (dir ≢ inode) × IsTrue (is_top dir)
 Avoids form inode (suc steps) dir = (dir ≢ inode) × ((parent : ℕ) × (form dir ≡ Dir parent) × Avoids form inode steps parent)
 
--- the same way up by directories that have a property and are all different
-abbrev Once : (ℕ → Form) → (ℕ → Type 0) → ℕ → ℕ → Type 0
-Once form P zero dir = IsTrue (is_top dir)
-Once form P (suc steps) dir = (parent : ℕ) × (form dir ≡ Dir parent) × P dir × Once form (λ q. P q × (q ≢ dir)) steps parent
+abbrev IsTop : ℕ → Type 0
+IsTop dir = IsTrue (is_top dir)
 
-module _ (form : ℕ → Form) where
-  weaken : (P Q : ℕ → Type 0) → ((q : ℕ) → P q → Q q) → (steps dir : ℕ) → Once form P steps dir → Once form Q steps dir
+-- so many steps up to a directory of a kind, by directories that have a property and are all different
+abbrev pub Once : (ℕ → Form) → (ℕ → Type 0) → (ℕ → Type 0) → ℕ → ℕ → Type 0
+Once form Last P zero dir = Last dir
+Once form Last P (suc steps) dir = (parent : ℕ) × (form dir ≡ Dir parent) × P dir × Once form Last (λ q. P q × (q ≢ dir)) steps parent
+
+module _ (form : ℕ → Form) (Last : ℕ → Type 0) where
+  weaken : (P Q : ℕ → Type 0) → ((q : ℕ) → P q → Q q) → (steps dir : ℕ) → Once form Last P steps dir → Once form Last Q steps dir
   weaken P Q more zero dir h = h
   weaken P Q more (suc steps) dir h = (h.0, h.1, more dir h.2, weaken _ _ (λ q p. (more q p.0, p.1)) steps h.0 h.3)
 
   -- a way up comes by a directory, or it doesn't
-  split : (d : ℕ) (P : ℕ → Type 0) (steps q : ℕ) → Once form P steps q → Once form (λ x. P x × (x ≢ d)) steps q ⊎ ((less : ℕ) × Once form P less d)
+  split : (d : ℕ) (P : ℕ → Type 0) (steps q : ℕ) → Once form Last P steps q
+      → Once form Last (λ x. P x × (x ≢ d)) steps q ⊎ ((less : ℕ) × Once form Last P less d)
   split d P zero q h = inl h
   split d P (suc steps) q h = elim (cases_eq q d) [
-    | inl e ↦ inr (suc steps, subst (Once form P (suc steps)) e h)
+    | inl e ↦ inr (suc steps, subst (Once form Last P (suc steps)) e h)
     | inr apart ↦ elim (split d (λ x. P x × (x ≢ q)) steps h.0 h.3) [
       | inl r ↦ inl (h.0, h.1, (h.2, apart), weaken _ _ (λ x p. ((p.0.0, p.1), p.0.1)) steps h.0 r)
       | inr r ↦ inr (r.0, weaken _ P (λ x p. p.0) r.0 d r.1)
     ]
   ]
 
-  once_at : (P : ℕ → Type 0) (dir parent steps : ℕ) → form dir ≡ Dir parent → P dir → Once form P steps parent → (n : ℕ) × Once form P n dir
+  -- one step more, without the circle that it may close
+  pub once_at : (P : ℕ → Type 0) (dir parent steps : ℕ) → form dir ≡ Dir parent → P dir → Once form Last P steps parent
+      → (n : ℕ) × Once form Last P n dir
   once_at P dir parent steps e p h = elim (split dir P steps parent h) [
     | inl r ↦ (suc steps, (parent, e, p, r))
     | inr r ↦ r
   ]
 
+module _ (form : ℕ → Form) where
   -- a way up without the circles
-  once_from : (P : ℕ → Type 0) → ((q parent : ℕ) → form q ≡ Dir parent → P q) → (steps dir : ℕ) → Reaches form steps dir → (n : ℕ) × Once form P n dir
+  once_from : (P : ℕ → Type 0) → ((q parent : ℕ) → form q ≡ Dir parent → P q) → (steps dir : ℕ) → Reaches form steps dir
+      → (n : ℕ) × Once form IsTop P n dir
   once_from P all zero dir h = (0, h)
   once_from P all (suc steps) dir h =
       let rest = once_from P all steps h.0 h.2 in
-      once_at P dir h.0 rest.0 h.1 (all dir h.0 h.1) rest.1
+      once_at form IsTop P dir h.0 rest.0 h.1 (all dir h.0 h.1) rest.1
 
-  reaches_once : (P : ℕ → Type 0) (steps dir : ℕ) → Once form P steps dir → Reaches form steps dir
+  reaches_once : (P : ℕ → Type 0) (steps dir : ℕ) → Once form IsTop P steps dir → Reaches form steps dir
   reaches_once P zero dir h = h
   reaches_once P (suc steps) dir h = (h.0, h.1, reaches_once _ steps h.0 h.3)
 
@@ -75,20 +83,15 @@ counted_once : (k : ℕ) (o : Option Node) → IsTrue (is_some o) → share (λ 
 counted_once k None h = absurd (false≢true h)
 counted_once k (Some node) h = refl
 
-one_less : (m : Map number_key Node) (k : ℕ) → IsTrue (is_some (get m k)) → key_count (remove m k) + 1 ≡ key_count m
-one_less m k there =
-    let all : sum_over (λ q x. 1) (remove m k) + share (λ q x. 1) k (get m k) ≡ sum_over (λ q x. 1) m = sum-remove number_key (λ q x. 1) m k in
-    omega (arith, all, counted_once k (get m k) there, key_count_sum m, key_count_sum (remove m k))
-
--- a way up by different directories is no longer than their number
-steps_within : (form : ℕ → Form) (m : Map number_key Node) (P : ℕ → Type 0) → ((q : ℕ) → P q → IsTrue (is_some (get m q))) → (steps dir : ℕ)
-    → Once form P steps dir → steps ≤ key_count m
-steps_within form m P there zero dir h = omega arith
-steps_within form m P there (suc steps) dir h =
-    let still : (q : ℕ) → P q × (q ≢ dir) → IsTrue (is_some (get (remove m dir) q)) =
-    λ q p. ap is_some (get-remove_apart number_key m dir q p.1) ∙ there q p.0 in
-    let rest = steps_within form (remove m dir) (λ q. P q × (q ≢ dir)) still steps h.0 h.3 in
-    omega (arith, rest, one_less m dir (there dir h.2))
+-- a way up by different directories that count for one each is no longer than their sum
+pub steps_within : (form : ℕ → Form) (Last : ℕ → Type 0) (count : ℕ → Node → ℕ) (m : Map number_key Node) (P : ℕ → Type 0)
+    → ((q : ℕ) → P q → share count q (get m q) ≡ 1) → (steps dir : ℕ) → Once form Last P steps dir → steps ≤ sum_over count m
+steps_within form Last count m P one zero dir h = omega arith
+steps_within form Last count m P one (suc steps) dir h =
+    let still : (q : ℕ) → P q × (q ≢ dir) → share count q (get (remove m dir) q) ≡ 1 =
+    λ q p. ap (share count q) (get-remove_apart number_key m dir q p.1) ∙ one q p.0 in
+    let rest = steps_within form Last count (remove m dir) (λ q. P q × (q ≢ dir)) still steps h.0 h.3 in
+    omega (arith, rest, sum-remove number_key count m dir, one dir h.2)
 
 -- the model's test
 
@@ -142,9 +145,11 @@ climbed t above (suc steps) (suc count) dir less h test = elim (cases_eq dir roo
 -- the way up from a directory has at most as many steps as there are nodes
 pub few_steps : (t : Tree) (steps dir : ℕ) → Reaches (shape_of t).form steps dir → (n : ℕ) × (n ≤ key_count t.nodes) × Reaches (shape_of t).form n dir
 few_steps t steps dir h =
-    let once = once_from (shape_of t).form (λ q. IsTrue (is_some (node_at t q))) (λ q parent e. node_of_form (node_at t q) parent e) steps dir h in (
+    let once = once_from (shape_of t).form (λ q. IsTrue (is_some (node_at t q))) (λ q parent e. node_of_form (node_at t q) parent e) steps dir h in
+    let few : once.0 ≤ sum_over (λ q x. 1) t.nodes =
+    steps_within (shape_of t).form IsTop (λ q x. 1) t.nodes _ (λ q p. counted_once q (node_at t q) p) once.0 dir once.1 in (
       once.0,
-      steps_within (shape_of t).form t.nodes (λ q. IsTrue (is_some (node_at t q))) (λ q p. p) once.0 dir once.1,
+      omega (arith, few, key_count_sum t.nodes),
       reaches_once (shape_of t).form _ once.0 dir once.1,
     )
 
@@ -262,11 +267,11 @@ inside_meets t dir inode n whole is low h = true_from_ne_false (is_inside t dir 
 
 -- a way up that comes by no directory twice avoids where it began
 
-avoid_once : (form : ℕ → Form) (P : ℕ → Type 0) (d : ℕ) → ((x : ℕ) → P x → x ≢ d) → is_top d ≡ false → (n q : ℕ) → Once form P n q → Avoids form d n q
+avoid_once : (form : ℕ → Form) (P : ℕ → Type 0) (d : ℕ) → ((x : ℕ) → P x → x ≢ d) → is_top d ≡ false → (n q : ℕ) → Once form IsTop P n q → Avoids form d n q
 avoid_once form P d apart low zero q h = (λ e. false≢true (sym low ∙ sym (ap is_top e) ∙ h), h)
 avoid_once form P d apart low (suc n) q h = (apart q h.2, (h.0, h.1, avoid_once form _ d (λ x p. apart x p.0) low n h.0 h.3))
 
-above_once : (form : ℕ → Form) (dir parent n : ℕ) → is_top dir ≡ false → form dir ≡ Dir parent → Once form (λ q. Unit {0}) n dir
+above_once : (form : ℕ → Form) (dir parent n : ℕ) → is_top dir ≡ false → form dir ≡ Dir parent → Once form IsTop (λ q. Unit {0}) n dir
     → (m : ℕ) × Avoids form dir m parent
 above_once form dir parent zero low is h = absurd (false≢true (sym low ∙ h))
 above_once form dir parent (suc n) low is h =

@@ -9,6 +9,7 @@ pub mod HourShapeLaws
 pub mod FreshShapeLaws
 pub mod BrokenExamples
 pub mod ClimbLaws
+pub mod CountLaws
 pub mod TrashNameLaws
 pub mod ShapeLossLaws
 pub mod ShapeMoveLaws
@@ -52,3 +53,8 @@ pub mod FileStepLaws
 pub mod MadeWholeLaws
 pub mod EntryNameLaws
 pub mod RoomLaws
+pub mod KeptFilesLaws
+pub mod KeptOperationLaws
+pub mod HoldingLaws
+pub mod ReplyLaws
+pub mod OpeningLaws

@@ -122,7 +122,8 @@ module _ (t : Tree) (who : Caller) (to : EntryKey) (other : ℕ) (whole : WholeS
   may_remove : is_directory t other ≡ false → MayRemove t who to other
   may_remove leaf = record { is = may.is; leaf = leaf; session = may.session; held = may.held; clock = may.clock }
 
-  no_entries : is_directory t other ≡ true → has_entries t other ≡ false
+  -- a directory that may be replaced has no entries
+  pub no_entries : is_directory t other ≡ true → has_entries t other ≡ false
   no_entries dir = sym (ap (λ b. b && has_entries t other) dir) ∙ may.vacant
 
   abbrev survivor : Bool → Tree
@@ -141,7 +142,7 @@ module _ (t : Tree) (who : Caller) (to : EntryKey) (other : ℕ) (whole : WholeS
   beside-without_target = (survives (is_directory t other) refl).1
 
   -- no entry stands in the target
-  target_empty : (at : EntryKey) (i : ℕ) → named (shape_of t) at ≡ Some i → at.dir ≢ other
+  pub target_empty : (at : EntryKey) (i : ℕ) → named (shape_of t) at ≡ Some i → at.dir ≢ other
   target_empty = elim (cases_Bool (is_directory t other)) [
     | inl dir ↦ (directory_may_go t to other whole may.is dir (no_entries dir)).empty
     | inr leaf ↦ leaf_empty (shape_of t) other whole (is_dir-form (node_at t other) ∙ leaf)

@@ -36,11 +36,12 @@ whole_answer given d e w = subst (λ (o : Outcome). WholeShape (shape_of o.tree)
 
 -- new nodes
 
-record IsEntered (t : Tree) (now : ℕ) (place : EntryKey) (node : Node) (after : Tree) : Type 0 where
-  room : t.next_inode < full_count
-  is : with_next t now place node ≡ after
+-- a new node that the limits of a volume allow
+pub record IsEntered (t : Tree) (now : ℕ) (place : EntryKey) (node : Node) (after : Tree) : Type 0 where
+  pub room : t.next_inode < full_count
+  pub is : with_next t now place node ≡ after
 
-is_entered : (t : Tree) (now : ℕ) (place : EntryKey) (node : Node) (after : Tree) → entered t now place node ≡ Ok after → IsEntered t now place node after
+pub is_entered : (t : Tree) (now : ℕ) (place : EntryKey) (node : Node) (after : Tree) → entered t now place node ≡ Ok after → IsEntered t now place node after
 is_entered t now place node after h =
     let fits_in = λ (u : Unit {0}). require (fits t (with_next t now place node)) NoSpace >>= (λ _. Ok (with_next t now place node)) in
     let room = went_on (require (nat_lt t.next_inode full_count) NoSpace) fits_in after h in

@@ -93,6 +93,14 @@ pub record MayRemove (t : Tree) (who : Caller) (place : EntryKey) (inode : ℕ) 
   pub held : HoldsFiles (shape_of t) who.held
   pub clock : who.now ≤ LAST_MOMENT
 
+-- an inode that loses its last entry is named once
+pub one_entry : (t : Tree) (place : EntryKey) (inode : ℕ) → get t.entries place ≡ Some inode → nat_lt 1 (entry_count t inode) ≡ false
+    → names (shape_of t) inode ≡ 1
+one_entry t place inode is few =
+    let most : entry_count t inode ≤ 1 = ltb-false 1 (entry_count t inode) few in
+    let least : 1 ≤ names (shape_of t) inode = counted_once t.entries place inode is in
+    omega (arith, most, least)
+
 module _ (t : Tree) (who : Caller) (place : EntryKey) (inode : ℕ) (whole : WholeShape (shape_of t)) (may : MayRemove t who place inode) where
   abbrev s : Shape
   s = shape_of t
@@ -117,12 +125,6 @@ module _ (t : Tree) (who : Caller) (place : EntryKey) (inode : ℕ) (whole : Who
   -- where the inode goes
   pub shape-dropped : shape_of (with_fate Dropped less who place inode) ≡ without_inode s place inode
   shape-dropped = shape-remove_directory t who.now place inode
-
-  one_entry : nat_lt 1 (entry_count t inode) ≡ false → names s inode ≡ 1
-  one_entry few =
-      let most : entry_count t inode ≤ 1 = ltb-false 1 (entry_count t inode) few in
-      let least : 1 ≤ names s inode = counted_once s.entries place inode may.is in
-      omega (arith, most, least)
 
   -- the tree after a fate is whole, and keeps other entries
   abbrev Survives : Fate → Type 0
@@ -156,8 +158,8 @@ module _ (t : Tree) (who : Caller) (place : EntryKey) (inode : ℕ) (whole : Who
 
   survives : Survives (fate_of t who place inode)
   survives = cond_both (nat_lt 1 (entry_count t inode)) _ _ Survives fate_linked (λ few.
-      cond_both (nat_lt 0 t.setting.trash_days && not (in_trash place.dir)) _ _ Survives (fate_trashed (one_entry few)) (λ keeps_none.
-      cond_both (list_any (λ held. held == inode) who.held) _ _ Survives (fate_sustained (one_entry few)) (λ closed. fate_dropped (one_entry few))))
+      cond_both (nat_lt 0 t.setting.trash_days && not (in_trash place.dir)) _ _ Survives (fate_trashed (one_entry t place inode may.is few)) (λ keeps_none.
+      cond_both (list_any (λ held. held == inode) who.held) _ _ Survives (fate_sustained (one_entry t place inode may.is few)) (λ closed. fate_dropped (one_entry t place inode may.is few))))
 
   -- a tree stays whole without an entry of a file or a symlink
   pub whole-remove_entry : WholeShape (shape_of (remove_entry t who place inode))

@@ -66,7 +66,7 @@ shape-truncated t now inode len = elim (content_at t inode) as (λ o. content_at
 ] refl
 
 -- a copy between what is at two inodes
-abbrev between : Tree → ℕ → Option Content → ℕ → ℕ → Option Content → ℕ → ℕ → Tree
+abbrev pub between : Tree → ℕ → Option Content → ℕ → ℕ → Option Content → ℕ → ℕ → Tree
 between t now (Some source) from target (Some content) to len = with_content t now target (copied_over source from content to len)
 between t now _ from target _ to len = t
 

@@ -162,7 +162,8 @@ module _ (s : Shape) (sid : ℕ) (gone present : ℕ → Bool) (pairs : Map pair
 
 -- a session that goes
 
-if_some : {A : Type 0} (b : Bool) (o : Option A) → IsTrue (is_some (cond b o None)) → (b ≡ true) × IsTrue (is_some o)
+-- a choice by a test that comes to something
+pub if_some : {A : Type 0} (b : Bool) (o : Option A) → IsTrue (is_some (cond b o None)) → (b ≡ true) × IsTrue (is_some o)
 if_some true o h = (refl, h)
 if_some false o h = absurd (false≢true h)
 

@@ -42,6 +42,11 @@ pub data IsReached (t : Tree) (inode : ℕ) : Type 0 where
   Directory : is_directory t inode ≡ true → IsReached t inode
   Entry : IsNamed t.entries inode → IsReached t inode
 
+-- how a walk goes on behind a name, by the target of a symlink
+abbrev pub onwards : Tree → Bool → (ℕ → List (List ℕ) → Result ℕ Fault) → ℕ → List (List ℕ) → ℕ → Option (List ℕ) → Result ℕ Fault
+onwards t follow again inode names next None = walk_names again t follow next names
+onwards t follow again inode names next (Some target) = again (if is_absolute target then root else inode) (names_of target ++ names)
+
 module _ (t : Tree) (w : WholeShape (shape_of t)) where
   directory_by_form : (inode parent : ℕ) → (shape_of t).form inode ≡ Dir parent → is_directory t inode ≡ true
   directory_by_form inode parent is = is_directory-form t inode ∙ ap is_dir is
@@ -89,29 +94,24 @@ module _ (t : Tree) (w : WholeShape (shape_of t)) where
   abbrev GoesOn : (ℕ → List (List ℕ) → Result ℕ Fault) → Type 0
   GoesOn again = (dir : ℕ) (names : List (List ℕ)) (result : ℕ) → IsReached t dir → again dir names ≡ Ok result → IsReached t result
 
-  onwards : (ℕ → List (List ℕ) → Result ℕ Fault) → Bool → ℕ → List (List ℕ) → ℕ → Option (List ℕ) → Result ℕ Fault
-  onwards again follow inode names next None = walk_names again t follow next names
-  onwards again follow inode names next (Some target) = again (if is_absolute target then root else inode) (names_of target ++ names)
-
   from_reached : (inode : ℕ) (b : Bool) → IsReached t inode → IsReached t (if b then root else inode)
   from_reached inode true r = Directory root_directory
   from_reached inode false r = r
 
   onwards_reached : (again : ℕ → List (List ℕ) → Result ℕ Fault) (follow : Bool) (inode : ℕ) (names : List (List ℕ)) (next : ℕ)
       (o : Option (List ℕ)) (result : ℕ) → GoesOn again
-      → (walk_names again t follow next names ≡ Ok result → IsReached t result) → IsReached t inode → onwards again follow inode names next o ≡ Ok result
+      → (walk_names again t follow next names ≡ Ok result → IsReached t result) → IsReached t inode → onwards t follow again inode names next o ≡ Ok result
       → IsReached t result
-  unfolding onwards
   onwards_reached again follow inode names next None result goes rest r h = rest h
   onwards_reached again follow inode names next (Some target) result goes rest r h =
       goes (if is_absolute target then root else inode) (names_of target ++ names) result (from_reached inode (is_absolute target) r) h
 
   names_reached : (again : ℕ → List (List ℕ) → Result ℕ Fault) (follow : Bool) (inode : ℕ) (names : List (List ℕ)) (result : ℕ) → GoesOn again
       → IsReached t inode → walk_names again t follow inode names ≡ Ok result → IsReached t result
-  unfolding walk_names onwards
+  unfolding walk_names
   names_reached again follow inode [] result goes r h = subst (IsReached t) (same_Ok inode result h) r
   names_reached again follow inode (name ∷ names) result goes r h =
-      let next = went_on (stepped t inode name) (λ next. onwards again follow inode names next (way_on t follow names next)) result h in
+      let next = went_on (stepped t inode name) (λ next. onwards t follow again inode names next (way_on t follow names next)) result h in
       onwards_reached again follow inode names next.0 (way_on t follow names next.0) result goes
       (λ g. names_reached again follow next.0 names result goes (stepped_reached inode name next.0 next.1) g) r next.2
 

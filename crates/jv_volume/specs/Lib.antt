@@ -6,3 +6,4 @@ pub mod Shape
 pub mod Stored
 pub mod Slices
 pub mod Whole
+pub mod Holding

@@ -407,21 +407,18 @@ asks_rows c d = elim d.stage [
   | Replying answer ↦ false
 ]
 
--- the inode that the refused transaction was given
-abbrev inode_in_use : ModelClient → Doing → ℕ
+-- the inode that the refused transaction was given, where it was given one
+abbrev inode_in_use : ModelClient → Doing → Option ℕ
 inode_in_use c d = elim d.stage [
-  | Working quiets started ↦ elim (next_segment d.flush c.pending) [ None ↦ 0 | Some segment ↦ segment.inode ]
-  | Reading misses ↦ inode_at c (handle_of d.op)
-  | Missing misses window owed ↦ inode_at c (handle_of d.op)
-  | LookedAgain misses window owed ↦ 0
-  | Compacting k ↦ k.view.inode
-  | Cleans k ↦ 0
-  | Requesting requests ↦ 0
-  | Replying answer ↦ 0
+  | Working quiets started ↦ option_map (λ segment. segment.inode) (next_segment d.flush c.pending)
+  | Reading misses ↦ option_map (λ file. file.inode) (file_in_use c d)
+  | Missing misses window owed ↦ option_map (λ file. file.inode) (file_in_use c d)
+  | LookedAgain misses window owed ↦ None
+  | Compacting k ↦ Some k.view.inode
+  | Cleans k ↦ None
+  | Requesting requests ↦ None
+  | Replying answer ↦ None
 ]
-
-abbrev is_gone : Tree → ℕ → Bool
-is_gone t inode = not (inode == 0) && not (is_some (node_at t inode))
 
 abbrev has_late_request : ℕ → ℕ → List ℕ → Bool
 has_late_request started now quiets = list_any (λ moment. moment == started) quiets && nat_le (started + UPLOAD_LIFE) now
@@ -452,8 +449,8 @@ pub data IsMissed (c : ModelClient) (d : Doing) (view : View) (owed : List Owed)
 -- The refusal of a request that was just made, in this same step.
 pub data IsRefusedIn (start : Start) (s : State) (client now : ℕ) (c : ModelClient) (d : Doing) (fault : Fault) : Type 0 where
   SessionGone : IsTrue (asks_rows c d) → has_session s.tree c ≡ false → fault ≡ Stale (Session (session_of c)) → IsRefusedIn start s client now c d fault
-  InodeGone : IsTrue (asks_rows c d) → IsTrue (has_session s.tree c) → IsTrue (is_gone s.tree (inode_in_use c d)) → fault ≡ Stale (Node (inode_in_use c d))
-      → IsRefusedIn start s client now c d fault
+  InodeGone : (inode : ℕ) → IsTrue (asks_rows c d) → IsTrue (has_session s.tree c) → inode_in_use c d ≡ Some inode → node_at s.tree inode ≡ None
+      → fault ≡ Stale (Node inode) → IsRefusedIn start s client now c d fault
   CommitLate : (segment : Segment) → CommitAsked s c d segment → started_in d.stage + UPLOAD_LIFE ≤ now → fault ≡ TimedOut (started_in d.stage) now
       → IsRefusedIn start s client now c d fault
   CommitTooLarge : (segment : Segment) → CommitAsked s c d segment → now < started_in d.stage + UPLOAD_LIFE

@@ -7,7 +7,8 @@ use Rattle.jv_changes.proofs.hours.clock_at.Goals as goal
 
 pub returns-clause-date : goal.returns-clause-date
 returns-clause-date c =
-    let limit : c.args.at ≤ LAST_MOMENT = subst (λ n. n ≤ LAST_MOMENT) c.seconds.ensures.seconds c.seconds.ensures.limit in
+    let limit : c.args.at ≤ LAST_MOMENT = subst (λ n. n ≤ LAST_MOMENT) c.seconds.ensures.seconds c.seconds.ensures.limit
+    in
     let low : hour_at c.args.at / day_hours ≤ LAST_MOMENT / HOUR / day_hours = omega (arith, limit) in
     is_date_of c.to_datetime.result.date (hour_at c.args.at / day_hours) low
     (day_shown c.to_datetime.result c.args.at (c.to_datetime.ensures ∙ ap (λ n. n +ℤ pos 0) c.timestamp.ensures

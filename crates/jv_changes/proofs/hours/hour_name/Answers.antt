@@ -14,5 +14,11 @@ returns c =
     let month = small_byte c.month.result clock.date.month c.month.ensures (month_small clock.date) ∙ is.month in
     let day = small_byte c.day.result clock.date.day c.day.ensures (day_small clock.date) ∙ is.day_is in
     let rest = small_byte c.hour.result clock.time.hour c.hour.ensures low ∙ c.clock_at-clock.ensures.hour in
-    rw (c.two_digits.ensures, c.two_digits-2.ensures, c.two_digits-month.ensures, c.two_digits-day.ensures, c.two_digits-hour.ensures)
+    rw (
+      c.two_digits.ensures,
+      c.two_digits-2.ensures,
+      c.two_digits-month.ensures,
+      c.two_digits-day.ensures,
+      c.two_digits-hour.ensures,
+    )
     (hour_text hour _ _ _ _ year month day rest)

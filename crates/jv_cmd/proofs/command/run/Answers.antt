@@ -17,23 +17,33 @@ returns-in-Ok g c =
     let words = map string_bytes c.args.words.now in
     let w = c.args.world in
     let e = c.run_command-ended.new.world in
-    let before : List Act → WorldValue = λ acts. world_value (g.S.Source.seen w.source) (g.O.Sink.seen w.out) (g.E.Sink.seen w.err) (g.K.Keeper.seen w.keeper) (g.C.Clock.seen w.clock) acts in
-    let after = world_value (g.S.Source.seen e.source) (g.O.Sink.seen e.out) (g.E.Sink.seen e.err) (g.K.Keeper.seen e.keeper) (g.C.Clock.seen e.clock) e.journal.acts in
+    let before : List Act → WorldValue = λ acts. world_value (g.S.Source.seen w.source) (g.O.Sink.seen w.out)
+    (g.E.Sink.seen w.err) (g.K.Keeper.seen w.keeper) (g.C.Clock.seen w.clock) acts in
+    let after = world_value (g.S.Source.seen e.source) (g.O.Sink.seen e.out) (g.E.Sink.seen e.err)
+    (g.K.Keeper.seen e.keeper) (g.C.Clock.seen e.clock) e.journal.acts in
     let err = g.E.Sink.seen c.report.new.err in
-    subst (λ acts. RunsAsked words (asked words) (before acts) (record after { err = err }) c.status-status.result) c.clear.ensures
-    (RunsAsked-ran words (asked words) c.in-Ok.command (before c.clear.new.self.acts) after err c.run_command-ended.result c.status-status.result
-    c.in-Ok.ensures.asked c.run_command-ended.ensures.runs (ap g.E.Sink.seen c.run_command-ended.ensures.err) c.status-status.ensures c.report.ensures)
+    subst (λ acts. RunsAsked words (asked words) (before acts) (record after { err = err }) c.status-status.result)
+    c.clear.ensures
+    (RunsAsked-ran words (asked words) c.in-Ok.command
+    (before c.clear.new.self.acts) after err c.run_command-ended.result c.status-status.result
+    c.in-Ok.ensures.asked c.run_command-ended.ensures.runs
+    (ap g.E.Sink.seen c.run_command-ended.ensures.err) c.status-status.ensures c.report.ensures)
 
 pub returns-in-Err-Refused : goal.returns-in-Err-Refused
 returns-in-Err-Refused g c =
     let words = map string_bytes c.args.words.now in
     let w = c.args.world in
-    let before : List Act → WorldValue = λ acts. world_value (g.S.Source.seen w.source) (g.O.Sink.seen w.out) (g.E.Sink.seen w.err) (g.K.Keeper.seen w.keeper) (g.C.Clock.seen w.clock) acts in
+    let before : List Act → WorldValue = λ acts. world_value (g.S.Source.seen w.source) (g.O.Sink.seen w.out)
+    (g.E.Sink.seen w.err) (g.K.Keeper.seen w.keeper) (g.C.Clock.seen w.clock) acts in
     let err = g.E.Sink.seen c.say.new.err in
-    let none = subst (λ (f : WordsFault). Answers (asked words) (Err f)) c.in-Err-Refused.field-0-is c.in-Err-Refused.ensures.asked in
-    let same : c.as_bytes.result.now ≡ string_bytes c.in-Err-Refused.text = rw c.in-Err-Refused.field-0-is at c.as_bytes.ensures.value in
-    let refusal = subst (λ (f : WordsFault). Refuses words f) c.in-Err-Refused.field-0-is c.in-Err-Refused.ensures.refusal in
-    subst (λ acts. RunsAsked words (asked words) (before []) (record (before acts) { err = err }) 2) (sym c.clear.ensures)
+    let none = subst (λ (f : WordsFault). Answers (asked words) (Err f)) c.in-Err-Refused.field-0-is
+    c.in-Err-Refused.ensures.asked in
+    let same : c.as_bytes.result.now ≡ string_bytes c.in-Err-Refused.text =
+    rw c.in-Err-Refused.field-0-is at c.as_bytes.ensures.value in
+    let refusal = subst (λ (f : WordsFault). Refuses words f) c.in-Err-Refused.field-0-is
+    c.in-Err-Refused.ensures.refusal in
+    subst (λ acts. RunsAsked words (asked words) (before []) (record (before acts) { err = err }) 2)
+    (sym c.clear.ensures)
     (RunsAsked-refused words (asked words) (before []) err (string_bytes c.in-Err-Refused.text) none refusal
     (subst (λ (text : List ℕ). Says (g.E.Sink.seen w.err) err text) same c.say.ensures))
 
@@ -41,8 +51,11 @@ pub returns-in-Err-Memory : goal.returns-in-Err-Memory
 returns-in-Err-Memory g c =
     let words = map string_bytes c.args.words.now in
     let w = c.args.world in
-    let before : List Act → WorldValue = λ acts. world_value (g.S.Source.seen w.source) (g.O.Sink.seen w.out) (g.E.Sink.seen w.err) (g.K.Keeper.seen w.keeper) (g.C.Clock.seen w.clock) acts in
+    let before : List Act → WorldValue = λ acts. world_value (g.S.Source.seen w.source) (g.O.Sink.seen w.out)
+    (g.E.Sink.seen w.err) (g.K.Keeper.seen w.keeper) (g.C.Clock.seen w.clock) acts in
     let err = g.E.Sink.seen c.report-in-Err-Memory.new.err in
     let status = c.status-status-in-Err-Memory.result in
-    subst (λ acts. RunsAsked words (asked words) (before []) (record (before acts) { err = err }) status) (sym c.clear.ensures)
-    (RunsAsked-unread words (asked words) (before []) err status c.report-in-Err-Memory.ensures c.status-status-in-Err-Memory.ensures)
+    subst (λ acts. RunsAsked words (asked words) (before []) (record (before acts) { err = err }) status)
+    (sym c.clear.ensures)
+    (RunsAsked-unread words (asked words) (before []) err status c.report-in-Err-Memory.ensures
+    c.status-status-in-Err-Memory.ensures)

@@ -3,8 +3,9 @@ use Rattle.jv_cmd.proofs.command.run_command.Goals as goal
 
 pub returns-in-Format-clause-runs : goal.returns-in-Format-clause-runs
 returns-in-Format-clause-runs g c =
-    RunsCommand-format c.args.command _ _ _ _ _ c.in-Format.is c.run_format.ensures.formats c.run_format.ensures.faults c.run_format.ensures.keeper
+    RunsCommand-format c.args.command _ _ _ _ _ c.in-Format.is c.run_format.ensures.formats
+    c.run_format.ensures.faults c.run_format.ensures.keeper
 
 pub returns-clause-runs : goal.returns-clause-runs
 returns-clause-runs g c =
-    RunsCommand-session c.args.command _ _ _ _ _ c.in-Session.is c.run_session.ensures.runs c.run_session.ensures.faults c.run_session.ensures.keeper
+    RunsCommand-session c.args.command _ _ _ _ _ c.in-Session.is c.run_session.ensures.runs c.run_session.ensures.faults

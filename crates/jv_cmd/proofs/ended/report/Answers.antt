@@ -16,6 +16,9 @@ returns-in-NewerVersion g c = Says-ended c.in-NewerVersion.is c.say_number-in-Ne
 pub returns-in-SettingOff : goal.returns-in-SettingOff
 returns-in-SettingOff g c = Says-ended c.in-SettingOff.is c.say-in-SettingOff.ensures
 
+pub returns-in-BadRow : goal.returns-in-BadRow
+returns-in-BadRow g c = Says-ended c.in-BadRow.is c.say_key.ensures
+
 pub returns-in-SourceFailed : goal.returns-in-SourceFailed
 returns-in-SourceFailed g c = Says-ended c.in-SourceFailed.is c.say-in-SourceFailed.ensures
 

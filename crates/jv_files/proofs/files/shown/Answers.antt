@@ -1,5 +1,5 @@
 -- Each segment is painted over what the ones before it left; after the last, the bytes are those shown.
-use Rattle.std.proofs.Common.{◌≡◌, ℕ, ◌+◌, ◌-◌, ◌<◌, List, length, take, slice_index, refl, sym, ap, subst, ◌∙◌, arith}
+use Rattle.std.proofs.Common.{◌≡◌, ℕ, ◌+◌, ◌-◌, ◌<◌, List, length, take, slice_index, sym, ap, subst, ◌∙◌, arith}
 use Rattle.std.proofs.lemmas.List.{with_items_is}
 use Rattle.jv_files.specs.Stored.{shown_over}
 use Rattle.jv_files.proofs.PaintLaws.{over, shown_more, shown_all}
@@ -26,5 +26,7 @@ loop-segment-preserved c =
 pub returns : goal.returns
 returns c =
     c.from_vec.ensures
-    ∙ shown_all (record { length = c.args.length; segments = c.args.segments.now }) c.args.segments.now c.loop-segment.bytes.items c.args.from c.args.to c.min-start.result c.min-end.result c.loop-segment.segment-index
-    c.min-end.ensures c.min-start.ensures refl c.loop-segment-test.false c.loop-segment.invariant.0 c.loop-segment.invariant.1
+    ∙ shown_all c.args.length c.args.segments.now c.loop-segment.bytes.items c.args.from c.args.to
+    c.min-start.result c.min-end.result c.loop-segment.segment-index
+    c.min-end.ensures c.min-start.ensures c.loop-segment-test.false
+    c.loop-segment.invariant.0 c.loop-segment.invariant.1

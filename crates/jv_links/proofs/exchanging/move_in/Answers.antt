@@ -1,4 +1,3 @@
-use Rattle.std.proofs.lemmas.Result.{err_from_is_err_and}
 use Rattle.jv_links.specs.Moves.{place_of}
 use Rattle.jv_links.proofs.ExchangeStepLaws.{enter-on}
 use Rattle.jv_links.proofs.exchanging.move_in.Goals as goal

@@ -11,4 +11,5 @@ pub returns : goal.returns
 returns g c caller is_for =
     keep-ends c.args.who.now caller is_for c.args.inode c.args.draft.now c.change_status.new.draft
     (g.K.Keeper.seen c.args.k.now) (g.K.Keeper.seen c.change_status.new.k)
-    c.sustain.result c.sustain.new.draft (g.K.Keeper.seen c.sustain.new.k) c.in_ok-change_status.ensures c.sustain.ensures
+    c.sustain.result c.sustain.new.draft (g.K.Keeper.seen c.sustain.new.k) c.in_ok-change_status.ensures
+    c.sustain.ensures

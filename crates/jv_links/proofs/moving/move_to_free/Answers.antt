@@ -12,8 +12,10 @@ returns-in_err-move_entry g c caller how asks =
     let low_from : c.args.ends.now.from.dir.node.nlink ≤ 4294967295 = omega (arith, first) in
     let low_source : c.args.ends.now.source.node.nlink ≤ 4294967295 = omega (arith, second) in
     rw (p.1, p.2)
-    (free-not_moved caller how c.args.ends.now (g.K.Keeper.seen c.args.k.now) c.requires low_from low_source (g.K.Keeper.seen c.is_inside.new.k) climbed
-    c.args.who.now.now asks.now c.new-draft.result c.new-draft.ensures c.move_entry.new.draft (g.K.Keeper.seen c.move_entry.new.k)
+    (free-not_moved caller how c.args.ends.now (g.K.Keeper.seen c.args.k.now) c.requires low_from low_source
+    (g.K.Keeper.seen c.is_inside.new.k) climbed
+    c.args.who.now.now asks.now c.new-draft.result c.new-draft.ensures c.move_entry.new.draft
+    (g.K.Keeper.seen c.move_entry.new.k)
     c.in_err-move_entry.field-0.0 c.in_err-move_entry.ensures)
 
 pub returns-in-Ok : goal.returns-in-Ok
@@ -23,6 +25,8 @@ returns-in-Ok g c caller how asks =
     let second = c.if-prove-2.false in
     let low_from : c.args.ends.now.from.dir.node.nlink ≤ 4294967295 = omega (arith, first) in
     let low_source : c.args.ends.now.source.node.nlink ≤ 4294967295 = omega (arith, second) in
-    free-made caller how c.args.ends.now (g.K.Keeper.seen c.args.k.now) c.requires low_from low_source (g.K.Keeper.seen c.is_inside.new.k) climbed
-    c.args.who.now.now asks.now c.new-draft.result c.new-draft.ensures c.move_entry.new.draft (g.K.Keeper.seen c.move_entry.new.k)
+    free-made caller how c.args.ends.now (g.K.Keeper.seen c.args.k.now) c.requires low_from low_source
+    (g.K.Keeper.seen c.is_inside.new.k) climbed
+    c.args.who.now.now asks.now c.new-draft.result c.new-draft.ensures c.move_entry.new.draft
+    (g.K.Keeper.seen c.move_entry.new.k)
     c.in_ok-move_entry.ensures (g.K.Keeper.seen c.commit.new.k) c.in-Ok.ensures

@@ -12,7 +12,8 @@ returns-in-Plain g c caller asks =
     let source = c.args.ends.now.source.inode in
     let other = c.args.other.now.inode in
     rw c.in-Plain.is
-    (renames-same caller.sid (λ t. IsOverMove t caller Plain from source to other) (g.K.Keeper.seen c.args.k.now) source other
+    (renames-same caller.sid (λ t. IsOverMove t caller Plain from source to other) (g.K.Keeper.seen c.args.k.now) source
+    other
     (λ t _. replacing t caller from source to other) (eq-eqb source other c.if-is_same.true))
 
 pub returns-in-Plain-2 : goal.returns-in-Plain-2
@@ -22,8 +23,10 @@ returns-in-Plain-2 g c caller asks =
     let source = c.args.ends.now.source.inode in
     let other = c.args.other.now.inode in
     rw c.in-Plain.is
-    (renames-apart caller.sid (λ t. IsOverMove t caller Plain from source to other) (g.K.Keeper.seen c.args.k.now) (g.K.Keeper.seen c.replace.new.k) source other
-    (λ t _. replacing t caller from source to other) (ne_eqb source other c.if-is_same.false) c.replace.result (c.replace.ensures caller Plain asks))
+    (renames-apart caller.sid (λ t. IsOverMove t caller Plain from source to other) (g.K.Keeper.seen c.args.k.now)
+    (g.K.Keeper.seen c.replace.new.k) source other
+    (λ t _. replacing t caller from source to other) (ne_eqb source other c.if-is_same.false) c.replace.result
+    (c.replace.ensures caller Plain asks))
 
 pub returns-in-Exchange : goal.returns-in-Exchange
 returns-in-Exchange g c caller asks =
@@ -32,7 +35,8 @@ returns-in-Exchange g c caller asks =
     let source = c.args.ends.now.source.inode in
     let other = c.args.other.now.inode in
     rw c.in-Exchange.is
-    (renames-same caller.sid (λ t. IsOverMove t caller Exchange from source to other) (g.K.Keeper.seen c.args.k.now) source other
+    (renames-same caller.sid (λ t. IsOverMove t caller Exchange from source to other) (g.K.Keeper.seen c.args.k.now)
+    source other
     (λ t _. exchanging t caller from source to other) (eq-eqb source other c.if-is_same-2.true))
 
 pub returns-in-Exchange-2 : goal.returns-in-Exchange-2
@@ -42,5 +46,7 @@ returns-in-Exchange-2 g c caller asks =
     let source = c.args.ends.now.source.inode in
     let other = c.args.other.now.inode in
     rw c.in-Exchange.is
-    (renames-apart caller.sid (λ t. IsOverMove t caller Exchange from source to other) (g.K.Keeper.seen c.args.k.now) (g.K.Keeper.seen c.exchange.new.k) source other
-    (λ t _. exchanging t caller from source to other) (ne_eqb source other c.if-is_same-2.false) c.exchange.result (c.exchange.ensures caller asks))
+    (renames-apart caller.sid (λ t. IsOverMove t caller Exchange from source to other) (g.K.Keeper.seen c.args.k.now)
+    (g.K.Keeper.seen c.exchange.new.k) source other
+    (λ t _. exchanging t caller from source to other) (ne_eqb source other c.if-is_same-2.false) c.exchange.result
+    (c.exchange.ensures caller asks))

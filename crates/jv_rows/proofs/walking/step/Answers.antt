@@ -26,7 +26,7 @@ returns-then-is_up g c =
     let here : is_dot c.args.name.now ≡ false = cc in
     let up : is_dot_dot c.args.name.now ≡ true = cc in
     last_come (one_of_names c.args.place.now.inode c.args.place.now.node c.args.name.now c.requires.stands false true (is_trash c.args.place.now.inode c.args.name.now)
-    c.if-place-ne2.false short here up refl) c.parent.ensures
+    c.if-place-ne2.false short here up refl) c.parent.ensures.comes
 
 pub returns-then-is_trash_of : goal.returns-then-is_trash_of
 returns-then-is_trash_of g c =

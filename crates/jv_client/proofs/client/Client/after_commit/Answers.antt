@@ -1,5 +1,5 @@
--- An operation that has nothing left to ask for is answered with its last commit.
-use Rattle.jv_client.proofs.CommitLaws.{none_left, follows_answer}
+-- An operation that has nothing left to ask for is answered with its last commit; another one goes on.
+use Rattle.jv_client.proofs.AfterFlushLaws.{none_left, follows_answer}
 use Rattle.jv_client.proofs.client.Client.after_commit.Goals as goal
 
 pub returns-in-Some : goal.returns-in-Some

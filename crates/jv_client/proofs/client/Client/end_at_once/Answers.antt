@@ -1,10 +1,11 @@
 -- It is answered alone.
 use Rattle.std.proofs.Common.{refl}
-use Rattle.jv_client.proofs.AnswerLaws.{end_at_once}
+use Rattle.jv_client.proofs.AtOnceLaws.{end_at_once}
 use Rattle.jv_client.proofs.client.Client.end_at_once.Goals as goal
 
 pub returns : goal.returns
-returns c now entry =
+returns c now entry v =
     let h = c.args.self.now in
-    end_at_once now entry h c.end.new.self c.args.store.now c.in-Some.told c.in-Some.reply h.doing refl c.requires.busy c.requires.ready.doing c.requires.ready
-    c.requires.flushed c.requires.not_write c.requires.ends c.in-Some.ensures
+    end_at_once now entry h c.end.new.self v c.in-Some.told c.in-Some.reply h.doing refl c.requires.busy
+    c.requires.ready c.requires.flushed c.requires.not_write
+    c.requires.ends c.in-Some.ensures

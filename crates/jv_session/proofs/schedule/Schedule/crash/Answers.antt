@@ -11,28 +11,48 @@ use Rattle.jv_session.proofs.schedule.Schedule.crash.Goals as goal
 
 pub returns-in-Ok : goal.returns-in-Ok
 returns-in-Ok g c =
-    let before = line_state (g.C.Clock.seen c.args.clock.now) c.args.journal.now.acts c.args.self.now in
+    let clock = g.C.Clock.seen c.args.clock.now in
+    let ticked = g.C.Clock.seen c.note.new.clock in
+    let journal = c.args.journal.now.acts in
+    let more = c.note.new.journal.acts in
+    let s : ScheduleValue = c.args.self.now in
     let noted : ScheduleValue = c.note.new.self in
     let low = c.number-in-Ok.ensures.limit in
     let eight = c.self.invariant.eight in
     let k = c.number-in-Ok.result in
     let old : ClientValue = get_or c.self.inside.clients k c.index-self-number.result in
     let inside = slice_get-get_or c.self.inside.clients k c.index-self-number.result (omega (arith, low, eight)) in
-    let found : slice_get noted.clients k ≡ Some old = subst (λ (v : ScheduleValue). slice_get v.clients k ≡ Some old) c.self.view_is inside in
-    let last : ScheduleValue = record { limits = c.self.inside.limits; at = c.self.inside.at; ticks = c.self.inside.ticks; clients = slice_set c.self.inside.clients k c.crash.new.self; store = c.self.inside.store } in
-    let after = line_state (g.C.Clock.seen c.note.new.clock) c.note.new.journal.acts last in
+    let found : slice_get noted.clients k ≡ Some old = subst (λ (v : ScheduleValue). slice_get v.clients k ≡ Some old)
+    c.self.view_is inside in
+    let last : ScheduleValue = record {
+      limits = c.self.inside.limits;
+      at = c.self.inside.at;
+      ticks = c.self.inside.ticks;
+      clients = slice_set c.self.inside.clients k c.crash.new.self;
+      setting = c.self.inside.setting;
+      files = c.self.inside.files;
+    } in
     let same : last ≡ record noted { clients = slice_set noted.clients k (crashed old) } =
     ap (λ (v : ScheduleValue). record v { clients = slice_set v.clients k c.crash.new.self }) c.self.view_is
     ∙ ap (λ (new : ClientValue). record noted { clients = slice_set noted.clients k new }) c.crash.ensures in
-    let notes = subst (λ n. Notes c.args.self.now noted c.args.number n Crashed 0 (g.C.Clock.seen c.args.clock.now) (g.C.Clock.seen c.note.new.clock) c.args.journal.now.acts c.note.new.journal.acts c.note.result)
+    let notes = subst (λ n. Notes s noted c.args.number n Crashed 0 clock ticked journal more c.note.result)
     (c.number.ensures.number ∙ sym c.number-in-Ok.ensures.number) c.note.ensures.notes in
     record {
-      goes = subst (λ n. LineGoes (Crashes n) c.args.number before after c.said.result) c.number-in-Ok.ensures.number
-          (crash_says k c.args.number before after noted old c.in-Ok.field-0 c.note.result c.text.result c.said.result notes c.in-Ok.is found same c.text.ensures c.said.ensures);
+      goes = λ keeper. subst (λ n. LineGoes (Crashes n) c.args.number (line_state clock keeper journal s)
+          (line_state ticked keeper more last) c.said.result) c.number-in-Ok.ensures.number
+          (crash_says keeper c.args.number clock ticked journal more s k noted last old c.in-Ok.field-0 c.note.result
+          c.text.result c.said.result notes c.in-Ok.is found same c.text.ensures c.said.ensures);
     }
 
 pub returns-in-Err : goal.returns-in-Err
 returns-in-Err g c =
-    let before = line_state (g.C.Clock.seen c.args.clock.now) c.args.journal.now.acts c.args.self.now in
-    let after = line_state (g.C.Clock.seen c.note.new.clock) c.note.new.journal.acts c.note.new.self in
-    record { goes = stops_noted (Crashes c.args.client) c.number.result c.args.number 0 _ before after c.note.result c.in-Err.stopped c.into_end.result (crash_breaks c.args.client c.args.self.now) c.note.ensures.notes c.in-Err.is c.into_end.ensures }
+    let clock = g.C.Clock.seen c.args.clock.now in
+    let journal = c.args.journal.now.acts in
+    let s = c.args.self.now in
+    record {
+      goes = λ keeper. stops_noted keeper c.args.number clock (g.C.Clock.seen c.note.new.clock) journal
+          c.note.new.journal.acts s (Crashes c.args.client) c.number.result 0 _
+          c.note.new.self c.note.result c.in-Err.stopped c.into_end.result
+          (crash_breaks c.args.client (line_state clock keeper journal s)) c.note.ensures.notes c.in-Err.is
+          c.into_end.ensures;
+    }

@@ -1,6 +1,6 @@
 -- An operation is begun at its client, or refused.
 use Rattle.std.proofs.Common.{◌≡◌, IsTrue, length, slice_get, slice_set, get_or, Some, sym, ap, subst, ◌∙◌, arith}
-use Rattle.jv_model.specs.journal.Built.{is_built_op}
+use Rattle.jv_client.specs.Built.{is_built_op}
 use Rattle.jv_client.specs.ClientValue.{ClientValue}
 use Rattle.jv_session.specs.Stands.{ScheduleValue, built_op_here, held_in}
 use Rattle.jv_session.specs.InLine.{Submits}
@@ -16,14 +16,19 @@ invariant_of-self c =
     let k = c.number.result in
     let old : ClientValue = get_or c.self.inside.clients k c.index-self-number.result in
     let found = slice_get-get_or c.self.inside.clients k c.index-self-number.result (omega (arith, low, eight)) in
-    let m = member_at c.self.inside.limits c.self.inside.at c.self.inside.ticks c.self.inside.clients c.self.inside.store k old c.self.invariant found in
+    let m = member_at c.self.inside.limits c.self.inside.at c.self.inside.ticks c.self.inside.clients k old
+    c.self.invariant found in
     let seen = c.self.view_is in
     let built : IsTrue (built_op_here c.args.self.now c.args.client c.args.op) = c.requires.built in
-    let built_k : IsTrue (built_op_here c.args.self.now k c.args.op) = subst (λ n. IsTrue (built_op_here c.args.self.now n c.args.op)) (sym c.number.ensures.number) built in
-    let here : IsTrue (is_built_op c.self.inside.limits (held_in (slice_get c.self.inside.clients k)) c.args.op) = subst (λ (v : ScheduleValue). IsTrue (built_op_here v k c.args.op)) (sym seen) built_k in
-    let own : IsTrue (is_built_op c.self.inside.limits (length old.pending) c.args.op) = subst (λ o. IsTrue (is_built_op c.self.inside.limits (held_in o) c.args.op)) found here in
-    schedule_with c.self.inside.limits c.self.inside.at c.self.inside.ticks c.self.inside.clients c.self.inside.store k _ c.self.invariant
-    (submitted_member c.self.inside.limits c.self.inside.store k old c.submit.new.self c.args.op c.submit.result m own c.submit.ensures.still c.submit.ensures.ready c.submit.ensures.err)
+    let built_k : IsTrue (built_op_here c.args.self.now k c.args.op) = subst
+    (λ n. IsTrue (built_op_here c.args.self.now n c.args.op)) (sym c.number.ensures.number) built in
+    let here : IsTrue (is_built_op c.self.inside.limits (held_in (slice_get c.self.inside.clients k)) c.args.op) =
+    subst (λ (v : ScheduleValue). IsTrue (built_op_here v k c.args.op)) (sym seen) built_k in
+    let own : IsTrue (is_built_op c.self.inside.limits (length old.pending) c.args.op) = subst
+    (λ o. IsTrue (is_built_op c.self.inside.limits (held_in o) c.args.op)) found here in
+    schedule_with c.self.inside.limits c.self.inside.at c.self.inside.ticks c.self.inside.clients k _ c.self.invariant
+    (submitted_member c.self.inside.limits k old c.submit.new.self c.args.op c.submit.result m own
+    c.submit.ensures.still c.submit.ensures.ready c.submit.ensures.err)
 
 pub returns : goal.returns
 returns c =
@@ -34,15 +39,28 @@ returns c =
     let old : ClientValue = get_or c.self.inside.clients k c.index-self-number.result in
     let new : ClientValue = c.submit.new.self in
     let inside = slice_get-get_or c.self.inside.clients k c.index-self-number.result (omega (arith, low, eight)) in
-    let m = member_at c.self.inside.limits c.self.inside.at c.self.inside.ticks c.self.inside.clients c.self.inside.store k old c.self.invariant inside in
+    let m = member_at c.self.inside.limits c.self.inside.at c.self.inside.ticks c.self.inside.clients k old
+    c.self.invariant inside in
     let seen = c.self.view_is in
-    let found : slice_get s.clients k ≡ Some old = subst (λ (v : ScheduleValue). slice_get v.clients k ≡ Some old) seen inside in
+    let found : slice_get s.clients k ≡ Some old = subst (λ (v : ScheduleValue). slice_get v.clients k ≡ Some old)
+    seen inside in
     let limits : old.limits ≡ s.limits = m.limits_are ∙ ap (λ (v : ScheduleValue). v.limits) seen in
-    let after : ScheduleValue = record { limits = c.self.inside.limits; at = c.self.inside.at; ticks = c.self.inside.ticks; clients = slice_set c.self.inside.clients k new; store = c.self.inside.store } in
-    let same : after ≡ record s { clients = slice_set s.clients k new } = ap (λ (v : ScheduleValue). record v { clients = slice_set v.clients k new }) seen in
-    subst (λ n. Submits s after n c.args.op c.match-submit.result) c.number.ensures.number (elim c.match-submit.branch [
+    let after : ScheduleValue = record {
+      limits = c.self.inside.limits;
+      at = c.self.inside.at;
+      ticks = c.self.inside.ticks;
+      clients = slice_set c.self.inside.clients k new;
+      setting = c.self.inside.setting;
+      files = c.self.inside.files;
+    } in
+    let same : after ≡ record s { clients = slice_set s.clients k new } = ap
+    (λ (v : ScheduleValue). record v { clients = slice_set v.clients k new }) seen in
+    subst (λ n. Submits s after n c.args.op c.match-submit.result) c.number.ensures.number
+    (elim c.match-submit.branch [
       | in-Ok w ↦ subst (Submits s after k c.args.op) (sym w.result-is)
-          (begins_at s after k c.args.op old new c.submit.result _ found limits w.in-Ok.is c.submit.ensures.refusal c.submit.ensures.begun c.submit.ensures.busy same)
+          (begins_at s after k c.args.op old new c.submit.result _ found limits w.in-Ok.is c.submit.ensures.refusal
+          c.submit.ensures.begun c.submit.ensures.busy same)
       | in-Err w ↦ subst (Submits s after k c.args.op) (sym w.result-is)
-          (refuses_at s after k c.args.op old new c.submit.result _ found w.in-Err.is c.submit.ensures.refusal c.submit.ensures.err same)
+          (refuses_at s after k c.args.op old new c.submit.result _ found w.in-Err.is c.submit.ensures.refusal
+          c.submit.ensures.err same)
     ])

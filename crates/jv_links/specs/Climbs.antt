@@ -1,0 +1,18 @@
+-- How far it is from a directory up to the root or the trash.
+use Rattle.std.specs.Prelude.{◌≡◌, ℕ, ◌<◌, Some}
+use Rattle.jv_model.specs.rows.RowKeys.{RowMap}
+use Rattle.jv_outside.specs.Store.{Store}
+use Rattle.jv_volume.specs.Shape.{shape_of, Reaches}
+use Rattle.jv_volume.specs.TreeOf.{tree_of}
+use Rattle.jv_volume.specs.TypedRows.{typed}
+use Rattle.jv_volume.specs.Whole.{Whole, no_bytes}
+
+-- fewer than so many steps up lead from a directory to the root or the trash
+pub record IsNear (known : RowMap) (dir steps : ℕ) : Type 0 where
+  pub taken : ℕ
+  pub fewer : taken < steps
+  pub reaches : Reaches (shape_of (tree_of no_bytes (typed known))).form taken dir
+
+-- and so over whole rows; of other rows nothing is said
+abbrev pub StandsNear : Store → ℕ → ℕ → Type 0
+StandsNear store dir steps = (known : RowMap) → store.rows ≡ Some known → Whole (typed known) → IsNear known dir steps

@@ -1,0 +1,54 @@
+-- What a client that has files open relies on while a tree changes.
+use Rattle.std.specs.Prelude.{◌≡◌, ℕ, ◌≤◌, ◌<◌, Bool, true, false, Some, IsTrue}
+use Rattle.jv_model.specs.declared.fault.Fault.{Fault}
+use Rattle.jv_model.specs.declared.fault.Fault.TheVariants.{DeviceFailed, NoMemory}
+use Rattle.jv_model.specs.declared.op.Op.{Op}
+use Rattle.jv_model.specs.declared.op.Op.TheVariants as op
+use Rattle.jv_model.specs.tree.Tree.{Tree, Content, content_at}
+use Rattle.jv_model.specs.tree.Changes.{empty_content}
+use Rattle.jv_volume.specs.Shape.{Regular, is_there, shape_of}
+
+-- An inode that was given to a file: the file is there or gone, and no other node comes in its place.
+pub record IsHoldable (t : Tree) (inode : ℕ) : Type 0 where
+  pub below : inode < t.next_inode
+  pub file : IsTrue (is_there ((shape_of t).form inode)) → (shape_of t).form inode ≡ Regular
+
+-- the bytes of a file are those that it had, or it is new and has none
+pub data HasBytes (t : Tree) (inode : ℕ) (content : Content) : Type 0 where
+  Kept : content_at t inode ≡ Some content → HasBytes t inode content
+  New : t.next_inode ≤ inode → content ≡ empty_content → HasBytes t inode content
+
+-- another tree of the same volume, on which what clients hold may still be held
+pub record Stays (t after : Tree) : Type 0 where
+  pub setting : after.setting ≡ t.setting
+  pub next : t.next_inode ≤ after.next_inode
+  pub holdable : (inode : ℕ) → IsHoldable t inode → IsHoldable after inode
+
+-- the operations that change the bytes of a file
+abbrev pub changes_bytes : Op → Bool
+changes_bytes (op.Truncate handle len) = true
+changes_bytes (op.Copy source from target to len) = true
+changes_bytes _ = false
+
+-- the operations that may take a file's last entry
+abbrev pub takes_entries : Op → Bool
+takes_entries (op.Unlink path) = true
+takes_entries (op.Rename path to how) = true
+takes_entries _ = false
+
+-- the operation that makes a session
+abbrev pub is_mount_op : Op → Bool
+is_mount_op (op.Mount writeback) = true
+is_mount_op _ = false
+
+-- the operations that open a file
+abbrev pub opens_file : Op → Bool
+opens_file (op.Create path mode) = true
+opens_file (op.Open path) = true
+opens_file _ = false
+
+-- the refusals that come from devices and from memory, and not from the tree
+abbrev pub is_device_or_memory : Fault → Bool
+is_device_or_memory (DeviceFailed device) = true
+is_device_or_memory NoMemory = true
+is_device_or_memory _ = false
