@@ -38,7 +38,8 @@
 //! - `for k FIRST..LAST DEVICE` makes the first run again, with call FIRST of the device failing, then with the next
 //!   one, up to LAST; DEVICE may be `each`, for all of them one after the other. Printed is one line for each run
 //!   that breaks the rule below, and a sum.
-//! - `again` makes a run on the world that the last one left, by the same words, and `again WORD ..` by these.
+//! - `again` makes a run on the world that the last one left, by the same words, and `again WORD ..` by these. Where the
+//!   scene has a script already, a `script` behind it is that of this run.
 //! - `try WORD ..` makes a run by these words on a world of its own, and `then LINE` one by the scene's words whose
 //!   script has one more line. Printed is one line: the status, the words or the line, and standard error, or where
 //!   that has gained nothing `out`; its first line for `try`, and its last one for `then`.
@@ -47,7 +48,9 @@
 //! The rule for a run in which one more call is to fail: where that call isn't made, nothing is different. Else it
 //! ends as the run without it, or with status 5 and the device's name on standard error; only that call fails; its
 //! answers are those of the run without it, or the first ones of them, but for one at most; and its rows are those
-//! before, or those that the run without it leaves.
+//! before, or those that the run without it leaves, but where it ends between two steps of a script. Where a call of the keeper fails inside an operation, exactly that
+//! operation is answered `err EIO keeper`, and the run goes on; if each line of the script is an operation that is run to its
+//! end, the other answers and the rows are those of the run without that line.
 //!
 //! A malformed line is refused with its number, and then nothing is run.
 #![tactic(auto)]
@@ -60,10 +63,12 @@ mod scene;
 mod stage;
 mod sweep;
 
+use jv_model::Sequence;
+use jv_outside::Fails;
 use reader::{BadLine, SceneReader};
 use report::{push_played, push_then, push_try};
-use scene::{Further, Scene, Variant};
-use stage::{MemWorld, Played, play, with_rows, world};
+use scene::{Again, Further, Scene, Variant, bytes_of};
+use stage::{MemWorld, Played, play, with_rows, with_script, world};
 use std::alloc::{AllocError, Global};
 use std::io;
 use std::process::ExitCode;
@@ -152,8 +157,7 @@ fn push_further(
     left: MemWorld,
 ) -> Result<MemWorld, AllocError> {
     match further {
-        Further::Again => push_again(alloc, report, scene.words(), left),
-        Further::AgainBy(words) => push_again(alloc, report, words.as_slice(), left),
+        Further::Again(again) => push_again(alloc, report, scene, again, left),
         Further::Try(words) => {
             try_words(alloc, report, scene, words.as_slice())?;
             Ok(left)
@@ -189,13 +193,25 @@ fn try_line(
     push_then(report, line, &played)
 }
 
+/// Makes a run on the world that the run before left.
 fn push_again(
     alloc: Global,
     report: &mut String,
-    words: &[String],
+    scene: &Scene,
+    again: &Again,
     left: MemWorld,
 ) -> Result<MemWorld, AllocError> {
-    let played = play(alloc, words, left)?;
+    let words = match &again.words {
+        Some(words) => words.as_slice(),
+        None => scene.words(),
+    };
+    let world = if again.script.is_empty() {
+        left
+    } else {
+        let never = Fails::At(Sequence::new(alloc));
+        with_script(left, bytes_of(alloc, again.script.as_slice())?, never)
+    };
+    let played = play(alloc, words, world)?;
     report.push_str("again\n")?;
     push_played(alloc, report, &played)?;
     Ok(played.world)

@@ -1,6 +1,6 @@
 //! Reads scenes.
 use crate::device::Device;
-use crate::scene::{Further, Piece, Scene, Sweep, Words};
+use crate::scene::{Again, Further, Piece, Scene, Sweep, Words};
 use jv_model::{Bytes, LAST_MOMENT, Moment, RowKey, Sequence};
 use std::alloc::{AllocError, AllocFailed, Global};
 
@@ -70,6 +70,8 @@ pub struct SceneReader {
     scenes: Vec<Scene>,
     /// Whether the lines are those of a script.
     is_in_script: bool,
+    /// Whether that is the script of a further run.
+    is_further: bool,
 }
 
 impl SceneReader {
@@ -78,6 +80,7 @@ impl SceneReader {
             alloc,
             scenes: Vec::new(alloc),
             is_in_script: false,
+            is_further: false,
         }
     }
 
@@ -130,9 +133,10 @@ impl SceneReader {
         if !rest.is_empty() {
             return Err(BadLine::NotAlone);
         }
-        if self.scenes.is_empty() {
+        let Some(scene) = self.scenes.last() else {
             return Err(BadLine::NoScene);
-        }
+        };
+        self.is_further = is_further(scene);
         self.is_in_script = true;
         Ok(())
     }
@@ -143,10 +147,15 @@ impl SceneReader {
             return Ok(());
         }
         match self.scenes.last_mut() {
-            Some(scene) => add_lines(self.alloc, scene, 1, line),
+            Some(scene) => add_line(self.alloc, scene, self.is_further, line),
             None => Err(BadLine::NoScene),
         }
     }
+}
+
+/// Whether a script that begins now is that of a further run: the scene has a script, and a run on what it left comes last.
+fn is_further(scene: &Scene) -> bool {
+    !scene.script.is_empty() && matches!(scene.further.last(), Some(Further::Again(_)))
 }
 
 /// Reads a line by its key word.
@@ -170,8 +179,7 @@ fn read_key(alloc: Global, scene: &mut Scene, key: &str, rest: &str) -> Result<(
         }
         "bytes" => scene.script.push(Piece::Bytes(bytes(alloc, rest)?))?,
         "show" => show(scene, rest)?,
-        "again" if rest.is_empty() => scene.further.push(Further::Again)?,
-        "again" => scene.further.push(Further::AgainBy(words(alloc, rest)?))?,
+        "again" => scene.further.push(Further::Again(again(alloc, rest)?))?,
         "try" => scene.further.push(Further::Try(words(alloc, rest)?))?,
         "then" => scene
             .further
@@ -182,10 +190,26 @@ fn read_key(alloc: Global, scene: &mut Scene, key: &str, rest: &str) -> Result<(
     Ok(())
 }
 
-fn add_lines(alloc: Global, scene: &mut Scene, count: u32, line: &str) -> Result<(), BadLine> {
-    let text = String::from_str(alloc, line)?;
-    scene.script.push(Piece::Lines(count, text))?;
+/// Adds a line to the scene's script, or to that of its last further run.
+fn add_line(alloc: Global, scene: &mut Scene, is_further: bool, line: &str) -> Result<(), BadLine> {
+    let piece = Piece::Lines(1, String::from_str(alloc, line)?);
+    match scene.further.last_mut() {
+        Some(Further::Again(again)) if is_further => again.script.push(piece)?,
+        _ => scene.script.push(piece)?,
+    }
     Ok(())
+}
+
+/// A run on the world that the run before left: by the same words, or by these.
+fn again(alloc: Global, rest: &str) -> Result<Again, BadLine> {
+    let words = match rest {
+        "" => None,
+        _ => Some(words(alloc, rest)?),
+    };
+    Ok(Again {
+        words,
+        script: Vec::new(alloc),
+    })
 }
 
 /// Words that one space parts, or none.

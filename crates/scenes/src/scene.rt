@@ -17,13 +17,19 @@ pub enum Piece {
     Bytes(Vec<u8>),
 }
 
+/// A run on the world that the run before left.
+#[derive(Drop)]
+pub struct Again {
+    /// Its words, where they are others than the scene's.
+    pub words: Option<Words>,
+    /// Its script; none where it goes on with what the run before left of its own.
+    pub script: Vec<Piece>,
+}
+
 /// A further run.
 #[derive(Drop)]
 pub enum Further {
-    /// On the world that the run before left, by the same words.
-    Again,
-    /// On the world that the run before left, by other words.
-    AgainBy(Words),
+    Again(Again),
     /// By words on a world of its own. One line is printed of it.
     Try(Words),
     /// By the scene's words on a world of its own whose script ends with this line. One line is printed of it.
@@ -38,6 +44,8 @@ pub enum Variant<'a> {
     Fails(Device, u64),
     /// The script has one more line.
     Line(&'a str),
+    /// The script lacks the piece of this number, from 0.
+    Without(usize),
 }
 
 /// Runs in each of which one more call fails.
@@ -111,17 +119,20 @@ impl Scene {
     /// The bytes of the script.
     pub fn source(&self, alloc: Global, variant: Variant<'_>) -> Result<Bytes, AllocError> {
         let mut bytes = Vec::new(alloc);
-        for piece in self.script.as_slice() {
-            match piece {
-                Piece::Lines(count, text) => extend(&mut bytes, *count, text.as_str(), b"\n")?,
-                Piece::Text(count, text) => extend(&mut bytes, *count, text.as_str(), b"")?,
-                Piece::Bytes(more) => bytes.extend_from_slice(more.as_slice())?,
+        for (number, piece) in self.script.iter().enumerate() {
+            if !matches!(variant, Variant::Without(left_out) if left_out == number) {
+                extend_by(&mut bytes, piece)?;
             }
         }
         if let Variant::Line(line) = variant {
             extend(&mut bytes, 1, line, b"\n")?;
         }
         Ok(Sequence::from_vec(bytes))
+    }
+
+    /// Whether each piece of the script is one operation that is run to its end: one line, which has one answer.
+    pub fn is_plain(&self) -> bool {
+        self.script.iter().all(is_plain)
     }
 
     /// The calls of a device that fail.
@@ -145,6 +156,24 @@ impl Scene {
     }
 }
 
+/// The bytes of pieces.
+pub fn bytes_of(alloc: Global, pieces: &[Piece]) -> Result<Bytes, AllocError> {
+    let mut bytes = Vec::new(alloc);
+    for piece in pieces {
+        extend_by(&mut bytes, piece)?;
+    }
+    Ok(Sequence::from_vec(bytes))
+}
+
+/// Adds the bytes of a piece.
+fn extend_by(bytes: &mut Vec<u8>, piece: &Piece) -> Result<(), AllocError> {
+    match piece {
+        Piece::Lines(count, text) => extend(bytes, *count, text.as_str(), b"\n"),
+        Piece::Text(count, text) => extend(bytes, *count, text.as_str(), b""),
+        Piece::Bytes(more) => bytes.extend_from_slice(more.as_slice()),
+    }
+}
+
 /// Adds a text and what follows it, `count` times.
 fn extend(bytes: &mut Vec<u8>, count: u32, text: &str, end: &[u8]) -> Result<(), AllocError> {
     for _ in 0..count {
@@ -152,4 +181,16 @@ fn extend(bytes: &mut Vec<u8>, count: u32, text: &str, end: &[u8]) -> Result<(),
         bytes.extend_from_slice(end)?;
     }
     Ok(())
+}
+
+fn is_plain(piece: &Piece) -> bool {
+    let Piece::Lines(1, line) = piece else {
+        return false;
+    };
+    match line.as_str().split_once(" ") {
+        Some((_, operation)) => {
+            !operation.starts_with("begin ") && operation != "step" && operation != "run"
+        }
+        None => false,
+    }
 }

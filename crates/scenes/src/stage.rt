@@ -89,6 +89,26 @@ fn made(alloc: Global, scene: &Scene, script: Bytes, rows: Rows, failing: Failin
     }
 }
 
+/// A world with another script on its source.
+pub fn with_script(world: MemWorld, script: Bytes, never: Fails) -> MemWorld {
+    let World {
+        out,
+        err,
+        keeper,
+        clock,
+        journal,
+        ..
+    } = world;
+    World {
+        source: MemSource::new(script, never),
+        out,
+        err,
+        keeper,
+        clock,
+        journal,
+    }
+}
+
 /// The rows of a world's keeper as text, and the world.
 pub fn with_rows(alloc: Global, world: MemWorld) -> Result<(String, MemWorld), AllocError> {
     let World {

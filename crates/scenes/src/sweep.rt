@@ -131,19 +131,21 @@ fn push_run(
     sum: Sum,
 ) -> Result<Sum, AllocError> {
     let now = show(alloc, scene, Variant::Fails(failing.0, failing.1))?;
-    judge(report, base, &now, failing, sum)
+    judge(alloc, report, scene, base, &now, failing, sum)
 }
 
 /// Adds what of the rule a run breaks. Returns the sum with it.
 fn judge(
+    alloc: Global,
     report: &mut String,
+    scene: &Scene,
     base: &Run,
     now: &Run,
     failing: (Device, u64),
     sum: Sum,
 ) -> Result<Sum, AllocError> {
     let (device, number) = failing;
-    let broken = broken_rule(base, now, device);
+    let broken = broken_by(alloc, scene, base, now, device)?;
     push_broken(report, number, device, broken)?;
     Ok(sum.with(&base.played, &now.played, device, broken.is_some()))
 }
@@ -184,10 +186,89 @@ fn rise(base: &Played, now: &Played, device: Device) -> u64 {
     now.faults(device).saturating_sub(base.faults(device))
 }
 
+/// What a line says whose operation met a keeper that failed.
+const KEEPER_FAILED: &str = "err EIO keeper";
+
+/// The number of the first answer, from 0, that the keeper failed, where it isn't one of the run in which no further call
+/// fails.
+fn first_failure(base: &Run, now: &Run, device: Device) -> Option<usize> {
+    if device != Device::Keeper || failures(base) >= failures(now) {
+        return None;
+    }
+    text_of(&now.played.out)
+        .lines()
+        .position(|line| line == KEEPER_FAILED)
+}
+
+fn failures(run: &Run) -> usize {
+    text_of(&run.played.out)
+        .lines()
+        .filter(|line| *line == KEEPER_FAILED)
+        .count()
+}
+
+/// What of the rule a run breaks whose operation at a line met a keeper that failed: it has one such answer more for the one
+/// call more that failed; and where each line is an operation that is run to its end, the other answers and the rows are those of
+/// the run without that line.
+fn broken_failure(
+    alloc: Global,
+    scene: &Scene,
+    base: &Run,
+    now: &Run,
+    line: usize,
+) -> Result<Option<&'static str>, AllocError> {
+    if rise(&base.played, &now.played, Device::Keeper) != 1 {
+        return Ok(Some("more than one call failed"));
+    }
+    if failures(now) != failures(base).saturating_add(1) {
+        return Ok(Some("more operations were answered so than calls failed"));
+    }
+    if now.played.status != base.played.status {
+        return Ok(Some("the status is another one"));
+    }
+    if !scene.is_plain() {
+        return Ok(None);
+    }
+    let without = show(alloc, scene, Variant::Without(line))?;
+    if without.after.as_str() != now.after.as_str() {
+        return Ok(Some("the rows aren't those of the run without the line"));
+    }
+    if has_answers_besides(&now.played, &without.played, line) {
+        Ok(None)
+    } else {
+        Ok(Some("the answers aren't those of the run without the line"))
+    }
+}
+
+/// Whether a run's answers, but for the one of this number, are those of another run.
+fn has_answers_besides(now: &Played, without: &Played, line: usize) -> bool {
+    let mut wanted = text_of(&without.out).lines();
+    for (number, answer) in text_of(&now.out).lines().enumerate() {
+        if number != line && wanted.next() != Some(answer) {
+            return false;
+        }
+    }
+    wanted.next().is_none()
+}
+
 /// What of the rule a run breaks in which one more call of a device was to fail.
+fn broken_by(
+    alloc: Global,
+    scene: &Scene,
+    base: &Run,
+    now: &Run,
+    device: Device,
+) -> Result<Option<&'static str>, AllocError> {
+    match first_failure(base, now, device) {
+        Some(line) => broken_failure(alloc, scene, base, now, line),
+        None => Ok(broken_rule(base, now, device)),
+    }
+}
+
+/// What of the rule a run breaks in which one more call of a device was to fail, where that was no operation's call.
 fn broken_rule(base: &Run, now: &Run, device: Device) -> Option<&'static str> {
     let rise = rise(&base.played, &now.played, device);
-    if now.after.as_str() != base.before.as_str() && now.after.as_str() != base.after.as_str() {
+    if !has_rows_of(base, now) && !was_cut_off(&now.played) {
         Some("the rows are neither those before nor those of the whole run")
     } else if rise == 0 && now.text.as_str() != base.text.as_str() {
         Some("no call failed, and yet it is another run")
@@ -200,6 +281,17 @@ fn broken_rule(base: &Run, now: &Run, device: Device) -> Option<&'static str> {
     } else {
         broken_end(&base.played, &now.played, device, rise > 0)
     }
+}
+
+/// Whether a run leaves the rows that were there before, or those of the whole run.
+fn has_rows_of(base: &Run, now: &Run) -> bool {
+    let after = now.after.as_str();
+    after == base.before.as_str() || after == base.after.as_str()
+}
+
+/// Whether a run ended at a failed device after the first step of a script. Its rows are those that its steps left.
+fn was_cut_off(now: &Played) -> bool {
+    now.status == FAILED && now.world.journal.len() > 0
 }
 
 fn has_other_faults(base: &Played, now: &Played, device: Device) -> bool {
