@@ -1,8 +1,9 @@
 -- Short parts at the front of a text: one pair of digits or two, and a pair with a count of one digit.
-use Rattle.std.proofs.Common.{◌≡◌, ℕ, zero, suc, ◌-◌, ◌<◌, ◌≤◌, ◌&&◌, ◌==◌, Bool, true, false, List, [], ◌∷◌, ◌++◌, Some, length, get_or, take, drop, replicate, option_map, refl, sym, ap, ◌∙◌, arith}
+use Rattle.std.proofs.Common.{◌≡◌, ℕ, zero, suc, ◌+◌, ◌-◌, ◌*◌, ◌%◌, ◌<◌, ◌≤◌, ◌&&◌, ◌==◌, Bool, true, false, List, [], ◌∷◌, ◌++◌, Some, length, get_or, take, drop, replicate, option_map, refl, sym, ap, ◌∙◌, arith}
 use Rattle.std.proofs.lemmas.Bool.{eq-eqb, eqb-true, le-leb, lt-ltb, false≢true, false_from_ne_true}
 use Rattle.std.proofs.lemmas.List.{take_rest}
 use Rattle.std.proofs.lemmas.List.Splits.{slice_split_at}
+use mir.Val.{bool_byte}
 use Rattle.jv_model.specs.script.Spelling.{is_hex_digit, number_of, value_of}
 use Rattle.jv_model.specs.script.Printed.{Repeated}
 use Rattle.jv_model.specs.script.Grammar.{provided, byte_of, parted, is_pairs, repeated_of, part_of, part_bytes}
@@ -47,7 +48,7 @@ first_part part rest tail c first next more few others plus spelled same = recor
 abbrev pub IsPairByte : List ℕ → ℕ → Type 0
 IsPairByte text byte = Some byte ≡ provided (is_hex_digit (get_or text 0 0) && is_hex_digit (get_or text 1 0)) (byte_of (get_or text 0 0) (get_or text 1 0))
 
-pub pair_first : (text : List ℕ) (byte : ℕ) → IsPairByte text byte → get_or text 2 0 ≡ 43 → IsShortPart text byte byte 0 (take (length text - 3) (drop 3 text))
+pair_first : (text : List ℕ) (byte : ℕ) → IsPairByte text byte → get_or text 2 0 ≡ 43 → IsShortPart text byte byte 0 (drop 3 text)
 unfolding NoPlus
 pair_first [] byte read plus = absurd (omega (arith, plus))
 pair_first (high ∷ []) byte read plus = absurd (omega (arith, plus))
@@ -56,8 +57,8 @@ pair_first (high ∷ low ∷ c ∷ rest) byte read plus =
     let (is_high, is_low, is_byte) = pair_given high low byte read in
     let pair : is_pairs (high ∷ low ∷ []) ≡ true = rw (is_high, is_low) refl in
     let spelled = ap (option_map part_bytes) (part_of_pairs (high ∷ low ∷ []) pair) ∙ ap (λ (byte : ℕ). Some (byte ∷ [])) is_byte in
-    first_part (high ∷ low ∷ []) rest (take (length (high ∷ low ∷ c ∷ rest) - 3) (drop 3 (high ∷ low ∷ c ∷ rest))) c byte byte 0
-    (omega arith) (digit_no_plus high is_high, (digit_no_plus low is_low, tt)) plus spelled (take_rest (high ∷ low ∷ c ∷ rest) 3)
+    first_part (high ∷ low ∷ []) rest rest c byte byte 0
+    (omega arith) (digit_no_plus high is_high, (digit_no_plus low is_low, tt)) plus spelled refl
 
 digit_number : (c : ℕ) → 49 ≤ c → c ≤ 57 → number_of (c ∷ []) ≡ Some (c - 48)
 digit_number c low high =
@@ -72,8 +73,8 @@ counted high low x c byte is_high is_low is_byte is_x one nine =
     let no_pairs : is_pairs (high ∷ low ∷ x ∷ c ∷ []) ≡ false = rw (is_high, is_low, is_x) refl in
     part_of_other (high ∷ low ∷ x ∷ c ∷ []) no_pairs ∙ rw (digit_number c one nine, is_high, is_low, eq-eqb x 120 is_x, lt-ltb 0 (c - 48) (omega arith), is_byte) refl
 
-pub counted_first : (text : List ℕ) (byte : ℕ) → IsPairByte text byte → get_or text 2 0 ≡ 120 → 49 ≤ get_or text 3 0 → get_or text 3 0 ≤ 57 → get_or text 4 0 ≡ 43
-    → IsShortPart text byte byte (get_or text 3 0 - 49) (take (length text - 5) (drop 5 text))
+counted_first : (text : List ℕ) (byte : ℕ) → IsPairByte text byte → get_or text 2 0 ≡ 120 → 49 ≤ get_or text 3 0 → get_or text 3 0 ≤ 57 → get_or text 4 0 ≡ 43
+    → IsShortPart text byte byte (get_or text 3 0 - 49) (drop 5 text)
 unfolding NoPlus
 counted_first [] byte read is_x one nine plus = absurd (omega (arith, plus))
 counted_first (a ∷ []) byte read is_x one nine plus = absurd (omega (arith, plus))
@@ -86,8 +87,19 @@ counted_first (a ∷ b ∷ x ∷ d ∷ e ∷ rest) byte read is_x one nine plus 
     let digit_is_no_plus : (d == 43) ≡ false = false_from_ne_true (d == 43) (λ plus. absurd (omega (arith, eqb-true d 43 plus))) in
     let one_more : d - 48 ≡ suc (d - 49) = omega (arith, one) in
     let spelled = ap (option_map part_bytes) (counted a b x d byte is_a is_b is_byte is_x one nine) ∙ ap (λ (count : ℕ). Some (replicate count byte)) one_more in
-    first_part (a ∷ b ∷ x ∷ d ∷ []) rest (take (length (a ∷ b ∷ x ∷ d ∷ e ∷ rest) - 5) (drop 5 (a ∷ b ∷ x ∷ d ∷ e ∷ rest))) e byte byte (d - 49)
-    (omega (arith, nine)) (digit_no_plus a is_a, (digit_no_plus b is_b, (x_no_plus, (digit_is_no_plus, tt)))) plus spelled (take_rest (a ∷ b ∷ x ∷ d ∷ e ∷ rest) 5)
+    first_part (a ∷ b ∷ x ∷ d ∷ []) rest rest e byte byte (d - 49)
+    (omega (arith, nine)) (digit_no_plus a is_a, (digit_no_plus b is_b, (x_no_plus, (digit_is_no_plus, tt)))) plus spelled refl
+
+-- a pair with a count of one digit, or a pair alone
+pub one_pair_first : (has_count : Bool) (text : List ℕ) (byte : ℕ) → IsPairByte text byte → (get_or text 2 0 == 120) ≡ has_count → get_or text 3 0 < 256
+    → bool_byte has_count * ((get_or text 3 0 + 207) % 256) < 9 → get_or text (2 + 2 * bool_byte has_count) 0 ≡ 43
+    → IsShortPart text byte byte (bool_byte has_count * ((get_or text 3 0 + 207) % 256)) (drop (2 + 2 * bool_byte has_count + 1) text)
+one_pair_first true text byte read is_x small few plus =
+    let more : 1 * ((get_or text 3 0 + 207) % 256) ≡ get_or text 3 0 - 49 = omega (arith, small, few) in
+    rw more (counted_first text byte read (eqb-true (get_or text 2 0) 120 is_x) (omega (arith, small, few)) (omega (arith, small, few)) plus)
+one_pair_first false text byte read is_x small few plus =
+    let no_more : 0 * ((get_or text 3 0 + 207) % 256) ≡ 0 = omega arith in
+    rw no_more (pair_first text byte read plus)
 
 -- two pairs
 pub pairs_first : (text : List ℕ) (first next : ℕ) → IsPairByte text first → Some next ≡ provided (is_hex_digit (get_or text 2 0) && is_hex_digit (get_or text 3 0)) (byte_of (get_or text 2 0) (get_or text 3 0))

@@ -29,21 +29,38 @@ pub(crate) fn push_short_parts<'a>(
 fn short_part(text: &[u8]) -> Option<(u8, u8, usize, &[u8])>
     ensures { IfSome result (λ r. IsShortPart text.now r.0 r.1 r.2 r.3.now) }
 {
-    match text {
-        [high, low, b'+', after @ ..] => {
-            let byte = byte_of_pair(*high, *low)?;
-            Some((byte, byte, 0, after))
-        }
-        [high, low, b'x', count @ b'1'..=b'9', b'+', after @ ..] => {
-            let byte = byte_of_pair(*high, *low)?;
-            Some((byte, byte, (*count - b'1') as usize, after))
-        }
-        [high, low, next_high, next_low, b'+', after @ ..] => {
-            let first = byte_of_pair(*high, *low)?;
-            Some((first, byte_of_pair(*next_high, *next_low)?, 1, after))
-        }
-        _ => None,
+    match one_pair(text) {
+        Some(part) => Some(part),
+        None => two_pairs(text),
     }
+}
+
+// A pair of digits, with a count or without one. Where the `+` stands and how often the byte comes are computed: where parts
+// with a count and parts without one are mixed, a branch would often go another way than the processor guesses.
+fn one_pair(text: &[u8]) -> Option<(u8, u8, usize, &[u8])>
+    ensures { IfSome result (λ r. IsShortPart text.now r.0 r.1 r.2 r.3.now) }
+{
+    let [high, low, x, count, _, ..] = text else {
+        return None;
+    };
+    let has_count = (*x == b'x') as usize;
+    let more = has_count * count.wrapping_sub(b'1') as usize;
+    let end = 2 + 2 * has_count;
+    if text[end] != b'+' || more >= MAX_BYTES {
+        return None;
+    }
+    let byte = byte_of_pair(*high, *low)?;
+    Some((byte, byte, more, text.split_at(end + 1).1))
+}
+
+fn two_pairs(text: &[u8]) -> Option<(u8, u8, usize, &[u8])>
+    ensures { IfSome result (λ r. IsShortPart text.now r.0 r.1 r.2 r.3.now) }
+{
+    let [high, low, next_high, next_low, b'+', after @ ..] = text else {
+        return None;
+    };
+    let first = byte_of_pair(*high, *low)?;
+    Some((first, byte_of_pair(*next_high, *next_low)?, 1, after))
 }
 
 // Appends as many bytes as a short part can have, and takes back those beyond its own: quicker than a loop whose end
