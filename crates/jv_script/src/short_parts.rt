@@ -35,8 +35,8 @@ fn short_part(text: &[u8]) -> Option<(u8, u8, usize, &[u8])>
     }
 }
 
-// A pair of digits, with a count or without one. Where the `+` stands and how often the byte comes are computed: where parts
-// with a count and parts without one are mixed, a branch would often go another way than the processor guesses.
+// A pair of digits, with a count of one digit or without one. Where its `+` stands and how often its byte comes are
+// computed: a branch on the `x` would often go another way than the processor guesses.
 fn one_pair(text: &[u8]) -> Option<(u8, u8, usize, &[u8])>
     ensures { IfSome result (λ r. IsShortPart text.now r.0 r.1 r.2 r.3.now) }
 {
