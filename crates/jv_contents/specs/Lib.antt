@@ -1,0 +1,6 @@
+-- The bytes of files: where they lie, what blocks have there, and what transactions on lists leave alone.
+pub mod Places
+pub mod Bytes
+pub mod Counts
+pub mod Blocks
+pub mod Flights
