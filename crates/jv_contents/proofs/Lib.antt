@@ -1,1 +1,2 @@
 -- What is proved of the bytes of files.
+pub mod PlaceLaws
