@@ -1,2 +1,3 @@
 -- What is proved of the bytes of files.
 pub mod PlaceLaws
+pub mod ByteLaws
