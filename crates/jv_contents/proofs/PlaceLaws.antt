@@ -77,6 +77,17 @@ pub place_in-same : (a b : Lists) → ((w : ℕ) → a w ≡ b w) → (p : ℕ) 
 unfolding place_in
 place_in-same a b same p = ap (λ l. stored_place l (p % WINDOW)) (same (p / WINDOW))
 
+-- the place that a position of a window shows
+pub place_in-window : (lists : Lists) (w q : ℕ) → q < WINDOW → place_in lists (w * WINDOW + q) ≡ stored_place (lists w) q
+unfolding place_in
+place_in-window lists w q small = λ i. stored_place (lists (window i)) (within i)
+  where
+    window : (w * WINDOW + q) / WINDOW ≡ w
+    window = omega (arith, small)
+
+    within : (w * WINDOW + q) % WINDOW ≡ q
+    within = omega (arith, small)
+
 -- a list in place of itself
 pub with_list-self : (lists : Lists) (w : ℕ) (l : List Rec) → l ≡ lists w → (u : ℕ) → with_list w l lists u ≡ lists u
 with_list-self lists w l same u = elim (cases_eq u w) [
