@@ -2,3 +2,4 @@
 pub mod PlaceLaws
 pub mod ByteLaws
 pub mod FillLaws
+pub mod FlightLaws
