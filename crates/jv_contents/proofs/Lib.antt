@@ -3,3 +3,4 @@ pub mod PlaceLaws
 pub mod ByteLaws
 pub mod FillLaws
 pub mod FlightLaws
+pub mod BlockLaws
