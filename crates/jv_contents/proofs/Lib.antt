@@ -4,3 +4,4 @@ pub mod ByteLaws
 pub mod FillLaws
 pub mod FlightLaws
 pub mod BlockLaws
+pub mod KeepLaws

@@ -1,0 +1,131 @@
+-- What changes that leave lists and slices alone keep: counts of records, unknown slices, blocks. So do changes on metadata, and the
+-- giving of a number.
+use Rattle.std.proofs.Common.{◌≡◌, ◌≢◌, ℕ, ◌+◌, ◌<◌, ◌≤◌, Bool, true, false, cond, List, [], length, Option, None, Some, refl, sym, ap, subst, ◌∙◌, arith}
+use Rattle.std.specs.Prelude.{◌==◌, ◌||◌, IsTrue, if◌then◌else◌}
+use Rattle.jv_model.specs.declared.row.RowKey.{RowKey}
+use Rattle.jv_model.specs.declared.row.SliceRow.{SliceRow}
+use Rattle.jv_model.specs.declared.row.Dead.{Dead}
+use Rattle.jv_model.specs.declared.row.Counters.{Counters}
+use Rattle.jv_model.specs.declared.row.Row.TheVariants.{OfCounters}
+use Rattle.jv_model.specs.declared.slice.Rec.{Rec}
+use Rattle.jv_model.specs.FiniteMap.{get, insert, retain_keys, sum_over}
+use Rattle.jv_model.specs.rows.RowKeys.{row_key}
+use Rattle.jv_model.specs.rows.RowPlaces.{slice_key, dead_key}
+use Rattle.jv_model.proofs.FiniteMapLaws.{get-retain_keys, same_maps}
+use Rattle.jv_volume.specs.TypedRows.{Cell, Rows}
+use Rattle.jv_volume.specs.Views.{row_in, records_in, slice_in, slice_row_at, dead_in, dead_at}
+use Rattle.jv_volume.specs.Slices.{IsUnknown, listed, named_by, next_slice, records_naming}
+use Rattle.jv_volume.specs.Whole.{is_of_slices, Quiet}
+use Rattle.jv_volume.proofs.QuietLaws.{sum-retain_keys}
+use Rattle.jv_contents.specs.Stays.{SlicesStay}
+use Rattle.jv_contents.specs.Counts.{HadSize, HasDied, KeepsOthers, record_count}
+
+abbrev is_list_key : RowKey → Bool
+is_list_key key = key.tab == 4
+
+module _ (rows after : Rows) (stay : SlicesStay rows after) where
+  kept_lists : retain_keys is_list_key after ≡ retain_keys is_list_key rows
+  kept_lists = same_maps (retain_keys is_list_key after) (retain_keys is_list_key rows) (λ key.
+      get-retain_keys after is_list_key key ∙ by_table key (is_list_key key) refl ∙ sym (get-retain_keys rows is_list_key key))
+    where
+      by_table : (key : RowKey) (b : Bool) → is_list_key key ≡ b → cond b (get after key) None ≡ cond b (get rows key) None
+      by_table key true e = stay key (ap (λ b. b || (key.tab == 5) || (key.tab == 9)) e)
+      by_table key false e = refl
+
+  -- a sum over lists stays
+  pub sum-stay : (f : List Rec → ℕ) → f [] ≡ 0 → sum_over (λ key cell. f (listed key (Some cell))) after ≡ sum_over (λ key cell. f (listed key (Some cell))) rows
+  sum-stay f none =
+      sym (sum-retain_keys row_key (λ key cell. f (listed key (Some cell))) is_list_key nothing after)
+      ∙ ap (sum_over (λ key cell. f (listed key (Some cell)))) kept_lists
+      ∙ sum-retain_keys row_key (λ key cell. f (listed key (Some cell))) is_list_key nothing rows
+    where
+      nothing : (key : RowKey) (cell : Cell) → is_list_key key ≡ false → f (listed key (Some cell)) ≡ 0
+      nothing key cell other = ap (λ b. f (if b then records_in (row_in (Some cell)) else [])) other ∙ none
+
+  pub named_by-stay : (id : ℕ) → named_by after id ≡ named_by rows id
+  unfolding named_by
+  named_by-stay id = sum-stay (records_naming id) refl
+
+  pub record_count-stay : record_count after ≡ record_count rows
+  unfolding record_count
+  record_count-stay = sum-stay length refl
+
+  pub slice_row-stay : (id : ℕ) → slice_row_at after id ≡ slice_row_at rows id
+  slice_row-stay id = ap (λ c. slice_in (row_in c)) (stay (slice_key id) refl)
+
+  pub dead-stay : (id : ℕ) → dead_at after id ≡ dead_at rows id
+  dead-stay id = ap (λ c. dead_in (row_in c)) (stay (dead_key id) refl)
+
+  pub unknown-stay : (id : ℕ) → IsUnknown rows id → IsUnknown after id
+  unknown-stay id u = record {
+    unnamed = named_by-stay id ∙ u.unnamed;
+    no_row = slice_row-stay id ∙ u.no_row;
+    not_dead = dead-stay id ∙ u.not_dead;
+  }
+
+  pub keeps-stay : (own more : ℕ) → next_slice after ≡ next_slice rows → KeepsOthers own more rows after
+  keeps-stay own more next = record {
+    next = next;
+    unknown = λ id apart u. unknown-stay id u;
+    had = λ id slice apart there. record { slice = slice; is = sym (slice_row-stay id) ∙ there; size_is = refl };
+    dies = λ id slice there gone. (let same = slice_row-stay id in absurd (cc));
+    dead = λ id dead there. dead-stay id ∙ there;
+    records = (let same = record_count-stay in omega (arith, same));
+  }
+
+-- a change on metadata
+pub keeps-quiet : (rows after : Rows) → Quiet rows after → KeepsOthers 0 0 rows after
+keeps-quiet rows after q = keeps-stay rows after (λ key is. q.apart key is) 0 0 q.next
+
+-- a transaction on lists, and a change that leaves them
+pub keeps-then_stay : (own more : ℕ) (rows middle after : Rows) → KeepsOthers own more rows middle → SlicesStay middle after
+    → next_slice after ≡ next_slice middle → KeepsOthers own more rows after
+keeps-then_stay own more rows middle after k stay next = record {
+  next = next ∙ k.next;
+  unknown = λ id apart u. unknown-stay middle after stay id (k.unknown id apart u);
+  had = λ id slice apart there. k.had id slice apart (sym (slice_row-stay middle after stay id) ∙ there);
+  dies = λ id slice there gone.
+      (let died = k.dies id slice there (sym (slice_row-stay middle after stay id) ∙ gone) in
+      record { dead = died.dead; is = dead-stay middle after stay id ∙ died.is; size_is = died.size_is });
+  dead = λ id dead there. dead-stay middle after stay id ∙ k.dead id dead there;
+  records = (let same = record_count-stay middle after stay in let few = k.records in omega (arith, same, few));
+}
+
+pub keeps-stay_then : (own more : ℕ) (rows middle after : Rows) → SlicesStay rows middle → next_slice middle ≡ next_slice rows
+    → KeepsOthers own more middle after → KeepsOthers own more rows after
+keeps-stay_then own more rows middle after stay next k = record {
+  next = k.next ∙ next;
+  unknown = λ id apart u. k.unknown id apart (unknown-stay rows middle stay id u);
+  had = λ id slice apart there.
+      (let had = k.had id slice apart there in
+      record { slice = had.slice; is = sym (slice_row-stay rows middle stay id) ∙ had.is; size_is = had.size_is });
+  dies = λ id slice there gone. k.dies id slice (slice_row-stay rows middle stay id ∙ there) gone;
+  dead = λ id dead there. k.dead id dead (dead-stay rows middle stay id ∙ there);
+  records = (let same = record_count-stay rows middle stay in let few = k.records in omega (arith, same, few));
+}
+
+-- A transaction on lists, and another one of the same slice or of none, where that slice had no row at first.
+pub keeps-then : (own first second : ℕ) (rows middle after : Rows) → slice_row_at rows own ≡ None → KeepsOthers own first rows middle
+    → KeepsOthers own second middle after → KeepsOthers own (first + second) rows after
+keeps-then own first second rows middle after fresh k l = record {
+  next = l.next ∙ k.next;
+  unknown = λ id apart u. l.unknown id apart (k.unknown id apart u);
+  had = λ id slice apart there.
+      (let late = l.had id slice apart there in
+      let early = k.had id late.slice apart late.is in
+      record { slice = early.slice; is = early.is; size_is = early.size_is ∙ late.size_is });
+  dies = λ id slice there gone. dies id slice there gone (slice_row_at middle id) refl;
+  dead = λ id dead there. l.dead id dead (k.dead id dead there);
+  records = (let few = k.records in let more = l.records in omega (arith, few, more));
+}
+  where
+    dies : (id : ℕ) (slice : SliceRow) → slice_row_at rows id ≡ Some slice → slice_row_at after id ≡ None
+        → (o : Option SliceRow) → slice_row_at middle id ≡ o → HasDied after id slice.size
+    dies id slice there gone None e =
+        let died = k.dies id slice there e in
+        record { dead = died.dead; is = l.dead id died.dead died.is; size_is = died.size_is }
+    dies id slice there gone (Some kept) e =
+        let died = l.dies id kept e gone in
+        let had = k.had id kept (λ same. (let none = ap (slice_row_at rows) same ∙ fresh in absurd (cc))) e in
+        let one : had.slice ≡ slice = (let is = had.is in cc) in
+        record { dead = died.dead; is = died.is; size_is = died.size_is ∙ sym had.size_is ∙ ap (λ s. s.size) one }
