@@ -5,3 +5,4 @@ pub mod FillLaws
 pub mod FlightLaws
 pub mod BlockLaws
 pub mod KeepLaws
+pub mod CutLaws

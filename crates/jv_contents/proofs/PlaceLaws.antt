@@ -12,6 +12,12 @@ use Rattle.jv_model.specs.blocks.Slices.{IsRecord, is_part, covers, visible, pla
 use Rattle.jv_volume.specs.Slices.{place_in}
 use Rattle.jv_contents.specs.Places.{Lists, with_list, shown, put_over, cut_at, zero_record, cut_list}
 
+-- a record has a position
+pub record_some : (r : Rec) → IsRecord r → 1 ≤ r.len
+record_some r is =
+    let front = (and_parts (nat_le 1 r.len && nat_le (r.pos + r.len) WINDOW) (is_part r) is).0 in
+    leb-true 1 r.len ((and_parts (nat_le 1 r.len) (nat_le (r.pos + r.len) WINDOW) front).0)
+
 -- a record ends in its window
 pub record_ends : (r : Rec) → IsRecord r → r.pos + r.len ≤ WINDOW
 record_ends r is =
