@@ -6,3 +6,4 @@ pub mod FlightLaws
 pub mod BlockLaws
 pub mod KeepLaws
 pub mod CutLaws
+pub mod WholeLaws
