@@ -20,8 +20,9 @@ use Rattle.jv_slices.proofs.BlockLaws.{index_below}
 use Rattle.jv_slices.proofs.PlanLaws.{found_All, All-reverse, visible_covers, visible_is_record}
 use Rattle.jv_volume.specs.TypedRows.{Cell, Rows}
 use Rattle.jv_volume.specs.Views.{row_in, records_in, lists_of, slice_row_at}
+use Rattle.jv_volume.specs.TreeOf.{tree_of}
 use Rattle.jv_volume.specs.Slices.{listed, records_naming, named_by, count_in, slice_count, next_slice, place_in, WholeSlices}
-use Rattle.jv_contents.specs.Bytes.{Told, spot_byte, bytes_of}
+use Rattle.jv_contents.specs.Bytes.{Told, spot_byte, bytes_of, tree_with}
 use Rattle.jv_contents.specs.Blocks.{Blocks, Grows, IsThere, HasBlocks, AreBelow, told_by}
 use Rattle.jv_contents.specs.Counts.{HadSize, KeepsOthers}
 use Rattle.jv_contents.specs.Flights.{Flight, InFlight, IsComplete}
@@ -140,6 +141,12 @@ module _ (rows : Rows) (w : WholeSlices rows) where
           told-grows block before after grows id size at (subst (λ n. IsThere before (block_at id n block (at / block))) row.0.size_is
           (has id row.0.slice row.0.is (at / block) (index_below row.0.slice.size block at (at / block) some
           (subst (λ n. at < n) (sym row.0.size_is) row.1) (omega arith))))
+
+  -- and so does the tree
+  pub tree-grows : (block : ℕ) (before after : Blocks) → 0 < block → HasBlocks block rows before → Grows before after
+      → tree_with (told_by block after) rows ≡ tree_with (told_by block before) rows
+  tree-grows block before after some has grows =
+      ap (λ (bytes : ℕ → ℕ → ℕ). tree_of bytes rows) (λ i inode p. bytes-grow block before after some has grows inode p i)
 
 -- ---- all blocks are there
 

@@ -4,11 +4,15 @@ use Rattle.std.specs.Prelude.{slice_index, unwrap_or}
 use Rattle.std.proofs.lemmas.List.{length-take, length-drop, get_or-take, get_or-drop}
 use Rattle.std.proofs.lemmas.Bool.{cases_lt}
 use Rattle.std.proofs.lemmas.Nat.{div-add-mod', mod_below}
+use Rattle.jv_model.specs.declared.slice.Rec.{Rec}
 use Rattle.jv_model.specs.declared.slice.BlockId.{BlockId}
 use Rattle.jv_model.specs.blocks.Slices.{block_at, block_count, block_length}
 use Rattle.jv_slices.proofs.BlockLaws.{index_below}
 use Rattle.jv_volume.specs.TypedRows.{Rows}
 use Rattle.jv_volume.specs.Slices.{IsUnknown, next_slice}
+use Rattle.jv_contents.specs.Places.{shown}
+use Rattle.jv_contents.specs.Bytes.{spot_byte}
+use Rattle.jv_contents.proofs.ByteLaws.{shown-slice}
 use Rattle.jv_contents.specs.Counts.{KeepsOthers}
 use Rattle.jv_contents.specs.Blocks.{Blocks, Grows, IsThere, AreBelow, told_by}
 use Rattle.jv_contents.specs.Flights.{Flight, InFlight, IsComplete, flight_block, flight_bytes}
@@ -40,6 +44,19 @@ module _ (block : ℕ) (rows : Rows) (blocks : Blocks) (f : Flight) (flies : InF
       where
         put : k / block < f.put
         put = subst (λ n. k / block < n) (sym complete) (index_below (length f.bytes) block k (k / block) some low (omega arith))
+
+    -- so a record of a part of it shows those
+    pub complete-shows : (r : Rec) → r.id ≡ f.id → r.size ≡ length f.bytes → r.off + r.len ≤ length f.bytes
+        → (n : ℕ) → n < r.len → spot_byte (told_by block blocks) (shown r n) ≡ slice_index f.bytes (r.off + n)
+    complete-shows r own long inside n low =
+        ap (spot_byte (told_by block blocks)) (shown-slice r n (λ none. (let some = flies.some in absurd (omega (arith, some, own, none)))))
+        ∙ (λ i. told_by block blocks (own i) (long i) (r.off + n)) ∙ complete-told (r.off + n) (omega (arith, low, inside))
+
+    -- and a record of the whole shows all of them
+    pub complete-shown : (r : Rec) → r.id ≡ f.id → r.size ≡ length f.bytes → r.off ≡ 0 → r.len ≡ length f.bytes
+        → (n : ℕ) → n < r.len → spot_byte (told_by block blocks) (shown r n) ≡ slice_index f.bytes n
+    complete-shown r own long first whole n low =
+        complete-shows r own long (omega (arith, first, whole)) n low ∙ ap (slice_index f.bytes) (omega (arith, first))
 
   -- ---- what keeps it in flight
 

@@ -1,27 +1,57 @@
 -- What changes that leave lists and slices alone keep: counts of records, unknown slices, blocks. So do changes on metadata, and the
 -- giving of a number.
-use Rattle.std.proofs.Common.{◌≡◌, ◌≢◌, ℕ, ◌+◌, ◌<◌, ◌≤◌, Bool, true, false, cond, List, [], length, Option, None, Some, refl, sym, ap, subst, ◌∙◌, arith}
-use Rattle.std.specs.Prelude.{◌==◌, ◌||◌, IsTrue, if◌then◌else◌}
+use Rattle.std.proofs.Common.{◌≡◌, ◌≢◌, ℕ, ◌+◌, ◌<◌, ◌≤◌, ◌^◌, ◌⊎◌, inl, inr, Bool, true, false, true≢false, cond, List, [], length, Option, None, Some, refl, sym, ap, subst, ◌∙◌, arith}
+use Rattle.std.specs.Prelude.{◌==◌, ◌||◌, nat_lt, IsTrue, if◌then◌else◌}
 use Rattle.jv_model.specs.declared.row.RowKey.{RowKey}
 use Rattle.jv_model.specs.declared.row.SliceRow.{SliceRow}
 use Rattle.jv_model.specs.declared.row.Dead.{Dead}
 use Rattle.jv_model.specs.declared.row.Counters.{Counters}
 use Rattle.jv_model.specs.declared.row.Row.TheVariants.{OfCounters}
 use Rattle.jv_model.specs.declared.slice.Rec.{Rec}
-use Rattle.jv_model.specs.FiniteMap.{get, insert, retain_keys, sum_over}
+use Rattle.jv_model.specs.declared.slice.BlockId.{BlockId}
+use Rattle.jv_model.specs.FiniteMap.{get, alter, retain_keys, sum_over}
 use Rattle.jv_model.specs.rows.RowKeys.{row_key}
-use Rattle.jv_model.specs.rows.RowPlaces.{slice_key, dead_key}
+use Rattle.jv_model.specs.rows.RowPlaces.{counters_key, list_key, slice_key, dead_key}
 use Rattle.jv_model.proofs.FiniteMapLaws.{get-retain_keys, same_maps}
 use Rattle.jv_volume.specs.TypedRows.{Cell, Rows}
-use Rattle.jv_volume.specs.Views.{row_in, records_in, slice_in, slice_row_at, dead_in, dead_at}
+use Rattle.jv_volume.specs.Views.{row_in, records_in, lists_of, slice_in, slice_row_at, dead_in, dead_at}
 use Rattle.jv_volume.specs.Slices.{IsUnknown, listed, named_by, next_slice, records_naming}
 use Rattle.jv_volume.specs.Whole.{is_of_slices, Quiet}
+use Rattle.jv_volume.proofs.MapLaws.{get-alter-apart}
 use Rattle.jv_volume.proofs.QuietLaws.{sum-retain_keys}
+use Rattle.jv_contents.specs.Bytes.{Told, spot_byte, bytes_of}
+use Rattle.jv_contents.specs.Blocks.{Blocks, Grows, HasBlocks, AreBelow}
+use Rattle.jv_contents.specs.Flights.{Flight, InFlight}
+use Rattle.jv_contents.proofs.PlaceLaws.{place_in-same}
+use Rattle.jv_contents.proofs.FlightLaws.{flies-still}
+use Rattle.jv_contents.proofs.BlockLaws.{has_blocks-still, below-rows}
 use Rattle.jv_contents.specs.Stays.{SlicesStay}
 use Rattle.jv_contents.specs.Counts.{HadSize, HasDied, KeepsOthers, record_count}
 
 abbrev is_list_key : RowKey → Bool
 is_list_key key = key.tab == 4
+
+-- ---- changes that leave lists and slices
+
+pub stay-none : (rows : Rows) → SlicesStay rows rows
+stay-none rows key is = refl
+
+pub stay-then : (rows middle after : Rows) → SlicesStay rows middle → SlicesStay middle after → SlicesStay rows after
+stay-then rows middle after first second key is = second key is ∙ first key is
+
+-- a row of another table
+pub stay-alter : (rows : Rows) (q : RowKey) (cell : Option Cell) → is_of_slices q.tab ≡ false → SlicesStay rows (alter rows q cell)
+stay-alter rows q cell other key is = get-alter-apart row_key rows q cell key
+    (λ same. absurd (true≢false (sym is ∙ ap (λ (k : RowKey). is_of_slices k.tab) same ∙ other)))
+
+-- the counters' row alone
+pub stay-counters : (rows after : Rows) → ((key : RowKey) → (get after key ≡ get rows key) ⊎ (key ≡ counters_key)) → SlicesStay rows after
+stay-counters rows after others key is = elim (others key) [
+  | inl same ↦ same
+  | inr at ↦ absurd (true≢false (sym is ∙ ap (λ (k : RowKey). is_of_slices k.tab) at))
+]
+
+-- ---- what they keep
 
 module _ (rows after : Rows) (stay : SlicesStay rows after) where
   kept_lists : retain_keys is_list_key after ≡ retain_keys is_list_key rows
@@ -63,6 +93,24 @@ module _ (rows after : Rows) (stay : SlicesStay rows after) where
     not_dead = dead-stay id ∙ u.not_dead;
   }
 
+  -- what lists show stays
+  pub lists_of-stay : (inode window : ℕ) → lists_of after inode window ≡ lists_of rows inode window
+  unfolding lists_of
+  lists_of-stay inode window = ap (λ c. if nat_lt window (2 ^ 32) then records_in (row_in c) else []) (stay (list_key inode window) refl)
+
+  pub bytes-stay : (told : Told) (inode p : ℕ) → bytes_of told after inode p ≡ bytes_of told rows inode p
+  bytes-stay told inode p = ap (spot_byte told) (place_in-same (lists_of after inode) (lists_of rows inode) (λ w. lists_of-stay inode w) p)
+
+  -- and so do all blocks, blocks that are below the next number, and flights, also where the next number is a greater one
+  pub has_blocks-stay : (block : ℕ) (blocks : Blocks) → HasBlocks block rows blocks → HasBlocks block after blocks
+  has_blocks-stay block blocks has = has_blocks-still block rows after blocks slice_row-stay has
+
+  pub flies-stay : (block : ℕ) (blocks blocks' : Blocks) (f : Flight) → InFlight block rows blocks f → next_slice rows ≤ next_slice after
+      → Grows blocks blocks' → ((b : BlockId) (bytes : List ℕ) → b.id ≡ f.id → blocks' b ≡ Some bytes → blocks b ≡ Some bytes)
+      → InFlight block after blocks' f
+  flies-stay block blocks blocks' f flies more grows alone =
+      flies-still block rows blocks f flies after blocks' (let low = flies.below in omega (arith, low, more)) (unknown-stay f.id flies.unknown) grows alone
+
   pub keeps-stay : (own more : ℕ) → next_slice after ≡ next_slice rows → KeepsOthers own more rows after
   keeps-stay own more next = record {
     next = next;
@@ -72,6 +120,10 @@ module _ (rows after : Rows) (stay : SlicesStay rows after) where
     dead = λ id dead there. dead-stay id ∙ there;
     records = (let same = record_count-stay in omega (arith, same));
   }
+
+-- the same of a transaction that keeps the next number
+pub below-keeps : (own more : ℕ) (rows after : Rows) (blocks : Blocks) → KeepsOthers own more rows after → AreBelow rows blocks → AreBelow after blocks
+below-keeps own more rows after blocks keeps below = below-rows rows after blocks (let same = keeps.next in omega (arith, same)) below
 
 -- a change on metadata
 pub keeps-quiet : (rows after : Rows) → Quiet rows after → KeepsOthers 0 0 rows after

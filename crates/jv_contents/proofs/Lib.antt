@@ -7,3 +7,4 @@ pub mod BlockLaws
 pub mod KeepLaws
 pub mod CutLaws
 pub mod WholeLaws
+pub mod PlaceExamples
