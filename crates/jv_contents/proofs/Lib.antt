@@ -7,4 +7,6 @@ pub mod BlockLaws
 pub mod KeepLaws
 pub mod CutLaws
 pub mod WholeLaws
+pub mod CopyLaws
+pub mod BehindLaws
 pub mod PlaceExamples
