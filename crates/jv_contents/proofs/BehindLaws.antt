@@ -1,8 +1,7 @@
 -- Laws of counts that are still to follow lists: none at first, and with each list that changes, its records that went and came.
-use Rattle.std.proofs.Common.{◌≡◌, ℕ, ◌+◌, ◌<◌, List, [], ◌∷◌, ◌++◌, cond, refl, sym, ap, ◌∙◌, arith}
+use Rattle.std.proofs.Common.{◌≡◌, ℕ, ◌+◌, ◌<◌, List, [], ◌++◌, cond, arith}
 use Rattle.std.specs.Prelude.{◌==◌}
 use Rattle.std.proofs.lemmas.List.Sums.{sum_by-append}
-use Rattle.std.proofs.lemmas.Bool.{ne_eqb}
 use Rattle.jv_model.specs.declared.slice.Rec.{Rec}
 use Rattle.jv_volume.specs.TypedRows.{Rows}
 use Rattle.jv_volume.specs.Slices.{named_by, records_naming, slice_count, WholeSlices}

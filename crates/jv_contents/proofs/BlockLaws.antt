@@ -1,7 +1,7 @@
 -- Laws of blocks: what they tell stays when others are put, each place that a file shows has its block, and all blocks of slices with rows
 -- stay there.
-use Rattle.std.proofs.Common.{◌≡◌, ◌≢◌, ℕ, ◌+◌, ◌-◌, ◌/◌, ◌%◌, ◌<◌, ◌≤◌, ◌^◌, ◌⊎◌, Bool, true, false, cond, inl, inr, List, [], length, take, reverse, Option, None, Some, refl, sym, ap, subst, ◌∙◌, arith}
-use Rattle.std.specs.Prelude.{◌==◌, nat_lt, slice_index, slice_index_or, unwrap_or, All, Contains, if◌then◌else◌}
+use Rattle.std.proofs.Common.{◌≡◌, ◌≢◌, ℕ, ◌+◌, ◌-◌, ◌/◌, ◌%◌, ◌<◌, ◌≤◌, ◌^◌, ◌⊎◌, Bool, true, false, cond, inl, inr, List, [], length, reverse, Option, None, Some, refl, sym, ap, subst, ◌∙◌, arith}
+use Rattle.std.specs.Prelude.{◌==◌, nat_lt, slice_index, unwrap_or, Contains, if◌then◌else◌}
 use Rattle.std.proofs.lemmas.Bool.{cases_eq, eq-eqb, eqb-false}
 use Rattle.std.proofs.lemmas.List.Elements.{All-from_recursion, All-contains, All-contains_itself}
 use Rattle.std.proofs.lemmas.List.Sums.{count_by_more_yes, sum_by-take-le}
@@ -22,7 +22,7 @@ use Rattle.jv_volume.specs.TypedRows.{Cell, Rows}
 use Rattle.jv_volume.specs.Views.{row_in, records_in, lists_of, slice_row_at}
 use Rattle.jv_volume.specs.TreeOf.{tree_of}
 use Rattle.jv_volume.specs.Slices.{listed, records_naming, named_by, count_in, slice_count, next_slice, place_in, WholeSlices}
-use Rattle.jv_contents.specs.Bytes.{Told, spot_byte, bytes_of, tree_with}
+use Rattle.jv_contents.specs.Bytes.{spot_byte, bytes_of, tree_with}
 use Rattle.jv_contents.specs.Blocks.{Blocks, Grows, IsThere, HasBlocks, AreBelow, told_by}
 use Rattle.jv_contents.specs.Counts.{HadSize, KeepsOthers}
 use Rattle.jv_contents.specs.Flights.{Flight, InFlight, IsComplete}

@@ -1,5 +1,5 @@
 -- Laws of a copy: the records of a window's plan show the places of the source, and with each target window the target shows more of them.
-use Rattle.std.proofs.Common.{◌≡◌, ℕ, ◌+◌, ◌-◌, ◌*◌, ◌<◌, ◌≤◌, List, ◌++◌, refl, sym, ap, subst, ◌∙◌, arith}
+use Rattle.std.proofs.Common.{◌≡◌, ℕ, ◌+◌, ◌-◌, ◌*◌, ◌<◌, ◌≤◌, List, ◌++◌, refl, sym, ap, ◌∙◌, arith}
 use Rattle.std.specs.Prelude.{All}
 use Rattle.jv_model.specs.declared.limits.TheConstants.{WINDOW}
 use Rattle.jv_model.specs.declared.slice.Rec.{Rec}
@@ -10,7 +10,7 @@ use Rattle.jv_volume.specs.Slices.{place_in}
 use Rattle.jv_contents.specs.Places.{Lists, with_list, put_over}
 use Rattle.jv_contents.specs.Fills.{Fills, records_of_plan}
 use Rattle.jv_contents.proofs.PlaceLaws.{place_in-window}
-use Rattle.jv_contents.proofs.FillLaws.{fills-rises, over-same, over-join, place_in-fill, plan-fills}
+use Rattle.jv_contents.proofs.FillLaws.{over-same, over-join, place_in-fill, plan-fills}
 
 -- The records of a plan of a part of one source window, put from a position of a target window on.
 pub source-fills : (source : Lists) (w : ℕ) (list : List Rec) (from to at : ℕ) (places : ℕ → Spot) (pieces : List Piece) → list ≡ source w

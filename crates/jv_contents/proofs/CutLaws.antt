@@ -1,8 +1,8 @@
 -- What holds of lists that are cut: their records are records, and they name the same slices where they aren't removed.
-use Rattle.std.proofs.Common.{◌≡◌, ◌≢◌, ℕ, ◌+◌, ◌-◌, ◌*◌, ◌<◌, ◌≤◌, Bool, true, false, cond, inl, inr, List, [], ◌∷◌, ◌++◌, length, refl, sym, ap, subst, ◌∙◌, arith}
+use Rattle.std.proofs.Common.{◌≡◌, ◌≢◌, ℕ, ◌+◌, ◌-◌, ◌*◌, ◌<◌, ◌≤◌, cond, inl, inr, List, [], ◌∷◌, ◌++◌, length, refl, sym, ap, subst, ◌∙◌, arith}
 use Rattle.std.specs.Prelude.{◌==◌}
 use Rattle.std.specs.List.{AllByRecursion}
-use Rattle.std.proofs.lemmas.Bool.{and_from, le-leb, cases_lt, cond-true, cond-false, lt-leb, lt-ltb, le-ltb, ne_eqb}
+use Rattle.std.proofs.lemmas.Bool.{and_from, le-leb, cases_lt, cond-true, cond-false, lt-leb, lt-ltb, ne_eqb}
 use Rattle.std.proofs.lemmas.List.{length-append}
 use Rattle.std.proofs.lemmas.List.Sums.{sum_by_push}
 use Rattle.jv_model.specs.declared.limits.TheConstants.{WINDOW}

@@ -1,5 +1,5 @@
 -- Laws of slices in flight, and what the blocks of a whole one tell.
-use Rattle.std.proofs.Common.{◌≡◌, ◌≢◌, ℕ, ◌+◌, ◌-◌, ◌*◌, ◌/◌, ◌%◌, ◌<◌, ◌≤◌, ◌⊎◌, inl, inr, min, List, [], length, take, drop, Option, None, Some, refl, sym, ap, subst, ◌∙◌, arith}
+use Rattle.std.proofs.Common.{◌≡◌, ◌≢◌, ℕ, ◌+◌, ◌*◌, ◌/◌, ◌%◌, ◌<◌, ◌≤◌, ◌⊎◌, inl, inr, min, List, [], length, take, drop, Some, sym, ap, subst, ◌∙◌, arith}
 use Rattle.std.specs.Prelude.{slice_index, unwrap_or}
 use Rattle.std.proofs.lemmas.List.{length-take, length-drop, get_or-take, get_or-drop}
 use Rattle.std.proofs.lemmas.Bool.{cases_lt}
@@ -12,10 +12,10 @@ use Rattle.jv_volume.specs.TypedRows.{Rows}
 use Rattle.jv_volume.specs.Slices.{IsUnknown, next_slice}
 use Rattle.jv_contents.specs.Places.{shown}
 use Rattle.jv_contents.specs.Bytes.{spot_byte}
-use Rattle.jv_contents.proofs.ByteLaws.{shown-slice}
 use Rattle.jv_contents.specs.Counts.{KeepsOthers}
 use Rattle.jv_contents.specs.Blocks.{Blocks, Grows, IsThere, AreBelow, told_by}
 use Rattle.jv_contents.specs.Flights.{Flight, InFlight, IsComplete, flight_block, flight_bytes}
+use Rattle.jv_contents.proofs.ByteLaws.{shown-slice}
 
 -- the byte of a part
 part_byte : (bytes : List ℕ) (block index place : ℕ) → place < block

@@ -1,12 +1,9 @@
 -- What changes that leave lists and slices alone keep: counts of records, unknown slices, blocks. So do changes on metadata, and the
 -- giving of a number.
-use Rattle.std.proofs.Common.{◌≡◌, ◌≢◌, ℕ, ◌+◌, ◌<◌, ◌≤◌, ◌^◌, ◌⊎◌, inl, inr, Bool, true, false, true≢false, cond, List, [], length, Option, None, Some, refl, sym, ap, subst, ◌∙◌, arith}
-use Rattle.std.specs.Prelude.{◌==◌, ◌||◌, nat_lt, IsTrue, if◌then◌else◌}
+use Rattle.std.proofs.Common.{◌≡◌, ℕ, ◌+◌, ◌≤◌, ◌^◌, ◌⊎◌, inl, inr, Bool, true, false, true≢false, cond, List, [], length, Option, None, Some, refl, sym, ap, ◌∙◌, arith}
+use Rattle.std.specs.Prelude.{◌==◌, ◌||◌, nat_lt, if◌then◌else◌}
 use Rattle.jv_model.specs.declared.row.RowKey.{RowKey}
 use Rattle.jv_model.specs.declared.row.SliceRow.{SliceRow}
-use Rattle.jv_model.specs.declared.row.Dead.{Dead}
-use Rattle.jv_model.specs.declared.row.Counters.{Counters}
-use Rattle.jv_model.specs.declared.row.Row.TheVariants.{OfCounters}
 use Rattle.jv_model.specs.declared.slice.Rec.{Rec}
 use Rattle.jv_model.specs.declared.slice.BlockId.{BlockId}
 use Rattle.jv_model.specs.FiniteMap.{get, alter, retain_keys, sum_over}
@@ -22,11 +19,11 @@ use Rattle.jv_volume.proofs.QuietLaws.{sum-retain_keys}
 use Rattle.jv_contents.specs.Bytes.{Told, spot_byte, bytes_of}
 use Rattle.jv_contents.specs.Blocks.{Blocks, Grows, HasBlocks, AreBelow}
 use Rattle.jv_contents.specs.Flights.{Flight, InFlight}
+use Rattle.jv_contents.specs.Stays.{SlicesStay}
+use Rattle.jv_contents.specs.Counts.{HasDied, KeepsOthers, record_count}
 use Rattle.jv_contents.proofs.PlaceLaws.{place_in-same}
 use Rattle.jv_contents.proofs.FlightLaws.{flies-still}
 use Rattle.jv_contents.proofs.BlockLaws.{has_blocks-still, below-rows}
-use Rattle.jv_contents.specs.Stays.{SlicesStay}
-use Rattle.jv_contents.specs.Counts.{HadSize, HasDied, KeepsOthers, record_count}
 
 abbrev is_list_key : RowKey → Bool
 is_list_key key = key.tab == 4

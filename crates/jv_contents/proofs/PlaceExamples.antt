@@ -1,7 +1,7 @@
 -- A file that is written out: five bytes of slice 7 are committed at 3, and two of slice 8 over them at 4. It is cut, grows, and is
 -- copied from.
-use Rattle.std.proofs.Common.{◌≡◌, ℕ, ◌+◌, ◌*◌, List, [], ◌∷◌, Option, None, Some, refl}
-use Rattle.std.specs.Prelude.{⊤, ◌==◌, ◌&&◌, if◌then◌else◌, slice_index}
+use Rattle.std.proofs.Common.{◌≡◌, ◌+◌, List, [], ◌∷◌, None, Some, refl}
+use Rattle.std.specs.Prelude.{⊤, ◌==◌, ◌&&◌, if◌then◌else◌}
 use Rattle.jv_model.specs.declared.limits.TheConstants.{WINDOW}
 use Rattle.jv_model.specs.declared.slice.Rec.{Rec}
 use Rattle.jv_model.specs.declared.slice.Spot.TheVariants.{Zero, Slice}
