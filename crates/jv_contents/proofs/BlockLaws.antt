@@ -148,7 +148,25 @@ module _ (rows : Rows) (w : WholeSlices rows) where
   tree-grows block before after some has grows =
       ap (λ (bytes : ℕ → ℕ → ℕ). tree_of bytes rows) (λ i inode p. bytes-grow block before after some has grows inode p i)
 
+  -- the bytes of files stay when blocks of slices without rows come or go
+  pub bytes-apart : (block : ℕ) (before after : Blocks) → ((b : BlockId) → slice_row_at rows b.id ≢ None → after b ≡ before b)
+      → (inode p : ℕ) → bytes_of (told_by block after) rows inode p ≡ bytes_of (told_by block before) rows inode p
+  bytes-apart block before after same inode p = by_spot (place_in (lists_of rows inode) p) refl
+    where
+      by_spot : (spot : Spot) → place_in (lists_of rows inode) p ≡ spot → spot_byte (told_by block after) spot ≡ spot_byte (told_by block before) spot
+      by_spot Zero e = refl
+      by_spot (Slice id size at) e =
+          let row = place_has_row inode p id size at e in
+          ap (λ o. slice_index (unwrap_or o []) (at % block))
+          (same (block_at id size block (at / block)) (λ none. (let is = row.0.is in absurd (cc))))
+
 -- ---- all blocks are there
+
+pub has_blocks-apart : (block : ℕ) (rows : Rows) (before after : Blocks) → ((b : BlockId) → slice_row_at rows b.id ≢ None → after b ≡ before b)
+    → HasBlocks block rows before → HasBlocks block rows after
+has_blocks-apart block rows before after same has id slice there index low =
+    let was = has id slice there index low in
+    record { bytes = was.bytes; is = same (block_at id slice.size block index) (λ none. absurd (cc)) ∙ was.is; long = was.long }
 
 pub has_blocks-grow : (block : ℕ) (rows : Rows) (before after : Blocks) → Grows before after → HasBlocks block rows before → HasBlocks block rows after
 has_blocks-grow block rows before after grows has id slice there index low =

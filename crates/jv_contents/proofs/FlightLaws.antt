@@ -1,8 +1,8 @@
 -- Laws of slices in flight, and what the blocks of a whole one tell.
-use Rattle.std.proofs.Common.{◌≡◌, ◌≢◌, ℕ, ◌+◌, ◌*◌, ◌/◌, ◌%◌, ◌<◌, ◌≤◌, ◌⊎◌, inl, inr, min, List, [], length, take, drop, Some, sym, ap, subst, ◌∙◌, arith}
+use Rattle.std.proofs.Common.{◌≡◌, ◌≢◌, ℕ, ◌+◌, ◌*◌, ◌/◌, ◌%◌, ◌<◌, ◌≤◌, ◌⊎◌, inl, inr, min, List, [], length, take, drop, Option, None, Some, refl, sym, ap, subst, ◌∙◌, arith}
 use Rattle.std.specs.Prelude.{slice_index, unwrap_or}
 use Rattle.std.proofs.lemmas.List.{length-take, length-drop, get_or-take, get_or-drop}
-use Rattle.std.proofs.lemmas.Bool.{cases_lt}
+use Rattle.std.proofs.lemmas.Bool.{cases_eq, cases_lt}
 use Rattle.std.proofs.lemmas.Nat.{div-add-mod', mod_below}
 use Rattle.jv_model.specs.declared.slice.Rec.{Rec}
 use Rattle.jv_model.specs.declared.slice.BlockId.{BlockId}
@@ -13,7 +13,7 @@ use Rattle.jv_volume.specs.Slices.{IsUnknown, next_slice}
 use Rattle.jv_contents.specs.Places.{shown}
 use Rattle.jv_contents.specs.Bytes.{spot_byte}
 use Rattle.jv_contents.specs.Counts.{KeepsOthers}
-use Rattle.jv_contents.specs.Blocks.{Blocks, Grows, IsThere, AreBelow, told_by}
+use Rattle.jv_contents.specs.Blocks.{Blocks, Grows, IsThere, IsPut, AreBelow, told_by}
 use Rattle.jv_contents.specs.Flights.{Flight, InFlight, IsComplete, flight_block, flight_bytes}
 use Rattle.jv_contents.proofs.ByteLaws.{shown-slice}
 
@@ -105,3 +105,66 @@ flies-new block rows after blocks bytes id some fresh below low unknown = record
   those = λ index none. absurd (omega (arith, none));
   only = λ b bytes own there. let less = below b bytes there in absurd (omega (arith, less, own, fresh));
 }
+
+-- ---- the put of one block
+
+-- two blocks are one, or apart
+pub same_block : (a b : BlockId) → (a ≡ b) ⊎ (a ≢ b)
+same_block a b = elim (cases_eq a.id b.id) [
+  | inr apart ↦ inr (λ e. apart (ap (λ (x : BlockId). x.id) e))
+  | inl ids ↦ elim (cases_eq a.index b.index) [
+    | inr apart ↦ inr (λ e. apart (ap (λ (x : BlockId). x.index) e))
+    | inl indexes ↦ elim (cases_eq a.size b.size) [
+      | inr apart ↦ inr (λ e. apart (ap (λ (x : BlockId). x.size) e))
+      | inl sizes ↦ inl (λ i. record { id = ids i; index = indexes i; size = sizes i })
+    ]
+  ]
+]
+
+module _ (b : BlockId) (bytes : List ℕ) (blocks blocks' : Blocks) (put : IsPut b bytes blocks blocks') where
+  -- what is there after it was put, or was there
+  pub put_or_was : (other : BlockId) (its : List ℕ) → blocks' other ≡ Some its → (blocks other ≡ Some its) ⊎ (other ≡ b)
+  put_or_was other its there = elim (same_block other b) [
+    | inl same ↦ inr same
+    | inr apart ↦ inl (sym (put.others other apart) ∙ there)
+  ]
+
+  -- blocks grow by one that wasn't there
+  pub put-grows : blocks b ≡ None → Grows blocks blocks'
+  put-grows fresh other its there = put.others other (λ same. (let none = ap blocks same ∙ fresh in absurd (cc))) ∙ there
+
+  -- a flight of another slice goes on
+  pub put-flies : (block : ℕ) (rows : Rows) (f : Flight) → InFlight block rows blocks f → blocks b ≡ None → f.id ≢ b.id → InFlight block rows blocks' f
+  put-flies block rows f flies fresh apart =
+      flies-still block rows blocks f flies rows blocks' flies.below flies.unknown (put-grows fresh)
+      (λ other its own there. elim (put_or_was other its there) [
+        | inl was ↦ was
+        | inr same ↦ absurd (apart (sym own ∙ ap (λ (x : BlockId). x.id) same))
+      ])
+
+  -- no block of a number that is still to be given is there
+  pub put-below : (rows : Rows) → b.id < next_slice rows → AreBelow rows blocks → AreBelow rows blocks'
+  put-below rows low below other its there = elim (put_or_was other its there) [
+    | inl was ↦ below other its was
+    | inr same ↦ subst (λ (x : BlockId). x.id < next_slice rows) (sym same) low
+  ]
+
+module _ (block : ℕ) (rows : Rows) (blocks : Blocks) (f : Flight) (flies : InFlight block rows blocks f) where
+  -- the next block of a flight isn't there yet
+  pub next_block-free : blocks (flight_block block f f.put) ≡ None
+  next_block-free = by_bytes (blocks (flight_block block f f.put)) refl
+    where
+      by_bytes : (o : Option (List ℕ)) → blocks (flight_block block f f.put) ≡ o → blocks (flight_block block f f.put) ≡ None
+      by_bytes None e = e
+      by_bytes (Some bytes) e =
+          let old = flies.only (flight_block block f f.put) bytes refl e in
+          let same : f.put ≡ old.0 = ap (λ (x : BlockId). x.index) old.2 in
+          absurd (omega (arith, same, old.1))
+
+  -- its put
+  pub put-next : (blocks' : Blocks) → IsPut (flight_block block f f.put) (flight_bytes block f f.put) blocks blocks'
+      → InFlight block rows blocks' (record f { put = f.put + 1 })
+  put-next blocks' put =
+      flies-put block rows blocks f flies blocks'
+      (put-grows (flight_block block f f.put) (flight_bytes block f f.put) blocks blocks' put next_block-free) put.here
+      (λ b bytes own there. put_or_was (flight_block block f f.put) (flight_bytes block f f.put) blocks blocks' put b bytes there)
