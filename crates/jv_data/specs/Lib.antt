@@ -1,2 +1,4 @@
 -- What is said of transactions on the bytes of files.
 pub mod Committing
+pub mod Changing
+pub mod Records

@@ -1,0 +1,41 @@
+-- The blocks of slices, and the bytes that they tell.
+use Rattle.std.specs.Prelude.{◌≡◌, ◌≢◌, ℕ, ◌/◌, ◌%◌, ◌<◌, List, [], length, slice_index, Option, Some, unwrap_or}
+use Rattle.jv_model.specs.declared.row.SliceRow.{SliceRow}
+use Rattle.jv_model.specs.declared.slice.BlockId.{BlockId}
+use Rattle.jv_model.specs.blocks.Slices.{block_at, block_count}
+use Rattle.jv_volume.specs.TypedRows.{Rows}
+use Rattle.jv_volume.specs.Views.{slice_row_at}
+use Rattle.jv_volume.specs.Slices.{next_slice}
+use Rattle.jv_contents.specs.Bytes.{Told}
+
+-- the bytes of blocks, where they are there
+abbrev pub Blocks : Type 0
+Blocks = BlockId → Option (List ℕ)
+
+-- a block that is there stays as it is
+abbrev pub Grows : Blocks → Blocks → Type 0
+Grows before after = (b : BlockId) (bytes : List ℕ) → before b ≡ Some bytes → after b ≡ Some bytes
+
+-- what blocks of this length tell of slices
+abbrev pub told_by : ℕ → Blocks → Told
+told_by block blocks id size at = slice_index (unwrap_or (blocks (block_at id size block (at / block))) []) (at % block)
+
+-- a block is there, and has the length of its name
+pub record IsThere (blocks : Blocks) (b : BlockId) : Type 0 where
+  pub bytes : List ℕ
+  pub is : blocks b ≡ Some bytes
+  pub long : length bytes ≡ b.size
+
+-- each block of each slice that has a row is there
+abbrev pub HasBlocks : ℕ → Rows → Blocks → Type 0
+HasBlocks block rows blocks = (id : ℕ) (slice : SliceRow) → slice_row_at rows id ≡ Some slice
+    → (index : ℕ) → index < block_count slice.size block → IsThere blocks (block_at id slice.size block index)
+
+-- no block is of a slice whose number is still to be given
+abbrev pub AreBelow : Rows → Blocks → Type 0
+AreBelow rows blocks = (b : BlockId) (bytes : List ℕ) → blocks b ≡ Some bytes → b.id < next_slice rows
+
+-- a block is put there, and others stay
+pub record IsPut (b : BlockId) (bytes : List ℕ) (before after : Blocks) : Type 0 where
+  pub here : after b ≡ Some bytes
+  pub others : (other : BlockId) → other ≢ b → after other ≡ before other

@@ -1,0 +1,26 @@
+-- The bytes of files: what is told of each place of each slice. A transaction on rows sees none of them.
+use Rattle.std.specs.Prelude.{ℕ}
+use Rattle.jv_model.specs.declared.slice.Spot.{Spot}
+use Rattle.jv_model.specs.declared.slice.Spot.TheVariants.{Zero, Slice}
+use Rattle.jv_model.specs.tree.Tree.{Tree}
+use Rattle.jv_volume.specs.TypedRows.{Rows}
+use Rattle.jv_volume.specs.Views.{lists_of}
+use Rattle.jv_volume.specs.Slices.{place_in}
+use Rattle.jv_volume.specs.TreeOf.{tree_of}
+
+-- the byte at a place of a slice, by the slice's number, its size, and the place
+abbrev pub Told : Type 0
+Told = ℕ → ℕ → ℕ → ℕ
+
+-- the byte at a place
+abbrev pub spot_byte : Told → Spot → ℕ
+spot_byte told Zero = 0
+spot_byte told (Slice id size at) = told id size at
+
+-- the bytes that rows have, by inode and position
+abbrev pub bytes_of : Told → Rows → ℕ → ℕ → ℕ
+bytes_of told rows inode position = spot_byte told (place_in (lists_of rows inode) position)
+
+-- the tree of rows, with the bytes of files
+abbrev pub tree_with : Told → Rows → Tree
+tree_with told rows = tree_of (bytes_of told rows) rows

@@ -1,0 +1,71 @@
+-- What a transaction on the bytes of files does, by the tree that the rows have with the bytes that are told of slices.
+use Rattle.std.specs.Prelude.{◌≡◌, ◌⊎◌, ℕ, ◌+◌, ◌<◌, Option, Some, Result, Ok, Err, IfErr, IfSome, OnErr}
+use Rattle.jv_model.specs.declared.fault.Fault.{Fault}
+use Rattle.jv_model.specs.declared.fault.Fault.TheVariants.{NoSpace}
+use Rattle.jv_model.specs.declared.fault.RowFault.TheVariants.{Bad, Failed, Memory}
+use Rattle.jv_model.specs.declared.fault.TxFault.{TxFault}
+use Rattle.jv_model.specs.declared.fault.TxFault.TheVariants.{Refused, Moved, Rows as OfRows}
+use Rattle.jv_model.specs.declared.limits.TheConstants.{FULL_COUNT}
+use Rattle.jv_model.specs.declared.op.Reply.{Reply}
+use Rattle.jv_model.specs.declared.row.SliceRow.{SliceRow}
+use Rattle.jv_model.specs.rows.RowKeys.{RowMap}
+use Rattle.jv_model.specs.tree.Tree.{Tree}
+use Rattle.jv_model.specs.tree.Caller.{Outcome}
+use Rattle.jv_outside.specs.Store.{Store}
+use Rattle.jv_rows.specs.Transactions.{TransactionCounts, BadFault}
+use Rattle.jv_volume.specs.TypedRows.{Rows, typed}
+use Rattle.jv_volume.specs.Views.{slice_row_at}
+use Rattle.jv_volume.specs.Whole.{Whole}
+use Rattle.jv_contents.specs.Bytes.{Told, tree_with}
+use Rattle.jv_contents.specs.Counts.{KeepsOthers, record_count}
+
+-- the slice that a transaction makes, if it makes one, and how many records it adds at most
+pub record Makes : Type 0 where
+  pub own : ℕ  -- 0 where it makes none
+  pub size : ℕ
+  pub more : ℕ
+
+-- A transaction that was made: the rows left are whole, their tree is the model's after it, and other slices are kept.
+pub record Changed (makes : Makes) (known : RowMap) (after : Option RowMap) (told : Told) (reply : Reply) (act : Tree → Result Outcome Fault) : Type 0 where
+  pub left : RowMap
+  pub is : after ≡ Some left
+  pub whole : Whole (typed left)
+  pub others : KeepsOthers makes.own makes.more (typed known) (typed left)
+  pub size : (slice : SliceRow) → slice_row_at (typed left) makes.own ≡ Some slice → slice.size ≡ makes.size
+  pub model : act (tree_with told (typed known)) ≡ Ok (record { tree = tree_with told (typed left); reply = reply })
+
+-- a slice can't be named more often, which the tree doesn't see
+pub record IsFull (crowded : Rows → Type 0) (rows : Rows) (fault : Fault) : Type 0 where
+  pub fault_is : fault ≡ NoSpace
+  pub full : crowded rows
+
+abbrev pub LandsChanged : {A : Type 0} → Makes → (Rows → Type 0) → RowMap → Option RowMap → Told → (A → Reply) → (Tree → Result Outcome Fault) → Result A TxFault → Type 0
+LandsChanged makes crowded known after told reply act (Ok x) = Changed makes known after told (reply x) act
+LandsChanged makes crowded known after told reply act (Err (Refused fault)) = (act (tree_with told (typed known)) ≡ Err fault) ⊎ IsFull crowded (typed known) fault
+LandsChanged makes crowded known after told reply act (Err (Moved list)) = ⊥
+LandsChanged makes crowded known after told reply act (Err (OfRows (Bad at bytes))) = ⊥
+LandsChanged makes crowded known after told reply act (Err (OfRows Failed)) = Unit {0}
+LandsChanged makes crowded known after told reply act (Err (OfRows Memory)) = Unit {0}
+
+-- A transaction on the bytes of files: after an error the rows are as before, and over whole rows that are ready for it, whatever is
+-- told of slices, it does what the model's does to their tree.
+pub record Changes {A : Type 0} (makes : Makes) (ready : Rows → Told → Type 0) (crowded : Rows → Type 0) (before after : Store) (result : Result A TxFault)
+    (reply : A → Reply) (act : Tree → Result Outcome Fault) : Type 0 where
+  pub opened_at : after.opened ≡ before.opened
+  pub counts : TransactionCounts before.faults after.faults result
+  pub undone : OnErr result (after.rows ≡ before.rows)
+  pub lands : (known : RowMap) → before.rows ≡ Some known → Whole (typed known) → (told : Told) → ready (typed known) told
+      → LandsChanged makes crowded known after.rows told reply act result
+  pub bad : IfErr result (λ fault. IfSome before.rows (λ known. BadFault (typed known) fault))
+
+-- no transaction is refused but as the model's is
+abbrev pub Never : Rows → Type 0
+Never rows = ⊥
+
+-- so many more records could name a slice more often than may be
+abbrev pub IsCrowded : ℕ → Rows → Type 0
+IsCrowded more rows = FULL_COUNT < record_count rows + more
+
+-- whatever is told
+abbrev pub AnyTold : Rows → Told → Type 0
+AnyTold rows told = Unit {0}

@@ -1,0 +1,100 @@
+-- Looks at a window, numbers for slices, and commits of a slice's record.
+use Rattle.std.specs.Prelude.{◌≡◌, ◌⊎◌, ℕ, ◌+◌, ◌*◌, ◌<◌, nat_lt, List, length, slice_index, is_some, Option, Some, Result, Ok, Err, IfOk, IfErr, IfSome, OnErr}
+use Rattle.std.specs.List.{AllByRecursion}
+use Rattle.jv_model.specs.declared.fault.Fault.{Fault}
+use Rattle.jv_model.specs.declared.fault.Fault.TheVariants.{NoSpace, Stale}
+use Rattle.jv_model.specs.declared.fault.Gone.TheVariants.{Session}
+use Rattle.jv_model.specs.declared.fault.TxFault.{TxFault}
+use Rattle.jv_model.specs.declared.fault.TxFault.TheVariants.{Refused, Moved, Rows as OfRows}
+use Rattle.jv_model.specs.declared.fault.RowFault.TheVariants.{Bad, Failed, Memory}
+use Rattle.jv_model.specs.declared.limits.TheConstants.{FULL_COUNT, WINDOW}
+use Rattle.jv_model.specs.declared.op.Reply.TheVariants.{Done}
+use Rattle.jv_model.specs.declared.row.RowKey.{RowKey}
+use Rattle.jv_model.specs.declared.slice.Rec.{Rec}
+use Rattle.jv_model.specs.FiniteMap.{get}
+use Rattle.jv_model.specs.blocks.Slices.{IsRecord}
+use Rattle.jv_model.specs.rows.RowKeys.{RowMap}
+use Rattle.jv_model.specs.rows.RowPlaces.{counters_key}
+use Rattle.jv_model.specs.tree.Attempt.{◌>>=◌, require}
+use Rattle.jv_model.specs.tree.Caller.{Outcome, done}
+use Rattle.jv_model.specs.tree.Tree.{Tree}
+use Rattle.jv_outside.specs.Store.{Store}
+use Rattle.jv_rows.specs.Transactions.{TransactionCounts, Looks, BadFault}
+use Rattle.jv_volume.specs.TypedRows.{Rows, typed}
+use Rattle.jv_volume.specs.Views.{lists_of}
+use Rattle.jv_volume.specs.TreeOf.{tree_of}
+use Rattle.jv_volume.specs.Slices.{IsUnknown, next_slice}
+use Rattle.jv_volume.specs.Whole.{Whole, no_bytes}
+use Rattle.jv_contents.specs.Places.{shown}
+use Rattle.jv_contents.specs.Bytes.{Told, spot_byte}
+use Rattle.jv_data.specs.declared.looking.View.{View}
+use Rattle.jv_data.specs.Committing.{length_seen, commit_of}
+use Rattle.jv_data.specs.Changing.{Changes, Makes, Never}
+
+abbrev pub length_viewed : Result View TxFault → Result ℕ TxFault
+length_viewed (Ok view) = Ok view.length
+length_viewed (Err fault) = Err fault
+
+-- A look at a window of a file: its length, and the window's records.
+pub record LooksAt (sid inode window : ℕ) (before after : Store) (result : Result View TxFault) : Type 0 where
+  pub looks : Looks before after (length_viewed result) (length_seen sid inode)
+  pub list : IfOk result (λ view. IfSome before.rows (λ known. view.list ≡ lists_of (typed known) inode window))
+  pub records : IfOk result (λ view. AllByRecursion IsRecord view.list)
+
+-- the number that the next slice gets
+abbrev pub number_given : ℕ → Rows → Tree → Result ℕ Fault
+number_given sid rows t = do
+  _ ← require (is_some (get t.sessions sid)) (Stale (Session sid))
+  _ ← require (nat_lt (next_slice rows) FULL_COUNT) NoSpace
+  Ok (next_slice rows)
+
+-- A number was given: the next one is one more, and all other rows are as before.
+pub record Numbered (known : RowMap) (after : Option RowMap) (id : ℕ) : Type 0 where
+  pub left : RowMap
+  pub is : after ≡ Some left
+  pub whole : Whole (typed left)
+  pub low : 0 < id
+  pub given : id ≡ next_slice (typed known)
+  pub next : next_slice (typed left) ≡ id + 1
+  pub unknown : IsUnknown (typed left) id
+  pub same : (bytes : ℕ → ℕ → ℕ) → tree_of bytes (typed left) ≡ tree_of bytes (typed known)
+  pub others : (key : RowKey) → get (typed left) key ≡ get (typed known) key ⊎ (key ≡ counters_key)
+
+abbrev pub LandsNumber : ℕ → RowMap → Option RowMap → Result ℕ TxFault → Type 0
+LandsNumber sid known after (Ok id) = (number_given sid (typed known) (tree_of no_bytes (typed known)) ≡ Ok id) × Numbered known after id
+LandsNumber sid known after (Err (Refused fault)) = number_given sid (typed known) (tree_of no_bytes (typed known)) ≡ Err fault
+LandsNumber sid known after (Err (Moved list)) = ⊥
+LandsNumber sid known after (Err (OfRows (Bad at bytes))) = ⊥
+LandsNumber sid known after (Err (OfRows Failed)) = Unit {0}
+LandsNumber sid known after (Err (OfRows Memory)) = Unit {0}
+
+-- A number is asked for: after an error the rows are as before.
+pub record TakesNumber (sid : ℕ) (before after : Store) (result : Result ℕ TxFault) : Type 0 where
+  pub opened_at : after.opened ≡ before.opened
+  pub counts : TransactionCounts before.faults after.faults result
+  pub undone : OnErr result (after.rows ≡ before.rows)
+  pub lands : (known : RowMap) → before.rows ≡ Some known → Whole (typed known) → LandsNumber sid known after.rows result
+  pub bad : IfErr result (λ fault. IfSome before.rows (λ known. BadFault (typed known) fault))
+
+-- the bytes that a record shows
+pub record Shows (told : Told) (rec : Rec) (bytes : List ℕ) : Type 0 where
+  pub long : length bytes ≡ rec.len
+  pub each : (n : ℕ) → n < rec.len → spot_byte told (shown rec n) ≡ slice_index bytes n
+
+-- a record's slice has a number and nothing else names it, and the record shows these bytes
+pub record IsNew (rec : Rec) (bytes : List ℕ) (rows : Rows) (told : Told) : Type 0 where
+  pub unknown : IsUnknown rows rec.id
+  pub below : rec.id < next_slice rows
+  pub shows : Shows told rec bytes
+
+-- the model's commit of bytes to a file, whose first block was begun at a moment
+abbrev pub committing : (sid inode from : ℕ) → List ℕ → (started now : ℕ) → Tree → Result Outcome Fault
+committing sid inode from bytes started now t = do
+  after ← commit_of sid inode from bytes started now t
+  done after
+
+-- a commit of a record of a new slice to a window of a file
+abbrev pub CommitsRecord : (sid now inode window : ℕ) → Rec → (started : ℕ) → Store → Store → Result (Unit {0}) TxFault → Type 0
+CommitsRecord sid now inode window rec started before after result = (bytes : List ℕ)
+    → Changes (record { own = rec.id; size = rec.size; more = 1 }) (IsNew rec bytes) Never before after result (λ unit. Done)
+    (committing sid inode (window * WINDOW + rec.pos) bytes started now)
