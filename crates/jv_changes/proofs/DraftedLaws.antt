@@ -220,7 +220,7 @@ module _ {A : Type 0} (ready : Tree → Type 0) (was now : List Change) (before 
   -- nor was one that each volume has, and rows in mind have
   pub drafting-lacking : {B : Type 0} (row : B → Row) (is_allowed : B → Bool) (key : RowKey) (after : Store)
       (fault : TxFault) → IsTrue (is_needed key)
-      → ((known : RowMap) (bytes : ℕ → ℕ → ℕ) (t : Tree) → Minds known was bytes t
+      → ((known : RowMap) (bytes : ℕ → ℕ → ℕ) (t : Tree) → Minds known was bytes t → ready t
       → IsTrue (is_some (get (drafted was known) key)))
       → Needs row is_allowed key was middle after (Err fault)
       → Drafting {A = A} ready was now before after (Err fault) step
@@ -230,7 +230,7 @@ module _ {A : Type 0} (ready : Tree → Type 0) (was now : List Change) (before 
     counts = subst (λ count. FaultCause count after.faults fault) p.calm n.counts;
     formed = λ are. tt;
     leads = λ known is bytes t m is_ready. leads-needed key was need A middle.rows fault n.refused known
-        (p.rows_are ∙ is) bytes t m (there known bytes t m) now (step t);
+        (p.rows_are ∙ is) bytes t m (there known bytes t m is_ready) now (step t);
     bad = λ are. if_known (λ known. BadFault (typed known) fault) before.rows
         (λ known is. bad-needed key was need middle.rows fault n.refused are known (p.rows_are ∙ is));
   }

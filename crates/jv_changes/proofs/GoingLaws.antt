@@ -298,7 +298,7 @@ module _ (before middle : Store) (was : List Change) (inode : ℕ) (row : NodeRo
   drop-unread after fault counters =
       drafting-lacking (λ t. MayGo t inode) was was before middle stays (λ t. Ok (drop_node t inode)) OfCounters
       is_counters counters_key after fault refl
-      (λ known bytes t m. ap is_some m.stored.counters) counters
+      (λ known bytes t m may. ap is_some m.stored.counters) counters
 
   module _ (low : is_top inode ≡ false) (after : Store) (one two now : List Change) (c : Counters)
       (read : Needs OfCounters is_counters counters_key was middle after (Ok c))

@@ -7,7 +7,7 @@ use Rattle.jv_model.specs.declared.fault.Fault.{Fault}
 use Rattle.jv_model.specs.declared.fault.RowFault.TheVariants.{Bad, Failed, Memory}
 use Rattle.jv_model.specs.declared.fault.TxFault.{TxFault}
 use Rattle.jv_model.specs.declared.fault.TxFault.TheVariants.{Refused, Moved, Rows as OfRows}
-use Rattle.jv_model.specs.declared.limits.TheConstants.{LAST_MOMENT}
+use Rattle.jv_model.specs.declared.limits.TheConstants.{LAST_MOMENT, TRASH_ROOT}
 use Rattle.jv_model.specs.declared.row.Node.{Node as NodeRow}
 use Rattle.jv_model.specs.declared.row.Row.TheVariants.{OfNode}
 use Rattle.jv_model.specs.FiniteMap.{get, insert}
@@ -17,12 +17,12 @@ use Rattle.jv_model.specs.rows.RowPlaces.{node_key}
 use Rattle.jv_model.specs.tree.Changes.{put_node}
 use Rattle.jv_model.specs.tree.HourNames.{hour_at, hour_name}
 use Rattle.jv_model.specs.tree.Trash.{hour_inode, hour_place, with_hour}
-use Rattle.jv_model.specs.tree.Tree.{Tree, trash_root, node_at}
+use Rattle.jv_model.specs.tree.Tree.{Tree, Node, trash_root, node_at, parent_of}
 use Rattle.jv_outside.specs.declared.batch.Change.{Change}
 use Rattle.jv_outside.specs.Store.{Store}
-use Rattle.jv_rows.specs.Drafts.{drafted, cell, Sees}
+use Rattle.jv_rows.specs.Drafts.{drafted, cell, Sees, Needs}
 use Rattle.jv_rows.specs.Transactions.{FaultCause, BadFault}
-use Rattle.jv_volume.specs.TypedRows.{typed}
+use Rattle.jv_volume.specs.TypedRows.{Cell, typed}
 use Rattle.jv_volume.specs.Views.{node_row_at}
 use Rattle.jv_volume.specs.TreeOf.{node_of}
 use Rattle.jv_volume.proofs.HourNameLaws.{last_hour}
@@ -31,7 +31,7 @@ use Rattle.jv_volume.proofs.StoredLaws.{of_node}
 use Rattle.jv_volume.proofs.TreeOfLaws.{node_at-tree_of}
 use Rattle.jv_changes.specs.Drafting.{Minds, AreRows, Led, LeadsTo, Drafting}
 use Rattle.jv_changes.specs.Ready.{MayHaveHour, MayStandAt, hour_row, entry_put}
-use Rattle.jv_changes.proofs.DraftedLaws.{Drafted, are_rows-put, Stays, stays-sees, seen-stands, drafting-made}
+use Rattle.jv_changes.proofs.DraftedLaws.{Drafted, are_rows-put, Stays, stays-needs, stays-sees, stays-then, seen-stands, drafting-lacking, drafting-made}
 use Rattle.jv_changes.proofs.GoingLaws.{OfTree, minds-rows, minds-of_rows}
 use Rattle.jv_changes.proofs.HourLaws.{hour_dir, with_hour-there, hour_may_stand, hour_entered, rows-hour}
 
@@ -154,8 +154,33 @@ module _ (before middle : Store) (was : List Change) (now hour : ℕ) (low : hou
       same (Some row) is_row some known is bytes t m =
           with_hour-there t now hour (node_of (bytes inode) row) (node_is (Some row) is_row known is bytes t m)
 
-  module _ (none : is_some found ≡ false) (one : List Change)
+  -- the trash is there where an hour may come
+  trash-there : (known : RowMap) (bytes : ℕ → ℕ → ℕ) (t : Tree) → Minds known was bytes t → MayHaveHour t hour
+      → is_some (get (drafted was known) (node_key TRASH_ROOT)) ≡ true
+  trash-there known bytes t m may = there (get (drafted was known) (node_key TRASH_ROOT)) refl
+    where
+      there : (o : Option Cell) → get (drafted was known) (node_key TRASH_ROOT) ≡ o → is_some o ≡ true
+      there (Some row) is = refl
+      there None is =
+          let none : node_at t TRASH_ROOT ≡ None =
+          ap (λ (u : Tree). node_at u TRASH_ROOT) (sym m.tree) ∙ node_at-tree_of bytes (drafted was known) TRASH_ROOT
+          ∙ ap (option_map (node_of (bytes TRASH_ROOT))) (node-seen (drafted was known) TRASH_ROOT None is) in
+          absurd (true≢false (sym may.trash ∙ ap (λ (o : Option Node). is_some (parent_of o)) none))
+
+  -- it wasn't read
+  pub hour-lacking : (after : Store) (fault : TxFault)
+      → Needs OfNode is_node (node_key TRASH_ROOT) was middle after (Err fault)
+      → HasHour now hour was was before after (Err fault)
+  hour-lacking after fault trash = drafting-lacking {A = ℕ} ready was was before middle stays step OfNode is_node
+      (node_key TRASH_ROOT) after fault refl trash-there trash
+
+  module _ (none : is_some found ≡ false) (seen : Store) (trash_row : NodeRow)
+      (trash : Needs OfNode is_node (node_key TRASH_ROOT) was middle seen (Ok trash_row)) (one : List Change)
       (put : Drafted (node_key (hour_inode hour)) (Some (of_node (hour_row now))) was one) where
+    stays_on : Stays before seen
+    stays_on = stays-then before middle seen stays
+        (stays-needs OfNode is_node (node_key TRASH_ROOT) was middle seen trash_row trash)
+
     formed : AreRows was → AreRows one
     formed are = are_rows-put (node_key inode) was one (OfNode (hour_row now)) put are
 
@@ -186,18 +211,18 @@ module _ (before middle : Store) (was : List Change) (now hour : ℕ) (low : hou
 
     -- its entry isn't put
     pub hour-fails : (after : Store) (last : List Change) (fault : TxFault)
-        → HasEntry now (hour_name hour) (hour_inode hour) one last middle after (Err fault)
+        → HasEntry now (hour_name hour) (hour_inode hour) one last seen after (Err fault)
         → HasHour now hour was last before after (Err fault)
     hour-fails after last fault d =
-        drafting-then_fails {A = ℕ} {B = Unit {0}} ready may_stand was one last before middle after stays step put_step
+        drafting-then_fails {A = ℕ} {B = Unit {0}} ready may_stand was one last before seen after stays_on step put_step
         formed on fault d
 
     -- it comes
     pub hour-comes : (after : Store) (last : List Change)
-        → HasEntry now (hour_name hour) (hour_inode hour) one last middle after (Ok tt)
+        → HasEntry now (hour_name hour) (hour_inode hour) one last seen after (Ok tt)
         → HasHour now hour was last before after (Ok (hour_inode hour))
     hour-comes after last d =
-        drafting-then_made {A = ℕ} {B = Unit {0}} ready may_stand was one last before middle after stays step put_step
+        drafting-then_made {A = ℕ} {B = Unit {0}} ready may_stand was one last before seen after stays_on step put_step
         formed on tt inode d
 
 -- ---- the same, of what was read and put by other names
@@ -214,24 +239,32 @@ module _ (before middle : Store) (was : List Change) (now hour : ℕ) (low : hou
         subst (λ i. HasHour now hour was was before middle (Ok i)) (sym given_is)
         (hour-there before middle was now hour low found read_hour there)
 
-    module _ (none : is_some found ≡ false) (one : List Change) (row : NodeRow) (row_of : row ≡ hour_row now)
+    pub enter_hour-lacking : (after : Store) (fault : TxFault)
+        → Needs OfNode is_node (node_key TRASH_ROOT) was middle after (Err fault)
+        → HasHour now hour was was before after (Err fault)
+    enter_hour-lacking after fault trash = hour-lacking before middle was now hour low found read_hour after fault trash
+
+    module _ (none : is_some found ≡ false) (seen : Store) (trash_row : NodeRow)
+        (trash : Needs OfNode is_node (node_key TRASH_ROOT) was middle seen (Ok trash_row))
+        (one : List Change) (row : NodeRow) (row_of : row ≡ hour_row now)
         (put : Drafted (node_key given) (Some (of_node row)) was one) (name : List ℕ) (name_is : name ≡ hour_name hour)
         (after : Store) (last : List Change) where
       put_hour : Drafted (node_key (hour_inode hour)) (Some (of_node (hour_row now))) was one
       put_hour = subst (λ i. Drafted (node_key i) (Some (of_node (hour_row now))) was one) given_is
           (subst (λ (r : NodeRow). Drafted (node_key given) (Some (of_node r)) was one) row_of put)
 
-      as_hour : (result : Result (Unit {0}) TxFault) → HasEntry now name given one last middle after result
-          → HasEntry now (hour_name hour) (hour_inode hour) one last middle after result
-      as_hour result d = subst (λ i. HasEntry now (hour_name hour) i one last middle after result) given_is
-          (subst (λ text. HasEntry now text given one last middle after result) name_is d)
+      as_hour : (result : Result (Unit {0}) TxFault) → HasEntry now name given one last seen after result
+          → HasEntry now (hour_name hour) (hour_inode hour) one last seen after result
+      as_hour result d = subst (λ i. HasEntry now (hour_name hour) i one last seen after result) given_is
+          (subst (λ text. HasEntry now text given one last seen after result) name_is d)
 
-      pub enter_hour-fails : (fault : TxFault) → HasEntry now name given one last middle after (Err fault)
+      pub enter_hour-fails : (fault : TxFault) → HasEntry now name given one last seen after (Err fault)
           → HasHour now hour was last before after (Err fault)
-      enter_hour-fails fault d = hour-fails before middle was now hour low found read_hour none one put_hour after last
-          fault (as_hour (Err fault) d)
+      enter_hour-fails fault d = hour-fails before middle was now hour low found read_hour none seen trash_row trash one
+          put_hour after last fault (as_hour (Err fault) d)
 
-      pub enter_hour-comes : HasEntry now name given one last middle after (Ok tt)
+      pub enter_hour-comes : HasEntry now name given one last seen after (Ok tt)
           → HasHour now hour was last before after (Ok given)
       enter_hour-comes d = subst (λ i. HasHour now hour was last before after (Ok i)) (sym given_is)
-          (hour-comes before middle was now hour low found read_hour none one put_hour after last (as_hour (Ok tt) d))
+          (hour-comes before middle was now hour low found read_hour none seen trash_row trash one put_hour after last
+          (as_hour (Ok tt) d))

@@ -17,7 +17,7 @@ use jv_model::{
     DIRECTORY_LENGTH, MAX_NAME, Moment, Name, Node, Sequence, TRASH_ROOT, TxFault, copied,
 };
 use jv_outside::Keeper;
-use jv_rows::Draft;
+use jv_rows::{Draft, needed_node};
 use std::alloc::{AllocError, Global};
 use std::marker::Model;
 
@@ -100,8 +100,8 @@ fn timestamp(seconds: u64) -> Timestamp
 ///
 /// # Errors
 ///
-/// Stale where the trash isn't there. NoSpace where its link count is at its greatest number, as no whole volume's is. Bad for
-/// a malformed row of the hour or the trash, Failed if the keeper failed, Memory.
+/// NoSpace where the trash's link count is at its greatest number, as no whole volume's is. Bad for a malformed row of the
+/// hour or the trash, and without bytes where the trash itself is absent. Failed if the keeper failed, Memory.
 pub fn enter_hour<K: Keeper>(
     alloc: Global,
     draft: &mut Draft,
@@ -116,6 +116,7 @@ pub fn enter_hour<K: Keeper>(
     if draft.node(k, inode)?.is_some() {
         return Ok(inode);
     }
+    needed_node(alloc, k, draft, TRASH_ROOT)?;
     let name = copied(alloc, hour_name(now).as_slice())?;
     draft.put_node(inode, &hour_node(alloc, now))?;
     put_entry(draft, k, now, TRASH_ROOT, &name, inode)?;

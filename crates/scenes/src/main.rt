@@ -30,11 +30,15 @@
 //! - `script`: all lines from the next one to a line `end` are lines of the script. `lines N TEXT` is a line that
 //!   stands N times, `text N TEXT` a text that stands N times and has no line feed, and `bytes HEX` are any bytes.
 //!   They follow one another in the script.
+//! - `list`: all lines from the next one to a line `end` are the script of a run that lists what is left. It names each
+//!   path that the scene's script may leave, whichever of its lines is left out.
 //!
 //! What is done, in this order:
 //! - The first run is made. Printed are its status, the lines that `out` and standard error gained, the number of its
 //!   journal's entries, how often each device was called and failed, and the place where the keeper was opened. The counts
 //!   are those since the world was made.
+//! - Where the scene has a `list`, that run is made by the scene's words over the rows that are left, on a world of its own
+//!   of which no call fails. Printed are the lines that `out` gained, and the status where that isn't 0.
 //! - `for k FIRST..LAST DEVICE` makes the first run again, with call FIRST of the device failing, then with the next
 //!   one, up to LAST; DEVICE may be `each`, for all of them one after the other. Printed is one line for each run
 //!   that breaks the rule below, and a sum.
@@ -47,10 +51,11 @@
 //!
 //! The rule for a run in which one more call is to fail: where that call isn't made, nothing is different. Else it
 //! ends as the run without it, or with status 5 and the device's name on standard error; only that call fails; its
-//! answers are those of the run without it, or the first ones of them, but for one at most; and its rows are those
-//! before, or those that the run without it leaves, but where it ends between two steps of a script. Where a call of the keeper fails inside an operation, exactly that
-//! operation is answered `err EIO keeper`, and the run goes on; if each line of the script is an operation that is run to its
-//! end, the other answers and the rows are those of the run without that line.
+//! answers are those of the run without it, or the first ones of them, but for one at most; and its rows, and what is
+//! listed of them, are those before, or those that the run without it leaves, but where it ends between two steps of a
+//! script. Where a call of the keeper fails inside an operation, exactly that operation is answered `err EIO keeper`, and
+//! the run goes on; if each line of the script is an operation that is run to its end, the other answers, the rows, and
+//! what is listed of them, are those of the run without that line.
 //!
 //! A malformed line is refused with its number, and then nothing is run.
 #![tactic(auto)]
@@ -63,12 +68,13 @@ mod scene;
 mod stage;
 mod sweep;
 
-use jv_model::Sequence;
+use jv_model::{Rows, Sequence};
 use jv_outside::Fails;
 use reader::{BadLine, SceneReader};
-use report::{push_played, push_then, push_try};
+use report::{push_list, push_played, push_then, push_try};
+use rows::rows_text;
 use scene::{Again, Further, Scene, Variant, bytes_of};
-use stage::{MemWorld, Played, play, with_rows, with_script, world};
+use stage::{MemWorld, play, with_rows, with_script, world};
 use std::alloc::{AllocError, Global};
 use std::io;
 use std::process::ExitCode;
@@ -117,8 +123,8 @@ fn push_scene(alloc: Global, report: &mut String, scene: &Scene) -> Result<(), A
         left = push_further(alloc, report, scene, further, left)?;
     }
     if scene.shows_rows {
-        let (text, _left) = with_rows(alloc, left)?;
-        report.push_str(text.as_str())?;
+        let (rows, _left) = with_rows(alloc, left)?;
+        report.push_str(rows_text(alloc, &rows)?.as_str())?;
     }
     report.push_str("\n")
 }
@@ -131,17 +137,20 @@ fn push_first(alloc: Global, report: &mut String, scene: &Scene) -> Result<MemWo
         return Ok(world);
     }
     let played = play(alloc, scene.words(), world)?;
-    push_first_run(alloc, report, scene, &played)?;
-    Ok(played.world)
+    push_played(alloc, report, &played)?;
+    let (rows, left) = with_rows(alloc, played.world)?;
+    push_after_first(alloc, report, scene, rows)?;
+    Ok(left)
 }
 
-fn push_first_run(
+/// Lists the rows that the first run left, makes the sweeps, and adds what they came to.
+fn push_after_first(
     alloc: Global,
     report: &mut String,
     scene: &Scene,
-    played: &Played,
+    rows: Rows,
 ) -> Result<(), AllocError> {
-    push_played(alloc, report, played)?;
+    push_list(alloc, report, scene, rows)?;
     for sweep in scene.sweeps.as_slice() {
         push_sweep(alloc, report, scene, *sweep)?;
     }

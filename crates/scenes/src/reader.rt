@@ -33,7 +33,7 @@ impl BadLine {
             BadLine::NoScene => "no scene has begun",
             BadLine::NoName => "the scene has no name",
             BadLine::NoKey => "no such key word",
-            BadLine::NotAlone => "`script` stands alone on its line",
+            BadLine::NotAlone => "`script` and `list` stand alone on their lines",
             BadLine::NoEnd => "no line `end` follows the script",
             BadLine::NotNumber => "not a whole number of 64 bits",
             BadLine::PastLastMoment => "past the last moment",
@@ -63,15 +63,21 @@ impl<T: Drop> From<AllocFailed<T>> for BadLine {
     }
 }
 
+/// Of which run a script is.
+#[derive(Clone, Copy)]
+enum Part {
+    First,
+    Further,
+    List,
+}
+
 /// The scenes of the lines so far.
 #[derive(Drop)]
 pub struct SceneReader {
     alloc: Global,
     scenes: Vec<Scene>,
-    /// Whether the lines are those of a script.
-    is_in_script: bool,
-    /// Whether that is the script of a further run.
-    is_further: bool,
+    /// The script whose lines these are, where they are those of one.
+    part: Option<Part>,
 }
 
 impl SceneReader {
@@ -79,15 +85,14 @@ impl SceneReader {
         SceneReader {
             alloc,
             scenes: Vec::new(alloc),
-            is_in_script: false,
-            is_further: false,
+            part: None,
         }
     }
 
     /// Reads the next line.
     pub fn line(&mut self, line: &str) -> Result<(), BadLine> {
-        if self.is_in_script {
-            return self.script_line(line);
+        if let Some(part) = self.part {
+            return self.script_line(part, line);
         }
         if line.is_empty() || line.starts_with("#") {
             return Ok(());
@@ -95,19 +100,16 @@ impl SceneReader {
         let (key, rest) = line.split_once(" ").unwrap_or((line, ""));
         match key {
             "scene" => self.begin(rest),
-            "script" => self.begin_script(rest),
+            "script" => self.begin_script(rest, false),
+            "list" => self.begin_script(rest, true),
             _ => self.read_key(key, rest),
         }
     }
 
     /// The scenes, after the last line.
     pub fn end(self) -> Result<Vec<Scene>, BadLine> {
-        let SceneReader {
-            scenes,
-            is_in_script,
-            ..
-        } = self;
-        if is_in_script {
+        let SceneReader { scenes, part, .. } = self;
+        if part.is_some() {
             return Err(BadLine::NoEnd);
         }
         Ok(scenes)
@@ -129,33 +131,36 @@ impl SceneReader {
         Ok(())
     }
 
-    fn begin_script(&mut self, rest: &str) -> Result<(), BadLine> {
+    fn begin_script(&mut self, rest: &str, is_list: bool) -> Result<(), BadLine> {
         if !rest.is_empty() {
             return Err(BadLine::NotAlone);
         }
         let Some(scene) = self.scenes.last() else {
             return Err(BadLine::NoScene);
         };
-        self.is_further = is_further(scene);
-        self.is_in_script = true;
+        self.part = Some(if is_list { Part::List } else { part_of(scene) });
         Ok(())
     }
 
-    fn script_line(&mut self, line: &str) -> Result<(), BadLine> {
+    fn script_line(&mut self, part: Part, line: &str) -> Result<(), BadLine> {
         if line == "end" {
-            self.is_in_script = false;
+            self.part = None;
             return Ok(());
         }
         match self.scenes.last_mut() {
-            Some(scene) => add_line(self.alloc, scene, self.is_further, line),
+            Some(scene) => add_line(self.alloc, scene, part, line),
             None => Err(BadLine::NoScene),
         }
     }
 }
 
-/// Whether a script that begins now is that of a further run: the scene has a script, and a run on what it left comes last.
-fn is_further(scene: &Scene) -> bool {
-    !scene.script.is_empty() && matches!(scene.further.last(), Some(Further::Again(_)))
+/// Of which run a script is that begins now: of a further one where the scene has a script, and a run on what it left comes
+/// last.
+fn part_of(scene: &Scene) -> Part {
+    match scene.further.last() {
+        Some(Further::Again(_)) if !scene.script.is_empty() => Part::Further,
+        _ => Part::First,
+    }
 }
 
 /// Reads a line by its key word.
@@ -190,11 +195,12 @@ fn read_key(alloc: Global, scene: &mut Scene, key: &str, rest: &str) -> Result<(
     Ok(())
 }
 
-/// Adds a line to the scene's script, or to that of its last further run.
-fn add_line(alloc: Global, scene: &mut Scene, is_further: bool, line: &str) -> Result<(), BadLine> {
+/// Adds a line to one of the scene's scripts.
+fn add_line(alloc: Global, scene: &mut Scene, part: Part, line: &str) -> Result<(), BadLine> {
     let piece = Piece::Lines(1, String::from_str(alloc, line)?);
-    match scene.further.last_mut() {
-        Some(Further::Again(again)) if is_further => again.script.push(piece)?,
+    match (part, scene.further.last_mut()) {
+        (Part::List, _) => scene.list.push(piece)?,
+        (Part::Further, Some(Further::Again(again))) => again.script.push(piece)?,
         _ => scene.script.push(piece)?,
     }
     Ok(())

@@ -1,6 +1,8 @@
 //! What is printed of runs.
 use crate::device::DEVICES;
-use crate::stage::Played;
+use crate::scene::Scene;
+use crate::stage::{Played, play_list};
+use jv_model::Rows;
 use std::alloc::{AllocError, Global};
 use std::str;
 
@@ -80,6 +82,29 @@ pub fn push_played(alloc: Global, report: &mut String, played: &Played) -> Resul
             str::from_utf8(place).unwrap_or("not text"),
         ),
         None => Ok(()),
+    }
+}
+
+/// Lists what is left in rows, where the scene has a script for that, and adds the answers.
+pub fn push_list(
+    alloc: Global,
+    report: &mut String,
+    scene: &Scene,
+    rows: Rows,
+) -> Result<(), AllocError> {
+    if scene.list.is_empty() {
+        return Ok(());
+    }
+    let played = play_list(alloc, scene, rows)?;
+    push_listed(alloc, report, &played)
+}
+
+/// Adds the answers of a run, and its status where that isn't 0.
+fn push_listed(alloc: Global, report: &mut String, played: &Played) -> Result<(), AllocError> {
+    push_gained(alloc, report, "list", played.out.as_slice())?;
+    match played.status {
+        0 => Ok(()),
+        status => writeln!(report, "list, status {status}"),
     }
 }
 

@@ -28,25 +28,29 @@ fn add_fresh(alloc: Global, rows: &mut Rows) -> Result<(), AllocError> {
     Ok(())
 }
 
-/// The rows of a keeper as text, each in the form in which a scene has it, and the keeper.
-pub fn rows_text(alloc: Global, keeper: MemKeeper) -> Result<(String, MemKeeper), AllocError> {
+/// All rows of a keeper, and the keeper.
+pub fn rows_of(alloc: Global, keeper: MemKeeper) -> Result<(Rows, MemKeeper), AllocError> {
     let mut keeper = keeper;
-    let mut text = String::new(alloc);
+    let mut all = Sequence::new(alloc);
     for tab in 0..=u8::MAX {
-        let rows = keeper.rows_in(tab)?;
-        push_rows(alloc, &mut text, tab, &rows)?;
+        for row in keeper.rows_in(tab)?.into_vec() {
+            all.push(row)?;
+        }
     }
-    Ok((text, keeper))
+    Ok((all, keeper))
 }
 
-fn push_rows(alloc: Global, text: &mut String, tab: u8, rows: &Rows) -> Result<(), AllocError> {
+/// Rows as text, each in the form in which a scene has it.
+pub fn rows_text(alloc: Global, rows: &Rows) -> Result<String, AllocError> {
+    let mut text = String::new(alloc);
     for (key, value) in rows.as_slice() {
+        let tab = key.tab;
         let a = key.a;
         let b = digits(alloc, key.b.as_slice())?;
         let value = digits(alloc, value.as_slice())?;
         writeln!(text, "row {tab} {a} {b} {value}")?;
     }
-    Ok(())
+    Ok(text)
 }
 
 /// Bytes in hexadecimal digits, or `-` for none.

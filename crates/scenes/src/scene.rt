@@ -85,6 +85,8 @@ pub struct Scene {
     /// Further rows; they stand in place of fresh ones with their keys.
     pub rows: Vec<(RowKey, Bytes)>,
     pub script: Vec<Piece>,
+    /// The script of a run that lists what is left; none where nothing is listed.
+    pub list: Vec<Piece>,
     pub shows_rows: bool,
     pub further: Vec<Further>,
     pub sweeps: Vec<Sweep>,
@@ -102,6 +104,7 @@ impl Scene {
             is_fresh: true,
             rows: Vec::new(alloc),
             script: Vec::new(alloc),
+            list: Vec::new(alloc),
             shows_rows: false,
             further: Vec::new(alloc),
             sweeps: Vec::new(alloc),

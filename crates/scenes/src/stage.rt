@@ -1,7 +1,7 @@
 //! Worlds of devices in memory, and runs over them.
 use crate::device::Device;
-use crate::rows::{rows, rows_text};
-use crate::scene::{Scene, Variant};
+use crate::rows::{rows, rows_of};
+use crate::scene::{Scene, Variant, bytes_of};
 use jv_cmd::{Finish, World, run};
 use jv_model::{Bytes, Journal, Rows, Sequence};
 use jv_outside::{Fails, MemClock, MemKeeper, MemSink, MemSource};
@@ -53,6 +53,17 @@ struct Failing {
     err: Fails,
     clock: Fails,
     keeper: Fails,
+}
+
+/// No call fails.
+fn none_fails(alloc: Global) -> Failing {
+    Failing {
+        source: Fails::At(Sequence::new(alloc)),
+        out: Fails::At(Sequence::new(alloc)),
+        err: Fails::At(Sequence::new(alloc)),
+        clock: Fails::At(Sequence::new(alloc)),
+        keeper: Fails::At(Sequence::new(alloc)),
+    }
 }
 
 fn calls_that_fail(
@@ -109,8 +120,8 @@ pub fn with_script(world: MemWorld, script: Bytes, never: Fails) -> MemWorld {
     }
 }
 
-/// The rows of a world's keeper as text, and the world.
-pub fn with_rows(alloc: Global, world: MemWorld) -> Result<(String, MemWorld), AllocError> {
+/// The rows of a world's keeper, and the world.
+pub fn with_rows(alloc: Global, world: MemWorld) -> Result<(Rows, MemWorld), AllocError> {
     let World {
         source,
         out,
@@ -119,7 +130,7 @@ pub fn with_rows(alloc: Global, world: MemWorld) -> Result<(String, MemWorld), A
         clock,
         journal,
     } = world;
-    let (text, keeper) = rows_text(alloc, keeper)?;
+    let (rows, keeper) = rows_of(alloc, keeper)?;
     let world = World {
         source,
         out,
@@ -128,7 +139,14 @@ pub fn with_rows(alloc: Global, world: MemWorld) -> Result<(String, MemWorld), A
         clock,
         journal,
     };
-    Ok((text, world))
+    Ok((rows, world))
+}
+
+/// Runs a scene's words over these rows, with the script that lists what is left, on a world of which no call fails.
+pub fn play_list(alloc: Global, scene: &Scene, rows: Rows) -> Result<Played, AllocError> {
+    let script = bytes_of(alloc, scene.list.as_slice())?;
+    let world = made(alloc, scene, script, rows, none_fails(alloc));
+    play(alloc, scene.words(), world)
 }
 
 /// Runs words over a world.

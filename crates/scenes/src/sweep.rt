@@ -1,21 +1,36 @@
 //! Runs of a scene in each of which one more call fails, and the rule that each of them keeps.
 use crate::device::{DEVICES, Device};
-use crate::report::push_played;
+use crate::report::{push_list, push_played};
+use crate::rows::rows_text;
 use crate::scene::{Scene, Sweep, Variant};
-use crate::stage::{Played, play, with_rows, world};
+use crate::stage::{MemWorld, Played, play, with_rows, world};
+use jv_model::Rows;
 use std::alloc::{AllocError, Global};
 use std::str;
 
 /// The status of a run that a device's fault ended.
 const FAILED: u8 = 5;
 
-/// A run, what is printed of it, and the rows before it and after it.
+/// The rows of a keeper, and what the scene lists of them.
+#[derive(Drop)]
+struct Left {
+    rows: String,
+    listed: String,
+}
+
+impl Left {
+    fn is_same_as(&self, other: &Left) -> bool {
+        self.rows.as_str() == other.rows.as_str() && self.listed.as_str() == other.listed.as_str()
+    }
+}
+
+/// A run, what is printed of it, and what is there before it and after it.
 #[derive(Drop)]
 struct Run {
     played: Played,
     text: String,
-    before: String,
-    after: String,
+    before: Left,
+    after: Left,
 }
 
 /// Runs a sweep, and adds what it came to: each run that breaks the rule, and a sum for each device.
@@ -45,21 +60,45 @@ fn push_devices(
 }
 
 fn show(alloc: Global, scene: &Scene, variant: Variant<'_>) -> Result<Run, AllocError> {
-    let (before, world) = with_rows(alloc, world(alloc, scene, variant)?)?;
+    let (before, world) = with_left(alloc, scene, world(alloc, scene, variant)?)?;
     let played = play(alloc, scene.words(), world)?;
     let mut text = String::new(alloc);
     push_played(alloc, &mut text, &played)?;
-    shown(alloc, played, text, before)
+    shown(alloc, scene, played, text, before)
 }
 
-fn shown(alloc: Global, played: Played, text: String, before: String) -> Result<Run, AllocError> {
+/// What is in a world's keeper, and the world.
+fn with_left(
+    alloc: Global,
+    scene: &Scene,
+    world: MemWorld,
+) -> Result<(Left, MemWorld), AllocError> {
+    let (rows, world) = with_rows(alloc, world)?;
+    let left = left_in(alloc, scene, rows)?;
+    Ok((left, world))
+}
+
+fn left_in(alloc: Global, scene: &Scene, rows: Rows) -> Result<Left, AllocError> {
+    let text = rows_text(alloc, &rows)?;
+    let mut listed = String::new(alloc);
+    push_list(alloc, &mut listed, scene, rows)?;
+    Ok(Left { rows: text, listed })
+}
+
+fn shown(
+    alloc: Global,
+    scene: &Scene,
+    played: Played,
+    text: String,
+    before: Left,
+) -> Result<Run, AllocError> {
     let Played {
         status,
         out,
         err,
         world,
     } = played;
-    let (after, world) = with_rows(alloc, world)?;
+    let (after, world) = with_left(alloc, scene, world)?;
     let played = Played {
         status,
         out,
@@ -208,8 +247,8 @@ fn failures(run: &Run) -> usize {
 }
 
 /// What of the rule a run breaks whose operation at a line met a keeper that failed: it has one such answer more for the one
-/// call more that failed; and where each line is an operation that is run to its end, the other answers and the rows are those of
-/// the run without that line.
+/// call more that failed; and where each line is an operation that is run to its end, the other answers, the rows and what is
+/// listed of them are those of the run without that line.
 fn broken_failure(
     alloc: Global,
     scene: &Scene,
@@ -230,8 +269,8 @@ fn broken_failure(
         return Ok(None);
     }
     let without = show(alloc, scene, Variant::Without(line))?;
-    if without.after.as_str() != now.after.as_str() {
-        return Ok(Some("the rows aren't those of the run without the line"));
+    if !now.after.is_same_as(&without.after) {
+        return Ok(Some("the rows, or what is listed, aren't those of the run without the line"));
     }
     if has_answers_besides(&now.played, &without.played, line) {
         Ok(None)
@@ -269,7 +308,7 @@ fn broken_by(
 fn broken_rule(base: &Run, now: &Run, device: Device) -> Option<&'static str> {
     let rise = rise(&base.played, &now.played, device);
     if !has_rows_of(base, now) && !was_cut_off(&now.played) {
-        Some("the rows are neither those before nor those of the whole run")
+        Some("the rows, or what is listed, are neither those before nor those of the whole run")
     } else if rise == 0 && now.text.as_str() != base.text.as_str() {
         Some("no call failed, and yet it is another run")
     } else if rise > 1 {
@@ -283,10 +322,9 @@ fn broken_rule(base: &Run, now: &Run, device: Device) -> Option<&'static str> {
     }
 }
 
-/// Whether a run leaves the rows that were there before, or those of the whole run.
+/// Whether a run leaves what was there before, or what the whole run leaves.
 fn has_rows_of(base: &Run, now: &Run) -> bool {
-    let after = now.after.as_str();
-    after == base.before.as_str() || after == base.after.as_str()
+    now.after.is_same_as(&base.before) || now.after.is_same_as(&base.after)
 }
 
 /// Whether a run ended at a failed device after the first step of a script. Its rows are those that its steps left.
