@@ -1,9 +1,8 @@
 -- Things in a list over a map, when one goes into the map, and when all of one key are removed.
-use Rattle.std.proofs.Common.{◌≡◌, Bool, true, false, cond, not, List, [], ◌∷◌, ◌++◌, filter, Option, None, Some, refl, sym, ap, subst, ◌∙◌}
+use Rattle.std.proofs.Common.{◌≡◌, Bool, true, false, cond, not, List, [], ◌∷◌, ◌++◌, filter, None, Some, refl, sym, ap, subst, ◌∙◌}
 use Rattle.std.specs.declared.cmp.Ordering.{Ordering}
 use Rattle.std.specs.declared.cmp.Ordering.TheVariants.{Less, Equal, Greater}
 use Rattle.std.specs.Ordering.{eq_by_cmp, is_eq}
-use Rattle.std.specs.Cmp.{eq_by_cmp_equiv}
 use Rattle.jv_model.specs.FiniteMap.{KeyOrder, Map, empty_map, get, insert, remove, map_of}
 use Rattle.jv_model.proofs.FiniteMapLaws.{get-insert, get-remove, get-empty_map, same_maps}
 use Rattle.jv_outside.specs.declared.block_store.BlockStore.{BlockStore}

@@ -1,5 +1,5 @@
 -- A scan of the tree finds the rows of the table after the key.
-use Rattle.std.proofs.Common.{◌≡◌, ◌≢◌, ℕ, suc, ◌-◌, ◌<◌, ◌≤◌, Bool, true, false, cond, if◌then◌else◌, ◌&&◌, ◌==◌, T, List, [], ◌∷◌, ◌++◌, length, length-append, filter, take, take_while, Option, None, Some, Result, IfOk, refl, sym, ap, subst, ◌∙◌, append_assoc, append-nil, eqb-true, ne_eqb, arith}
+use Rattle.std.proofs.Common.{◌≡◌, ◌≢◌, ℕ, suc, ◌-◌, ◌<◌, ◌≤◌, Bool, true, false, cond, if◌then◌else◌, ◌&&◌, ◌==◌, T, List, [], ◌∷◌, ◌++◌, length, length-append, filter, take, take_while, Option, None, Some, Result, IfOk, refl, sym, ap, subst, ◌∙◌, append_assoc, eqb-true, ne_eqb, arith}
 use Rattle.std.proofs.lemmas.Bool.{eqb-false}
 use Rattle.std.proofs.lemmas.List.Sums.{take_while-cons}
 use Rattle.std.specs.declared.cmp.Ordering.{Ordering}
