@@ -4,6 +4,14 @@ pub mod Rows
 pub mod Stream
 pub mod Ticks
 pub mod Store
+pub mod Holding
+pub mod Overlaid
+pub mod Parcels
+pub mod Objects
+pub mod Carriage
+pub mod Blocks
 pub mod Calls
 pub mod InMemory
 pub mod Stored
+pub mod StoredObjects
+pub mod StoredBlocks
