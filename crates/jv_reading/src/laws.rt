@@ -1,0 +1,12 @@
+//! What a reader of a part may rely on. Each law is a function that does nothing.
+ghost use Rattle.jv_reading.specs.Laws.{BlocksAreTold, NamedAreThere};
+
+/// Blocks that are there tell of each block the bytes that it has.
+pub fn blocks_are_told()
+    ensures { BlocksAreTold }
+{}
+
+/// Where all blocks of all slices are there, so is each block of the slice of a record.
+pub fn named_are_there()
+    ensures { NamedAreThere }
+{}
