@@ -1,5 +1,5 @@
 -- Laws of a part that is read.
-use Rattle.std.proofs.Common.{◌≡◌, ℕ, zero, suc, ◌+◌, ◌-◌, ◌/◌, ◌<◌, ◌≤◌, ◌⊎◌, inl, inr, true, false, List, [], ◌∷◌, length, map, drop, get_or, slice_get, slice_index, Some, refl, sym, ap, ◌∙◌, subst, ⊎_elim, arith}
+use Rattle.std.proofs.Common.{◌≡◌, ℕ, zero, suc, ◌+◌, ◌-◌, ◌/◌, ◌<◌, ◌≤◌, ◌⊎◌, inl, inr, true, false, List, [], ◌∷◌, length, map, drop, get_or, slice_get, slice_index, Option, Some, unwrap_or, ◌%◌, refl, sym, ap, ◌∙◌, subst, ⊎_elim, arith}
 use Rattle.std.specs.Prelude.{All, Contains, IfSome, IsSomeAnd}
 use Rattle.std.specs.List.{flat_map, list_any, range_with_len}
 use Rattle.std.proofs.lemmas.Bool.{cases_Bool, cases_lt, false≢true}
@@ -17,11 +17,13 @@ use Rattle.jv_model.specs.journal.Reading.{bytes_from}
 use Rattle.jv_slices.specs.Shown.{IsOfRecord, NamesRecord}
 use Rattle.jv_slices.proofs.BlockLaws.{index_below, div_rises}
 use Rattle.jv_slices.proofs.NeedLaws.{equal_if_same, same_self, same_block_laws, needs_are_those, needs_have_each_byte}
+use Rattle.jv_contents.specs.Blocks.{Blocks, told_by}
 use Rattle.jv_contents.specs.Bytes.{Told, spot_byte}
 use Rattle.jv_reading.specs.declared.copying.Overlap.{Overlap}
 use Rattle.jv_reading.specs.Copies.{Fits, HasBytes, IsCopied}
 use Rattle.jv_reading.specs.Overlaps.{HasOverlaps, IsByteOf, IsListed, IsOverlap, Overlaps, reaches}
 use Rattle.jv_reading.specs.Parts.{IsNamed, IsOfNone, IsToldOf, ReadsAs, window_byte}
+use Rattle.jv_reading.specs.Laws.{ReadsGoOn}
 use Rattle.jv_reading.proofs.CopyLaws.{same_bytes_from}
 
 -- where no block is left, each byte is of none
@@ -196,3 +198,18 @@ pieces_named list block (p ∷ ps) some parts names =
     (All-append P (blocks_of_piece block p) (flat_map (blocks_of_piece block) ps)
     (piece_named list block p.len p.spot some part.some part.inside (All-head (IsOfRecord list) p ps names))
     (pieces_named list block ps some (All-tail IsPart p ps parts) (All-tail (IsOfRecord list) p ps names)))
+
+-- what blocks tell of a block that is there
+pub told_there : (block : ℕ) (blocks : Blocks) (b : BlockId) (bytes : List ℕ) → blocks b ≡ Some bytes → IsToldOf (told_by block blocks) block bytes b
+told_there block blocks b bytes there id size at inside is =
+    sym (ap (λ (q : BlockId). slice_index (unwrap_or (blocks q) []) (at % block)) is ∙ ap (λ (o : Option (List ℕ)). slice_index (unwrap_or o []) (at % block)) there)
+
+pub reads_go_on : ReadsGoOn
+reads_go_on = record {
+  come = λ blocks later part grows reads last more. reads last (λ b bytes there. more b bytes (grows b bytes there));
+  filled = λ blocks b bytes before after there first same fills reads later grows.
+      let P : Option BlockId → Type 0 = λ o. IfSome o (IsToldOf (told_by before.block later) before.block bytes) in
+      let next : IfSome (slice_get before.left 0) (IsToldOf (told_by before.block later) before.block bytes) =
+      subst P (sym first) (told_there before.block later b bytes (grows b bytes there)) in
+      subst (λ (n : ℕ). ReadsAs (told_by n later) after) (sym same) (fills (told_by before.block later) next (reads later grows));
+}

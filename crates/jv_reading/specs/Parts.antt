@@ -1,5 +1,5 @@
 -- A part of a window that is read, block by block.
-use Rattle.std.specs.Prelude.{◌≡◌, ℕ, ◌+◌, ◌-◌, ◌/◌, ◌%◌, ◌<◌, List, slice_index, Contains}
+use Rattle.std.specs.Prelude.{◌≡◌, ℕ, ◌+◌, ◌-◌, ◌/◌, ◌%◌, ◌<◌, List, slice_get, slice_index, Contains, IfSome}
 use Rattle.jv_model.specs.declared.slice.BlockId.{BlockId}
 use Rattle.jv_model.specs.declared.slice.Rec.{Rec}
 use Rattle.jv_model.specs.declared.slice.Spot.{Spot}
@@ -40,6 +40,10 @@ ReadsAs told part = (n : ℕ) → n < part.to - part.from → IsOfNone part.bloc
 -- these bytes are told of a block
 abbrev pub IsToldOf : Told → ℕ → List ℕ → BlockId → Type 0
 IsToldOf told block bytes b = (id size at : ℕ) → at < size → block_at id size block (at / block) ≡ b → slice_index bytes (at % block) ≡ told id size at
+
+-- where the bytes are those of the block that is next, the part reads as is told, as it did before
+abbrev pub FillsIn : List ℕ → Part → Part → Type 0
+FillsIn bytes before after = (told : Told) → IfSome (slice_get before.left 0) (IsToldOf told before.block bytes) → ReadsAs told before → ReadsAs told after
 
 -- a block of the slice of one of the records
 pub record IsNamed (list : List Rec) (block : ℕ) (b : BlockId) : Type 0 where

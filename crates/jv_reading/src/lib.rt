@@ -6,5 +6,5 @@ mod laws;
 mod reading;
 mod table;
 
-pub use laws::{blocks_are_told, named_are_there};
+pub use laws::{blocks_are_told, named_are_there, reads_go_on};
 pub use reading::WindowRead;

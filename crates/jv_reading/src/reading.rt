@@ -4,7 +4,7 @@ ghost use Rattle.jv_model.specs.declared.slice.Piece.{Piece as PieceSeen};
 ghost use Rattle.jv_model.specs.blocks.Slices.{IsRecord, IsPlan, needed_blocks};
 ghost use Rattle.jv_model.specs.journal.Reading.{bytes_from};
 ghost use Rattle.jv_contents.specs.Bytes.{Told};
-ghost use Rattle.jv_reading.specs.Parts.{IsPartOf, IsNamed, IsToldOf, ReadsAs, window_byte};
+ghost use Rattle.jv_reading.specs.Parts.{IsPartOf, IsNamed, FillsIn, ReadsAs, window_byte};
 
 use crate::copying::copy_overlaps;
 use crate::table::{Table, overlaps_of, table_of};
@@ -88,9 +88,7 @@ impl WindowRead {
         requires { IsSomeAnd (slice_get self.old.left 0) (λ b. length bytes.now ≡ b.size) }
         ensures part { IsPartOf self.old.list self.old.from self.old.to self.old.block self.new }
         ensures left { self.new.left ≡ drop 1 self.old.left }
-        ensures reads { (told : Told) →
-            IfSome (slice_get self.old.left 0) (IsToldOf told self.old.block bytes.now) →
-            ReadsAs told self.old → ReadsAs told self.new }
+        ensures reads { FillsIn bytes.now self.old self.new }
     {
         let block = self.needed[self.filled];
         copy_overlaps(&mut self.bytes, overlaps_of(&self.table, block), bytes);

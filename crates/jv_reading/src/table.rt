@@ -83,12 +83,12 @@ fn add_piece(
     let mut done = 0;
     while done < piece.len {
         let index = (at + done) / block;
-        let place = (at + done) % block;
+        let inside = (at + done) % block;
         let size = block_len(size, block, index);
-        let len = (piece.len - done).min(size - place);
+        let len = (piece.len - done).min(size - inside);
         let overlap = Overlap {
             start: start + done,
-            place,
+            place: inside,
             len,
         };
         add_overlap(alloc, table, BlockId { id, index, size }, overlap)?;
