@@ -1,4 +1,4 @@
-ghost use Rattle.std.specs.Prelude.{◌≡◌, ℕ, ◌-◌, ◌<◌, ◌≤◌, List, [], drop, length, slice_get, slice_index, All, IfOk, IfSome, IsSomeAnd};
+ghost use Rattle.std.specs.Prelude.{◌≡◌, ℕ, ◌-◌, ◌<◌, ◌≤◌, List, [], drop, length, slice_get, slice_index, All, IfOk, IfSome, IsSomeAnd, None};
 ghost use Rattle.jv_model.specs.declared.limits.TheConstants.{WINDOW};
 ghost use Rattle.jv_model.specs.declared.slice.Piece.{Piece as PieceSeen};
 ghost use Rattle.jv_model.specs.blocks.Slices.{IsRecord, IsPlan, needed_blocks};
@@ -78,6 +78,7 @@ impl WindowRead {
     /// The block to be filled in next, or `None` where none is left. Takes no memory.
     pub fn next(&self) -> Option<BlockId>
         ensures next { result ≡ slice_get self.now.left 0 }
+        ensures none { result ≡ None → self.now.left ≡ [] }
         ensures named { IfSome result (IsNamed self.now.list self.now.block) }
     {
         self.needed.get(self.filled).copied()

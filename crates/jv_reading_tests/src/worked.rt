@@ -19,7 +19,11 @@ fn bytes_of(alloc: Global, block: BlockId) -> Result<Vec<u8>, AllocError>
     ensures { IfOk result (λ bytes. length bytes.items ≡ block.size) }
 {
     let mut bytes = vec![in alloc; 0; block.size as usize]?;
-    put_bytes(&mut bytes, block.id, u64::from(block.index) * u64::from(BLOCK));
+    put_bytes(
+        &mut bytes,
+        block.id,
+        u64::from(block.index) * u64::from(BLOCK),
+    );
     Ok(bytes)
 }
 
@@ -32,12 +36,7 @@ fn put_bytes(bytes: &mut [u8], id: u64, first: u64)
 }
 
 /// Reads a part of a window, and lists the blocks in the order in which they were asked for.
-fn read(
-    alloc: Global,
-    list: &List,
-    from: u32,
-    to: u32,
-) -> Result<(Vec<BlockId>, Bytes), AllocError>
+fn read(alloc: Global, list: &List, from: u32, to: u32) -> Result<(Vec<BlockId>, Bytes), AllocError>
     requires records { All IsRecord list.now }
     requires rising { from ≤ to }
     requires in_window { to ≤ WINDOW }
@@ -112,7 +111,12 @@ fn a_part_is_read_from_its_blocks(rt: HostRuntime) -> Result<(), Fail> {
     let (last, short) = (of(1, 3, 3_392), of(2, 0, 10));
     let rows: [(&str, u32, u32, &[BlockId]); 5] = [
         ("nothing", 80, 80, &[]),
-        ("one block, of which two pieces show parts", 90, 160, &[first]),
+        (
+            "one block, of which two pieces show parts",
+            90,
+            160,
+            &[first],
+        ),
         ("a hole", 110, 140, &[]),
         (
             "three blocks, of which two pieces show the second",
