@@ -3,8 +3,8 @@
 
 mod copying;
 mod laws;
-mod reading;
 mod table;
+mod window;
 
 pub use laws::{blocks_are_told, named_are_there, reads_go_on};
-pub use reading::WindowRead;
+pub use window::WindowRead;

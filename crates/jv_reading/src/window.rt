@@ -15,7 +15,7 @@ use std::marker::Model;
 use std::snapshot::Snapshot;
 
 /// The bytes of a part of a window, while the blocks that it needs come one by one. It keeps the bytes and where each block
-/// shows in them, and no block.
+/// shows in them, and no block: its memory is that of the part and of its pieces, whatever the length of blocks.
 #[derive(Drop)]
 pub struct WindowRead {
     list: Snapshot<List>,
@@ -41,8 +41,8 @@ impl Model for WindowRead {
 }
 
 impl WindowRead {
-    /// The positions of a window from `from` to `to`, by the window's list, over slices in blocks of `block` bytes. No block
-    /// is filled in yet, and each byte is 0.
+    /// The positions of a window from `from` up to `to`, at most 67,108,864, by the window's list, over slices in blocks of
+    /// `block` bytes, at least 1. No block is filled in yet, and each byte is 0. Takes n log n time for n records and blocks.
     pub fn new(
         alloc: Global,
         list: &List,
@@ -84,7 +84,8 @@ impl WindowRead {
         self.needed.get(self.filled).copied()
     }
 
-    /// Fills in the bytes of the block that is next, at each position that shows one of them. Takes no memory.
+    /// Fills in the bytes of the block that is next, at each position that shows one of them, and takes it off those that are
+    /// left. There is one, and these are as many bytes as its `size` says. Takes no memory.
     pub fn fill(&mut self, bytes: &[u8])
         requires { IsSomeAnd (slice_get self.old.left 0) (λ b. length bytes.now ≡ b.size) }
         ensures part { IsPartOf self.old.list self.old.from self.old.to self.old.block self.new }

@@ -6,7 +6,7 @@ use Rattle.std.proofs.lemmas.Bool.{cases_lt}
 use Rattle.std.proofs.lemmas.List.{drop_all}
 use Rattle.jv_model.specs.declared.slice.BlockId.{BlockId}
 use Rattle.jv_reading.specs.Parts.{Part}
-use Rattle.jv_reading.proofs.reading.WindowRead.next.Goals as goal
+use Rattle.jv_reading.proofs.window.WindowRead.next.Goals as goal
 
 copied_none : (found : Option (Bor BlockId)) → option_copied found ≡ None → IsSome found → ⊥
 copied_none None none some = cc

@@ -8,7 +8,7 @@ use Rattle.jv_reading.specs.Copies.{Fits, HasBytes, IsCopied}
 use Rattle.jv_reading.specs.Overlaps.{IsOverlap, overlaps_at}
 use Rattle.jv_reading.specs.Parts.{IsToldOf, Part, ReadsAs}
 use Rattle.jv_reading.proofs.PartLaws.{fill_reads, next_below, next_has, overlaps_fit}
-use Rattle.jv_reading.proofs.reading.WindowRead.fill.Goals as goal
+use Rattle.jv_reading.proofs.window.WindowRead.fill.Goals as goal
 
 pub copy_overlaps-requires : goal.copy_overlaps-requires
 copy_overlaps-requires c =

@@ -3,7 +3,7 @@ use Rattle.jv_model.specs.declared.slice.BlockId.{BlockId}
 use Rattle.jv_model.specs.journal.Reading.{bytes_from}
 use Rattle.jv_reading.specs.Parts.{Part, ReadsAs, window_byte}
 use Rattle.jv_reading.proofs.PartLaws.{read_out}
-use Rattle.jv_reading.proofs.reading.WindowRead.into_bytes.Goals as goal
+use Rattle.jv_reading.proofs.window.WindowRead.into_bytes.Goals as goal
 
 pub returns : goal.returns
 returns c = λ told reads.

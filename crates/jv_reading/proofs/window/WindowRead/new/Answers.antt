@@ -8,7 +8,7 @@ use Rattle.jv_reading.specs.Overlaps.{HasOverlaps, overlaps_at}
 use Rattle.jv_reading.specs.Parts.{IsNamed, ReadsAs}
 use Rattle.jv_reading.proofs.OverlapLaws.{plan_begins}
 use Rattle.jv_reading.proofs.PartLaws.{needed_All, pieces_named, reads_none}
-use Rattle.jv_reading.proofs.reading.WindowRead.new.Goals as goal
+use Rattle.jv_reading.proofs.window.WindowRead.new.Goals as goal
 
 pub table_of-requires-clause-begins : goal.table_of-requires-clause-begins
 table_of-requires-clause-begins c = plan_begins c.args.list.now c.args.from c.args.to c.args.from c.in_ok-pieces.pieces (omega arith) c.in_ok-pieces.ensures.plan
