@@ -1,0 +1,4 @@
+-- Lemmas.
+pub mod CopyLaws
+pub mod OverlapLaws
+pub mod PartLaws

@@ -1,0 +1,46 @@
+use Rattle.std.proofs.Common.{◌≡◌, ◌+◌, ◌-◌, ◌∙◌, List, ap, sym, subst, arith}
+use Rattle.std.specs.Prelude.{All}
+use Rattle.jv_model.specs.declared.slice.BlockId.{BlockId}
+use Rattle.jv_model.specs.declared.slice.Rec.{Rec}
+use Rattle.jv_model.specs.blocks.Slices.{needed_blocks, stored_place}
+use Rattle.jv_slices.proofs.PlanFormLaws.{plans_are_determined}
+use Rattle.jv_reading.specs.Overlaps.{HasOverlaps, overlaps_at}
+use Rattle.jv_reading.specs.Parts.{IsNamed, ReadsAs}
+use Rattle.jv_reading.proofs.OverlapLaws.{plan_begins}
+use Rattle.jv_reading.proofs.PartLaws.{needed_All, pieces_named, reads_none}
+use Rattle.jv_reading.proofs.window.WindowRead.new.Goals as goal
+
+pub table_of-requires-clause-begins : goal.table_of-requires-clause-begins
+table_of-requires-clause-begins c = plan_begins c.args.list.now c.args.from c.args.to c.args.from c.in_ok-pieces.pieces (omega arith) c.in_ok-pieces.ensures.plan
+
+pub invariant_of-result : goal.invariant_of-result
+invariant_of-result c =
+    let list = c.args.list.now in
+    let from = c.args.from in
+    let to = c.args.to in
+    let block = c.args.block in
+    let pieces = c.in_ok-pieces.pieces in
+    let seen : list ≡ c.of.result.value = sym c.of.ensures in
+    let needed : needed_blocks block pieces ≡ c.into_vec-needed.result.items = sym (c.into_vec-needed.ensures ∙ c.in_ok-needs.ensures) in
+    let named : All (IsNamed list block) (needed_blocks block pieces) =
+    needed_All (IsNamed list block) block pieces (pieces_named list block pieces c.requires.some c.in_ok-pieces.ensures.parts c.in_ok-pieces.ensures.named) in
+    let named' : All (IsNamed list block) c.into_vec-needed.result.items = subst (λ (bs : List BlockId). All (IsNamed list block) bs) needed named in
+    record {
+      long = c.in_ok-bytes.ensures.length;
+      named = subst (λ (records : List Rec). All (IsNamed records block) c.into_vec-needed.result.items) seen named';
+      has = subst (λ (records : List Rec). HasOverlaps block (λ n. stored_place records (from + n)) (to - from) (to - from) (overlaps_at c.in_ok-table.table.entries)) seen
+          (c.in_ok-table.ensures list c.in_ok-pieces.ensures.plan c.in_ok-pieces.ensures.says);
+    }
+
+pub returns-clause-left : goal.returns-clause-left
+returns-clause-left c = λ pieces plan.
+    c.into_vec-needed.ensures ∙ c.in_ok-needs.ensures
+    ∙ ap (needed_blocks c.args.block) (plans_are_determined c.args.list.now c.args.from c.args.to c.in_ok-pieces.pieces pieces c.in_ok-pieces.ensures.plan plan)
+
+pub returns-clause-reads : goal.returns-clause-reads
+returns-clause-reads c = λ told.
+    let needed = c.into_vec-needed.result.items in
+    let bytes = c.in_ok-bytes.bytes.items in
+    subst (λ (records : List Rec). ReadsAs told (record { list = records; from = c.args.from; to = c.args.to; block = c.args.block; left = needed; bytes = bytes })) (sym c.of.ensures)
+    (reads_none told c.args.block c.args.list.now c.args.from c.args.to c.in_ok-pieces.pieces needed bytes c.requires.some c.in_ok-pieces.ensures.plan c.in_ok-pieces.ensures.says
+    (c.into_vec-needed.ensures ∙ c.in_ok-needs.ensures) c.in_ok-bytes.ensures.zeros)

@@ -1,0 +1,72 @@
+-- Where the bytes of blocks are shown in a part of a window. Positions are counted from the part's first.
+use Rattle.std.specs.Prelude.{◌≡◌, ℕ, ◌+◌, ◌/◌, ◌%◌, ◌<◌, ◌≤◌, Bool, true, ◌&&◌, nat_le, nat_lt, List, [], ◌∷◌, ◌++◌, if◌then◌else◌, Option, None, Some, All}
+use Rattle.std.specs.List.{list_any}
+use Rattle.std.specs.Global.{Vec}
+use Rattle.std.specs.declared.cmp.Ordering.{Ordering}
+use Rattle.std.specs.Ordering.{nat_cmp, ordering_then}
+use Rattle.std.specs.BTreeMap.{is_at}
+use Rattle.std.specs.Map.{lookup}
+use Rattle.jv_model.specs.declared.slice.BlockId.{BlockId}
+use Rattle.jv_model.specs.declared.slice.Piece.{Piece}
+use Rattle.jv_model.specs.declared.slice.Spot.{Spot}
+use Rattle.jv_model.specs.declared.slice.Spot.TheVariants.{Zero, Slice}
+use Rattle.jv_model.specs.blocks.Slices.{block_at, is_same_block, place_after}
+use Rattle.jv_reading.specs.declared.table.BlockKey.{BlockKey}
+use Rattle.jv_reading.specs.declared.copying.Overlap.{Overlap}
+
+abbrev pub key_of : BlockId → BlockKey
+key_of b = record { id = b.id; index = b.index; size = b.size }
+
+-- the order of the table: by id, index and size
+abbrev pub key_cmp : BlockKey → BlockKey → Ordering
+key_cmp a b = ordering_then (nat_cmp a.id b.id) (ordering_then (nat_cmp a.index b.index) (nat_cmp a.size b.size))
+
+abbrev pub or_none : Option (Vec Overlap) → List Overlap
+or_none None = []
+or_none (Some overlaps) = overlaps.items
+
+-- the overlaps of a block by a table, and by a function
+abbrev pub Table : Type 0
+Table = List (BlockKey × Vec Overlap)
+
+abbrev pub overlaps_at : Table → BlockId → List Overlap
+overlaps_at table b = or_none (lookup (is_at (key_cmp (key_of b))) table)
+
+abbrev pub Overlaps : Type 0
+Overlaps = BlockId → List Overlap
+
+-- with one overlap of a block more
+abbrev pub with_overlap : Overlaps → BlockId → Overlap → Overlaps
+with_overlap overlaps block overlap b = (if is_same_block block b then overlaps b ++ overlap ∷ [] else overlaps b)
+
+-- the overlap has this position
+abbrev pub reaches : ℕ → Overlap → Bool
+reaches position overlap = nat_le overlap.start position && nat_lt position (overlap.start + overlap.len)
+
+-- the spot is the byte at a place of a block
+abbrev pub IsByteOf : ℕ → BlockId → ℕ → Spot → Type 0
+IsByteOf block b place Zero = ⊥
+IsByteOf block b place (Slice id size at) = (block_at id size block (at / block) ≡ b) × (at % block ≡ place) × (at < size)
+
+-- an overlap of a block with a part of this length whose positions show these places
+pub record IsOverlap (block : ℕ) (places : ℕ → Spot) (len : ℕ) (b : BlockId) (overlap : Overlap) : Type 0 where
+  pub shows : (k : ℕ) → k < overlap.len → IsByteOf block b (overlap.place + k) (places (overlap.start + k))
+  pub in_block : overlap.place + overlap.len ≤ b.size
+  pub in_part : overlap.start + overlap.len ≤ len
+
+-- a position that shows a byte of a block is in one of the block's overlaps
+abbrev pub IsListed : ℕ → Overlaps → ℕ → Spot → Type 0
+IsListed block overlaps position Zero = Unit {0}
+IsListed block overlaps position (Slice id size at) = list_any (reaches position) (overlaps (block_at id size block (at / block))) ≡ true
+
+-- overlaps of blocks with a part: all of the positions before one
+pub record HasOverlaps (block : ℕ) (places : ℕ → Spot) (len before : ℕ) (overlaps : Overlaps) : Type 0 where
+  pub each : (b : BlockId) → All (IsOverlap block places len b) (overlaps b)
+  pub all : (position : ℕ) → position < before → IsListed block overlaps position (places position)
+
+-- positions show a piece from one on
+abbrev pub ShowsPiece : (ℕ → Spot) → ℕ → Piece → Type 0
+ShowsPiece places start piece = (k : ℕ) → k < piece.len → places (start + k) ≡ place_after piece.spot k
+
+abbrev pub BeginsBy : ℕ → Piece → Type 0
+BeginsBy from piece = from ≤ piece.from

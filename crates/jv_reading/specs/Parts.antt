@@ -1,0 +1,54 @@
+-- A part of a window that is read, block by block.
+use Rattle.std.specs.Prelude.{◌≡◌, ℕ, ◌+◌, ◌-◌, ◌/◌, ◌%◌, ◌<◌, List, slice_get, slice_index, Contains, IfSome}
+use Rattle.jv_model.specs.declared.slice.BlockId.{BlockId}
+use Rattle.jv_model.specs.declared.slice.Rec.{Rec}
+use Rattle.jv_model.specs.declared.slice.Spot.{Spot}
+use Rattle.jv_model.specs.declared.slice.Spot.TheVariants.{Zero, Slice}
+use Rattle.jv_model.specs.blocks.Slices.{block_at, block_count, stored_place}
+use Rattle.jv_contents.specs.Bytes.{Told, spot_byte}
+
+-- the positions of a window from one to another, by its list; the length of blocks; the blocks that are left; the bytes so far
+pub record Part : Type 0 where
+  pub list : List Rec
+  pub from : ℕ
+  pub to : ℕ
+  pub block : ℕ
+  pub left : List BlockId
+  pub bytes : List ℕ
+
+-- which part it is
+pub record IsPartOf (list : List Rec) (from to block : ℕ) (part : Part) : Type 0 where
+  pub list_is : part.list ≡ list
+  pub from_is : part.from ≡ from
+  pub to_is : part.to ≡ to
+  pub block_is : part.block ≡ block
+
+-- the byte that a position of a window has
+abbrev pub window_byte : Told → List Rec → ℕ → ℕ
+window_byte told list position = spot_byte told (stored_place list position)
+
+-- the byte is of none of these blocks
+abbrev pub IsOfNone : ℕ → List BlockId → Spot → Type 0
+IsOfNone block blocks Zero = Unit {0}
+IsOfNone block blocks (Slice id size at) = Contains blocks (block_at id size block (at / block)) → ⊥
+
+-- each position has the byte that is told of it, unless that is of a block that is left
+abbrev pub ReadsAs : Told → Part → Type 0
+ReadsAs told part = (n : ℕ) → n < part.to - part.from → IsOfNone part.block part.left (stored_place part.list (part.from + n))
+    → slice_index part.bytes n ≡ window_byte told part.list (part.from + n)
+
+-- these bytes are told of a block
+abbrev pub IsToldOf : Told → ℕ → List ℕ → BlockId → Type 0
+IsToldOf told block bytes b = (id size at : ℕ) → at < size → block_at id size block (at / block) ≡ b → slice_index bytes (at % block) ≡ told id size at
+
+-- where the bytes are those of the block that is next, the part reads as is told, as it did before
+abbrev pub FillsIn : List ℕ → Part → Part → Type 0
+FillsIn bytes before after = (told : Told) → IfSome (slice_get before.left 0) (IsToldOf told before.block bytes) → ReadsAs told before → ReadsAs told after
+
+-- a block of the slice of one of the records
+pub record IsNamed (list : List Rec) (block : ℕ) (b : BlockId) : Type 0 where
+  pub r : Rec
+  pub there : Contains list r
+  pub some : 0 < r.id
+  pub below : b.index < block_count r.size block
+  pub is : b ≡ block_at r.id r.size block b.index

@@ -1,0 +1,17 @@
+//! What a reader of a part may rely on. Each law is a function that does nothing.
+ghost use Rattle.jv_reading.specs.Laws.{BlocksAreTold, NamedAreThere, ReadsGoOn};
+
+/// Blocks that are there tell of each block the bytes that it has.
+pub fn blocks_are_told()
+    ensures { BlocksAreTold }
+{}
+
+/// Where all blocks of all slices are there, so is each block of the slice of a record.
+pub fn named_are_there()
+    ensures { NamedAreThere }
+{}
+
+/// A part goes on to read as blocks tell, where more of them come, and where one that is there is filled in.
+pub fn reads_go_on()
+    ensures { ReadsGoOn }
+{}
