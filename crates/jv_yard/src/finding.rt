@@ -1,5 +1,5 @@
 //! Which blocks a shelf has staged when a yard starts.
-ghost use Rattle.std.specs.Prelude.{◌≡◌, ◌↔◌, ℕ, ◌≤◌, vec_len, slice_get, Some, Ok, IfOk, IfErr, IsTrue};
+ghost use Rattle.std.specs.Prelude.{◌≡◌, ◌↔◌, IfOk, OnOk, IsTrue};
 ghost use Rattle.std.specs.Option.{option_copied};
 ghost use Rattle.jv_yard.specs.Pages.{AddsNames, ListsPage, next_after};
 ghost use Rattle.jv_yard.specs.Starting.{FindsStaged, FindsAll};

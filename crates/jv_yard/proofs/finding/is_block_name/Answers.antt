@@ -1,0 +1,12 @@
+use Rattle.std.proofs.Common.{ap, sym, subst, IsTrue, Bool, is_some, ◌↔◌}
+use Rattle.jv_model.specs.declared.slice.BlockId.{BlockId}
+use Rattle.jv_model.specs.blocks.BlockNames.{IsBlockName}
+use Rattle.jv_yard.specs.YardValue.{NamesBlock}
+use Rattle.jv_yard.proofs.StagingLaws.{named_exactly}
+use Rattle.jv_yard.proofs.finding.is_block_name.Goals as goal
+
+pub returns : goal.returns
+returns c =
+    let named = named_exactly c.args.setting.now c.as_slice.result.now c.parse_block_name.result c.parse_block_name.ensures in
+    let by_name = subst (λ name. IsTrue (is_some c.parse_block_name.result) ↔ NamesBlock c.args.setting.now name) c.as_slice.ensures named in
+    subst (λ b. IsTrue b ↔ NamesBlock c.args.setting.now c.args.name.now) (sym c.is_some.ensures) by_name
