@@ -1,5 +1,5 @@
 -- Pages of a client's names: which blocks they add, and that a start which has read all of them has found all.
-use Rattle.std.proofs.Common.{◌≡◌, ◌≢◌, ◌⊎◌, ℕ, zero, suc, ◌+◌, ◌-◌, ◌<◌, ◌≤◌, Bool, true, false, not, cond, ◌&&◌, ◌==◌, T, List, [], ◌∷◌, ◌++◌, length, map, filter, take, Option, None, Some, IsSome, is_some, IfSome, unwrap_or, slice_get, nat_lt, if◌then◌else◌, refl, sym, ap, subst, ◌∙◌, inl, inr, eq-eqb, eqb-true, arith}
+use Rattle.std.proofs.Common.{◌≡◌, ◌⊎◌, ℕ, zero, suc, ◌+◌, ◌-◌, ◌<◌, ◌≤◌, Bool, true, false, not, cond, ◌&&◌, ◌==◌, T, List, [], ◌∷◌, ◌++◌, length, map, filter, take, Option, None, Some, IsSome, is_some, IfSome, unwrap_or, slice_get, nat_lt, if◌then◌else◌, refl, sym, ap, subst, ◌∙◌, inl, inr, eq-eqb, eqb-true, arith}
 use Rattle.std.specs.List.{Contains}
 use Rattle.std.proofs.lemmas.List.Elements.{Contains-push, Contains-push_cases, Contains-append_left, Contains-append_right, Contains-append_cases}
 use Rattle.std.proofs.lemmas.Option.{slice_get_within, slice_get-get_or, get_or_from_slice_get}
@@ -368,9 +368,9 @@ slice_get-end (y ∷ ys) x = slice_get-end ys x
 
 split : (n k : ℕ) → n < k + 1 → (n < k) ⊎ (n ≡ k)
 split n k below = elim (nat_lt n k) as (λ b. nat_lt n k ≡ b → (n < k) ⊎ (n ≡ k)) [
-    | true ↦ λ is. inl (ltb-true _ _ is)
-    | false ↦ λ is. let other : k ≤ n = ltb-false _ _ is in inr (omega arith)
-  ] refl
+  | true ↦ λ is. inl (ltb-true _ _ is)
+  | false ↦ λ is. let other : k ≤ n = ltb-false _ _ is in inr (omega arith)
+] refl
 
 module _ (setting : Setting) (content : Option StagedMap) (clients : List ClientStaging) (one : ClientStaging) where
   pub clients-more : (k : ℕ) → length clients ≡ k → IsFound setting content k one

@@ -6,7 +6,7 @@ use Rattle.std.specs.BTreeMap.{is_at}
 use Rattle.jv_model.specs.declared.setting.Setting.{Setting}
 use Rattle.jv_model.specs.declared.slice.BlockId.{BlockId}
 use Rattle.jv_model.specs.blocks.BlockNames.{IsBlockName}
-use Rattle.jv_model.specs.FiniteMap.{Map, text_key, empty_map, get, key_count, map_of}
+use Rattle.jv_model.specs.FiniteMap.{text_key, empty_map, get, key_count, map_of}
 use Rattle.jv_model.proofs.FiniteMapLaws.{get-empty_map}
 use Rattle.jv_outside.proofs.StoredLaws.{get-lookup}
 use Rattle.jv_outside.proofs.ScanLaws.{list-map_of}

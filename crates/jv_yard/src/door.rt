@@ -59,6 +59,8 @@ impl<D: Depot, H: Shelf> YardDoor<D, H> for Alone<D, H> {
     ghost given = { λ d. option_map ⟦<Yard<D, H> as ObservedYard>⟧.seen d.yard };
 
     fn take(&mut self) -> Yard<D, H>
+        requires { let seen = ⟦<Yard<D, H> as ObservedYard>⟧.seen in
+            IsSome (option_map seen self.old.yard) }
         ensures out { let seen = ⟦<Yard<D, H> as ObservedYard>⟧.seen in
             option_map seen self.new.yard ≡ None }
         ensures later { let seen = ⟦<Yard<D, H> as ObservedYard>⟧.seen in
@@ -70,6 +72,8 @@ impl<D: Depot, H: Shelf> YardDoor<D, H> for Alone<D, H> {
     }
 
     fn give(&mut self, yard: Yard<D, H>)
+        requires { let seen = ⟦<Yard<D, H> as ObservedYard>⟧.seen in
+            option_map seen self.old.yard ≡ None }
         ensures { let seen = ⟦<Yard<D, H> as ObservedYard>⟧.seen in
             option_map seen self.new.yard ≡ Some (seen yard) }
     {

@@ -84,11 +84,7 @@ fn next_start(alloc: Global, names: &NameList) -> Result<Option<Name>, AllocErro
 }
 
 /// Adds those of the names that are of blocks of the volume, as staged since a moment that isn't known.
-fn add_names(
-    found: &mut ClientBlocks,
-    setting: &Setting,
-    names: NameList,
-) -> Result<(), AllocError>
+fn add_names(found: &mut ClientBlocks, setting: &Setting, names: NameList) -> Result<(), AllocError>
     ensures { OnOk result (AddsNames setting.now names found.old found.new) }
 {
     for name in names.into_vec() {

@@ -1,5 +1,5 @@
 -- A name that is a block's is added, and another one is left.
-use Rattle.std.proofs.Common.{sym, ap, ◌∙◌, IsTrue}
+use Rattle.std.proofs.Common.{IsTrue}
 use Rattle.jv_yard.proofs.PageLaws.{adds-one, adds-other}
 use Rattle.jv_yard.proofs.finding.add_names.Goals as goal
 

@@ -1,7 +1,6 @@
 -- One more client's blocks are found.
-use Rattle.std.proofs.Common.{◌≡◌, ◌+◌, ◌<◌, ◌∙◌, ◌++◌, ◌∷◌, [], ℕ, length, length-append, sym, ap, subst, arith}
+use Rattle.std.proofs.Common.{◌+◌, ◌∙◌, ap, subst}
 use Rattle.std.proofs.lemmas.List.{length_push}
-use Rattle.jv_yard.specs.Staging.{ClientStaging, by_client}
 use Rattle.jv_yard.specs.Starting.{IsFound}
 use Rattle.jv_yard.proofs.PageLaws.{clients-more}
 use Rattle.jv_yard.proofs.finding.find_staged.Goals as goal

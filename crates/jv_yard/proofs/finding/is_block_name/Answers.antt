@@ -1,6 +1,4 @@
-use Rattle.std.proofs.Common.{ap, sym, subst, IsTrue, Bool, is_some, ◌↔◌}
-use Rattle.jv_model.specs.declared.slice.BlockId.{BlockId}
-use Rattle.jv_model.specs.blocks.BlockNames.{IsBlockName}
+use Rattle.std.proofs.Common.{sym, subst, IsTrue, is_some, ◌↔◌}
 use Rattle.jv_yard.specs.YardValue.{NamesBlock}
 use Rattle.jv_yard.proofs.StagingLaws.{named_exactly}
 use Rattle.jv_yard.proofs.finding.is_block_name.Goals as goal
