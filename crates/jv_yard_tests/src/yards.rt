@@ -1,0 +1,173 @@
+ghost use Rattle.std.specs.Prelude.{◌≡◌, ◌<◌, ◌≤◌, IfOk};
+ghost use Rattle.jv_yard.specs.BlockCalls.{IsBlockParcel};
+
+use jv_model::{BlockId, ClientId, Moment, Name, Sequence, Setting, copied};
+use jv_outside::{
+    Depot, Fails, Load, MemDepot, MemShelf, Object, ObjectList, Parcel, Shelf, Staged, StagedList,
+};
+use jv_slices::block_name;
+use jv_yard::{Alone, MAIN, Note, What, Yard, YardDoor, YardFault};
+use std::alloc::{AllocError, Global};
+use std::test::Fail;
+
+/// The number of the slice, and the length of its blocks.
+const ID: u64 = 7;
+const SIZE: u32 = 3;
+
+fn setting(alloc: Global) -> Result<Setting, AllocError> {
+    Ok(Setting {
+        version: 1,
+        block: 65_536,
+        trash_days: 1,
+        capacity: 0,
+        inodes: 0,
+        hash: 0,
+        name: copied(alloc, b"test")?,
+        bucket: copied(alloc, b"/tmp")?,
+    })
+}
+
+fn name_of(alloc: Global, index: u32) -> Result<Name, AllocError> {
+    block_name(alloc, &setting(alloc)?, ID, index, SIZE)
+}
+
+fn failing_at(alloc: Global, number: u64) -> Result<Fails, AllocError> {
+    let mut numbers = Sequence::new(alloc);
+    numbers.push(number)?;
+    Ok(Fails::At(numbers))
+}
+
+fn staged(alloc: Global, client: u8, name: Name, bytes: &[u8]) -> Result<Staged, AllocError>
+    requires { client ≤ 7 }
+{
+    Ok(Staged {
+        client: ClientId(client),
+        name,
+        bytes: copied(alloc, bytes)?,
+    })
+}
+
+/// Client A has staged block 0, and B block 1. Two names are of no block of the volume.
+fn blocks(alloc: Global) -> Result<StagedList, AllocError> {
+    let mut blocks = Sequence::new(alloc);
+    blocks.push(staged(alloc, 0, name_of(alloc, 0)?, b"new")?)?;
+    blocks.push(staged(alloc, 0, copied(alloc, b"test/chunks/0/0/7_0_0")?, b"")?)?;
+    blocks.push(staged(alloc, 1, name_of(alloc, 1)?, b"of B")?)?;
+    blocks.push(staged(alloc, 1, copied(alloc, b"other/chunks/0/0/7_0_3")?, b"new")?)?;
+    Ok(blocks)
+}
+
+fn objects(alloc: Global) -> Result<ObjectList, AllocError> {
+    let mut objects = Sequence::new(alloc);
+    objects.push(Object {
+        name: name_of(alloc, 0)?,
+        bytes: copied(alloc, b"old")?,
+        at: Moment(5),
+    })?;
+    Ok(objects)
+}
+
+/// A yard over these blocks and objects, whose depot fails at one call.
+fn started(alloc: Global, fails: u64) -> Result<Option<Yard<MemDepot, MemShelf>>, AllocError> {
+    let depot = MemDepot::new(alloc, objects(alloc)?, failing_at(alloc, fails)?);
+    let shelf = MemShelf::new(alloc, blocks(alloc)?, failing_at(alloc, 0)?);
+    Ok(Yard::start(alloc, depot, shelf, &setting(alloc)?).ok())
+}
+
+/// A parcel for a block of a slice of a volume.
+fn parcel(alloc: Global, setting: &Setting, index: u32) -> Result<Parcel, AllocError>
+    requires index { index < 1024 }
+    requires block { 3 ≤ setting.now.block }
+    ensures { IfOk result (IsBlockParcel setting.now) }
+{
+    Ok(Parcel {
+        name: block_name(alloc, setting, ID, index, SIZE)?,
+        at: Moment(20),
+        load: Load::Held(copied(alloc, b"put")?),
+    })
+}
+
+/// Puts a block of client C, if the volume's blocks are long enough. Returns whether the parcel came back, and why.
+fn put<D: Depot, H: Shelf>(
+    alloc: Global,
+    yard: &mut Yard<D, H>,
+    index: u32,
+) -> Result<Option<YardFault>, AllocError>
+    requires { index < 1024 }
+{
+    if yard.setting().block < SIZE {
+        return Ok(None);
+    }
+    let own = parcel(alloc, yard.setting(), index)?;
+    let same = parcel(alloc, yard.setting(), index)?;
+    match yard.put_block(ClientId(2), own) {
+        Err((back, fault)) if back == same => Ok(Some(fault)),
+        _ => Ok(None),
+    }
+}
+
+#[test]
+fn a_start_finds_the_blocks_that_each_client_has_staged(rt: HostRuntime) -> Result<(), Fail> {
+    let alloc = rt.alloc();
+    let first = name_of(alloc, 0)?;
+    let Some(yard) = started(alloc, 0)? else {
+        return Err(Fail::from(AllocError));
+    };
+    assert!(rt; yard.is_staged(ClientId(0), &first));
+    assert!(rt; !yard.is_staged(ClientId(1), &first));
+    assert!(rt; yard.is_staged(ClientId(1), &name_of(alloc, 1)?));
+    assert_eq!(rt; yard.staged_count(ClientId(0)), 1);
+    assert_eq!(rt; yard.staged_count(ClientId(1)), 1);
+    assert_eq!(rt; yard.staged_count(ClientId(7)), 0);
+    assert!(rt; yard.log().is_empty());
+    Ok(())
+}
+
+#[test]
+fn a_client_reads_its_own_shelf_before_the_depot(rt: HostRuntime) -> Result<(), Fail> {
+    let alloc = rt.alloc();
+    let first = name_of(alloc, 0)?;
+    let Some(mut yard) = started(alloc, 0)? else {
+        return Err(Fail::from(AllocError));
+    };
+    assert_eq!(rt; yard.get_block(ClientId(0), &first), Ok(Some(copied(alloc, b"new")?)));
+    assert_eq!(rt; yard.get_block(ClientId(1), &first), Ok(Some(copied(alloc, b"old")?)));
+    assert_eq!(rt; yard.get_block(ClientId(0), &name_of(alloc, 1)?), Ok(None));
+    Ok(())
+}
+
+#[test]
+fn a_block_that_was_put_is_read_and_noted(rt: HostRuntime) -> Result<(), Fail> {
+    let alloc = rt.alloc();
+    let Some(yard) = started(alloc, 0)? else {
+        return Err(Fail::from(AllocError));
+    };
+    let mut door = Alone::new(yard);
+    let mut yard = door.take();
+    assert_eq!(rt; put(alloc, &mut yard, 5)?, None);
+    let note = Note {
+        by: MAIN,
+        client: 2,
+        what: What::Put,
+        block: BlockId { id: ID, index: 5, size: SIZE },
+    };
+    assert_eq!(rt; yard.log(), [note].as_slice());
+    assert_eq!(rt; yard.get_block(ClientId(0), &name_of(alloc, 5)?), Ok(Some(copied(alloc, b"put")?)));
+    door.give(yard);
+    let (depot, shelf) = door.into_yard().into_parts();
+    assert_eq!(rt; depot.faults(), 0);
+    assert_eq!(rt; shelf.faults(), 0);
+    Ok(())
+}
+
+#[test]
+fn a_failing_depot_hands_the_parcel_back(rt: HostRuntime) -> Result<(), Fail> {
+    let alloc = rt.alloc();
+    let Some(mut yard) = started(alloc, 1)? else {
+        return Err(Fail::from(AllocError));
+    };
+    assert_eq!(rt; put(alloc, &mut yard, 5)?, Some(YardFault::Depot));
+    assert!(rt; yard.log().is_empty());
+    assert_eq!(rt; yard.get_block(ClientId(2), &name_of(alloc, 5)?), Ok(None));
+    Ok(())
+}
