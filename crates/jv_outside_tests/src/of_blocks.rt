@@ -64,35 +64,33 @@ fn two_objects(alloc: Global) -> Result<ObjectList, AllocError> {
     Ok(objects)
 }
 
-/// Whether a depot of two objects opens, finds and lists them, takes a third, and has what a removal left.
-fn stores<D: Depot>(
+/// Whether depot and carrier open, and the depot takes an object and finds it.
+fn takes<D: Depot>(
     alloc: Global,
     depot: &mut D,
     carrier: &mut dyn Carrier,
 ) -> Result<bool, AllocError> {
     let place = copied(alloc, b"a place")?;
-    let ten = copied(alloc, b"10")?;
+    let name = copied(alloc, b"2")?;
     let opened = depot.attach(&place).is_ok() && carrier.attach(&place).is_ok();
-    let carried = carry(depot, carrier, &copied(alloc, b"2")?, b"two", Moment(20)).is_ok();
-    let found = depot.get(&copied(alloc, b"2")?);
-    let listed = depot.list(None, 9, Moment(30));
-    let removed = depot.remove(&ten).is_ok();
-    let missing = depot.get(&ten);
-    let after = depot.list(Some(&ten), 1, Moment(30));
+    let carried = carry(depot, carrier, &name, b"two", Moment(20)).is_ok();
+    let found = depot.get(&name);
+    Ok(opened && carried && found == Ok(Some(copied(alloc, b"two")?)))
+}
+
+/// Whether a depot lists three objects, removes the first, and lists the next after it.
+fn lists<D: Depot>(alloc: Global, depot: &mut D) -> Result<bool, AllocError> {
+    let ten = copied(alloc, b"10")?;
     let all = [
         (b"10".as_slice(), 3, Moment(7)),
         (b"2".as_slice(), 3, Moment(20)),
         (b"9".as_slice(), 4, Moment(7)),
     ];
-    Ok(
-        opened
-            && carried
-            && removed
-            && found == Ok(Some(copied(alloc, b"two")?))
-            && missing == Ok(None)
-            && listed == Ok(shown(alloc, &all)?)
-            && after == Ok(shown(alloc, &all[1..2])?),
-    )
+    let next = [(b"2".as_slice(), 3, Moment(20))];
+    let listed = depot.list(None, 9, Moment(30)) == Ok(shown(alloc, &all)?);
+    let removed = depot.remove(&ten).is_ok() && depot.get(&ten) == Ok(None);
+    let after = depot.list(Some(&ten), 1, Moment(30)) == Ok(shown(alloc, &next)?);
+    Ok(listed && removed && after)
 }
 
 #[test]
@@ -100,10 +98,12 @@ fn a_depot_stores_objects_in_the_order_of_their_bytes(rt: HostRuntime) -> Result
     let alloc = rt.alloc();
     let mut mem = MemDepot::new(alloc, two_objects(alloc)?, failing_at(alloc, 0)?);
     let mut carrier = MemCarrier::new(alloc, failing_at(alloc, 0)?);
-    assert!(rt; stores(alloc, &mut mem, &mut carrier)?);
+    assert!(rt; takes(alloc, &mut mem, &mut carrier)?);
+    assert!(rt; lists(alloc, &mut mem)?);
     assert_eq!(rt; carrier.opened(), Some(b"a place".as_slice()));
     let mut never = NeverDepot::new(alloc, two_objects(alloc)?);
-    assert!(rt; stores(alloc, &mut never, &mut NeverCarrier::new(alloc))?);
+    assert!(rt; takes(alloc, &mut never, &mut NeverCarrier::new(alloc))?);
+    assert!(rt; lists(alloc, &mut never)?);
     Ok(())
 }
 
@@ -190,38 +190,33 @@ fn two_blocks(alloc: Global) -> Result<StagedList, AllocError> {
     Ok(blocks)
 }
 
-/// Whether a shelf of one block of each of two clients opens, finds and lists them, takes a third, and has what a removal
-/// left.
+/// Whether a shelf opens, takes a block of a client, and finds and lists the client's blocks.
 fn stages<H: Shelf>(alloc: Global, shelf: &mut H) -> Result<bool, AllocError> {
-    let nine = copied(alloc, b"9")?;
     let ten = copied(alloc, b"10")?;
     let opened = shelf.attach(&copied(alloc, b"a place")?).is_ok();
     let put = shelf.put(ClientId(0), &ten, b"new").is_ok();
-    let found = shelf.get(ClientId(0), &ten);
-    let listed = shelf.list(ClientId(0), None, 9);
-    let after = shelf.list(ClientId(0), Some(&ten), 9);
+    let found = shelf.get(ClientId(0), &ten) == Ok(Some(copied(alloc, b"new")?));
+    let listed = shelf.list(ClientId(0), None, 9) == Ok(names(alloc, &[b"10", b"9"])?);
+    let after = shelf.list(ClientId(0), Some(&ten), 9) == Ok(names(alloc, &[b"9"])?);
+    Ok(opened && put && found && listed && after)
+}
+
+/// Whether a shelf removes one client's block, and keeps another's of that name.
+fn clears<H: Shelf>(alloc: Global, shelf: &mut H) -> Result<bool, AllocError> {
+    let nine = copied(alloc, b"9")?;
     let removed = shelf.remove(ClientId(0), &nine).is_ok();
-    let missing = shelf.get(ClientId(0), &nine);
-    let other = shelf.get(ClientId(1), &nine);
-    Ok(
-        opened
-            && put
-            && removed
-            && found == Ok(Some(copied(alloc, b"new")?))
-            && missing == Ok(None)
-            && other == Ok(Some(copied(alloc, b"of B")?))
-            && listed == Ok(names(alloc, &[b"10", b"9"])?)
-            && after == Ok(names(alloc, &[b"9"])?),
-    )
+    let missing = shelf.get(ClientId(0), &nine) == Ok(None);
+    let other = shelf.get(ClientId(1), &nine) == Ok(Some(copied(alloc, b"of B")?));
+    Ok(removed && missing && other)
 }
 
 #[test]
 fn a_shelf_stages_blocks_of_each_client(rt: HostRuntime) -> Result<(), Fail> {
     let alloc = rt.alloc();
     let mut mem = MemShelf::new(alloc, two_blocks(alloc)?, failing_at(alloc, 0)?);
-    assert!(rt; stages(alloc, &mut mem)?);
+    assert!(rt; stages(alloc, &mut mem)? && clears(alloc, &mut mem)?);
     assert_eq!(rt; mem.names_of(ClientId(0))?, names(alloc, &[b"10"])?);
     let mut never = NeverShelf::new(alloc, two_blocks(alloc)?);
-    assert!(rt; stages(alloc, &mut never)?);
+    assert!(rt; stages(alloc, &mut never)? && clears(alloc, &mut never)?);
     Ok(())
 }
