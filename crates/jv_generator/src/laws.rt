@@ -1,0 +1,15 @@
+//! What holds of scripts and of totals. Each law is a function that does nothing.
+ghost use Rattle.jv_generator.specs.Laws.{ScriptsHaveLines, TotalsAreSums};
+
+/// Each script has [`crate::LINES`] lines.
+#[tactic(auto, using(crate::proofs::ScriptLaws::script_length))]
+pub fn scripts_have_lines()
+    ensures { ScriptsHaveLines }
+{}
+
+/// The totals of answers are their number, how many of them are refusals and how many not, the bytes that they have, and the
+/// sum of the values of these; each saturates at 2^64 - 1.
+#[tactic(auto, using(crate::proofs::SummaryLaws::totals_are_sums))]
+pub fn totals_are_sums()
+    ensures { TotalsAreSums }
+{}

@@ -1,0 +1,82 @@
+use jv_generator::{FILES, Generator, LINES};
+use jv_model::{Bytes, ClientId, Line, Op, Path};
+use std::alloc::{AllocError, Global};
+use std::test::Fail;
+
+fn create(alloc: Global, i: u32) -> Result<Line, AllocError> {
+    let path = format!(in alloc; "/g{i}")?;
+    let path = Path::from_vec(path.into_bytes());
+    Ok(Line::Do(ClientId(0), Op::Create { path, mode: 0o644 }))
+}
+
+fn flush(handle: u64) -> Line {
+    Line::Do(ClientId(0), Op::Flush { handle })
+}
+
+// A read, or a write of bytes of one value.
+fn access(
+    alloc: Global,
+    handle: u64,
+    offset: u64,
+    len: u32,
+    value: Option<u8>,
+) -> Result<Line, AllocError> {
+    let Some(value) = value else {
+        return Ok(Line::Do(
+            ClientId(0),
+            Op::Read {
+                handle,
+                offset,
+                len,
+            },
+        ));
+    };
+    let bytes = Bytes::from_vec(vec![in alloc; value; len as usize]?);
+    Ok(Line::Do(
+        ClientId(0),
+        Op::Write {
+            handle,
+            offset,
+            bytes,
+        },
+    ))
+}
+
+#[test]
+fn the_first_25_lines_of_the_seed_0(rt: HostRuntime) -> Result<(), Fail> {
+    let mut script = Generator::new(0);
+    let mount = Line::Do(ClientId(0), Op::Mount { writeback: false });
+    assert_eq!(rt; script.next(rt.alloc())?, Some(mount));
+    for i in 0..FILES {
+        let line = create(rt.alloc(), i)?;
+        assert_eq!(rt; script.next(rt.alloc())?, Some(line), "{i}");
+    }
+    let rows = [
+        ("1st", 2, 129_494_902, 1_922, Some(79)),
+        ("2nd", 2, 115_415_115, 2_670, Some(50)),
+        ("3rd", 10, 125_969_127, 642, Some(25)),
+        ("4th", 7, 28_219_378, 154, None),
+        ("5th", 7, 80_586_274, 1_746, Some(243)),
+        ("6th", 9, 133_393_677, 247, Some(6)),
+        ("7th", 2, 20_382_970, 3_515, Some(93)),
+        ("8th", 6, 125_363_144, 1_639, None),
+    ];
+    for (row, handle, offset, len, value) in rows {
+        let line = access(rt.alloc(), handle, offset, len, value)?;
+        assert_eq!(rt; script.next(rt.alloc())?, Some(line), "{row}");
+    }
+    Ok(())
+}
+
+#[test]
+fn the_last_lines_flush_the_last_files(rt: HostRuntime) -> Result<(), Fail> {
+    let mut script = Generator::new(0);
+    for _ in 2..LINES {
+        let line = script.next(rt.alloc())?;
+        assert!(rt; line.is_some());
+    }
+    assert_eq!(rt; script.next(rt.alloc())?, Some(flush(15)));
+    assert_eq!(rt; script.next(rt.alloc())?, Some(flush(16)));
+    assert_eq!(rt; script.next(rt.alloc())?, None);
+    Ok(())
+}
