@@ -7,9 +7,7 @@ pub mod Bounds
 pub mod Sound
 pub mod AnyRow
 pub mod ScanLaws
-pub mod DropsExamples
-pub mod DropLaws
-pub mod DropSteps
+pub mod CountsLaws
 pub mod SpelledLaws
 pub mod DraftLaws
 pub mod LooksLaws
