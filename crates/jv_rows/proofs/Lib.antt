@@ -20,3 +20,4 @@ pub mod TransactionLaws
 pub mod ScannedLaws
 pub mod NeedingLaws
 pub mod ArrivalLaws
+pub mod AdjustLaws
