@@ -1,18 +1,20 @@
 -- What changes of lists, and counts that follow them, do to slices.
-use Rattle.std.proofs.Common.{◌≡◌, ◌≢◌, ℕ, zero, suc, ◌+◌, ◌-◌, ◌<◌, ◌≤◌, ◌⊎◌, inl, inr, Bool, true, false, cond, true≢false, List, [], ◌++◌, length, Option, None, Some, Ok, refl, sym, ap, subst, ◌∙◌, arith}
-use Rattle.std.specs.Prelude.{◌==◌, ◌&&◌, ◌||◌, not, Contains, if◌then◌else◌, IsTrue}
+use Rattle.std.proofs.Common.{◌≡◌, ◌≢◌, ℕ, ◌+◌, ◌<◌, ◌≤◌, ◌⊎◌, inl, inr, Bool, true, false, cond, true≢false, List, [], ◌∷◌, ◌++◌, length, Option, None, Some, Ok, refl, sym, ap, subst, ◌∙◌, arith}
+use Rattle.std.specs.Prelude.{◌==◌, ◌&&◌, ◌||◌, not, nat_le, Contains, if◌then◌else◌, IsTrue}
 use Rattle.std.specs.List.{AllByRecursion}
 use Rattle.std.specs.Ordering.{eq_by_cmp}
-use Rattle.std.proofs.lemmas.Bool.{cases_eq, eq-eqb, ne_eqb, eqb-true}
+use Rattle.std.proofs.lemmas.Bool.{eq-eqb, ne_eqb, eqb-true, leb-false, and_left}
 use Rattle.std.proofs.lemmas.List.{length-append}
+use Rattle.std.proofs.lemmas.List.Sums.{count_by-le-length}
 use Rattle.std.proofs.lemmas.List.Elements.{recursion_from_All, All-weaker, All-contains_itself}
 use Rattle.std.proofs.lemmas.Option.{same_Some}
+use Rattle.jv_model.specs.declared.limits.TheConstants.{FULL_COUNT}
 use Rattle.jv_model.specs.declared.row.RowKey.{RowKey}
 use Rattle.jv_model.specs.declared.row.Row.TheVariants.{OfSlice, OfDead}
 use Rattle.jv_model.specs.declared.row.SliceRow.{SliceRow}
 use Rattle.jv_model.specs.declared.row.Dead.{Dead}
 use Rattle.jv_model.specs.declared.slice.Rec.{Rec}
-use Rattle.jv_model.specs.FiniteMap.{get, alter, retain_keys, sum_over}
+use Rattle.jv_model.specs.FiniteMap.{get, alter, retain_keys, sum_over, total_over}
 use Rattle.jv_model.specs.rows.RowFields.{is_nil}
 use Rattle.jv_model.specs.rows.RowKeys.{row_key, row_cmp}
 use Rattle.jv_model.specs.rows.RowPlaces.{counters_key, slice_key, dead_key}
@@ -25,7 +27,7 @@ use Rattle.jv_volume.specs.Slices.{listed, records_naming, named_by, count_in, s
 use Rattle.jv_volume.proofs.MapLaws.{get-alter-apart}
 use Rattle.jv_volume.proofs.QuietLaws.{sum-retain_keys}
 use Rattle.jv_volume.proofs.ShapeMapLaws.{tied_same}
-use Rattle.jv_rows.specs.Counts.{is_named, recounted, Recounted, Adjusted}
+use Rattle.jv_rows.specs.Counts.{is_named, recounted, Recounted, Adjusted, IsFull}
 use Rattle.jv_contents.specs.Counts.{record_count, Behind, HadSize, HasDied}
 use Rattle.jv_contents.proofs.BehindLaws.{behind-none, behind-more}
 use Rattle.jv_contents.proofs.BlockLaws.{named_has_row}
@@ -209,10 +211,7 @@ move-others rows middle after gone added m same next = record {
 
 -- ---- counts have followed
 
-other_by : (a b c : Bool) → a ≡ false → (a && b && c) ≡ false
-other_by a b c e = ap (λ x. x && b && c) e
-
--- an option of a row with a count
+-- the count and the size of a row that is there where its count isn't 0
 count_of : (b : Bool) (size n : ℕ) → (n == 0) ≡ b → count_in (slice_in (row_in (cond b None (Some (Ok (OfSlice (record { size = size; count = n }))))))) ≡ n
 count_of true size n e = sym (eqb-true n 0 e)
 count_of false size n e = refl
@@ -230,17 +229,6 @@ unnamed_by false false id n e f some h = absurd (true≢false h)
 unnamed : (gone added : List Rec) (id : ℕ) → is_named gone added id ≡ false → 0 < id → records_naming id gone + records_naming id added ≡ 0
 unnamed gone added id h some = unnamed_by (id == 0) (records_naming id gone + records_naming id added == 0) id (records_naming id gone + records_naming id added) refl refl some h
 
-named_some : (gone added : List Rec) (id : ℕ) → is_named gone added id ≡ true → 0 < id
-named_some gone added id h = by_zero (id == 0) refl
-  where
-    by_zero : (b : Bool) → (id == 0) ≡ b → 0 < id
-    by_zero true e = absurd (true≢false (sym h ∙ ap (λ b. not b && not (records_naming id gone + records_naming id added == 0)) e))
-    by_zero false e = positive id e
-
-    positive : (n : ℕ) → (n == 0) ≡ false → 0 < n
-    positive zero e = absurd (true≢false e)
-    positive (suc n) e = omega arith
-
 -- what became of a slice
 data Becomes (gone added : List Rec) (due : ℕ) (rows after : Rows) (id : ℕ) : Type 0 where
   Follows : IsTrue (is_named gone added id) → Recounted id (records_naming id gone) (records_naming id added) due rows after → Becomes gone added due rows after id
@@ -256,8 +244,8 @@ module _ (gone added : List Rec) (due : ℕ) (rows after : Rows) (a : Adjusted g
 
   -- rows of other tables stay
   pub others-adjusted : (key : RowKey) → (key.tab == 5) ≡ false → (key.tab == 9) ≡ false → get after key ≡ get rows key
-  others-adjusted key five nine = a.others key (other_by ((key.tab == 5) || (key.tab == 9)) (is_nil key.b) (is_named gone added key.a)
-      (ap (λ b. b || (key.tab == 9)) five ∙ nine))
+  others-adjusted key five nine = a.others key (and_left (((key.tab == 5) || (key.tab == 9)) && is_nil key.b) (is_named gone added key.a)
+      (and_left ((key.tab == 5) || (key.tab == 9)) (is_nil key.b) (ap (λ b. b || (key.tab == 9)) five ∙ nine)))
 
   lists-adjusted : (key : RowKey) → (key.tab == 4) ≡ true → get after key ≡ get rows key
   lists-adjusted key four =
@@ -376,3 +364,33 @@ module _ (more : ℕ) (rows middle after : Rows) (gone added : List Rec) (due : 
     count = (let was = m.count in let now = record_count-lists middle after (lists-adjusted gone added due middle after a) in omega (arith, was, now, few));
   }
 
+-- ---- counts that can't follow
+
+total-le : {K X : Type 0} (f g : K → X → ℕ) → ((k : K) (x : X) → f k x ≤ g k x) → (es : List (K × X)) → total_over f es ≤ total_over g es
+total-le f g le [] = omega arith
+total-le f g le (e ∷ es) = (let first = le e.0 e.1 in let rest = total-le f g le es in omega (arith, first, rest))
+
+-- no more records name a slice than there are
+pub named_by-le : (rows : Rows) (id : ℕ) → named_by rows id ≤ record_count rows
+unfolding named_by record_count sum_over
+named_by-le rows id =
+    total-le (λ key cell. records_naming id (listed key (Some cell))) (λ key cell. length (listed key (Some cell)))
+    (λ key cell. count_by-le-length (λ (r : Rec). r.id == id) (listed key (Some cell))) rows.list
+
+-- a count grows too far only where there are more records than 2^62
+pub full-many : (rows : Rows) (gone added : List Rec) (id : ℕ) → Behind rows gone added → 0 < id → IsFull id (records_naming id gone) (records_naming id added) rows
+    → FULL_COUNT < record_count rows
+full-many rows gone added id behind some f =
+    let next = recounted f.slice.count (records_naming id gone) (records_naming id added) in
+    let was : slice_count rows id ≡ f.slice.count = ap (λ c. count_in (slice_in (row_in c))) f.was in
+    let by = behind.by id some in
+    let all = named_by-le rows id in
+    let high : FULL_COUNT < next = le_not next (nat_le next f.slice.count) f.full in
+    omega (arith, was, by, all, high)
+  where
+    neither : (a b : Bool) → (a || b) ≡ false → a ≡ false
+    neither true b e = e
+    neither false b e = refl
+
+    le_not : (n : ℕ) (b : Bool) → (nat_le n FULL_COUNT || b) ≡ false → FULL_COUNT < n
+    le_not n b e = leb-false n FULL_COUNT (neither (nat_le n FULL_COUNT) b e)

@@ -142,11 +142,14 @@ module _ (id gone added due : ℕ) (before after : Store) (changes changed : Lis
     counts = n.counts;
     done = tt;
     others = tt;
-    refused = (refl, if_known (λ known. IsFull id gone added (drafted changes known)) before.rows (λ known is. record {
-      slice = slice;
-      was = of_known (λ known. get (drafted changes known) (slice_key id) ≡ Some (Ok (OfSlice slice))) before.rows known is n.found;
-      full = may_not (may_become slice.count (recounted slice.count gone added)) (recounted slice.count gone added) next;
-    }));
+    refused = (
+      refl,
+      if_known (λ known. IsFull id gone added (drafted changes known)) before.rows (λ known is. record {
+        slice = slice;
+        was = of_known (λ known. get (drafted changes known) (slice_key id) ≡ Some (Ok (OfSlice slice))) before.rows known is n.found;
+        full = may_not (may_become slice.count (recounted slice.count gone added)) (recounted slice.count gone added) next;
+      }),
+    );
   }
 
   -- out of memory
@@ -192,9 +195,11 @@ module _ {A : Type 0} (row : A → Row) (is_allowed : A → Bool) (key : RowKey)
   same_cell known = stored known ∙ ap (λ (r : Rows). get r key) (sym (drafted-none known))
 
   same_fault : (fault : RowFault) → RefusesCell key [] before.rows fault → RefusesCell key changes before.rows fault
-  same_fault (Bad at bytes) h =
-      (h.0, if_known (λ known. get (drafted changes known) key ≡ Some (Err bytes)) before.rows (λ known is.
-      same_cell known ∙ of_known (λ known. get (drafted [] known) key ≡ Some (Err bytes)) before.rows known is h.1))
+  same_fault (Bad at bytes) h = (
+    h.0,
+    if_known (λ known. get (drafted changes known) key ≡ Some (Err bytes)) before.rows (λ known is.
+        same_cell known ∙ of_known (λ known. get (drafted [] known) key ≡ Some (Err bytes)) before.rows known is h.1),
+  )
   same_fault Failed h = tt
   same_fault Memory h = tt
 
@@ -462,14 +467,18 @@ module _ (gone added : List Rec) (id : ℕ) (changes between : List Change) (row
     (stands : (known : RowMap) → get (drafted between known) (slice_key id) ≡ get (drafted changes known) (slice_key id)) where
   as_before : (fault : TxFault) → RefusesRecount id (records_naming id gone) (records_naming id added) between rows fault
       → RefusesRecount id (records_naming id gone) (records_naming id added) changes rows fault
-  as_before (Refused fault) h =
-      (h.0, if_known (λ known. IsFull id (records_naming id gone) (records_naming id added) (drafted changes known)) rows (λ known is.
-      let f = of_known (λ known. IsFull id (records_naming id gone) (records_naming id added) (drafted between known)) rows known is h.1 in
-      record { slice = f.slice; was = sym (stands known) ∙ f.was; full = f.full }))
+  as_before (Refused fault) h = (
+    h.0,
+    if_known (λ known. IsFull id (records_naming id gone) (records_naming id added) (drafted changes known)) rows (λ known is.
+        let f = of_known (λ known. IsFull id (records_naming id gone) (records_naming id added) (drafted between known)) rows known is h.1 in
+        record { slice = f.slice; was = sym (stands known) ∙ f.was; full = f.full }),
+  )
   as_before (Moved list) h = absurd h
-  as_before (OfRows (Bad at bytes)) h =
-      (h.0, if_known (λ known. IsNoRow (get (drafted changes known) (slice_key id)) bytes) rows (λ known is.
-      subst (λ c. IsNoRow c bytes) (stands known) (of_known (λ known. IsNoRow (get (drafted between known) (slice_key id)) bytes) rows known is h.1)))
+  as_before (OfRows (Bad at bytes)) h = (
+    h.0,
+    if_known (λ known. IsNoRow (get (drafted changes known) (slice_key id)) bytes) rows (λ known is.
+        subst (λ c. IsNoRow c bytes) (stands known) (of_known (λ known. IsNoRow (get (drafted between known) (slice_key id)) bytes) rows known is h.1)),
+  )
   as_before (OfRows Failed) h = tt
   as_before (OfRows Memory) h = tt
 

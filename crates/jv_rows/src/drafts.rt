@@ -309,7 +309,10 @@ impl Draft {
     pub(crate) fn changes_slices(&self) -> bool
         ensures { result ≡ list_any (λ change. (key_in change).tab == 5) self.now }
     {
-        self.batch.as_slice().iter().any(|change| is_of_slice(change))
+        self.batch
+            .as_slice()
+            .iter()
+            .any(|change| is_of_slice(change))
     }
 
     // The row at a key of a table.
