@@ -4,7 +4,8 @@ pub mod Tables
 pub mod RoundTrips
 pub mod Readings
 pub mod Scans
-pub mod Drops
+pub mod Counts
+pub mod Lists
 pub mod FreshRows
 pub mod Drafts
 pub mod Transactions
