@@ -1,4 +1,4 @@
 -- What is proved of transactions on the bytes of files.
 pub mod LookingLaws
-pub mod LongerLaws
+pub mod SizedLaws
 pub mod CommitLaws

@@ -8,4 +8,4 @@ mod committing;
 mod looking;
 
 pub use committing::commit_length;
-pub use looking::look;
+pub use looking::{View, look, look_at};
