@@ -1,7 +1,7 @@
 -- Laws of places: what a list shows with one more record, what a file shows then, and what a cut file shows.
 use Rattle.std.proofs.Common.{◌≡◌, ℕ, ◌+◌, ◌-◌, ◌*◌, ◌/◌, ◌%◌, ◌<◌, ◌≤◌, Bool, true, false, cond, List, [], ◌∷◌, ◌++◌, Option, Some, None, inl, inr, refl, sym, ap, subst, ◌∙◌, arith}
 use Rattle.std.specs.Prelude.{find, reverse, nat_le, nat_lt, ◌==◌, ◌&&◌, if◌then◌else◌}
-use Rattle.std.proofs.lemmas.Bool.{and_parts, leb-true, cases_eq, cond-true, cond-false, eq-eqb, ne_eqb}
+use Rattle.std.proofs.lemmas.Bool.{and_parts, leb-true, cases_eq, cases_lt, lt-ltb, le-ltb, le-leb, lt-leb, cond-true, cond-false, eq-eqb, ne_eqb}
 use Rattle.std.proofs.lemmas.Bool.Decides.{nat_tests}
 use Rattle.std.proofs.lemmas.List.{reverse-append}
 use Rattle.jv_model.specs.declared.limits.TheConstants.{WINDOW}
@@ -10,7 +10,7 @@ use Rattle.jv_model.specs.declared.slice.Spot.{Spot}
 use Rattle.jv_model.specs.declared.slice.Spot.TheVariants.{Zero, Slice}
 use Rattle.jv_model.specs.blocks.Slices.{IsRecord, is_part, covers, visible, place_by, stored_place}
 use Rattle.jv_volume.specs.Slices.{place_in}
-use Rattle.jv_contents.specs.Places.{Lists, with_list, shown, put_over, cut_at}
+use Rattle.jv_contents.specs.Places.{Lists, with_list, shown, put_over, cut_at, zero_record, cut_list}
 
 -- a record ends in its window
 pub record_ends : (r : Rec) → IsRecord r → r.pos + r.len ≤ WINDOW
@@ -71,3 +71,73 @@ module _ (lists : Lists) (w : ℕ) where
   pub place_in-push : (l : List Rec) (r : Rec) → l ≡ lists w → IsRecord r
       → (p : ℕ) → place_in (with_list w (l ++ r ∷ []) lists) p ≡ put_over (place_in lists) (w * WINDOW + r.pos) r.len (shown r) p
   place_in-push l r same is = place_in-over l (l ++ r ∷ []) r.pos r.len (shown r) same (record_ends r is) (stored_place-push l r)
+
+-- lists that are the same window by window show the same
+pub place_in-same : (a b : Lists) → ((w : ℕ) → a w ≡ b w) → (p : ℕ) → place_in a p ≡ place_in b p
+unfolding place_in
+place_in-same a b same p = ap (λ l. stored_place l (p % WINDOW)) (same (p / WINDOW))
+
+-- the place that a position of a window shows
+pub place_in-window : (lists : Lists) (w q : ℕ) → q < WINDOW → place_in lists (w * WINDOW + q) ≡ stored_place (lists w) q
+unfolding place_in
+place_in-window lists w q small = λ i. stored_place (lists (window i)) (within i)
+  where
+    window : (w * WINDOW + q) / WINDOW ≡ w
+    window = omega (arith, small)
+
+    within : (w * WINDOW + q) % WINDOW ≡ q
+    within = omega (arith, small)
+
+-- a list in place of itself
+pub with_list-self : (lists : Lists) (w : ℕ) (l : List Rec) → l ≡ lists w → (u : ℕ) → with_list w l lists u ≡ lists u
+with_list-self lists w l same u = elim (cases_eq u w) [
+  | inl e ↦ cond-true _ _ _ (eq-eqb u w e) ∙ same ∙ ap lists (sym e)
+  | inr apart ↦ cond-false _ _ _ (ne_eqb u w apart)
+]
+
+-- ---- a file that is cut
+
+no_list : (q : ℕ) → stored_place [] q ≡ Zero
+unfolding stored_place
+no_list q = refl
+
+-- the window of a position, and where the position lies in it
+module _ (len w q p : ℕ) (is : p ≡ w * WINDOW + q) (small : q < WINDOW) where
+  cut_some : (r : Rec) (rs : List Rec) → stored_place (cut_list len w (r ∷ rs)) q ≡ cond (nat_lt p len) (stored_place (r ∷ rs) q) Zero
+  cut_some r rs = elim (cases_lt (w * WINDOW) len) [
+    | inr past ↦ ap (λ l. stored_place l q) (cond-true _ _ _ (le-leb len (w * WINDOW) past)) ∙ no_list q
+        ∙ sym (cond-false _ _ _ (le-ltb p len (omega (arith, is, past))))
+    | inl begun ↦ ap (λ l. stored_place l q) (cond-false _ _ _ (lt-leb len (w * WINDOW) begun)) ∙ elim (cases_lt len (w * WINDOW + WINDOW)) [
+      | inr whole ↦ ap (λ l. stored_place l q) (cond-false _ _ _ (le-ltb len (w * WINDOW + WINDOW) whole))
+          ∙ sym (cond-true _ _ _ (lt-ltb p len (omega (arith, is, small, whole))))
+      | inl inside ↦ ap (λ l. stored_place l q) (cond-true _ _ _ (lt-ltb len (w * WINDOW + WINDOW) inside))
+          ∙ stored_place-push (r ∷ rs) (zero_record (len - w * WINDOW)) q ∙ turned (w * WINDOW) (stored_place (r ∷ rs) q) begun is
+    ]
+  ]
+    where
+      turned : (base : ℕ) (old : Spot) → base < len → p ≡ base + q
+          → cond (nat_le (len - base) q && nat_lt q (len - base + (WINDOW - (len - base)))) Zero old ≡ cond (nat_lt p len) old Zero
+      turned base old begun at = grind (arith, nat_tests)
+
+  cut_any : (l : List Rec) → stored_place (cut_list len w l) q ≡ cond (nat_lt p len) (stored_place l q) Zero
+  cut_any [] = no_list q ∙ either (nat_lt p len)
+    where
+      either : (b : Bool) → Zero ≡ cond b (stored_place [] q) Zero
+      either true = sym (no_list q)
+      either false = refl
+  cut_any (r ∷ rs) = cut_some r rs
+
+-- a file with each list cut shows what it showed up to the length, and nothing from there on
+pub place_in-cut : (lists : Lists) (len p : ℕ) → place_in (λ w. cut_list len w (lists w)) p ≡ cut_at (place_in lists) len p
+unfolding place_in
+place_in-cut lists len p = cut_any len (p / WINDOW) (p % WINDOW) p (omega arith) (omega arith) (lists (p / WINDOW))
+
+-- what is cut of a window that ends by the length, and of one that begins at it or past it
+pub cut_list-below : (len w : ℕ) (l : List Rec) → w * WINDOW + WINDOW ≤ len → cut_list len w l ≡ l
+cut_list-below len w [] whole = refl
+cut_list-below len w (r ∷ rs) whole = cond-false _ _ _ (lt-leb len (w * WINDOW) (omega (arith, whole)))
+    ∙ cond-false _ _ _ (le-ltb len (w * WINDOW + WINDOW) whole)
+
+pub cut_list-past : (len w : ℕ) (l : List Rec) → len ≤ w * WINDOW → cut_list len w l ≡ []
+cut_list-past len w [] past = refl
+cut_list-past len w (r ∷ rs) past = cond-true _ _ _ (le-leb len (w * WINDOW) past)

@@ -1,5 +1,6 @@
 -- The bytes of files: where they lie, what blocks have there, and what transactions on lists leave alone.
 pub mod Places
+pub mod Fills
 pub mod Bytes
 pub mod Counts
 pub mod Blocks
