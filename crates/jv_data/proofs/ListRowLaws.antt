@@ -25,6 +25,11 @@ sum-alter : {K X : Type 0} (order : KeyOrder K) (f : K → X → ℕ) (m : Map o
 sum-alter order f m k None = (let without = sum-remove order f m k in omega (arith, without))
 sum-alter order f m k (Some x) = sum-insert order f m k x
 
+-- a row of another table
+pub get-other : (rows : Rows) (key : RowKey) (cell : Option Cell) (k : RowKey) → (k.tab == key.tab) ≡ false → get (alter rows key cell) k ≡ get rows k
+get-other rows key cell k other = get-alter-apart row_key rows key cell k
+    (λ same. let both : true ≡ false = sym (eq-eqb k.tab key.tab (ap (λ (x : RowKey). x.tab) same)) ∙ other in absurd (cc))
+
 -- ---- numbers over all lists
 
 abbrev over_lists : (List Rec → ℕ) → RowKey → Cell → ℕ
@@ -46,6 +51,17 @@ module _ (f : List Rec → ℕ) (nothing : f [] ≡ 0) where
       let was = share_is key (get rows key) in
       let is = share_is key cell in
       omega (arith, all, was, is)
+
+  -- a list's number is at most that of all
+  pub share-sum : (rows : Rows) (key : RowKey) → f (listed key (get rows key)) ≤ sum_over (over_lists f) rows
+  share-sum rows key =
+      let all = sum-list rows key None in
+      let none = ap f (not_there (key.tab == 4)) ∙ nothing in
+      omega (arith, all, none)
+    where
+      not_there : (b : Bool) → (let l : List Rec = (if b then [] else []) in l) ≡ []
+      not_there true = refl
+      not_there false = refl
 
 not_list : (key : RowKey) (cell : Option Cell) → (key.tab == 4) ≡ false → listed key cell ≡ []
 not_list key cell other = ap (λ b. if b then records_in (row_in cell) else []) other
@@ -86,6 +102,15 @@ listed-other P rows key cell other all k = elim (same_or_apart row_key k key) [
 ]
 
 -- ---- the row of a list
+
+-- what each record of each list has, those of a window have
+pub lists-have : (P : Rec → Type 0) (rows : Rows) (inode window : ℕ) → ListsHave P rows → AllByRecursion P (lists_of rows inode window)
+unfolding lists_of
+lists-have P rows inode window all = either (nat_lt window (2 ^ 32))
+  where
+    either : (b : Bool) → AllByRecursion P (if b then records_in (row_in (get rows (list_key inode window))) else [])
+    either true = all (list_key inode window)
+    either false = tt
 
 same_window : (a b : ℕ) → a < 2 ^ 32 → b < 2 ^ 32 → word a ≡ word b → a ≡ b
 same_window a b low high e = sym (from_be_bytes-to_be_bytes_4 a low) ∙ ap (from_be_bytes w32) e ∙ from_be_bytes-to_be_bytes_4 b high

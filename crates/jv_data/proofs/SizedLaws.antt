@@ -30,13 +30,14 @@ use Rattle.jv_volume.proofs.MapLaws.{get-alter-here, get-alter-apart}
 use Rattle.jv_volume.proofs.NodeRowLaws.{IsNodeRow, IsNodeRow-length}
 use Rattle.jv_volume.proofs.QuietLaws.{quiet-alter, quiet-put_counters, quiet-slices, quiet-then}
 use Rattle.jv_volume.proofs.SameShapeLaws.{whole_as}
-use Rattle.jv_volume.proofs.SeenLaws.{rows-alter}
+use Rattle.jv_volume.proofs.SeenLaws.{AreRows, rows-alter}
 use Rattle.jv_volume.proofs.ShapeMapLaws.{get-inserted, get-insert_apart, shape-put_node_same}
 use Rattle.jv_volume.proofs.StoredLaws.{HasNode, HasCounters, of_counters, found_node, found_counters, found_setting, whole-shape, whole-stored}
 use Rattle.jv_volume.proofs.StoredStepLaws.{tree_of-length, stored-length}
 use Rattle.jv_volume.proofs.SumLaws.{node_space-counted, used_space-drop_node, used_space-with_content, used_inodes-with_content}
 use Rattle.jv_volume.proofs.TreeOfLaws.{node_at-tree_of}
-use Rattle.jv_data.specs.Committing.{paged_space, used_after}
+use Rattle.jv_data.specs.Resizing.{paged_space, used_after}
+use Rattle.jv_data.proofs.BesideLaws.{IsFormed}
 
 -- ---- bytes
 
@@ -171,14 +172,17 @@ module _ (rows : Rows) (inode : ℕ) (was : NodeRow) (c : Counters) (now length 
   quiet-sized = quiet-then rows middle sized_rows (quiet-alter rows (node_key inode) (Some (Ok (OfNode sized))) refl refl)
       (quiet-put_counters middle c (record c { used_space = space }) counters_stay refl)
 
-  pub cells-sized : (key : RowKey) (cell : Cell) → get sized_rows key ≡ Some cell → IsRowAt key cell
+  cells-sized : AreRows sized_rows
   cells-sized = rows-alter middle counters_key (Some (of_counters (record c { used_space = space })))
       (rows-alter rows (node_key inode) (Some (Ok (OfNode sized))) whole.cells
       (λ x e. subst (λ o. IsRowAt (node_key inode) o) (same_Some _ _ e) (record { key_is = refl; cell_is = refl })))
       (λ x e. subst (λ o. IsRowAt counters_key o) (same_Some _ _ e) (record { key_is = refl; cell_is = refl }))
 
-  pub tree_is-sized : WholeShape (shape_of (tree_of no_bytes sized_rows))
+  tree_is-sized : WholeShape (shape_of (tree_of no_bytes sized_rows))
   tree_is-sized = subst (λ (t : Tree). WholeShape (shape_of t)) (sym (tree-sized no_bytes)) (shape-sized no_bytes)
+
+  pub formed-sized : IsFormed sized_rows
+  formed-sized = record { cells = cells-sized; stored = stored-sized no_bytes; tree = tree_is-sized }
 
   -- which files there are, and how long they are
 
