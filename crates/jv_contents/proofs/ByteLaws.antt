@@ -1,6 +1,6 @@
 -- The bytes of a file after a commit, a truncate and a copy are those that the model gives it.
-use Rattle.std.proofs.Common.{◌≡◌, ◌≢◌, ℕ, ◌+◌, ◌-◌, ◌<◌, ◌≤◌, Bool, true, false, cond, List, length, inl, inr, refl, sym, ap, subst, ◌∙◌, arith}
-use Rattle.std.specs.Prelude.{nat_le, nat_lt, ◌==◌, ◌&&◌, if◌then◌else◌, slice_index}
+use Rattle.std.proofs.Common.{◌≡◌, ◌≢◌, ℕ, ◌+◌, ◌-◌, ◌<◌, ◌≤◌, Bool, true, false, cond, List, length, inl, inr, refl, sym, ap, ◌∙◌, arith}
+use Rattle.std.specs.Prelude.{nat_le, nat_lt, ◌&&◌, slice_index}
 use Rattle.std.proofs.lemmas.Bool.{and_parts, and_right, leb-true, ltb-true, cases_lt, cond-true, cond-false, lt-ltb, le-ltb, ne_eqb}
 use Rattle.jv_model.specs.declared.slice.Rec.{Rec}
 use Rattle.jv_model.specs.declared.slice.Spot.{Spot}

@@ -1,20 +1,22 @@
 -- Laws of ranges that are put over others, and of records that fill a range: a list with them shows their places over it. The pieces of
 -- a plan give such records.
-use Rattle.std.proofs.Common.{◌≡◌, ◌≢◌, ℕ, ◌+◌, ◌-◌, ◌*◌, ◌/◌, ◌%◌, ◌<◌, ◌≤◌, Bool, true, false, cond, List, [], ◌∷◌, ◌++◌, Option, Some, None, inl, inr, refl, sym, ap, subst, ◌∙◌, append_assoc, arith}
-use Rattle.std.specs.Prelude.{nat_le, nat_lt, ◌==◌, ◌&&◌, if◌then◌else◌, All}
-use Rattle.std.proofs.lemmas.Bool.{and_parts, and_from, and_left, and_right, leb-true, ltb-true, cases_eq, cases_lt, cond-true, cond-false, lt-ltb, le-ltb, le-leb, lt-leb, eqb-false, ne_eqb}
+use Rattle.std.proofs.Common.{◌≡◌, ◌≢◌, ℕ, suc, ◌+◌, ◌-◌, ◌*◌, ◌<◌, ◌≤◌, Bool, true, false, cond, List, [], ◌∷◌, ◌++◌, length, Option, Some, None, inl, inr, refl, sym, ap, subst, ◌∙◌, append_assoc, arith}
+use Rattle.std.specs.Prelude.{nat_le, nat_lt, ◌==◌, ◌&&◌, All}
+use Rattle.std.proofs.lemmas.Bool.{and_parts, and_from, and_left, and_right, leb-true, ltb-true, cases_lt, cond-true, cond-false, lt-ltb, le-ltb, le-leb, lt-leb, eqb-false, ne_eqb}
 use Rattle.std.proofs.lemmas.List.{append-nil}
 use Rattle.std.proofs.lemmas.List.Elements.{All-head, All-tail}
+use Rattle.std.specs.List.{AllByRecursion}
 use Rattle.jv_model.specs.declared.limits.TheConstants.{WINDOW}
 use Rattle.jv_model.specs.declared.slice.Rec.{Rec}
 use Rattle.jv_model.specs.declared.slice.Spot.{Spot}
 use Rattle.jv_model.specs.declared.slice.Spot.TheVariants.{Zero, Slice}
 use Rattle.jv_model.specs.declared.slice.Piece.{Piece}
-use Rattle.jv_model.specs.blocks.Slices.{IsRecord, is_part, visible, place_by, stored_place, place_after, LiesIn, IsPart, IsPiece, IsPlan, IsAsStored}
+use Rattle.jv_model.specs.blocks.Slices.{IsRecord, visible, place_by, stored_place, place_after, LiesIn, IsPart, IsPlan, IsAsStored}
 use Rattle.jv_volume.specs.Slices.{place_in}
 use Rattle.jv_contents.specs.Places.{Lists, with_list, shown, put_over}
 use Rattle.jv_contents.specs.Fills.{Fills, record_at_spot, records_of_plan}
-use Rattle.jv_contents.proofs.PlaceLaws.{record_ends, stored_place-push, place_in-over}
+use Rattle.jv_contents.proofs.PlaceLaws.{record_ends, record_some, stored_place-push, place_in-over}
+use Rattle.jv_contents.proofs.ByteLaws.{shown-slice}
 
 -- ---- ranges put over others
 
@@ -178,3 +180,31 @@ plan-fills list to places (piece ∷ pieces) from at (begins, is, rest) parts st
 
     end : at + piece.len + (to - (from + piece.len)) ≡ at + (to - from)
     end = omega (arith, is.within, begins)
+
+-- ---- what holds of records that fill a range
+
+-- they are records
+pub fills-are : (places : ℕ → Spot) (from to : ℕ) (rs : List Rec) → Fills places from to rs → AllByRecursion IsRecord rs
+fills-are places from to [] e = tt
+fills-are places from to (r ∷ rs) (at, is, shows, rest) = (is, fills-are places (from + r.len) to rs rest)
+
+-- and name slices that the places have
+pub fills-name : (P : ℕ → ℕ → Type 0) (places : ℕ → Spot) (from to : ℕ) (rs : List Rec) → Fills places from to rs
+    → ((k id size at : ℕ) → from ≤ k → k < to → places k ≡ Slice id size at → P id size)
+    → AllByRecursion (λ r. r.id ≢ 0 → P r.id r.size) rs
+fills-name P places from to [] e has = tt
+fills-name P places from to (r ∷ rs) (at, is, shows, rest) has = (
+  (λ named. has from r.id r.size (r.off + 0) (omega arith) (omega (arith, some, rises)) (ap places (omega arith) ∙ sym (shows 0 some) ∙ shown-slice r 0 named)),
+  fills-name P places (from + r.len) to rs rest (λ k id size off low high e. has k id size off (omega (arith, low)) high e),
+)
+  where
+    some : 0 < r.len
+    some = record_some r is
+
+    rises : from + r.len ≤ to
+    rises = fills-rises places (from + r.len) to rs rest
+
+-- a plan gives a record for each of its pieces
+pub plan-length : (pieces : List Piece) (pos : ℕ) → length (records_of_plan pos pieces) ≡ length pieces
+plan-length [] pos = refl
+plan-length (piece ∷ pieces) pos = ap (λ n. suc n) (plan-length pieces (pos + piece.len))

@@ -1,22 +1,34 @@
 -- Laws of places: what a list shows with one more record, what a file shows then, and what a cut file shows.
-use Rattle.std.proofs.Common.{◌≡◌, ℕ, ◌+◌, ◌-◌, ◌*◌, ◌/◌, ◌%◌, ◌<◌, ◌≤◌, Bool, true, false, cond, List, [], ◌∷◌, ◌++◌, Option, Some, None, inl, inr, refl, sym, ap, subst, ◌∙◌, arith}
-use Rattle.std.specs.Prelude.{find, reverse, nat_le, nat_lt, ◌==◌, ◌&&◌, if◌then◌else◌}
+use Rattle.std.proofs.Common.{◌≡◌, ◌≢◌, ℕ, ◌+◌, ◌-◌, ◌*◌, ◌/◌, ◌%◌, ◌<◌, ◌≤◌, Bool, true, false, cond, List, [], ◌∷◌, ◌++◌, Some, inl, inr, refl, sym, ap, ◌∙◌, arith}
+use Rattle.std.specs.Prelude.{find, nat_le, nat_lt, ◌&&◌}
 use Rattle.std.proofs.lemmas.Bool.{and_parts, leb-true, cases_eq, cases_lt, lt-ltb, le-ltb, le-leb, lt-leb, cond-true, cond-false, eq-eqb, ne_eqb}
 use Rattle.std.proofs.lemmas.Bool.Decides.{nat_tests}
 use Rattle.std.proofs.lemmas.List.{reverse-append}
 use Rattle.jv_model.specs.declared.limits.TheConstants.{WINDOW}
 use Rattle.jv_model.specs.declared.slice.Rec.{Rec}
 use Rattle.jv_model.specs.declared.slice.Spot.{Spot}
-use Rattle.jv_model.specs.declared.slice.Spot.TheVariants.{Zero, Slice}
+use Rattle.jv_model.specs.declared.slice.Spot.TheVariants.{Zero}
 use Rattle.jv_model.specs.blocks.Slices.{IsRecord, is_part, covers, visible, place_by, stored_place}
 use Rattle.jv_volume.specs.Slices.{place_in}
 use Rattle.jv_contents.specs.Places.{Lists, with_list, shown, put_over, cut_at, zero_record, cut_list}
+
+-- a record has a position
+pub record_some : (r : Rec) → IsRecord r → 1 ≤ r.len
+record_some r is =
+    let front = (and_parts (nat_le 1 r.len && nat_le (r.pos + r.len) WINDOW) (is_part r) is).0 in
+    leb-true 1 r.len ((and_parts (nat_le 1 r.len) (nat_le (r.pos + r.len) WINDOW) front).0)
 
 -- a record ends in its window
 pub record_ends : (r : Rec) → IsRecord r → r.pos + r.len ≤ WINDOW
 record_ends r is =
     let front = (and_parts (nat_le 1 r.len && nat_le (r.pos + r.len) WINDOW) (is_part r) is).0 in
     leb-true (r.pos + r.len) WINDOW ((and_parts (nat_le 1 r.len) (nat_le (r.pos + r.len) WINDOW) front).1)
+
+-- and what it shows of a slice lies in the slice
+pub record_inside : (r : Rec) → IsRecord r → r.id ≢ 0 → r.off + r.len ≤ r.size
+record_inside r is named =
+    let part = (and_parts (nat_le 1 r.len && nat_le (r.pos + r.len) WINDOW) (is_part r) is).1 in
+    leb-true (r.off + r.len) r.size (sym (cond-false _ _ _ (ne_eqb r.id 0 named)) ∙ part)
 
 -- one more record is seen where it covers
 pub visible-push : (l : List Rec) (r : Rec) (p : ℕ) → visible (l ++ r ∷ []) p ≡ cond (covers p r) (Some r) (visible l p)
@@ -97,7 +109,7 @@ with_list-self lists w l same u = elim (cases_eq u w) [
 
 -- ---- a file that is cut
 
-no_list : (q : ℕ) → stored_place [] q ≡ Zero
+pub no_list : (q : ℕ) → stored_place [] q ≡ Zero
 unfolding stored_place
 no_list q = refl
 

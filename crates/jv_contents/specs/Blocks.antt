@@ -1,5 +1,5 @@
 -- The blocks of slices, and the bytes that they tell.
-use Rattle.std.specs.Prelude.{◌≡◌, ℕ, ◌/◌, ◌%◌, ◌<◌, List, [], length, slice_index, Option, None, Some, unwrap_or}
+use Rattle.std.specs.Prelude.{◌≡◌, ◌≢◌, ℕ, ◌/◌, ◌%◌, ◌<◌, List, [], length, slice_index, Option, Some, unwrap_or}
 use Rattle.jv_model.specs.declared.row.SliceRow.{SliceRow}
 use Rattle.jv_model.specs.declared.slice.BlockId.{BlockId}
 use Rattle.jv_model.specs.blocks.Slices.{block_at, block_count}
@@ -34,3 +34,8 @@ HasBlocks block rows blocks = (id : ℕ) (slice : SliceRow) → slice_row_at row
 -- no block is of a slice whose number is still to be given
 abbrev pub AreBelow : Rows → Blocks → Type 0
 AreBelow rows blocks = (b : BlockId) (bytes : List ℕ) → blocks b ≡ Some bytes → b.id < next_slice rows
+
+-- a block is put there, and others stay
+pub record IsPut (b : BlockId) (bytes : List ℕ) (before after : Blocks) : Type 0 where
+  pub here : after b ≡ Some bytes
+  pub others : (other : BlockId) → other ≢ b → after other ≡ before other

@@ -5,3 +5,4 @@ pub mod Bytes
 pub mod Counts
 pub mod Blocks
 pub mod Flights
+pub mod Stays

@@ -1,6 +1,6 @@
 -- Where the bytes of a file lie: each position has a place, by the lists of the file's windows (JuiceFS, Internals: chunks, slices
 -- and blocks). Laws on bytes are equations between functions from position to place.
-use Rattle.std.specs.Prelude.{ℕ, ◌+◌, ◌-◌, ◌*◌, Bool, ◌&&◌, ◌==◌, nat_le, nat_lt, if◌then◌else◌, List, [], ◌∷◌, ◌++◌}
+use Rattle.std.specs.Prelude.{ℕ, ◌+◌, ◌-◌, ◌*◌, ◌&&◌, ◌==◌, nat_le, nat_lt, if◌then◌else◌, List, [], ◌∷◌, ◌++◌}
 use Rattle.jv_model.specs.declared.limits.TheConstants.{WINDOW}
 use Rattle.jv_model.specs.declared.slice.Rec.{Rec}
 use Rattle.jv_model.specs.declared.slice.Spot.{Spot}

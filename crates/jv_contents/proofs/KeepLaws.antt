@@ -1,0 +1,180 @@
+-- What changes that leave lists and slices alone keep: counts of records, unknown slices, blocks. So do changes on metadata, and the
+-- giving of a number.
+use Rattle.std.proofs.Common.{◌≡◌, ℕ, ◌+◌, ◌≤◌, ◌^◌, ◌⊎◌, inl, inr, Bool, true, false, true≢false, cond, List, [], length, Option, None, Some, refl, sym, ap, ◌∙◌, arith}
+use Rattle.std.specs.Prelude.{◌==◌, ◌||◌, nat_lt, if◌then◌else◌}
+use Rattle.jv_model.specs.declared.row.RowKey.{RowKey}
+use Rattle.jv_model.specs.declared.row.SliceRow.{SliceRow}
+use Rattle.jv_model.specs.declared.slice.Rec.{Rec}
+use Rattle.jv_model.specs.declared.slice.BlockId.{BlockId}
+use Rattle.jv_model.specs.FiniteMap.{get, alter, retain_keys, sum_over}
+use Rattle.jv_model.specs.rows.RowKeys.{row_key}
+use Rattle.jv_model.specs.rows.RowPlaces.{counters_key, list_key, slice_key, dead_key}
+use Rattle.jv_model.proofs.FiniteMapLaws.{get-retain_keys, same_maps}
+use Rattle.jv_volume.specs.TypedRows.{Cell, Rows}
+use Rattle.jv_volume.specs.Views.{row_in, records_in, lists_of, slice_in, slice_row_at, dead_in, dead_at}
+use Rattle.jv_volume.specs.Slices.{IsUnknown, listed, named_by, next_slice, records_naming}
+use Rattle.jv_volume.specs.Whole.{is_of_slices, Quiet}
+use Rattle.jv_volume.proofs.MapLaws.{get-alter-apart}
+use Rattle.jv_volume.proofs.QuietLaws.{sum-retain_keys}
+use Rattle.jv_contents.specs.Bytes.{Told, spot_byte, bytes_of}
+use Rattle.jv_contents.specs.Blocks.{Blocks, Grows, HasBlocks, AreBelow}
+use Rattle.jv_contents.specs.Flights.{Flight, InFlight}
+use Rattle.jv_contents.specs.Stays.{SlicesStay}
+use Rattle.jv_contents.specs.Counts.{HasDied, KeepsOthers, record_count}
+use Rattle.jv_contents.proofs.PlaceLaws.{place_in-same}
+use Rattle.jv_contents.proofs.FlightLaws.{flies-still}
+use Rattle.jv_contents.proofs.BlockLaws.{has_blocks-still, below-rows}
+
+abbrev is_list_key : RowKey → Bool
+is_list_key key = key.tab == 4
+
+-- ---- changes that leave lists and slices
+
+pub stay-none : (rows : Rows) → SlicesStay rows rows
+stay-none rows key is = refl
+
+pub stay-then : (rows middle after : Rows) → SlicesStay rows middle → SlicesStay middle after → SlicesStay rows after
+stay-then rows middle after first second key is = second key is ∙ first key is
+
+-- a row of another table
+pub stay-alter : (rows : Rows) (q : RowKey) (cell : Option Cell) → is_of_slices q.tab ≡ false → SlicesStay rows (alter rows q cell)
+stay-alter rows q cell other key is = get-alter-apart row_key rows q cell key
+    (λ same. absurd (true≢false (sym is ∙ ap (λ (k : RowKey). is_of_slices k.tab) same ∙ other)))
+
+-- the counters' row alone
+pub stay-counters : (rows after : Rows) → ((key : RowKey) → (get after key ≡ get rows key) ⊎ (key ≡ counters_key)) → SlicesStay rows after
+stay-counters rows after others key is = elim (others key) [
+  | inl same ↦ same
+  | inr at ↦ absurd (true≢false (sym is ∙ ap (λ (k : RowKey). is_of_slices k.tab) at))
+]
+
+-- ---- what they keep
+
+module _ (rows after : Rows) (stay : SlicesStay rows after) where
+  kept_lists : retain_keys is_list_key after ≡ retain_keys is_list_key rows
+  kept_lists = same_maps (retain_keys is_list_key after) (retain_keys is_list_key rows) (λ key.
+      get-retain_keys after is_list_key key ∙ by_table key (is_list_key key) refl ∙ sym (get-retain_keys rows is_list_key key))
+    where
+      by_table : (key : RowKey) (b : Bool) → is_list_key key ≡ b → cond b (get after key) None ≡ cond b (get rows key) None
+      by_table key true e = stay key (ap (λ b. b || (key.tab == 5) || (key.tab == 9)) e)
+      by_table key false e = refl
+
+  -- a sum over lists stays
+  pub sum-stay : (f : List Rec → ℕ) → f [] ≡ 0 → sum_over (λ key cell. f (listed key (Some cell))) after ≡ sum_over (λ key cell. f (listed key (Some cell))) rows
+  sum-stay f none =
+      sym (sum-retain_keys row_key (λ key cell. f (listed key (Some cell))) is_list_key nothing after)
+      ∙ ap (sum_over (λ key cell. f (listed key (Some cell)))) kept_lists
+      ∙ sum-retain_keys row_key (λ key cell. f (listed key (Some cell))) is_list_key nothing rows
+    where
+      nothing : (key : RowKey) (cell : Cell) → is_list_key key ≡ false → f (listed key (Some cell)) ≡ 0
+      nothing key cell other = ap (λ b. f (if b then records_in (row_in (Some cell)) else [])) other ∙ none
+
+  pub named_by-stay : (id : ℕ) → named_by after id ≡ named_by rows id
+  unfolding named_by
+  named_by-stay id = sum-stay (records_naming id) refl
+
+  pub record_count-stay : record_count after ≡ record_count rows
+  unfolding record_count
+  record_count-stay = sum-stay length refl
+
+  pub slice_row-stay : (id : ℕ) → slice_row_at after id ≡ slice_row_at rows id
+  slice_row-stay id = ap (λ c. slice_in (row_in c)) (stay (slice_key id) refl)
+
+  pub dead-stay : (id : ℕ) → dead_at after id ≡ dead_at rows id
+  dead-stay id = ap (λ c. dead_in (row_in c)) (stay (dead_key id) refl)
+
+  pub unknown-stay : (id : ℕ) → IsUnknown rows id → IsUnknown after id
+  unknown-stay id u = record {
+    unnamed = named_by-stay id ∙ u.unnamed;
+    no_row = slice_row-stay id ∙ u.no_row;
+    not_dead = dead-stay id ∙ u.not_dead;
+  }
+
+  -- what lists show stays
+  pub lists_of-stay : (inode window : ℕ) → lists_of after inode window ≡ lists_of rows inode window
+  unfolding lists_of
+  lists_of-stay inode window = ap (λ c. if nat_lt window (2 ^ 32) then records_in (row_in c) else []) (stay (list_key inode window) refl)
+
+  pub bytes-stay : (told : Told) (inode p : ℕ) → bytes_of told after inode p ≡ bytes_of told rows inode p
+  bytes-stay told inode p = ap (spot_byte told) (place_in-same (lists_of after inode) (lists_of rows inode) (λ w. lists_of-stay inode w) p)
+
+  -- and so do all blocks, blocks that are below the next number, and flights, also where the next number is a greater one
+  pub has_blocks-stay : (block : ℕ) (blocks : Blocks) → HasBlocks block rows blocks → HasBlocks block after blocks
+  has_blocks-stay block blocks has = has_blocks-still block rows after blocks slice_row-stay has
+
+  pub flies-stay : (block : ℕ) (blocks blocks' : Blocks) (f : Flight) → InFlight block rows blocks f → next_slice rows ≤ next_slice after
+      → Grows blocks blocks' → ((b : BlockId) (bytes : List ℕ) → b.id ≡ f.id → blocks' b ≡ Some bytes → blocks b ≡ Some bytes)
+      → InFlight block after blocks' f
+  flies-stay block blocks blocks' f flies more grows alone =
+      flies-still block rows blocks f flies after blocks' (let low = flies.below in omega (arith, low, more)) (unknown-stay f.id flies.unknown) grows alone
+
+  pub keeps-stay : (own more : ℕ) → next_slice after ≡ next_slice rows → KeepsOthers own more rows after
+  keeps-stay own more next = record {
+    next = next;
+    unknown = λ id apart u. unknown-stay id u;
+    had = λ id slice apart there. record { slice = slice; is = sym (slice_row-stay id) ∙ there; size_is = refl };
+    dies = λ id slice there gone. (let same = slice_row-stay id in absurd (cc));
+    dead = λ id dead there. dead-stay id ∙ there;
+    records = (let same = record_count-stay in omega (arith, same));
+  }
+
+-- the same of a transaction that keeps the next number
+pub below-keeps : (own more : ℕ) (rows after : Rows) (blocks : Blocks) → KeepsOthers own more rows after → AreBelow rows blocks → AreBelow after blocks
+below-keeps own more rows after blocks keeps below = below-rows rows after blocks (let same = keeps.next in omega (arith, same)) below
+
+-- a change on metadata
+pub keeps-quiet : (rows after : Rows) → Quiet rows after → KeepsOthers 0 0 rows after
+keeps-quiet rows after q = keeps-stay rows after (λ key is. q.apart key is) 0 0 q.next
+
+-- a transaction on lists, and a change that leaves them
+pub keeps-then_stay : (own more : ℕ) (rows middle after : Rows) → KeepsOthers own more rows middle → SlicesStay middle after
+    → next_slice after ≡ next_slice middle → KeepsOthers own more rows after
+keeps-then_stay own more rows middle after k stay next = record {
+  next = next ∙ k.next;
+  unknown = λ id apart u. unknown-stay middle after stay id (k.unknown id apart u);
+  had = λ id slice apart there. k.had id slice apart (sym (slice_row-stay middle after stay id) ∙ there);
+  dies = λ id slice there gone.
+      (let died = k.dies id slice there (sym (slice_row-stay middle after stay id) ∙ gone) in
+      record { dead = died.dead; is = dead-stay middle after stay id ∙ died.is; size_is = died.size_is });
+  dead = λ id dead there. dead-stay middle after stay id ∙ k.dead id dead there;
+  records = (let same = record_count-stay middle after stay in let few = k.records in omega (arith, same, few));
+}
+
+pub keeps-stay_then : (own more : ℕ) (rows middle after : Rows) → SlicesStay rows middle → next_slice middle ≡ next_slice rows
+    → KeepsOthers own more middle after → KeepsOthers own more rows after
+keeps-stay_then own more rows middle after stay next k = record {
+  next = k.next ∙ next;
+  unknown = λ id apart u. k.unknown id apart (unknown-stay rows middle stay id u);
+  had = λ id slice apart there.
+      (let had = k.had id slice apart there in
+      record { slice = had.slice; is = sym (slice_row-stay rows middle stay id) ∙ had.is; size_is = had.size_is });
+  dies = λ id slice there gone. k.dies id slice (slice_row-stay rows middle stay id ∙ there) gone;
+  dead = λ id dead there. k.dead id dead (dead-stay rows middle stay id ∙ there);
+  records = (let same = record_count-stay rows middle stay in let few = k.records in omega (arith, same, few));
+}
+
+-- A transaction on lists, and another one of the same slice or of none, where that slice had no row at first.
+pub keeps-then : (own first second : ℕ) (rows middle after : Rows) → slice_row_at rows own ≡ None → KeepsOthers own first rows middle
+    → KeepsOthers own second middle after → KeepsOthers own (first + second) rows after
+keeps-then own first second rows middle after fresh k l = record {
+  next = l.next ∙ k.next;
+  unknown = λ id apart u. l.unknown id apart (k.unknown id apart u);
+  had = λ id slice apart there.
+      (let late = l.had id slice apart there in
+      let early = k.had id late.slice apart late.is in
+      record { slice = early.slice; is = early.is; size_is = early.size_is ∙ late.size_is });
+  dies = λ id slice there gone. dies id slice there gone (slice_row_at middle id) refl;
+  dead = λ id dead there. l.dead id dead (k.dead id dead there);
+  records = (let few = k.records in let more = l.records in omega (arith, few, more));
+}
+  where
+    dies : (id : ℕ) (slice : SliceRow) → slice_row_at rows id ≡ Some slice → slice_row_at after id ≡ None
+        → (o : Option SliceRow) → slice_row_at middle id ≡ o → HasDied after id slice.size
+    dies id slice there gone None e =
+        let died = k.dies id slice there e in
+        record { dead = died.dead; is = l.dead id died.dead died.is; size_is = died.size_is }
+    dies id slice there gone (Some kept) e =
+        let died = l.dies id kept e gone in
+        let had = k.had id kept (λ same. (let none = ap (slice_row_at rows) same ∙ fresh in absurd (cc))) e in
+        let one : had.slice ≡ slice = (let is = had.is in cc) in
+        record { dead = died.dead; is = died.is; size_is = died.size_is ∙ sym had.size_is ∙ ap (λ s. s.size) one }
