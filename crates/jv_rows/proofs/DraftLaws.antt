@@ -128,6 +128,10 @@ unfolding drafted
 cell_left changes known key last is =
     get-typed (applied changes known) key ∙ ap (option_map (cell_of key)) (get-applied changes known key ∙ ap (λ o. left_by o (get known key)) is)
 
+-- where no change is of a key, its row is as it is stored
+pub stored-below : (changes : List Change) (known : RowMap) (key : RowKey) → last_change key changes ≡ None → get (drafted changes known) key ≡ get (typed known) key
+stored-below changes known key none = cell_left changes known key None none ∙ sym (get-typed known key)
+
 -- a table's grammar: what rows' bytes spell there
 module _ {A : Type 0} (row : A → Row) (read : List ℕ → Option A) (tab : ℕ) (reads : (bytes : List ℕ) → row_of tab bytes ≡ option_map row (read bytes))
     (key : RowKey) (at : key.tab ≡ tab) where

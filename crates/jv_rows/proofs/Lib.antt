@@ -7,9 +7,7 @@ pub mod Bounds
 pub mod Sound
 pub mod AnyRow
 pub mod ScanLaws
-pub mod DropsExamples
-pub mod DropLaws
-pub mod DropSteps
+pub mod CountsLaws
 pub mod SpelledLaws
 pub mod DraftLaws
 pub mod LooksLaws
@@ -22,3 +20,4 @@ pub mod TransactionLaws
 pub mod ScannedLaws
 pub mod NeedingLaws
 pub mod ArrivalLaws
+pub mod AdjustLaws

@@ -4,7 +4,7 @@ pub mod Tables
 pub mod RoundTrips
 pub mod Readings
 pub mod Scans
-pub mod Drops
+pub mod Counts
 pub mod FreshRows
 pub mod Drafts
 pub mod Transactions

@@ -1,23 +1,25 @@
 //! Changes of rows that a transaction has in mind, beside the keeper that has the rows: what it reads sees its own changes.
-ghost use Rattle.std.specs.Prelude.{◌≡◌, [], None, Some, Ok, true, IsTrue};
+ghost use Rattle.std.specs.Prelude.{◌≡◌, ◌==◌, [], None, Some, Ok, true, IsTrue};
+ghost use Rattle.std.specs.List.{list_any};
 ghost use Rattle.std.specs.Option.{option_copied};
 ghost use Rattle.std.specs.Ordering.{eq_by_cmp};
-ghost use Rattle.jv_model.specs.declared.row.Row.TheVariants.{OfSetting, OfCounters, OfNode, OfEdge, OfSession, OfSustained, OfDropped};
-ghost use Rattle.jv_model.specs.rows.RowGrammar.{is_setting, is_counters, is_node, is_edge, is_session};
-ghost use Rattle.jv_model.specs.rows.RowPlaces.{setting_key, counters_key, node_key, edge_key, session_key, sustained_key, dropped_key};
+ghost use Rattle.jv_model.specs.declared.row.Row.TheVariants.{OfSetting, OfCounters, OfNode, OfEdge, OfList, OfSlice, OfSession, OfSustained, OfDropped, OfDead};
+ghost use Rattle.jv_model.specs.rows.RowGrammar.{is_setting, is_counters, is_node, is_edge, is_list, is_slice, is_session};
+ghost use Rattle.jv_model.specs.rows.RowPlaces.{setting_key, counters_key, node_key, edge_key, list_key, slice_key, session_key, sustained_key, dropped_key, dead_key};
 ghost use Rattle.jv_model.specs.rows.RowKeys.{row_cmp};
 ghost use Rattle.jv_outside.specs.Store.{Commits};
 ghost use Rattle.jv_rows.specs.Drafts.{Sees, Drafts, ReadsPut, cell, key_in, last_change};
 
 use crate::grammar::{Grammar, Spelled};
 use crate::keys::{
-    key_of_counters, key_of_dropped, key_of_edge, key_of_node, key_of_session, key_of_setting,
-    key_of_sustained,
+    key_of_counters, key_of_dead, key_of_dropped, key_of_edge, key_of_list, key_of_node,
+    key_of_session, key_of_setting, key_of_slice, key_of_sustained,
 };
 use crate::misread::Misread;
 use crate::reading::read_row;
 use jv_model::{
-    Counters, Down, Dropped, Edge, Name, Node, RowFault, RowKey, Session, Setting, copied,
+    Counters, Dead, Down, Dropped, Edge, List, Name, Node, RowFault, RowKey, Session, Setting,
+    SliceRow, copied,
 };
 use jv_outside::{Batch, Change, Keeper};
 use std::alloc::{AllocError, Global};
@@ -45,6 +47,16 @@ fn is_of(key: &RowKey, change: &Change) -> bool
     match change {
         Change::Put(at, _) => key.cmp(at).is_eq(),
         Change::Del(at) => key.cmp(at).is_eq(),
+    }
+}
+
+// Whether a change is of a slice's row.
+fn is_of_slice(change: &Change) -> bool
+    ensures { result ≡ ((key_in change.now).tab == 5) }
+{
+    match change {
+        Change::Put(at, _) => at.tab == 5,
+        Change::Del(at) => at.tab == 5,
     }
 }
 
@@ -128,6 +140,33 @@ impl Draft {
         self.row(k, key)
     }
 
+    /// The records of a window of a file.
+    pub fn list<K: Keeper>(
+        &self,
+        k: &mut K,
+        inode: u64,
+        window: u32,
+    ) -> Result<Option<List>, RowFault>
+        ensures { Sees OfList is_list (list_key inode window) self.now (K.seen k.old) (K.seen k.new) result }
+    {
+        let key = key_of_list(self.alloc, inode, window)?;
+        self.row(k, key)
+    }
+
+    /// A slice with its count.
+    pub fn slice<K: Keeper>(&self, k: &mut K, id: u64) -> Result<Option<SliceRow>, RowFault>
+        ensures { Sees OfSlice is_slice (slice_key id) self.now (K.seen k.old) (K.seen k.new) result }
+    {
+        self.row(k, key_of_slice(self.alloc, id))
+    }
+
+    /// A dead slice.
+    pub fn dead<K: Keeper>(&self, k: &mut K, id: u64) -> Result<Option<Dead>, RowFault>
+        ensures { Sees OfDead (λ dead. true) (dead_key id) self.now (K.seen k.old) (K.seen k.new) result }
+    {
+        self.row(k, key_of_dead(self.alloc, id))
+    }
+
     /// A mounted client.
     pub fn session<K: Keeper>(&self, k: &mut K, sid: u64) -> Result<Option<Session>, RowFault>
         ensures { Sees OfSession is_session (session_key sid) self.now (K.seen k.old) (K.seen k.new) result }
@@ -189,6 +228,38 @@ impl Draft {
         self.drop_row(key)
     }
 
+    /// Adds that the window of the file has these records. Out of memory the changes are as before.
+    pub fn put_list(&mut self, inode: u64, window: u32, list: &List) -> Result<(), AllocError>
+        requires { IsTrue (is_list list.now) }
+        ensures { Drafts (list_key inode window) (cell OfList (Some list.now)) self.old self.new result }
+    {
+        let key = key_of_list(self.alloc, inode, window)?;
+        self.put(key, list)
+    }
+
+    /// Adds that the window of the file has no records. Out of memory the changes are as before.
+    pub fn drop_list(&mut self, inode: u64, window: u32) -> Result<(), AllocError>
+        ensures { Drafts (list_key inode window) None self.old self.new result }
+    {
+        let key = key_of_list(self.alloc, inode, window)?;
+        self.drop_row(key)
+    }
+
+    /// Adds that the slice is this one. Out of memory the changes are as before.
+    pub fn put_slice(&mut self, id: u64, slice: &SliceRow) -> Result<(), AllocError>
+        requires { IsTrue (is_slice slice.now) }
+        ensures { Drafts (slice_key id) (cell OfSlice (Some slice.now)) self.old self.new result }
+    {
+        self.put(key_of_slice(self.alloc, id), slice)
+    }
+
+    /// Adds that there is no such slice. Out of memory the changes are as before.
+    pub fn drop_slice(&mut self, id: u64) -> Result<(), AllocError>
+        ensures { Drafts (slice_key id) None self.old self.new result }
+    {
+        self.drop_row(key_of_slice(self.alloc, id))
+    }
+
     /// Adds that the client's session is this one. Out of memory the changes are as before.
     pub fn put_session(&mut self, sid: u64, session: &Session) -> Result<(), AllocError>
         requires { IsTrue (is_session session.now) }
@@ -225,6 +296,20 @@ impl Draft {
         ensures { Drafts (dropped_key inode) (cell OfDropped (Some dropped.now)) self.old self.new result }
     {
         self.put(key_of_dropped(self.alloc, inode), dropped)
+    }
+
+    /// Adds that the slice is this dead one. Out of memory the changes are as before.
+    pub fn put_dead(&mut self, id: u64, dead: &Dead) -> Result<(), AllocError>
+        ensures { Drafts (dead_key id) (cell OfDead (Some dead.now)) self.old self.new result }
+    {
+        self.put(key_of_dead(self.alloc, id), dead)
+    }
+
+    // Whether some change is of a slice's row.
+    pub(crate) fn changes_slices(&self) -> bool
+        ensures { result ≡ list_any (λ change. (key_in change).tab == 5) self.now }
+    {
+        self.batch.as_slice().iter().any(|change| is_of_slice(change))
     }
 
     // The row at a key of a table.

@@ -12,9 +12,13 @@ use crate::parsing::{
     parse_counters, parse_dead, parse_dropped, parse_edge, parse_list, parse_node, parse_session,
     parse_setting, parse_slice, parse_sustained,
 };
-use crate::spelling::{spell_counters, spell_dropped, spell_edge, spell_node, spell_session};
+use crate::spelling::{
+    spell_counters, spell_dead, spell_dropped, spell_edge, spell_list, spell_node, spell_session,
+    spell_slice,
+};
 use crate::widths::{
-    has_counters_widths, has_dropped_widths, has_edge_widths, has_node_widths, has_session_widths,
+    has_counters_widths, has_dead_widths, has_dropped_widths, has_edge_widths, has_list_widths,
+    has_node_widths, has_session_widths, has_slice_widths,
 };
 use jv_model::{Bytes, Counters, Dead, Dropped, Edge, List, Node, Session, Setting, SliceRow};
 use std::alloc::{AllocError, Global};
@@ -164,6 +168,13 @@ impl Grammar for List {
     ghost reads_row = { list_row };
 }
 
+impl Spelled for List {
+    fn spell(&self, alloc: Global) -> Result<Bytes, AllocError> {
+        has_list_widths(self);
+        spell_list(alloc, self)
+    }
+}
+
 impl Grammar for SliceRow {
     ghost tab = { 5 };
 
@@ -180,6 +191,13 @@ impl Grammar for SliceRow {
     }
 
     ghost reads_row = { slice_row };
+}
+
+impl Spelled for SliceRow {
+    fn spell(&self, alloc: Global) -> Result<Bytes, AllocError> {
+        has_slice_widths(self);
+        spell_slice(alloc, self)
+    }
 }
 
 impl Grammar for Session {
@@ -272,4 +290,11 @@ impl Grammar for Dead {
     }
 
     ghost reads_row = { dead_row };
+}
+
+impl Spelled for Dead {
+    fn spell(&self, alloc: Global) -> Result<Bytes, AllocError> {
+        has_dead_widths(self);
+        spell_dead(alloc, self)
+    }
 }

@@ -1,9 +1,9 @@
 //! The rows of a volume's metadata: what bytes spell, read exactly, and the one spelling of each row.
 #![tactic(auto)]
 
+mod adjusting;
 mod allowed;
 mod drafts;
-mod dropping;
 mod fields;
 mod fresh;
 mod grammar;
@@ -19,12 +19,12 @@ mod walking;
 mod widths;
 mod writing;
 
+pub use adjusting::adjust;
 pub use allowed::{
     allows_counters, allows_edge, allows_list, allows_node, allows_record, allows_session,
     allows_setting, allows_slice,
 };
 pub use drafts::Draft;
-pub use dropping::drop_records;
 pub use fresh::{default_setting, fresh_rows};
 pub use keys::{
     key_of_counters, key_of_dead, key_of_dropped, key_of_edge, key_of_list, key_of_node,

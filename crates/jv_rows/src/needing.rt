@@ -74,7 +74,7 @@ pub fn needed_node<K: Keeper>(
 }
 
 // The fault of a row that has to be there and is absent.
-fn lacks(alloc: Global, key: RowKey) -> TxFault
+pub(crate) fn lacks(alloc: Global, key: RowKey) -> TxFault
     ensures { result ≡ OfRows (Bad key []) }
 {
     TxFault::Rows(RowFault::Bad(key, Sequence::new(alloc)))

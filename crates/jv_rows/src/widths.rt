@@ -1,8 +1,8 @@
 //! The numbers of rows have the widths of their fields. Each law is a function that only reads the fields.
 ghost use Rattle.std.specs.Prelude.{◌<◌, ◌^◌};
-ghost use Rattle.jv_rows.specs.RoundTrips.{AreBytes, CountersWidths, NodeWidths, EdgeWidths, SessionWidths, DroppedWidths};
+ghost use Rattle.jv_rows.specs.RoundTrips.{AreBytes, CountersWidths, NodeWidths, EdgeWidths, RecordWidths, ListWidths, SliceWidths, SessionWidths, DroppedWidths, DeadWidths};
 
-use jv_model::{Counters, Dropped, Edge, Node, Session};
+use jv_model::{Counters, Dead, Dropped, Edge, List, Node, Rec, Session, SliceRow};
 
 pub(crate) fn has_counters_widths(counters: &Counters)
     ensures { CountersWidths counters.now }
@@ -40,6 +40,38 @@ pub(crate) fn has_dropped_widths(dropped: &Dropped)
     ensures { DroppedWidths dropped.now }
 {
     let _length = dropped.length;
+}
+
+pub(crate) fn has_list_widths(list: &List)
+    ensures { ListWidths list.now }
+{
+    for record in list.as_slice() {
+        has_record_widths(record);
+    }
+}
+
+fn has_record_widths(r: &Rec)
+    ensures { RecordWidths r.now }
+{
+    let _pos = r.pos;
+    let _id = r.id;
+    let _size = r.size;
+    let _off = r.off;
+    let _len = r.len;
+}
+
+pub(crate) fn has_slice_widths(slice: &SliceRow)
+    ensures { SliceWidths slice.now }
+{
+    let _size = slice.size;
+    let _count = slice.count;
+}
+
+pub(crate) fn has_dead_widths(dead: &Dead)
+    ensures { DeadWidths dead.now }
+{
+    let _size = dead.size;
+    let _due = dead.due;
 }
 
 fn has_owner_widths(node: &Node)

@@ -2,10 +2,10 @@ use Rattle.std.proofs.Common.{◌≡◌, ◌≤◌, ◌+◌, cond, ℕ, Option, 
 use Rattle.std.specs.Prelude.{unwrap_or}
 use Rattle.std.specs.Ordering.{nat_cmp}
 use Rattle.std.specs.BTreeMap.{get, is_at}
-use Rattle.jv_rows.specs.Drops.{stored_count}
-use Rattle.jv_rows.proofs.DropLaws.{stored_le, stored_same, stored_more, none}
-use Rattle.jv_rows.proofs.dropping.count_records.Goals as goal
-use Rattle.jv_rows.proofs.dropping.count_records.Goals.{then-record-ne0+in_ok-insert, else-record-ne0}
+use Rattle.jv_rows.specs.Counts.{stored_count}
+use Rattle.jv_rows.proofs.CountsLaws.{stored_le, stored_same, stored_more, none}
+use Rattle.jv_rows.proofs.adjusting.count_records.Goals as goal
+use Rattle.jv_rows.proofs.adjusting.count_records.Goals.{then-record-ne0+in_ok-insert, else-record-ne0}
 
 pub overflow_add-count : goal.overflow_add-count
 overflow_add-count c =
