@@ -1,22 +1,17 @@
 -- Changes of lists, slices and dead slices alone: the tree is as before, and whole rows are whole again where slices and files are.
-use Rattle.std.proofs.Common.{◌≡◌, ℕ, ◌+◌, ◌≤◌, Bool, true, false, cond, List, [], length, Option, None, Some, refl, sym, ap, subst, ◌∙◌, arith}
-use Rattle.std.specs.Prelude.{◌==◌, ◌||◌, IsTrue, if◌then◌else◌}
+use Rattle.std.proofs.Common.{◌≡◌, ℕ, Option, Some, refl, sym, subst, ◌∙◌}
+use Rattle.std.specs.Prelude.{IsTrue}
 use Rattle.jv_model.specs.declared.row.RowKey.{RowKey}
-use Rattle.jv_model.specs.FiniteMap.{get, alter, retain_keys, sum_over}
-use Rattle.jv_model.specs.rows.RowKeys.{row_key}
-use Rattle.jv_model.proofs.FiniteMapLaws.{same_maps, get-retain_keys}
+use Rattle.jv_model.specs.FiniteMap.{alter}
 use Rattle.jv_volume.specs.TypedRows.{Cell, Rows}
-use Rattle.jv_volume.specs.Views.{row_in, records_in}
 use Rattle.jv_volume.specs.TreeOf.{tree_of}
 use Rattle.jv_volume.specs.Stored.{Stored}
 use Rattle.jv_volume.specs.Shape.{WholeShape, shape_of}
-use Rattle.jv_volume.specs.Slices.{listed, WholeSlices, WholeFiles}
-use Rattle.jv_volume.specs.Whole.{IsRowAt, Quiet, Whole, no_bytes}
+use Rattle.jv_volume.specs.Slices.{WholeSlices, WholeFiles}
+use Rattle.jv_volume.specs.Whole.{IsRowAt, Whole, no_bytes}
 use Rattle.jv_volume.proofs.TreeOfLaws.{is_unseen, unseen, tree_of-unseen}
 use Rattle.jv_volume.proofs.TableStepLaws.{stored-unseen}
 use Rattle.jv_volume.proofs.SeenLaws.{AreRows, rows-alter}
-use Rattle.jv_volume.proofs.QuietLaws.{sum-retain_keys, quiet-named_by, quiet-slice_row_at, quiet-dead_at}
-use Rattle.jv_contents.specs.Counts.{record_count, HasDied, HadSize, KeepsOthers}
 
 -- rows with the same tree
 pub record Beside (rows after : Rows) : Type 0 where
@@ -58,46 +53,3 @@ formed-beside rows after f b = record {
 
 pub whole-formed : (rows : Rows) → IsFormed rows → WholeSlices rows → WholeFiles rows → Whole rows
 whole-formed rows f slices files = record { cells = f.cells; stored = f.stored; tree = f.tree; slices = slices; files = files }
-
--- ---- what a change of metadata before it leaves alone
-
-abbrev is_list_key : RowKey → Bool
-is_list_key key = key.tab == 4
-
-module _ (rows after : Rows) (q : Quiet rows after) where
-  kept_lists : retain_keys is_list_key after ≡ retain_keys is_list_key rows
-  kept_lists = same_maps (retain_keys is_list_key after) (retain_keys is_list_key rows) (λ key.
-      get-retain_keys after is_list_key key ∙ by_table key (is_list_key key) refl ∙ sym (get-retain_keys rows is_list_key key))
-    where
-      by_table : (key : RowKey) (b : Bool) → is_list_key key ≡ b → cond b (get after key) None ≡ cond b (get rows key) None
-      by_table key true e = q.apart key (ap (λ b. b || (key.tab == 5) || (key.tab == 9)) e)
-      by_table key false e = refl
-
-  count_nothing : (key : RowKey) (cell : Cell) → is_list_key key ≡ false → length (listed key (Some cell)) ≡ 0
-  count_nothing key cell other = ap (λ b. length (if b then records_in (row_in (Some cell)) else [])) other
-
-  quiet-record_count : record_count after ≡ record_count rows
-  unfolding record_count
-  quiet-record_count =
-      sym (sum-retain_keys row_key (λ key cell. length (listed key (Some cell))) is_list_key count_nothing after)
-      ∙ ap (sum_over (λ key cell. length (listed key (Some cell)))) kept_lists
-      ∙ sum-retain_keys row_key (λ key cell. length (listed key (Some cell))) is_list_key count_nothing rows
-
-  -- other slices are kept by both
-  pub others-quiet : (own more : ℕ) (last : Rows) → KeepsOthers own more after last → KeepsOthers own more rows last
-  others-quiet own more last k = record {
-    next = k.next ∙ q.next;
-    unknown = λ id apart old. k.unknown id apart (record {
-      unnamed = quiet-named_by rows after q id ∙ old.unnamed;
-      no_row = quiet-slice_row_at rows after q id ∙ old.no_row;
-      not_dead = quiet-dead_at rows after q id ∙ old.not_dead;
-    });
-    had = λ id slice apart there. (let was = k.had id slice apart there in record {
-      slice = was.slice;
-      is = sym (quiet-slice_row_at rows after q id) ∙ was.is;
-      size_is = was.size_is;
-    });
-    dies = λ id slice there none. k.dies id slice (quiet-slice_row_at rows after q id ∙ there) none;
-    dead = λ id dead there. k.dead id dead (quiet-dead_at rows after q id ∙ there);
-    records = subst (λ n. record_count last ≤ n + more) quiet-record_count k.records;
-  }

@@ -11,3 +11,4 @@ pub mod BeginningLaws
 pub mod CommitLaws
 pub mod RecordsLaws
 pub mod NumberLaws
+pub mod RecordCommitLaws

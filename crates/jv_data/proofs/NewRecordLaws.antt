@@ -2,7 +2,7 @@
 use Rattle.std.proofs.Common.{◌≡◌, ◌≢◌, ℕ, ◌+◌, ◌*◌, ◌<◌, ◌≤◌, ◌^◌, Bool, true, false, cond, inl, inr, List, [], ◌∷◌, ◌++◌, length, Option, None, Some, Ok, refl, sym, ap, subst, ◌∙◌, arith, eq-eqb, ne_eqb, length-append}
 use Rattle.std.proofs.lemmas.Bool.{cases_eq, cond-true, cond-false}
 use Rattle.std.proofs.lemmas.Bool.Decides.{nat_tests}
-use Rattle.std.proofs.lemmas.List.Sums.{sum_by-cons, sum_by-append}
+use Rattle.std.proofs.lemmas.List.Sums.{sum_by-cons}
 use Rattle.std.proofs.lemmas.Option.{same_Some}
 use Rattle.std.specs.Prelude.{◌==◌, count_by, if◌then◌else◌}
 use Rattle.std.specs.List.{AllByRecursion}
@@ -26,6 +26,9 @@ use Rattle.jv_volume.proofs.MapLaws.{get-alter-here, get-alter-apart}
 use Rattle.jv_volume.proofs.ShapeMapLaws.{same_or_apart}
 use Rattle.jv_contents.specs.Places.{with_list, shown, put_over}
 use Rattle.jv_contents.specs.Counts.{record_count, HadSize, KeepsOthers}
+use Rattle.jv_contents.proofs.BehindLaws.{naming-append}
+use Rattle.jv_contents.proofs.CutLaws.{all-append}
+use Rattle.jv_contents.proofs.WholeLaws.{all-mapped}
 use Rattle.jv_contents.proofs.PlaceLaws.{place_in-push, place_in-same}
 use Rattle.jv_contents.proofs.ByteLaws.{past-put_over}
 use Rattle.jv_data.proofs.ListRowLaws.{get-other, named_by-other, record_count-other, lists_of-other, listed-other, named_by-list, record_count-list, lists_of-list, lists_of-beside, listed-list, share-sum, lists-have}
@@ -34,9 +37,6 @@ use Rattle.jv_data.proofs.ListRowLaws.{get-other, named_by-other, record_count-o
 
 one_naming : (id : ℕ) (r : Rec) (l : List Rec) → records_naming id (r ∷ l) ≡ cond (r.id == id) 1 0 + records_naming id l
 one_naming id r l = sum_by-cons (λ (r : Rec). cond (r.id == id) 1 0) r l
-
-naming-append : (id : ℕ) (l m : List Rec) → records_naming id (l ++ m) ≡ records_naming id l + records_naming id m
-naming-append id l m = sum_by-append (λ (r : Rec). cond (r.id == id) 1 0) l m
 
 naming-here : (id : ℕ) (r : Rec) (l : List Rec) → r.id ≡ id → records_naming id (r ∷ l) ≡ 1 + records_naming id l
 naming-here id r l same = one_naming id r l ∙ ap (λ b. cond b 1 0 + records_naming id l) (eq-eqb r.id id same)
@@ -51,17 +51,9 @@ none_naming id (r ∷ l) none = elim (cases_eq r.id id) [
   | inr apart ↦ (apart, none_naming id l (sym (naming-other id r l apart) ∙ none))
 ]
 
-pub all_map : (P Q : Rec → Type 0) (l : List Rec) → ((r : Rec) → P r → Q r) → AllByRecursion P l → AllByRecursion Q l
-all_map P Q [] f all = tt
-all_map P Q (r ∷ l) f all = (f r all.0, all_map P Q l f all.1)
-
 pub all_both : (P Q : Rec → Type 0) (l : List Rec) → AllByRecursion P l → AllByRecursion Q l → AllByRecursion (λ r. P r × Q r) l
 all_both P Q [] p q = tt
 all_both P Q (r ∷ l) p q = ((p.0, q.0), all_both P Q l p.1 q.1)
-
-pub all_append : (P : Rec → Type 0) (l m : List Rec) → AllByRecursion P l → AllByRecursion P m → AllByRecursion P (l ++ m)
-all_append P [] m p q = q
-all_append P (r ∷ l) m p q = (p.0, all_append P l m p.1 q)
 
 -- no list has a record that names a slice which no record names
 pub unnamed_records : (rows : Rows) (id : ℕ) → named_by rows id ≡ 0 → ListsHave (λ r. r.id ≢ id) rows
@@ -163,14 +155,14 @@ module _ (rows : Rows) (inode window : ℕ) (low : window < 2 ^ 32) (rec : Rec) 
 
     have : (P : Rec → Type 0) → ListsHave P rows → P rec → ListsHave P recorded_rows
     have P all new = listed-other P listed_rows (slice_key rec.id) slice_cell refl
-        (listed-list rows inode window low list_cell P all (all_append P list (rec ∷ []) all_here (new, tt)))
+        (listed-list rows inode window low list_cell P all (all-append P list (rec ∷ []) all_here (new, tt)))
       where
         all_here : AllByRecursion P list
         all_here = subst (AllByRecursion P) (sym list_is) (lists-have P rows inode window all)
 
     sized : ListsHave IsSized recorded_rows
-    sized = have IsSized (λ key. all_map (λ r. (r.id ≢ 0 → r.size ≡ w.sizes r.id) × (r.id ≢ rec.id)) IsSized (listed key (get rows key))
-        (λ r p named. p.0 named ∙ sym (sizes_beside r.id p.1)) (all_both _ _ (listed key (get rows key)) (w.sized key) (unnamed_records rows rec.id unknown.unnamed key)))
+    sized = have IsSized (λ key. all-mapped (λ r. (r.id ≢ 0 → r.size ≡ w.sizes r.id) × (r.id ≢ rec.id)) IsSized
+        (λ r p named. p.0 named ∙ sym (sizes_beside r.id p.1)) (listed key (get rows key)) (all_both _ _ (listed key (get rows key)) (w.sized key) (unnamed_records rows rec.id unknown.unnamed key)))
         (λ named. sym sizes_here)
 
     slice_size : (id : ℕ) (slice : SliceRow) → slice_row_at recorded_rows id ≡ Some slice → (slice.size ≡ sizes id) × (1 ≤ slice.size) × (slice.size ≤ WINDOW)

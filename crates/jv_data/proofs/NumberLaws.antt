@@ -213,13 +213,13 @@ module _ (sid : ℕ) (before middle : Store) where
       next_is : (known : RowMap) → before.rows ≡ Some known → next_slice (typed known) ≡ c.slice
       next_is known is = ap (λ o. (or_no_counters o).slice) (there known is)
 
-      pub number-full : IsTrue (nat_le FULL_COUNT c.slice) → TakesNumber sid before counted (Err (Refused NoSpace))
+      pub number-full : FULL_COUNT ≤ c.slice → TakesNumber sid before counted (Err (Refused NoSpace))
       number-full full = number-refused counted (Refused NoSpace) (λ rows rows_are.
           past-refuses before counted (number_given sid rows) NoSpace
           (past-as before counted counted (number_given sid rows) (rest rows) (seen rows) (λ t. Err NoSpace) (λ known is whole bytes.
           ap (λ b. require b NoSpace >>= (λ unit. Ok (next_slice rows)))
           (ap (λ n. nat_lt n FULL_COUNT) (ap (λ (r : Rows). next_slice r) (rows_are known is) ∙ next_is known is)
-          ∙ le-ltb c.slice FULL_COUNT (leb-true FULL_COUNT c.slice full)))))
+          ∙ le-ltb c.slice FULL_COUNT full))))
 
       -- what comes after it fails
       pub number-fails : (after : Store) (fault : TxFault) → Fails counted after fault → TakesNumber sid before after (Err fault)

@@ -19,13 +19,14 @@ use Rattle.jv_volume.specs.Views.{lists_of, node_row_at, slice_row_at, counters_
 use Rattle.jv_volume.specs.TreeOf.{content_of}
 use Rattle.jv_volume.specs.Slices.{IsUnknown, next_slice, place_in}
 use Rattle.jv_volume.specs.Whole.{IsRowAt, Quiet, Whole}
-use Rattle.jv_volume.proofs.QuietLaws.{quiet-named_by, quiet-slice_row_at, quiet-dead_at, quiet-lists_of}
+use Rattle.jv_volume.proofs.QuietLaws.{quiet-lists_of}
 use Rattle.jv_contents.specs.Places.{shown, put_over}
 use Rattle.jv_contents.specs.Bytes.{Told, spot_byte, bytes_of, tree_with}
 use Rattle.jv_contents.specs.Counts.{KeepsOthers}
 use Rattle.jv_contents.proofs.ByteLaws.{byte-committed, past-put_over}
+use Rattle.jv_contents.proofs.KeepLaws.{unknown-stay, keeps-stay_then}
 use Rattle.jv_contents.proofs.PlaceLaws.{place_in-same}
-use Rattle.jv_data.proofs.BesideLaws.{Beside, beside-alter, beside-then, formed-beside, whole-formed, others-quiet}
+use Rattle.jv_data.proofs.BesideLaws.{Beside, beside-alter, beside-then, formed-beside, whole-formed}
 use Rattle.jv_data.proofs.ChangedLaws.{tree-changed}
 use Rattle.jv_data.proofs.NewRecordLaws.{recorded_rows, slice_there, slices-recorded, others-recorded, files-recorded, places-recorded, places-beside}
 use Rattle.jv_data.proofs.SizedLaws.{sized_rows, sized, formed-sized, quiet-sized, whole-sized, node-sized, content_was}
@@ -75,11 +76,7 @@ module _ (rows : Rows) (inode window : ℕ) (low : window < 2 ^ 32) (was : NodeR
 
   module _ (unknown : IsUnknown rows rec.id) (below : rec.id < next_slice rows) where
     unknown_middle : IsUnknown middle rec.id
-    unknown_middle = record {
-      unnamed = quiet-named_by rows middle quiet rec.id ∙ unknown.unnamed;
-      no_row = quiet-slice_row_at rows middle quiet rec.id ∙ unknown.no_row;
-      not_dead = quiet-dead_at rows middle quiet rec.id ∙ unknown.not_dead;
-    }
+    unknown_middle = unknown-stay rows middle quiet.apart rec.id unknown
 
     below_middle : rec.id < next_slice middle
     below_middle = subst (λ n. rec.id < n) (sym quiet.next) below
@@ -92,7 +89,7 @@ module _ (rows : Rows) (inode window : ℕ) (low : window < 2 ^ 32) (was : NodeR
         (node-sized rows inode was c now end whole there file counters) file (omega arith))
 
     pub others-last : KeepsOthers rec.id 1 rows last
-    others-last = others-quiet rows middle quiet rec.id 1 last
+    others-last = keeps-stay_then rec.id 1 rows middle last quiet.apart quiet.next
         (others-recorded middle inode window low rec list same_list is some small whole_middle.slices unknown_middle below_middle)
 
   pub size-last : (slice : SliceRow) → slice_row_at last rec.id ≡ Some slice → slice.size ≡ rec.size

@@ -76,3 +76,45 @@ pub fn commit_length<K: Keeper>(
         Err(down) => Err(TxFault::Rows(RowFault::from(down))),
     }
 }
+
+/// Commits a new slice to a window of a file: appends the record that shows it, makes the slice's row with one record, makes
+/// the file reach at least to the record's end, and sets its times. The slice's first block was begun at the moment
+/// `started`.
+///
+/// # Errors
+///
+/// Stale where the session is gone, or the inode isn't a file's; then TimedOut where the block is 3,600 seconds old or older;
+/// then NoSpace where the volume has no room. Bad for a malformed row, or without bytes where setting or counters are absent.
+/// Failed if the keeper failed. Memory.
+pub fn commit<K: Keeper>(
+    alloc: Global,
+    k: &mut K,
+    who: &Who,
+    inode: u64,
+    window: u32,
+    rec: Rec,
+    started: Moment,
+) -> Result<(), TxFault>
+    requires part { IsRecord rec }
+    requires named { 0 < rec.id }
+    requires size { rec.size ≤ WINDOW }
+    requires within { window * WINDOW + rec.pos + rec.len ≤ FILE_END }
+    ensures { CommitsRecord who.entry.now.sid who.entry.now.now inode window rec started
+        (K.seen k.old) (K.seen k.new) result }
+{
+    let end = u64::from(window) * WINDOW + u64::from(rec.pos) + u64::from(rec.len);
+    let mut draft = Draft::new(alloc);
+    begin_commit(alloc, k, &mut draft, who.sid, who.now, inode, end, started)?;
+    let mut list = records(alloc, k, inode, window)?;
+    list.push(rec)?;
+    draft.put_list(inode, window, &list)?;
+    let slice = SliceRow {
+        size: rec.size,
+        count: 1,
+    };
+    draft.put_slice(rec.id, &slice)?;
+    match draft.commit(k) {
+        Ok(()) => Ok(()),
+        Err(down) => Err(TxFault::Rows(RowFault::from(down))),
+    }
+}

@@ -8,6 +8,6 @@ mod looking;
 mod numbering;
 mod resizing;
 
-pub use committing::commit_length;
+pub use committing::{commit, commit_length};
 pub use looking::{View, look, look_at};
 pub use numbering::next_id;

@@ -1,9 +1,10 @@
-use Rattle.std.proofs.Common.{rules, ◌≡◌, ℕ, ◌+◌, ◌-◌, ◌*◌, ◌<◌, ◌≤◌, length, ◌/◌, ◌%◌, Bool, true, false, nat_eq, nat_lt, List, [], ◌∷◌, ◌++◌, slice_index_or, slice_set, bit_and, bit_or, Fits, w8, w32, w64, Bor, MutBor}
-use Rattle.jv_data.specs.Committing.{length_seen, HasFile}
-use Rattle.jv_data.specs.Records.{LooksAt, HasRecords}
-use Rattle.jv_rows.specs.Transactions.{Looks}
+use Rattle.std.proofs.lemmas.Result.{err_from_is_err_and}
+use Rattle.jv_data.proofs.RecordsLaws.{look-unread}
 use Rattle.jv_data.proofs.looking.look_at.Goals as goal
 
--- src/looking.rt:48:16
 pub returns-in_err-list : goal.returns-in_err-list
-returns-in_err-list g c = ?
+returns-in_err-list g c =
+    let p = err_from_is_err_and c.from_residual-in_err-list.result c.from_residual-in_err-list.ensures.1 in
+    rw (p.1, p.2)
+    (look-unread c.args.who.now.sid c.args.inode c.args.window (g.K.Keeper.seen c.args.k.now) (g.K.Keeper.seen c.file.new.k)
+    (g.K.Keeper.seen c.records.new.k) c.in_ok-file.file c.in_err-list.field-0.0 c.in_ok-file.ensures c.in_err-list.ensures)

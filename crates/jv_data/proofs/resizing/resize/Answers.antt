@@ -1,21 +1,33 @@
-use Rattle.std.proofs.Common.{rules, ◌≡◌, [], IsTrue, ℕ, ◌+◌, ◌-◌, ◌*◌, ◌<◌, ◌≤◌, length, ◌/◌, ◌%◌, Bool, true, false, nat_eq, nat_lt, List, ◌∷◌, ◌++◌, slice_index_or, slice_set, bit_and, bit_or, Fits, w8, w32, w64, Bor, MutBor}
-use Rattle.jv_data.specs.Resizing.{Resizes, ResizesFile, paged_space}
-use Rattle.jv_model.specs.rows.RowGrammar.{is_node, is_setting}
-use Rattle.jv_rows.specs.Walks.{HasNodeRow}
+use Rattle.std.proofs.Common.{refl}
+use Rattle.std.proofs.lemmas.Result.{err_from_is_err_and}
+use Rattle.jv_data.proofs.ResizingLaws.{resize-no_setting, resize-no_counters, resize-no_room, resize-done}
 use Rattle.jv_data.proofs.resizing.resize.Goals as goal
 
--- src/resizing.rt:58:19
 pub returns-in_err-setting : goal.returns-in_err-setting
-returns-in_err-setting g c = ?
+returns-in_err-setting g c =
+    let p = err_from_is_err_and c.from_residual.result c.from_residual.ensures.1 in
+    rw (p.1, p.2)
+    (resize-no_setting c.args.inode c.args.was c.args.length c.args.now (g.K.Keeper.seen c.args.k.now) c.requires.there c.requires.file
+    c.args.draft.now c.requires.new (g.K.Keeper.seen c.needed_setting.new.k) c.args.draft.now c.in_err-setting.field-0.0 c.in_err-setting.ensures)
 
--- src/resizing.rt:59:20
 pub returns-in_err-counters : goal.returns-in_err-counters
-returns-in_err-counters g c = ?
+returns-in_err-counters g c =
+    let p = err_from_is_err_and c.from_residual-in_err-counters.result c.from_residual-in_err-counters.ensures.1 in
+    rw (p.1, p.2)
+    (resize-no_counters c.args.inode c.args.was c.args.length c.args.now (g.K.Keeper.seen c.args.k.now) c.requires.there c.requires.file
+    c.args.draft.now c.requires.new (g.K.Keeper.seen c.needed_setting.new.k) c.in_ok-setting.setting c.in_ok-setting.ensures
+    (g.K.Keeper.seen c.needed_counters.new.k) c.args.draft.now c.in_err-counters.field-0.0 c.in_err-counters.ensures)
 
--- src/resizing.rt:61:9
 pub returns-in_default : goal.returns-in_default
-returns-in_default g c = ?
+returns-in_default g c =
+    resize-no_room c.args.inode c.args.was c.args.length c.args.now (g.K.Keeper.seen c.args.k.now) c.requires.there c.requires.file
+    c.args.draft.now c.requires.new (g.K.Keeper.seen c.needed_setting.new.k) c.in_ok-setting.setting c.in_ok-setting.ensures
+    (g.K.Keeper.seen c.needed_counters.new.k) c.in_ok-counters.counters c.in_ok-counters.ensures c.args.draft.now c.in_default.ensures
 
--- src/resizing.rt:43:1
 pub returns : goal.returns
-returns g c = ?
+returns g c =
+    resize-done c.args.inode c.args.was c.args.length c.args.now (g.K.Keeper.seen c.args.k.now) c.requires.there c.requires.file
+    c.args.draft.now c.requires.new (g.K.Keeper.seen c.needed_setting.new.k) c.in_ok-setting.setting c.in_ok-setting.ensures
+    (g.K.Keeper.seen c.needed_counters.new.k) c.in_ok-counters.counters c.in_ok-counters.ensures
+    (record c.args.was { length = c.args.length; mtime = c.args.now; ctime = c.args.now }) c.in-Some.after
+    c.put_node.new.self c.put_counters.new.self refl c.in-Some.ensures c.in_ok-put_node.ensures.done c.in_ok-put_counters.ensures.done
