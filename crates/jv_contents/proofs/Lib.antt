@@ -9,4 +9,5 @@ pub mod CutLaws
 pub mod WholeLaws
 pub mod CopyLaws
 pub mod BehindLaws
+pub mod CountLaws
 pub mod PlaceExamples

@@ -26,6 +26,7 @@ use Rattle.jv_outside.specs.Store.{Store}
 use Rattle.jv_rows.specs.Scans.{row_then, rows_read, ScansRows}
 use Rattle.jv_rows.specs.Tables.{sustained_row}
 use Rattle.jv_rows.proofs.ScannedLaws.{fails-scan, number-rises}
+use Rattle.jv_rows.proofs.NextRowLaws.{not_both, not_itself, first_where-least, passes, IsRead, ReadsOne, NoRow, OneRow, reads-one, tab_of}
 use Rattle.jv_rows.proofs.TransactionLaws.{of_known, if_known, fails-memory, fails-looks}
 use Rattle.jv_volume.specs.TypedRows.{cell_of, typed, is_key}
 use Rattle.jv_volume.specs.Views.{row_in, sustained_in, sustained_at}
@@ -34,58 +35,7 @@ use Rattle.jv_volume.proofs.ShapeMapLaws.{first_where-none}
 use Rattle.jv_volume.proofs.TableLaws.{same_key_parts, long_below}
 use Rattle.jv_volume.proofs.TypedLaws.{get-typed}
 use Rattle.jv_live.specs.Steps.{HasPair, is_past, is_ahead, last_key, number_in, if_past, first_kept, IsSpelled, KeepsNone, FindsKept}
-use Rattle.jv_live.proofs.NextLaws.{key-less, key-past, not_both, not_itself, first_where-least}
-
--- ---- one row behind a key
-
-abbrev passes : RowKey → RowKey → List ℕ → Bool
-passes last key bytes = is_after 7 (Some last) key
-
-abbrev first_behind : RowKey → RowMap → Option (RowKey × List ℕ)
-first_behind last known = first_where (passes last) known
-
-abbrev as_list : {A : Type 0} → Option A → List A
-as_list None = []
-as_list (Some x) = x ∷ []
-
-one_at : (last : RowKey) (e : RowKey × List ℕ) (es : List (RowKey × List ℕ)) (b : Bool)
-    → take 1 (filter (λ row. is_after 7 (Some last) row.0) es) ≡ as_list (first_passing (passes last) es)
-    → take 1 (cond b (e ∷ filter (λ row. is_after 7 (Some last) row.0) es) (filter (λ row. is_after 7 (Some last) row.0) es))
-    ≡ as_list (elim b as (λ _. Option (RowKey × List ℕ)) [ true ↦ Some e | false ↦ first_passing (passes last) es ])
-one_at last e es true rest = refl
-one_at last e es false rest = rest
-
-one_of : (last : RowKey) (es : List (RowKey × List ℕ)) → take 1 (filter (λ row. is_after 7 (Some last) row.0) es) ≡ as_list (first_passing (passes last) es)
-one_of last [] = refl
-one_of last (e ∷ es) = one_at last e es (is_after 7 (Some last) e.0) (one_of last es)
-
-one-behind : (known : RowMap) (last : RowKey) → rows_after known 7 (Some last) 1 ≡ as_list (first_behind last known)
-unfolding first_where
-one-behind known last = one_of last known.list
-
--- what was read of it
-record IsRead (last : RowKey) (known : RowMap) (list : List (RowKey × Row)) (e : RowKey × List ℕ) : Type 0 where
-  row : Row
-  first : first_behind last known ≡ Some e
-  read : row_of e.0.tab e.1 ≡ Some row
-  list_is : list ≡ (e.0, row) ∷ []
-
-data ReadsOne (last : RowKey) (known : RowMap) (list : List (RowKey × Row)) : Type 0 where
-  NoRow : first_behind last known ≡ None → list ≡ [] → ReadsOne last known list
-  OneRow : (e : RowKey × List ℕ) → IsRead last known list e → ReadsOne last known list
-
-module _ (last : RowKey) (known : RowMap) (list : List (RowKey × Row)) where
-  by_row : (e : RowKey × List ℕ) → first_behind last known ≡ Some e → (o : Option Row) → row_of e.0.tab e.1 ≡ o → row_then e.0 e.1 o (Ok []) ≡ Ok list
-      → ReadsOne last known list
-  by_row e first None is h = absurd (cc)
-  by_row e first (Some row) is h = OneRow e (record { row = row; first = first; read = is; list_is = cc })
-
-  by_first : (o : Option (RowKey × List ℕ)) → first_behind last known ≡ o → rows_read (as_list o) ≡ Ok list → ReadsOne last known list
-  by_first None first h = NoRow first (cc)
-  by_first (Some e) first h = by_row e first (row_of e.0.tab e.1) refl h
-
-  reads-one : rows_read (rows_after known 7 (Some last) 1) ≡ Ok list → ReadsOne last known list
-  reads-one h = by_first (first_behind last known) refl (ap rows_read (sym (one-behind known last)) ∙ h)
+use Rattle.jv_live.proofs.NextLaws.{key-less, key-past}
 
 abbrev finds : Tree → Result (Unit {0}) Fault
 finds t = Ok tt
@@ -184,15 +134,6 @@ some_of P o n is h = subst (λ (x : Option ℕ). IfSome x P) is h
 key_is : (sid : ℕ) (key : RowKey) (n : ℕ) → key.tab ≡ 7 → key.a ≡ sid → key.b ≡ long n → sustained_key sid n ≡ key
 key_is sid key n tab number spelled = same_key_parts key 7 sid (long n) (sym tab) (sym number) (sym spelled)
 
-tab_of : (last key : RowKey) (bytes : List ℕ) → passes last key bytes ≡ true → (key.tab ≡ 7) × (row_cmp last key ≡ Less)
-tab_of last key bytes h = by_test (key.tab == 7) refl (row_cmp last key) refl h
-  where
-    by_test : (b : Bool) → (key.tab == 7) ≡ b → (o : Ordering) → row_cmp last key ≡ o → (b && is_lt o) ≡ true → (key.tab ≡ 7) × (row_cmp last key ≡ Less)
-    by_test true t Less l e = (eqb-true key.tab 7 t, l)
-    by_test true t Equal l e = absurd (cc)
-    by_test true t Greater l e = absurd (cc)
-    by_test false t o l e = absurd (cc)
-
 sustained_is : (o : Option (Unit {0})) (row : Row) → option_map (λ unit. OfSustained) o ≡ Some row → row ≡ OfSustained
 sustained_is None row h = absurd (cc)
 sustained_is (Some unit) row h = cc
@@ -215,15 +156,15 @@ module _ (sid : ℕ) (after : Option ℕ) (before now : Store) (list : List (Row
   abbrev last : RowKey
   last = last_key sid after
 
-  read : (known : RowMap) → before.rows ≡ Some known → ReadsOne last known list
-  read known is = reads-one last known list (of_known (λ known. rows_read (rows_after known 7 (Some last) 1) ≡ Ok list) before.rows known is s.found)
+  read : (known : RowMap) → before.rows ≡ Some known → ReadsOne 7 last known list
+  read known is = reads-one 7 last known list (of_known (λ known. rows_read (rows_after known 7 (Some last) 1) ≡ Ok list) before.rows known is s.found)
 
-  module _ (known : RowMap) (e : RowKey × List ℕ) (r : IsRead last known list e) where
+  module _ (known : RowMap) (e : RowKey × List ℕ) (r : IsRead 7 last known list e) where
     table : (e.0.tab ≡ 7) × (row_cmp last e.0 ≡ Less)
-    table = tab_of last e.0 e.1 (first_where-found row_key (passes last) known e r.first).passes
+    table = tab_of 7 last e.0 e.1 (first_where-found row_key (passes 7 last) known e r.first).passes
 
     there : get known e.0 ≡ Some e.1
-    there = (first_where-found row_key (passes last) known e r.first).there
+    there = (first_where-found row_key (passes 7 last) known e r.first).there
 
     bytes_are : (n : ℕ) → number_in e.0.b ≡ Some n → e.0.b ≡ long n
     bytes_are n spells = some_of (λ number. e.0.b ≡ long number) (number_in e.0.b) n spells (subst IsSpelled r.list_is spelled)
@@ -302,7 +243,7 @@ module _ (sid : ℕ) (after : Option ℕ) (before now : Store) (list : List (Row
       not_between : ⊥
       not_between = is_none (is_past after n) refl
 
-  pair_by : (known : RowMap) (inode : ℕ) → found ≡ Some inode → ReadsOne last known list → get (typed known) (sustained_key sid inode) ≡ Some (Ok OfSustained)
+  pair_by : (known : RowMap) (inode : ℕ) → found ≡ Some inode → ReadsOne 7 last known list → get (typed known) (sustained_key sid inode) ≡ Some (Ok OfSustained)
   pair_by known inode is (NoRow first none) = (let nothing = sym is ∙ found_is ∙ ap (first_kept sid after) none in absurd (cc))
   pair_by known inode is (OneRow e r) = of_pair known e r inode is
 
@@ -312,11 +253,11 @@ module _ (sid : ℕ) (after : Option ℕ) (before now : Store) (list : List (Row
       (λ known known_is. pair_by known inode is (read known known_is))
 
   none_by : (known : RowMap) → Whole (typed known) → (j : ℕ) → j < 2 ^ 64 → is_past after j ≡ true → is_ahead found j ≡ true → (y : List ℕ)
-      → get known (sustained_key sid j) ≡ Some y → ReadsOne last known list → ⊥
-  none_by known whole j small past ahead y stored (NoRow first none) = first_where-none row_key (passes last) known (sustained_key sid j) y first
+      → get known (sustained_key sid j) ≡ Some y → ReadsOne 7 last known list → ⊥
+  none_by known whole j small past ahead y stored (NoRow first none) = first_where-none row_key (passes 7 last) known (sustained_key sid j) y first
       stored (ap is_lt (key-past sid after j small past))
   none_by known whole j small past ahead y stored (OneRow e r) = not_between known e r whole j small past ahead
-      (first_where-least row_key (passes last) known e (sustained_key sid j) y r.first stored (ap is_lt (key-past sid after j small past)))
+      (first_where-least row_key (passes 7 last) known e (sustained_key sid j) y r.first stored (ap is_lt (key-past sid after j small past)))
 
   keeps_none : (known : RowMap) → before.rows ≡ Some known → Whole (typed known) → KeepsNone (typed known) sid after found
   keeps_none known is whole j small past ahead = by_stored (get known (sustained_key sid j)) refl

@@ -1,107 +1,16 @@
 -- The rows of a session's files are in the order of their inodes, so that the first row behind a file's is the next file's.
-use Rattle.std.proofs.Common.{◌≡◌, ℕ, ◌+◌, ◌*◌, ◌<◌, ◌≤◌, ◌^◌, ◌⊎◌, Bool, true, false, cond, T, List, [], ◌∷◌, length, inl, inr, Option, None, Some, refl, sym, ap, subst, ◌∙◌, arith, true≢false}
-use Rattle.std.specs.Int.{w64, from_be_bytes}
-use Rattle.std.specs.List.{AllByRecursion}
-use Rattle.std.specs.declared.cmp.Ordering.{Ordering}
-use Rattle.std.specs.declared.cmp.Ordering.TheVariants.{Less, Equal, Greater}
-use Rattle.std.specs.Ordering.{is_eq, nat_cmp, ordering_then, ordering_reverse, eq_by_cmp}
+use Rattle.std.proofs.Common.{◌≡◌, ℕ, ◌<◌, ◌^◌, true, Option, None, Some, ap, ◌∙◌}
+use Rattle.std.specs.declared.cmp.Ordering.TheVariants.{Less}
+use Rattle.std.specs.Ordering.{nat_cmp, ordering_then}
 use Rattle.std.specs.Cmp.{nat_cmp_total, tied_itself}
 use Rattle.std.specs.Cmp.Lexicographic.{slice_cmp}
-use Rattle.std.specs.FinMap.Entries.{find, below_all, is_sorted}
-use Rattle.std.proofs.Math.Nat.{mul-le-mul_right}
-use Rattle.std.proofs.lemmas.Bool.{cases_order, lt-ltb, ltb-true}
-use Rattle.std.proofs.lemmas.Nat.{from_be_bytes-to_be_bytes_8}
-use Rattle.jv_model.specs.FiniteMap.{KeyOrder, Map, get, first_passing, first_where}
+use Rattle.std.proofs.lemmas.Bool.{ltb-true}
 use Rattle.jv_model.specs.rows.RowFields.{long}
-use Rattle.jv_model.specs.rows.RowKeys.{row_cmp, row_cmp_total}
-use Rattle.jv_model.specs.declared.row.RowKey.{RowKey}
+use Rattle.jv_model.specs.rows.RowKeys.{row_cmp}
 use Rattle.jv_model.specs.rows.RowPlaces.{sustained_key}
-use Rattle.jv_volume.proofs.MapLaws.{first_of_both, second_of_both}
-use Rattle.jv_rows.proofs.ScannedLaws.{less_by}
-use Rattle.jv_live.specs.Steps.{is_past, last_key}
-
--- ---- numbers and their bytes
-
-abbrev size : List ℕ → ℕ
-size [] = 1
-size (x ∷ xs) = 256 * size xs
-
-abbrev value : List ℕ → ℕ
-value [] = 0
-value (x ∷ xs) = x * size xs + value xs
-
-abbrev AreDigits : List ℕ → Type 0
-AreDigits digits = AllByRecursion (λ d. d < 256) digits
-
-value-below : (xs : List ℕ) → AreDigits xs → value xs < size xs
-value-below [] all = omega arith
-value-below (x ∷ xs) all =
-    let below = value-below xs all.1 in
-    let first = all.0 in
-    let most : (x + 1) * size xs ≤ 256 * size xs = mul-le-mul_right (size xs) (omega (arith, first)) in
-    let parts : (x + 1) * size xs ≡ x * size xs + size xs = succ_times x (size xs) in
-    omega (arith, below, most, parts)
-  where
-    succ_times : (a b : ℕ) → (a + 1) * b ≡ a * b + b
-    succ_times a b = omega arith
-
--- the first digits decide
-greater-no : (x y s v w : ℕ) → v < s → w < s → x * s + v < y * s + w → y < x → ⊥
-greater-no x y s v w lv lw less more =
-    let most : (y + 1) * s ≤ x * s = mul-le-mul_right s (omega (arith, more)) in
-    let parts : (y + 1) * s ≡ y * s + s = succ_times y s in
-    absurd (omega (arith, lv, lw, less, most, parts))
-  where
-    succ_times : (a b : ℕ) → (a + 1) * b ≡ a * b + b
-    succ_times a b = omega arith
-
-nat_less : (a b : ℕ) → a < b → nat_cmp a b ≡ Less
-nat_less a b less = rw (lt-ltb a b less) refl
-
--- numbers of as many digits go as their digits do
-digits-less : (xs ys : List ℕ) → length xs ≡ length ys → AreDigits xs → AreDigits ys → value xs < value ys → slice_cmp nat_cmp xs ys ≡ Less
-digits-less [] [] len ax ay less = absurd (omega (arith, less))
-digits-less [] (y ∷ ys) len ax ay less = refl
-digits-less (x ∷ xs) [] len ax ay less = absurd (omega (arith, len))
-digits-less (x ∷ xs) (y ∷ ys) len ax ay less =
-    let same_size : size xs ≡ size ys = sizes xs ys (omega (arith, len)) in
-    let vx : value xs < size ys = subst (λ s. value xs < s) same_size (value-below xs ax.1) in
-    let lower : x * size ys + value xs < y * size ys + value ys = subst (λ s. x * s + value xs < y * size ys + value ys) same_size less in
-    elim (cases_order x y) [
-      | inl same ↦ ap (λ n. ordering_then (nat_cmp n y) (slice_cmp nat_cmp xs ys)) same ∙ ap (λ o. ordering_then o (slice_cmp nat_cmp xs ys))
-          (tied_itself nat_cmp_total y)
-          ∙ digits-less xs ys (omega (arith, len)) ax.1 ay.1 (rest_less (size ys) same lower)
-      | inr other ↦ elim other [
-        | inl low ↦ ap (λ o. ordering_then o (slice_cmp nat_cmp xs ys)) (nat_less x y low)
-        | inr high ↦ absurd (greater-no x y (size ys) (value xs) (value ys) vx (value-below ys ay.1) lower high)
-      ]
-    ]
-  where
-    sizes : (ms ns : List ℕ) → length ms ≡ length ns → size ms ≡ size ns
-    sizes [] [] e = refl
-    sizes [] (b ∷ ns) e = absurd (omega (arith, e))
-    sizes (a ∷ ms) [] e = absurd (omega (arith, e))
-    sizes (a ∷ ms) (b ∷ ns) e = ap (λ n. 256 * n) (sizes ms ns (omega (arith, e)))
-
-    rest_less : (s : ℕ) → x ≡ y → x * s + value xs < y * s + value ys → value xs < value ys
-    rest_less s same h = (let e : x * s ≡ y * s = ap (λ n. n * s) same in omega (arith, e, h))
-
-long-digits : (n : ℕ) → AreDigits (long n)
-long-digits n = (omega arith, (omega arith, (omega arith, (omega arith, (omega arith, (omega arith, (omega arith, (omega arith, tt))))))))
-
-long-value : (n : ℕ) → n < 2 ^ 64 → value (long n) ≡ n
-long-value n small = same_value (long n) ∙ from_be_bytes-to_be_bytes_8 n small
-  where
-    same_value : (bytes : List ℕ) → value (long n) ≡ from_be_bytes w64 (long n)
-    same_value bytes = omega arith
-
-pub long-less : (a b : ℕ) → a < b → b < 2 ^ 64 → slice_cmp nat_cmp (long a) (long b) ≡ Less
-long-less a b less small =
-    let va = long-value a (omega (arith, less, small)) in
-    let vb = long-value b small in
-    digits-less (long a) (long b) refl (long-digits a) (long-digits b) (omega (arith, va, vb, less))
-
--- ---- keys
+use Rattle.jv_rows.proofs.NextRowLaws.{long-less}
+use Rattle.jv_rows.specs.Lists.{is_past}
+use Rattle.jv_live.specs.Steps.{last_key}
 
 pub key-less : (sid a b : ℕ) → a < b → b < 2 ^ 64 → row_cmp (sustained_key sid a) (sustained_key sid b) ≡ Less
 key-less sid a b less small =
@@ -112,56 +21,3 @@ pub key-past : (sid : ℕ) (after : Option ℕ) (inode : ℕ) → inode < 2 ^ 64
     → row_cmp (last_key sid after) (sustained_key sid inode) ≡ Less
 key-past sid None inode small past = ap (λ o. ordering_then (nat_cmp 7 7) (ordering_then o Less)) (tied_itself nat_cmp_total sid)
 key-past sid (Some last) inode small past = key-less sid last inode (ltb-true last inode past) small
-
--- no key is both before and behind another
-pub not_both : (x y : RowKey) → row_cmp x y ≡ Less → row_cmp y x ≡ Less → ⊥
-not_both x y p q = (let back = row_cmp_total.antisymm x y ∙ ap ordering_reverse q in let both = sym p ∙ back in absurd (cc))
-
-pub not_itself : (x : RowKey) → row_cmp x x ≡ Less → ⊥
-not_itself x p = not_both x x p p
-
--- ---- the first row that passes is the least
-
-equal_by : (o : Ordering) → is_eq o ≡ true → o ≡ Equal
-equal_by Less p = absurd (true≢false (sym p))
-equal_by Equal p = refl
-equal_by Greater p = absurd (true≢false (sym p))
-
-module _ {K X : Type 0} (order : KeyOrder K) where
-  above_at : (x k : K) (e : K × X) (es : List (K × X)) (y : X) (b : Bool) → eq_by_cmp order.cmp k e.0 ≡ b → order.cmp x e.0 ≡ Less
-      → (find order.cmp k es ≡ Some y → order.cmp x k ≡ Less) → cond b (Some e.1) (find order.cmp k es) ≡ Some y → order.cmp x k ≡ Less
-  above_at x k e es y true is less rest h = ap (order.cmp x) (order.same k e.0 (equal_by (order.cmp k e.0) is)) ∙ less
-  above_at x k e es y false is less rest h = rest h
-
-  -- what is found among entries above a key is above it
-  found-above : (x k : K) (es : List (K × X)) (y : X) → T (below_all order.cmp x es) → find order.cmp k es ≡ Some y → order.cmp x k ≡ Less
-  found-above x k [] y below h = absurd (cc)
-  found-above x k (e ∷ es) y below h = above_at x k e es y (eq_by_cmp order.cmp k e.0) refl (less_by (order.cmp x e.0) (first_of_both _ _ below))
-      (found-above x k es y (second_of_both _ _ below)) h
-
-  module _ (test : K → X → Bool) where
-    least_at : (e found : K × X) (es : List (K × X)) (k : K) (y : X) (b c : Bool) → test e.0 e.1 ≡ b → eq_by_cmp order.cmp k e.0 ≡ c
-        → T (below_all order.cmp e.0 es)
-        → (first_passing test es ≡ Some found → find order.cmp k es ≡ Some y → (k ≡ found.0) ⊎ (order.cmp found.0 k ≡ Less))
-        → (elim b as (λ _. Option (K × X)) [ true ↦ Some e | false ↦ first_passing test es ]) ≡ Some found
-        → cond c (Some e.1) (find order.cmp k es) ≡ Some y → test k y ≡ true → (k ≡ found.0) ⊎ (order.cmp found.0 k ≡ Less)
-    least_at e found es k y true true t is below rest first h passes =
-        let same : e ≡ found = cc in inl (order.same k e.0 (equal_by (order.cmp k e.0) is) ∙ ap (λ (p : K × X). p.0) same)
-    least_at e found es k y true false t is below rest first h passes =
-        let same : e ≡ found = cc in inr (ap (λ (p : K × X). order.cmp p.0 k) (sym same) ∙ found-above e.0 k es y below h)
-    least_at e found es k y false true t is below rest first h passes =
-        let value_is : e.1 ≡ y = cc in
-        absurd (true≢false (sym passes ∙ (λ i. test (order.same k e.0 (equal_by (order.cmp k e.0) is) i) (sym value_is i)) ∙ t))
-    least_at e found es k y false false t is below rest first h passes = rest first h
-
-    least_in : (es : List (K × X)) (found : K × X) (k : K) (y : X) → T (is_sorted order.cmp es) → first_passing test es ≡ Some found
-        → find order.cmp k es ≡ Some y
-        → test k y ≡ true → (k ≡ found.0) ⊎ (order.cmp found.0 k ≡ Less)
-    least_in [] found k y sorted first h passes = absurd (cc)
-    least_in (e ∷ es) found k y sorted first h passes = least_at e found es k y (test e.0 e.1) (eq_by_cmp order.cmp k e.0) refl refl (first_of_both _ _ sorted)
-        (λ f g. least_in es found k y (second_of_both _ _ sorted) f g passes) first h passes
-
-    pub first_where-least : (m : Map order X) (found : K × X) (k : K) (y : X) → first_where test m ≡ Some found → get m k ≡ Some y → test k y ≡ true
-        → (k ≡ found.0) ⊎ (order.cmp found.0 k ≡ Less)
-    unfolding first_where get
-    first_where-least m found k y first h passes = least_in m.list found k y m.sorted first h passes

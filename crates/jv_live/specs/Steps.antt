@@ -12,6 +12,7 @@ use Rattle.jv_model.specs.rows.RowKeys.{RowMap}
 use Rattle.jv_model.specs.rows.RowPlaces.{sustained_key}
 use Rattle.jv_model.specs.tree.Tree.{Tree}
 use Rattle.jv_outside.specs.Store.{Store}
+pub use Rattle.jv_rows.specs.Lists.{is_past, is_ahead}
 use Rattle.jv_rows.specs.Transactions.{Looks}
 use Rattle.jv_volume.specs.TypedRows.{Rows, typed}
 use Rattle.jv_volume.specs.TreeOf.{session_of}
@@ -35,16 +36,6 @@ abbrev pub HasPair : Store → ℕ → ℕ → Type 0
 HasPair store sid inode = IfSome store.rows (λ known. get (typed known) (sustained_key sid inode) ≡ Some (Ok OfSustained))
 
 -- ---- the files that a session keeps, one after another
-
--- whether an inode comes after one, if there is one
-abbrev pub is_past : Option ℕ → ℕ → Bool
-is_past None inode = true
-is_past (Some last) inode = nat_lt last inode
-
--- whether an inode comes before one, if there is one
-abbrev pub is_ahead : Option ℕ → ℕ → Bool
-is_ahead None inode = true
-is_ahead (Some next) inode = nat_lt inode next
 
 -- the key of a session's file, or one below the keys of all its files
 abbrev pub last_key : ℕ → Option ℕ → RowKey

@@ -21,3 +21,5 @@ pub mod ScannedLaws
 pub mod NeedingLaws
 pub mod ArrivalLaws
 pub mod AdjustLaws
+pub mod NextRowLaws
+pub mod ListsLaws

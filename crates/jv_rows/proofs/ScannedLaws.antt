@@ -111,14 +111,19 @@ abbrev IsStored : RowMap → RowKey × List ℕ → Type 0
 IsStored known e = get known e.0 ≡ Some e.1
 
 module _ (tab : ℕ) (last : Option RowKey) (n : ℕ) (before after : Store) where
-  why_unscanned : (fault : RowFault) → RefusesScan before.rows tab last n fault → FailsBy before.rows (OfRows fault)
-  why_unscanned (Bad at bytes) h = λ known is.
+  -- a row that was malformed stands there
+  pub off-scan : (at : RowKey) (bytes : List ℕ) → RefusesScan before.rows tab last n (Bad at bytes) → (known : RowMap) → before.rows ≡ Some known
+      → get (typed known) at ≡ Some (Err bytes)
+  off-scan at bytes h known is =
       let read = of_known (λ known. rows_read (rows_after known tab last n) ≡ Err (at, bytes)) before.rows known is h.1 in
       let there : get known at ≡ Some bytes = read_off (IsStored known) (at, bytes) (rows_after known tab last n)
       (all_take (IsStored known) n (filter (λ (r : RowKey × List ℕ). is_after tab last r.0) known.list)
       (all_filter (IsStored known) (λ (r : RowKey × List ℕ). is_after tab last r.0) known.list (all-stored row_key known))) read in
-      let bad : get (typed known) at ≡ Some (Err bytes) =
-      get-typed known at ∙ ap (option_map (cell_of at)) there ∙ ap (λ (r : Option Row). Some (ok_or r bytes)) h.0 in
+      get-typed known at ∙ ap (option_map (cell_of at)) there ∙ ap (λ (r : Option Row). Some (ok_or r bytes)) h.0
+
+  why_unscanned : (fault : RowFault) → RefusesScan before.rows tab last n fault → FailsBy before.rows (OfRows fault)
+  why_unscanned (Bad at bytes) h = λ known is.
+      let bad : get (typed known) at ≡ Some (Err bytes) = off-scan at bytes h known is in
       (Malformed bad, λ whole. whole-typed (typed known) at bytes whole bad)
   why_unscanned Failed h = tt
   why_unscanned Memory h = tt

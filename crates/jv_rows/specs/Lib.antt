@@ -5,6 +5,7 @@ pub mod RoundTrips
 pub mod Readings
 pub mod Scans
 pub mod Counts
+pub mod Lists
 pub mod FreshRows
 pub mod Drafts
 pub mod Transactions

@@ -9,6 +9,7 @@ mod fresh;
 mod grammar;
 mod keys;
 mod laws;
+mod lists;
 mod misread;
 mod needing;
 mod parsing;
@@ -31,6 +32,7 @@ pub use keys::{
     key_of_session, key_of_setting, key_of_slice, key_of_sustained,
 };
 pub use laws::rows_are_exact;
+pub use lists::next_list;
 pub use misread::Misread;
 pub use needing::{in_session, needed_counters, needed_node, needed_setting};
 pub use parsing::{

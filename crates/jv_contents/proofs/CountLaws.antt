@@ -1,0 +1,378 @@
+-- What changes of lists, and counts that follow them, do to slices.
+use Rattle.std.proofs.Common.{◌≡◌, ◌≢◌, ℕ, zero, suc, ◌+◌, ◌-◌, ◌<◌, ◌≤◌, ◌⊎◌, inl, inr, Bool, true, false, cond, true≢false, List, [], ◌++◌, length, Option, None, Some, Ok, refl, sym, ap, subst, ◌∙◌, arith}
+use Rattle.std.specs.Prelude.{◌==◌, ◌&&◌, ◌||◌, not, Contains, if◌then◌else◌, IsTrue}
+use Rattle.std.specs.List.{AllByRecursion}
+use Rattle.std.specs.Ordering.{eq_by_cmp}
+use Rattle.std.proofs.lemmas.Bool.{cases_eq, eq-eqb, ne_eqb, eqb-true}
+use Rattle.std.proofs.lemmas.List.{length-append}
+use Rattle.std.proofs.lemmas.List.Elements.{recursion_from_All, All-weaker, All-contains_itself}
+use Rattle.std.proofs.lemmas.Option.{same_Some}
+use Rattle.jv_model.specs.declared.row.RowKey.{RowKey}
+use Rattle.jv_model.specs.declared.row.Row.TheVariants.{OfSlice, OfDead}
+use Rattle.jv_model.specs.declared.row.SliceRow.{SliceRow}
+use Rattle.jv_model.specs.declared.row.Dead.{Dead}
+use Rattle.jv_model.specs.declared.slice.Rec.{Rec}
+use Rattle.jv_model.specs.FiniteMap.{get, alter, retain_keys, sum_over}
+use Rattle.jv_model.specs.rows.RowFields.{is_nil}
+use Rattle.jv_model.specs.rows.RowKeys.{row_key, row_cmp}
+use Rattle.jv_model.specs.rows.RowPlaces.{counters_key, slice_key, dead_key}
+use Rattle.jv_model.specs.blocks.Slices.{IsRecord}
+use Rattle.jv_model.proofs.FiniteMapLaws.{share, get-alter, get-retain_keys, same_maps, sum-insert, sum-remove}
+use Rattle.jv_volume.specs.TypedRows.{Cell, Rows}
+use Rattle.jv_volume.specs.Views.{row_in, records_in, counters_in, slice_in, slice_row_at, dead_in, dead_at}
+use Rattle.jv_volume.specs.TreeOf.{or_no_counters}
+use Rattle.jv_volume.specs.Slices.{listed, records_naming, named_by, count_in, slice_count, ListsHave, next_slice, WholeSlices}
+use Rattle.jv_volume.proofs.MapLaws.{get-alter-apart}
+use Rattle.jv_volume.proofs.QuietLaws.{sum-retain_keys}
+use Rattle.jv_volume.proofs.ShapeMapLaws.{tied_same}
+use Rattle.jv_rows.specs.Counts.{is_named, recounted, Recounted, Adjusted}
+use Rattle.jv_contents.specs.Counts.{record_count, Behind, HadSize, HasDied}
+use Rattle.jv_contents.proofs.BehindLaws.{behind-none, behind-more}
+use Rattle.jv_contents.proofs.BlockLaws.{named_has_row}
+use Rattle.jv_contents.proofs.WholeLaws.{SlicesGo}
+
+-- ---- a sum over all lists
+
+-- of a function that has nothing for no records
+abbrev sum_of : (List Rec → ℕ) → Rows → ℕ
+sum_of f rows = sum_over (λ key cell. f (listed key (Some cell))) rows
+
+module _ (f : List Rec → ℕ) (nothing : f [] ≡ 0) where
+  none_by : (b : Bool) → f (if b then [] else []) ≡ 0
+  none_by true = nothing
+  none_by false = nothing
+
+  share_is : (key : RowKey) (o : Option Cell) → share (λ key cell. f (listed key (Some cell))) key o ≡ f (listed key o)
+  share_is key None = sym (none_by (key.tab == 4))
+  share_is key (Some cell) = refl
+
+  -- with other records at one key
+  sum-list : (rows : Rows) (key : RowKey) (cell : Option Cell) → sum_of f (alter rows key cell) + f (listed key (get rows key)) ≡ sum_of f rows + f (listed key cell)
+  sum-list rows key None =
+      let sum = sum-remove row_key (λ key cell. f (listed key (Some cell))) rows key in
+      let old = share_is key (get rows key) in
+      let new = none_by (key.tab == 4) in
+      omega (arith, sum, old, new)
+  sum-list rows key (Some cell) =
+      let sum = sum-insert row_key (λ key cell. f (listed key (Some cell))) rows key cell in
+      let old = share_is key (get rows key) in
+      omega (arith, sum, old)
+
+  -- rows with the same lists
+  sum-lists : (rows after : Rows) → ((key : RowKey) → (key.tab == 4) ≡ true → get after key ≡ get rows key) → sum_of f after ≡ sum_of f rows
+  sum-lists rows after same =
+      sym (sum-retain_keys row_key (λ key cell. f (listed key (Some cell))) (λ key. key.tab == 4) no_list after)
+      ∙ ap (sum_of f) (same_maps (retain_keys (λ key. key.tab == 4) after) (retain_keys (λ key. key.tab == 4) rows) (λ key.
+      get-retain_keys after (λ key. key.tab == 4) key ∙ by_table key (key.tab == 4) refl ∙ sym (get-retain_keys rows (λ key. key.tab == 4) key)))
+      ∙ sum-retain_keys row_key (λ key cell. f (listed key (Some cell))) (λ key. key.tab == 4) no_list rows
+    where
+      no_list : (key : RowKey) (cell : Cell) → (key.tab == 4) ≡ false → f (listed key (Some cell)) ≡ 0
+      no_list key cell other = ap (λ b. f (if b then records_in (row_in (Some cell)) else [])) other ∙ nothing
+
+      by_table : (key : RowKey) (b : Bool) → (key.tab == 4) ≡ b → cond b (get after key) None ≡ cond b (get rows key) None
+      by_table key true e = same key e
+      by_table key false e = refl
+
+-- ---- rows with the same lists
+
+module _ (rows after : Rows) (same : (key : RowKey) → (key.tab == 4) ≡ true → get after key ≡ get rows key) where
+  listed_same : (key : RowKey) → listed key (get after key) ≡ listed key (get rows key)
+  listed_same key = by_table (key.tab == 4) refl
+    where
+      by_table : (b : Bool) → (key.tab == 4) ≡ b → (if b then records_in (row_in (get after key)) else []) ≡ (if b then records_in (row_in (get rows key)) else [])
+      by_table true e = ap (λ c. records_in (row_in c)) (same key e)
+      by_table false e = refl
+
+  named-lists : (id : ℕ) → named_by after id ≡ named_by rows id
+  unfolding named_by
+  named-lists id = sum-lists (records_naming id) refl rows after same
+
+  record_count-lists : record_count after ≡ record_count rows
+  unfolding record_count
+  record_count-lists = sum-lists length refl rows after same
+
+-- ---- one list changes
+
+module _ (rows : Rows) (key : RowKey) (cell : Option Cell) where
+  pub named-list : (id : ℕ) → named_by (alter rows key cell) id + records_naming id (listed key (get rows key)) ≡ named_by rows id + records_naming id (listed key cell)
+  unfolding named_by
+  named-list id = sum-list (records_naming id) refl rows key cell
+
+  pub record_count-list : record_count (alter rows key cell) + length (listed key (get rows key)) ≡ record_count rows + length (listed key cell)
+  unfolding record_count
+  record_count-list = sum-list length refl rows key cell
+
+  -- what holds of all records holds after, if it holds of the new ones
+  pub lists_have-list : (P : Rec → Type 0) → ListsHave P rows → AllByRecursion P (listed key cell) → ListsHave P (alter rows key cell)
+  lists_have-list P have new q = subst (λ c. AllByRecursion P (listed q c)) (sym (get-alter rows key cell q)) (by_tie (eq_by_cmp row_cmp q key) refl)
+    where
+      by_tie : (b : Bool) → eq_by_cmp row_cmp q key ≡ b → AllByRecursion P (listed q (cond b cell (get rows q)))
+      by_tie true e = subst (λ k. AllByRecursion P (listed k cell)) (sym (tied_same row_key key q e)) new
+      by_tie false e = have q
+
+  module _ (table : key.tab ≡ 4) where
+    apart_from : (q : RowKey) → (q.tab == 4) ≡ false → q ≢ key
+    apart_from q other same = true≢false (sym (ap (λ (k : RowKey). k.tab == 4) same ∙ eq-eqb key.tab 4 table) ∙ other)
+
+    -- rows of other tables stay
+    pub others-list : (q : RowKey) → (q.tab == 4) ≡ false → get (alter rows key cell) q ≡ get rows q
+    others-list q other = get-alter-apart row_key rows key cell q (apart_from q other)
+
+    pub behind-list : (gone added : List Rec) → Behind rows gone added
+        → Behind (alter rows key cell) (gone ++ listed key (get rows key)) (added ++ listed key cell)
+    behind-list gone added behind =
+        behind-more rows (alter rows key cell) gone added (listed key (get rows key)) (listed key cell) behind
+        (λ id. ap (λ c. count_in (slice_in (row_in c))) (others-list (slice_key id) refl)) (λ id some. named-list id)
+
+-- ---- lists that change one after another
+
+-- Lists have changed, and counts not yet: each record names a slice that had a row of its size.
+pub record ListsMove (rows middle : Rows) (gone added : List Rec) : Type 0 where
+  pub next : next_slice middle ≡ next_slice rows
+  pub slices : (id : ℕ) → slice_row_at middle id ≡ slice_row_at rows id
+  pub deads : (id : ℕ) → dead_at middle id ≡ dead_at rows id
+  pub records : ListsHave IsRecord middle
+  pub names : ListsHave (λ r. r.id ≢ 0 → HadSize rows r.id r.size) middle
+  pub behind : Behind middle gone added
+  pub count : record_count middle + length gone ≡ record_count rows + length added
+
+-- each record of whole slices names one that has a row of its size
+pub names-whole : (rows : Rows) → WholeSlices rows → ListsHave (λ r. r.id ≢ 0 → HadSize rows r.id r.size) rows
+names-whole rows w key =
+    let l = listed key (get rows key) in
+    recursion_from_All (λ (r : Rec). r.id ≢ 0 → HadSize rows r.id r.size) l
+    (All-weaker (Contains l) (λ (r : Rec). r.id ≢ 0 → HadSize rows r.id r.size) (named_has_row rows w key) l (All-contains_itself l))
+
+-- none has
+pub move-none : (rows : Rows) → WholeSlices rows → ListsMove rows rows [] []
+move-none rows w = record {
+  next = refl;
+  slices = λ id. refl;
+  deads = λ id. refl;
+  records = w.records;
+  names = names-whole rows w;
+  behind = behind-none rows w;
+  count = refl;
+}
+
+-- one more has
+pub move-list : (rows middle : Rows) (gone added : List Rec) (key : RowKey) (cell : Option Cell) → key.tab ≡ 4 → ListsMove rows middle gone added
+    → AllByRecursion IsRecord (listed key cell) → AllByRecursion (λ r. r.id ≢ 0 → HadSize rows r.id r.size) (listed key cell)
+    → ListsMove rows (alter middle key cell) (gone ++ listed key (get middle key)) (added ++ listed key cell)
+move-list rows middle gone added key cell table m records names = record {
+  next = ap (λ c. (or_no_counters (counters_in (row_in c))).slice) (others-list middle key cell table counters_key refl) ∙ m.next;
+  slices = λ id. ap (λ c. slice_in (row_in c)) (others-list middle key cell table (slice_key id) refl) ∙ m.slices id;
+  deads = λ id. ap (λ c. dead_in (row_in c)) (others-list middle key cell table (dead_key id) refl) ∙ m.deads id;
+  records = lists_have-list middle key cell IsRecord m.records records;
+  names = lists_have-list middle key cell (λ r. r.id ≢ 0 → HadSize rows r.id r.size) m.names names;
+  behind = behind-list middle key cell table gone added m.behind;
+  count =
+      (let was = m.count in
+      let now = record_count-list middle key cell in
+      let less = length-append gone (listed key (get middle key)) in
+      let more = length-append added (listed key cell) in
+      omega (arith, was, now, less, more));
+}
+
+-- rows of other tables have changed, but for those of slices and the next slice
+pub move-others : (rows middle after : Rows) (gone added : List Rec) → ListsMove rows middle gone added
+    → ((key : RowKey) → ((key.tab == 4) || (key.tab == 5) || (key.tab == 9)) ≡ true → get after key ≡ get middle key) → next_slice after ≡ next_slice middle
+    → ListsMove rows after gone added
+move-others rows middle after gone added m same next = record {
+  next = next ∙ m.next;
+  slices = λ id. slices id ∙ m.slices id;
+  deads = λ id. ap (λ c. dead_in (row_in c)) (same (dead_key id) refl) ∙ m.deads id;
+  records = λ key. subst (AllByRecursion IsRecord) (sym (lists key)) (m.records key);
+  names = λ key. subst (AllByRecursion (λ r. r.id ≢ 0 → HadSize rows r.id r.size)) (sym (lists key)) (m.names key);
+  behind = record { by = λ id some.
+      (let was = m.behind.by id some in
+      let count = ap count_in (slices id) in
+      let names = named_same id in
+      omega (arith, was, count, names)) };
+  count = (let was = m.count in let now = count_same in omega (arith, was, now));
+}
+  where
+    list_same : (key : RowKey) → (key.tab == 4) ≡ true → get after key ≡ get middle key
+    list_same key e = same key (ap (λ b. b || (key.tab == 5) || (key.tab == 9)) e)
+
+    slices : (id : ℕ) → slice_row_at after id ≡ slice_row_at middle id
+    slices id = ap (λ c. slice_in (row_in c)) (same (slice_key id) refl)
+
+    lists : (key : RowKey) → listed key (get after key) ≡ listed key (get middle key)
+    lists key = listed_same middle after list_same key
+
+    named_same : (id : ℕ) → named_by after id ≡ named_by middle id
+    named_same id = named-lists middle after list_same id
+
+    count_same : record_count after ≡ record_count middle
+    count_same = record_count-lists middle after list_same
+
+-- ---- counts have followed
+
+other_by : (a b c : Bool) → a ≡ false → (a && b && c) ≡ false
+other_by a b c e = ap (λ x. x && b && c) e
+
+-- an option of a row with a count
+count_of : (b : Bool) (size n : ℕ) → (n == 0) ≡ b → count_in (slice_in (row_in (cond b None (Some (Ok (OfSlice (record { size = size; count = n }))))))) ≡ n
+count_of true size n e = sym (eqb-true n 0 e)
+count_of false size n e = refl
+
+size_of_cell : (b : Bool) (size n : ℕ) (slice : SliceRow) → slice_in (row_in (cond b None (Some (Ok (OfSlice (record { size = size; count = n })))))) ≡ Some slice → slice.size ≡ size
+size_of_cell true size n slice e = absurd (cc)
+size_of_cell false size n slice e = ap (λ (s : SliceRow). s.size) (sym (same_Some (record { size = size; count = n }) slice e))
+
+-- a slice that no record names
+unnamed_by : (zero_id none : Bool) (id n : ℕ) → (id == 0) ≡ zero_id → (n == 0) ≡ none → 0 < id → (not zero_id && not none) ≡ false → n ≡ 0
+unnamed_by true none id n e f some h = (let is = eqb-true id 0 e in absurd (omega (arith, is, some)))
+unnamed_by false true id n e f some h = eqb-true n 0 f
+unnamed_by false false id n e f some h = absurd (true≢false h)
+
+unnamed : (gone added : List Rec) (id : ℕ) → is_named gone added id ≡ false → 0 < id → records_naming id gone + records_naming id added ≡ 0
+unnamed gone added id h some = unnamed_by (id == 0) (records_naming id gone + records_naming id added == 0) id (records_naming id gone + records_naming id added) refl refl some h
+
+named_some : (gone added : List Rec) (id : ℕ) → is_named gone added id ≡ true → 0 < id
+named_some gone added id h = by_zero (id == 0) refl
+  where
+    by_zero : (b : Bool) → (id == 0) ≡ b → 0 < id
+    by_zero true e = absurd (true≢false (sym h ∙ ap (λ b. not b && not (records_naming id gone + records_naming id added == 0)) e))
+    by_zero false e = positive id e
+
+    positive : (n : ℕ) → (n == 0) ≡ false → 0 < n
+    positive zero e = absurd (true≢false e)
+    positive (suc n) e = omega arith
+
+-- what became of a slice
+data Becomes (gone added : List Rec) (due : ℕ) (rows after : Rows) (id : ℕ) : Type 0 where
+  Follows : IsTrue (is_named gone added id) → Recounted id (records_naming id gone) (records_naming id added) due rows after → Becomes gone added due rows after id
+  Stays : is_named gone added id ≡ false → slice_row_at after id ≡ slice_row_at rows id → dead_at after id ≡ dead_at rows id → Becomes gone added due rows after id
+
+module _ (gone added : List Rec) (due : ℕ) (rows after : Rows) (a : Adjusted gone added due rows after) where
+  becomes : (id : ℕ) → Becomes gone added due rows after id
+  becomes id = by_name (is_named gone added id) refl
+    where
+      by_name : (b : Bool) → is_named gone added id ≡ b → Becomes gone added due rows after id
+      by_name true e = Follows e (a.named id e)
+      by_name false e = Stays e (ap (λ c. slice_in (row_in c)) (a.others (slice_key id) e)) (ap (λ c. dead_in (row_in c)) (a.others (dead_key id) e))
+
+  -- rows of other tables stay
+  pub others-adjusted : (key : RowKey) → (key.tab == 5) ≡ false → (key.tab == 9) ≡ false → get after key ≡ get rows key
+  others-adjusted key five nine = a.others key (other_by ((key.tab == 5) || (key.tab == 9)) (is_nil key.b) (is_named gone added key.a)
+      (ap (λ b. b || (key.tab == 9)) five ∙ nine))
+
+  lists-adjusted : (key : RowKey) → (key.tab == 4) ≡ true → get after key ≡ get rows key
+  lists-adjusted key four =
+      let tab = eqb-true key.tab 4 four in
+      others-adjusted key (ne_eqb key.tab 5 (λ e. omega (arith, tab, e))) (ne_eqb key.tab 9 (λ e. omega (arith, tab, e)))
+
+  -- counts are exact again
+  pub exact-adjusted : Behind rows gone added → (id : ℕ) → 0 < id → slice_count after id ≡ named_by after id
+  exact-adjusted behind id some = by_becomes (becomes id)
+    where
+      by_becomes : Becomes gone added due rows after id → slice_count after id ≡ named_by after id
+      by_becomes (Follows named r) =
+          let next = recounted r.slice.count (records_naming id gone) (records_naming id added) in
+          let now : slice_count after id ≡ next = ap (λ c. count_in (slice_in (row_in c))) r.row ∙ count_of (next == 0) r.slice.size next refl in
+          let was : slice_count rows id ≡ r.slice.count = ap (λ c. count_in (slice_in (row_in c))) r.was in
+          let by = behind.by id some in
+          let same = named-lists rows after lists-adjusted id in
+          omega (arith, now, was, by, same)
+      by_becomes (Stays none row dead) =
+          let now = ap count_in row in
+          let by = behind.by id some in
+          let same = named-lists rows after lists-adjusted id in
+          let no = unnamed gone added id none some in
+          omega (arith, now, by, same, no)
+
+-- Lists have changed, and counts have followed: slices stay whole, and others are kept.
+module _ (more : ℕ) (rows middle after : Rows) (gone added : List Rec) (due : ℕ) (w : WholeSlices rows) (m : ListsMove rows middle gone added)
+    (a : Adjusted gone added due middle after) (few : length added ≤ length gone + more) where
+  had_row : (id : ℕ) (slice : SliceRow) → get middle (slice_key id) ≡ Some (Ok (OfSlice slice)) → HadSize rows id slice.size
+  had_row id slice is = record { slice = slice; is = sym (m.slices id) ∙ ap (λ c. slice_in (row_in c)) is; size_is = refl }
+
+  had_after : (id : ℕ) (slice : SliceRow) → slice_row_at after id ≡ Some slice → HadSize rows id slice.size
+  had_after id slice there = by_becomes (becomes gone added due middle after a id)
+    where
+      by_becomes : Becomes gone added due middle after id → HadSize rows id slice.size
+      by_becomes (Follows named r) =
+          let next = recounted r.slice.count (records_naming id gone) (records_naming id added) in
+          let size_is : slice.size ≡ r.slice.size = size_of_cell (next == 0) r.slice.size next slice (sym (ap (λ c. slice_in (row_in c)) r.row) ∙ there) in
+          let had = had_row id r.slice r.was in
+          record { slice = had.slice; is = had.is; size_is = had.size_is ∙ sym size_is }
+      by_becomes (Stays none row dead) = record { slice = slice; is = sym (m.slices id) ∙ sym row ∙ there; size_is = refl }
+
+  dead_row : ℕ → Cell
+  dead_row size = Ok (OfDead (record { size = size; due = due }))
+
+  dies_after : (id : ℕ) (slice : SliceRow) → slice_row_at rows id ≡ Some slice → slice_row_at after id ≡ None → HasDied after id slice.size
+  dies_after id slice there none = by_becomes (becomes gone added due middle after a id)
+    where
+      by_zero : (r : Recounted id (records_naming id gone) (records_naming id added) due middle after) (b : Bool)
+          → (recounted r.slice.count (records_naming id gone) (records_naming id added) == 0) ≡ b → HasDied after id slice.size
+      by_zero r true e =
+          let same : r.slice ≡ slice = same_Some r.slice slice (sym (ap (λ c. slice_in (row_in c)) r.was) ∙ m.slices id ∙ there) in
+          record {
+            dead = record { size = r.slice.size; due = due };
+            is = ap (λ c. dead_in (row_in c)) r.dead ∙ ap (λ b. dead_in (row_in (cond b (Some (Ok (OfDead (record { size = r.slice.size; due = due })))) (get middle (dead_key id))))) e;
+            size_is = ap (λ (s : SliceRow). s.size) same;
+          }
+      by_zero r false e =
+          let row = ap (λ c. slice_in (row_in c)) r.row
+          ∙ ap (λ b. slice_in (row_in (cond b None (Some (Ok (OfSlice (record { size = r.slice.size; count = recounted r.slice.count (records_naming id gone) (records_naming id added) }))))))) e in
+          absurd (cc)
+
+      by_becomes : Becomes gone added due middle after id → HasDied after id slice.size
+      by_becomes (Follows named r) = by_zero r (recounted r.slice.count (records_naming id gone) (records_naming id added) == 0) refl
+      by_becomes (Stays other row dead) = (let there_after = row ∙ m.slices id ∙ there in absurd (cc))
+
+  -- a slice with a row has no dead one
+  not_dead : (id : ℕ) (slice : SliceRow) (dead : Dead) → slice_row_at rows id ≡ Some slice → dead_at rows id ≡ Some dead → ⊥
+  not_dead id slice dead there is = (let none = w.apart id (λ n. (let both = sym is ∙ n in absurd (cc))) in absurd (cc))
+
+  stays_after : (id : ℕ) (dead : Dead) → dead_at rows id ≡ Some dead → dead_at after id ≡ Some dead
+  stays_after id dead there = by_becomes (becomes gone added due middle after a id)
+    where
+      by_becomes : Becomes gone added due middle after id → dead_at after id ≡ Some dead
+      by_becomes (Follows named r) = absurd (not_dead id r.slice dead (sym (m.slices id) ∙ ap (λ c. slice_in (row_in c)) r.was) there)
+      by_becomes (Stays other row stays) = stays ∙ m.deads id ∙ there
+
+  died_after : (id : ℕ) (dead : Dead) → dead_at after id ≡ Some dead → (dead_at rows id ≡ Some dead) ⊎ (HadSize rows id dead.size × (slice_row_at after id ≡ None))
+  died_after id dead there = by_becomes (becomes gone added due middle after a id)
+    where
+      by_zero : (r : Recounted id (records_naming id gone) (records_naming id added) due middle after) (b : Bool)
+          → (recounted r.slice.count (records_naming id gone) (records_naming id added) == 0) ≡ b
+          → (dead_at rows id ≡ Some dead) ⊎ (HadSize rows id dead.size × (slice_row_at after id ≡ None))
+      by_zero r true e =
+          let is : Some (record { size = r.slice.size; due = due }) ≡ dead_at after id =
+          sym (ap (λ c. dead_in (row_in c)) r.dead ∙ ap (λ b. dead_in (row_in (cond b (Some (Ok (OfDead (record { size = r.slice.size; due = due })))) (get middle (dead_key id))))) e) in
+          let same : record { size = r.slice.size; due = due } ≡ dead = same_Some _ _ (is ∙ there) in
+          let had = had_row id r.slice r.was in
+          inr (
+            record { slice = had.slice; is = had.is; size_is = had.size_is ∙ ap (λ (d : Dead). d.size) same },
+            ap (λ c. slice_in (row_in c)) r.row
+            ∙ ap (λ b. slice_in (row_in (cond b None (Some (Ok (OfSlice (record { size = r.slice.size; count = recounted r.slice.count (records_naming id gone) (records_naming id added) }))))))) e,
+          )
+      by_zero r false e = inl (
+        sym (m.deads id)
+        ∙ sym (ap (λ c. dead_in (row_in c)) r.dead ∙ ap (λ b. dead_in (row_in (cond b (Some (Ok (OfDead (record { size = r.slice.size; due = due })))) (get middle (dead_key id))))) e)
+        ∙ there)
+
+      by_becomes : Becomes gone added due middle after id → (dead_at rows id ≡ Some dead) ⊎ (HadSize rows id dead.size × (slice_row_at after id ≡ None))
+      by_becomes (Follows named r) = by_zero r (recounted r.slice.count (records_naming id gone) (records_naming id added) == 0) refl
+      by_becomes (Stays other row stays) = inl (sym (m.deads id) ∙ sym stays ∙ there)
+
+  lists_after : (P : Rec → Type 0) → ListsHave P middle → ListsHave P after
+  lists_after P have key = subst (AllByRecursion P) (sym (listed_same middle after (lists-adjusted gone added due middle after a) key)) (have key)
+
+  pub go-adjusted : SlicesGo more rows after
+  go-adjusted = record {
+    next = ap (λ c. (or_no_counters (counters_in (row_in c))).slice) (others-adjusted gone added due middle after a counters_key refl refl) ∙ m.next;
+    records = lists_after IsRecord m.records;
+    names = lists_after (λ r. r.id ≢ 0 → HadSize rows r.id r.size) m.names;
+    had = had_after;
+    exact = exact-adjusted gone added due middle after a m.behind;
+    dies = dies_after;
+    stays = stays_after;
+    died = died_after;
+    count = (let was = m.count in let now = record_count-lists middle after (lists-adjusted gone added due middle after a) in omega (arith, was, now, few));
+  }
+
