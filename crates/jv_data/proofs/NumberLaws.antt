@@ -174,11 +174,17 @@ module _ (sid : ℕ) (before middle : Store) where
     where
       from_rows : (o : Option RowMap) → before.rows ≡ o → TakesNumber sid before after (Err fault)
       from_rows None is = (let l = looks empty_map (λ known here. absurd (let both = sym is ∙ here in cc)) in record {
-        opened_at = l.opened_at; counts = l.counts; undone = l.rows_are; bad = l.bad;
+        opened_at = l.opened_at;
+        counts = l.counts;
+        undone = l.rows_are;
+        bad = l.bad;
         lands = λ known here whole. absurd (let both = sym is ∙ here in cc);
       })
       from_rows (Some known) is = (let l = looks (typed known) (λ other here. ap typed (same_Some known other (sym is ∙ here))) in record {
-        opened_at = l.opened_at; counts = l.counts; undone = l.rows_are; bad = l.bad;
+        opened_at = l.opened_at;
+        counts = l.counts;
+        undone = l.rows_are;
+        bad = l.bad;
         lands = λ other here whole. numbers_refused fault other after.rows
             (subst (λ (k : RowMap). Agrees {A = ℕ} (Err fault) (number_given sid (typed k) (tree_of no_bytes (typed other)))) (same_Some known other (sym is ∙ here))
             (l.agrees other here whole no_bytes));
