@@ -1,7 +1,8 @@
--- How a commit of bytes ends: each of its exits, by what was read and what was changed.
-use Rattle.std.proofs.Common.{Bool, ◌≡◌, ℕ, ◌+◌, ◌≤◌, true, List, [], length, Option, None, Some, Result, Ok, Err, refl, sym, ap, subst, ◌∙◌, arith}
-use Rattle.std.specs.Prelude.{nat_lt, max}
+-- How a commit of bytes ends: each of its exits, by how it began.
+use Rattle.std.proofs.Common.{Bool, ◌≡◌, ℕ, ◌+◌, ◌≤◌, true, false, List, [], length, Option, None, Some, inl, inr, Result, Ok, Err, refl, sym, ap, subst, ◌∙◌, arith}
+use Rattle.std.specs.Prelude.{nat_lt, max, if◌then◌else◌}
 use Rattle.std.specs.Option.{option_map}
+use Rattle.std.proofs.lemmas.Bool.{cases_lt, cond-true, cond-false, lt-ltb, le-ltb, and_right}
 use Rattle.jv_model.specs.declared.fault.Fault.{Fault}
 use Rattle.jv_model.specs.declared.fault.Fault.TheVariants.{NoSpace, TimedOut}
 use Rattle.jv_model.specs.declared.fault.RowFault.TheVariants.{Bad, Failed, Memory}
@@ -9,38 +10,42 @@ use Rattle.jv_model.specs.declared.fault.TxFault.{TxFault}
 use Rattle.jv_model.specs.declared.fault.TxFault.TheVariants.{Refused, Moved, Rows as OfRows}
 use Rattle.jv_model.specs.declared.lifetimes.TheConstants.{UPLOAD_LIFE}
 use Rattle.jv_model.specs.declared.limits.TheConstants.{FILE_END}
-use Rattle.jv_model.specs.declared.row.Counters.{Counters}
-use Rattle.jv_model.specs.declared.row.Node.{Node as NodeRow}
-use Rattle.jv_model.specs.declared.row.Row.TheVariants.{OfSetting, OfCounters, OfNode}
-use Rattle.jv_model.specs.declared.row.RowKey.{RowKey}
-use Rattle.jv_model.specs.declared.setting.Setting.{Setting}
-use Rattle.jv_model.specs.FiniteMap.{get, alter}
-use Rattle.jv_model.specs.rows.RowGrammar.{is_setting, is_counters}
 use Rattle.jv_model.specs.rows.RowKeys.{RowMap}
-use Rattle.jv_model.specs.rows.RowPlaces.{setting_key, counters_key, node_key}
 use Rattle.jv_model.specs.tree.Attempt.{◌>>=◌, require}
+use Rattle.jv_model.specs.tree.Changes.{overwritten, with_content}
 use Rattle.jv_model.specs.tree.FileBytes.{committed}
-use Rattle.jv_model.specs.tree.Tree.{Tree, fits, sum_fits, space_limit}
+use Rattle.jv_model.specs.tree.Tree.{Tree, Content, content_at, fits}
 use Rattle.jv_outside.specs.declared.batch.Change.{Change}
 use Rattle.jv_outside.specs.Rows.{applied}
 use Rattle.jv_outside.specs.Store.{Store, Commits}
-use Rattle.jv_rows.specs.Drafts.{drafted, cell, Needs}
+use Rattle.jv_rows.specs.Drafts.{drafted}
 use Rattle.jv_rows.specs.Transactions.{Agrees, Looks}
-use Rattle.jv_rows.proofs.NeedingLaws.{SettingNeeded, CountersNeeded, fails-needed, stands-needs}
-use Rattle.jv_rows.proofs.TransactionLaws.{Past, past-start, past-as, past-calm, past-looks, past-fails, past-refuses, drafted-none, of_known}
-use Rattle.jv_volume.specs.TypedRows.{Rows, typed}
-use Rattle.jv_volume.specs.Views.{row_in, setting_in, setting_at, counters_in, counters_at, node_in, node_row_at}
-use Rattle.jv_volume.specs.TreeOf.{tree_of}
+use Rattle.jv_rows.proofs.TransactionLaws.{Past, Fails, past-ends, past-fails, fails-memory}
+use Rattle.jv_volume.specs.TypedRows.{typed}
+use Rattle.jv_volume.specs.TreeOf.{content_of, tree_of}
+use Rattle.jv_volume.specs.Views.{row_in, node_in, node_row_at}
 use Rattle.jv_volume.specs.Whole.{Whole, Quiet}
-use Rattle.jv_data.specs.Committing.{HasFile, LandsAs, Committed, CommitsLength, IsPatched, Resizes, commit_of, length_seen, used_after}
-use Rattle.jv_data.proofs.LongerLaws.{whole-longer, quiet-longer, fits-patched, tree-patched}
+use Rattle.jv_data.specs.Committing.{LandsAs, Committed, CommitsLength, BeginsCommit, Begun, IsPatched, commit_of, length_seen}
+use Rattle.jv_data.proofs.BeginningLaws.{content_found}
+use Rattle.jv_data.proofs.SizedLaws.{whole-sized, quiet-sized, tree-content}
 
--- a block that is young enough at the moments of the arguments
-pub is_timely : (now started n s : ℕ) (young : Bool) → n ≡ now → s ≡ started → young ≡ nat_lt n (s + UPLOAD_LIFE) → young ≡ true
-    → nat_lt now (started + UPLOAD_LIFE) ≡ true
-is_timely now started n s young now_is started_is young_is is = (λ i. nat_lt (sym now_is i) (sym started_is i + UPLOAD_LIFE)) ∙ sym young_is ∙ is
+-- ---- a commit that began
 
--- ---- a commit that is refused
+goes_through : {A : Type 0} (r : Result ℕ Fault) (a b : Bool) (late full : Fault) (x : A)
+    → ◌≡◌ {A = Result (Unit {0}) Fault} ((r >>= (λ length. require a late >>= (λ unit. require b full >>= (λ unit. Ok x)))) >>= (λ left. Ok tt)) (Ok tt)
+    → r >>= (λ length. require a late >>= (λ unit. require b full >>= (λ unit. Ok x))) ≡ Ok x
+goes_through (Err fault) a b late full x e = absurd (cc)
+goes_through (Ok n) false b late full x e = absurd (cc)
+goes_through (Ok n) true false late full x e = absurd (cc)
+goes_through (Ok n) true true late full x e = refl
+
+-- no byte stands from the end of a file on
+past_end : (content : Content) (from : ℕ) (patch : List ℕ) (position : ℕ) → max content.length (from + length patch) ≤ position
+    → (overwritten content from patch).byte position ≡ 0
+past_end content from patch position past =
+    let before : content.length ≤ position = omega (arith, past) in
+    let beyond : from + length patch ≤ position = omega (arith, past) in
+    cond-false _ _ _ (and_right _ _ (le-ltb position (from + length patch) beyond)) ∙ cond-false _ _ _ (le-ltb position content.length before)
 
 lands_refused : (fault : TxFault) (known : RowMap) (after : Option RowMap) (changed : ℕ → ℕ → ℕ) (model : Result Tree Fault)
     → Agrees {A = Tree} (Err fault) model
@@ -51,6 +56,24 @@ lands_refused (OfRows (Bad at bytes)) known after changed model h = h
 lands_refused (OfRows Failed) known after changed model h = tt
 lands_refused (OfRows Memory) known after changed model h = tt
 
+-- a reading of which the model sees nothing can't be refused
+any_model : {A : Type 0} (fault : TxFault) (model : Result A Fault) → Agrees {A = Unit {0}} (Err fault) (Ok tt) → Agrees {A = A} (Err fault) model
+any_model (Refused fault) model h = absurd (cc)
+any_model (Moved list) model h = h
+any_model (OfRows (Bad at bytes)) model h = h
+any_model (OfRows Failed) model h = tt
+any_model (OfRows Memory) model h = tt
+
+pub looks-any : {A : Type 0} (before after : Store) (fault : TxFault) (act : Tree → Result A Fault)
+    → Looks {A = Unit {0}} before after (Err fault) (λ t. Ok tt) → Looks {A = A} before after (Err fault) act
+looks-any before after fault act l = record {
+  rows_are = l.rows_are;
+  opened_at = l.opened_at;
+  counts = l.counts;
+  agrees = λ known is whole bytes. any_model fault (act (tree_of bytes (typed known))) (l.agrees known is whole bytes);
+  bad = l.bad;
+}
+
 module _ (sid now inode end started : ℕ) where
   -- the model's commit of bytes that end there
   abbrev pub act : ℕ → List ℕ → Tree → Result Tree Fault
@@ -60,9 +83,66 @@ module _ (sid now inode end started : ℕ) where
   abbrev pub Each : (ℕ → List ℕ → Type 0) → Type 0
   Each P = (from : ℕ) (patch : List ℕ) → from + length patch ≡ end → P from patch
 
-  pub commit-refused : (before after : Store) (fault : TxFault) → Each (λ from patch. Looks {A = Tree} before after (Err fault) (act from patch))
+  -- the model's commit is refused
+  abbrev pub RefusedBy : Store → Store → TxFault → Type 0
+  RefusedBy before after fault = Each (λ from patch. Looks {A = Tree} before after (Err fault) (act from patch))
+
+  pub commit-unbegun : (before after : Store) (changes : List Change) (fault : TxFault)
+      → BeginsCommit sid now inode end started before after changes (Err fault) → RefusedBy before after fault
+  commit-unbegun before after changes fault b from patch reaches = record {
+    rows_are = l.rows_are;
+    opened_at = l.opened_at;
+    counts = l.counts;
+    agrees = λ known is whole bytes. same fault (act from patch (tree_of bytes (typed known))) (l.agrees known is whole bytes);
+    bad = l.bad;
+  }
+    where
+      l : Looks {A = Unit {0}} before after (Err fault) (λ t. act from patch t >>= (λ left. Ok tt))
+      l = b.looks from patch reaches
+
+      stays : (r : Result Tree Fault) (fault : Fault) → ◌≡◌ {A = Result (Unit {0}) Fault} (r >>= (λ left. Ok tt)) (Err fault) → r ≡ Err fault
+      stays (Ok x) fault e = absurd (cc)
+      stays (Err other) fault e = (let one : other ≡ fault = cc in ap (λ f. Err f) one)
+
+      same : (fault : TxFault) (r : Result Tree Fault) → Agrees {A = Unit {0}} (Err fault) (r >>= (λ left. Ok tt)) → Agrees {A = Tree} (Err fault) r
+      same (Refused fault) r h = stays r fault h
+      same (Moved list) r h = h
+      same (OfRows (Bad at bytes)) r h = h
+      same (OfRows Failed) r h = tt
+      same (OfRows Memory) r h = tt
+
+  module _ (before middle : Store) (changes : List Change) (b : BeginsCommit sid now inode end started before middle changes (Ok tt)) where
+    pub began : (from : ℕ) (patch : List ℕ) → from + length patch ≡ end → Past before middle (act from patch) (λ t. Ok (committed t now inode from patch))
+    began from patch reaches =
+        let l = b.looks from patch reaches in
+        record {
+          rows_are = l.rows_are;
+          opened_at = l.opened_at;
+          calm = l.counts;
+          goes_on = λ known is whole bytes.
+              let t = tree_of bytes (typed known) in
+              goes_through (length_seen sid inode t) (nat_lt now (started + UPLOAD_LIFE)) (fits t (committed t now inode from patch)) (TimedOut started now) NoSpace
+              (committed t now inode from patch) (l.agrees known is whole bytes);
+        }
+
+    -- what comes after it fails
+    pub commit-fails : (after : Store) (fault : TxFault) → Fails middle after fault → RefusedBy before after fault
+    commit-fails after fault f from patch reaches =
+        past-fails before middle after (act from patch) (λ t. Ok (committed t now inode from patch)) (began from patch reaches) fault f
+
+    pub commit-memory : RefusedBy before middle (OfRows Memory)
+    commit-memory = commit-fails middle (OfRows Memory) (fails-memory middle)
+
+    pub commit-reads : (after : Store) (fault : TxFault) → Looks {A = Unit {0}} middle after (Err fault) (λ t. Ok tt) → RefusedBy before after fault
+    commit-reads after fault l from patch reaches =
+        past-ends before middle after (act from patch) (λ t. Ok (committed t now inode from patch)) (began from patch reaches) (Err fault)
+        (looks-any middle after fault (λ t. Ok (committed t now inode from patch)) l)
+
+  -- ---- the length alone
+
+  pub length-refused : (before after : Store) (fault : TxFault) → RefusedBy before after fault
       → CommitsLength sid now inode end started before after (Err fault)
-  commit-refused before after fault looks =
+  length-refused before after fault looks =
       let any = looks end [] (omega arith) in
       record {
         opened_at = any.opened_at;
@@ -74,134 +154,66 @@ module _ (sid now inode end started : ℕ) where
         bad = any.bad;
       }
 
-  module _ (before middle : Store) where
-    -- what a commit does once it knows that the file is there
-    abbrev in_time : ℕ → List ℕ → Tree → Result Tree Fault
-    in_time from patch t = require (nat_lt now (started + UPLOAD_LIFE)) (TimedOut started now)
-        >>= (λ unit. require (fits t (committed t now inode from patch)) NoSpace >>= (λ unit. Ok (committed t now inode from patch)))
+  module _ (before middle : Store) (changes : List Change) (b : BeginsCommit sid now inode end started before middle changes (Ok tt)) (small : end ≤ FILE_END) where
+    module _ (known : RowMap) (is : before.rows ≡ Some known) (whole : Whole (typed known)) where
+      abbrev begun : Begun (typed known) (drafted changes known) inode end now
+      begun = b.begun known is
 
-    -- and once it knows that the block isn't too old
-    abbrev pub in_room : ℕ → List ℕ → Tree → Result Tree Fault
-    in_room from patch t = require (fits t (committed t now inode from patch)) NoSpace >>= (λ unit. Ok (committed t now inode from patch))
+      there : node_row_at (typed known) inode ≡ Some begun.was
+      there = ap (λ o. node_in (row_in o)) begun.there
 
-    module _ (was : NodeRow) (h : HasFile sid inode before middle (Ok was)) where
-      seen : (from : ℕ) (patch : List ℕ) → Past before middle (act from patch) (in_time from patch)
-      seen from patch = past-looks before before middle (act from patch) (length_seen sid inode) (λ t length. in_time from patch t)
-          (past-start before (act from patch)) was.length h.looks
+      longer : begun.was.length ≤ max begun.was.length end
+      longer = omega arith
 
-      module _ (timely : nat_lt now (started + UPLOAD_LIFE) ≡ true) where
-        in_its_time : (from : ℕ) (patch : List ℕ) → Past before middle (act from patch) (in_room from patch)
-        in_its_time from patch = past-as before middle middle (act from patch) (in_time from patch) (seen from patch) (in_room from patch)
-            (λ known is whole bytes.
-            let t = tree_of bytes (typed known) in ap (λ b. require b (TimedOut started now) >>= (λ unit. in_room from patch t)) timely)
+      within : max begun.was.length end ≤ FILE_END
+      within = (let least = whole.files.small inode begun.was there begun.file in omega (arith, least, small))
 
-        was_at : (known : RowMap) → before.rows ≡ Some known → node_row_at (typed known) inode ≡ Some was
-        was_at known is = ap (λ o. node_in (row_in o))
-            (of_known (λ known. get (typed known) (node_key inode) ≡ Some (Ok (OfNode was))) middle.rows known (h.looks.rows_are ∙ is) h.stands)
+      module _ (bytes changed : ℕ → ℕ → ℕ) (from : ℕ) (patch : List ℕ) (reaches : from + length patch ≡ end)
+          (patched : IsPatched (tree_of bytes (typed known)) bytes changed inode from patch) where
+        abbrev t : Tree
+        t = tree_of bytes (typed known)
 
-        module _ (none : List Change) (is_none : none ≡ []) where
-          kept : (key : RowKey) (known : RowMap) → get (drafted none known) key ≡ get (typed known) key
-          kept key known = ap (λ ch. get (drafted ch known) key) is_none ∙ ap (λ (rows : Rows). get rows key) (drafted-none known)
+        abbrev content : Content
+        content = content_of begun.was.length (bytes inode)
 
-          pub commit-no_setting : (after : Store) (fault : TxFault) → Needs OfSetting is_setting setting_key none middle after (Err fault)
-              → CommitsLength sid now inode end started before after (Err fault)
-          commit-no_setting after fault n = commit-refused before after fault (λ from patch reaches.
-              past-fails before middle after (act from patch) (in_room from patch) (in_its_time from patch) fault
-              (fails-needed OfSetting is_setting setting_key none middle after (λ known is. kept setting_key known) (SettingNeeded refl) fault n))
+        found : content_at t inode ≡ Some content
+        found = content_found known inode begun.was whole there begun.file bytes
 
-          module _ (set : Store) (setting : Setting) (s : Needs OfSetting is_setting setting_key none middle set (Ok setting)) where
-            with_setting : (from : ℕ) (patch : List ℕ) → Past before set (act from patch) (in_room from patch)
-            with_setting from patch = past-calm before middle set (act from patch) (in_room from patch) (in_its_time from patch)
-                s.rows_are s.opened_at s.counts
+        own : (p : ℕ) → (if nat_lt p (max begun.was.length end) then changed inode p else 0) ≡ (overwritten content from patch).byte p
+        own p = elim (cases_lt p (max begun.was.length end)) [
+          | inl low ↦ cond-true _ _ _ (lt-ltb p (max begun.was.length end) low) ∙ patched.own content found p
+          | inr high ↦ cond-false _ _ _ (le-ltb p (max begun.was.length end) high)
+              ∙ sym (past_end content from patch p (subst (λ n. max begun.was.length n ≤ p) (sym reaches) high))
+        ]
 
-            set_at : (known : RowMap) → before.rows ≡ Some known → setting_at (typed known) ≡ Some setting
-            set_at known is = ap (λ o. setting_in (row_in o))
-                (stands-needs OfSetting is_setting setting_key none middle set (λ known is. kept setting_key known) setting s known (h.looks.rows_are ∙ is))
+        tree_left : tree_of changed (drafted changes known) ≡ committed t now inode from patch
+        tree_left = ap (tree_of changed) begun.sized.is
+            ∙ tree-content (typed known) inode begun.was begun.sized.counters now (max begun.was.length end) whole there begun.file begun.sized.there
+            bytes (overwritten content from patch) (ap (max begun.was.length) reaches) changed patched.others own
+            ∙ sym (ap (λ o. elim o as (λ _. Tree) [ None ↦ t | Some old ↦ with_content t now inode (overwritten old from patch) ]) found)
 
-            pub commit-no_counters : (after : Store) (fault : TxFault) → Needs OfCounters is_counters counters_key none set after (Err fault)
-                → CommitsLength sid now inode end started before after (Err fault)
-            commit-no_counters after fault n = commit-refused before after fault (λ from patch reaches.
-                past-fails before set after (act from patch) (in_room from patch) (with_setting from patch) fault
-                (fails-needed OfCounters is_counters counters_key none set after (λ known is. kept counters_key known) (CountersNeeded refl) fault n))
+        landed : (after : Option RowMap) → after ≡ Some (applied changes known) → Committed known after changed (act from patch t)
+        unfolding drafted
+        landed after stands = record {
+          left = applied changes known;
+          is = stands;
+          whole = subst Whole (sym begun.sized.is) (whole-sized (typed known) inode begun.was begun.sized.counters now (max begun.was.length end) whole there
+              begun.file begun.sized.there longer within);
+          quiet = subst (Quiet (typed known)) (sym begun.sized.is) (quiet-sized (typed known) inode begun.was begun.sized.counters now (max begun.was.length end) whole
+              there begun.file begun.sized.there);
+          model = (began before middle changes b from patch reaches).goes_on known is whole bytes ∙ ap (λ x. Ok x) (sym tree_left);
+        }
 
-            module _ (counted : Store) (c : Counters) (n : Needs OfCounters is_counters counters_key none set counted (Ok c)) (small : end ≤ FILE_END) where
-              with_counters : (from : ℕ) (patch : List ℕ) → Past before counted (act from patch) (in_room from patch)
-              with_counters from patch = past-calm before set counted (act from patch) (in_room from patch) (with_setting from patch)
-                  n.rows_are n.opened_at n.counts
-
-              counted_at : (known : RowMap) → before.rows ≡ Some known → counters_at (typed known) ≡ Some c
-              counted_at known is = ap (λ o. counters_in (row_in o))
-                  (stands-needs OfCounters is_counters counters_key none set counted (λ known is. kept counters_key known) c n known
-                  (s.rows_are ∙ h.looks.rows_are ∙ is))
-
-              fits_is : (known : RowMap) → before.rows ≡ Some known → Whole (typed known) → (bytes : ℕ → ℕ → ℕ) (from : ℕ) (patch : List ℕ)
-                  → from + length patch ≡ end
-                  → fits (tree_of bytes (typed known)) (committed (tree_of bytes (typed known)) now inode from patch)
-                  ≡ sum_fits (space_limit setting) c.used_space (used_after c was.length (max was.length end))
-              fits_is known is whole bytes from patch reaches =
-                  fits-patched (typed known) inode was c now end whole (was_at known is) h.file (counted_at known is) small bytes from patch reaches
-                  setting (set_at known is)
-
-              -- no room is left
-              pub commit-no_room : Resizes setting c was.length (max was.length end) None
-                  → CommitsLength sid now inode end started before counted (Err (Refused NoSpace))
-              commit-no_room full = commit-refused before counted (Refused NoSpace) (λ from patch reaches.
-                  past-refuses before counted (act from patch) NoSpace
-                  (past-as before counted counted (act from patch) (in_room from patch) (with_counters from patch) (λ t. Err NoSpace) (λ known is whole bytes.
-                  let t = tree_of bytes (typed known) in
-                  ap (λ b. require b NoSpace >>= (λ unit. Ok (committed t now inode from patch))) (fits_is known is whole bytes from patch reaches ∙ full))))
-
-              module _ (new : NodeRow) (left : Counters) (d1 d2 : List Change)
-                  (new_is : new ≡ record was { length = max was.length end; mtime = now; ctime = now })
-                  (room : Resizes setting c was.length (max was.length end) (Some left))
-                  (one : (known : RowMap) → drafted d1 known ≡ alter (drafted none known) (node_key inode) (cell OfNode (Some new)))
-                  (two : (known : RowMap) → drafted d2 known ≡ alter (drafted d1 known) counters_key (cell OfCounters (Some left))) where
-                abbrev rows_by : RowMap → NodeRow → Counters → Rows
-                rows_by known row counters =
-                    alter (alter (typed known) (node_key inode) (cell OfNode (Some row))) counters_key (cell OfCounters (Some counters))
-
-                rows_are : (known : RowMap) → drafted d2 known ≡ rows_by known (record was { length = max was.length end; mtime = now; ctime = now })
-                    (record c { used_space = used_after c was.length (max was.length end) })
-                rows_are known =
-                    two known
-                    ∙ ap (λ (rows : Rows). alter rows counters_key (cell OfCounters (Some left)))
-                    (one known ∙ ap (λ (rows : Rows). alter rows (node_key inode) (cell OfNode (Some new)))
-                    (ap (λ ch. drafted ch known) is_none ∙ drafted-none known))
-                    ∙ (λ i. rows_by known (new_is i) (room.1 i))
-
-                landed : (after : Option RowMap) (known : RowMap) → before.rows ≡ Some known → Whole (typed known) → (bytes changed : ℕ → ℕ → ℕ)
-                    (from : ℕ) (patch : List ℕ) → from + length patch ≡ end
-                    → IsPatched (tree_of bytes (typed known)) bytes changed inode from patch → after ≡ Some (applied d2 known)
-                    → Committed known after changed (act from patch (tree_of bytes (typed known)))
-                unfolding drafted
-                landed after known is whole bytes changed from patch reaches patched stands =
-                    let rows = typed known in
-                    let whole_after = whole-longer rows inode was c now end whole (was_at known is) h.file (counted_at known is) small in
-                    let quiet_after = quiet-longer rows inode was c now end whole (was_at known is) h.file (counted_at known is) small in
-                    let tree_after = tree-patched rows inode was c now end whole (was_at known is) h.file (counted_at known is) small
-                    bytes from patch reaches changed patched in
-                    let t = tree_of bytes rows in
-                    record {
-                      left = applied d2 known;
-                      is = stands;
-                      whole = subst Whole (sym (rows_are known)) whole_after;
-                      quiet = subst (Quiet rows) (sym (rows_are known)) quiet_after;
-                      model = (with_counters from patch).goes_on known is whole bytes
-                          ∙ ap (λ b. require b NoSpace >>= (λ unit. Ok (committed t now inode from patch)))
-                          (fits_is known is whole bytes from patch reaches ∙ room.0)
-                          ∙ ap (λ x. Ok x) (sym tree_after ∙ ap (tree_of changed) (sym (rows_are known)));
-                    }
-
-                -- all is committed
-                pub commit-done : (last : Store) → Commits counted last (Ok tt) d2 → CommitsLength sid now inode end started before last (Ok tt)
-                commit-done last commits =
-                    let so_far = with_counters end [] in
-                    record {
-                      opened_at = commits.opened_at ∙ so_far.opened_at;
-                      counts = commits.calm ∙ so_far.calm;
-                      undone = tt;
-                      lands = λ known is whole bytes changed from patch reaches patched.
-                          landed last.rows known is whole bytes changed from patch reaches patched
-                          (commits.rows_are ∙ ap (option_map (applied d2)) (so_far.rows_are ∙ is));
-                      bad = tt;
-                    }
+    -- all is committed
+    pub length-done : (last : Store) → Commits middle last (Ok tt) changes → CommitsLength sid now inode end started before last (Ok tt)
+    length-done last commits =
+        let so_far = began before middle changes b end [] (omega arith) in
+        record {
+          opened_at = commits.opened_at ∙ so_far.opened_at;
+          counts = commits.calm ∙ so_far.calm;
+          undone = tt;
+          lands = λ known is whole bytes changed from patch reaches patched.
+              landed known is whole bytes changed from patch reaches patched last.rows
+              (commits.rows_are ∙ ap (option_map (applied changes)) (so_far.rows_are ∙ is));
+          bad = tt;
+        }

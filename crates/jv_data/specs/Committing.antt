@@ -1,6 +1,6 @@
 -- What a look sees of a file, and what a commit of bytes does to a volume's rows. The bytes are where the tree of the rows has
 -- them from.
-use Rattle.std.specs.Prelude.{◌≡◌, ◌≢◌, ℕ, ◌+◌, ◌-◌, nat_lt, List, length, is_some, Option, None, Some, Result, Ok, Err, IfOk, IfErr, IfSome, OnErr, IsTrue, false, true}
+use Rattle.std.specs.Prelude.{◌≡◌, ◌≢◌, ℕ, ◌+◌, max, nat_lt, List, length, is_some, Option, Some, Result, Ok, Err, IfOk, IfErr, IfSome, OnOk, OnErr, IsTrue}
 use Rattle.jv_model.specs.declared.fault.Fault.{Fault}
 use Rattle.jv_model.specs.declared.fault.Fault.TheVariants.{NoSpace, Stale, TimedOut}
 use Rattle.jv_model.specs.declared.fault.Gone.TheVariants.{Session, Node as GoneNode}
@@ -8,22 +8,25 @@ use Rattle.jv_model.specs.declared.fault.RowFault.TheVariants.{Bad, Failed, Memo
 use Rattle.jv_model.specs.declared.fault.TxFault.{TxFault}
 use Rattle.jv_model.specs.declared.fault.TxFault.TheVariants.{Refused, Moved, Rows as OfRows}
 use Rattle.jv_model.specs.declared.lifetimes.TheConstants.{UPLOAD_LIFE}
-use Rattle.jv_model.specs.declared.row.Counters.{Counters}
 use Rattle.jv_model.specs.declared.row.Node.{Node}
-use Rattle.jv_model.specs.declared.setting.Setting.{Setting}
+use Rattle.jv_model.specs.declared.row.Row.TheVariants.{OfNode}
 use Rattle.jv_model.specs.FiniteMap.{get}
 use Rattle.jv_model.specs.rows.RowGrammar.{is_node}
 use Rattle.jv_model.specs.rows.RowKeys.{RowMap}
+use Rattle.jv_model.specs.rows.RowPlaces.{node_key}
 use Rattle.jv_model.specs.tree.Attempt.{◌>>=◌, require, some_or}
-use Rattle.jv_model.specs.tree.Tree.{Tree, Content, content_at, paged, space_limit, sum_fits, fits}
+use Rattle.jv_model.specs.tree.Tree.{Tree, Content, content_at, fits}
 use Rattle.jv_model.specs.tree.Changes.{overwritten}
 use Rattle.jv_model.specs.tree.FileBytes.{committed}
+use Rattle.jv_outside.specs.declared.batch.Change.{Change}
 use Rattle.jv_outside.specs.Store.{Store}
+use Rattle.jv_rows.specs.Drafts.{drafted}
 use Rattle.jv_rows.specs.Transactions.{TransactionCounts, Looks, BadFault}
 use Rattle.jv_rows.specs.Walks.{HasNodeRow}
-use Rattle.jv_volume.specs.TypedRows.{typed}
+use Rattle.jv_volume.specs.TypedRows.{Rows, typed}
 use Rattle.jv_volume.specs.TreeOf.{tree_of}
 use Rattle.jv_volume.specs.Whole.{Whole, Quiet}
+use Rattle.jv_data.specs.Resizing.{AreSized}
 
 -- the length of a file, as a session sees it
 abbrev pub length_seen : ℕ → ℕ → Tree → Result ℕ Fault
@@ -43,20 +46,6 @@ pub record HasFile (sid inode : ℕ) (before after : Store) (result : Result Nod
   pub file : IfOk result (λ node. node.kind ≡ 1)
   pub allowed : IfOk result (λ node. IsTrue (is_node node))
 
--- the space that so many bytes take
-abbrev pub paged_space : ℕ → ℕ
-paged_space length = paged length
-
--- used space once a file of one length has another
-abbrev pub used_after : Counters → ℕ → ℕ → ℕ
-used_after c before after = (c.used_space + paged after) - paged before
-
--- the counters once a file of one length has another, where the volume has room for that
-abbrev pub Resizes : Setting → Counters → ℕ → ℕ → Option Counters → Type 0
-Resizes setting c before after None = sum_fits (space_limit setting) c.used_space (used_after c before after) ≡ false
-Resizes setting c before after (Some left) = (sum_fits (space_limit setting) c.used_space (used_after c before after) ≡ true)
-    × (left ≡ record c { used_space = used_after c before after })
-
 -- the model's commit of bytes to a file, whose block was begun at a moment
 abbrev pub commit_of : (sid inode from : ℕ) → List ℕ → (started now : ℕ) → Tree → Result Tree Fault
 commit_of sid inode from patch started now t = do
@@ -64,6 +53,20 @@ commit_of sid inode from patch started now t = do
   _ ← require (nat_lt now (started + UPLOAD_LIFE)) (TimedOut started now)
   _ ← require (fits t (committed t now inode from patch)) NoSpace
   Ok (committed t now inode from patch)
+
+-- rows of a file that reaches at least to a position
+pub record Begun (rows after : Rows) (inode end now : ℕ) : Type 0 where
+  pub was : Node
+  pub there : get rows (node_key inode) ≡ Some (Ok (OfNode was))
+  pub file : was.kind ≡ 1
+  pub sized : AreSized rows after inode was (max was.length end) now
+
+-- The beginning of a commit of bytes that end at a position: over whole rows it is refused where the model's commit is, whatever
+-- the bytes are. The changes are that the file reaches there.
+pub record BeginsCommit (sid now inode end started : ℕ) (before after : Store) (changes : List Change) (result : Result (Unit {0}) TxFault) : Type 0 where
+  pub looks : (from : ℕ) (patch : List ℕ) → from + length patch ≡ end
+      → Looks before after result (λ t. commit_of sid inode from patch started now t >>= (λ left. Ok tt))
+  pub begun : OnOk result ((known : RowMap) → before.rows ≡ Some known → Begun (typed known) (drafted changes known) inode end now)
 
 -- the bytes of all files, where one of them had bytes put into it
 pub record IsPatched (t : Tree) (bytes changed : ℕ → ℕ → ℕ) (inode from : ℕ) (patch : List ℕ) : Type 0 where

@@ -1,4 +1,5 @@
 -- What is said of transactions on the bytes of files.
+pub mod Resizing
 pub mod Committing
 pub mod Changing
 pub mod Records

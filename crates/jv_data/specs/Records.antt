@@ -29,7 +29,17 @@ use Rattle.jv_contents.specs.Places.{shown}
 use Rattle.jv_contents.specs.Bytes.{Told, spot_byte}
 use Rattle.jv_data.specs.declared.looking.View.{View}
 use Rattle.jv_data.specs.Committing.{length_seen, commit_of}
-use Rattle.jv_data.specs.Changing.{Changes, Makes, Never}
+use Rattle.jv_data.specs.Changing.{Changes, Never}
+
+abbrev pub without_answer : {A : Type 0} → Result A TxFault → Result (Unit {0}) TxFault
+without_answer (Ok x) = Ok tt
+without_answer (Err fault) = Err fault
+
+-- A reading of a window's records, none where there is no list: over whole rows it succeeds, as far as keeper and memory go.
+pub record HasRecords (inode window : ℕ) (before after : Store) (result : Result (List Rec) TxFault) : Type 0 where
+  pub looks : Looks before after (without_answer result) (λ t. Ok tt)
+  pub list : IfOk result (λ list. IfSome before.rows (λ known. list ≡ lists_of (typed known) inode window))
+  pub records : IfOk result (AllByRecursion IsRecord)
 
 abbrev pub length_viewed : Result View TxFault → Result ℕ TxFault
 length_viewed (Ok view) = Ok view.length

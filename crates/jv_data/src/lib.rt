@@ -1,11 +1,13 @@
-//! Transactions on the bytes of files, as far as rows have them without blocks: what a look sees of a file, and the length and
-//! the times that a commit leaves. The bytes themselves stay with the session until they lie in blocks.
+//! Transactions on the bytes of files: looks, numbers for new slices, and commits of their records. Blocks lie elsewhere.
 //!
 //! A refusal, a keeper that failed, and want of memory leave the rows as they were.
 #![tactic(auto)]
 
 mod committing;
 mod looking;
+mod numbering;
+mod resizing;
 
-pub use committing::commit_length;
-pub use looking::look;
+pub use committing::{commit, commit_length};
+pub use looking::{View, look, look_at};
+pub use numbering::next_id;

@@ -1,11 +1,21 @@
-//! Looks at files.
+//! Looks at files and at their windows.
 ghost use Rattle.jv_data.specs.Committing.{length_seen, HasFile};
+ghost use Rattle.jv_data.specs.Records.{LooksAt, HasRecords};
 ghost use Rattle.jv_rows.specs.Transactions.{Looks};
 
-use jv_model::{Fault, Gone, Node, TxFault};
+use jv_model::{Fault, Gone, List, Node, TxFault, Who};
 use jv_outside::Keeper;
-use jv_rows::{Draft, in_session};
+use jv_rows::{Draft, in_session, read_list};
 use std::alloc::Global;
+
+/// What a session sees of a window of a file.
+#[derive(Debug, Drop, PartialEq, Eq)]
+pub struct View {
+    /// The length of the whole file in bytes.
+    pub length: u64,
+    /// The records of the window, the latest last.
+    pub list: List,
+}
 
 /// The length of a file in bytes, as a session sees it now.
 ///
@@ -17,6 +27,29 @@ pub fn look<K: Keeper>(alloc: Global, k: &mut K, sid: u64, inode: u64) -> Result
 {
     let file = file(alloc, k, sid, inode)?;
     Ok(file.length)
+}
+
+/// The length of a file in bytes and the records of one of its windows, as the caller's session sees them now. A window
+/// without a list has no records.
+///
+/// # Errors
+///
+/// Stale where the session is gone, or the inode isn't a file's. Bad for a malformed row. Failed if the keeper failed. Memory.
+pub fn look_at<K: Keeper>(
+    alloc: Global,
+    k: &mut K,
+    who: &Who,
+    inode: u64,
+    window: u32,
+) -> Result<View, TxFault>
+    ensures { LooksAt who.entry.now.sid inode window (K.seen k.old) (K.seen k.new) result }
+{
+    let file = file(alloc, k, who.sid, inode)?;
+    let list = records(alloc, k, inode, window)?;
+    Ok(View {
+        length: file.length,
+        list,
+    })
 }
 
 /// The row of a file, which a session is there to see.
@@ -36,4 +69,23 @@ pub(crate) fn file<K: Keeper>(
         return Err(TxFault::Refused(Fault::Stale(Gone::Node(inode))));
     }
     Ok(node)
+}
+
+/// The records of a window of a file, none where there is no list.
+///
+/// # Errors
+///
+/// Bad for a malformed row. Failed if the keeper failed. Memory.
+pub(crate) fn records<K: Keeper>(
+    alloc: Global,
+    k: &mut K,
+    inode: u64,
+    window: u32,
+) -> Result<List, TxFault>
+    ensures { HasRecords inode window (K.seen k.old) (K.seen k.new) result }
+{
+    match read_list(alloc, k, inode, window)? {
+        Some(list) => Ok(list),
+        None => Ok(List::new(alloc)),
+    }
 }

@@ -1,0 +1,188 @@
+-- How a commit of a record ends: each of its exits, by how it began, what was read and what was changed.
+use Rattle.std.proofs.Common.{◌≡◌, ℕ, ◌+◌, ◌*◌, ◌<◌, ◌≤◌, ◌^◌, true, inl, List, [], ◌∷◌, ◌++◌, Option, Some, Result, Ok, Err, sym, ap, subst, ◌∙◌, arith}
+use Rattle.std.specs.Prelude.{◌&&◌, not, max, IsTrue}
+use Rattle.std.specs.List.{AllByRecursion, list_all}
+use Rattle.std.specs.Option.{option_map}
+use Rattle.jv_model.specs.declared.fault.Down.{Down}
+use Rattle.jv_model.specs.declared.fault.Fault.{Fault}
+use Rattle.jv_model.specs.declared.fault.RowFault.TheVariants.{Bad, Failed, Memory}
+use Rattle.jv_model.specs.declared.fault.TxFault.{TxFault}
+use Rattle.jv_model.specs.declared.fault.TxFault.TheVariants.{Refused, Moved, Rows as OfRows}
+use Rattle.jv_model.specs.declared.limits.TheConstants.{FILE_END, WINDOW}
+use Rattle.jv_model.specs.declared.op.Reply.TheVariants.{Done}
+use Rattle.jv_model.specs.declared.row.Row.TheVariants.{OfList, OfSlice}
+use Rattle.jv_model.specs.declared.row.SliceRow.{SliceRow}
+use Rattle.jv_model.specs.declared.slice.Rec.{Rec}
+use Rattle.jv_model.specs.FiniteMap.{alter}
+use Rattle.jv_model.specs.blocks.Slices.{IsRecord, is_record}
+use Rattle.jv_model.specs.rows.RowFaults.{row_fault}
+use Rattle.jv_model.specs.rows.RowGrammar.{is_list}
+use Rattle.jv_model.specs.rows.RowFields.{is_nil}
+use Rattle.jv_model.specs.rows.RowKeys.{RowMap}
+use Rattle.jv_model.specs.rows.RowPlaces.{list_key, slice_key}
+use Rattle.jv_model.specs.tree.Attempt.{◌>>=◌}
+use Rattle.jv_model.specs.tree.Caller.{done}
+use Rattle.jv_model.specs.tree.Tree.{Tree}
+use Rattle.jv_outside.specs.declared.batch.Change.{Change}
+use Rattle.jv_outside.specs.Rows.{applied}
+use Rattle.jv_outside.specs.Store.{Store, Commits}
+use Rattle.jv_rows.specs.Drafts.{drafted, cell}
+use Rattle.jv_rows.specs.Transactions.{FaultCause, Agrees, Looks}
+use Rattle.jv_rows.proofs.TransactionLaws.{Fails, FailsBy, of_known, fails-memory, fails-commit}
+use Rattle.jv_volume.specs.TypedRows.{Rows, typed}
+use Rattle.jv_volume.specs.Views.{row_in, node_in, node_row_at, slice_row_at, lists_of}
+use Rattle.jv_volume.specs.Whole.{Whole}
+use Rattle.jv_contents.specs.Bytes.{Told, bytes_of, tree_with}
+use Rattle.jv_contents.specs.Counts.{KeepsOthers}
+use Rattle.jv_data.specs.Changing.{Makes, Never, Changed, LandsChanged}
+use Rattle.jv_data.specs.Committing.{BeginsCommit, Begun, commit_of}
+use Rattle.jv_data.specs.Resizing.{rows_sized}
+use Rattle.jv_data.specs.Records.{HasRecords, IsNew, CommitsRecord, committing}
+use Rattle.jv_data.proofs.CommitLaws.{RefusedBy, began, commit-unbegun, commit-reads, commit-fails}
+use Rattle.jv_data.proofs.RecordedLaws.{last, whole-last, others-last, size-last, tree-last}
+
+-- a reading, and then something that fails
+pub fails-after : {A : Type 0} (before middle after : Store) (x : A) (fault : TxFault) → (act : Tree → Result A Fault) → Looks before middle (Ok x) act
+    → Fails middle after fault → Fails before after fault
+fails-after before middle after x fault act l f = record {
+  rows_are = f.rows_are ∙ l.rows_are;
+  opened_at = f.opened_at ∙ l.opened_at;
+  cause = subst (λ n. FaultCause n after.faults fault) l.counts f.cause;
+  why = subst (λ o. FailsBy o fault) l.rows_are f.why;
+}
+
+-- a list with one more record is one that the grammar allows
+pub is_list-push : (list : List Rec) (rec : Rec) → AllByRecursion IsRecord list → IsRecord rec → IsTrue (is_list (list ++ rec ∷ []))
+is_list-push list rec all is = some list (records list all)
+  where
+    records : (list : List Rec) → AllByRecursion IsRecord list → list_all is_record (list ++ rec ∷ []) ≡ true
+    records [] all = ap (λ b. b && true) is
+    records (r ∷ rs) all = (λ i. all.0 i && records rs all.1 i)
+
+    some : (list : List Rec) → list_all is_record (list ++ rec ∷ []) ≡ true → (not (is_nil (list ++ rec ∷ [])) && list_all is_record (list ++ rec ∷ [])) ≡ true
+    some [] e = e
+    some (r ∷ rs) e = e
+
+module _ (sid now inode window : ℕ) (rec : Rec) (started : ℕ) where
+  abbrev from : ℕ
+  from = window * WINDOW + rec.pos
+
+  abbrev end : ℕ
+  end = from + rec.len
+
+  abbrev makes : Makes
+  makes = record { own = rec.id; size = rec.size; more = 1 }
+
+  -- a beginning by the numbers of the arguments
+  pub at_end : (before middle : Store) (changes : List Change) (result : Result (Unit {0}) TxFault) (w p l : ℕ) → w ≡ window → p ≡ rec.pos → l ≡ rec.len
+      → BeginsCommit sid now inode (w * WINDOW + p + l) started before middle changes result
+      → BeginsCommit sid now inode end started before middle changes result
+  at_end before middle changes result w p l w_is p_is l_is b =
+      subst (λ (n : ℕ). BeginsCommit sid now inode n started before middle changes result) (λ i. w_is i * WINDOW + p_is i + l_is i) b
+
+  -- ---- one that is refused
+
+  lands_refused : (fault : TxFault) (known : RowMap) (after : Option RowMap) (told : Told) (bytes : List ℕ)
+      → Agrees {A = Tree} (Err fault) (commit_of sid inode from bytes started now (tree_with told (typed known)))
+      → LandsChanged {A = Unit {0}} makes Never known after told (λ unit. Done) (committing sid inode from bytes started now) (Err fault)
+  lands_refused (Refused fault) known after told bytes h = inl (ap (λ r. r >>= (λ left. done left)) h)
+  lands_refused (Moved list) known after told bytes h = h
+  lands_refused (OfRows (Bad at bad)) known after told bytes h = h
+  lands_refused (OfRows Failed) known after told bytes h = tt
+  lands_refused (OfRows Memory) known after told bytes h = tt
+
+  pub record-refused : (before after : Store) (fault : TxFault) → RefusedBy sid now inode end started before after fault
+      → CommitsRecord sid now inode window rec started before after (Err fault)
+  record-refused before after fault looks bytes =
+      let any = looks end [] (omega arith) in
+      record {
+        opened_at = any.opened_at;
+        counts = any.counts;
+        undone = any.rows_are;
+        lands = λ known is whole told new. lands_refused fault known after.rows told bytes
+            ((looks from bytes (ap (λ n. from + n) new.shows.long)).agrees known is whole (bytes_of told (typed known)));
+        bad = any.bad;
+      }
+
+  pub record-unbegun : (before after : Store) (changes : List Change) (fault : TxFault)
+      → BeginsCommit sid now inode end started before after changes (Err fault) → CommitsRecord sid now inode window rec started before after (Err fault)
+  record-unbegun before after changes fault b = record-refused before after fault (commit-unbegun sid now inode end started before after changes fault b)
+
+  module _ (before middle : Store) (begun_by : List Change) (b : BeginsCommit sid now inode end started before middle begun_by (Ok tt)) where
+    -- the list wasn't read
+    pub record-unread : (after : Store) (fault : TxFault) → HasRecords inode window middle after (Err fault)
+        → CommitsRecord sid now inode window rec started before after (Err fault)
+    record-unread after fault r = record-refused before after fault (commit-reads sid now inode end started before middle begun_by b after fault r.looks)
+
+    -- what comes after the list was read fails
+    pub record-fails : (read after : Store) (list : List Rec) (fault : TxFault) → HasRecords inode window middle read (Ok list) → Fails read after fault
+        → CommitsRecord sid now inode window rec started before after (Err fault)
+    record-fails read after list fault r f = record-refused before after fault
+        (commit-fails sid now inode end started before middle begun_by b after fault (fails-after middle read after tt fault (λ t. Ok tt) r.looks f))
+
+    pub record-memory : (read : Store) (list : List Rec) → HasRecords inode window middle read (Ok list)
+        → CommitsRecord sid now inode window rec started before read (Err (OfRows Memory))
+    record-memory read list r = record-fails read read list (OfRows Memory) r (fails-memory read)
+
+    pub record-down : (read after : Store) (list : List Rec) (down : Down) (changes : List Change) → HasRecords inode window middle read (Ok list)
+        → Commits read after (Err down) changes → CommitsRecord sid now inode window rec started before after (Err (OfRows (row_fault down)))
+    record-down read after list down changes r commits = record-fails read after list (OfRows (row_fault down)) r (fails-commit read after down changes commits)
+
+  -- ---- one that is made
+
+  module _ (low : window < 2 ^ 32) (is_rec : IsRecord rec) (some : 0 < rec.id) (small : rec.size ≤ WINDOW) (within : end ≤ FILE_END)
+      (before middle read : Store) (begun_by : List Change) (b : BeginsCommit sid now inode end started before middle begun_by (Ok tt))
+      (list : List Rec) (r : HasRecords inode window middle read (Ok list)) where
+    module _ (after : List Rec) (slice : SliceRow) (d1 d2 : List Change) (after_is : after ≡ list ++ rec ∷ []) (slice_is : slice ≡ record { size = rec.size; count = 1 })
+        (one : (known : RowMap) → drafted d1 known ≡ alter (drafted begun_by known) (list_key inode window) (cell OfList (Some after)))
+        (two : (known : RowMap) → drafted d2 known ≡ alter (drafted d1 known) (slice_key rec.id) (cell OfSlice (Some slice))) where
+      module _ (known : RowMap) (is : before.rows ≡ Some known) (whole : Whole (typed known)) where
+        abbrev begun : Begun (typed known) (drafted begun_by known) inode end now
+        begun = b.begun known is
+
+        there : node_row_at (typed known) inode ≡ Some begun.was
+        there = ap (λ o. node_in (row_in o)) begun.there
+
+        list_is : list ≡ lists_of (typed known) inode window
+        list_is = of_known (λ known. list ≡ lists_of (typed known) inode window) middle.rows known ((b.looks end [] (omega arith)).rows_are ∙ is) r.list
+
+        abbrev left : Rows
+        left = last (typed known) inode window low begun.was begun.sized.counters now rec list whole there begun.file begun.sized.there list_is is_rec some small within
+
+        rows_are : drafted d2 known ≡ left
+        rows_are = two known
+            ∙ ap (λ (rows : Rows). alter rows (slice_key rec.id) (cell OfSlice (Some slice)))
+            (one known ∙ ap (λ (rows : Rows). alter rows (list_key inode window) (cell OfList (Some after))) begun.sized.is)
+            ∙ (λ i. alter (alter (rows_sized (typed known) inode begun.was begun.sized.counters (max begun.was.length end) now) (list_key inode window)
+            (cell OfList (Some (after_is i)))) (slice_key rec.id) (cell OfSlice (Some (slice_is i))))
+
+        changed : (told : Told) (bytes : List ℕ) → IsNew rec bytes (typed known) told → (last_rows : Option RowMap) → last_rows ≡ Some (applied d2 known)
+            → Changed makes known last_rows told Done (committing sid inode from bytes started now)
+        unfolding drafted
+        changed told bytes new last_rows stands = record {
+          left = applied d2 known;
+          is = stands;
+          whole = subst Whole (sym rows_are) (whole-last (typed known) inode window low begun.was begun.sized.counters now rec list whole there begun.file
+              begun.sized.there list_is is_rec some small within new.unknown new.below);
+          others = subst (KeepsOthers rec.id 1 (typed known)) (sym rows_are) (others-last (typed known) inode window low begun.was begun.sized.counters now rec list
+              whole there begun.file begun.sized.there list_is is_rec some small within new.unknown new.below);
+          size = λ slice here. size-last (typed known) inode window low begun.was begun.sized.counters now rec list whole there begun.file
+              begun.sized.there list_is is_rec some small within slice (ap (λ (rows : Rows). slice_row_at rows rec.id) (sym rows_are) ∙ here);
+          model = ap (λ r. r >>= (λ left. done left)) ((began sid now inode end started before middle begun_by b from bytes (ap (λ n. from + n) new.shows.long)).goes_on
+              known is whole (bytes_of told (typed known)))
+              ∙ ap done (sym (tree-last (typed known) inode window low begun.was begun.sized.counters now rec list whole there begun.file
+              begun.sized.there list_is is_rec some small within told bytes new.shows.long new.shows.each) ∙ ap (tree_with told) (sym rows_are));
+        }
+
+      -- all is committed
+      pub record-done : (last_store : Store) → Commits read last_store (Ok tt) d2 → CommitsRecord sid now inode window rec started before last_store (Ok tt)
+      record-done last_store commits bytes =
+          let so_far = began sid now inode end started before middle begun_by b end [] (omega arith) in
+          record {
+            opened_at = commits.opened_at ∙ r.looks.opened_at ∙ so_far.opened_at;
+            counts = commits.calm ∙ r.looks.counts ∙ so_far.calm;
+            undone = tt;
+            lands = λ known is whole told new. changed known is whole told bytes new last_store.rows
+                (commits.rows_are ∙ ap (option_map (applied d2)) (r.looks.rows_are ∙ so_far.rows_are ∙ is));
+            bad = tt;
+          }

@@ -1,0 +1,34 @@
+//! Numbers for slices.
+ghost use Rattle.jv_data.specs.Records.{TakesNumber};
+
+use jv_model::{Counters, FULL_COUNT, Fault, RowFault, TxFault, Who};
+use jv_outside::Keeper;
+use jv_rows::{Draft, in_session, needed_counters};
+use std::alloc::Global;
+
+/// Returns the number of the next slice, from 1 on, which is then given to no other.
+///
+/// # Errors
+///
+/// Stale where the session is gone; then NoSpace where the number stands at 2^62. Bad for a malformed row, or without bytes
+/// where the counters are absent. Failed if the keeper failed. Memory.
+pub fn next_id<K: Keeper>(alloc: Global, k: &mut K, who: &Who) -> Result<u64, TxFault>
+    ensures { TakesNumber who.entry.now.sid (K.seen k.old) (K.seen k.new) result }
+{
+    in_session(alloc, k, who.sid)?;
+    let mut draft = Draft::new(alloc);
+    let counters = needed_counters(alloc, k, &draft)?;
+    let id = counters.slice;
+    if id >= FULL_COUNT {
+        return Err(TxFault::Refused(Fault::NoSpace));
+    }
+    let after = Counters {
+        slice: id + 1,
+        ..counters
+    };
+    draft.put_counters(&after)?;
+    match draft.commit(k) {
+        Ok(()) => Ok(id),
+        Err(down) => Err(TxFault::Rows(RowFault::from(down))),
+    }
+}

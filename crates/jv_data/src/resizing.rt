@@ -1,0 +1,72 @@
+//! A file of another length: its row, and what it adds to used space.
+ghost use Rattle.std.specs.Prelude.{◌≡◌, [], IsTrue};
+ghost use Rattle.jv_data.specs.Resizing.{Resizes, ResizesFile, paged_space};
+ghost use Rattle.jv_model.specs.rows.RowGrammar.{is_node, is_setting};
+ghost use Rattle.jv_rows.specs.Walks.{HasNodeRow};
+
+use jv_model::{Counters, Fault, Node, SPACE_UNIT, Setting, TxFault};
+use jv_outside::Keeper;
+use jv_rows::{Draft, needed_counters, needed_setting};
+use std::alloc::Global;
+
+/// The space that so many bytes of a file take: whole units, at least one.
+fn paged(length: u64) -> u128
+    ensures { result ≡ paged_space length }
+{
+    let unit = u128::from(SPACE_UNIT);
+    unit.max(u128::from(length).div_ceil(unit) * unit)
+}
+
+/// The counters once a file of one length has another, or `None` where the volume has no room for that.
+fn resized(setting: &Setting, counters: &Counters, before: u64, after: u64) -> Option<Counters>
+    requires { IsTrue (is_setting setting.now) }
+    ensures { Resizes setting.now counters.now before after result }
+{
+    let used = u128::from(counters.used_space);
+    let total = (used + paged(after)).saturating_sub(paged(before));
+    if total > setting.space_limit() && total > used {
+        return None;
+    }
+    Some(Counters {
+        used_space: total as u64,
+        ..*counters
+    })
+}
+
+/// Adds to a new draft that a file has a length in bytes, and both times at a moment in seconds, with what that makes of
+/// used space. After an error the draft is of no use.
+///
+/// # Errors
+///
+/// NoSpace where the volume has no room. Bad for a malformed row, or without bytes where setting or counters are absent.
+/// Failed if the keeper failed. Memory.
+pub(crate) fn resize<K: Keeper>(
+    alloc: Global,
+    k: &mut K,
+    draft: &mut Draft,
+    inode: u64,
+    was: Node,
+    length: u64,
+    now: u64,
+) -> Result<(), TxFault>
+    requires new { draft.old ≡ [] }
+    requires there { HasNodeRow (K.seen k.old) inode was }
+    requires file { was.kind ≡ 1 }
+    requires allowed { IsTrue (is_node was) }
+    ensures { ResizesFile inode was length now (K.seen k.old) (K.seen k.new) draft.new result }
+{
+    let setting = needed_setting(alloc, k, draft)?;
+    let counters = needed_counters(alloc, k, draft)?;
+    let Some(after) = resized(&setting, &counters, was.length, length) else {
+        return Err(TxFault::Refused(Fault::NoSpace));
+    };
+    let node = Node {
+        length,
+        mtime: now,
+        ctime: now,
+        ..was
+    };
+    draft.put_node(inode, &node)?;
+    draft.put_counters(&after)?;
+    Ok(())
+}
