@@ -4,6 +4,11 @@ pub mod Rows
 pub mod Stream
 pub mod Ticks
 pub mod Store
+pub mod Holding
+pub mod Parcels
+pub mod Objects
+pub mod Carriage
+pub mod Blocks
 pub mod Calls
 pub mod InMemory
 pub mod Stored

@@ -1,0 +1,16 @@
+-- What a parcel stands for.
+use Rattle.std.specs.Prelude.{◌≡◌, ℕ, List}
+use Rattle.jv_outside.specs.declared.parcel.Load.{Load}
+use Rattle.jv_outside.specs.declared.parcel.Load.TheVariants.{Held, Placed}
+use Rattle.jv_outside.specs.declared.parcel.Parcel.{Parcel}
+
+-- A load that holds bytes carries those alone. What a file has isn't known: a load that names one may carry any.
+abbrev pub Carries : Load → List ℕ → Type 0
+Carries (Held held) bytes = held ≡ bytes
+Carries (Placed place) bytes = Unit {0}
+
+-- a parcel for these bytes, under this name and moment
+pub record StandsFor (parcel : Parcel) (name bytes : List ℕ) (at : ℕ) : Type 0 where
+  pub named : parcel.name ≡ name
+  pub dated : parcel.at ≡ at
+  pub carries : Carries parcel.load bytes

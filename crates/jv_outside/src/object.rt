@@ -1,0 +1,23 @@
+//! What a depot and a shelf hold, as a list that one in memory is made from.
+use jv_model::{Bytes, ClientId, Moment, Name, Sequence};
+
+/// An object of a depot.
+#[derive(Debug, Drop, PartialEq, Eq)]
+pub struct Object {
+    pub name: Name,
+    pub bytes: Bytes,
+    /// When it was published.
+    pub at: Moment,
+}
+
+pub type ObjectList = Sequence<Object>;
+
+/// A block that a client has staged on a shelf.
+#[derive(Debug, Drop, PartialEq, Eq)]
+pub struct Staged {
+    pub client: ClientId,
+    pub name: Name,
+    pub bytes: Bytes,
+}
+
+pub type StagedList = Sequence<Staged>;

@@ -1,0 +1,10 @@
+-- The definitions that contracts cite.
+pub mod Staging
+pub mod YardValue
+pub mod Refusals
+pub mod Starting
+pub mod Pages
+pub mod BlockCalls
+pub mod Contents
+pub mod Later
+pub mod Doors

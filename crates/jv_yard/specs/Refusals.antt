@@ -1,0 +1,24 @@
+-- What an error of a yard's call says.
+use Rattle.std.specs.Prelude.{◌≡◌}
+use Rattle.jv_model.specs.declared.fault.Down.{Down}
+use Rattle.jv_model.specs.declared.fault.Down.TheVariants.{Failed, Memory}
+use Rattle.jv_outside.specs.Holding.{FailsToHold}
+use Rattle.jv_yard.specs.declared.faults.YardFault.{YardFault}
+use Rattle.jv_yard.specs.declared.faults.YardFault.TheVariants.{Depot, Shelf, Memory as NoMemory}
+use Rattle.jv_yard.specs.YardValue.{YardValue}
+
+-- what an error of the depot is to the yard
+abbrev pub depot_fault_of : Down → YardFault
+depot_fault_of Failed = Depot
+depot_fault_of Memory = NoMemory
+
+-- and one of the shelf
+abbrev pub shelf_fault_of : Down → YardFault
+shelf_fault_of Failed = Shelf
+shelf_fault_of Memory = NoMemory
+
+-- The named device failed and its count rose, or memory ran out. Nothing else has changed.
+abbrev pub Refuses : YardValue → YardValue → YardFault → Type 0
+Refuses before after Depot = FailsToHold before.depot after.depot Failed × (after ≡ record before { depot = after.depot })
+Refuses before after Shelf = FailsToHold before.shelf after.shelf Failed × (after ≡ record before { shelf = after.shelf })
+Refuses before after NoMemory = after ≡ before

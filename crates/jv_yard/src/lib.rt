@@ -1,0 +1,16 @@
+//! Blocks of a volume in its object store and on the disks of its clients: which of them are staged, and what was put where.
+#![tactic(auto)]
+
+mod door;
+mod faults;
+mod finding;
+mod note;
+mod setting;
+mod staging;
+mod yard;
+
+pub use door::{Alone, YardDoor};
+pub use faults::YardFault;
+pub use finding::PAGE;
+pub use note::{MAIN, Note, What};
+pub use yard::{ObservedYard, Yard};
