@@ -2,3 +2,5 @@ pub mod StreamLaws
 pub mod TicksLaws
 pub mod StoredLaws
 pub mod ScanLaws
+pub mod OverlaidLaws
+pub mod ListingLaws

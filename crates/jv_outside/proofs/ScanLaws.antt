@@ -1,5 +1,5 @@
 -- A scan of the tree finds the rows of the table after the key.
-use Rattle.std.proofs.Common.{◌≡◌, ◌≢◌, ℕ, zero, suc, ◌-◌, ◌<◌, ◌≤◌, Bool, true, false, cond, if◌then◌else◌, ◌&&◌, ◌==◌, T, List, [], ◌∷◌, ◌++◌, length, length-append, filter, take, take_while, Option, None, Some, Result, IfOk, refl, sym, ap, subst, ◌∙◌, append_assoc, append-nil, eqb-true, ne_eqb, arith}
+use Rattle.std.proofs.Common.{◌≡◌, ◌≢◌, ℕ, suc, ◌-◌, ◌<◌, ◌≤◌, Bool, true, false, cond, if◌then◌else◌, ◌&&◌, ◌==◌, T, List, [], ◌∷◌, ◌++◌, length, length-append, filter, take, take_while, Option, None, Some, Result, IfOk, refl, sym, ap, subst, ◌∙◌, append_assoc, eqb-true, ne_eqb, arith}
 use Rattle.std.proofs.lemmas.Bool.{eqb-false}
 use Rattle.std.proofs.lemmas.List.Sums.{take_while-cons}
 use Rattle.std.specs.declared.cmp.Ordering.{Ordering}
@@ -20,44 +20,38 @@ use Rattle.jv_model.proofs.FiniteMapLaws.{get-map_of, same_map}
 use Rattle.jv_outside.specs.Rows.{is_after}
 use Rattle.jv_outside.specs.Stored.{scan_start}
 
--- ---- what a loop has found, and what it finds in the rest
+-- ---- what a loop has found, and the first of the rest up to `n` in all
 
-take_nothing : {A : Type 0} (n : ℕ) → take {A = A} n [] ≡ []
-take_nothing zero = refl
-take_nothing (suc n) = refl
+module _ {A : Type 0} (n : ℕ) where
+  abbrev pub glimpse : List A → List A → List A
+  glimpse found rest = found ++ take (n - length found) rest
+
+  glimpse-more : (found : List A) (x : A) (rest : List A) → length found < n → glimpse (found ++ x ∷ []) rest ≡ glimpse found (x ∷ rest)
+  glimpse-more found x rest few =
+      let left : n - length found ≡ suc (n - length (found ++ x ∷ [])) = omega (arith, length-append found (x ∷ [])) in
+      append_assoc found (x ∷ []) _ ∙ ap (λ l. found ++ l) (sym (ap (λ m. take m (x ∷ rest)) left))
+
+  -- the next of the rest is found
+  pub glimpse-next : (found found' rest rest' all : List A) (x y : A) → rest ≡ x ∷ rest' → found' ≡ found ++ y ∷ [] → y ≡ x
+      → length found < n → glimpse found rest ≡ all → glimpse found' rest' ≡ all
+  glimpse-next found found' rest rest' all x y step added copy few before =
+      (λ i. glimpse (added i) rest') ∙ (λ i. glimpse (found ++ copy i ∷ []) rest') ∙ glimpse-more found x rest' few ∙ ap (glimpse found) (sym step) ∙ before
+
+module _ {A : Type 0} (p : A → Bool) where
+  -- the next one passes
+  pub take_while-passes : (x : A) (xs : List A) → p x ≡ true → take_while p (x ∷ xs) ≡ x ∷ take_while p xs
+  take_while-passes x xs is = take_while-cons p x xs ∙ ap (λ b. cond b (x ∷ take_while p xs) []) is
+
+  -- the next one doesn't pass
+  pub take_while-ends : (x : A) (xs : List A) → p x ≡ false → take_while p (x ∷ xs) ≡ []
+  take_while-ends x xs is = take_while-cons p x xs ∙ ap (λ b. cond b (x ∷ take_while p xs) []) is
 
 module _ {A : Type 0} (p : A → Bool) (n : ℕ) where
-  abbrev pub outlook : List A → List A → List A
-  outlook found rest = found ++ take (n - length found) (take_while p rest)
-
-  pub outlook-more : (found : List A) (x : A) (rest : List A) → length found < n → p x ≡ true → outlook (found ++ x ∷ []) rest ≡ outlook found (x ∷ rest)
-  outlook-more found x rest few is =
-      let left : n - length found ≡ suc (n - length (found ++ x ∷ [])) = omega (arith, length-append found (x ∷ [])) in
-      let passes = take_while-cons p x rest ∙ ap (λ b. cond b (x ∷ take_while p rest) []) is in
-      append_assoc found (x ∷ []) _
-      ∙ ap (λ l. found ++ l) (sym (ap (take (n - length found)) passes ∙ ap (λ m. take m (x ∷ take_while p rest)) left))
-
-  nothing_more : (found rest : List A) → take (n - length found) (take_while p rest) ≡ [] → outlook found rest ≡ found
-  nothing_more found rest h = ap (λ l. found ++ l) h ∙ append-nil found
-
-  pub outlook-other : (found : List A) (x : A) (rest : List A) → p x ≡ false → outlook found (x ∷ rest) ≡ found
-  outlook-other found x rest is =
-      nothing_more found (x ∷ rest)
-      (ap (take (n - length found)) (take_while-cons p x rest ∙ ap (λ b. cond b (x ∷ take_while p rest) []) is) ∙ take_nothing (n - length found))
-
-  pub outlook-full : (found rest : List A) → n ≤ length found → outlook found rest ≡ found
-  outlook-full found rest full =
-      let none : n - length found ≡ 0 = omega arith in
-      nothing_more found rest (ap (λ m. take m (take_while p rest)) none)
-
-  pub outlook-end : (found : List A) → outlook found [] ≡ found
-  outlook-end found = nothing_more found [] (take_nothing (n - length found))
-
-  -- the next row of the rest is found
-  pub outlook-next : (found found' rest rest' all : List A) (x y : A) → rest ≡ x ∷ rest' → found' ≡ found ++ y ∷ [] → y ≡ x
-      → length found < n → p x ≡ true → outlook found rest ≡ all → outlook found' rest' ≡ all
-  outlook-next found found' rest rest' all x y step added copy few passes before =
-      (λ i. outlook (added i) rest') ∙ (λ i. outlook (found ++ copy i ∷ []) rest') ∙ outlook-more found x rest' few passes ∙ ap (outlook found) (sym step) ∙ before
+  -- the next of the rest is found, of which those up to one that doesn't pass are looked at
+  pub glimpse-next_while : (found found' rest rest' all : List A) (x y : A) → rest ≡ x ∷ rest' → found' ≡ found ++ y ∷ [] → y ≡ x
+      → length found < n → p x ≡ true → glimpse n found (take_while p rest) ≡ all → glimpse n found' (take_while p rest') ≡ all
+  glimpse-next_while found found' rest rest' all x y step added copy few is before =
+      glimpse-next n found found' (take_while p rest) (take_while p rest') all x y (ap (take_while p) step ∙ take_while-passes p x rest' is) added copy few before
 
 -- ---- a tree in order as a finite map
 
@@ -109,14 +103,14 @@ module _ {K X : Type 0} (R : K → K → Ordering) (f p g : K → Bool) (same : 
       take_while-cons (λ x. p x.0) e _ ∙ ap (λ b. cond b (e ∷ take_while (λ x. p x.0) (from_start es)) []) passes
       ∙ sym (none_passes g R e.0 es (λ y less. same y ∙ ap (λ b. b && f y) (later e.0 y is passes less)) above)
 
-  front : (es : List (K × X)) → IsStrictlySortedBy R (keys_of es) → take_while (λ e. p e.0) (from_start es) ≡ passing es
+  pub front : (es : List (K × X)) → IsStrictlySortedBy R (keys_of es) → take_while (λ e. p e.0) (from_start es) ≡ passing es
   unfolding IsStrictlySortedBy
   front [] h = refl
   front (e ∷ es) h =
       front_at e es (f e.0) (p e.0) refl refl h.0 (front es h.1) ∙ ap (λ b. cond b (e ∷ passing es) (passing es)) (sym (same e.0))
 
 -- a key is of no earlier table than one that isn't after it
-table_rises : (x y : ℕ) (o rest : Ordering) → o ≡ nat_cmp x y → is_le (ordering_then o rest) ≡ true → x ≤ y
+pub table_rises : (x y : ℕ) (o rest : Ordering) → o ≡ nat_cmp x y → is_le (ordering_then o rest) ≡ true → x ≤ y
 table_rises x y Less rest e h =
     let l : x < y = ranked x y Less e in
     omega arith
@@ -130,7 +124,7 @@ abbrev first_of : ℕ → RowKey
 first_of tab = record { tab = tab; a = 0; b = [] }
 
 -- no bytes are before other bytes, and no number below 0
-least_bytes : (bytes : List ℕ) → is_le (slice_cmp nat_cmp [] bytes) ≡ true
+pub least_bytes : (bytes : List ℕ) → is_le (slice_cmp nat_cmp [] bytes) ≡ true
 least_bytes [] = refl
 least_bytes (b ∷ bytes) = refl
 
@@ -156,7 +150,7 @@ table_ends tab q y from other less =
     let later : y.tab ≢ tab = omega arith in
     ne_eqb y.tab tab later
 
-and_true : (b : Bool) → (b && true) ≡ b
+pub and_true : (b : Bool) → (b && true) ≡ b
 and_true true = refl
 and_true false = refl
 
@@ -169,7 +163,7 @@ and_both : (a b c : Bool) → (a ≡ true → b ≡ true) → (a ≡ true → c 
 and_both true b c h k = h refl ∙ sym (ap (λ x. x && true) (k refl))
 and_both false b c h k = refl
 
-lt_is : (o : Ordering) → is_lt o ≡ true → o ≡ Less
+pub lt_is : (o : Ordering) → is_lt o ≡ true → o ≡ Less
 lt_is Less h = refl
 lt_is Equal h = cc
 lt_is Greater h = cc

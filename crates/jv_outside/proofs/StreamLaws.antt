@@ -1,8 +1,8 @@
 -- What several writes in a row do to the bytes of a sink.
-use Rattle.std.proofs.Common.{◌≡◌, ℕ, ◌+◌, ◌-◌, List, [], ◌++◌, length, take, drop, Option, Some, None, sym, ap, subst, ◌∙◌, append_assoc, append-nil, arith}
+use Rattle.std.proofs.Common.{◌≡◌, ℕ, ◌+◌, ◌-◌, List, [], ◌++◌, length, take, drop, Option, Some, None, sym, ap, subst, ◌∙◌, append_assoc, append-nil}
 use Rattle.std.proofs.Math.Seq.{take-add}
 use Rattle.std.proofs.lemmas.List.{take_rest}
-use Rattle.jv_outside.specs.Stream.{Stream, Gains}
+use Rattle.jv_outside.specs.Stream.{Gains}
 
 -- nothing is gained
 pub Gains-nil : (a : Option (List ℕ)) → Gains a a []

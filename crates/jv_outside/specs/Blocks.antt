@@ -1,13 +1,16 @@
 -- What a shelf holds, and what its calls do to that.
 use Rattle.std.specs.Prelude.{◌≡◌, ℕ, ◌==◌, ◌&&◌, List, filter, map, take, Option}
+use Rattle.std.specs.Coded.{Coded, coded×, coded_list, coded_ℕ}
 use Rattle.std.proofs.Common.{refl, sym, subst, T}
 use Rattle.std.specs.declared.cmp.Ordering.{Ordering}
 use Rattle.std.specs.declared.cmp.Ordering.TheVariants.{Less, Equal, Greater}
 use Rattle.std.specs.Ordering.{nat_cmp, ordering_then, is_eq}
 use Rattle.std.specs.Cmp.{IsTotalOrder, nat_cmp_total, on_total, then_total}
 use Rattle.std.specs.Cmp.Lexicographic.{slice_cmp, nat_list_cmp_total}
-use Rattle.jv_model.specs.FiniteMap.{KeyOrder, Map, number_key, text_key, get, insert, remove}
+use Rattle.jv_model.specs.FiniteMap.{KeyOrder, Map, number_key, text_key, empty_map, get, insert, remove, map_code}
+use Rattle.jv_outside.specs.declared.object.Staged.{Staged}
 use Rattle.jv_outside.specs.Objects.{is_later}
+use Rattle.jv_outside.specs.Overlaid.{overlaid}
 
 -- client and name go by client, then by the name's bytes
 abbrev pub staged_cmp : ℕ × List ℕ → ℕ × List ℕ → Ordering
@@ -36,6 +39,20 @@ staged_key = record { cmp = staged_cmp; total = staged_cmp_total; same = staged_
 -- staged blocks: the bytes at each client and name, in the order of the clients, and then of the names' bytes
 abbrev pub StagedMap : Type 0
 StagedMap = Map staged_key (List ℕ)
+
+abbrev pub staged_map_code : Coded StagedMap
+staged_map_code = map_code (coded× coded_ℕ (coded_list coded_ℕ)) (coded_list coded_ℕ)
+
+-- the client and the name of a block
+abbrev pub key_of : Staged → ℕ × List ℕ
+key_of block = (block.client, block.name)
+
+abbrev pub bytes_of : Staged → List ℕ
+bytes_of block = block.bytes
+
+-- staged blocks in any order as a map, where the first of one client and name stands
+abbrev pub staged_map : List Staged → StagedMap
+staged_map blocks = overlaid key_of bytes_of blocks empty_map
 
 -- the bytes that a client has at a name
 abbrev pub staged_at : ℕ → List ℕ → StagedMap → Option (List ℕ)

@@ -1,5 +1,5 @@
 -- Which calls of a device in memory are to fail, and what is counted of them.
-use Rattle.std.specs.Prelude.{ℕ, ◌+◌, ◌-◌, ◌^◌, ◌==◌, min, Bool, if◌then◌else◌}
+use Rattle.std.specs.Prelude.{ℕ, ◌==◌, Bool, if◌then◌else◌}
 use Rattle.std.specs.List.{list_any}
 use Rattle.jv_model.specs.Counts.{counted}
 use Rattle.jv_outside.specs.declared.calls.Fails.{Fails}

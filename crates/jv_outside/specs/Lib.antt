@@ -5,6 +5,7 @@ pub mod Stream
 pub mod Ticks
 pub mod Store
 pub mod Holding
+pub mod Overlaid
 pub mod Parcels
 pub mod Objects
 pub mod Carriage
@@ -12,3 +13,5 @@ pub mod Blocks
 pub mod Calls
 pub mod InMemory
 pub mod Stored
+pub mod StoredObjects
+pub mod StoredBlocks

@@ -2,6 +2,7 @@
 #![tactic(auto)]
 
 mod batch;
+mod block_store;
 mod calls;
 mod carrier;
 mod clock;
@@ -9,11 +10,15 @@ mod counts;
 mod depot;
 mod keeper;
 mod law;
+mod mem_carrier;
 mod mem_clock;
+mod mem_depot;
 mod mem_keeper;
+mod mem_shelf;
 mod mem_sink;
 mod mem_source;
 mod object;
+mod object_store;
 mod parcel;
 mod shelf;
 mod sink;
@@ -28,8 +33,11 @@ pub use clock::Clock;
 pub use depot::Depot;
 pub use keeper::Keeper;
 pub use law::{still_count_is_no_failure, still_count_is_ok};
+pub use mem_carrier::{MemCarrier, NeverCarrier};
 pub use mem_clock::{MemClock, NeverClock};
+pub use mem_depot::{MemDepot, NeverDepot};
 pub use mem_keeper::{MemKeeper, NeverKeeper};
+pub use mem_shelf::{MemShelf, NeverShelf};
 pub use mem_sink::{MemSink, NeverSink};
 pub use mem_source::{MemSource, NeverSource};
 pub use object::{Object, ObjectList, Staged, StagedList};

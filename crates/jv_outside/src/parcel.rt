@@ -1,3 +1,6 @@
+ghost use Rattle.std.specs.Prelude.{◌≡◌, IsTrue, IfOk, IfErr};
+
+use crate::object::Object;
 use jv_model::{Bytes, Moment, Name, Text};
 
 /// The bytes that a parcel stands for, or where they are.
@@ -15,4 +18,40 @@ pub struct Parcel {
     pub name: Name,
     pub at: Moment,
     pub load: Load,
+}
+
+impl Parcel {
+    ghost use Rattle.jv_outside.specs.Parcels.{is_placed, parcel_of};
+
+    /// The object that the parcel stands for, or the parcel again where its bytes are placed.
+    pub(crate) fn into_object(self) -> Result<Object, Parcel>
+        ensures ok { IfOk result (λ object. parcel_of object ≡ self) }
+        ensures same { IfErr result (λ parcel. parcel ≡ self) }
+        ensures placed { IfErr result (λ parcel. IsTrue (is_placed self.load)) }
+    {
+        let Parcel { name, at, load } = self;
+        match load {
+            Load::Held(bytes) => Ok(Object { name, bytes, at }),
+            Load::Placed(place) => Err(Parcel {
+                name,
+                at,
+                load: Load::Placed(place),
+            }),
+        }
+    }
+}
+
+impl Object {
+    ghost use Rattle.jv_outside.specs.Parcels.{parcel_of};
+
+    /// The parcel that holds the object's bytes.
+    pub(crate) fn into_parcel(self) -> Parcel
+        ensures { result ≡ parcel_of self }
+    {
+        Parcel {
+            name: self.name,
+            at: self.at,
+            load: Load::Held(self.bytes),
+        }
+    }
 }

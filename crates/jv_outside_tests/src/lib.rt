@@ -4,4 +4,6 @@
 #[cfg(test)]
 mod in_memory;
 #[cfg(test)]
+mod of_blocks;
+#[cfg(test)]
 mod over_std;

@@ -1,0 +1,160 @@
+//! Objects in memory, in the order of their names.
+ghost use Rattle.std.specs.Prelude.{◌≡◌, [], map, take, IfOk, IfErr, OnOk, OnErr};
+ghost use Rattle.std.specs.Option.{option_copied};
+ghost use Rattle.std.specs.Range.Bound.{bound_map};
+ghost use Rattle.jv_model.specs.declared.fault.Down.TheVariants.{Memory};
+ghost use Rattle.jv_model.specs.FiniteMap.{map_of, text_key};
+ghost use Rattle.jv_outside.specs.Objects.{as_seen, bytes_at, object_map, seen_after, with_object, without};
+ghost use Rattle.jv_outside.specs.Parcels.{parcel_of};
+ghost use Rattle.jv_outside.specs.StoredObjects.{list_start, objects_in};
+
+use crate::object::{Object, ObjectList};
+use crate::parcel::Parcel;
+use jv_model::{Bytes, Down, Moment, Name, Seen, SeenList, Sequence, copied, push_in_room};
+use std::alloc::{AllocError, Global};
+use std::collections::BTreeMap;
+use std::collections::btree_map::Range;
+use std::ops::Bound;
+
+/// Objects in the order of their names. Those that aren't in order yet are brought there by the next call.
+#[derive(Debug, Drop)]
+pub(crate) struct ObjectStore {
+    sorted: BTreeMap<Name, (Bytes, Moment)>,
+    // Objects that aren't in order yet. Of objects with one name the first stands, and before one in order.
+    listed: Vec<Object>,
+    alloc: Global,
+}
+
+impl ObjectStore {
+    /// These objects, of which the first of one name stands. Takes no memory.
+    pub(crate) fn new(alloc: Global, objects: ObjectList) -> ObjectStore
+        ensures { objects_in result ≡ object_map objects }
+    {
+        ObjectStore {
+            sorted: BTreeMap::new(alloc),
+            listed: objects.into_vec(),
+            alloc,
+        }
+    }
+
+    /// The bytes of an object.
+    pub(crate) fn get(&mut self, name: &Name) -> Result<Option<Bytes>, AllocError>
+        ensures same { objects_in self.new ≡ objects_in self.old }
+        ensures value { IfOk result (λ value. value ≡ bytes_at name.now (objects_in self.old)) }
+    {
+        self.settle()?;
+        match self.sorted.get(name) {
+            Some(object) => Ok(Some(copied(self.alloc, object.0.as_slice())?)),
+            None => Ok(None),
+        }
+    }
+
+    /// Puts an object at its name. Out of memory, nothing has changed, and it returns the object.
+    fn put(&mut self, object: Object) -> Result<(), Object>
+        ensures ok { OnOk result (objects_in self.new
+            ≡ with_object object.name object.bytes object.at (objects_in self.old)) }
+        ensures err { OnErr result (objects_in self.new ≡ objects_in self.old) }
+        ensures back { IfErr result (λ refused. refused ≡ object) }
+    {
+        match self.settle() {
+            Ok(()) => insert(&mut self.sorted, object),
+            Err(_) => Err(object),
+        }
+    }
+
+    /// Publishes an object. Out of memory, nothing has changed, and it returns the object's parcel.
+    pub(crate) fn publish(&mut self, object: Object) -> Result<(), (Parcel, Down)>
+        ensures ok { OnOk result (objects_in self.new
+            ≡ with_object object.name object.bytes object.at (objects_in self.old)) }
+        ensures err { OnErr result (objects_in self.new ≡ objects_in self.old) }
+        ensures back { IfErr result (λ refused. refused ≡ (parcel_of object, Memory)) }
+    {
+        match self.put(object) {
+            Ok(()) => Ok(()),
+            Err(object) => Err((object.into_parcel(), Down::Memory)),
+        }
+    }
+
+    /// Removes an object. Out of memory, nothing has changed.
+    pub(crate) fn remove(&mut self, name: &Name) -> Result<(), AllocError>
+        ensures ok { OnOk result (objects_in self.new ≡ without name.now (objects_in self.old)) }
+        ensures err { OnErr result (objects_in self.new ≡ objects_in self.old) }
+    {
+        self.settle()?;
+        self.sorted.remove(name);
+        Ok(())
+    }
+
+    /// The first `n` objects after a name, or from the first on, in the order of their names.
+    pub(crate) fn list(&mut self, after: Option<&Name>, n: u32) -> Result<SeenList, AllocError>
+        ensures same { objects_in self.new ≡ objects_in self.old }
+        ensures found { IfOk result (λ found.
+            found ≡ seen_after (option_copied after.entry) n (objects_in self.old)) }
+    {
+        self.settle()?;
+        let objects = self.sorted.range((start(after), Bound::Unbounded));
+        seen_of(self.alloc, objects, n)
+    }
+
+    /// Brings the listed objects into order. Out of memory, some of them wait still.
+    fn settle(&mut self) -> Result<(), AllocError>
+        ensures same { objects_in self.new ≡ objects_in self.old }
+        ensures settled { OnOk result (self.new.listed.items ≡ []) }
+    {
+        while let Some(object) = self.listed.pop() {
+            if let Err(refused) = insert(&mut self.sorted, object) {
+                push_in_room(&mut self.listed, refused);
+                return Err(AllocError);
+            }
+        }
+        Ok(())
+    }
+}
+
+/// Puts an object among objects in order. Out of memory, nothing has changed, and it returns the object.
+fn insert(sorted: &mut BTreeMap<Name, (Bytes, Moment)>, object: Object) -> Result<(), Object>
+    ensures ok { OnOk result (map_of {order = text_key} sorted.new.entries
+        ≡ with_object object.name object.bytes object.at (map_of sorted.old.entries)) }
+    ensures err { OnErr result (sorted.new.entries ≡ sorted.old.entries) }
+    ensures back { IfErr result (λ refused. refused ≡ object) }
+{
+    match sorted.insert(object.name, (object.bytes, object.at)) {
+        Ok(_) => Ok(()),
+        Err(refused) => {
+            let (name, (bytes, at)) = refused.value;
+            Err(Object { name, bytes, at })
+        }
+    }
+}
+
+/// Where a listing begins.
+fn start(after: Option<&Name>) -> Bound<&Name>
+    ensures { bound_map (λ name. name.now) result ≡ list_start (option_copied after.entry) }
+{
+    match after {
+        Some(last) => Bound::Excluded(last),
+        None => Bound::Unbounded,
+    }
+}
+
+/// What a listing shows of the first `n` of these objects.
+fn seen_of(
+    alloc: Global,
+    objects: Range<'_, Name, (Bytes, Moment)>,
+    n: u32,
+) -> Result<SeenList, AllocError>
+    ensures { IfOk result (λ found. found ≡ take n (map as_seen objects.entry)) }
+{
+    let mut found = Sequence::new(alloc);
+    for (name, object) in objects {
+        if found.len() >= n as usize {
+            break;
+        }
+        found.push(Seen {
+            name: copied(alloc, name.as_slice())?,
+            size: object.0.len() as u64,
+            at: object.1,
+        })?;
+    }
+    Ok(found)
+}
