@@ -8,5 +8,5 @@ use Rattle.jv_shared.specs.Shared.{Known}
 -- The blocks that were put are in the depot, and no other block that there ever was has the slice's number. Its size is known.
 pub record IsFlying (block : ℕ) (rows : Rows) (g : Known) (present : Blocks) (f : Flight) : Type 0 where
   pub ever : InFlight block rows g.blocks f
-  pub present : InFlight block rows present f
+  pub here : InFlight block rows present f
   pub size : g.sizes f.id ≡ length f.bytes
