@@ -1,1 +1,3 @@
--- What holds of what clients share.
+-- What is proved of what clients share.
+pub mod SeenLaws
+pub mod KeepingLaws
