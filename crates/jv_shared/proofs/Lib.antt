@@ -1,3 +1,5 @@
 -- What is proved of what clients share.
+pub mod SettingLaws
 pub mod SeenLaws
 pub mod KeepingLaws
+pub mod StoreLaws

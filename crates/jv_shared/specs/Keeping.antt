@@ -2,10 +2,11 @@
 -- about, 0 where it is about none.
 use Rattle.std.specs.Prelude.{◌≡◌, ◌≢◌, ℕ, ◌<◌, ◌≤◌, List, Some}
 use Rattle.jv_model.specs.declared.slice.BlockId.{BlockId}
+use Rattle.jv_model.specs.tree.Tree.{Tree}
 use Rattle.jv_volume.specs.TypedRows.{Rows}
 use Rattle.jv_volume.specs.Slices.{IsUnknown, next_slice}
 use Rattle.jv_contents.specs.Blocks.{Blocks, Grows}
-use Rattle.jv_shared.specs.Shared.{Known}
+use Rattle.jv_shared.specs.Shared.{HasStore, Known, Shared, present_in, rows_in}
 
 -- More is known later: no block changes, new ones are of the step's own slice, and only a slice that had no number gets a size.
 pub record Learns (own next : ℕ) (before after : Known) : Type 0 where
@@ -23,8 +24,18 @@ pub record KeepsBlocks (own : ℕ) (before after : Blocks) : Type 0 where
   pub grows : Grows before after
   pub only : (b : BlockId) (bytes : List ℕ) → b.id ≢ own → after b ≡ Some bytes → before b ≡ Some bytes
 
--- a step from rows, knowledge and blocks to others
+-- all of that
 pub record Keeps (own : ℕ) (rows rows' : Rows) (g g' : Known) (present present' : Blocks) : Type 0 where
   pub learns : Learns own (next_slice rows) g g'
   pub numbers : KeepsNumbers own rows rows'
   pub blocks : KeepsBlocks own present present'
+
+-- A step on what clients share that leaves all this alone. The volume's setting is the same.
+pub record KeepsShared (own : ℕ) (g g' : Known) (v v' : Shared) : Type 0 where
+  pub setting : v'.yard.setting ≡ v.yard.setting
+  pub keeps : Keeps own (rows_in v) (rows_in v') g g' (present_in v) (present_in v')
+
+-- A step after which the tree is another one's, or still the same.
+pub record Leads (own : ℕ) (t' : Tree) (g g' : Known) (v v' : Shared) : Type 0 where
+  pub store : HasStore t' g' v'
+  pub kept : KeepsShared own g g' v v'

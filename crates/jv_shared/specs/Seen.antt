@@ -9,7 +9,7 @@ use Rattle.jv_volume.specs.TypedRows.{Rows}
 use Rattle.jv_volume.specs.Slices.{next_slice}
 use Rattle.jv_contents.specs.Blocks.{Blocks, IsThere, told_by}
 use Rattle.jv_contents.specs.Bytes.{spot_byte}
-use Rattle.jv_shared.specs.Shared.{Known}
+use Rattle.jv_shared.specs.Shared.{Known, Shared, present_in, rows_in}
 
 -- each block of a slice of this size is there
 abbrev pub SliceIsThere : ℕ → Blocks → ℕ → ℕ → Type 0
@@ -29,3 +29,7 @@ pub record ShowsWindow (block : ℕ) (rows : Rows) (g : Known) (present : Blocks
   pub records : AllByRecursion (IsFound block rows g present) list
   pub bytes : (place : ℕ) → place < WINDOW → window * WINDOW + place < length
       → content.byte (window * WINDOW + place) ≡ spot_byte (told_by block g.blocks) (stored_place list place)
+
+-- the same of what clients share
+abbrev pub Shows : Known → Shared → ℕ → ℕ → List Rec → Content → Type 0
+Shows g v window length list content = ShowsWindow v.yard.setting.block (rows_in v) g (present_in v) window length list content

@@ -1,6 +1,10 @@
 -- What all clients share, and when it is a tree's.
-use Rattle.std.specs.Prelude.{◌≡◌, ◌≢◌, ℕ, ◌&&◌, if◌then◌else◌, is_some, None, Some}
+use Rattle.std.specs.Prelude.{◌≡◌, ◌≢◌, ℕ, ◌&&◌, ◌==◌, if◌then◌else◌, List, is_some, Option, None, Some}
 use Rattle.jv_model.specs.declared.row.SliceRow.{SliceRow}
+use Rattle.jv_model.specs.declared.setting.Setting.{Setting}
+use Rattle.jv_model.specs.declared.slice.BlockId.{BlockId}
+use Rattle.jv_model.specs.FiniteMap.{empty_map}
+use Rattle.jv_model.specs.blocks.Slices.{is_same_block}
 use Rattle.jv_model.specs.rows.RowKeys.{RowMap}
 use Rattle.jv_model.specs.tree.Tree.{Tree}
 use Rattle.jv_outside.specs.Blocks.{StagedMap, staged_at}
@@ -23,10 +27,34 @@ pub record Shared : Type 0 where
   pub yard : YardValue
   pub carrier : Carriage
 
+-- the rows of a keeper, none where they aren't known
+abbrev pub typed_in : Option RowMap → Rows
+typed_in None = empty_map
+typed_in (Some rows) = typed rows
+
+abbrev pub rows_in : Shared → Rows
+rows_in v = typed_in v.keeper.rows
+
+-- the blocks of a depot, none where its objects aren't known
+abbrev pub depot_blocks : Setting → Option ObjectMap → Blocks
+depot_blocks setting None = λ b. None
+depot_blocks setting (Some objects) = blocks_in setting objects
+
+abbrev pub present_in : Shared → Blocks
+present_in v = depot_blocks v.yard.setting v.yard.depot.content
+
 -- What is known for good: the bytes of each block that there ever was, and the size of each slice that has a number.
 pub record Known : Type 0 where
   pub blocks : Blocks
   pub sizes : ℕ → ℕ
+
+-- a block is known too
+abbrev pub with_block : BlockId → List ℕ → Known → Known
+with_block b bytes g = record g { blocks = λ other. if is_same_block b other then Some bytes else g.blocks other }
+
+-- and the size of a slice
+abbrev pub with_size : ℕ → ℕ → Known → Known
+with_size id size g = record g { sizes = λ other. if id == other then size else g.sizes other }
 
 -- rows name each slice with the size that is known
 pub record AreSized (sizes : ℕ → ℕ) (rows : Rows) : Type 0 where
