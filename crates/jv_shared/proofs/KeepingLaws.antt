@@ -5,6 +5,7 @@ use Rattle.std.specs.List.{AllByRecursion}
 use Rattle.std.proofs.lemmas.Bool.{eqb-false}
 use Rattle.std.proofs.lemmas.List.Elements.{All-contains, All-from_recursion}
 use Rattle.jv_model.specs.declared.limits.TheConstants.{WINDOW}
+use Rattle.jv_model.specs.declared.setting.Setting.{Setting}
 use Rattle.jv_model.specs.declared.slice.Rec.{Rec}
 use Rattle.jv_model.specs.declared.slice.Spot.{Spot}
 use Rattle.jv_model.specs.declared.slice.Spot.TheVariants.{Zero, Slice}
@@ -22,10 +23,10 @@ use Rattle.jv_contents.proofs.BlockLaws.{grows-none, grows-then, there-grows, to
 use Rattle.jv_contents.proofs.FlightLaws.{flies-still}
 use Rattle.jv_contents.proofs.PlaceLaws.{record_inside}
 use Rattle.jv_contents.proofs.WholeLaws.{all-mapped}
-use Rattle.jv_shared.specs.Shared.{Known}
+use Rattle.jv_shared.specs.Shared.{Known, Shared, present_in, rows_in}
 use Rattle.jv_shared.specs.Seen.{IsFound, ShowsWindow}
-use Rattle.jv_shared.specs.Flying.{IsFlying}
-use Rattle.jv_shared.specs.Keeping.{Keeps, KeepsBlocks, KeepsNumbers, Learns}
+use Rattle.jv_shared.specs.Flying.{Flies, IsFlying}
+use Rattle.jv_shared.specs.Keeping.{Keeps, KeepsBlocks, KeepsNumbers, KeepsShared, Learns}
 
 -- ---- steps
 
@@ -119,3 +120,20 @@ module _ (own : ℕ) (rows rows' : Rows) (g g' : Known) (present present' : Bloc
 
       unknown : IsUnknown rows' f.id
       unknown = k.numbers.unknown f.id apart flying.ever.unknown
+
+-- ---- what clients share
+
+pub stays-none : (own : ℕ) (g : Known) (v : Shared) → KeepsShared own g g v v
+stays-none own g v = record { setting = refl; keeps = keeps-none own (rows_in v) g (present_in v) }
+
+pub stays-then : (own : ℕ) (g g' g'' : Known) (v v' v'' : Shared) → KeepsShared own g g' v v' → KeepsShared own g' g'' v' v'' → KeepsShared own g g'' v v''
+stays-then own g g' g'' v v' v'' k l = record {
+  setting = l.setting ∙ k.setting;
+  keeps = keeps-then own (rows_in v) (rows_in v') (rows_in v'') g g' g'' (present_in v) (present_in v') (present_in v'') k.keeps l.keeps;
+}
+
+-- a flight of another slice goes on
+pub flies-stay : (own : ℕ) (g g' : Known) (v v' : Shared) → KeepsShared own g g' v v' → (f : Flight) → f.id ≢ own → Flies g v f → Flies g' v' f
+flies-stay own g g' v v' k f apart flying =
+    subst (λ (x : Setting). IsFlying x.block (rows_in v') g' (present_in v') f) (sym k.setting)
+    (flying-keeps own (rows_in v) (rows_in v') g g' (present_in v) (present_in v') k.keeps v.yard.setting.block f apart flying)

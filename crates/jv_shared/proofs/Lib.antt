@@ -3,3 +3,5 @@ pub mod SettingLaws
 pub mod SeenLaws
 pub mod KeepingLaws
 pub mod StoreLaws
+pub mod RowStepLaws
+pub mod PutLaws

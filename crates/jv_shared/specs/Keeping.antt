@@ -39,3 +39,11 @@ pub record KeepsShared (own : ℕ) (g g' : Known) (v v' : Shared) : Type 0 where
 pub record Leads (own : ℕ) (t' : Tree) (g g' : Known) (v v' : Shared) : Type 0 where
   pub store : HasStore t' g' v'
   pub kept : KeepsShared own g g' v v'
+
+-- Devices hold the same, whatever was counted or noted.
+pub record HoldsSame (v v' : Shared) : Type 0 where
+  pub rows : v'.keeper.rows ≡ v.keeper.rows
+  pub objects : v'.yard.depot.content ≡ v.yard.depot.content
+  pub blocks : v'.yard.shelf.content ≡ v.yard.shelf.content
+  pub setting : v'.yard.setting ≡ v.yard.setting
+  pub staged : v'.yard.staged ≡ v.yard.staged
