@@ -5,3 +5,4 @@ pub mod KeepingLaws
 pub mod StoreLaws
 pub mod RowStepLaws
 pub mod PutLaws
+pub mod SameLaws
