@@ -6,3 +6,4 @@ pub mod StoreLaws
 pub mod RowStepLaws
 pub mod PutLaws
 pub mod SameLaws
+pub mod FreshLaws

@@ -3,3 +3,4 @@ pub mod Shared
 pub mod Seen
 pub mod Flying
 pub mod Keeping
+pub mod Fresh
