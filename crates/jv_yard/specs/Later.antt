@@ -1,5 +1,5 @@
 -- What workers can have made of a yard while main didn't have it.
-use Rattle.std.specs.Prelude.{◌≡◌, ◌⊎◌, ℕ, ◌<◌, ◌≤◌, List, ◌++◌, Option, None, Some, IsSome, All, Contains}
+use Rattle.std.specs.Prelude.{◌≡◌, ◌⊎◌, ℕ, ◌<◌, ◌≤◌, List, ◌++◌, None, Some, IsSome, All, Contains}
 use Rattle.jv_model.specs.declared.setting.Setting.{Setting}
 use Rattle.jv_model.specs.blocks.BlockNames.{IsBlockName}
 use Rattle.jv_model.specs.FiniteMap.{get}

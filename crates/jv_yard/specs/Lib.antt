@@ -8,3 +8,4 @@ pub mod BlockCalls
 pub mod Contents
 pub mod Later
 pub mod Doors
+pub mod Laws

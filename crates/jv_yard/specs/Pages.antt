@@ -1,5 +1,5 @@
 -- Listing a client's blocks on a shelf, page by page.
-use Rattle.std.specs.Prelude.{◌≡◌, ◌⊎◌, ℕ, ◌-◌, ◌<◌, nat_lt, if◌then◌else◌, List, length, slice_get, Option, None, Some, IfSome, IsSome, Contains, Result, Ok, Err}
+use Rattle.std.specs.Prelude.{◌≡◌, ◌⊎◌, ℕ, ◌-◌, nat_lt, if◌then◌else◌, List, length, slice_get, Option, None, Some, IfSome, Contains, Result, Ok, Err}
 use Rattle.jv_model.specs.declared.setting.Setting.{Setting}
 use Rattle.jv_model.specs.FiniteMap.{get}
 use Rattle.jv_outside.specs.Holding.{Holding}

@@ -1,5 +1,5 @@
 -- What contracts see of a yard.
-use Rattle.std.specs.Prelude.{◌≡◌, ℕ, List, Some, IsSome}
+use Rattle.std.specs.Prelude.{◌≡◌, ℕ, ◌≤◌, List, Some, IsSome}
 use Rattle.jv_model.specs.declared.setting.Setting.{Setting}
 use Rattle.jv_model.specs.declared.slice.BlockId.{BlockId}
 use Rattle.jv_model.specs.blocks.BlockNames.{IsBlockName}
@@ -27,8 +27,8 @@ pub record NamesBlock (setting : Setting) (name : List ℕ) : Type 0 where
   pub block : BlockId
   pub is : IsBlockName setting block name
 
--- each staged block has the name of a block of the volume, and its client's shelf has it where the shelf is known
+-- each staged block of a client has the name of a block of the volume, and the client's shelf has it where the shelf is known
 pub record IsKept (yard : YardValue) : Type 0 where
-  pub names : (client : ℕ) (name : List ℕ) → IsSome (staged_since client name yard.staged) → NamesBlock yard.setting name
-  pub there : (blocks : StagedMap) → yard.shelf.content ≡ Some blocks → (client : ℕ) (name : List ℕ)
+  pub names : (client : ℕ) (name : List ℕ) → client ≤ 7 → IsSome (staged_since client name yard.staged) → NamesBlock yard.setting name
+  pub there : (blocks : StagedMap) → yard.shelf.content ≡ Some blocks → (client : ℕ) (name : List ℕ) → client ≤ 7
       → IsSome (staged_since client name yard.staged) → IsSome (staged_at client name blocks)

@@ -59,16 +59,24 @@ impl<D: Depot, H: Shelf> YardDoor<D, H> for Alone<D, H> {
     ghost given = { λ d. option_map ⟦<Yard<D, H> as ObservedYard>⟧.seen d.yard };
 
     fn take(&mut self) -> Yard<D, H>
-        ensures out { Self.given self.new ≡ None }
+        requires { let seen = ⟦<Yard<D, H> as ObservedYard>⟧.seen in
+            IsSome (option_map seen self.old.yard) }
+        ensures out { let seen = ⟦<Yard<D, H> as ObservedYard>⟧.seen in
+            option_map seen self.new.yard ≡ None }
         ensures later { let seen = ⟦<Yard<D, H> as ObservedYard>⟧.seen in
-            IsTaken (Self.given self.old) (seen result) }
+            IsTaken (option_map seen self.old.yard) (seen result) }
         ensures same { let seen = ⟦<Yard<D, H> as ObservedYard>⟧.seen in
-            Self.given self.old ≡ Some (seen result) }
+            option_map seen self.old.yard ≡ Some (seen result) }
     {
         self.yard.take().unwrap()
     }
 
-    fn give(&mut self, yard: Yard<D, H>) {
+    fn give(&mut self, yard: Yard<D, H>)
+        requires { let seen = ⟦<Yard<D, H> as ObservedYard>⟧.seen in
+            option_map seen self.old.yard ≡ None }
+        ensures { let seen = ⟦<Yard<D, H> as ObservedYard>⟧.seen in
+            option_map seen self.new.yard ≡ Some (seen yard) }
+    {
         // There is none to let go.
         match replace(&mut self.yard, Some(yard)) {
             None => {}

@@ -1,5 +1,5 @@
 //! Which blocks a shelf has staged when a yard starts.
-ghost use Rattle.std.specs.Prelude.{◌≡◌, ◌↔◌, ℕ, ◌≤◌, vec_len, slice_get, Some, Ok, IfOk, IfErr, IsTrue};
+ghost use Rattle.std.specs.Prelude.{◌≡◌, ◌↔◌, IfOk, OnOk, IsTrue};
 ghost use Rattle.std.specs.Option.{option_copied};
 ghost use Rattle.jv_yard.specs.Pages.{AddsNames, ListsPage, next_after};
 ghost use Rattle.jv_yard.specs.Starting.{FindsStaged, FindsAll};
@@ -84,11 +84,7 @@ fn next_start(alloc: Global, names: &NameList) -> Result<Option<Name>, AllocErro
 }
 
 /// Adds those of the names that are of blocks of the volume, as staged since a moment that isn't known.
-fn add_names(
-    found: &mut ClientBlocks,
-    setting: &Setting,
-    names: NameList,
-) -> Result<(), AllocError>
+fn add_names(found: &mut ClientBlocks, setting: &Setting, names: NameList) -> Result<(), AllocError>
     ensures { OnOk result (AddsNames setting.now names found.old found.new) }
 {
     for name in names.into_vec() {

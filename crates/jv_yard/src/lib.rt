@@ -4,6 +4,7 @@
 mod door;
 mod faults;
 mod finding;
+mod laws;
 mod note;
 mod setting;
 mod staging;
@@ -12,5 +13,6 @@ mod yard;
 pub use door::{Alone, YardDoor};
 pub use faults::YardFault;
 pub use finding::PAGE;
+pub use laws::{later_is_reflexive, later_is_transitive, puts_grow};
 pub use note::{MAIN, Note, What};
 pub use yard::{ObservedYard, Yard};

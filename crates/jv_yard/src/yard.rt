@@ -1,5 +1,6 @@
 //! The yard: the blocks of a volume, wherever they are.
-ghost use Rattle.std.specs.Prelude.{◌≡◌, ◌≤◌, IfOk, IfErr, is_some};
+ghost use Rattle.std.specs.Prelude.{◌≡◌, ◌≤◌, IfOk, IfErr, is_some, slice_get};
+ghost use Rattle.std.specs.Option.{option_copied};
 ghost use Rattle.jv_model.specs.FiniteMap.{key_count};
 ghost use Rattle.jv_yard.specs.BlockCalls.{GetsBlock, IsBlockParcel, PutsBlock};
 ghost use Rattle.jv_yard.specs.Starting.{IsStarted, ShelfRefuses};
@@ -156,7 +157,7 @@ impl<D: Depot, H: Shelf> Yard<D, H> {
         ensures { let seen = ⟦<Yard<D, H> as ObservedYard>⟧.seen in
             result ≡ is_some (staged_since c name.now (seen self.now).staged) }
     {
-        match self.staged.as_slice().get(usize::from(c.number())) {
+        match self.staged_by(c) {
             Some(blocks) => blocks.has(name),
             None => false,
         }
@@ -167,10 +168,17 @@ impl<D: Depot, H: Shelf> Yard<D, H> {
         ensures { let seen = ⟦<Yard<D, H> as ObservedYard>⟧.seen in
             result ≡ key_count ((seen self.now).staged c) }
     {
-        match self.staged.as_slice().get(usize::from(c.number())) {
+        match self.staged_by(c) {
             Some(blocks) => blocks.len(),
             None => 0,
         }
+    }
+
+    /// The blocks that a client has staged.
+    fn staged_by(&self, c: ClientId) -> Option<&ClientBlocks>
+        ensures { option_copied result ≡ slice_get self.now.staged c }
+    {
+        self.staged.as_slice().get(usize::from(c.number()))
     }
 
     /// What was done, in order.

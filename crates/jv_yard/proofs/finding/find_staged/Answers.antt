@@ -1,0 +1,18 @@
+-- One more client's blocks are found.
+use Rattle.std.proofs.Common.{◌+◌, ◌∙◌, ap, subst}
+use Rattle.std.proofs.lemmas.List.{length_push}
+use Rattle.jv_yard.specs.Starting.{IsFound}
+use Rattle.jv_yard.proofs.PageLaws.{clients-more}
+use Rattle.jv_yard.proofs.finding.find_staged.Goals as goal
+
+pub loop-c-preserved : goal.loop-c-preserved
+loop-c-preserved g c =
+    let setting = c.args.setting.now in
+    let content = (g.H.Shelf.seen c.args.shelf.now).content in
+    let one = c.in_ok-find_staged_by.field-0 in
+    let found = subst (λ known. IsFound setting known c.loop-c.c one) (ap (λ seen. seen.content) c.loop-c.invariant.same) c.in_ok-find_staged_by.ensures.1 in
+    rw (c.in_ok-push.ensures.ok, length_push) (record {
+      same = c.in_ok-find_staged_by.ensures.0 ∙ c.loop-c.invariant.same;
+      long = ap (λ n. n + 1) c.loop-c.invariant.long;
+      found = clients-more setting content c.loop-c.clients one c.loop-c.c c.loop-c.invariant.long found c.loop-c.invariant.found;
+    })
