@@ -11,7 +11,7 @@ use Rattle.jv_model.specs.declared.slice.Spot.{Spot}
 use Rattle.jv_model.specs.declared.slice.Spot.TheVariants.{Zero, Slice}
 use Rattle.jv_model.specs.declared.slice.BlockId.{BlockId}
 use Rattle.jv_model.specs.blocks.Slices.{IsRecord, block_at, block_count, place_by, stored_place, visible}
-use Rattle.jv_model.specs.tree.Tree.{Content}
+use Rattle.jv_model.specs.tree.Tree.{Content, Tree}
 use Rattle.jv_slices.proofs.BlockLaws.{index_below}
 use Rattle.jv_slices.proofs.PlanLaws.{visible_covers, visible_is_record}
 use Rattle.jv_volume.specs.TypedRows.{Rows}
@@ -26,7 +26,7 @@ use Rattle.jv_contents.proofs.WholeLaws.{all-mapped}
 use Rattle.jv_shared.specs.Shared.{Known, Shared, present_in, rows_in}
 use Rattle.jv_shared.specs.Seen.{IsFound, ShowsWindow}
 use Rattle.jv_shared.specs.Flying.{Flies, IsFlying}
-use Rattle.jv_shared.specs.Keeping.{Keeps, KeepsBlocks, KeepsNumbers, KeepsShared, Learns}
+use Rattle.jv_shared.specs.Keeping.{Keeps, KeepsBlocks, KeepsNumbers, KeepsShared, Leads, Learns}
 
 -- ---- steps
 
@@ -137,3 +137,8 @@ pub flies-stay : (own : ℕ) (g g' : Known) (v v' : Shared) → KeepsShared own 
 flies-stay own g g' v v' k f apart flying =
     subst (λ (x : Setting). IsFlying x.block (rows_in v') g' (present_in v') f) (sym k.setting)
     (flying-keeps own (rows_in v) (rows_in v') g g' (present_in v) (present_in v') k.keeps v.yard.setting.block f apart flying)
+
+-- one step after another
+pub leads-then : (own : ℕ) (t' t'' : Tree) (g g' g'' : Known) (v v' v'' : Shared) → Leads own t' g g' v v' → Leads own t'' g' g'' v' v'' → Leads own t'' g g'' v v''
+leads-then own t' t'' g g' g'' v v' v'' first second =
+    record { store = second.store; kept = stays-then own g g' g'' v v' v'' first.kept second.kept }

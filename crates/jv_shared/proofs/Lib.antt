@@ -3,6 +3,7 @@ pub mod SettingLaws
 pub mod SeenLaws
 pub mod KeepingLaws
 pub mod StoreLaws
+pub mod FlyingLaws
 pub mod RowStepLaws
 pub mod PutLaws
 pub mod SameLaws

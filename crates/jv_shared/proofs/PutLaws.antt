@@ -45,29 +45,6 @@ with_block-put b bytes g = record {
     by_test other apart false e = refl
 
 module _ (t : Tree) (g : Known) (v : Shared) (s : HasStore t g v) (f : Flight) (flies : Flies g v f) where
-  -- The next block of a flight that fits into a window is one of the volume's.
-  pub next_block-is : length f.bytes ≤ WINDOW → f.put < block_count (length f.bytes) v.yard.setting.block
-      → IsBlock v.yard.setting.block (flight_block v.yard.setting.block f f.put)
-  next_block-is short more =
-      let some = block_some t g v s in
-      let begins = block_begins (length f.bytes) v.yard.setting.block f.put some more in
-      let positive = flies.ever.some in
-      let low = subst (λ (rows : Rows). f.id < next_slice rows) (rows_are t g v s) flies.ever.below in
-      let end = s.whole.slices.slices_end in
-      let least = (block_length t g v s).least in
-      record {
-        id = omega (arith, positive);
-        id_in_range = omega (arith, low, end);
-        index = elim (cases_lt f.put 1024) [
-          | inl few ↦ few
-          | inr many ↦ absurd (omega (arith, begins, short, mul-le 1024 65536 f.put v.yard.setting.block many least))
-        ];
-        some = omega (arith, begins, some);
-        size = omega arith;
-      }
-
-  -- ---- the put
-
   abbrev next : BlockId
   next = flight_block v.yard.setting.block f f.put
 

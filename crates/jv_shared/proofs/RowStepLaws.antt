@@ -133,11 +133,18 @@ module _ (t : Tree) (g : Known) (v : Shared) (s : HasStore t g v) where
       lists-lead keeper carrier left 0 more is whole keeps (λ slice there. (let none = whole.slices.none in absurd (cc))) setting
 
   -- one on metadata
-  pub quiet-leads : (keeper : Store) (carrier : Carriage) (left : RowMap) → keeper.rows ≡ Some left → Whole (typed left) → Quiet (typed s.rows) (typed left)
-      → (tree_with (told_by v.yard.setting.block g.blocks) (typed left)).setting ≡ t.setting
-      → Leads 0 (tree_with (told_by v.yard.setting.block g.blocks) (typed left)) g g v (record v { keeper = keeper; carrier = carrier })
-  quiet-leads keeper carrier left is whole quiet setting =
-      others-lead keeper carrier left 0 is whole (keeps-quiet (typed s.rows) (typed left) quiet) setting
+  pub quiet-leads : (keeper : Store) (carrier : Carriage) (left : RowMap) (own : ℕ) → keeper.rows ≡ Some left → Whole (typed left)
+      → Quiet (typed s.rows) (typed left) → (tree_with (told_by v.yard.setting.block g.blocks) (typed left)).setting ≡ t.setting
+      → Leads own (tree_with (told_by v.yard.setting.block g.blocks) (typed left)) g g v (record v { keeper = keeper; carrier = carrier })
+  quiet-leads keeper carrier left own is whole quiet setting = record {
+    store = (others-lead keeper carrier left 0 is whole (keeps-quiet (typed s.rows) (typed left) quiet) setting).store;
+    kept = keeps_left keeper carrier left g.sizes own is
+        (record {
+          next = (let same = quiet.next in omega (arith, same));
+          unknown = λ id apart u. unknown-stay (typed s.rows) (typed left) quiet.apart id u;
+        })
+        (λ id low. refl);
+  }
 
   -- the commit of a flight whose blocks were all put
   pub commit-leads : (keeper : Store) (carrier : Carriage) (left : RowMap) (f : Flight) (more : ℕ) → Flies g v f → IsComplete v.yard.setting.block f
@@ -179,22 +186,22 @@ module _ (t : Tree) (g : Known) (v : Shared) (s : HasStore t g v) where
         by_test false e = refl
 
     -- The giving of a number leads to the same tree, where the slice's size is known.
-    pub number-leads : (size : ℕ) → Leads 0 t g (with_size id size g) v (record v { keeper = keeper; carrier = carrier })
-    number-leads size = record {
+    pub number-leads : (size own : ℕ) → Leads own t g (with_size id size g) v (record v { keeper = keeper; carrier = carrier })
+    number-leads size own = record {
       store = subst (λ (x : Tree). HasStore x (with_size id size g) (record v { keeper = keeper; carrier = carrier })) numbered_tree
           (store_left keeper carrier left (with_size id size g).sizes is whole
           (sized-slices (with_size id size g).sizes (typed left) whole.slices (λ other slice there.
           s.sized.slices other slice (sym (slice_row-stay (typed s.rows) (typed left) numbered_stay other) ∙ there)
-          ∙ sym (numbered_size size other (λ own. (let none = unknown.no_row in let row = ap (slice_row_at (typed left)) (sym own) ∙ there in absurd (cc))))))
+          ∙ sym (numbered_size size other (λ new. (let none = unknown.no_row in let row = ap (slice_row_at (typed left)) (sym new) ∙ there in absurd (cc))))))
           (ap (λ (x : Tree). x.setting) numbered_tree)
           (has_blocks-stay (typed s.rows) (typed left) numbered_stay v.yard.setting.block (blocks_in v.yard.setting s.objects) s.there)
           (below-rows (typed s.rows) (typed left) g.blocks (omega (arith, given, next)) s.below));
-      kept = keeps_left keeper carrier left (with_size id size g).sizes 0 is
+      kept = keeps_left keeper carrier left (with_size id size g).sizes own is
           (record {
             next = omega (arith, given, next);
             unknown = λ other apart u. unknown-stay (typed s.rows) (typed left) numbered_stay other u;
           })
-          (λ other low. numbered_size size other (λ own. absurd (omega (arith, own, low, given))));
+          (λ other low. numbered_size size other (λ new. absurd (omega (arith, new, low, given))));
     }
 
     -- and a slice with this number is in flight, of which nothing is put yet

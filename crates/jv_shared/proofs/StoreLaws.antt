@@ -69,13 +69,13 @@ module _ (t : Tree) (g : Known) (v : Shared) (s : HasStore t g v) where
 
   -- A look at a window of a file shows its bytes.
   pub look-shows : (inode window length : ℕ) (list : List Rec) (content : Content) → content_at t inode ≡ Some content → content.length ≡ length
-      → list ≡ lists_of (rows_in v) inode window → Shows g v window length list content
+      → list ≡ lists_of (typed s.rows) inode window → Shows g v window length list content
   look-shows inode window length list content is long same =
       subst (λ (blocks : Blocks). ShowsWindow v.yard.setting.block (rows_in v) g blocks window length list content) (sym present_are)
       (subst (λ (rows : Rows). ShowsWindow v.yard.setting.block rows g (blocks_in v.yard.setting s.objects) window length list content) (sym rows_are)
       (subst (λ n. ShowsWindow v.yard.setting.block (typed s.rows) g (blocks_in v.yard.setting s.objects) window n list content) long
       (subst (λ (rs : List Rec). ShowsWindow v.yard.setting.block (typed s.rows) g (blocks_in v.yard.setting s.objects) window content.length rs content)
-      (sym (same ∙ ap (λ (rows : Rows). lists_of rows inode window) rows_are))
+      (sym same)
       (looked_shows v.yard.setting.block (typed s.rows) g (blocks_in v.yard.setting s.objects) s.whole.slices s.sized s.there inode window content
       (subst (λ (x : Tree). content_at x inode ≡ Some content) s.tree is)))))
 
