@@ -1,19 +1,15 @@
 -- What is known at the start: the blocks of the depot and of all clients that staged some, and the sizes of slices with rows.
-use Rattle.std.proofs.Common.{◌≡◌, ◌≢◌, ℕ, ◌<◌, Bool, true, false, inl, inr, List, Option, None, Some, refl, sym, ap, subst, ◌∙◌}
-use Rattle.std.specs.Prelude.{◌&&◌, if◌then◌else◌, is_some, IsSome}
-use Rattle.std.specs.Option.{option_map}
-use Rattle.std.specs.Ordering.{eq_by_cmp, is_eq}
+use Rattle.std.proofs.Common.{◌≡◌, ℕ, ◌<◌, Bool, true, false, inl, inr, List, Option, None, Some, refl, sym, ap, ◌∙◌}
+use Rattle.std.specs.Prelude.{◌&&◌, if◌then◌else◌, is_some}
+use Rattle.std.specs.Ordering.{eq_by_cmp}
 use Rattle.std.specs.Cmp.{eq_by_cmp_equiv}
-use Rattle.std.specs.declared.cmp.Ordering.{Ordering}
-use Rattle.std.specs.declared.cmp.Ordering.TheVariants.{Less, Equal, Greater}
-use Rattle.jv_model.specs.declared.slice.BlockId.{BlockId}
-use Rattle.jv_model.specs.FiniteMap.{first_where, get, text_key}
+use Rattle.jv_model.specs.FiniteMap.{first_where, text_key}
 use Rattle.jv_model.proofs.FiniteMapLaws.{IsFound, first_where-found}
 use Rattle.jv_outside.specs.Blocks.{staged_at, staged_key}
 use Rattle.jv_outside.specs.Objects.{bytes_at}
 use Rattle.jv_volume.specs.TypedRows.{typed}
 use Rattle.jv_volume.specs.Slices.{next_slice}
-use Rattle.jv_volume.proofs.ShapeMapLaws.{first_where-none}
+use Rattle.jv_volume.proofs.ShapeMapLaws.{first_where-none, tied_same}
 use Rattle.jv_contents.specs.Blocks.{AreBelow, Blocks, Grows, told_by}
 use Rattle.jv_contents.specs.Bytes.{tree_with}
 use Rattle.jv_yard.specs.Contents.{blocks_in, is_block, name_in}
@@ -21,16 +17,8 @@ use Rattle.jv_yard.specs.Later.{IsStagedWith, contents_of}
 use Rattle.jv_yard.specs.Staging.{staged_since}
 use Rattle.jv_shared.specs.Shared.{HasStore, Known, Shared, staged_in}
 use Rattle.jv_shared.specs.Fresh.{IsFresh}
+use Rattle.jv_shared.proofs.SettingLaws.{both_true}
 use Rattle.jv_shared.proofs.RowStepLaws.{sized-slices}
-
-both_true : (a b : Bool) → (a && b) ≡ true → (a ≡ true) × (b ≡ true)
-both_true true b h = (refl, h)
-both_true false b h = absurd (cc)
-
-tie_is : (o : Ordering) → is_eq o ≡ true → o ≡ Equal
-tie_is Less h = absurd (cc)
-tie_is Equal h = refl
-tie_is Greater h = absurd (cc)
 
 module _ (v : Shared) (s : IsFresh v) where
   -- a client has staged it under this name
@@ -57,7 +45,7 @@ module _ (v : Shared) (s : IsFresh v) where
   staged_copy name found first =
       let is : IsFound (is_copy name) s.staged found.0 found.1 = first_where-found staged_key (is_copy name) s.staged found first in
       let passes = both_true (eq_by_cmp text_key.cmp found.0.1 name) (is_some (staged_since found.0.0 found.0.1 v.yard.staged)) is.passes in
-      let named : found.0.1 ≡ name = text_key.same found.0.1 name (tie_is (text_key.cmp found.0.1 name) passes.0) in (
+      let named : found.0.1 ≡ name = tied_same text_key name found.0.1 passes.0 in (
         ap (λ n. staged_at found.0.0 n s.staged) (sym named) ∙ is.there,
         ap (λ n. is_some (staged_since found.0.0 n v.yard.staged)) (sym named) ∙ passes.1,
       )
@@ -130,20 +118,23 @@ module _ (v : Shared) (s : IsFresh v) where
 
   -- At the start something is known with which the tree is that of the rows.
   pub fresh_store : (g : Known) × HasStore (tree_with (told_by v.yard.setting.block g.blocks) (typed s.rows)) g v
-  fresh_store = (record { blocks = all_blocks; sizes = s.whole.slices.sizes }, record {
-    rows = s.rows;
-    rows_are = s.rows_are;
-    whole = s.whole;
-    sized = sized-slices s.whole.slices.sizes (typed s.rows) s.whole.slices (λ id slice there. (s.whole.slices.slice_size id slice there).0);
-    setting = s.setting;
-    objects = s.objects;
-    objects_are = s.objects_are;
-    staged = s.staged;
-    staged_are = s.staged_are;
-    there = s.there;
-    copies = depot_copies;
-    staged_copies = client_copies;
-    kept = s.kept;
-    below = all_below;
-    tree = refl;
-  })
+  fresh_store = (
+    record { blocks = all_blocks; sizes = s.whole.slices.sizes },
+    record {
+      rows = s.rows;
+      rows_are = s.rows_are;
+      whole = s.whole;
+      sized = sized-slices s.whole.slices.sizes (typed s.rows) s.whole.slices (λ id slice there. (s.whole.slices.slice_size id slice there).0);
+      setting = s.setting;
+      objects = s.objects;
+      objects_are = s.objects_are;
+      staged = s.staged;
+      staged_are = s.staged_are;
+      there = s.there;
+      copies = depot_copies;
+      staged_copies = client_copies;
+      kept = s.kept;
+      below = all_below;
+      tree = refl;
+    },
+  )

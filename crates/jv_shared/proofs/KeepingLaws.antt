@@ -1,23 +1,20 @@
 -- Laws of steps that leave alone what other clients hold: they follow one another, and views and flights stay.
-use Rattle.std.proofs.Common.{◌≡◌, ◌≢◌, ℕ, ◌+◌, ◌*◌, ◌/◌, ◌%◌, ◌<◌, ◌≤◌, Bool, true, false, cond, inl, inr, List, length, reverse, Option, None, Some, refl, sym, ap, subst, ◌∙◌, arith}
-use Rattle.std.specs.Prelude.{◌==◌, ◌-◌, Contains}
+use Rattle.std.proofs.Common.{◌≡◌, ◌≢◌, ℕ, ◌+◌, ◌/◌, ◌<◌, ◌≤◌, Bool, true, false, cond, List, length, Option, None, Some, refl, sym, subst, ◌∙◌, arith}
+use Rattle.std.specs.Prelude.{◌==◌, ◌-◌}
 use Rattle.std.specs.List.{AllByRecursion}
 use Rattle.std.proofs.lemmas.Bool.{eqb-false}
 use Rattle.std.proofs.lemmas.List.Elements.{All-contains, All-from_recursion}
-use Rattle.jv_model.specs.declared.limits.TheConstants.{WINDOW}
 use Rattle.jv_model.specs.declared.setting.Setting.{Setting}
 use Rattle.jv_model.specs.declared.slice.Rec.{Rec}
-use Rattle.jv_model.specs.declared.slice.Spot.{Spot}
 use Rattle.jv_model.specs.declared.slice.Spot.TheVariants.{Zero, Slice}
-use Rattle.jv_model.specs.declared.slice.BlockId.{BlockId}
-use Rattle.jv_model.specs.blocks.Slices.{IsRecord, block_at, block_count, place_by, stored_place, visible}
+use Rattle.jv_model.specs.blocks.Slices.{block_at, place_by, stored_place, visible}
 use Rattle.jv_model.specs.tree.Tree.{Content, Tree}
 use Rattle.jv_slices.proofs.BlockLaws.{index_below}
-use Rattle.jv_slices.proofs.PlanLaws.{visible_covers, visible_is_record}
+use Rattle.jv_slices.proofs.PlanLaws.{visible_covers}
 use Rattle.jv_volume.specs.TypedRows.{Rows}
 use Rattle.jv_volume.specs.Slices.{IsUnknown, next_slice}
-use Rattle.jv_contents.specs.Blocks.{Blocks, Grows, IsThere, told_by}
-use Rattle.jv_contents.specs.Bytes.{Told, spot_byte}
+use Rattle.jv_contents.specs.Blocks.{Blocks, Grows, told_by}
+use Rattle.jv_contents.specs.Bytes.{spot_byte}
 use Rattle.jv_contents.specs.Flights.{Flight}
 use Rattle.jv_contents.proofs.BlockLaws.{grows-none, grows-then, there-grows, told-grows, seen_contained}
 use Rattle.jv_contents.proofs.FlightLaws.{flies-still}
@@ -26,7 +23,7 @@ use Rattle.jv_contents.proofs.WholeLaws.{all-mapped}
 use Rattle.jv_shared.specs.Shared.{Known, Shared, present_in, rows_in}
 use Rattle.jv_shared.specs.Seen.{IsFound, ShowsWindow}
 use Rattle.jv_shared.specs.Flying.{Flies, IsFlying}
-use Rattle.jv_shared.specs.Keeping.{Keeps, KeepsBlocks, KeepsNumbers, KeepsShared, Leads, Learns}
+use Rattle.jv_shared.specs.Keeping.{Keeps, KeepsShared, Leads}
 
 -- ---- steps
 

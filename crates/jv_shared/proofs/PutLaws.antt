@@ -1,26 +1,21 @@
 -- The put of a flight's next block: it leads to the same tree, and the flight goes on with one more block.
-use Rattle.std.proofs.Common.{◌≡◌, ◌≢◌, ℕ, ◌+◌, ◌-◌, ◌*◌, ◌<◌, ◌≤◌, ◌^◌, ◌⊎◌, Bool, true, false, inl, inr, List, length, Option, None, Some, refl, sym, ap, subst, ◌∙◌, arith}
+use Rattle.std.proofs.Common.{◌≡◌, ◌≢◌, ℕ, ◌+◌, ◌<◌, ◌^◌, Bool, true, false, inl, inr, List, Some, refl, sym, ap, subst, ◌∙◌, arith}
 use Rattle.std.specs.Prelude.{if◌then◌else◌}
-use Rattle.std.proofs.lemmas.Bool.{cases_lt}
-use Rattle.std.proofs.lemmas.Nat.{mul-le}
-use Rattle.jv_model.specs.declared.limits.TheConstants.{FULL_COUNT, MAX_BLOCKS, WINDOW}
-use Rattle.jv_model.specs.declared.setting.Setting.{Setting}
 use Rattle.jv_model.specs.declared.slice.BlockId.{BlockId}
 use Rattle.jv_model.specs.blocks.BlockNames.{IsBlock}
-use Rattle.jv_model.specs.blocks.Slices.{block_count, is_same_block}
+use Rattle.jv_model.specs.blocks.Slices.{is_same_block}
 use Rattle.jv_model.specs.tree.Tree.{Tree}
 use Rattle.jv_outside.specs.declared.parcel.Parcel.{Parcel}
 use Rattle.jv_outside.specs.Carriage.{Carriage}
 use Rattle.jv_outside.specs.Holding.{Holding}
 use Rattle.jv_outside.specs.Objects.{ObjectMap, with_object}
 use Rattle.jv_outside.specs.Parcels.{StandsFor}
-use Rattle.jv_slices.proofs.BlockLaws.{block_begins}
 use Rattle.jv_slices.proofs.NeedLaws.{equal_if_same, same_self}
 use Rattle.jv_volume.specs.TypedRows.{Rows, typed}
 use Rattle.jv_volume.specs.Slices.{next_slice}
-use Rattle.jv_contents.specs.Blocks.{Blocks, Grows, HasBlocks, IsPut, told_by}
+use Rattle.jv_contents.specs.Blocks.{Blocks, Grows, IsPut}
 use Rattle.jv_contents.specs.Flights.{Flight, flight_block, flight_bytes}
-use Rattle.jv_contents.proofs.BlockLaws.{grows-then, has_blocks-grow, tree-grows}
+use Rattle.jv_contents.proofs.BlockLaws.{has_blocks-grow, tree-grows}
 use Rattle.jv_contents.proofs.FlightLaws.{next_block-free, put-below, put-grows, put-next, put_or_was}
 use Rattle.jv_yard.specs.declared.note.Note.{Note}
 use Rattle.jv_yard.specs.BlockCalls.{IsPut as PutsParcel}

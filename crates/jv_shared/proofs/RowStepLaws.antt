@@ -1,26 +1,24 @@
 -- Steps on a keeper's rows: they lead to the tree of the rows left, and leave alone what other clients hold.
-use Rattle.std.proofs.Common.{◌≡◌, ◌≢◌, ℕ, ◌+◌, ◌<◌, ◌≤◌, ◌⊎◌, Bool, true, false, inl, inr, List, length, Option, None, Some, refl, sym, ap, subst, ◌∙◌, arith}
+use Rattle.std.proofs.Common.{◌≡◌, ◌≢◌, ℕ, ◌+◌, ◌<◌, ◌⊎◌, Bool, true, false, inl, inr, List, length, Some, refl, sym, ap, subst, ◌∙◌, arith}
 use Rattle.std.specs.Prelude.{◌==◌, if◌then◌else◌, Contains}
 use Rattle.std.proofs.lemmas.Bool.{cases_eq, eq-eqb, eqb-true}
 use Rattle.std.proofs.lemmas.List.Elements.{All-contains_itself, recursion_from_All}
 use Rattle.jv_model.specs.declared.row.RowKey.{RowKey}
 use Rattle.jv_model.specs.declared.row.SliceRow.{SliceRow}
-use Rattle.jv_model.specs.declared.setting.Setting.{Setting}
-use Rattle.jv_model.specs.declared.slice.BlockId.{BlockId}
 use Rattle.jv_model.specs.declared.slice.Rec.{Rec}
 use Rattle.jv_model.specs.FiniteMap.{get}
 use Rattle.jv_model.specs.rows.RowKeys.{RowMap}
-use Rattle.jv_model.specs.rows.RowPlaces.{counters_key, setting_key}
+use Rattle.jv_model.specs.rows.RowPlaces.{counters_key}
 use Rattle.jv_model.specs.tree.Tree.{Tree}
 use Rattle.jv_outside.specs.Carriage.{Carriage}
 use Rattle.jv_outside.specs.Store.{Store}
 use Rattle.jv_volume.specs.TypedRows.{Rows, typed}
 use Rattle.jv_volume.specs.Views.{row_in, setting_in, setting_at, slice_row_at}
-use Rattle.jv_volume.specs.TreeOf.{or_no_setting, tree_of}
+use Rattle.jv_volume.specs.TreeOf.{tree_of}
 use Rattle.jv_volume.specs.Slices.{IsUnknown, WholeSlices, listed, next_slice}
 use Rattle.jv_volume.specs.Whole.{Quiet, Whole, no_bytes}
 use Rattle.jv_volume.proofs.TreeOfLaws.{setting-tree_of}
-use Rattle.jv_contents.specs.Blocks.{AreBelow, Blocks, HasBlocks, IsThere, told_by}
+use Rattle.jv_contents.specs.Blocks.{AreBelow, Blocks, HasBlocks, told_by}
 use Rattle.jv_contents.specs.Bytes.{Told, bytes_of, tree_with}
 use Rattle.jv_contents.specs.Counts.{KeepsOthers}
 use Rattle.jv_contents.specs.Flights.{Flight, IsComplete}
@@ -33,7 +31,7 @@ use Rattle.jv_yard.specs.Contents.{blocks_in}
 use Rattle.jv_shared.specs.Shared.{AreSized, HasStore, Known, Shared, present_in, rows_in, typed_in, with_size}
 use Rattle.jv_shared.specs.Seen.{SliceIsThere}
 use Rattle.jv_shared.specs.Flying.{Flies, IsFlying}
-use Rattle.jv_shared.specs.Keeping.{Keeps, KeepsNumbers, KeepsShared, Leads, Learns}
+use Rattle.jv_shared.specs.Keeping.{Keeps, KeepsNumbers, KeepsShared, Leads}
 use Rattle.jv_shared.proofs.StoreLaws.{block_some, present_are, present_known, rows_are}
 
 -- ---- sizes
@@ -157,7 +155,7 @@ module _ (t : Tree) (g : Known) (v : Shared) (s : HasStore t g v) where
       (λ slice there. (
         long slice there ∙ sym flies.size,
         subst (λ n. SliceIsThere v.yard.setting.block (present_in v) f.id n) (sym (long slice there))
-        (λ index low. complete-there v.yard.setting.block (rows_in v) (present_in v) f flies.here complete (block_some t g v s) index low),
+            (λ index low. complete-there v.yard.setting.block (rows_in v) (present_in v) f flies.here complete (block_some t g v s) index low),
       ))
       setting
 

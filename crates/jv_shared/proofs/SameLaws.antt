@@ -1,19 +1,18 @@
 -- Calls of devices that change nothing that they hold: failures, reads, and what is noted or counted.
 use Rattle.std.proofs.Common.{◌≡◌, ℕ, List, Option, Some, refl, sym, ap, subst, ◌∙◌}
-use Rattle.jv_model.specs.declared.fault.Down.{Down}
+use Rattle.std.specs.Prelude.{Result, Ok, Err}
 use Rattle.jv_model.specs.declared.setting.Setting.{Setting}
 use Rattle.jv_model.specs.tree.Tree.{Tree}
-use Rattle.jv_outside.specs.Blocks.{StagedMap}
 use Rattle.jv_outside.specs.Carriage.{Carriage}
-use Rattle.jv_outside.specs.Store.{FailsToKeep, IsSame, Store}
+use Rattle.jv_outside.specs.Store.{Store}
 use Rattle.jv_volume.specs.TypedRows.{Rows, typed}
 use Rattle.jv_contents.specs.Blocks.{Blocks, Grows, HasBlocks, told_by}
 use Rattle.jv_contents.specs.Bytes.{tree_with}
 use Rattle.jv_yard.specs.declared.faults.YardFault.{YardFault}
 use Rattle.jv_yard.specs.declared.faults.YardFault.TheVariants.{Depot, Shelf, Memory}
-use Rattle.jv_yard.specs.Contents.{blocks_in, is_block, name_in}
+use Rattle.jv_yard.specs.Contents.{blocks_in}
+use Rattle.jv_yard.specs.BlockCalls.{GetsBlock}
 use Rattle.jv_yard.specs.Refusals.{Refuses}
-use Rattle.jv_yard.specs.Staging.{Staging}
 use Rattle.jv_yard.specs.YardValue.{YardValue}
 use Rattle.jv_yard.proofs.CallLaws.{IsKept-same}
 use Rattle.jv_shared.specs.Shared.{HasStore, Known, Shared, depot_blocks, present_in, rows_in, staged_in, typed_in}
@@ -61,6 +60,12 @@ same-refused v yard Memory refused = record {
   setting = ap (λ (y : YardValue). y.setting) refused;
   staged = ap (λ (y : YardValue). y.staged) refused;
 }
+
+-- a block was read, or reading it was refused
+pub same-gets : (v : Shared) (yard : YardValue) (client : ℕ) (name : List ℕ) (result : Result (Option (List ℕ)) YardFault) → GetsBlock client name v.yard yard result
+    → HoldsSame v (record v { yard = yard })
+same-gets v yard client name (Ok value) got = subst (λ (y : YardValue). HoldsSame v (record v { yard = y })) (sym got.0) (same-none v)
+same-gets v yard client name (Err fault) refused = same-refused v yard fault refused
 
 -- ---- what they keep
 

@@ -110,7 +110,7 @@ bytes_from-same f g a b zero same = refl
 bytes_from-same f g a b (suc n) same =
     let first : f a ≡ g b = ap f (omega arith) ∙ same 0 (omega arith) ∙ ap g (omega arith) in
     let others : bytes_from f (a + 1) n ≡ bytes_from g (b + 1) n = bytes_from-same f g (a + 1) (b + 1) n (λ k low.
-        ap f (omega arith) ∙ same (k + 1) (omega (arith, low)) ∙ ap g (omega arith)) in
+    ap f (omega arith) ∙ same (k + 1) (omega (arith, low)) ∙ ap g (omega arith)) in
     λ i. first i ∷ others i
 
 module _ (block : ℕ) (rows : Rows) (g : Known) (present : Blocks) (window length : ℕ) (list : List Rec) (content : Content)

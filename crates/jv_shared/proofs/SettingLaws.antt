@@ -1,6 +1,6 @@
 -- Rows that are read from bytes have a setting that the grammar allows, so blocks have a length from 64 KiB to 16 MiB.
-use Rattle.std.proofs.Common.{◌≡◌, ℕ, ◌≤◌, Bool, true, false, inl, inr, List, [], ◌∷◌, Option, None, Some, IsTrue, refl, sym, ap, subst, ◌∙◌, arith}
-use Rattle.std.specs.Prelude.{◌&&◌, ◌||◌, ◌==◌, if◌then◌else◌, IfSome, Result, Ok, Err, option_and_then, ok_or}
+use Rattle.std.proofs.Common.{◌≡◌, ℕ, ◌≤◌, Bool, true, false, List, [], ◌∷◌, Option, None, Some, refl, sym, ap, subst, ◌∙◌, arith}
+use Rattle.std.specs.Prelude.{◌&&◌, ◌||◌, ◌==◌, if◌then◌else◌, IfSome, option_and_then, ok_or}
 use Rattle.std.specs.List.{AllByRecursion, list_any}
 use Rattle.std.specs.Option.{option_map}
 use Rattle.std.proofs.lemmas.Bool.{eqb-true}
@@ -13,7 +13,7 @@ use Rattle.jv_model.specs.rows.RowFields.{is_nil, whole, byte_at, front_at, half
 use Rattle.jv_model.specs.rows.RowGrammar.{block_sizes, is_block, is_setting, row_of, setting_of}
 use Rattle.jv_model.specs.rows.RowKeys.{RowMap}
 use Rattle.jv_model.specs.rows.RowPlaces.{setting_key}
-use Rattle.jv_volume.specs.TypedRows.{Cell, cell_of, typed}
+use Rattle.jv_volume.specs.TypedRows.{cell_of, typed}
 use Rattle.jv_volume.specs.Views.{row_in, setting_in, setting_at}
 use Rattle.jv_volume.proofs.TypedLaws.{get-typed}
 
@@ -22,7 +22,8 @@ pub record IsLength (block : ℕ) : Type 0 where
   pub least : MIN_BLOCK ≤ block
   pub most : block ≤ MAX_BLOCK
 
-both_true : (a b : Bool) → (a && b) ≡ true → (a ≡ true) × (b ≡ true)
+-- both of two tests hold
+pub both_true : (a b : Bool) → (a && b) ≡ true → (a ≡ true) × (b ≡ true)
 both_true true b h = (refl, h)
 both_true false b h = absurd (cc)
 
@@ -44,15 +45,33 @@ a_length block h = one_of block block_sizes lengths h
   where
     lengths : AllByRecursion IsLength block_sizes
     lengths = (
-      record { least = omega arith; most = omega arith }, (
-      record { least = omega arith; most = omega arith }, (
-      record { least = omega arith; most = omega arith }, (
-      record { least = omega arith; most = omega arith }, (
-      record { least = omega arith; most = omega arith }, (
-      record { least = omega arith; most = omega arith }, (
-      record { least = omega arith; most = omega arith }, (
-      record { least = omega arith; most = omega arith }, (
-      record { least = omega arith; most = omega arith }, tt)))))))))
+      record { least = omega arith; most = omega arith },
+      (
+        record { least = omega arith; most = omega arith },
+        (
+          record { least = omega arith; most = omega arith },
+          (
+            record { least = omega arith; most = omega arith },
+            (
+              record { least = omega arith; most = omega arith },
+              (
+                record { least = omega arith; most = omega arith },
+                (
+                  record { least = omega arith; most = omega arith },
+                  (
+                    record { least = omega arith; most = omega arith },
+                    (
+                      record { least = omega arith; most = omega arith },
+                      tt,
+                    ),
+                  ),
+                ),
+              ),
+            ),
+          ),
+        ),
+      ),
+    )
 
 -- a setting that the grammar allows
 allowed_length : (setting : Setting) → is_setting setting ≡ true → IsLength setting.block

@@ -1,8 +1,6 @@
 -- Laws of what clients share: what a client sees of a store that is a tree's, and what keeps it one.
-use Rattle.std.proofs.Common.{◌≡◌, ◌≢◌, ℕ, ◌+◌, ◌<◌, ◌≤◌, ◌⊎◌, Bool, true, false, inl, inr, List, length, Option, None, Some, refl, sym, ap, subst, ◌∙◌, arith}
-use Rattle.std.specs.Prelude.{◌&&◌, ◌==◌, if◌then◌else◌, is_some, IsSome, Contains}
-use Rattle.std.specs.List.{AllByRecursion}
-use Rattle.std.proofs.lemmas.Bool.{cases_eq}
+use Rattle.std.proofs.Common.{◌≡◌, ℕ, ◌<◌, ◌≤◌, Bool, true, false, List, length, Option, None, Some, refl, sym, ap, subst, ◌∙◌, arith}
+use Rattle.std.specs.Prelude.{◌&&◌, if◌then◌else◌, is_some, IsSome}
 use Rattle.jv_model.specs.declared.setting.Setting.{Setting}
 use Rattle.jv_model.specs.declared.slice.BlockId.{BlockId}
 use Rattle.jv_model.specs.declared.slice.Rec.{Rec}
@@ -11,22 +9,20 @@ use Rattle.jv_model.specs.tree.Tree.{Content, Tree, content_at}
 use Rattle.jv_outside.specs.Blocks.{staged_at}
 use Rattle.jv_outside.specs.Objects.{ObjectMap, bytes_at}
 use Rattle.jv_volume.specs.TypedRows.{Rows, typed}
-use Rattle.jv_volume.specs.Views.{lists_of, setting_at}
-use Rattle.jv_contents.specs.Blocks.{Blocks, Grows, HasBlocks, IsThere, told_by}
-use Rattle.jv_contents.specs.Bytes.{tree_with}
+use Rattle.jv_volume.specs.Views.{lists_of}
+use Rattle.jv_contents.specs.Blocks.{Blocks, Grows, HasBlocks, IsThere}
 use Rattle.jv_contents.proofs.BlockLaws.{has_blocks-grow, there-grows}
 use Rattle.jv_yard.specs.BlockCalls.{IsBlockBy, IsBlockOf}
 use Rattle.jv_yard.specs.Contents.{blocks_in, is_block, name_in}
 use Rattle.jv_yard.specs.Staging.{staged_since}
 use Rattle.jv_yard.proofs.CallLaws.{known_is}
 use Rattle.jv_yard.proofs.ContentsLaws.{is_block-tells, read-depot}
-use Rattle.jv_shared.specs.Shared.{AreSized, HasStore, Known, Shared, depot_blocks, present_in, rows_in, staged_in, typed_in}
-use Rattle.jv_shared.specs.Seen.{IsFound, Shows, ShowsWindow}
-use Rattle.jv_shared.specs.Flying.{Flies}
-use Rattle.jv_shared.specs.Keeping.{Keeps, KeepsShared}
+use Rattle.jv_shared.specs.Shared.{HasStore, Known, Shared, depot_blocks, present_in, rows_in, typed_in}
+use Rattle.jv_shared.specs.Seen.{IsView, ShowsWindow}
+use Rattle.jv_shared.specs.Keeping.{KeepsShared}
 use Rattle.jv_shared.proofs.SeenLaws.{looked_shows}
 use Rattle.jv_shared.proofs.SettingLaws.{IsLength, setting_length}
-use Rattle.jv_shared.proofs.KeepingLaws.{shows-keeps, flying-keeps}
+use Rattle.jv_shared.proofs.KeepingLaws.{shows-keeps}
 
 -- a block of a depot has the numbers of one
 pub present_block : (setting : Setting) (objects : ObjectMap) (b : BlockId) (bytes : List ℕ) → blocks_in setting objects b ≡ Some bytes
@@ -68,9 +64,9 @@ module _ (t : Tree) (g : Known) (v : Shared) (s : HasStore t g v) where
   -- ---- looks and reads
 
   -- A look at a window of a file shows its bytes.
-  pub look-shows : (inode window length : ℕ) (list : List Rec) (content : Content) → content_at t inode ≡ Some content → content.length ≡ length
-      → list ≡ lists_of (typed s.rows) inode window → Shows g v window length list content
-  look-shows inode window length list content is long same =
+  pub look-view : (inode window length : ℕ) (list : List Rec) (content : Content) → content_at t inode ≡ Some content → content.length ≡ length
+      → list ≡ lists_of (typed s.rows) inode window → IsView g v window length list content
+  look-view inode window length list content is long same =
       subst (λ (blocks : Blocks). ShowsWindow v.yard.setting.block (rows_in v) g blocks window length list content) (sym present_are)
       (subst (λ (rows : Rows). ShowsWindow v.yard.setting.block rows g (blocks_in v.yard.setting s.objects) window length list content) (sym rows_are)
       (subst (λ n. ShowsWindow v.yard.setting.block (typed s.rows) g (blocks_in v.yard.setting s.objects) window n list content) long
@@ -117,8 +113,8 @@ module _ (t : Tree) (g : Known) (v : Shared) (s : HasStore t g v) where
 
   module _ (own : ℕ) (g' : Known) (v' : Shared) (k : KeepsShared own g g' v v') where
     -- a view stays
-    pub shows-stay : (window length : ℕ) (list : List Rec) (content : Content) → Shows g v window length list content → Shows g' v' window length list content
-    shows-stay window length list content shows =
+    pub view-stays : (window length : ℕ) (list : List Rec) (content : Content) → IsView g v window length list content → IsView g' v' window length list content
+    view-stays window length list content shows =
         subst (λ (x : Setting). ShowsWindow x.block (rows_in v') g' (present_in v') window length list content) (sym k.setting)
         (shows-keeps own (rows_in v) (rows_in v') g g' (present_in v) (present_in v') k.keeps v.yard.setting.block block_some present_known
         window length list content shows)

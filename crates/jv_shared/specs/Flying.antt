@@ -11,6 +11,6 @@ pub record IsFlying (block : ℕ) (rows : Rows) (g : Known) (present : Blocks) (
   pub here : InFlight block rows present f
   pub size : g.sizes f.id ≡ length f.bytes
 
--- the same of what clients share
+-- a slice in flight, over what clients share
 abbrev pub Flies : Known → Shared → Flight → Type 0
 Flies g v f = IsFlying v.yard.setting.block (rows_in v) g (present_in v) f

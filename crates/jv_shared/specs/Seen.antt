@@ -30,6 +30,6 @@ pub record ShowsWindow (block : ℕ) (rows : Rows) (g : Known) (present : Blocks
   pub bytes : (place : ℕ) → place < WINDOW → window * WINDOW + place < length
       → content.byte (window * WINDOW + place) ≡ spot_byte (told_by block g.blocks) (stored_place list place)
 
--- the same of what clients share
-abbrev pub Shows : Known → Shared → ℕ → ℕ → List Rec → Content → Type 0
-Shows g v window length list content = ShowsWindow v.yard.setting.block (rows_in v) g (present_in v) window length list content
+-- a view of a window of a file, over what clients share
+abbrev pub IsView : Known → Shared → ℕ → ℕ → List Rec → Content → Type 0
+IsView g v window length list content = ShowsWindow v.yard.setting.block (rows_in v) g (present_in v) window length list content
