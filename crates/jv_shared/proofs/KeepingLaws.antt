@@ -135,6 +135,10 @@ flies-stay own g g' v v' k f apart flying =
     subst (λ (x : Setting). IsFlying x.block (rows_in v') g' (present_in v') f) (sym k.setting)
     (flying-keeps own (rows_in v) (rows_in v') g g' (present_in v) (present_in v') k.keeps v.yard.setting.block f apart flying)
 
+-- also where the step is about no slice
+pub flies-stay_none : (g g' : Known) (v v' : Shared) → KeepsShared 0 g g' v v' → (f : Flight) → Flies g v f → Flies g' v' f
+flies-stay_none g g' v v' k f flying = flies-stay 0 g g' v v' k f (λ none. (let some = flying.ever.some in absurd (omega (arith, some, none)))) flying
+
 -- one step after another
 pub leads-then : (own : ℕ) (t' t'' : Tree) (g g' g'' : Known) (v v' v'' : Shared) → Leads own t' g g' v v' → Leads own t'' g' g'' v' v'' → Leads own t'' g g'' v v''
 leads-then own t' t'' g g' g'' v v' v'' first second =

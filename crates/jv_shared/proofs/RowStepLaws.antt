@@ -183,6 +183,12 @@ module _ (t : Tree) (g : Known) (v : Shared) (s : HasStore t g v) where
         by_test true e = absurd (apart (sym (eqb-true id other e)))
         by_test false e = refl
 
+    -- slices that were in flight have other numbers
+    pub number-apart : (f : Flight) → Flies g v f → f.id ≢ id
+    number-apart f flies own =
+        let low = subst (λ (rows : Rows). f.id < next_slice rows) (rows_are t g v s) flies.ever.below in
+        absurd (omega (arith, low, own, given))
+
     -- The giving of a number leads to the same tree, where the slice's size is known.
     pub number-leads : (size own : ℕ) → Leads own t g (with_size id size g) v (record v { keeper = keeper; carrier = carrier })
     number-leads size own = record {

@@ -1,10 +1,11 @@
 -- Laws of what clients share: what a client sees of a store that is a tree's, and what keeps it one.
 use Rattle.std.proofs.Common.{◌≡◌, ℕ, ◌<◌, ◌≤◌, Bool, true, false, List, length, Option, None, Some, refl, sym, ap, subst, ◌∙◌, arith}
-use Rattle.std.specs.Prelude.{◌&&◌, if◌then◌else◌, is_some, IsSome}
+use Rattle.std.specs.Prelude.{◌&&◌, Contains, if◌then◌else◌, is_some, IsSome}
 use Rattle.jv_model.specs.declared.setting.Setting.{Setting}
 use Rattle.jv_model.specs.declared.slice.BlockId.{BlockId}
 use Rattle.jv_model.specs.declared.slice.Rec.{Rec}
 use Rattle.jv_model.specs.rows.RowKeys.{RowMap}
+use Rattle.jv_model.specs.blocks.Slices.{block_at, block_count}
 use Rattle.jv_model.specs.tree.Tree.{Content, Tree, content_at}
 use Rattle.jv_outside.specs.Blocks.{staged_at}
 use Rattle.jv_outside.specs.Objects.{ObjectMap, bytes_at}
@@ -20,7 +21,7 @@ use Rattle.jv_yard.proofs.ContentsLaws.{is_block-tells, read-depot}
 use Rattle.jv_shared.specs.Shared.{HasStore, Known, Shared, depot_blocks, present_in, rows_in, typed_in}
 use Rattle.jv_shared.specs.Seen.{IsView, ShowsWindow}
 use Rattle.jv_shared.specs.Keeping.{KeepsShared}
-use Rattle.jv_shared.proofs.SeenLaws.{looked_shows}
+use Rattle.jv_shared.proofs.SeenLaws.{looked_shows, named_there}
 use Rattle.jv_shared.proofs.SettingLaws.{IsLength, setting_length}
 use Rattle.jv_shared.proofs.KeepingLaws.{shows-keeps}
 
@@ -108,6 +109,16 @@ module _ (t : Tree) (g : Known) (v : Shared) (s : HasStore t g v) where
   -- and it has bytes of the length that its name says
   pub block_known : (b : BlockId) → IsThere (present_in v) b → IsThere g.blocks b
   block_known b there = there-grows (present_in v) g.blocks b present_known there
+
+  -- Of each block that a view's records name a client reads the bytes that are known of it.
+  pub named_read : (window length : ℕ) (list : List Rec) (content : Content) → IsView g v window length list content
+      → (b : BlockId) (r : Rec) → Contains list r → 0 < r.id → b.index < block_count r.size v.yard.setting.block
+      → b ≡ block_at r.id r.size v.yard.setting.block b.index
+      → (client : ℕ) (value : Option (List ℕ)) → client ≤ 7 → IsBlockOf v.yard client (name_in v.yard.setting b) value
+      → (value ≡ g.blocks b) × IsThere g.blocks b
+  named_read window length list content view b r among some below is client value low read =
+      let there = named_there v.yard.setting.block (rows_in v) g (present_in v) window length list content view b r among some below is in
+      (block_read client b value low there read, block_known b there)
 
   -- ---- what others hold
 
