@@ -1,0 +1,131 @@
+-- Laws of what clients share: what a client sees of a store that is a tree's, and what keeps it one.
+use Rattle.std.proofs.Common.{◌≡◌, ℕ, ◌<◌, ◌≤◌, Bool, true, false, List, length, Option, None, Some, refl, sym, ap, subst, ◌∙◌, arith}
+use Rattle.std.specs.Prelude.{◌&&◌, Contains, if◌then◌else◌, is_some, IsSome}
+use Rattle.jv_model.specs.declared.setting.Setting.{Setting}
+use Rattle.jv_model.specs.declared.slice.BlockId.{BlockId}
+use Rattle.jv_model.specs.declared.slice.Rec.{Rec}
+use Rattle.jv_model.specs.rows.RowKeys.{RowMap}
+use Rattle.jv_model.specs.blocks.Slices.{block_at, block_count}
+use Rattle.jv_model.specs.tree.Tree.{Content, Tree, content_at}
+use Rattle.jv_outside.specs.Blocks.{staged_at}
+use Rattle.jv_outside.specs.Objects.{ObjectMap, bytes_at}
+use Rattle.jv_volume.specs.TypedRows.{Rows, typed}
+use Rattle.jv_volume.specs.Views.{lists_of}
+use Rattle.jv_contents.specs.Blocks.{Blocks, Grows, HasBlocks, IsThere}
+use Rattle.jv_contents.proofs.BlockLaws.{has_blocks-grow, there-grows}
+use Rattle.jv_yard.specs.BlockCalls.{IsBlockBy, IsBlockOf}
+use Rattle.jv_yard.specs.Contents.{blocks_in, is_block, name_in}
+use Rattle.jv_yard.specs.Staging.{staged_since}
+use Rattle.jv_yard.proofs.CallLaws.{known_is}
+use Rattle.jv_yard.proofs.ContentsLaws.{is_block-tells, read-depot}
+use Rattle.jv_shared.specs.Shared.{HasStore, Known, Shared, depot_blocks, present_in, rows_in, typed_in}
+use Rattle.jv_shared.specs.Seen.{IsView, ShowsWindow}
+use Rattle.jv_shared.specs.Keeping.{KeepsShared}
+use Rattle.jv_shared.proofs.SeenLaws.{looked_shows, named_there}
+use Rattle.jv_shared.proofs.SettingLaws.{IsLength, setting_length}
+use Rattle.jv_shared.proofs.KeepingLaws.{shows-keeps}
+
+-- a block of a depot has the numbers of one
+pub present_block : (setting : Setting) (objects : ObjectMap) (b : BlockId) (bytes : List ℕ) → blocks_in setting objects b ≡ Some bytes
+    → is_block setting.block b ≡ true
+present_block setting objects b bytes is = by_test (is_block setting.block b) refl is
+  where
+    by_test : (test : Bool) → is_block setting.block b ≡ test → (if test then bytes_at (name_in setting b) objects else None) ≡ Some bytes
+        → is_block setting.block b ≡ true
+    by_test true e h = e
+    by_test false e h = absurd (cc)
+
+module _ (t : Tree) (g : Known) (v : Shared) (s : HasStore t g v) where
+  -- ---- rows, blocks and bytes
+
+  pub rows_are : rows_in v ≡ typed s.rows
+  rows_are = ap typed_in s.rows_are
+
+  pub present_are : present_in v ≡ blocks_in v.yard.setting s.objects
+  present_are = ap (depot_blocks v.yard.setting) s.objects_are
+
+  -- rows that are known are these
+  pub rows_known : (rows : RowMap) → v.keeper.rows ≡ Some rows → rows_in v ≡ typed rows
+  rows_known rows is = ap typed_in is
+
+  pub block_length : IsLength v.yard.setting.block
+  block_length = setting_length s.rows v.yard.setting s.setting
+
+  pub block_some : 0 < v.yard.setting.block
+  block_some = (let least = block_length.least in omega (arith, least))
+
+  -- all blocks of the depot are known
+  pub present_known : Grows (present_in v) g.blocks
+  present_known = subst (λ (blocks : Blocks). Grows blocks g.blocks) (sym present_are) s.copies
+
+  -- so all blocks of slices with rows are
+  pub known_has : HasBlocks v.yard.setting.block (typed s.rows) g.blocks
+  known_has = has_blocks-grow v.yard.setting.block (typed s.rows) (blocks_in v.yard.setting s.objects) g.blocks s.copies s.there
+
+  -- ---- looks and reads
+
+  -- A look at a window of a file shows its bytes.
+  pub look-view : (inode window length : ℕ) (list : List Rec) (content : Content) → content_at t inode ≡ Some content → content.length ≡ length
+      → list ≡ lists_of (typed s.rows) inode window → IsView g v window length list content
+  look-view inode window length list content is long same =
+      subst (λ (blocks : Blocks). ShowsWindow v.yard.setting.block (rows_in v) g blocks window length list content) (sym present_are)
+      (subst (λ (rows : Rows). ShowsWindow v.yard.setting.block rows g (blocks_in v.yard.setting s.objects) window length list content) (sym rows_are)
+      (subst (λ n. ShowsWindow v.yard.setting.block (typed s.rows) g (blocks_in v.yard.setting s.objects) window n list content) long
+      (subst (λ (rs : List Rec). ShowsWindow v.yard.setting.block (typed s.rows) g (blocks_in v.yard.setting s.objects) window content.length rs content)
+      (sym same)
+      (looked_shows v.yard.setting.block (typed s.rows) g (blocks_in v.yard.setting s.objects) s.whole.slices s.sized s.there inode window content
+      (subst (λ (x : Tree). content_at x inode ≡ Some content) s.tree is)))))
+
+  -- What a client reads of a block that is there is known of it: its own staged copy, or the depot's.
+  pub block_read : (client : ℕ) (b : BlockId) (value : Option (List ℕ)) → client ≤ 7 → IsThere (present_in v) b
+      → IsBlockOf v.yard client (name_in v.yard.setting b) value → value ≡ g.blocks b
+  block_read client b value low there read = by_since (staged_since client (name_in v.yard.setting b) v.yard.staged) refl
+    where
+      here : blocks_in v.yard.setting s.objects b ≡ Some there.bytes
+      here = ap (λ (blocks : Blocks). blocks b) (sym present_are) ∙ there.is
+
+      passes : is_block v.yard.setting.block b ≡ true
+      passes = present_block v.yard.setting s.objects b there.bytes here
+
+      by_copy : IsSome (staged_since client (name_in v.yard.setting b) v.yard.staged) → (o : Option (List ℕ)) → staged_at client (name_in v.yard.setting b) s.staged ≡ o
+          → IsSome o → g.blocks b ≡ o
+      by_copy staged None e some = absurd (cc)
+      by_copy staged (Some bytes) e some =
+          s.staged_copies client b bytes
+          (ap (λ test. if test then staged_at client (name_in v.yard.setting b) s.staged else None) (λ i. passes i && staged i) ∙ e)
+
+      by_since : (o : Option ℕ) → staged_since client (name_in v.yard.setting b) v.yard.staged ≡ o → value ≡ g.blocks b
+      by_since None e =
+          read-depot v.yard s.objects client b value s.objects_are (is_block-tells v.yard.setting.block b passes) e read
+          ∙ here ∙ sym (s.copies b there.bytes here)
+      by_since (Some since) e =
+          let staged : IsSome (staged_since client (name_in v.yard.setting b) v.yard.staged) = ap is_some e in
+          let found : value ≡ staged_at client (name_in v.yard.setting b) s.staged =
+          known_is v.yard.shelf.content s.staged (λ some. value ≡ staged_at client (name_in v.yard.setting b) some) s.staged_are
+          (subst (λ o. IsBlockBy o v.yard client (name_in v.yard.setting b) value) e read) in
+          found ∙ sym (by_copy staged (staged_at client (name_in v.yard.setting b) s.staged) refl
+          (s.kept.there s.staged s.staged_are client (name_in v.yard.setting b) low staged))
+
+  -- and it has bytes of the length that its name says
+  pub block_known : (b : BlockId) → IsThere (present_in v) b → IsThere g.blocks b
+  block_known b there = there-grows (present_in v) g.blocks b present_known there
+
+  -- Of each block that a view's records name a client reads the bytes that are known of it.
+  pub named_read : (window length : ℕ) (list : List Rec) (content : Content) → IsView g v window length list content
+      → (b : BlockId) (r : Rec) → Contains list r → 0 < r.id → b.index < block_count r.size v.yard.setting.block
+      → b ≡ block_at r.id r.size v.yard.setting.block b.index
+      → (client : ℕ) (value : Option (List ℕ)) → client ≤ 7 → IsBlockOf v.yard client (name_in v.yard.setting b) value
+      → (value ≡ g.blocks b) × IsThere g.blocks b
+  named_read window length list content view b r among some below is client value low read =
+      let there = named_there v.yard.setting.block (rows_in v) g (present_in v) window length list content view b r among some below is in
+      (block_read client b value low there read, block_known b there)
+
+  -- ---- what others hold
+
+  module _ (own : ℕ) (g' : Known) (v' : Shared) (k : KeepsShared own g g' v v') where
+    -- a view stays
+    pub view-stays : (window length : ℕ) (list : List Rec) (content : Content) → IsView g v window length list content → IsView g' v' window length list content
+    view-stays window length list content shows =
+        subst (λ (x : Setting). ShowsWindow x.block (rows_in v') g' (present_in v') window length list content) (sym k.setting)
+        (shows-keeps own (rows_in v) (rows_in v') g g' (present_in v) (present_in v') k.keeps v.yard.setting.block block_some present_known
+        window length list content shows)

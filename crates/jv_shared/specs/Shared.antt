@@ -1,0 +1,86 @@
+-- What all clients share, and when it is a tree's.
+use Rattle.std.specs.Prelude.{◌≡◌, ◌≢◌, ℕ, ◌&&◌, ◌==◌, if◌then◌else◌, List, is_some, Option, None, Some}
+use Rattle.jv_model.specs.declared.row.SliceRow.{SliceRow}
+use Rattle.jv_model.specs.declared.setting.Setting.{Setting}
+use Rattle.jv_model.specs.declared.slice.BlockId.{BlockId}
+use Rattle.jv_model.specs.FiniteMap.{empty_map}
+use Rattle.jv_model.specs.blocks.Slices.{is_same_block}
+use Rattle.jv_model.specs.rows.RowKeys.{RowMap}
+use Rattle.jv_model.specs.tree.Tree.{Tree}
+use Rattle.jv_outside.specs.Blocks.{StagedMap, staged_at}
+use Rattle.jv_outside.specs.Carriage.{Carriage}
+use Rattle.jv_outside.specs.Objects.{ObjectMap}
+use Rattle.jv_outside.specs.Store.{Store}
+use Rattle.jv_volume.specs.TypedRows.{Rows, typed}
+use Rattle.jv_volume.specs.Views.{setting_at, slice_row_at}
+use Rattle.jv_volume.specs.Slices.{ListsHave}
+use Rattle.jv_volume.specs.Whole.{Whole}
+use Rattle.jv_contents.specs.Blocks.{AreBelow, Blocks, Grows, HasBlocks, told_by}
+use Rattle.jv_contents.specs.Bytes.{tree_with}
+use Rattle.jv_yard.specs.Contents.{blocks_in, is_block, name_in}
+use Rattle.jv_yard.specs.Staging.{staged_since}
+use Rattle.jv_yard.specs.YardValue.{IsKept, YardValue}
+
+-- the keeper's rows, the yard with depot and shelf, and what is seen of main's carrier
+pub record Shared : Type 0 where
+  pub keeper : Store
+  pub yard : YardValue
+  pub carrier : Carriage
+
+-- the rows of a keeper, none where they aren't known
+abbrev pub typed_in : Option RowMap → Rows
+typed_in None = empty_map
+typed_in (Some rows) = typed rows
+
+abbrev pub rows_in : Shared → Rows
+rows_in v = typed_in v.keeper.rows
+
+-- the blocks of a depot, none where its objects aren't known
+abbrev pub depot_blocks : Setting → Option ObjectMap → Blocks
+depot_blocks setting None = λ b. None
+depot_blocks setting (Some objects) = blocks_in setting objects
+
+abbrev pub present_in : Shared → Blocks
+present_in v = depot_blocks v.yard.setting v.yard.depot.content
+
+-- What is known for good: the bytes of each block that there ever was, and the size of each slice that has a number.
+pub record Known : Type 0 where
+  pub blocks : Blocks
+  pub sizes : ℕ → ℕ
+
+-- a block is known too
+abbrev pub with_block : BlockId → List ℕ → Known → Known
+with_block b bytes g = record g { blocks = λ other. if is_same_block b other then Some bytes else g.blocks other }
+
+-- and the size of a slice
+abbrev pub with_size : ℕ → ℕ → Known → Known
+with_size id size g = record g { sizes = λ other. if id == other then size else g.sizes other }
+
+-- rows name each slice with the size that is known
+pub record AreSized (sizes : ℕ → ℕ) (rows : Rows) : Type 0 where
+  pub records : ListsHave (λ r. r.id ≢ 0 → r.size ≡ sizes r.id) rows
+  pub slices : (id : ℕ) (slice : SliceRow) → slice_row_at rows id ≡ Some slice → slice.size ≡ sizes id
+
+-- the blocks of the volume that a client has staged
+abbrev pub staged_in : YardValue → StagedMap → ℕ → Blocks
+staged_in yard staged client b = (if is_block yard.setting.block b && is_some (staged_since client (name_in yard.setting b) yard.staged)
+    then staged_at client (name_in yard.setting b) staged else None)
+
+-- The tree is that of the keeper's rows, which are known and whole, with the bytes that their slices' blocks have. The depot has each
+-- of these blocks; all copies of a block have its bytes, and none is of a slice that is still to get its number.
+pub record HasStore (t : Tree) (g : Known) (v : Shared) : Type 0 where
+  pub rows : RowMap
+  pub rows_are : v.keeper.rows ≡ Some rows
+  pub whole : Whole (typed rows)
+  pub sized : AreSized g.sizes (typed rows)
+  pub setting : setting_at (typed rows) ≡ Some v.yard.setting
+  pub objects : ObjectMap
+  pub objects_are : v.yard.depot.content ≡ Some objects
+  pub staged : StagedMap
+  pub staged_are : v.yard.shelf.content ≡ Some staged
+  pub there : HasBlocks v.yard.setting.block (typed rows) (blocks_in v.yard.setting objects)
+  pub copies : Grows (blocks_in v.yard.setting objects) g.blocks
+  pub staged_copies : (client : ℕ) → Grows (staged_in v.yard staged client) g.blocks
+  pub kept : IsKept v.yard
+  pub below : AreBelow (typed rows) g.blocks
+  pub tree : t ≡ tree_with (told_by v.yard.setting.block g.blocks) (typed rows)
