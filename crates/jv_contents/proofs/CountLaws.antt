@@ -186,11 +186,13 @@ move-others rows middle after gone added m same next = record {
   deads = λ id. ap (λ c. dead_in (row_in c)) (same (dead_key id) refl) ∙ m.deads id;
   records = λ key. subst (AllByRecursion IsRecord) (sym (lists key)) (m.records key);
   names = λ key. subst (AllByRecursion (λ r. r.id ≢ 0 → HadSize rows r.id r.size)) (sym (lists key)) (m.names key);
-  behind = record { by = λ id some.
-      (let was = m.behind.by id some in
-      let count = ap count_in (slices id) in
-      let names = named_same id in
-      omega (arith, was, count, names)) };
+  behind = record {
+    by = λ id some.
+        (let was = m.behind.by id some in
+        let count = ap count_in (slices id) in
+        let names = named_same id in
+        omega (arith, was, count, names));
+  };
   count = (let was = m.count in let now = count_same in omega (arith, was, now));
 }
   where
@@ -337,12 +339,12 @@ module _ (more : ℕ) (rows middle after : Rows) (gone added : List Rec) (due : 
           inr (
             record { slice = had.slice; is = had.is; size_is = had.size_is ∙ ap (λ (d : Dead). d.size) same },
             ap (λ c. slice_in (row_in c)) r.row
-            ∙ ap (λ b. slice_in (row_in (cond b None (Some (Ok (OfSlice (record { size = r.slice.size; count = recounted r.slice.count (records_naming id gone) (records_naming id added) }))))))) e,
+                ∙ ap (λ b. slice_in (row_in (cond b None (Some (Ok (OfSlice (record { size = r.slice.size; count = recounted r.slice.count (records_naming id gone) (records_naming id added) }))))))) e,
           )
       by_zero r false e = inl (
-        sym (m.deads id)
-        ∙ sym (ap (λ c. dead_in (row_in c)) r.dead ∙ ap (λ b. dead_in (row_in (cond b (Some (Ok (OfDead (record { size = r.slice.size; due = due })))) (get middle (dead_key id))))) e)
-        ∙ there)
+          sym (m.deads id)
+          ∙ sym (ap (λ c. dead_in (row_in c)) r.dead ∙ ap (λ b. dead_in (row_in (cond b (Some (Ok (OfDead (record { size = r.slice.size; due = due })))) (get middle (dead_key id))))) e)
+          ∙ there)
 
       by_becomes : Becomes gone added due middle after id → (dead_at rows id ≡ Some dead) ⊎ (HadSize rows id dead.size × (slice_row_at after id ≡ None))
       by_becomes (Follows named r) = by_zero r (recounted r.slice.count (records_naming id gone) (records_naming id added) == 0) refl
