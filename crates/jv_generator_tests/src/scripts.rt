@@ -68,15 +68,22 @@ fn the_first_25_lines_of_the_seed_0(rt: HostRuntime) -> Result<(), Fail> {
     Ok(())
 }
 
-#[test]
-fn the_last_lines_flush_the_last_files(rt: HostRuntime) -> Result<(), Fail> {
+// The script of the seed 0 before its last two lines.
+fn near_the_end(alloc: Global) -> Result<Generator, AllocError> {
     let mut script = Generator::new(0);
     for _ in 2..LINES {
-        let line = script.next(rt.alloc())?;
-        assert!(rt; line.is_some());
+        script.next(alloc)?;
     }
-    assert_eq!(rt; script.next(rt.alloc())?, Some(flush(15)));
-    assert_eq!(rt; script.next(rt.alloc())?, Some(flush(16)));
-    assert_eq!(rt; script.next(rt.alloc())?, None);
+    Ok(script)
+}
+
+#[test]
+fn the_last_two_lines_flush_the_last_files(rt: HostRuntime) -> Result<(), Fail> {
+    let mut script = near_the_end(rt.alloc())?;
+    for handle in [15, 16] {
+        assert_eq!(rt; script.next(rt.alloc())?, Some(flush(handle)));
+    }
+    let end = script.next(rt.alloc())?;
+    assert!(rt; end.is_none());
     Ok(())
 }
