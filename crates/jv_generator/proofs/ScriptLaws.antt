@@ -1,14 +1,15 @@
--- What the lines of a script are by their index, and how many there are.
-use Rattle.std.proofs.Common.{◌≡◌, ℕ, zero, suc, ◌+◌, ◌-◌, ◌<◌, ◌≤◌, false, List, [], ◌∷◌, ◌++◌, length, map, refl, ap, sym, subst, ◌∙◌, arith, Some, None, slice_get, length-append}
+-- What the lines of a script are by their index, how many there are, and that its accesses are of its files.
+use Rattle.std.proofs.Common.{◌≡◌, ℕ, zero, suc, ◌+◌, ◌-◌, ◌/◌, ◌%◌, ◌^◌, ◌<◌, ◌≤◌, ◌==◌, Bool, true, false, if◌then◌else◌, List, [], ◌∷◌, ◌++◌, length, map, replicate, refl, ap, sym, subst, ◌∙◌, arith, Some, None, slice_get, length-append}
 use Rattle.std.specs.List.{range_with_len}
 use Rattle.std.specs.Option.{option_map}
-use Rattle.std.proofs.lemmas.List.{length-map}
+use Rattle.std.proofs.lemmas.List.{length-map, length-replicate}
 use Rattle.std.proofs.lemmas.List.FromFn.{length-map-range_with_len, get_or-map-range_with_len}
 use Rattle.std.proofs.lemmas.Option.{slice_get-map, slice_get-get_or, slice_get_past}
 use Rattle.jv_model.specs.declared.op.Op.{Op}
-use Rattle.jv_model.specs.declared.op.Op.TheVariants.{Mount, Flush}
-use Rattle.jv_generator.specs.declared.accesses.TheConstants.{FILES, ACCESSES, LINES}
+use Rattle.jv_model.specs.declared.op.Op.TheVariants.{Mount, Read, Write, Flush}
+use Rattle.jv_generator.specs.declared.accesses.TheConstants.{FILES, ACCESSES, LINES, READ_EVERY, POSITIONS, MAX_LENGTH}
 use Rattle.jv_generator.specs.Script.{next_state, state, create, access, operations, on_client, script}
+use Rattle.jv_generator.specs.Laws.{IsAccess, IsAccessOp, AccessesFit}
 
 -- ==== lists ====
 
@@ -137,3 +138,23 @@ no_line seed index h = slice_get_past (script seed) index (omega (arith, script_
 pub state_next : (seed k before : ℕ) → before ≡ state seed k → next_state before ≡ state seed (suc k)
 unfolding state
 state_next seed k before h = ap next_state h
+
+-- ==== accesses ====
+
+drawn_fits : (x : ℕ) → x < 2 ^ 64 → IsAccess (x / 2 ^ 60 + 1) (x / 2 ^ 20 % POSITIONS) (1 + x / 2 ^ 8 % MAX_LENGTH)
+drawn_fits x h = record {
+  opened = omega arith;
+  file = omega arith;
+  begins = omega arith;
+  some = omega arith;
+  short = omega arith;
+}
+
+either_fits : (is_read : Bool) (handle position size value : ℕ) → IsAccess handle position size
+    → IsAccessOp (if is_read then Read handle position size else Write handle position (replicate size value))
+either_fits true handle position size value h = h
+either_fits false handle position size value h = subst (λ (n : ℕ). IsAccess handle position n) (sym (length-replicate size value)) h
+
+pub accesses_fit : AccessesFit
+accesses_fit number x h =
+    either_fits (number % READ_EVERY == 0) (x / 2 ^ 60 + 1) (x / 2 ^ 20 % POSITIONS) (1 + x / 2 ^ 8 % MAX_LENGTH) (x % 256) (drawn_fits x h)

@@ -9,7 +9,7 @@ use std::alloc::{AllocError, Global};
 /// The lines of a script: a mount, then a `create` for each file, the accesses, and a `flush` for each file.
 pub const LINES: u32 = 4_033;
 
-/// The files. Their handles are 1 to this number.
+/// The files. Their handles go from 1 to this number.
 pub const FILES: u32 = 16;
 
 /// The reads and writes.
@@ -21,7 +21,7 @@ pub const READ_EVERY: u32 = 4;
 /// The most bytes of an access.
 pub const MAX_LENGTH: u64 = 4_096;
 
-/// An access begins at a position below this one: 128 MiB, two windows.
+/// An access begins at a position below this one: 128 MiB, the end of the second window.
 pub const POSITIONS: u64 = 134_217_728;
 
 /// The permission bits of the files: 0644.
@@ -86,6 +86,7 @@ fn create(alloc: Global, i: u32) -> Result<Op, AllocError>
 fn access(alloc: Global, number: u32, x: u64) -> Result<Op, AllocError>
     ensures { IfOk result (λ op. op ≡ access number x) }
 {
+    // From the top: four bits for the handle, 27 for the position, twelve for the length, and eight for the value.
     let handle = (x >> 60) + 1;
     let offset = (x >> 20) % POSITIONS;
     let len = 1 + (x >> 8) % MAX_LENGTH;

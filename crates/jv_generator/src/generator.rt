@@ -30,8 +30,8 @@ impl Model for Generator {
 }
 
 impl Generator {
-    #[tactic(auto, unfolding(crate::specs::Script::state))]
     /// The script of a seed, from its first line on. Takes no memory.
+    #[tactic(auto, unfolding(crate::specs::Script::state))]
     pub fn new(seed: u64) -> Generator
         ensures { result ≡ record { seed = seed; given = 0 } }
     {
@@ -42,9 +42,9 @@ impl Generator {
         }
     }
 
-    #[tactic(auto, using(crate::proofs::ScriptLaws::no_line))]
     /// Returns the next of the script's [`LINES`] lines, and None at the end. Takes the memory of that line only.
-    /// The only error is out of memory; nothing has changed then, so that the line can be asked for again.
+    /// The only error is out of memory; nothing has changed then, and the next call returns that line.
+    #[tactic(auto, using(crate::proofs::ScriptLaws::no_line))]
     pub fn next(&mut self, alloc: Global) -> Result<Option<Line>, AllocError>
         ensures line { IfOk result (λ line. line ≡ slice_get (script self.old.seed) self.old.given) }
         ensures end { IfOk result (λ line. (line ≡ None) ↔ (self.old.given ≡ LINES)) }

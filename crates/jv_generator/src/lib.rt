@@ -10,5 +10,5 @@ pub use accesses::{
     ACCESSES, FILES, INCREMENT, LINES, MAX_LENGTH, MODE, MULTIPLIER, POSITIONS, READ_EVERY,
 };
 pub use generator::Generator;
-pub use laws::{scripts_have_lines, totals_are_sums};
+pub use laws::{accesses_fit, scripts_have_lines, totals_are_sums};
 pub use totals::Totals;
