@@ -88,9 +88,10 @@ fn add_names(found: &mut ClientBlocks, setting: &Setting, names: NameList) -> Re
     ensures { OnOk result (AddsNames setting.now names found.old found.new) }
 {
     for name in names.into_vec() {
-        if is_block_name(setting, &name) {
-            found.add(name, Moment(0))?;
+        if !is_block_name(setting, &name) {
+            continue;
         }
+        found.add(name, Moment(0))?;
     }
     Ok(())
 }

@@ -1,5 +1,5 @@
 -- A block's name, and bytes of its length.
-use Rattle.std.proofs.Common.{refl, sym, ap, ◌∙◌, length, lit<, lit≤}
+use Rattle.std.proofs.Common.{refl, ap, length, lit<, lit≤}
 use Rattle.jv_outside.specs.declared.parcel.Load.TheVariants.{Held}
 use Rattle.jv_yard.proofs.CallLaws.{block_parcel}
 use Rattle.jv_yard_tests.proofs.yards.parcel.Goals as goal
