@@ -106,7 +106,7 @@ module _ (caller : Caller) (place : EntryKey) (inode : ℕ) (draft : List Change
           → Drafting {A = Fate} ready draft draft before after (Err fault) stay
       fate-no_setting fault n = drafting-lacking ready draft draft before middle so_far stay OfSetting is_setting
           setting_key after fault refl
-          (λ known bytes t m. ap is_some m.stored.setting) n
+          (λ known bytes t m is_ready. ap is_some m.stored.setting) n
 
       module _ (setting : Setting) (n : Needs OfSetting is_setting setting_key draft middle after (Ok setting)) where
         -- its last entry goes
