@@ -230,16 +230,16 @@ unnamed_by false false id n e f some h = absurd (true≢false h)
 unnamed : (gone added : List Rec) (id : ℕ) → is_named gone added id ≡ false → 0 < id → records_naming id gone + records_naming id added ≡ 0
 unnamed gone added id h some = unnamed_by (id == 0) (records_naming id gone + records_naming id added == 0) id (records_naming id gone + records_naming id added) refl refl some h
 
+positive : (n : ℕ) → (n == 0) ≡ false → 0 < n
+positive zero e = absurd (true≢false e)
+positive (suc n) e = omega arith
+
 named_some : (gone added : List Rec) (id : ℕ) → is_named gone added id ≡ true → 0 < id
 named_some gone added id h = by_zero (id == 0) refl
   where
     by_zero : (b : Bool) → (id == 0) ≡ b → 0 < id
     by_zero true e = absurd (true≢false (sym h ∙ ap (λ b. not b && not (records_naming id gone + records_naming id added == 0)) e))
     by_zero false e = positive id e
-
-    positive : (n : ℕ) → (n == 0) ≡ false → 0 < n
-    positive zero e = absurd (true≢false e)
-    positive (suc n) e = omega arith
 
 -- what became of a slice
 data Becomes (gone added : List Rec) (due : ℕ) (rows after : Rows) (id : ℕ) : Type 0 where

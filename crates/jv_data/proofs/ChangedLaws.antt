@@ -9,7 +9,6 @@ use Rattle.jv_model.specs.tree.Tree.{Content}
 use Rattle.jv_model.specs.tree.Changes.{with_content}
 use Rattle.jv_volume.specs.TypedRows.{Rows}
 use Rattle.jv_volume.specs.Views.{lists_of, node_row_at, counters_at}
-use Rattle.jv_volume.specs.TreeOf.{tree_of}
 use Rattle.jv_volume.specs.Slices.{place_in}
 use Rattle.jv_volume.specs.Whole.{Whole}
 use Rattle.jv_contents.specs.Bytes.{Told, spot_byte, bytes_of, tree_with}

@@ -1,9 +1,8 @@
 -- How a commit of bytes ends: each of its exits, by how it began.
-use Rattle.std.proofs.Common.{Bool, ◌≡◌, ◌≢◌, ℕ, ◌+◌, ◌≤◌, true, false, ◌&&◌, List, [], length, Option, None, Some, inl, inr, Result, Ok, Err, refl, sym, ap, subst, ◌∙◌, arith}
-use Rattle.std.specs.Prelude.{nat_le, nat_lt, max, slice_index, ◌-◌, if◌then◌else◌}
+use Rattle.std.proofs.Common.{Bool, ◌≡◌, ℕ, ◌+◌, ◌≤◌, true, false, List, [], length, Option, None, Some, inl, inr, Result, Ok, Err, refl, sym, ap, subst, ◌∙◌, arith}
+use Rattle.std.specs.Prelude.{nat_lt, max, if◌then◌else◌}
 use Rattle.std.specs.Option.{option_map}
 use Rattle.std.proofs.lemmas.Bool.{cases_lt, cond-true, cond-false, lt-ltb, le-ltb, and_right}
-use Rattle.jv_model.specs.declared.fault.Down.{Down}
 use Rattle.jv_model.specs.declared.fault.Fault.{Fault}
 use Rattle.jv_model.specs.declared.fault.Fault.TheVariants.{NoSpace, TimedOut}
 use Rattle.jv_model.specs.declared.fault.RowFault.TheVariants.{Bad, Failed, Memory}
@@ -12,18 +11,17 @@ use Rattle.jv_model.specs.declared.fault.TxFault.TheVariants.{Refused, Moved, Ro
 use Rattle.jv_model.specs.declared.lifetimes.TheConstants.{UPLOAD_LIFE}
 use Rattle.jv_model.specs.declared.limits.TheConstants.{FILE_END}
 use Rattle.jv_model.specs.rows.RowKeys.{RowMap}
-use Rattle.jv_model.specs.rows.RowFaults.{row_fault}
 use Rattle.jv_model.specs.tree.Attempt.{◌>>=◌, require}
-use Rattle.jv_model.specs.tree.Changes.{byte_within, overwritten, with_content}
+use Rattle.jv_model.specs.tree.Changes.{overwritten, with_content}
 use Rattle.jv_model.specs.tree.FileBytes.{committed}
 use Rattle.jv_model.specs.tree.Tree.{Tree, Content, content_at, fits}
 use Rattle.jv_outside.specs.declared.batch.Change.{Change}
 use Rattle.jv_outside.specs.Rows.{applied}
 use Rattle.jv_outside.specs.Store.{Store, Commits}
 use Rattle.jv_rows.specs.Drafts.{drafted}
-use Rattle.jv_rows.specs.Transactions.{Agrees, Looks, BadFault}
-use Rattle.jv_rows.proofs.TransactionLaws.{Past, Fails, past-start, past-as, past-ends, past-fails, past-stops, fails-memory, fails-commit, of_known}
-use Rattle.jv_volume.specs.TypedRows.{Rows, typed}
+use Rattle.jv_rows.specs.Transactions.{Agrees, Looks}
+use Rattle.jv_rows.proofs.TransactionLaws.{Past, Fails, past-ends, past-fails, fails-memory}
+use Rattle.jv_volume.specs.TypedRows.{typed}
 use Rattle.jv_volume.specs.TreeOf.{content_of, tree_of}
 use Rattle.jv_volume.specs.Views.{row_in, node_in, node_row_at}
 use Rattle.jv_volume.specs.Whole.{Whole, Quiet}

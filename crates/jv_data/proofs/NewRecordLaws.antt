@@ -1,21 +1,20 @@
 -- A record of a new slice at the end of a window's list, with the slice's row: what that does to whole rows.
-use Rattle.std.proofs.Common.{◌≡◌, ◌≢◌, ℕ, ◌+◌, ◌*◌, ◌<◌, ◌≤◌, ◌^◌, Bool, true, false, cond, inl, inr, List, [], ◌∷◌, ◌++◌, length, Option, None, Some, Ok, refl, sym, ap, subst, ◌∙◌, arith, eq-eqb, ne_eqb, length-append}
+use Rattle.std.proofs.Common.{◌≡◌, ◌≢◌, ℕ, ◌+◌, ◌*◌, ◌<◌, ◌≤◌, ◌^◌, false, cond, inl, inr, List, [], ◌∷◌, ◌++◌, length, Option, None, Some, Ok, refl, sym, ap, subst, ◌∙◌, arith, eq-eqb, ne_eqb, length-append}
 use Rattle.std.proofs.lemmas.Bool.{cases_eq, cond-true, cond-false}
 use Rattle.std.proofs.lemmas.Bool.Decides.{nat_tests}
 use Rattle.std.proofs.lemmas.List.Sums.{sum_by-cons}
 use Rattle.std.proofs.lemmas.Option.{same_Some}
-use Rattle.std.specs.Prelude.{◌==◌, count_by, if◌then◌else◌}
+use Rattle.std.specs.Prelude.{◌==◌, if◌then◌else◌}
 use Rattle.std.specs.List.{AllByRecursion}
 use Rattle.jv_model.specs.declared.limits.TheConstants.{WINDOW, FULL_COUNT}
 use Rattle.jv_model.specs.declared.row.RowKey.{RowKey}
 use Rattle.jv_model.specs.declared.row.Node.{Node as NodeRow}
 use Rattle.jv_model.specs.declared.row.SliceRow.{SliceRow}
-use Rattle.jv_model.specs.declared.row.Dead.{Dead}
 use Rattle.jv_model.specs.declared.row.Row.TheVariants.{OfList, OfSlice}
 use Rattle.jv_model.specs.declared.slice.Rec.{Rec}
 use Rattle.jv_model.specs.declared.slice.Spot.TheVariants.{Zero}
-use Rattle.jv_model.specs.FiniteMap.{get, insert, alter}
-use Rattle.jv_model.specs.blocks.Slices.{IsRecord, is_record}
+use Rattle.jv_model.specs.FiniteMap.{get, alter}
+use Rattle.jv_model.specs.blocks.Slices.{IsRecord}
 use Rattle.jv_model.specs.rows.RowKeys.{row_key}
 use Rattle.jv_model.specs.rows.RowPlaces.{counters_key, node_key, list_key, slice_key, dropped_key, dead_key}
 use Rattle.jv_volume.specs.TypedRows.{Cell, Rows}
@@ -25,7 +24,7 @@ use Rattle.jv_volume.specs.Slices.{listed, records_naming, named_by, count_in, s
 use Rattle.jv_volume.proofs.MapLaws.{get-alter-here, get-alter-apart}
 use Rattle.jv_volume.proofs.ShapeMapLaws.{same_or_apart}
 use Rattle.jv_contents.specs.Places.{with_list, shown, put_over}
-use Rattle.jv_contents.specs.Counts.{record_count, HadSize, KeepsOthers}
+use Rattle.jv_contents.specs.Counts.{record_count, KeepsOthers}
 use Rattle.jv_contents.proofs.BehindLaws.{naming-append}
 use Rattle.jv_contents.proofs.CutLaws.{all-append}
 use Rattle.jv_contents.proofs.WholeLaws.{all-mapped}

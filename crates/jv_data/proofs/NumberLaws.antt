@@ -1,13 +1,11 @@
 -- How a number is given: each exit, by what was read and what was changed.
-use Rattle.std.proofs.Common.{◌≡◌, ℕ, ◌+◌, ◌<◌, ◌≤◌, ◌⊎◌, inl, inr, true, false, List, [], Option, None, Some, Result, Ok, Err, refl, sym, ap, subst, ◌∙◌, arith, lt-ltb, le-ltb, leb-true, eq-eqb}
-use Rattle.std.proofs.lemmas.Bool.{and_parts, cond-true}
+use Rattle.std.proofs.Common.{◌≡◌, ℕ, ◌+◌, ◌<◌, ◌≤◌, inl, inr, false, List, [], Option, None, Some, Result, Ok, Err, refl, sym, ap, subst, ◌∙◌, arith, lt-ltb, le-ltb, leb-true}
+use Rattle.std.proofs.lemmas.Bool.{and_parts}
 use Rattle.std.proofs.lemmas.Option.{same_Some}
 use Rattle.std.specs.Prelude.{◌==◌, ◌&&◌, IsTrue, nat_le, nat_lt}
 use Rattle.std.specs.Option.{option_map}
 use Rattle.jv_model.specs.declared.fault.Fault.{Fault}
-use Rattle.jv_model.specs.declared.fault.Fault.TheVariants.{NoSpace, Stale}
-use Rattle.jv_model.specs.declared.fault.Gone.TheVariants.{Session}
-use Rattle.jv_model.specs.declared.fault.Down.{Down}
+use Rattle.jv_model.specs.declared.fault.Fault.TheVariants.{NoSpace}
 use Rattle.jv_model.specs.declared.fault.RowFault.TheVariants.{Bad, Failed, Memory}
 use Rattle.jv_model.specs.declared.fault.TxFault.{TxFault}
 use Rattle.jv_model.specs.declared.fault.TxFault.TheVariants.{Refused, Moved, Rows as OfRows}
@@ -15,7 +13,7 @@ use Rattle.jv_model.specs.declared.limits.TheConstants.{FULL_COUNT}
 use Rattle.jv_model.specs.declared.row.Counters.{Counters}
 use Rattle.jv_model.specs.declared.row.Row.TheVariants.{OfCounters}
 use Rattle.jv_model.specs.declared.row.RowKey.{RowKey}
-use Rattle.jv_model.specs.FiniteMap.{get, alter, insert, empty_map}
+use Rattle.jv_model.specs.FiniteMap.{get, alter, empty_map}
 use Rattle.jv_model.specs.rows.RowGrammar.{is_counters}
 use Rattle.jv_model.specs.rows.RowKeys.{row_key, RowMap}
 use Rattle.jv_model.specs.rows.RowPlaces.{counters_key, node_key, dropped_key, slice_key, dead_key}
@@ -27,7 +25,7 @@ use Rattle.jv_outside.specs.Store.{Store, Commits}
 use Rattle.jv_rows.specs.Drafts.{drafted, cell, Needs}
 use Rattle.jv_rows.specs.Transactions.{Agrees, Looks}
 use Rattle.jv_rows.proofs.NeedingLaws.{session_is, CountersNeeded, fails-needed, stands-needs}
-use Rattle.jv_rows.proofs.TransactionLaws.{Past, Fails, past-start, past-as, past-calm, past-looks, past-stops, past-fails, past-refuses, drafted-none, of_known}
+use Rattle.jv_rows.proofs.TransactionLaws.{Past, Fails, past-start, past-as, past-calm, past-looks, past-stops, past-fails, past-refuses, drafted-none}
 use Rattle.jv_volume.specs.TypedRows.{Cell, Rows, typed}
 use Rattle.jv_volume.specs.Shape.{WholeShape, shape_of}
 use Rattle.jv_volume.specs.Views.{row_in, counters_in, counters_at, node_in, node_row_at, dropped_in, dropped_at, slice_in, slice_row_at, dead_in, dead_at, lists_of}
@@ -174,11 +172,17 @@ module _ (sid : ℕ) (before middle : Store) where
     where
       from_rows : (o : Option RowMap) → before.rows ≡ o → TakesNumber sid before after (Err fault)
       from_rows None is = (let l = looks empty_map (λ known here. absurd (let both = sym is ∙ here in cc)) in record {
-        opened_at = l.opened_at; counts = l.counts; undone = l.rows_are; bad = l.bad;
+        opened_at = l.opened_at;
+        counts = l.counts;
+        undone = l.rows_are;
+        bad = l.bad;
         lands = λ known here whole. absurd (let both = sym is ∙ here in cc);
       })
       from_rows (Some known) is = (let l = looks (typed known) (λ other here. ap typed (same_Some known other (sym is ∙ here))) in record {
-        opened_at = l.opened_at; counts = l.counts; undone = l.rows_are; bad = l.bad;
+        opened_at = l.opened_at;
+        counts = l.counts;
+        undone = l.rows_are;
+        bad = l.bad;
         lands = λ other here whole. numbers_refused fault other after.rows
             (subst (λ (k : RowMap). Agrees {A = ℕ} (Err fault) (number_given sid (typed k) (tree_of no_bytes (typed other)))) (same_Some known other (sym is ∙ here))
             (l.agrees other here whole no_bytes));

@@ -1,6 +1,6 @@
 -- How the records of a window are read, and how a look at it goes.
-use Rattle.std.proofs.Common.{◌≡◌, ℕ, ◌<◌, ◌^◌, true, List, [], ◌∷◌, Option, None, Some, Result, Ok, Err, refl, sym, ap, subst, ◌∙◌, lt-ltb}
-use Rattle.std.specs.Prelude.{IsTrue, nat_lt, if◌then◌else◌}
+use Rattle.std.proofs.Common.{◌≡◌, ℕ, ◌<◌, ◌^◌, List, [], ◌∷◌, Option, None, Some, Result, Ok, Err, refl, sym, ap, subst, ◌∙◌, lt-ltb}
+use Rattle.std.specs.Prelude.{IsTrue}
 use Rattle.std.specs.List.{AllByRecursion, list_all}
 use Rattle.std.proofs.lemmas.Bool.{and_parts, cond-true}
 use Rattle.jv_model.specs.declared.fault.RowFault.{RowFault}
@@ -11,11 +11,9 @@ use Rattle.jv_model.specs.declared.row.Row.TheVariants.{OfList}
 use Rattle.jv_model.specs.declared.slice.Rec.{Rec}
 use Rattle.jv_model.specs.FiniteMap.{get}
 use Rattle.jv_model.specs.blocks.Slices.{IsRecord, is_record}
-use Rattle.jv_model.specs.rows.RowFields.{is_nil}
 use Rattle.jv_model.specs.rows.RowGrammar.{is_list, list_of, list_bytes}
 use Rattle.jv_model.specs.rows.RowKeys.{RowMap}
 use Rattle.jv_model.specs.rows.RowPlaces.{list_key}
-use Rattle.jv_model.specs.tree.Tree.{Tree}
 use Rattle.jv_outside.specs.Store.{Store}
 use Rattle.jv_volume.specs.TypedRows.{Rows, Cell, typed}
 use Rattle.jv_volume.specs.Views.{row_in, records_in, lists_of}
@@ -23,7 +21,7 @@ use Rattle.jv_rows.specs.Drafts.{Sees, cell, drafted}
 use Rattle.jv_rows.specs.Readings.{ReadsRow}
 use Rattle.jv_rows.specs.Tables.{list_row}
 use Rattle.jv_rows.proofs.DraftLaws.{sees_stored}
-use Rattle.jv_rows.proofs.TransactionLaws.{Past, past-start, past-ends, if_known, fails-looks, fails-sees, stands-sees, drafted-none}
+use Rattle.jv_rows.proofs.TransactionLaws.{past-ends, if_known, fails-looks, fails-sees, stands-sees, drafted-none}
 use Rattle.jv_data.specs.Committing.{HasFile, length_seen}
 use Rattle.jv_data.specs.Records.{HasRecords, LooksAt}
 use Rattle.jv_data.proofs.CommitLaws.{looks-any}

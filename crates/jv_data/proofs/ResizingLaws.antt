@@ -1,5 +1,5 @@
 -- How a file gets another length: each exit, by what was read and what was changed.
-use Rattle.std.proofs.Common.{◌≡◌, ℕ, true, false, List, [], None, Some, Result, Ok, Err, refl, sym, ap, ◌∙◌}
+use Rattle.std.proofs.Common.{◌≡◌, ℕ, List, [], None, Some, Result, Ok, Err, refl, ap, ◌∙◌}
 use Rattle.jv_model.specs.declared.fault.Fault.{Fault}
 use Rattle.jv_model.specs.declared.fault.Fault.TheVariants.{NoSpace}
 use Rattle.jv_model.specs.declared.fault.TxFault.{TxFault}
@@ -21,7 +21,7 @@ use Rattle.jv_outside.specs.Store.{Store}
 use Rattle.jv_rows.specs.Drafts.{drafted, cell, Needs}
 use Rattle.jv_rows.specs.Walks.{HasNodeRow}
 use Rattle.jv_rows.proofs.NeedingLaws.{SettingNeeded, CountersNeeded, fails-needed, stands-needs}
-use Rattle.jv_rows.proofs.TransactionLaws.{Past, Fails, past-start, past-as, past-calm, past-fails, past-gives, past-refuses, fails-looks, drafted-none, of_known}
+use Rattle.jv_rows.proofs.TransactionLaws.{Past, past-start, past-as, past-calm, past-fails, past-gives, past-refuses, fails-looks, drafted-none, of_known}
 use Rattle.jv_volume.specs.TypedRows.{Rows, typed}
 use Rattle.jv_volume.specs.Views.{row_in, setting_in, setting_at, counters_in, counters_at, node_in, node_row_at}
 use Rattle.jv_volume.specs.TreeOf.{tree_of}

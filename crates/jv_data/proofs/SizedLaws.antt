@@ -1,6 +1,6 @@
 -- A file of another length, with both times at a moment: what its row and the counters do to whole rows, and that their tree has the
 -- content that is put there.
-use Rattle.std.proofs.Common.{◌≡◌, ◌≢◌, ℕ, ◌+◌, ◌-◌, ◌≤◌, Bool, true, false, ◌&&◌, inl, inr, Option, None, Some, Ok, refl, sym, ap, subst, ◌∙◌, arith, le-leb, ne_eqb}
+use Rattle.std.proofs.Common.{◌≡◌, ◌≢◌, ℕ, ◌+◌, ◌-◌, ◌≤◌, Bool, true, false, ◌&&◌, inl, inr, None, Some, Ok, refl, sym, ap, subst, ◌∙◌, arith, le-leb, ne_eqb}
 use Rattle.std.proofs.lemmas.Bool.{cases_eq}
 use Rattle.std.proofs.lemmas.Option.{same_Some}
 use Rattle.std.specs.Prelude.{◌==◌, ◌||◌, not, nat_lt, nat_le, IsTrue, if◌then◌else◌}
@@ -17,7 +17,7 @@ use Rattle.jv_model.specs.rows.RowPlaces.{counters_key, node_key}
 use Rattle.jv_model.specs.tree.Tree.{Tree, Node, Kind, File, Directory, Symlink, Content, node_at, content_at, is_counted, paged, node_space, kind_space, used_space, used_inodes, space_limit, inode_limit, sum_fits, fits, root, trash_root}
 use Rattle.jv_model.specs.tree.Changes.{touched, put_node, set_node, with_content}
 use Rattle.jv_model.proofs.FiniteMapLaws.{same_maps}
-use Rattle.jv_volume.specs.TypedRows.{Cell, Rows}
+use Rattle.jv_volume.specs.TypedRows.{Rows}
 use Rattle.jv_volume.specs.Views.{row_in, counters_in, counters_at, node_in, node_row_at, setting_at}
 use Rattle.jv_volume.specs.TreeOf.{content_of, node_of, tree_of}
 use Rattle.jv_volume.specs.Shape.{WholeShape, Regular, form_of, is_there, shape_of}

@@ -29,7 +29,7 @@ use Rattle.jv_contents.specs.Places.{shown}
 use Rattle.jv_contents.specs.Bytes.{Told, spot_byte}
 use Rattle.jv_data.specs.declared.looking.View.{View}
 use Rattle.jv_data.specs.Committing.{length_seen, commit_of}
-use Rattle.jv_data.specs.Changing.{Changes, Makes, Never}
+use Rattle.jv_data.specs.Changing.{Changes, Never}
 
 abbrev pub without_answer : {A : Type 0} → Result A TxFault → Result (Unit {0}) TxFault
 without_answer (Ok x) = Ok tt
