@@ -63,7 +63,12 @@ fn a_window_shows_the_records_of_its_commits(rt: HostRuntime) -> Result<(), Fail
     let length = u64::from(WINDOW) + 1_000;
     assert_eq!(rt; volume.next_id(), Ok(3));
     volume.put(2, 0, whole(50, 3, 20), 0)?;
-    shows(&mut volume, (2, 0), length, &[whole(10, 1, 100), whole(50, 3, 20)])?;
+    shows(
+        &mut volume,
+        (2, 0),
+        length,
+        &[whole(10, 1, 100), whole(50, 3, 20)],
+    )?;
     shows(&mut volume, (2, 1), length, &[whole(0, 2, 1_000)])?;
     shows(&mut volume, (2, 2), length, &[])?;
     let one = SliceRow { size: 20, count: 1 };
@@ -72,7 +77,10 @@ fn a_window_shows_the_records_of_its_commits(rt: HostRuntime) -> Result<(), Fail
         started: 1_699_996_400,
         now: 1_700_000_000,
     };
-    assert_eq!(rt; volume.put(2, 0, whole(0, 4, 1), 3_600), Err(TxFault::Refused(late)));
+    assert_eq!(rt;
+        volume.put(2, 0, whole(0, 4, 1), 3_600),
+        Err(TxFault::Refused(late))
+    );
     let gone = TxFault::Refused(Fault::Stale(Gone::Node(9)));
     assert_eq!(rt; volume.view(9, 0), Err(gone));
     Ok(())
@@ -82,13 +90,29 @@ fn a_window_shows_the_records_of_its_commits(rt: HostRuntime) -> Result<(), Fail
 fn a_truncate_ends_lists(rt: HostRuntime) -> Result<(), Fail> {
     let mut volume = two_files(&rt)?;
     volume.truncate(2, u64::from(WINDOW) + 2_000)?;
-    shows(&mut volume, (2, 1), u64::from(WINDOW) + 2_000, &[whole(0, 2, 1_000)])?;
+    shows(
+        &mut volume,
+        (2, 1),
+        u64::from(WINDOW) + 2_000,
+        &[whole(0, 2, 1_000)],
+    )?;
     volume.truncate(2, u64::from(WINDOW) + 500)?;
     let cut = [whole(0, 2, 1_000), zeros(500, WINDOW - 500)];
     shows(&mut volume, (2, 1), u64::from(WINDOW) + 500, &cut)?;
-    assert_eq!(rt; volume.slice(2)?, Some(SliceRow { size: 1_000, count: 1 }));
+    assert_eq!(rt;
+        volume.slice(2)?,
+        Some(SliceRow {
+            size: 1_000,
+            count: 1
+        })
+    );
     volume.truncate(2, 60)?;
-    shows(&mut volume, (2, 0), 60, &[whole(10, 1, 100), zeros(60, WINDOW - 60)])?;
+    shows(
+        &mut volume,
+        (2, 0),
+        60,
+        &[whole(10, 1, 100), zeros(60, WINDOW - 60)],
+    )?;
     shows(&mut volume, (2, 1), 60, &[])?;
     assert_eq!(rt; volume.slice(2)?, None);
     let dead = Dead {
@@ -130,8 +154,20 @@ fn a_copy_names_the_slices_of_its_source(rt: HostRuntime) -> Result<(), Fail> {
         ..whole(0, 1, 100)
     };
     shows(&mut volume, (3, 1), window + 150, &[behind, zeros(60, 90)])?;
-    assert_eq!(rt; volume.slice(1)?, Some(SliceRow { size: 100, count: 3 }));
-    assert_eq!(rt; volume.slice(2)?, Some(SliceRow { size: 1_000, count: 2 }));
+    assert_eq!(rt;
+        volume.slice(1)?,
+        Some(SliceRow {
+            size: 100,
+            count: 3
+        })
+    );
+    assert_eq!(rt;
+        volume.slice(2)?,
+        Some(SliceRow {
+            size: 1_000,
+            count: 2
+        })
+    );
     Ok(())
 }
 
@@ -140,11 +176,24 @@ fn a_copy_inside_of_a_file_takes_it_as_it_was(rt: HostRuntime) -> Result<(), Fai
     let mut volume = two_files(&rt)?;
     let length = u64::from(WINDOW) + 1_000;
     assert_eq!(rt; volume.copy((2, 10), (2, 110), 100), Ok(100));
-    shows(&mut volume, (2, 0), length, &[whole(10, 1, 100), whole(110, 1, 100)])?;
+    shows(
+        &mut volume,
+        (2, 0),
+        length,
+        &[whole(10, 1, 100), whole(110, 1, 100)],
+    )?;
     let invalid = TxFault::Refused(Fault::Invalid);
     assert_eq!(rt; volume.copy((2, 10), (2, 109), 100), Err(invalid));
     assert_eq!(rt; volume.copy((2, length), (2, 0), 100), Ok(0));
     let too_large = TxFault::Refused(Fault::FileTooLarge);
-    assert_eq!(rt; volume.copy((2, 0), (3, 1_099_511_627_776), 1), Err(too_large));
-    shows(&mut volume, (2, 0), length, &[whole(10, 1, 100), whole(110, 1, 100)])
+    assert_eq!(rt;
+        volume.copy((2, 0), (3, 1_099_511_627_776), 1),
+        Err(too_large)
+    );
+    shows(
+        &mut volume,
+        (2, 0),
+        length,
+        &[whole(10, 1, 100), whole(110, 1, 100)],
+    )
 }

@@ -7,9 +7,7 @@ use jv_model::{
     TxFault, WINDOW, Who,
 };
 use jv_outside::{Keeper, NeverKeeper};
-use jv_rows::{
-    allows_record, allows_setting, default_setting, fresh_rows, read_dead, read_slice,
-};
+use jv_rows::{allows_record, allows_setting, default_setting, fresh_rows, read_dead, read_slice};
 use jv_script::{print_reply, read_line};
 use std::alloc::{AllocError, Global};
 use std::str::from_utf8;
