@@ -1,7 +1,9 @@
 //! Copies between files, and inside of one.
-ghost use Rattle.std.specs.Prelude.{◌≡◌, ◌+◌, ◌<◌, ◌≤◌};
+ghost use Rattle.std.specs.Prelude.{◌≡◌, ◌+◌, ◌≤◌, ◌++◌, OnOk};
+ghost use Rattle.jv_contents.specs.Fills.{record_at_spot, records_of_plan};
 ghost use Rattle.jv_data.specs.Changing.{Changes, AnyTold, IsCrowded};
-ghost use Rattle.jv_model.specs.declared.limits.TheConstants.{FILE_END, WINDOW};
+ghost use Rattle.jv_data.specs.Copying.{pieces_len};
+ghost use Rattle.jv_model.specs.declared.limits.TheConstants.{WINDOW};
 ghost use Rattle.jv_model.specs.declared.op.Reply.TheVariants.{Count};
 ghost use Rattle.jv_model.specs.tree.Caller.{Caller};
 ghost use Rattle.jv_model.specs.tree.FileBytes as model;
@@ -136,8 +138,11 @@ fn shown<K: Keeper>(
     Ok(shown)
 }
 
-/// Adds the records, from a position on, that show what pieces show.
-fn push_pieces(shown: &mut List, pos: u32, pieces: &[Piece]) -> Result<(), AllocError> {
+/// Adds the records, from a position on, that show what pieces show. They end in the window.
+fn push_pieces(shown: &mut List, pos: u32, pieces: &[Piece]) -> Result<(), AllocError>
+    requires { pos + pieces_len pieces.now ≤ WINDOW }
+    ensures { OnOk result (shown.new ≡ shown.old ++ records_of_plan pos pieces.now) }
+{
     let mut at = pos;
     for piece in pieces {
         shown.push(record_at(at, *piece))?;
@@ -147,7 +152,9 @@ fn push_pieces(shown: &mut List, pos: u32, pieces: &[Piece]) -> Result<(), Alloc
 }
 
 /// The record at a position that shows what a piece shows.
-fn record_at(pos: u32, piece: Piece) -> Rec {
+fn record_at(pos: u32, piece: Piece) -> Rec
+    ensures { result ≡ record_at_spot pos piece.len piece.spot }
+{
     let (id, size, off) = match piece.spot {
         Spot::Zero => (0, 0, 0),
         Spot::Slice { id, size, at } => (id, size, at),
