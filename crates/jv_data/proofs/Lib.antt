@@ -12,3 +12,4 @@ pub mod CommitLaws
 pub mod RecordsLaws
 pub mod NumberLaws
 pub mod RecordCommitLaws
+pub mod ListChangeLaws
