@@ -13,3 +13,8 @@ pub mod RecordsLaws
 pub mod NumberLaws
 pub mod RecordCommitLaws
 pub mod ListChangeLaws
+pub mod SameTreeLaws
+pub mod DroppedLaws
+pub mod CutListsLaws
+pub mod TruncatedLaws
+pub mod TruncateLaws
