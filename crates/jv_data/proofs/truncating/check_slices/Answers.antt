@@ -1,31 +1,36 @@
-use Rattle.std.proofs.Common.{rules, ◌≡◌, ◌<◌, ◌≤◌, ℕ, ◌+◌, ◌-◌, ◌*◌, length, ◌/◌, ◌%◌, Bool, true, false, nat_eq, nat_lt, List, [], ◌∷◌, ◌++◌, slice_index_or, slice_set, bit_and, bit_or, Fits, w8, w32, w64, Bor, MutBor}
-use Rattle.jv_data.specs.Truncating.{IsLastBefore, LeaveSlices, TellsDue, EndsList, ChecksSlice, ChecksSlices, DropsLists, CutsLists, Shortens}
-use Rattle.jv_data.specs.Changing.{Changes, AnyTold, Never}
-use Rattle.jv_model.specs.declared.limits.TheConstants.{FILE_END, LAST_MOMENT}
-use Rattle.jv_model.specs.declared.op.Reply.TheVariants.{Done}
-use Rattle.jv_model.specs.tree.Caller.{Caller}
-use Rattle.jv_model.specs.tree.FileBytes as model
-use Rattle.jv_rows.specs.Lists.{HasList}
-use Rattle.jv_rows.specs.Transactions.{IsFor}
-use Rattle.jv_volume.specs.Slices.{records_naming}
+use Rattle.std.proofs.Common.{◌≡◌, ◌<◌, ◌≤◌, List, length, take, get_or, Ok, refl, sym, ap, subst, ◌∙◌, arith}
+use Rattle.std.proofs.lemmas.Result.{err_from_is_err_and}
+use Rattle.std.proofs.lemmas.List.{take-all}
+use Rattle.jv_model.specs.declared.slice.Rec.{Rec}
+use Rattle.jv_data.proofs.TruncateLaws.{checking-none, checking-more, checking-fails, checking-all, has_list-then}
 use Rattle.jv_data.proofs.truncating.check_slices.Goals as goal
 
--- src/truncating.rt:183:5
+none : Rec
+none = record { pos = 0; id = 0; size = 0; off = 0; len = 0 }
+
 pub loop-record-init : goal.loop-record-init
-loop-record-init g c = ?
+loop-record-init g c = checking-none c.args.list.now (g.K.Keeper.seen c.args.k.now)
 
--- src/truncating.rt:184:9
 pub check_slice-requires-clause-there : goal.check_slice-requires-clause-there
-check_slice-requires-clause-there g c = ?
+check_slice-requires-clause-there g c =
+    has_list-then (g.K.Keeper.seen c.args.k.now) (g.K.Keeper.seen c.loop-record.k) c.args.inode (c.args.window, c.args.list.now) c.loop-record.invariant.looks.rows_are c.requires
 
--- src/truncating.rt:184:9
 pub returns-in_err-check_slice : goal.returns-in_err-check_slice
-returns-in_err-check_slice g c = ?
+returns-in_err-check_slice g c =
+    let p = err_from_is_err_and c.from_residual.result c.from_residual.ensures.1 in
+    rw (p.1, p.2)
+    (checking-fails c.args.list.now (g.K.Keeper.seen c.args.k.now) (g.K.Keeper.seen c.loop-record.k) (g.K.Keeper.seen c.check_slice.new.k) c.loop-record.record-index
+    (get_or c.as_slice-record-items.result.now c.loop-record.record-index none).id c.in_err-check_slice.field-0.0 c.loop-record.invariant c.in_err-check_slice.ensures)
 
--- src/truncating.rt:183:5
 pub loop-record-preserved : goal.loop-record-preserved
-loop-record-preserved g c = ?
+loop-record-preserved g c =
+    checking-more c.args.list.now (g.K.Keeper.seen c.args.k.now) (g.K.Keeper.seen c.loop-record.k) (g.K.Keeper.seen c.check_slice.new.k) c.loop-record.record-index
+    (get_or c.as_slice-record-items.result.now c.loop-record.record-index none) none c.loop-record.invariant
+    (subst (λ (l : List Rec). c.loop-record.record-index < length l) c.as_slice-record-items.ensures c.loop-record-test.true)
+    (ap (λ (l : List Rec). get_or l c.loop-record.record-index none) c.as_slice-record-items.ensures) c.in_ok-check_slice.ensures
 
--- src/truncating.rt:173:1
 pub returns : goal.returns
-returns g c = ?
+returns g c =
+    checking-all c.args.list.now (g.K.Keeper.seen c.args.k.now) (g.K.Keeper.seen c.loop-record.k) c.loop-record.record-index c.loop-record.invariant
+    (take-all c.args.list.now c.loop-record.record-index
+    (let high = c.loop-record-test.false in let same = ap (λ (l : List Rec). length l) c.as_slice-record-items.ensures in omega (arith, high, same)))

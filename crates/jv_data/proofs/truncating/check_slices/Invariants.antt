@@ -1,14 +1,5 @@
-use Rattle.std.proofs.Common.{◌≡◌, ◌<◌, ◌≤◌, ℕ, ◌+◌, ◌-◌, ◌*◌, length}
-use Rattle.jv_data.specs.Truncating.{IsLastBefore, LeaveSlices, TellsDue, EndsList, ChecksSlice, ChecksSlices, DropsLists, CutsLists, Shortens}
-use Rattle.jv_data.specs.Changing.{Changes, AnyTold, Never}
-use Rattle.jv_model.specs.declared.limits.TheConstants.{FILE_END, LAST_MOMENT}
-use Rattle.jv_model.specs.declared.op.Reply.TheVariants.{Done}
-use Rattle.jv_model.specs.tree.Caller.{Caller}
-use Rattle.jv_model.specs.tree.FileBytes as model
-use Rattle.jv_rows.specs.Lists.{HasList}
-use Rattle.jv_rows.specs.Transactions.{IsFor}
-use Rattle.jv_volume.specs.Slices.{records_naming}
+use Rattle.jv_data.proofs.TruncateLaws.{IsChecking}
 use Rattle.jv_data.proofs.truncating.check_slices.Given as goal
 
 abbrev pub invariant-loop-record : goal.invariant-loop-record
-invariant-loop-record g l = ?
+invariant-loop-record g l = IsChecking l.list (g.K.Keeper.seen l.fn.k) (g.K.Keeper.seen l.k) l.record-index
