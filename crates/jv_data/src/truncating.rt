@@ -154,12 +154,12 @@ fn drop_lists<K: Keeper>(
     k: &mut K,
     draft: &mut Draft,
     inode: u64,
-    last: Option<u32>,
+    start: Option<u32>,
 ) -> Result<List, TxFault>
-    ensures { DropsLists inode last (K.seen k.old) (K.seen k.new) draft.old draft.new result }
+    ensures { DropsLists inode start (K.seen k.old) (K.seen k.new) draft.old draft.new result }
 {
     let mut gone = Vec::new(alloc);
-    let mut last = last;
+    let mut last = start;
     while let Some((window, list)) = next_list(alloc, k, inode, last)? {
         check_slices(alloc, k, inode, window, &list)?;
         draft.drop_list(inode, window)?;

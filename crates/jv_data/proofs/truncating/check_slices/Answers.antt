@@ -1,11 +1,11 @@
 use Rattle.std.proofs.Common.{◌≡◌, ◌<◌, ◌≤◌, List, length, take, get_or, Ok, refl, sym, ap, subst, ◌∙◌, arith}
 use Rattle.std.proofs.lemmas.Result.{err_from_is_err_and}
-use Rattle.std.proofs.lemmas.List.{take-all}
+use Rattle.std.proofs.lemmas.List.{take_all}
 use Rattle.jv_model.specs.declared.slice.Rec.{Rec}
 use Rattle.jv_data.proofs.TruncateLaws.{checking-none, checking-more, checking-fails, checking-all, has_list-then}
 use Rattle.jv_data.proofs.truncating.check_slices.Goals as goal
 
-none : Rec
+abbrev none : Rec
 none = record { pos = 0; id = 0; size = 0; off = 0; len = 0 }
 
 pub loop-record-init : goal.loop-record-init
@@ -32,5 +32,5 @@ loop-record-preserved g c =
 pub returns : goal.returns
 returns g c =
     checking-all c.args.list.now (g.K.Keeper.seen c.args.k.now) (g.K.Keeper.seen c.loop-record.k) c.loop-record.record-index c.loop-record.invariant
-    (take-all c.args.list.now c.loop-record.record-index
+    (take_all c.loop-record.record-index c.args.list.now
     (let high = c.loop-record-test.false in let same = ap (λ (l : List Rec). length l) c.as_slice-record-items.ensures in omega (arith, high, same)))
