@@ -2,13 +2,15 @@
 use Rattle.std.specs.Cmp.{eq_by_cmp_equiv}
 use Rattle.std.proofs.Common.{◌≡◌, ◌≢◌, ℕ, suc, ◌+◌, ◌-◌, ◌*◌, ◌/◌, ◌%◌, ◌<◌, ◌≤◌, ◌^◌, ◌⊎◌, inl, inr, Bool, true, false, cond, List, [], ◌∷◌, ◌++◌, length, take, get_or, Option, None, Some, Result, Ok, Err, refl, sym, ap, subst, ◌∙◌, arith}
 use Rattle.std.proofs.Math.Seq.{take-suc}
-use Rattle.std.specs.Prelude.{◌==◌, ◌&&◌, ◌||◌, not, if◌then◌else◌, IsTrue, IfSome, OnOk, IfOk}
+use Rattle.std.specs.Prelude.{◌==◌, ◌&&◌, ◌||◌, not, if◌then◌else◌, nat_le, IsTrue, IfErr, IfSome, OnOk, IfOk}
 use Rattle.std.specs.List.{AllByRecursion, list_any}
-use Rattle.std.proofs.lemmas.Bool.{cases_eq, ltb-true, ne_eqb, or_left, or_right}
+use Rattle.std.proofs.lemmas.Bool.{cases_eq, ltb-true, le-leb, eqb-false, ne_eqb, or_left, or_right}
+use Rattle.jv_model.specs.declared.fault.Fault.{Fault}
 use Rattle.jv_model.specs.declared.fault.RowFault.{RowFault}
 use Rattle.jv_model.specs.declared.fault.RowFault.TheVariants.{Bad, Failed, Memory}
 use Rattle.jv_model.specs.declared.fault.TxFault.{TxFault}
 use Rattle.jv_model.specs.declared.fault.TxFault.TheVariants.{Refused, Moved, Rows as OfRows}
+use Rattle.jv_model.specs.declared.limits.TheConstants.{FULL_COUNT, WINDOW}
 use Rattle.jv_model.specs.declared.row.Row.TheVariants.{OfList, OfSlice}
 use Rattle.jv_model.specs.declared.row.RowKey.{RowKey}
 use Rattle.jv_model.specs.declared.row.SliceRow.{SliceRow}
@@ -19,22 +21,25 @@ use Rattle.jv_model.specs.rows.RowKeys.{RowMap, row_key}
 use Rattle.jv_model.specs.rows.RowPlaces.{list_key, slice_key}
 use Rattle.jv_outside.specs.declared.batch.Change.{Change}
 use Rattle.jv_outside.specs.Store.{Store}
-use Rattle.jv_rows.specs.Drafts.{drafted, Sees}
+use Rattle.jv_rows.specs.Counts.{is_named, recounted, IsFull, FailsToRecount, RefusesAdjust, Adjusted, Adjusts}
+use Rattle.jv_rows.specs.Drafts.{drafted, IsNoRow, Sees}
 use Rattle.jv_rows.specs.Lists.{is_past, HasList, HasNoList, RefusesList, FindsList}
 use Rattle.jv_rows.specs.Readings.{ReadsRow}
 use Rattle.jv_rows.specs.Tables.{slice_row}
-use Rattle.jv_rows.specs.Transactions.{Looks, IsBad, Malformed, NamesNone, is_key_of}
+use Rattle.jv_rows.specs.Transactions.{Agrees, BadFault, Looks, IsBad, Malformed, NamesNone, is_key_of}
 use Rattle.jv_rows.proofs.DraftLaws.{sees_stored}
-use Rattle.jv_rows.proofs.TransactionLaws.{Fails, FailsBy, fails-memory, of_known, past-ends, fails-looks, fails-sees, stands-sees, drafted-none}
+use Rattle.jv_rows.proofs.TransactionLaws.{Fails, FailsBy, fails-memory, if_known, of_known, past-ends, fails-looks, fails-sees, stands-sees, drafted-none}
 use Rattle.jv_volume.specs.TypedRows.{Rows, typed}
-use Rattle.jv_volume.specs.Views.{row_in, records_in, slice_in}
+use Rattle.jv_volume.specs.Views.{row_in, records_in, lists_of, slice_in}
 use Rattle.jv_volume.specs.Slices.{listed, records_naming, named_by, count_in}
 use Rattle.jv_volume.specs.Whole.{Whole}
 use Rattle.jv_volume.proofs.StoredLaws.{whole-typed}
 use Rattle.jv_contents.proofs.BehindLaws.{naming-append}
 use Rattle.jv_contents.proofs.BlockLaws.{naming-le}
 use Rattle.jv_contents.proofs.CutLaws.{all-push, all-append}
-use Rattle.jv_data.specs.Truncating.{HasSlice, HaveSlices, ChecksSlice, ChecksSlices, Dropping, DropsLists}
+use Rattle.jv_data.proofs.CutListsLaws.{get-ended}
+use Rattle.jv_data.proofs.DroppedLaws.{get-without}
+use Rattle.jv_data.specs.Truncating.{HasSlice, HaveSlices, records_of, Follow, ChecksSlice, ChecksSlices, Dropping, Dropped, DropsLists, IsLastBefore, LeaveSlices, TellsDue, EndsList, CutsLists}
 
 -- ---- readings of which the model sees nothing
 
@@ -245,3 +250,115 @@ windows_left (Some window) = 2 ^ 32 - window
 pub fewer-left : (now : Option ℕ) (window : ℕ) → is_past now window ≡ true → window < 2 ^ 32 → windows_left (Some window) < windows_left now
 fewer-left None window past low = omega (arith, low)
 fewer-left (Some w) window past low = (let more = ltb-true w window past in omega (arith, more, low))
+
+-- ---- counts that follow
+
+-- records of lists that follow one another name slices with rows
+have_all : (rows : Rows) (inode : ℕ) (start : Option ℕ) (ds : List (ℕ × List Rec)) → Follow rows inode start ds → HaveSlices rows (records_of ds)
+have_all rows inode start [] f = tt
+have_all rows inode start (d ∷ ds) f = all-append (λ r. r.id ≢ 0 → HasSlice rows r.id) (records_of ds) d.1 (have_all rows inode start ds f.1) f.0.slices
+
+has_named : (rows : Rows) (id : ℕ) → id ≢ 0 → (l : List Rec) → HaveSlices rows l → 0 < records_naming id l → HasSlice rows id
+has_named rows id some [] all naming = absurd (omega (arith, naming))
+has_named rows id some (r ∷ rs) all naming = elim (cases_eq r.id id) [
+  | inl same ↦ subst (HasSlice rows) same (all.0 (λ zero. some (sym same ∙ zero)))
+  | inr apart ↦ has_named rows id some rs all.1
+      (let parts = naming-append id (r ∷ []) rs in
+      let none : records_naming id (r ∷ []) ≡ 0 = ap (λ b. 0 + cond b 1 0) (ne_eqb r.id id apart) in
+      omega (arith, parts, none, naming))
+]
+
+-- what a record that is named says
+named_is : (gone : List Rec) (id : ℕ) → IsTrue (is_named gone [] id) → (id ≢ 0) × (0 < records_naming id gone)
+named_is gone id is = by_count (id == 0) (records_naming id gone + 0 == 0) refl refl is
+  where
+    by_count : (a b : Bool) → (id == 0) ≡ a → (records_naming id gone + 0 == 0) ≡ b → (not a && not b) ≡ true → (id ≢ 0) × (0 < records_naming id gone)
+    by_count true b e f h = absurd (cc)
+    by_count false true e f h = absurd (cc)
+    by_count false false e f h = (eqb-false id 0 e, (let n = eqb-false (records_naming id gone + 0) 0 f in omega (arith, n)))
+
+module _ (gone : List Rec) (due : ℕ) (before after : Store) (changes changed : List Change)
+    (have : (known : RowMap) → before.rows ≡ Some known → (id : ℕ) → id ≢ 0 → 0 < records_naming id gone → HasSlice (drafted changes known) id) where
+  never_full : (fault : Fault) → FailsToRecount gone [] changes before.rows (Refused fault) → (known : RowMap) → before.rows ≡ Some known → ⊥
+  never_full fault f known is =
+      let full = of_known (λ known. IsFull f.id (records_naming f.id gone) 0 (drafted changes known)) before.rows known is f.why.1 in
+      let fewer : nat_le (recounted full.slice.count (records_naming f.id gone) 0) full.slice.count ≡ true = le-leb _ _ (omega arith) in
+      let both : true ≡ false = sym (or_right (nat_le (recounted full.slice.count (records_naming f.id gone) 0) FULL_COUNT) _ fewer) ∙ full.full in
+      absurd (cc)
+
+  never_bad : (at : RowKey) (bytes : List ℕ) → FailsToRecount gone [] changes before.rows (OfRows (Bad at bytes)) → (known : RowMap) → before.rows ≡ Some known → ⊥
+  never_bad at bytes f known is =
+      let p = named_is gone f.id f.named in
+      let row = have known is f.id p.0 p.1 in
+      let no = of_known (λ known. IsNoRow (get (drafted changes known) (slice_key f.id)) bytes) before.rows known is f.why.1 in
+      subst (λ c. IsNoRow c bytes) row.is no
+
+  agrees_by : (result : Result (Unit {0}) TxFault) → IfErr result (RefusesAdjust gone [] changes before.rows) → (known : RowMap) → before.rows ≡ Some known
+      → Agrees {A = Unit {0}} result (Ok tt)
+  agrees_by (Ok unit) h known is = refl
+  agrees_by (Err (Refused fault)) h known is = absurd (never_full fault h known is)
+  agrees_by (Err (Moved list)) h known is = h
+  agrees_by (Err (OfRows (Bad at bytes))) h known is = never_bad at bytes h known is
+  agrees_by (Err (OfRows Failed)) h known is = tt
+  agrees_by (Err (OfRows Memory)) h known is = tt
+
+  bad_by : (result : Result (Unit {0}) TxFault) → IfErr result (RefusesAdjust gone [] changes before.rows)
+      → IfErr result (λ fault. IfSome before.rows (λ known. BadFault (typed known) fault))
+  bad_by (Ok unit) h = tt
+  bad_by (Err (Refused fault)) h = if_known (λ known. BadFault (typed known) (Refused fault)) before.rows (λ known is. tt)
+  bad_by (Err (Moved list)) h = if_known (λ known. BadFault (typed known) (Moved list)) before.rows (λ known is. tt)
+  bad_by (Err (OfRows (Bad at bytes))) h = if_known (λ known. BadFault (typed known) (OfRows (Bad at bytes))) before.rows (λ known is. absurd (never_bad at bytes h known is))
+  bad_by (Err (OfRows Failed)) h = if_known (λ known. BadFault (typed known) (OfRows Failed)) before.rows (λ known is. tt)
+  bad_by (Err (OfRows Memory)) h = if_known (λ known. BadFault (typed known) (OfRows Memory)) before.rows (λ known is. tt)
+
+  pub adjust-looks : (result : Result (Unit {0}) TxFault) → Adjusts gone [] due before after changes changed result → Looks {A = Unit {0}} before after result (λ t. Ok tt)
+  adjust-looks result a = record {
+    rows_are = a.rows_are;
+    opened_at = a.opened_at;
+    counts = a.counts;
+    agrees = λ known is whole bytes. agrees_by result a.refused known is;
+    bad = bad_by result a.refused;
+  }
+
+module _ (inode len now due : ℕ) (start : Option ℕ) (before told ended dropped after : Store) (d0 d1 d2 d3 : List Change) (gone none : List Rec)
+    (leave : LeaveSlices before.rows d0) (last : IsLastBefore len start) (t : TellsDue now before told (Ok due)) (e : EndsList inode len told ended d0 d1 (Ok tt))
+    (d : DropsLists inode start ended dropped d1 d2 (Ok gone)) where
+  so_far : Looks {A = Unit {0}} before dropped (Ok tt) (λ t. Ok tt)
+  so_far = looks-then before ended dropped (Ok tt) (looks-then before told ended (Ok tt) t.looks e.looks) d.looks
+
+  have_gone : (known : RowMap) → dropped.rows ≡ Some known → (id : ℕ) → id ≢ 0 → 0 < records_naming id gone → HasSlice (drafted d2 known) id
+  have_gone known is id some naming =
+      let at_ended : ended.rows ≡ Some known = sym d.looks.rows_are ∙ is in
+      let at_told : told.rows ≡ Some known = sym e.looks.rows_are ∙ at_ended in
+      let at_before : before.rows ≡ Some known = sym t.looks.rows_are ∙ at_told in
+      let p = (d.dropped known at_ended).so_far in
+      let row = has_named (typed known) id some (records_of p.lists) (have_all (typed known) inode start p.lists p.follow) (subst (λ l. 0 < records_naming id l) p.gone_is naming) in
+      record {
+        slice = row.slice;
+        is = ap (λ (rows : Rows). get rows (slice_key id)) p.is
+            ∙ get-without inode p.lists (drafted d1 known) (slice_key id) refl
+            ∙ ap (λ (rows : Rows). get rows (slice_key id)) (e.ended known at_told)
+            ∙ get-ended inode (len / WINDOW) (len % WINDOW) (drafted d0 known) (lists_of (typed known) inode (len / WINDOW)) (slice_key id) refl
+            ∙ leave known at_before (slice_key id) refl
+            ∙ row.is;
+      }
+
+  pub cut-ends : none ≡ [] → (result : Result (Unit {0}) TxFault) → Adjusts gone none due dropped after d2 d3 result → CutsLists inode len now before after d0 d3 result
+  cut-ends is result adjusts = all result (subst (λ n. Adjusts gone n due dropped after d2 d3 result) is adjusts)
+    where
+      all : (result : Result (Unit {0}) TxFault) → Adjusts gone [] due dropped after d2 d3 result → CutsLists inode len now before after d0 d3 result
+      all (Err fault) a = record { looks = looks-then before dropped after (Err fault) so_far (adjust-looks gone due dropped after d2 d3 have_gone (Err fault) a); cut = tt }
+      all (Ok unit) a = record {
+        looks = looks-then before dropped after (Ok tt) so_far (adjust-looks gone due dropped after d2 d3 have_gone (Ok tt) a);
+        cut = λ known is. record {
+          last = start;
+          last_is = last;
+          without = drafted d2 known;
+          gone = gone;
+          dropped = subst (λ (rows : Rows). Dropped inode start (typed known) rows (drafted d2 known) gone) (e.ended known (t.looks.rows_are ∙ is))
+              (d.dropped known (e.looks.rows_are ∙ t.looks.rows_are ∙ is));
+          due = due;
+          is_due = t.due known is;
+          adjusted = of_known (λ known. Adjusted gone [] due (drafted d2 known) (drafted d3 known)) dropped.rows known (so_far.rows_are ∙ is) a.done;
+        };
+      }
