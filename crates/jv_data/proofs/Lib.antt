@@ -18,3 +18,4 @@ pub mod DroppedLaws
 pub mod CutListsLaws
 pub mod TruncatedLaws
 pub mod TruncateLaws
+pub mod TruncateEndsLaws
