@@ -192,7 +192,7 @@ module _ (sid now inode len : ℕ) where
             let z = r.sized known at_seen in
             ap (λ (rows : Rows). get rows key) z.is
             ∙ get-alter-apart row_key (alter (typed known) (node_key inode) (Some (Ok (OfNode (row_sized was len now))))) counters_key
-                (Some (Ok (OfCounters (record z.counters { used_space = used_after z.counters was.length len })))) key (λ same. absurd (apart (ap (λ (k : RowKey). k.tab) same) of))
+            (Some (Ok (OfCounters (record z.counters { used_space = used_after z.counters was.length len })))) key (λ same. absurd (apart (ap (λ (k : RowKey). k.tab) same) of))
             ∙ get-alter-apart row_key (typed known) (node_key inode) (Some (Ok (OfNode (row_sized was len now)))) key (λ same. absurd (apart_two (ap (λ (k : RowKey). k.tab) same) of))
           where
             apart : {n : ℕ} → n ≡ 1 → IsTrue ((n == 0) || is_of_slices n) → ⊥

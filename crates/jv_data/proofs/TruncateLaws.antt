@@ -229,13 +229,16 @@ module _ (inode : ℕ) (start now : Option ℕ) (before middle found : Store) (c
         looks = looks-then before found after (Ok tt) (found_calm (Some (window, list)) f) s.looks;
         so_far = λ known is. (let p = d.so_far known is in record {
           lists = (window, list) ∷ p.lists;
-          follow = (record {
-            past = subst (λ o. is_past o window ≡ true) p.now_is f.past;
-            small = f.small;
-            there = of_known (λ known. get (typed known) (list_key inode window) ≡ Some (Ok (OfList list))) middle.rows known (d.looks.rows_are ∙ is) f.there;
-            least = λ wide. subst (λ o. HasNoList (typed known) inode o (Some window)) p.now_is (f.least known (d.looks.rows_are ∙ is) wide);
-            slices = s.slices known (f.rows_are ∙ d.looks.rows_are ∙ is);
-          }, p.follow);
+          follow = (
+            record {
+              past = subst (λ o. is_past o window ≡ true) p.now_is f.past;
+              small = f.small;
+              there = of_known (λ known. get (typed known) (list_key inode window) ≡ Some (Ok (OfList list))) middle.rows known (d.looks.rows_are ∙ is) f.there;
+              least = λ wide. subst (λ o. HasNoList (typed known) inode o (Some window)) p.now_is (f.least known (d.looks.rows_are ∙ is) wide);
+              slices = s.slices known (f.rows_are ∙ d.looks.rows_are ∙ is);
+            },
+            p.follow,
+          );
           now_is = refl;
           gone_is = more_is ∙ ap (λ l. l ++ list) p.gone_is;
           is = dropped known ∙ ap (λ (rows : Rows). alter rows (list_key inode window) None) p.is;

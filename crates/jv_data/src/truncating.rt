@@ -95,12 +95,7 @@ fn cut<K: Keeper>(
 }
 
 /// The moment in seconds when slices that die now are due: the trash's days later.
-fn due_after<K: Keeper>(
-    alloc: Global,
-    k: &mut K,
-    draft: &Draft,
-    now: u64,
-) -> Result<u64, TxFault>
+fn due_after<K: Keeper>(alloc: Global, k: &mut K, draft: &Draft, now: u64) -> Result<u64, TxFault>
     requires moment { now ≤ LAST_MOMENT }
     requires leave { LeaveSlices (K.seen k.old).rows draft.now }
     ensures { TellsDue now (K.seen k.old) (K.seen k.new) result }
