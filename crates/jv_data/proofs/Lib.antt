@@ -12,3 +12,10 @@ pub mod CommitLaws
 pub mod RecordsLaws
 pub mod NumberLaws
 pub mod RecordCommitLaws
+pub mod ListChangeLaws
+pub mod SameTreeLaws
+pub mod DroppedLaws
+pub mod CutListsLaws
+pub mod TruncatedLaws
+pub mod TruncateLaws
+pub mod TruncateEndsLaws

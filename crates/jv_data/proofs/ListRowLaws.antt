@@ -125,7 +125,7 @@ module _ (rows : Rows) (inode window : ℕ) (low : window < 2 ^ 32) (cell : Opti
   abbrev new : List Rec
   new = records_in (row_in cell)
 
-  list_is : lists_of rows inode window ≡ records_in (row_in (get rows key))
+  pub list_is : lists_of rows inode window ≡ records_in (row_in (get rows key))
   unfolding lists_of
   list_is = cond-true _ _ _ (lt-ltb window (2 ^ 32) low)
 

@@ -1,5 +1,7 @@
 -- How a file gets another length: each exit, by what was read and what was changed.
-use Rattle.std.proofs.Common.{◌≡◌, ℕ, List, [], None, Some, Result, Ok, Err, refl, ap, ◌∙◌}
+use Rattle.std.proofs.Common.{◌≡◌, ℕ, ◌<◌, arith, List, [], None, Some, Result, Ok, Err, refl, ap, ◌∙◌}
+use Rattle.std.specs.Prelude.{◌&&◌, nat_le}
+use Rattle.std.proofs.lemmas.Bool.{and_parts, leb-true}
 use Rattle.jv_model.specs.declared.fault.Fault.{Fault}
 use Rattle.jv_model.specs.declared.fault.Fault.TheVariants.{NoSpace}
 use Rattle.jv_model.specs.declared.fault.TxFault.{TxFault}
@@ -24,7 +26,8 @@ use Rattle.jv_rows.proofs.NeedingLaws.{SettingNeeded, CountersNeeded, fails-need
 use Rattle.jv_rows.proofs.TransactionLaws.{Past, past-start, past-as, past-calm, past-fails, past-gives, past-refuses, fails-looks, drafted-none, of_known}
 use Rattle.jv_volume.specs.TypedRows.{Rows, typed}
 use Rattle.jv_volume.specs.Views.{row_in, setting_in, setting_at, counters_in, counters_at, node_in, node_row_at}
-use Rattle.jv_volume.specs.TreeOf.{tree_of}
+use Rattle.jv_volume.specs.TreeOf.{tree_of, or_no_counters}
+use Rattle.jv_volume.specs.Slices.{next_slice}
 use Rattle.jv_volume.specs.Whole.{Whole}
 use Rattle.jv_data.specs.Resizing.{Resizes, ResizesFile, used_after, row_sized, rows_sized}
 use Rattle.jv_data.proofs.SizedLaws.{fits-sized}
@@ -100,9 +103,15 @@ module _ (inode : ℕ) (was : NodeRow) (length now : ℕ) (before : Store) (ther
         looks = λ content long. past-gives before counted (act content) tt
             (past-as before counted counted (act content) (act content) (with_counters content) (λ t. Ok tt)
             (λ known is whole bytes. ap (λ b. require b NoSpace) (fits_is content long known is whole bytes ∙ room.0)));
-        sized = λ known is. record { counters = c; there = counted_at known is; is = rows_are known };
+        sized = λ known is. record { counters = c; there = counted_at known is; is = rows_are known; given = given known is };
       }
         where
+          given : (known : RowMap) → before.rows ≡ Some known → 0 < next_slice (typed known)
+          given known is =
+              let low = leb-true 1 c.slice (and_parts (nat_le 1 c.inode) (nat_le 1 c.slice) (and_parts (nat_le 1 c.inode && nat_le 1 c.slice) (nat_le 1 c.session) n.allowed).0).1 in
+              let next : next_slice (typed known) ≡ c.slice = ap (λ o. (or_no_counters o).slice) (counted_at known is) in
+              omega (arith, low, next)
+
           rows_are : (known : RowMap) → drafted d2 known ≡ rows_sized (typed known) inode was c length now
           rows_are known =
               two known

@@ -3,3 +3,4 @@ pub mod Resizing
 pub mod Committing
 pub mod Changing
 pub mod Records
+pub mod Truncating

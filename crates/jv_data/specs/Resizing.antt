@@ -1,5 +1,5 @@
 -- A file of another length: what its row and the counters are then.
-use Rattle.std.specs.Prelude.{◌≡◌, ℕ, ◌+◌, ◌-◌, List, false, true, Option, None, Some, Result, Ok, OnOk}
+use Rattle.std.specs.Prelude.{◌≡◌, ℕ, ◌+◌, ◌-◌, ◌<◌, List, false, true, Option, None, Some, Result, Ok, OnOk}
 use Rattle.jv_model.specs.declared.fault.Fault.TheVariants.{NoSpace}
 use Rattle.jv_model.specs.declared.fault.TxFault.{TxFault}
 use Rattle.jv_model.specs.declared.row.Counters.{Counters}
@@ -17,6 +17,7 @@ use Rattle.jv_outside.specs.Store.{Store}
 use Rattle.jv_rows.specs.Drafts.{drafted}
 use Rattle.jv_rows.specs.Transactions.{Looks}
 use Rattle.jv_volume.specs.TypedRows.{Rows, typed}
+use Rattle.jv_volume.specs.Slices.{next_slice}
 use Rattle.jv_volume.specs.Views.{counters_at}
 
 -- the space that so many bytes take
@@ -46,6 +47,7 @@ pub record AreSized (rows after : Rows) (inode : ℕ) (was : Node) (length now :
   pub counters : Counters
   pub there : counters_at rows ≡ Some counters
   pub is : after ≡ rows_sized rows inode was counters length now
+  pub given : 0 < next_slice rows
 
 -- A file gets another length, and both times: over whole rows, whatever bytes it then has, it is refused where the model's volume has no
 -- room for them. The changes are of its row and of the counters.

@@ -7,7 +7,9 @@ mod committing;
 mod looking;
 mod numbering;
 mod resizing;
+mod truncating;
 
 pub use committing::{commit, commit_length};
 pub use looking::{View, look, look_at};
 pub use numbering::next_id;
+pub use truncating::truncate;

@@ -1,12 +1,13 @@
 //! A volume in memory, whose operations are lines of a script.
-use jv_data::{commit_length, look};
+use jv_data::{View, commit, commit_length, look, look_at, next_id, truncate};
 use jv_live::mount;
 use jv_metadata::{is_metadata, is_spelled, transact};
 use jv_model::{
-    ClientId, FILE_END, Fault, Line, Moment, Op, Reply, Sequence, Setting, TxFault, Who,
+    ClientId, Dead, FILE_END, Fault, Line, Moment, Op, Rec, Reply, Sequence, Setting, SliceRow,
+    TxFault, WINDOW, Who,
 };
 use jv_outside::{Keeper, NeverKeeper};
-use jv_rows::{allows_setting, default_setting, fresh_rows};
+use jv_rows::{allows_record, allows_setting, default_setting, fresh_rows, read_dead, read_slice};
 use jv_script::{print_reply, read_line};
 use std::alloc::{AllocError, Global};
 use std::str::from_utf8;
@@ -101,6 +102,53 @@ impl Volume {
         let started = Moment(NOW.saturating_sub(age));
         let end = end.min(FILE_END);
         commit_length(self.alloc, &mut self.keeper, sid, now, inode, end, started)
+    }
+
+    /// The number of the next slice.
+    pub(crate) fn next_id(&mut self) -> Result<u64, TxFault> {
+        next_id(self.alloc, &mut self.keeper, &self.who)
+    }
+
+    /// Commits a record of a new slice whose block is so many seconds old.
+    pub(crate) fn put(
+        &mut self,
+        inode: u64,
+        window: u32,
+        rec: Rec,
+        age: u64,
+    ) -> Result<(), TxFault> {
+        let end = u64::from(window) * WINDOW + u64::from(rec.pos) + u64::from(rec.len);
+        let size = u64::from(rec.size);
+        if !allows_record(&rec) || rec.id == 0 || size > WINDOW || end > FILE_END {
+            return Err(TxFault::Refused(Fault::Invalid));
+        }
+        let started = Moment(NOW.saturating_sub(age));
+        commit(
+            self.alloc,
+            &mut self.keeper,
+            &self.who,
+            inode,
+            window,
+            rec,
+            started,
+        )
+    }
+
+    pub(crate) fn truncate(&mut self, inode: u64, len: u64) -> Result<(), TxFault> {
+        truncate(self.alloc, &mut self.keeper, &self.who, inode, len)
+    }
+
+    /// What a look at a window sees.
+    pub(crate) fn view(&mut self, inode: u64, window: u32) -> Result<View, TxFault> {
+        look_at(self.alloc, &mut self.keeper, &self.who, inode, window)
+    }
+
+    pub(crate) fn slice(&mut self, id: u64) -> Result<Option<SliceRow>, Fail> {
+        Ok(read_slice(self.alloc, &mut self.keeper, id)?)
+    }
+
+    pub(crate) fn dead(&mut self, id: u64) -> Result<Option<Dead>, Fail> {
+        Ok(read_dead(self.alloc, &mut self.keeper, id)?)
     }
 
     fn reply(&mut self, op: &Op) -> Result<Reply, TxFault> {

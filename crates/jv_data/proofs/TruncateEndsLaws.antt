@@ -1,0 +1,294 @@
+-- How a truncate ends, by the model's.
+use Rattle.std.proofs.Common.{◌≡◌, ◌≢◌, ℕ, ◌+◌, ◌<◌, ◌≤◌, inl, Bool, true, false, List, [], Option, None, Some, Result, Ok, Err, refl, sym, ap, subst, ◌∙◌, arith}
+use Rattle.std.specs.Prelude.{◌==◌, ◌||◌, nat_le, is_some, IsTrue}
+use Rattle.std.specs.Option.{option_map}
+use Rattle.std.proofs.lemmas.Bool.{le-leb, lt-leb}
+use Rattle.jv_model.specs.declared.fault.Fault.{Fault}
+use Rattle.jv_model.specs.declared.fault.Fault.TheVariants.{FileTooLarge, NoSpace, Stale}
+use Rattle.jv_model.specs.declared.fault.Gone.TheVariants.{Session, Node as GoneNode}
+use Rattle.jv_model.specs.declared.fault.RowFault.TheVariants.{Bad, Failed, Memory}
+use Rattle.jv_model.specs.declared.fault.TxFault.{TxFault}
+use Rattle.jv_model.specs.declared.fault.TxFault.TheVariants.{Refused, Moved, Rows as OfRows}
+use Rattle.jv_model.specs.declared.limits.TheConstants.{FILE_END}
+use Rattle.jv_model.specs.declared.op.Reply.TheVariants.{Done}
+use Rattle.jv_model.specs.FiniteMap.{get, alter}
+use Rattle.jv_model.specs.rows.RowKeys.{RowMap, row_key}
+use Rattle.jv_model.specs.tree.Attempt.{◌>>=◌, require, some_or}
+use Rattle.jv_model.specs.tree.Caller.{Caller, Outcome, done}
+use Rattle.jv_model.specs.tree.Changes.{resized, with_content}
+use Rattle.jv_model.specs.tree.FileBytes.{truncated, truncate}
+use Rattle.jv_model.specs.tree.Tree.{Tree, Content, content_at, fits}
+use Rattle.jv_outside.specs.Store.{Store, Commits}
+use Rattle.jv_model.specs.declared.basics.Who.{Who}
+use Rattle.jv_rows.specs.Transactions.{Agrees, IsFor, Looks}
+use Rattle.jv_rows.proofs.TransactionLaws.{Past, of_known, past-as, past-calm, past-ends, past-fails, past-looks, past-refuses, past-stops, fails-commit}
+use Rattle.jv_data.specs.Resizing.{ResizesFile, AreSized, row_sized, rows_sized, used_after}
+use Rattle.jv_data.specs.Truncating.{ListsCut, LeaveSlices, Cut, Kept, Shortens}
+use Rattle.jv_data.proofs.BeginningLaws.{content_found}
+use Rattle.jv_data.proofs.CommitLaws.{looks-any}
+use Rattle.jv_outside.specs.Rows.{applied}
+use Rattle.jv_rows.specs.Drafts.{drafted}
+use Rattle.jv_model.specs.declared.slice.Spot.TheVariants.{Zero}
+use Rattle.jv_contents.specs.Counts.{KeepsOthers}
+use Rattle.jv_contents.proofs.ByteLaws.{byte-grown}
+use Rattle.jv_contents.proofs.KeepLaws.{keeps-stay}
+use Rattle.jv_contents.proofs.PlaceLaws.{place_in-same}
+use Rattle.jv_volume.proofs.QuietLaws.{quiet-lists_of}
+use Rattle.jv_volume.specs.Slices.{place_in}
+use Rattle.jv_data.proofs.BesideLaws.{beside-none}
+use Rattle.jv_data.proofs.ChangedLaws.{tree-changed}
+use Rattle.jv_data.proofs.SizedLaws.{sized_rows, quiet-sized, whole-sized}
+use Rattle.jv_data.proofs.TruncatedLaws.{whole-cut, others-cut, tree-cut_lists}
+use Rattle.jv_model.specs.declared.fault.Down.{Down}
+use Rattle.jv_model.specs.declared.row.Row.TheVariants.{OfNode, OfCounters}
+use Rattle.jv_model.specs.declared.row.RowKey.{RowKey}
+use Rattle.jv_model.specs.rows.RowFaults.{row_fault}
+use Rattle.jv_model.specs.rows.RowPlaces.{counters_key, node_key}
+use Rattle.jv_outside.specs.declared.batch.Change.{Change}
+use Rattle.jv_volume.specs.Views.{row_in, node_in, node_row_at, lists_of}
+use Rattle.jv_volume.specs.Whole.{Whole, Quiet, is_of_slices}
+use Rattle.jv_volume.proofs.MapLaws.{get-alter-apart}
+use Rattle.jv_model.specs.declared.row.Node.{Node as NodeRow}
+use Rattle.jv_volume.specs.TreeOf.{content_of, tree_of}
+use Rattle.jv_volume.specs.TypedRows.{Rows, typed}
+use Rattle.jv_contents.specs.Bytes.{Told, spot_byte, bytes_of, tree_with}
+use Rattle.jv_data.specs.Changing.{Makes, AnyTold, Never, Changed, LandsChanged, Changes}
+use Rattle.jv_data.specs.Committing.{HasFile, length_seen}
+
+-- the model's truncate of a file that a session sees
+abbrev pub truncating : (sid now inode len : ℕ) → Tree → Result Outcome Fault
+truncating sid now inode len t = do
+  _ ← require (is_some (get t.sessions sid)) (Stale (Session sid))
+  content ← some_or (content_at t inode) (Stale (GoneNode inode))
+  _ ← require (nat_le len FILE_END) FileTooLarge
+  _ ← require (fits t (truncated t now inode len)) NoSpace
+  done (truncated t now inode len)
+
+pub truncate-as : (t : Tree) (caller : Caller) (sid now inode len : ℕ) → caller.sid ≡ sid → caller.now ≡ now → caller.inode ≡ inode
+    → truncate t caller len ≡ truncating sid now inode len t
+unfolding truncate
+truncate-as t caller sid now inode len s n i = λ k. truncating (s k) (n k) (i k) len t
+
+stops : (b : Bool) (o : Option Content) (f g fault : Fault) (rest : Result Outcome Fault)
+    → ◌≡◌ {A = Result ℕ Fault} (require b f >>= (λ unit. some_or o g >>= (λ content. Ok content.length))) (Err fault)
+    → ◌≡◌ {A = Result Outcome Fault} (require b f >>= (λ unit. some_or o g >>= (λ content. rest))) (Err fault)
+stops false o f g fault rest e = (let one : f ≡ fault = cc in ap (λ x. Err x) one)
+stops true None f g fault rest e = (let one : g ≡ fault = cc in ap (λ x. Err x) one)
+stops true (Some content) f g fault rest e = absurd (cc)
+
+goes : (b : Bool) (o : Option Content) (f g : Fault) (n : ℕ) (rest : Result Outcome Fault)
+    → ◌≡◌ {A = Result ℕ Fault} (require b f >>= (λ unit. some_or o g >>= (λ content. Ok content.length))) (Ok n)
+    → ◌≡◌ {A = Result Outcome Fault} (require b f >>= (λ unit. some_or o g >>= (λ content. rest))) rest
+goes false o f g n rest e = absurd (cc)
+goes true None f g n rest e = absurd (cc)
+goes true (Some content) f g n rest e = refl
+
+module _ (makes : Makes) (before after : Store) (act : Tree → Result Outcome Fault) where
+  lands_refused : (fault : TxFault) (known : RowMap) (told : Told) → Agrees {A = Outcome} (Err fault) (act (tree_with told (typed known)))
+      → LandsChanged {A = Unit {0}} makes Never known after.rows told (λ unit. Done) act (Err fault)
+  lands_refused (Refused fault) known told h = inl h
+  lands_refused (Moved list) known told h = h
+  lands_refused (OfRows (Bad at bytes)) known told h = h
+  lands_refused (OfRows Failed) known told h = tt
+  lands_refused (OfRows Memory) known told h = tt
+
+  -- one that is refused
+  pub changes-refused : (fault : TxFault) → Looks {A = Outcome} before after (Err fault) act
+      → Changes {A = Unit {0}} makes AnyTold Never before after (Err fault) (λ unit. Done) act
+  changes-refused fault l = record {
+    opened_at = l.opened_at;
+    counts = l.counts;
+    undone = l.rows_are;
+    lands = λ known is whole told ready. lands_refused fault known told (l.agrees known is whole (bytes_of told (typed known)));
+    bad = l.bad;
+  }
+
+abbrev pub makes : Makes
+makes = record { own = 0; size = 0; more = 1 }
+
+module _ (sid now inode len : ℕ) where
+  abbrev act : Tree → Result Outcome Fault
+  act = truncating sid now inode len
+
+  abbrev pub Ends : Store → Store → Result (Unit {0}) TxFault → Type 0
+  Ends before after result = Changes {A = Unit {0}} makes AnyTold Never before after result (λ unit. Done) act
+
+  -- the content that the file gets
+  abbrev content : Tree → Content
+  content t = elim (content_at t inode) as (λ _. Content) [ None ↦ record { length = len; byte = λ p. 0 } | Some old ↦ resized old len ]
+
+  long : (t : Tree) → (content t).length ≡ len
+  long t = by_content (content_at t inode)
+    where
+      by_content : (o : Option Content) → (elim o as (λ _. Content) [ None ↦ record { length = len; byte = λ p. 0 } | Some old ↦ resized old len ]).length ≡ len
+      by_content None = refl
+      by_content (Some old) = refl
+
+  pub truncate-unread : (before after : Store) (fault : TxFault) → HasFile sid inode before after (Err fault) → Ends before after (Err fault)
+  truncate-unread before after fault h = changes-refused makes before after act fault (record {
+    rows_are = h.looks.rows_are;
+    opened_at = h.looks.opened_at;
+    counts = h.looks.counts;
+    agrees = λ known is whole bytes. same (tree_of bytes (typed known)) fault (h.looks.agrees known is whole bytes);
+    bad = h.looks.bad;
+  })
+    where
+      same : (t : Tree) (fault : TxFault) → Agrees {A = ℕ} (Err fault) (length_seen sid inode t) → Agrees {A = Outcome} (Err fault) (act t)
+      same t (Refused f) e = stops (is_some (get t.sessions sid)) (content_at t inode) _ _ f _ e
+      same t (Moved list) e = e
+      same t (OfRows (Bad at bytes)) e = e
+      same t (OfRows Failed) e = tt
+      same t (OfRows Memory) e = tt
+
+  module _ (before seen : Store) (was : NodeRow) (h : HasFile sid inode before seen (Ok was)) where
+    abbrev rest : Tree → Result Outcome Fault
+    rest t = require (nat_le len FILE_END) FileTooLarge >>= (λ unit. require (fits t (truncated t now inode len)) NoSpace >>= (λ unit. done (truncated t now inode len)))
+
+    past_file : Past before seen act rest
+    past_file = record {
+      rows_are = h.looks.rows_are;
+      opened_at = h.looks.opened_at;
+      calm = h.looks.counts;
+      goes_on = λ known is whole bytes. (let t = tree_of bytes (typed known) in
+          goes (is_some (get t.sessions sid)) (content_at t inode) _ _ was.length (rest t) (h.looks.agrees known is whole bytes));
+    }
+
+    pub truncate-too_long : FILE_END < len → Ends before seen (Err (Refused FileTooLarge))
+    truncate-too_long over = changes-refused makes before seen act (Refused FileTooLarge)
+        (past-refuses before seen act FileTooLarge (past-as before seen seen act rest past_file (λ t. Err FileTooLarge)
+        (λ known is whole bytes. (let t = tree_of bytes (typed known) in
+        ap (λ b. require b FileTooLarge >>= (λ unit. require (fits t (truncated t now inode len)) NoSpace >>= (λ unit. done (truncated t now inode len)))) (lt-leb len FILE_END over)))))
+
+    there : (known : RowMap) → before.rows ≡ Some known → node_row_at (typed known) inode ≡ Some was
+    there known is = ap (λ o. node_in (row_in o))
+        (of_known (λ known. get (typed known) (node_key inode) ≡ Some (Ok (OfNode was))) seen.rows known (h.looks.rows_are ∙ is) h.stands)
+
+    same_tree : (t : Tree) (x : Content) → content_at t inode ≡ Some x → truncated t now inode len ≡ with_content t now inode (content t)
+    same_tree t x e =
+        ap (λ o. elim o as (λ _. Tree) [ None ↦ t | Some old ↦ with_content t now inode (resized old len) ]) e
+        ∙ sym (ap (λ o. with_content t now inode (elim o as (λ _. Content) [ None ↦ record { length = len; byte = λ p. 0 } | Some old ↦ resized old len ])) e)
+
+    module _ (small : len ≤ FILE_END) where
+      abbrev last_step : Tree → Result Outcome Fault
+      last_step t = done (truncated t now inode len)
+
+      past_fits : Past before seen act (λ t. require (fits t (with_content t now inode (content t))) NoSpace >>= (λ unit. last_step t))
+      past_fits = past-as before seen seen act rest past_file (λ t. require (fits t (with_content t now inode (content t))) NoSpace >>= (λ unit. last_step t))
+          (λ known is whole bytes. (let t = tree_of bytes (typed known) in
+          ap (λ b. require b FileTooLarge >>= (λ unit. require (fits t (truncated t now inode len)) NoSpace >>= (λ unit. last_step t))) (le-leb len FILE_END small)
+          ∙ ap (λ x. require (fits t x) NoSpace >>= (λ unit. last_step t)) (same_tree t _ (content_found known inode was whole (there known is) h.file bytes))))
+
+      pub truncate-no_room : (after : Store) (changes : List Change) (fault : TxFault) → ResizesFile inode was len now seen after changes (Err fault) → Ends before after (Err fault)
+      truncate-no_room after changes fault r = changes-refused makes before after act fault
+          (past-stops before seen after act (λ t. require (fits t (with_content t now inode (content t))) NoSpace) (λ t unit. last_step t) past_fits fault (r.looks content long))
+
+      module _ (sized : Store) (d1 : List Change) (r : ResizesFile inode was len now seen sized d1 (Ok tt)) where
+        past_sized : Past before sized act last_step
+        past_sized = past-looks before seen sized act (λ t. require (fits t (with_content t now inode (content t))) NoSpace) (λ t unit. last_step t) past_fits tt (r.looks content long)
+
+        pub leave-sized : LeaveSlices sized.rows d1
+        leave-sized known is key of =
+            let at_seen : seen.rows ≡ Some known = sym (r.looks content long).rows_are ∙ is in
+            let z = r.sized known at_seen in
+            ap (λ (rows : Rows). get rows key) z.is
+            ∙ get-alter-apart row_key (alter (typed known) (node_key inode) (Some (Ok (OfNode (row_sized was len now))))) counters_key
+            (Some (Ok (OfCounters (record z.counters { used_space = used_after z.counters was.length len })))) key (λ same. absurd (apart (ap (λ (k : RowKey). k.tab) same) of))
+            ∙ get-alter-apart row_key (typed known) (node_key inode) (Some (Ok (OfNode (row_sized was len now)))) key (λ same. absurd (apart_two (ap (λ (k : RowKey). k.tab) same) of))
+          where
+            apart : {n : ℕ} → n ≡ 1 → IsTrue ((n == 0) || is_of_slices n) → ⊥
+            apart {n} is h = (let no : false ≡ true = ap (λ m. (m == 0) || is_of_slices m) (sym is) ∙ h in absurd (cc))
+
+            apart_two : {n : ℕ} → n ≡ 2 → IsTrue ((n == 0) || is_of_slices n) → ⊥
+            apart_two {n} is h = (let no : false ≡ true = ap (λ m. (m == 0) || is_of_slices m) (sym is) ∙ h in absurd (cc))
+
+        pub truncate-unread_lists : (after : Store) (d2 : List Change) (fault : TxFault) → Shortens inode was.length len now sized after d1 d2 (Err fault) → Ends before after (Err fault)
+        truncate-unread_lists after d2 fault z = changes-refused makes before after act fault
+            (past-ends before sized after act last_step past_sized (Err fault) (looks-any sized after fault last_step z.looks))
+
+        module _ (cut : Store) (d2 : List Change) (z : Shortens inode was.length len now sized cut d1 d2 (Ok tt)) where
+          past_cut : Past before cut act last_step
+          past_cut = past-calm before sized cut act last_step past_sized z.looks.rows_are z.looks.opened_at z.looks.counts
+
+          pub truncate-down : (after : Store) (down : Down) → Commits cut after (Err down) d2 → Ends before after (Err (OfRows (row_fault down)))
+          truncate-down after down commits = changes-refused makes before after act (OfRows (row_fault down))
+              (past-fails before cut after act last_step past_cut (OfRows (row_fault down)) (fails-commit cut after down d2 commits))
+
+          module _ (last : Store) (commits : Commits cut last (Ok tt) d2) (known : RowMap) (is : before.rows ≡ Some known) (whole : Whole (typed known)) where
+            at_seen : seen.rows ≡ Some known
+            at_seen = h.looks.rows_are ∙ is
+
+            at_sized : sized.rows ≡ Some known
+            at_sized = (r.looks content long).rows_are ∙ at_seen
+
+            abbrev s : AreSized (typed known) (drafted d1 known) inode was len now
+            s = r.sized known at_seen
+
+            abbrev sized_known : Rows
+            sized_known = sized_rows (typed known) inode was s.counters now len whole (there known is) h.file s.there
+
+            quiet : Quiet (typed known) sized_known
+            quiet = quiet-sized (typed known) inode was s.counters now len whole (there known is) h.file s.there
+
+            abbrev left : Rows
+            left = drafted d2 known
+
+            by_lists : (P : Rows → Type 0) → (ListsCut inode len now (typed known) sized_known left → P left) → (was.length ≤ len → P sized_known) → P left
+            by_lists P cut kept = elim (z.lists known at_sized) [
+              | Cut shorter c ↦ cut (subst (λ (rows : Rows). ListsCut inode len now (typed known) rows (drafted d2 known)) s.is c)
+              | Kept longer same ↦ subst P (sym (same ∙ s.is)) (kept longer)
+            ]
+
+            whole_left : Whole left
+            whole_left = by_lists Whole
+                (λ c. whole-cut (typed known) inode was s.counters now len whole (there known is) h.file s.there small left c s.given)
+                (λ longer. whole-sized (typed known) inode was s.counters now len whole (there known is) h.file s.there longer small)
+
+            others_left : KeepsOthers 0 1 (typed known) left
+            others_left = by_lists (KeepsOthers 0 1 (typed known))
+                (λ c. others-cut (typed known) inode was s.counters now len whole (there known is) h.file s.there small left c s.given)
+                (λ longer. keeps-stay (typed known) sized_known quiet.apart 0 1 quiet.next)
+
+            tree_left : (told : Told) → tree_with told left ≡ truncated (tree_with told (typed known)) now inode len
+            tree_left told = by_lists (λ rows. tree_with told rows ≡ truncated (tree_with told (typed known)) now inode len)
+                (λ c. tree-cut_lists (typed known) inode was s.counters now len whole (there known is) h.file s.there small left c told)
+                (λ longer. tree-changed (typed known) inode was s.counters now len whole (there known is) h.file s.there sized_known (beside-none sized_known) told
+                (resized (content_of was.length (bytes_of told (typed known) inode)) len) refl
+                (λ i apart p. shown i p)
+                (λ p high. shown inode p ∙ past_was p (omega (arith, longer, high)))
+                (λ p. ap (spot_byte told) (shown inode p) ∙ byte-grown told was.length (place_in (lists_of (typed known) inode)) past_was len longer p)
+                ∙ sym (ap (λ o. elim o as (λ _. Tree) [ None ↦ tree_with told (typed known) | Some old ↦ with_content (tree_with told (typed known)) now inode (resized old len) ])
+                (content_found known inode was whole (there known is) h.file (bytes_of told (typed known)))))
+              where
+                shown : (i p : ℕ) → place_in (lists_of sized_known i) p ≡ place_in (lists_of (typed known) i) p
+                shown i p = place_in-same (lists_of sized_known i) (lists_of (typed known) i) (λ u. quiet-lists_of (typed known) sized_known quiet i u) p
+
+                past_was : (p : ℕ) → was.length ≤ p → place_in (lists_of (typed known) inode) p ≡ Zero
+                past_was = whole.files.past inode was (there known is) h.file
+
+            changed : (told : Told) → Changed makes known last.rows told Done act
+            unfolding drafted
+            changed told = record {
+              left = applied d2 known;
+              is = commits.rows_are ∙ ap (option_map (applied d2)) (z.looks.rows_are ∙ at_sized);
+              whole = whole_left;
+              others = others_left;
+              size = λ slice here. (let none = whole_left.slices.none in absurd (cc));
+              model = past_cut.goes_on known is whole (bytes_of told (typed known)) ∙ ap done (sym (tree_left told));
+            }
+
+          pub truncate-done : (last : Store) → Commits cut last (Ok tt) d2 → Ends before last (Ok tt)
+          truncate-done last commits = record {
+            opened_at = commits.opened_at ∙ past_cut.opened_at;
+            counts = commits.calm ∙ past_cut.calm;
+            undone = tt;
+            lands = λ known is whole told ready. changed last commits known is whole told;
+            bad = tt;
+          }
+
+-- the same by the caller of the model
+pub ends-as : (who : Who) (inode len now : ℕ) (before after : Store) (result : Result (Unit {0}) TxFault) → now ≡ who.now → Ends who.sid now inode len before after result
+    → (caller : Caller) → IsFor who caller → caller.inode ≡ inode
+    → Changes {A = Unit {0}} makes AnyTold Never before after result (λ unit. Done) (λ t. truncate t caller len)
+ends-as who inode len now before after result now_is e caller for of =
+    subst (λ (act : Tree → Result Outcome Fault). Changes {A = Unit {0}} makes AnyTold Never before after result (λ unit. Done) act)
+    (λ i t. sym (truncate-as t caller who.sid now inode len for.sid (for.now ∙ sym now_is) of) i) e

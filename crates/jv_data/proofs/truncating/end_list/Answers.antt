@@ -1,0 +1,14 @@
+use Rattle.std.proofs.Common.{◌%◌, ◌<◌, arith, List, sym, subst}
+use Rattle.std.specs.Prelude.{IsTrue}
+use Rattle.jv_model.specs.declared.limits.TheConstants.{WINDOW}
+use Rattle.jv_model.specs.declared.slice.Rec.{Rec}
+use Rattle.jv_model.specs.rows.RowGrammar.{is_list}
+use Rattle.jv_contents.specs.Places.{zero_record}
+use Rattle.jv_contents.proofs.CutLaws.{zero-is}
+use Rattle.jv_data.proofs.RecordCommitLaws.{is_list-push}
+use Rattle.jv_data.proofs.truncating.end_list.Goals as goal
+
+pub put_list-requires : goal.put_list-requires
+put_list-requires g c =
+    subst (λ (l : List Rec). IsTrue (is_list l)) (sym c.in_ok-push.ensures.ok)
+    (is_list-push c.in_ok-list.list (zero_record (c.args.len % WINDOW)) c.in_ok-list.ensures.records (zero-is (c.args.len % WINDOW) (let inside : c.args.len % WINDOW < WINDOW = grind arith in inside)))
