@@ -12,7 +12,7 @@ pub trait YardDoor<D: Depot, H: Shelf> {
     ghost use Rattle.std.specs.Prelude.{Option};
     ghost use Rattle.jv_yard.specs.YardValue.{YardValue};
 
-    // The yard given last, which at first is the one that the door was made with; none while the yard is out.
+    // What main gave back last, or before any step what the door was made of; None while main has it.
     ghost given: { Self → Option YardValue };
 
     /// Takes the yard, which is in. Workers may have published staged blocks since it was given last.
