@@ -1,0 +1,56 @@
+-- A reading of a range, window by window.
+use Rattle.std.specs.Prelude.{◌≡◌, ℕ, ◌+◌, ◌-◌, Bool, nat_lt, List, [], ◌∷◌, ◌++◌, drop, length, slice_get, Option, None, Some}
+use Rattle.jv_model.specs.declared.slice.BlockId.{BlockId}
+use Rattle.jv_model.specs.journal.Reading.{Asked}
+use Rattle.jv_reading.specs.Parts.{Part}
+
+-- a part whose blocks come: the entry of the look that it is read by, whether the file has all that it asks for, and its bytes so far
+pub record Begun : Type 0 where
+  pub entry : ℕ
+  pub is_full : Bool
+  pub part : Part
+
+-- a part that was read: the entry of its look, and its bytes
+pub record Read : Type 0 where
+  pub entry : ℕ
+  pub bytes : List ℕ
+
+-- The parts that aren't read yet, of which the first may have begun, and those that were read. Blocks have this length.
+pub record Fetching : Type 0 where
+  pub block : ℕ
+  pub parts : List Asked
+  pub begun : Option Begun
+  pub read : List Read
+
+-- before anything is read
+abbrev pub begins : ℕ → List Asked → Fetching
+begins block parts = record { block = block; parts = parts; begun = None; read = [] }
+
+-- the block that comes next
+abbrev pub next_of : Option Begun → Option BlockId
+next_of None = None
+next_of (Some begun) = slice_get begun.part.left 0
+
+abbrev pub block_needed : Fetching → Option BlockId
+block_needed f = next_of f.begun
+
+-- the most requests that parts still make: a look for each, and a block for each byte
+abbrev pub weight : List Asked → ℕ
+weight [] = 0
+weight (asked ∷ others) = 1 + (asked.to - asked.from) + weight others
+
+-- the most requests that the reading still makes
+abbrev pub fetch_left : Fetching → ℕ
+fetch_left f = elim f.begun [ None ↦ weight f.parts | Some begun ↦ length begun.part.left + weight (drop 1 f.parts) ]
+
+-- what a reading returns: the entries of the looks that it cites, 0 for none, and the bytes
+abbrev pub entry_at : ℕ → List Read → ℕ
+entry_at n [] = 0
+entry_at n (read ∷ others) = elim n [ zero ↦ read.entry | suc m ↦ entry_at m others ]
+
+abbrev pub bytes_read : List Read → List ℕ
+bytes_read [] = []
+bytes_read (read ∷ others) = read.bytes ++ bytes_read others
+
+abbrev pub fetched_of : Fetching → ℕ × ℕ × List ℕ
+fetched_of f = (entry_at 0 f.read, entry_at 1 f.read, bytes_read f.read)

@@ -1,0 +1,1 @@
+-- What a reader may rely on between the calls of a reading.

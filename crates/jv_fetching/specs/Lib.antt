@@ -1,0 +1,6 @@
+-- The definitions that contracts cite.
+pub mod Fetching
+pub mod Shows
+pub mod Calls
+pub mod Inside
+pub mod Laws

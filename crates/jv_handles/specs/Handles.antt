@@ -1,0 +1,34 @@
+-- The table of a client's open files.
+use Rattle.std.specs.Prelude.{ℕ, ◌==◌, if◌then◌else◌, List, [], ◌∷◌, Option, None, Some}
+use Rattle.jv_model.specs.client.ModelClient.{file_of}
+use Rattle.jv_handles.specs.declared.handle.Handle.{Handle}
+use Rattle.jv_handles.specs.declared.views.View.{View}
+use Rattle.jv_handles.specs.Views.{no_views, with_view}
+
+-- the inode of a handle's file, 0 where it isn't open
+abbrev pub inode_of_handle : Option Handle → ℕ
+inode_of_handle None = 0
+inode_of_handle (Some handle) = handle.inode
+
+abbrev pub inode_here : List (Option Handle) → ℕ → ℕ
+inode_here handles handle = inode_of_handle (file_of handles handle)
+
+-- the inodes of all open files
+abbrev pub held_here : List (Option Handle) → List ℕ
+held_here [] = []
+held_here (None ∷ handles) = held_here handles
+held_here (Some handle ∷ handles) = handle.inode ∷ held_here handles
+
+-- a handle that was just opened, by the entry with this number
+abbrev pub new_handle : ℕ → ℕ → Handle
+new_handle inode entry = record { inode = inode; opened = entry; views = no_views }
+
+-- a handle without views of a file that changed
+abbrev pub unseen : ℕ → Option Handle → Option Handle
+unseen inode None = None
+unseen inode (Some handle) = if handle.inode == inode then Some (record handle { views = no_views }) else Some handle
+
+-- a handle with a view of a window
+abbrev pub seen_by : ℕ → View → Option Handle → Option Handle
+seen_by window view None = None
+seen_by window view (Some handle) = Some (record handle { views = with_view window view handle.views })

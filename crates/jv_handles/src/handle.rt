@@ -1,0 +1,11 @@
+//! An open file.
+use crate::views::Views;
+
+/// A file that a client has open.
+#[derive(Drop)]
+pub struct Handle {
+    pub inode: u64,
+    /// The number of the entry that opened it.
+    pub opened: u64,
+    pub views: Views,
+}

@@ -1,0 +1,75 @@
+//! What a handle saw of its file, window by window.
+use jv_model::List;
+use std::alloc::{AllocError, Global};
+use std::collections::BTreeMap;
+use std::marker::Model;
+
+/// A window of a file as a look saw it.
+#[derive(Debug, Drop, PartialEq, Eq)]
+pub struct View {
+    /// The number of the entry that took it.
+    pub entry: u64,
+    /// The length of the whole file in bytes.
+    pub length: u64,
+    /// The records of the window, the latest last.
+    pub list: List,
+}
+
+/// The views of one handle, at most one for each window.
+#[derive(Drop)]
+pub struct Views {
+    by_window: BTreeMap<u32, View>,
+}
+
+impl Model for Views {
+    ghost use Rattle.jv_handles.specs.Views.{SeenViews, view_in, AreRecords};
+
+    ghost Value = { SeenViews };
+
+    ghost view = { λ v. record { at = view_in v.by_window.entries } };
+
+    ghost invariant = { λ v. AreRecords v.by_window.entries };
+}
+
+impl Views {
+    ghost use Rattle.std.specs.Prelude.{◌≡◌, None, Some, OnOk, OnErr};
+    ghost use Rattle.std.specs.Option.{option_copied};
+    ghost use Rattle.std.specs.List.{AllByRecursion};
+    ghost use Rattle.jv_model.specs.blocks.Slices.{IsRecord};
+    ghost use Rattle.jv_handles.specs.Views.{no_views, with_view};
+
+    /// No views. Takes no memory.
+    pub fn new(alloc: Global) -> Views
+        ensures { result ≡ no_views }
+    {
+        Views {
+            by_window: BTreeMap::new(alloc),
+        }
+    }
+
+    /// The view of a window, if there is one. Takes time that is logarithmic in the number of windows seen.
+    pub fn at(&self, window: u32) -> Option<&View>
+        ensures { option_copied result ≡ self.now.at window }
+    {
+        self.by_window.get(&window)
+    }
+
+    /// Keeps the view of a window, in place of the one before. On error nothing has changed.
+    pub fn set(&mut self, window: u32, view: View) -> Result<(), AllocError>
+        requires { AllByRecursion IsRecord view.list }
+        ensures set { OnOk result (self.new ≡ with_view window view self.old) }
+        ensures err { OnErr result (self.new ≡ self.old) }
+    {
+        match self.by_window.insert(window, view) {
+            Ok(_) => Ok(()),
+            Err(_) => Err(AllocError),
+        }
+    }
+
+    /// Drops all views. Takes no memory.
+    pub fn clear(&mut self)
+        ensures { self.new ≡ no_views }
+    {
+        self.by_window.clear();
+    }
+}
