@@ -8,8 +8,10 @@ use Rattle.jv_handles.specs.declared.views.View.{View}
 use Rattle.jv_handles.specs.Views.{AreRecords, HasRecords}
 
 pub records-kept : {X E : Type 0} (result : Result X E) (window : ℕ) (view : View) (old new : List (ℕ × View))
-    → OnOk result (new ≡ insert_entry nat_cmp old window view) → OnErr result (new ≡ old) → AreRecords old → HasRecords view → AreRecords new
+    → OnOk result (new ≡ insert_entry nat_cmp old window view) → OnErr result (new ≡ old) → AreRecords old
+    → HasRecords view → AreRecords new
 records-kept (Ok x) window view old new is same records has =
-    let all : AreRecords (insert_entry nat_cmp old window view) = All-values-insert_entry nat_cmp window view HasRecords old records has in
+    let all : AreRecords (insert_entry nat_cmp old window view) = All-values-insert_entry nat_cmp window view
+    HasRecords old records has in
     subst AreRecords (sym is) all
 records-kept (Err e) window view old new is same records has = subst AreRecords (sym same) records
