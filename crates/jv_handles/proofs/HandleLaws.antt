@@ -133,7 +133,8 @@ module _ (g : Known) (v : Shared) where
 
   -- a file is opened
 
-  abbrev opened_by : ℕ → ℕ → OpenFile
+  -- an open file of the model
+  abbrev pub opened_by : ℕ → ℕ → OpenFile
   opened_by inode entry = record { inode = inode; opened = entry }
 
   module _ (views : List ModelView) (entry : ℕ)
@@ -150,25 +151,26 @@ module _ (g : Known) (v : Shared) where
         (new_handle inode entry)
     handle-new inode number = record { inode = refl; opened = refl; before = omega arith; seen = new-seen inode number }
 
-  -- By an entry that no view is newer than. The model and the code take the same handle.
-  pub handles-open : (views : List ModelView) (count entry inode : ℕ) → entry ≡ count + 1
-      → AllByRecursion (λ (view : ModelView). view.entry ≤ entry) views
-      → (files : List (Option OpenFile)) (handles : List (Option Handle))
-      → AreHandles g v views count files handles
-      → AreHandles g v views entry
-      (with_file (free_handle files) (Some (record { inode = inode; opened = entry })) files)
-      (with_file (free_handle handles) (Some (new_handle inode entry)) handles)
-  handles-open views count entry inode next old files handles h =
-      let place = handles-free views count files handles h in
-      subst
-      (λ n. AreHandles g v views entry (with_file (free_handle files)
-      (Some (record { inode = inode; opened = entry })) files)
-      (with_file n (Some (new_handle inode entry)) handles))
-      place
-      (same-with_files (IsHandle g v views entry) (Some (record { inode = inode; opened = entry }))
-      (Some (new_handle inode entry))
-      (handle-new views entry old inode) (free_handle files) files handles
-      (handles-later views count entry (omega (arith, next)) files handles h))
+  module _ (views : List ModelView) (count entry inode : ℕ) (next : entry ≡ count + 1)
+      (old : AllByRecursion (λ (view : ModelView). view.entry ≤ entry) views) (files : List (Option OpenFile))
+      (handles : List (Option Handle)) (h : AreHandles g v views count files handles) where
+    -- At any handle, by an entry that no view is newer than.
+    pub handles-opened : (number : ℕ)
+        → AreHandles g v views entry (with_file number (Some (opened_by inode entry)) files)
+        (with_file number (Some (new_handle inode entry)) handles)
+    handles-opened number =
+        same-with_files (IsHandle g v views entry) (Some (opened_by inode entry)) (Some (new_handle inode entry))
+        (handle-new views entry old inode) number files handles
+        (handles-later views count entry (omega (arith, next)) files handles h)
+
+    -- The model and the code take the same one.
+    pub handles-open : AreHandles g v views entry (with_file (free_handle files) (Some (opened_by inode entry)) files)
+        (with_file (free_handle handles) (Some (new_handle inode entry)) handles)
+    handles-open =
+        subst
+        (λ n. AreHandles g v views entry (with_file (free_handle files) (Some (opened_by inode entry)) files)
+        (with_file n (Some (new_handle inode entry)) handles))
+        (handles-free views count files handles h) (handles-opened (free_handle files))
 
   -- a file is closed
   pub handles-close : (views : List ModelView) (count number : ℕ) (files : List (Option OpenFile))
