@@ -183,7 +183,8 @@ module _ (g : Known) (v : Shared) where
   -- Whether a file is open by another handle than one is the same of both.
   pub handles-elsewhere : (views : List ModelView) (count number inode : ℕ) (files : List (Option OpenFile))
       (handles : List (Option Handle)) → AreHandles g v views count files handles
-      → is_among inode (held_inodes (with_file number None files)) ≡ is_among inode (held_here (with_file number None handles))
+      → is_among inode (held_inodes (with_file number None files))
+      ≡ is_among inode (held_here (with_file number None handles))
   handles-elsewhere views count number inode files handles h =
       ap (is_among inode)
       (handles-held views count (with_file number None files) (with_file number None handles)
