@@ -18,10 +18,11 @@ use Rattle.jv_shared.proofs.StoreLaws.{view-stays}
 use Rattle.jv_handles.specs.declared.handle.Handle.{Handle}
 use Rattle.jv_handles.specs.declared.views.View.{View}
 use Rattle.jv_handles.specs.Views.{no_views, view_at, with_view}
-use Rattle.jv_handles.specs.Handles.{held_here, inode_here, inode_of_handle, new_handle, seen_by, unseen}
+use Rattle.jv_handles.specs.Handles.{held_here, inode_here, inode_of_handle, new_handle, seen_by, unseen, unseen_by}
 use Rattle.jv_handles.specs.Held.{AreHandles, IsHandle, IsSeen, SamePlace, SameTable}
 use Rattle.jv_handles.proofs.TableLaws.{count-same, file-same, free-same, same_place-by, same_table-by, same-with_file}
 use Rattle.jv_handles.proofs.TableLaws.{same-with_files, some-same, there_in}
+use Rattle.jv_handles.proofs.UnseenLaws.{unseen_by-seen_by}
 use Rattle.jv_handles.proofs.SeenLaws.{fresh-beside, fresh-dropped, fresh-elsewhere, fresh-kept, fresh-none}
 use Rattle.jv_handles.proofs.SeenLaws.{fresh-taken, view_at-other, view_at-own}
 
@@ -264,6 +265,17 @@ module _ (g : Known) (v : Shared) where
             handles file handle
             (record handle { views = with_view taken.window view handle.views }) is e handle-beside
             (handle-looked taken.handle file handle refl inode mine) h
+
+  -- A look at a window that its handle had no view of, when it is undone, leaves the table as it was.
+  pub handles-undone : (views : List ModelView) (count window : ℕ) (view : View) (files : List (Option OpenFile))
+      (handles : List (Option Handle)) (number : ℕ) (handle : Handle) → file_of handles number ≡ Some handle
+      → view_at handle.views window ≡ None → (looked : List (Option Handle))
+      → looked ≡ with_file number (seen_by window view (file_of handles number)) handles
+      → AreHandles g v views count files handles
+      → AreHandles g v views count files (with_file number (unseen_by window (file_of looked number)) looked)
+  handles-undone views count window view files handles number handle there none looked is h =
+      subst (AreHandles g v views count files)
+      (sym (unseen_by-seen_by window view handles number handle there none looked is)) h
 
   -- ---- a file changed
 

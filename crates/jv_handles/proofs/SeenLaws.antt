@@ -4,7 +4,7 @@ use Rattle.std.proofs.Common.{inl, inr, refl, sym, ap, ◌∙◌, arith, eq-eqb,
 use Rattle.std.specs.Prelude.{◌==◌, if◌then◌else◌, nat_lt}
 use Rattle.std.specs.List.{AllByRecursion}
 use Rattle.std.specs.BTreeMap.{insert_entry, is_at}
-use Rattle.std.specs.Map.{lookup}
+use Rattle.std.specs.Map.{lookup, remove_entry}
 use Rattle.std.specs.Ordering.{MatchOrdering, match_ordering, nat_cmp}
 use Rattle.std.specs.declared.cmp.Ordering.{Ordering}
 use Rattle.std.specs.declared.cmp.Ordering.TheVariants.{Less, Equal, Greater}
@@ -14,7 +14,7 @@ use Rattle.std.proofs.lemmas.Cmp.{ranked}
 use Rattle.jv_model.specs.client.ModelClient.{OpenFile, View as ModelView, views_without}
 use Rattle.jv_model.specs.journal.Reading.{fresh_view, is_fresh, first_that}
 use Rattle.jv_handles.specs.declared.views.View.{View}
-use Rattle.jv_handles.specs.Views.{SeenViews, view_at, with_view}
+use Rattle.jv_handles.specs.Views.{SeenViews, view_at, with_view, without_view}
 
 -- ---- the views that a handle keeps
 
@@ -78,6 +78,67 @@ pub view_at-other : (window : ℕ) (view : View) (views : SeenViews) (other : �
 view_at-other window view views other apart =
     view_at-with_view window view views other
     ∙ ap (λ b. if b then Some view else view_at views other) (ne_eqb window other apart)
+
+-- ---- a view that is dropped
+
+module _ (window : ℕ) where
+  abbrev at_window : ℕ → Bool
+  at_window key = is_at (nat_cmp window) key
+
+  own_key : at_window window ≡ true
+  own_key = is_here window window ∙ eq-eqb window window refl
+
+  none_first : (key : Bool) (view : View) (rest : Option View) → cond key (Some view) rest ≡ None
+      → (key ≡ false) × (rest ≡ None)
+  none_first true view rest none = absurd (cc)
+  none_first false view rest none = (refl, none)
+
+  taken_out : (view : View) (entries : List (ℕ × View)) → lookup at_window entries ≡ None
+      → remove_entry at_window (insert_entry nat_cmp entries window view) ≡ entries
+  taken_out view [] none = ap (λ b. cond b [] ((window, view) ∷ [])) own_key
+  taken_out view (entry ∷ entries) none =
+      let both = none_first (at_window entry.0) entry.1 (lookup at_window entries) none in
+      by_order (nat_cmp window entry.0) (ranked window entry.0 (nat_cmp window entry.0) refl) both.0
+      (taken_out view entries both.1)
+    where
+      by_order : (o : Ordering) → MatchOrdering o (window < entry.0) (window ≡ entry.0) (entry.0 < window)
+          → at_window entry.0 ≡ false → remove_entry at_window (insert_entry nat_cmp entries window view) ≡ entries
+          → remove_entry at_window (match_ordering o ((window, view) ∷ entry ∷ entries) ((entry.0, view) ∷ entries)
+          (entry ∷ insert_entry nat_cmp entries window view)) ≡ entry ∷ entries
+      by_order Less less other later =
+          ap (λ b. cond b (entry ∷ entries) ((window, view) ∷ remove_entry at_window (entry ∷ entries))) own_key
+      by_order Equal same other later = absurd (cc (sym other ∙ ap at_window (sym same) ∙ own_key))
+      by_order Greater more other later =
+          ap (λ b. cond b (insert_entry nat_cmp entries window view)
+          (entry ∷ remove_entry at_window (insert_entry nat_cmp entries window view))) other
+          ∙ ap (λ rest. entry ∷ rest) later
+
+  left_at : (other : ℕ) → (window ≡ other → ⊥) → (entries : List (ℕ × View))
+      → lookup (is_at (nat_cmp other)) (remove_entry at_window entries) ≡ lookup (is_at (nat_cmp other)) entries
+  left_at other apart [] = refl
+  left_at other apart (entry ∷ entries) = by_key (at_window entry.0) refl (left_at other apart entries)
+    where
+      by_key : (key : Bool) → at_window entry.0 ≡ key
+          → lookup (is_at (nat_cmp other)) (remove_entry at_window entries) ≡ lookup (is_at (nat_cmp other)) entries
+          → lookup (is_at (nat_cmp other)) (cond key entries (entry ∷ remove_entry at_window entries))
+          ≡ lookup (is_at (nat_cmp other)) (entry ∷ entries)
+      by_key true e later =
+          ap (λ b. cond b (Some entry.1) (lookup (is_at (nat_cmp other)) entries)) (sym (not_other e))
+        where
+          not_other : at_window entry.0 ≡ true → is_at (nat_cmp other) entry.0 ≡ false
+          not_other e = grind (arith, nat_tests)
+      by_key false e later = ap (λ rest. cond (is_at (nat_cmp other) entry.0) (Some entry.1) rest) later
+
+  -- A view that is dropped again, of a window that had none, leaves all as it was.
+  pub without_view-with_view : (view : View) (views : SeenViews) → view_at views window ≡ None
+      → without_view window (with_view window view views) ≡ views
+  without_view-with_view view views none =
+      (λ i. record { entries = taken_out view views.entries none i })
+
+  -- Other windows keep their views.
+  pub view_at-without_view : (views : SeenViews) (other : ℕ) → (window ≡ other → ⊥)
+      → view_at (without_view window views) other ≡ view_at views other
+  view_at-without_view views other apart = left_at other apart views.entries
 
 -- ---- which of a model's views is fresh
 

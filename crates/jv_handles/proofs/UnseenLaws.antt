@@ -3,11 +3,13 @@ use Rattle.std.proofs.Common.{◌≡◌, ℕ, ◌+◌, Bool, true, false, List, 
 use Rattle.std.proofs.Common.{sym, ap, ◌∙◌}
 use Rattle.std.specs.Prelude.{◌==◌, if◌then◌else◌, is_some}
 use Rattle.std.proofs.lemmas.Bool.Decides.{eqb_tells}
-use Rattle.jv_model.specs.client.ModelClient.{file_of, open_count}
+use Rattle.jv_model.specs.client.ModelClient.{file_of, open_count, with_file}
 use Rattle.jv_handles.specs.declared.handle.Handle.{Handle}
-use Rattle.jv_handles.specs.Views.{no_views}
-use Rattle.jv_handles.specs.Handles.{held_here, inode_here, inode_of_handle, unseen}
-use Rattle.jv_handles.proofs.TableLaws.{file_of-changed}
+use Rattle.jv_handles.specs.declared.views.View.{View}
+use Rattle.jv_handles.specs.Views.{SeenViews, no_views, view_at, with_view}
+use Rattle.jv_handles.specs.Handles.{held_here, inode_here, inode_of_handle, seen_by, unseen, unseen_by}
+use Rattle.jv_handles.proofs.TableLaws.{file_of-changed, file_of-with_file, with_file-back}
+use Rattle.jv_handles.proofs.SeenLaws.{without_view-with_view}
 
 -- ---- one handle
 
@@ -92,3 +94,25 @@ module _ (inode : ℕ) where
           ≡ 1 + open_count handles
       by_test true later = ap (λ n. 1 + n) later
       by_test false later = ap (λ n. 1 + n) later
+
+-- ---- a view that is dropped again
+
+-- A look at a window that its handle had no view of, when it is undone, leaves the table as it was.
+pub unseen_by-seen_by : (window : ℕ) (view : View) (handles : List (Option Handle)) (number : ℕ) (handle : Handle)
+    → file_of handles number ≡ Some handle → view_at handle.views window ≡ None → (looked : List (Option Handle))
+    → looked ≡ with_file number (seen_by window view (file_of handles number)) handles
+    → with_file number (unseen_by window (file_of looked number)) looked ≡ handles
+unseen_by-seen_by window view handles number handle there none looked is =
+    let later : Handle = record handle { views = with_view window view handle.views } in
+    let given : looked ≡ with_file number (Some later) handles =
+    is ∙ ap (λ (o : Option Handle). with_file number (seen_by window view o) handles) there in
+    let stands : file_of looked number ≡ Some later =
+    ap (λ (files : List (Option Handle)). file_of files number) given
+    ∙ file_of-with_file handles number handle (Some later) there in
+    let dropped : unseen_by window (Some later) ≡ Some handle =
+    ap (λ (views : SeenViews). Some (record handle { views = views }))
+    (without_view-with_view window view handle.views none) in
+    ap (λ (o : Option Handle). with_file number (unseen_by window o) looked) stands
+    ∙ ap (λ (o : Option Handle). with_file number o looked) dropped
+    ∙ ap (λ (files : List (Option Handle)). with_file number (Some handle) files) given
+    ∙ with_file-back handles number handle later there

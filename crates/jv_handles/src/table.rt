@@ -3,7 +3,7 @@ ghost use Rattle.std.specs.Prelude.{◌≡◌, ◌+◌, ◌-◌, ◌<◌, ◌≤
 ghost use Rattle.std.specs.Prelude.{OnErr, is_some, [], ◌∷◌, length, map, vec_len, vec_capacity};
 ghost use Rattle.std.specs.Option.{option_copied};
 ghost use Rattle.jv_model.specs.client.ModelClient.{file_of, free_handle, is_among, open_count, with_file};
-ghost use Rattle.jv_handles.specs.Handles.{held_here, inode_here, seen_by, unseen};
+ghost use Rattle.jv_handles.specs.Handles.{held_here, inode_here, seen_by, unseen, unseen_by};
 ghost use Rattle.jv_handles.specs.Views.{HasRecords};
 
 use crate::handle::Handle;
@@ -141,6 +141,19 @@ pub fn set_view(
     let index = (handle - 1) as usize;
     match &mut handles[index] {
         Some(open) => open.views.set(window, view),
+        None => unreachable!(),
+    }
+}
+
+/// Drops the view of a window by a handle that is in use, if there is one. Takes no memory.
+pub fn drop_view(handles: &mut [Option<Handle>], handle: u64, window: u32)
+    requires { IsSome (file_of handles.old handle) }
+    ensures { handles.new
+        ≡ with_file handle (unseen_by window (file_of handles.old handle)) handles.old }
+{
+    let index = (handle - 1) as usize;
+    match &mut handles[index] {
+        Some(open) => open.views.remove(window),
         None => unreachable!(),
     }
 }
