@@ -1,2 +1,3 @@
--- Lemmas.
+-- What is proved of puts of blocks.
+pub mod PartLaws
 pub mod PutStepLaws

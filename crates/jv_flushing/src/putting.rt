@@ -72,12 +72,13 @@ pub fn put_block<D: Depot, H: Shelf>(
         index < block_count (length bytes.now) (seen yard.old).setting.block }
     ensures { let seen = ⟦<Yard<D, H> as ObservedYard>⟧.seen in let way = ⟦<dyn Carrier as Carrier>⟧ in
         PutsFlight client now (record { id = id; bytes = bytes.now; put = index })
-            (seen yard.old) (seen yard.new)
-            ((way carrier.old.0).seen carrier.old.1) ((way carrier.new.0).seen carrier.new.1) result }
+        (seen yard.old) (seen yard.new)
+        ((way carrier.old.0).seen carrier.old.1) ((way carrier.new.0).seen carrier.new.1) result }
 {
-    let block = yard.setting().block;
+    let setting = yard.setting();
+    let block = setting.block;
     let len = block_len(bytes.len() as u32, block, index);
-    let Ok(name) = block_name(alloc, yard.setting(), id, index, len) else {
+    let Ok(name) = block_name(alloc, setting, id, index, len) else {
         return Err(PutFault::Memory);
     };
     let from = (index * block) as usize;
