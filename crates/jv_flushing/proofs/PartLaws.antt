@@ -8,7 +8,7 @@ use Rattle.jv_model.specs.blocks.Slices.{block_at, block_count, block_length}
 use Rattle.jv_outside.specs.declared.parcel.Parcel.{Parcel}
 use Rattle.jv_outside.specs.Parcels.{StandsFor}
 use Rattle.jv_shared.proofs.FlyingLaws.{slice_block-is}
-use Rattle.jv_shared.proofs.SettingLaws.{IsLength}
+use Rattle.jv_shared.specs.Lengths.{IsLength}
 use Rattle.jv_yard.specs.BlockCalls.{IsBlockParcel}
 use Rattle.jv_yard.proofs.CallLaws.{block_parcel}
 

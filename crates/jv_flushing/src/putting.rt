@@ -3,7 +3,7 @@ ghost use Rattle.std.specs.Prelude.{◌≡◌, ◌<◌, ◌≤◌, length};
 ghost use Rattle.jv_flushing.specs.Putting.{PutsFlight, carrier_fault_of};
 ghost use Rattle.jv_model.specs.blocks.Slices.{block_count};
 ghost use Rattle.jv_model.specs.declared.limits.TheConstants.{WINDOW};
-ghost use Rattle.jv_shared.proofs.SettingLaws.{IsLength};
+ghost use Rattle.jv_shared.specs.Lengths.{IsLength};
 
 use jv_model::{ClientId, Device, Down, Fault, Moment};
 use jv_outside::{Carrier, Depot, Shelf};

@@ -22,9 +22,9 @@ use Rattle.jv_contents.proofs.FlightLaws.{complete-shows, complete-told}
 use Rattle.jv_yard.specs.BlockCalls.{IsBlockParcel}
 use Rattle.jv_yard.specs.Contents.{name_in}
 use Rattle.jv_yard.proofs.CallLaws.{block_parcel}
+use Rattle.jv_shared.specs.Lengths.{IsLength}
 use Rattle.jv_shared.specs.Shared.{HasStore, Known, Shared}
 use Rattle.jv_shared.specs.Flying.{Flies}
-use Rattle.jv_shared.proofs.SettingLaws.{IsLength}
 use Rattle.jv_shared.proofs.StoreLaws.{block_length, block_some, rows_are}
 
 -- A block of a slice that has a number and fits into a window is one of the volume's.

@@ -1,7 +1,7 @@
 use Rattle.std.proofs.Common.{◌<◌, length, sym, subst, arith}
 use Rattle.jv_model.specs.declared.setting.Setting.{Setting}
 use Rattle.jv_model.specs.blocks.Slices.{block_count}
-use Rattle.jv_shared.proofs.SettingLaws.{IsLength}
+use Rattle.jv_shared.specs.Lengths.{IsLength}
 use Rattle.jv_yard.specs.BlockCalls.{IsBlockParcel}
 use Rattle.jv_flushing.proofs.PartLaws.{part-parcel}
 use Rattle.jv_flushing.proofs.putting.put_block.Goals as goal
