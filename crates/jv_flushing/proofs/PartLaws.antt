@@ -13,23 +13,31 @@ use Rattle.jv_yard.specs.BlockCalls.{IsBlockParcel}
 use Rattle.jv_yard.proofs.CallLaws.{block_parcel}
 
 -- the part of a slice that is a block has the block's length
-part-long : (bytes : List ℕ) (block index len from : ℕ) → from ≡ index * block → len ≡ block_length (length bytes) block index
+part-long : (bytes : List ℕ) (block index len from : ℕ) → from ≡ index * block
+    → len ≡ block_length (length bytes) block index
     → length (take (from + len - from) (drop from bytes)) ≡ block_length (length bytes) block index
 part-long bytes block index len from begins long =
-    length-take (from + len - from) (drop from bytes) ∙ ap (min (from + len - from)) (length-drop from bytes) ∙ omega (arith, begins, long)
+    length-take (from + len - from) (drop from bytes)
+    ∙ ap (min (from + len - from)) (length-drop from bytes)
+    ∙ omega (arith, begins, long)
 
--- A parcel for the part of a slice that is a block, under the block's name, may be put.
-pub part-parcel : (setting : Setting) (id index len at : ℕ) (name bytes : List ℕ) (parcel : Parcel) → IsLength setting.block → 0 < id → id < 2 ^ 64
-    → length bytes ≤ WINDOW → index < block_count (length bytes) setting.block → len ≡ block_length (length bytes) setting.block index
-    → name ≡ block_name_of setting id index len
-    → StandsFor parcel name (take (index * setting.block + len - index * setting.block) (drop (index * setting.block) bytes)) at → IsBlockParcel setting parcel
-part-parcel setting id index len at name bytes parcel length_is positive low short there long named stands =
-    block_parcel setting (block_at id (length bytes) setting.block index) parcel
-    (take (index * setting.block + len - index * setting.block) (drop (index * setting.block) bytes)) at
-    (slice_block-is setting.block id (length bytes) index length_is positive low short there)
-    (record {
-      named = stands.named ∙ named ∙ ap (block_name_of setting id index) long;
-      dated = stands.dated;
-      carries = stands.carries;
-    })
-    (part-long bytes setting.block index len (index * setting.block) refl long)
+module _ (setting : Setting) (id index len at : ℕ) (name bytes : List ℕ) (parcel : Parcel) where
+  abbrev from : ℕ
+  from = index * setting.block
+
+  abbrev part : List ℕ
+  part = take (from + len - from) (drop from bytes)
+
+  -- A parcel for the part of a slice that is a block, under the block's name, may be put.
+  pub part-parcel : IsLength setting.block → 0 < id → id < 2 ^ 64 → length bytes ≤ WINDOW
+      → index < block_count (length bytes) setting.block → len ≡ block_length (length bytes) setting.block index
+      → name ≡ block_name_of setting id index len → StandsFor parcel name part at → IsBlockParcel setting parcel
+  part-parcel length_is positive low short there long named stands =
+      block_parcel setting (block_at id (length bytes) setting.block index) parcel part at
+      (slice_block-is setting.block id (length bytes) index length_is positive low short there)
+      (record {
+        named = stands.named ∙ named ∙ ap (block_name_of setting id index) long;
+        dated = stands.dated;
+        carries = stands.carries;
+      })
+      (part-long bytes setting.block index len from refl long)

@@ -1,5 +1,5 @@
--- The put of a flight's next block, over what clients share: where it is put the flight goes on with one more block, and else all
--- stays. The tree is the same.
+-- The put of a flight's next block, over what clients share: where it is put the flight goes on with one more block,
+-- and else all stays. The tree is the same.
 use Rattle.std.proofs.Common.{◌≡◌, ℕ, ◌+◌, ◌<◌, ◌≤◌, length, refl, sym, subst}
 use Rattle.std.specs.Prelude.{Ok, Err}
 use Rattle.jv_model.specs.declared.limits.TheConstants.{WINDOW}
@@ -26,10 +26,12 @@ module _ (v : Shared) (f : Flight) (client now : ℕ) (yard : YardValue) (carrie
   then_shared = record v { yard = yard; carrier = carrier }
 
   yard_same : yard ≡ v.yard → HoldsSame v then_shared
-  yard_same same = subst (λ (y : YardValue). HoldsSame v (record v { yard = y; carrier = carrier })) (sym same) (same-rows v v.keeper carrier refl)
+  yard_same same = subst (λ (y : YardValue). HoldsSame v (record v { yard = y; carrier = carrier })) (sym same)
+      (same-rows v v.keeper carrier refl)
 
   -- A block that wasn't put leaves what the devices hold.
-  pub unput-same : (fault : PutFault) → PutsFlight client now f v.yard yard v.carrier carrier (Err fault) → HoldsSame v then_shared
+  pub unput-same : (fault : PutFault) → PutsFlight client now f v.yard yard v.carrier carrier (Err fault)
+      → HoldsSame v (record v { yard = yard; carrier = carrier })
   unput-same Carrier puts = yard_same puts.0
   unput-same Depot puts = same-then v (record v { yard = yard }) then_shared (same-refused v yard YardDepot puts.0)
       (same-rows (record v { yard = yard }) v.keeper carrier refl)
@@ -50,11 +52,15 @@ module _ (v : Shared) (f : Flight) (client now : ℕ) (yard : YardValue) (carrie
       module _ (short : length f.bytes ≤ WINDOW) (more : f.put < block_count (length f.bytes) v.yard.setting.block)
           (puts : PutsFlight client now f v.yard yard v.carrier carrier (Ok tt)) where
         -- A block that was put leads to the same tree, where the block is known.
-        pub put-step_leads : Leads f.id t g (with_block (flight_block v.yard.setting.block f f.put) (flight_bytes v.yard.setting.block f f.put) g) v
-            (record v { yard = yard; carrier = carrier })
-        put-step_leads = put-leads t g v s f flies client puts.0.parcel yard carrier now (next_block-is t g v s f flies short more) puts.0.stands puts.0.put
+        pub put-step_leads : Leads f.id t g
+            (with_block (flight_block v.yard.setting.block f f.put) (flight_bytes v.yard.setting.block f f.put) g)
+            v (record v { yard = yard; carrier = carrier })
+        put-step_leads = put-leads t g v s f flies client puts.0.parcel yard carrier now
+            (next_block-is t g v s f flies short more) puts.0.stands puts.0.put
 
         -- The flight goes on with one more block.
-        pub put-step_flies : Flies (with_block (flight_block v.yard.setting.block f f.put) (flight_bytes v.yard.setting.block f f.put) g)
+        pub put-step_flies : Flies
+            (with_block (flight_block v.yard.setting.block f f.put) (flight_bytes v.yard.setting.block f f.put) g)
             (record v { yard = yard; carrier = carrier }) (record f { put = f.put + 1 })
-        put-step_flies = put-flies_on t g v s f flies client puts.0.parcel yard carrier now (next_block-is t g v s f flies short more) puts.0.stands puts.0.put
+        put-step_flies = put-flies_on t g v s f flies client puts.0.parcel yard carrier now
+            (next_block-is t g v s f flies short more) puts.0.stands puts.0.put

@@ -20,7 +20,8 @@ use Rattle.jv_flushing.specs.declared.putting.PutFault.TheVariants.{Carrier, Dep
 -- a parcel for the next block of a flight, with its bytes and this moment, was put for a client
 pub record IsNextPut (client now : ℕ) (f : Flight) (before after : YardValue) : Type 0 where
   pub parcel : Parcel
-  pub stands : StandsFor parcel (name_in before.setting (flight_block before.setting.block f f.put)) (flight_bytes before.setting.block f f.put) now
+  pub stands : StandsFor parcel (name_in before.setting (flight_block before.setting.block f f.put))
+      (flight_bytes before.setting.block f f.put) now
   pub put : IsPut client parcel before after
 
 -- no call of the carrier failed, and it is where it was
@@ -28,7 +29,8 @@ abbrev pub IsCalm : Carriage → Carriage → Type 0
 IsCalm was is = IsAt was is was.opened
 
 -- The put of the next block of a flight, by the result. Only the device that failed counts a fault.
-abbrev pub PutsFlight : (client now : ℕ) → Flight → YardValue → YardValue → Carriage → Carriage → Result (Unit {0}) PutFault → Type 0
+abbrev pub PutsFlight : (client now : ℕ) → Flight → YardValue → YardValue → Carriage → Carriage
+    → Result (Unit {0}) PutFault → Type 0
 PutsFlight client now f before after was is (Ok unit) = IsNextPut client now f before after × IsCalm was is
 PutsFlight client now f before after was is (Err Carrier) = (after ≡ before) × FailsToCarry was is Failed
 PutsFlight client now f before after was is (Err Depot) = Refuses before after YardDepot × IsCalm was is

@@ -46,14 +46,14 @@ fn carrier_fault(down: Down) -> PutFault
     }
 }
 
-/// Puts the block at `index` of a slice with the number `id` and these bytes into the depot, for a client and with the moment
-/// `now`, in seconds: the carrier sends the block's bytes under its name, then the depot publishes what was sent, and the
-/// yard notes it.
+/// Puts the block at `index` of a slice into the depot, for a client and with the moment `now`. The slice has the number
+/// `id` and these bytes, at most a window of them. The carrier sends the block's bytes under its name, then the depot
+/// publishes what was sent, and the yard notes it.
 ///
 /// # Errors
 ///
-/// [`PutFault::Carrier`] if the carrier failed, [`PutFault::Depot`] if the depot failed, or [`PutFault::Memory`]. Then the
-/// yard is as before, but for the count of faults of a depot that failed, and the carrier is where it was.
+/// [`PutFault::Carrier`] if the carrier failed, [`PutFault::Depot`] if the depot failed, or [`PutFault::Memory`]. Nothing
+/// has changed but the count of the device that failed.
 pub fn put_block<D: Depot, H: Shelf>(
     alloc: Global,
     yard: &mut Yard<D, H>,
@@ -70,7 +70,8 @@ pub fn put_block<D: Depot, H: Shelf>(
     requires short { length bytes.now ≤ WINDOW }
     requires there { let seen = ⟦<Yard<D, H> as ObservedYard>⟧.seen in
         index < block_count (length bytes.now) (seen yard.old).setting.block }
-    ensures { let seen = ⟦<Yard<D, H> as ObservedYard>⟧.seen in let way = ⟦<dyn Carrier as Carrier>⟧ in
+    ensures { let seen = ⟦<Yard<D, H> as ObservedYard>⟧.seen in
+        let way = ⟦<dyn Carrier as Carrier>⟧ in
         PutsFlight client now (record { id = id; bytes = bytes.now; put = index })
         (seen yard.old) (seen yard.new)
         ((way carrier.old.0).seen carrier.old.1) ((way carrier.new.0).seen carrier.new.1) result }

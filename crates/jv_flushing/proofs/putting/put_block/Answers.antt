@@ -10,8 +10,10 @@ pub put_block-requires : goal.put_block-requires
 put_block-requires g c =
     let setting = c.setting-setting.result.now in
     let parcel = c.in-Ok-send.parcel in
-    subst (λ (s : Setting). IsBlockParcel s parcel) c.setting-setting.ensures
+    let same = c.setting-setting.ensures in
+    subst (λ (s : Setting). IsBlockParcel s parcel) same
     (part-parcel setting c.args.id c.args.index c.block_len-len.result c.args.now c.in-Ok.name c.args.bytes.now parcel
-    (subst (λ (s : Setting). IsLength s.block) (sym c.setting-setting.ensures) c.requires.length) c.requires.named (omega arith) c.requires.short
-    (subst (λ (s : Setting). c.args.index < block_count (length c.args.bytes.now) s.block) (sym c.setting-setting.ensures) c.requires.there)
+    (subst (λ (s : Setting). IsLength s.block) (sym same) c.requires.length)
+    c.requires.named (omega arith) c.requires.short
+    (subst (λ (s : Setting). c.args.index < block_count (length c.args.bytes.now) s.block) (sym same) c.requires.there)
     c.block_len-len.ensures.length c.in-Ok.ensures c.in-Ok-send.ensures.1)
