@@ -46,14 +46,14 @@ fn carrier_fault(down: Down) -> PutFault
     }
 }
 
-/// Puts the block at `index` of a slice into the depot, for a client and with the moment `now`. The slice has the number
-/// `id` and these bytes, at most a window of them. The carrier sends the block's bytes under its name, then the depot
-/// publishes what was sent, and the yard notes it.
+/// Puts the block at `index` of a slice into the depot, for a client and with the moment `now`. The slice has the
+/// number `id` and these bytes, at most a window of them. The carrier sends the block's bytes under its name, then the
+/// depot publishes what was sent, and the yard notes it.
 ///
 /// # Errors
 ///
-/// [`PutFault::Carrier`] if the carrier failed, [`PutFault::Depot`] if the depot failed, or [`PutFault::Memory`]. Nothing
-/// has changed but the count of the device that failed.
+/// [`PutFault::Carrier`] if the carrier failed, [`PutFault::Depot`] if the depot failed, or [`PutFault::Memory`].
+/// Nothing has changed but the count of the device that failed.
 pub fn put_block<D: Depot, H: Shelf>(
     alloc: Global,
     yard: &mut Yard<D, H>,
