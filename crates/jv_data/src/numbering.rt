@@ -1,4 +1,5 @@
 //! Numbers for slices.
+ghost use Rattle.std.specs.Prelude.{◌<◌, IfOk};
 ghost use Rattle.jv_data.specs.Records.{TakesNumber};
 
 use jv_model::{Counters, FULL_COUNT, Fault, RowFault, TxFault, Who};
@@ -13,7 +14,8 @@ use std::alloc::Global;
 /// Stale where the session is gone; then NoSpace where the number stands at 2^62. Bad for a malformed row, or without bytes
 /// where the counters are absent. Failed if the keeper failed. Memory.
 pub fn next_id<K: Keeper>(alloc: Global, k: &mut K, who: &Who) -> Result<u64, TxFault>
-    ensures { TakesNumber who.entry.now.sid (K.seen k.old) (K.seen k.new) result }
+    ensures taken { TakesNumber who.entry.now.sid (K.seen k.old) (K.seen k.new) result }
+    ensures positive { IfOk result (λ id. 0 < id) }
 {
     in_session(alloc, k, who.sid)?;
     let mut draft = Draft::new(alloc);

@@ -1,5 +1,5 @@
 -- Slices in flight over a store that is a tree's: what a complete one tells, and the next block to be put.
-use Rattle.std.proofs.Common.{◌≡◌, ℕ, ◌+◌, ◌*◌, ◌<◌, ◌≤◌, inl, inr, min, length, drop, ap, subst, ◌∙◌, arith}
+use Rattle.std.proofs.Common.{◌≡◌, ℕ, ◌+◌, ◌*◌, ◌<◌, ◌≤◌, ◌^◌, inl, inr, min, length, drop, ap, subst, ◌∙◌, arith}
 use Rattle.std.specs.Prelude.{slice_index}
 use Rattle.std.proofs.lemmas.Bool.{cases_lt}
 use Rattle.std.proofs.lemmas.List.{length-take, length-drop}
@@ -7,7 +7,7 @@ use Rattle.std.proofs.lemmas.Nat.{mul-le}
 use Rattle.jv_model.specs.declared.limits.TheConstants.{WINDOW}
 use Rattle.jv_model.specs.declared.slice.Rec.{Rec}
 use Rattle.jv_model.specs.blocks.BlockNames.{IsBlock}
-use Rattle.jv_model.specs.blocks.Slices.{block_count}
+use Rattle.jv_model.specs.blocks.Slices.{block_at, block_count}
 use Rattle.jv_model.specs.tree.Tree.{Tree}
 use Rattle.jv_outside.specs.declared.parcel.Parcel.{Parcel}
 use Rattle.jv_outside.specs.Parcels.{StandsFor}
@@ -22,9 +22,27 @@ use Rattle.jv_contents.proofs.FlightLaws.{complete-shows, complete-told}
 use Rattle.jv_yard.specs.BlockCalls.{IsBlockParcel}
 use Rattle.jv_yard.specs.Contents.{name_in}
 use Rattle.jv_yard.proofs.CallLaws.{block_parcel}
+use Rattle.jv_shared.specs.Lengths.{IsLength}
 use Rattle.jv_shared.specs.Shared.{HasStore, Known, Shared}
 use Rattle.jv_shared.specs.Flying.{Flies}
 use Rattle.jv_shared.proofs.StoreLaws.{block_length, block_some, rows_are}
+
+-- A block of a slice that has a number and fits into a window is one of the volume's.
+pub slice_block-is : (block id size index : ℕ) → IsLength block → 0 < id → id < 2 ^ 64 → size ≤ WINDOW → index < block_count size block
+    → IsBlock block (block_at id size block index)
+slice_block-is block id size index long positive low short there =
+    let least = long.least in
+    let begins = block_begins size block index (omega (arith, least)) there in
+    record {
+      id = positive;
+      id_in_range = low;
+      index = elim (cases_lt index 1024) [
+        | inl few ↦ few
+        | inr many ↦ absurd (omega (arith, begins, short, mul-le 1024 65536 index block many least))
+      ];
+      some = omega (arith, begins, least);
+      size = omega arith;
+    }
 
 -- a block to be put has as many bytes as its name says
 pub flight_bytes-long : (block : ℕ) (f : Flight) (index : ℕ) → length (flight_bytes block f index) ≡ (flight_block block f index).size
@@ -54,22 +72,9 @@ module _ (t : Tree) (g : Known) (v : Shared) (s : HasStore t g v) (f : Flight) (
   pub next_block-is : length f.bytes ≤ WINDOW → f.put < block_count (length f.bytes) v.yard.setting.block
       → IsBlock v.yard.setting.block (flight_block v.yard.setting.block f f.put)
   next_block-is short more =
-      let some = block_some t g v s in
-      let begins = block_begins (length f.bytes) v.yard.setting.block f.put some more in
-      let positive = flies.ever.some in
       let low = subst (λ (rows : Rows). f.id < next_slice rows) (rows_are t g v s) flies.ever.below in
       let end = s.whole.slices.slices_end in
-      let least = (block_length t g v s).least in
-      record {
-        id = omega (arith, positive);
-        id_in_range = omega (arith, low, end);
-        index = elim (cases_lt f.put 1024) [
-          | inl few ↦ few
-          | inr many ↦ absurd (omega (arith, begins, short, mul-le 1024 65536 f.put v.yard.setting.block many least))
-        ];
-        some = omega (arith, begins, some);
-        size = omega arith;
-      }
+      slice_block-is v.yard.setting.block f.id (length f.bytes) f.put (block_length t g v s) flies.ever.some (omega (arith, low, end)) short more
 
   -- A parcel that stands for it may be put.
   pub next_block-parcel : (parcel : Parcel) (at : ℕ) → length f.bytes ≤ WINDOW → f.put < block_count (length f.bytes) v.yard.setting.block

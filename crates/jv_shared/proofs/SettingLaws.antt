@@ -1,10 +1,9 @@
 -- Rows that are read from bytes have a setting that the grammar allows, so blocks have a length from 64 KiB to 16 MiB.
-use Rattle.std.proofs.Common.{◌≡◌, ℕ, ◌≤◌, Bool, true, false, List, [], ◌∷◌, Option, None, Some, refl, sym, ap, subst, ◌∙◌, arith}
+use Rattle.std.proofs.Common.{◌≡◌, ℕ, Bool, true, false, List, [], ◌∷◌, Option, None, Some, refl, sym, ap, subst, ◌∙◌, arith}
 use Rattle.std.specs.Prelude.{◌&&◌, ◌||◌, ◌==◌, if◌then◌else◌, IfSome, option_and_then, ok_or}
 use Rattle.std.specs.List.{AllByRecursion, list_any}
 use Rattle.std.specs.Option.{option_map}
 use Rattle.std.proofs.lemmas.Bool.{eqb-true}
-use Rattle.jv_model.specs.declared.limits.TheConstants.{MIN_BLOCK, MAX_BLOCK}
 use Rattle.jv_model.specs.declared.row.Row.{Row}
 use Rattle.jv_model.specs.declared.row.Row.TheVariants.{OfSetting}
 use Rattle.jv_model.specs.declared.setting.Setting.{Setting}
@@ -16,11 +15,7 @@ use Rattle.jv_model.specs.rows.RowPlaces.{setting_key}
 use Rattle.jv_volume.specs.TypedRows.{cell_of, typed}
 use Rattle.jv_volume.specs.Views.{row_in, setting_in, setting_at}
 use Rattle.jv_volume.proofs.TypedLaws.{get-typed}
-
--- how long blocks may be
-pub record IsLength (block : ℕ) : Type 0 where
-  pub least : MIN_BLOCK ≤ block
-  pub most : block ≤ MAX_BLOCK
+use Rattle.jv_shared.specs.Lengths.{IsLength}
 
 -- both of two tests hold
 pub both_true : (a b : Bool) → (a && b) ≡ true → (a ≡ true) × (b ≡ true)

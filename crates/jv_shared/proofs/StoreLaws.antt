@@ -19,10 +19,11 @@ use Rattle.jv_yard.specs.Staging.{staged_since}
 use Rattle.jv_yard.proofs.CallLaws.{known_is}
 use Rattle.jv_yard.proofs.ContentsLaws.{is_block-tells, read-depot}
 use Rattle.jv_shared.specs.Shared.{HasStore, Known, Shared, depot_blocks, present_in, rows_in, typed_in}
+use Rattle.jv_shared.specs.Lengths.{IsLength}
 use Rattle.jv_shared.specs.Seen.{IsView, ShowsWindow}
 use Rattle.jv_shared.specs.Keeping.{KeepsShared}
 use Rattle.jv_shared.proofs.SeenLaws.{looked_shows, named_there}
-use Rattle.jv_shared.proofs.SettingLaws.{IsLength, setting_length}
+use Rattle.jv_shared.proofs.SettingLaws.{setting_length}
 use Rattle.jv_shared.proofs.KeepingLaws.{shows-keeps}
 
 -- a block of a depot has the numbers of one

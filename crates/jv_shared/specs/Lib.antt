@@ -1,5 +1,6 @@
 -- What clients share, and what one of them relies on while others go on.
 pub mod Shared
+pub mod Lengths
 pub mod Seen
 pub mod Flying
 pub mod Keeping

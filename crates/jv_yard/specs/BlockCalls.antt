@@ -1,5 +1,5 @@
 -- What the calls on single blocks do.
-use Rattle.std.specs.Prelude.{◌≡◌, ℕ, List, [], ◌∷◌, ◌++◌, length, Option, None, Some, IfSome, Result, Ok, Err}
+use Rattle.std.specs.Prelude.{◌≡◌, ◌≢◌, ℕ, List, [], ◌∷◌, ◌++◌, length, Option, None, Some, IfSome, Result, Ok, Err}
 use Rattle.jv_model.specs.declared.setting.Setting.{Setting}
 use Rattle.jv_model.specs.declared.slice.BlockId.{BlockId}
 use Rattle.jv_model.specs.blocks.BlockNames.{IsBlockName}
@@ -11,6 +11,7 @@ use Rattle.jv_yard.specs.declared.note.Note.{Note}
 use Rattle.jv_yard.specs.declared.note.What.{What}
 use Rattle.jv_yard.specs.declared.note.What.TheVariants.{Put}
 use Rattle.jv_yard.specs.declared.faults.YardFault.{YardFault}
+use Rattle.jv_yard.specs.declared.faults.YardFault.TheVariants.{Shelf}
 use Rattle.jv_yard.specs.Staging.{staged_since}
 use Rattle.jv_yard.specs.YardValue.{YardValue}
 use Rattle.jv_yard.specs.Refusals.{Refuses}
@@ -47,7 +48,7 @@ pub record IsPut (client : ℕ) (parcel : Parcel) (before after : YardValue) : T
   pub noted : (block : BlockId) → IsBlockName before.setting block parcel.name → after.log ≡ before.log ++ note_of client Put block ∷ []
   pub others : after ≡ record before { depot = after.depot; log = after.log }
 
--- putting a block into the depot, by the result: the parcel comes back on error
+-- putting a block into the depot, by the result: on error the parcel comes back, and it wasn't the shelf that failed
 abbrev pub PutsBlock : ℕ → Parcel → YardValue → YardValue → Result (Unit {0}) (Parcel × YardFault) → Type 0
 PutsBlock client parcel before after (Ok unit) = IsPut client parcel before after
-PutsBlock client parcel before after (Err refused) = (refused.0 ≡ parcel) × Refuses before after refused.1
+PutsBlock client parcel before after (Err refused) = (refused.0 ≡ parcel) × (refused.1 ≢ Shelf) × Refuses before after refused.1
