@@ -208,7 +208,7 @@ module _ (rows : Rows) (inode window : ℕ) (low : window < 2 ^ 32) (rec : Rec) 
     pub others-recorded : KeepsOthers rec.id 1 rows recorded_rows
     others-recorded = record {
       next = ap (λ c. c.slice) counters_same;
-      unknown = unknown_still;
+      unknown = λ id some apart old. unknown_still id apart old;
       had = λ id slice apart there. record { slice = slice; is = sym (slice_beside id apart) ∙ there; size_is = refl };
       dies = λ id slice there none. elim (cases_eq id rec.id) [
         | inl same ↦ (let both : Some new_slice ≡ None = sym (ap (slice_row_at recorded_rows) same ∙ slice_there) ∙ none in absurd (cc))
