@@ -1,8 +1,7 @@
 -- A file that is cut: its lists show what the cut leaves of it, rows are whole again, and the tree is that of the model's truncate.
-use Rattle.std.proofs.Common.{◌≡◌, ◌≢◌, ℕ, ◌+◌, ◌*◌, ◌/◌, ◌%◌, ◌<◌, ◌≤◌, ◌^◌, ◌⊎◌, inl, inr, Bool, true, false, List, [], ◌∷◌, length, Option, None, Some, refl, sym, ap, subst, ◌∙◌, arith}
+use Rattle.std.proofs.Common.{◌≡◌, ◌≢◌, ℕ, ◌*◌, ◌/◌, ◌%◌, ◌<◌, ◌≤◌, ◌^◌, ◌⊎◌, inl, inr, true, false, List, [], ◌∷◌, length, Option, None, Some, refl, sym, ap, subst, ◌∙◌, arith}
 use Rattle.std.specs.Prelude.{◌==◌, ◌||◌, nat_le, nat_lt, if◌then◌else◌}
 use Rattle.std.proofs.lemmas.Bool.{cases_eq, cond-true, cond-false, eq-eqb, ne_eqb, eqb-true, leb-true, or_parts}
-use Rattle.jv_model.specs.declared.lifetimes.TheConstants.{DAY}
 use Rattle.jv_model.specs.declared.limits.TheConstants.{FILE_END, WINDOW}
 use Rattle.jv_model.specs.declared.row.Counters.{Counters}
 use Rattle.jv_model.specs.declared.row.Node.{Node as NodeRow}
@@ -24,7 +23,7 @@ use Rattle.jv_contents.proofs.ByteLaws.{past-cut}
 use Rattle.jv_contents.proofs.CountLaws.{ListsMove, move-none, others-adjusted, go-adjusted}
 use Rattle.jv_contents.proofs.PlaceLaws.{place_in-same, place_in-cut}
 use Rattle.jv_contents.proofs.WholeLaws.{SlicesGo}
-use Rattle.jv_data.specs.Truncating.{rows_ended, rows_without, records_of, latest, Follow, ListsCut}
+use Rattle.jv_data.specs.Truncating.{rows_ended, rows_without, latest, Follow, ListsCut}
 use Rattle.jv_data.proofs.BesideLaws.{Beside, beside-then}
 use Rattle.jv_data.proofs.CutListsLaws.{list_ended, came, came-naming, came-few, get-ended, get-ended-file, beside-ended, lists_of-ended-file, shows-ended, move-ended, cut-is, adjusted-came}
 use Rattle.jv_data.proofs.DroppedLaws.{get-without, get-without-file, beside-without, lists_of-without-file, move-without, shows-without}

@@ -165,7 +165,7 @@ fn drop_lists<K: Keeper>(
 }
 
 /// Fails with Bad where a list names a slice that has no row.
-fn check_slices<K: Keeper>(
+pub(crate) fn check_slices<K: Keeper>(
     alloc: Global,
     k: &mut K,
     inode: u64,
