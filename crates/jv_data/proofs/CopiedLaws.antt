@@ -6,6 +6,7 @@ use Rattle.jv_model.specs.declared.limits.TheConstants.{FILE_END, FULL_COUNT}
 use Rattle.jv_model.specs.declared.row.Counters.{Counters}
 use Rattle.jv_model.specs.declared.row.Node.{Node as NodeRow}
 use Rattle.jv_model.specs.declared.row.RowKey.{RowKey}
+use Rattle.jv_model.specs.declared.row.SliceRow.{SliceRow}
 use Rattle.jv_model.specs.declared.slice.Rec.{Rec}
 use Rattle.jv_model.specs.declared.slice.Spot.{Spot}
 use Rattle.jv_model.specs.declared.slice.Spot.TheVariants.{Zero, Slice}
@@ -14,7 +15,7 @@ use Rattle.jv_model.specs.rows.RowPlaces.{list_key}
 use Rattle.jv_model.specs.tree.Changes.{copied_over, with_content}
 use Rattle.jv_rows.specs.Counts.{IsFull, Adjusted}
 use Rattle.jv_volume.specs.TypedRows.{Rows}
-use Rattle.jv_volume.specs.Views.{row_in, records_in, node_row_at, counters_at, lists_of}
+use Rattle.jv_volume.specs.Views.{row_in, records_in, node_row_at, counters_at, lists_of, slice_row_at}
 use Rattle.jv_volume.specs.TreeOf.{content_of}
 use Rattle.jv_volume.specs.Slices.{records_naming, place_in, next_slice, WholeSlices}
 use Rattle.jv_volume.specs.Whole.{Quiet, Whole, is_of_slices}
@@ -24,8 +25,8 @@ use Rattle.jv_contents.specs.Counts.{HadSize, KeepsOthers, record_count}
 use Rattle.jv_contents.specs.Places.{put_over}
 use Rattle.jv_contents.proofs.BlockLaws.{place_has_row}
 use Rattle.jv_contents.proofs.ByteLaws.{past-put_over}
-use Rattle.jv_contents.proofs.CountLaws.{ListsMove, move-none, others-adjusted, go-adjusted, full-many}
-use Rattle.jv_contents.proofs.KeepLaws.{record_count-stay}
+use Rattle.jv_contents.proofs.CountLaws.{ListsMove, move-none, others-adjusted, go-adjusted, lives-added, full-many}
+use Rattle.jv_contents.proofs.KeepLaws.{record_count-stay, slice_row-stay}
 use Rattle.jv_contents.proofs.PlaceLaws.{place_in-same}
 use Rattle.jv_contents.proofs.WholeLaws.{SlicesGo}
 use Rattle.jv_data.specs.declared.copying.Course.{Course}
@@ -81,6 +82,10 @@ module _ (rows : Rows) (course : Course) (was : NodeRow) (c : Counters) (now end
       omega (arith, many, count, stay, less)
 
   module _ (more due : ℕ) (enough : course.len ≤ more) (last : Rows) (adjusted : Adjusted [] added due with_parts last) where
+    -- no slice dies
+    pub lives-copied : (id : ℕ) (slice : SliceRow) → slice_row_at rows id ≡ Some slice → slice_row_at last id ≡ None → ⊥
+    lives-copied id slice here none = lives-added added due with_parts last adjusted id slice (move.slices id ∙ slice_row-stay rows middle quiet.apart id ∙ here) none
+
     get_last : (key : RowKey) → (key.tab == 4) ≡ true → get last key ≡ get (rows_copied rows course parts middle) key
     get_last key four =
         let tab = eqb-true key.tab 4 four in

@@ -16,6 +16,7 @@ use Rattle.jv_model.specs.declared.op.Reply.TheVariants.{Count}
 use Rattle.jv_model.specs.declared.row.Node.{Node as NodeRow}
 use Rattle.jv_model.specs.declared.row.Row.TheVariants.{OfNode}
 use Rattle.jv_model.specs.declared.row.RowKey.{RowKey}
+use Rattle.jv_model.specs.declared.setting.Setting.{Setting}
 use Rattle.jv_model.specs.declared.slice.Rec.{Rec}
 use Rattle.jv_model.specs.FiniteMap.{get}
 use Rattle.jv_model.specs.rows.RowFaults.{row_fault}
@@ -48,7 +49,7 @@ use Rattle.jv_data.specs.Resizing.{ResizesFile, AreSized}
 use Rattle.jv_data.specs.Truncating.{HasSlice, HaveSlices}
 use Rattle.jv_data.proofs.BeginningLaws.{content_found}
 use Rattle.jv_data.proofs.CommitLaws.{looks-any}
-use Rattle.jv_data.proofs.CopiedLaws.{crowded-copied, whole-copied, others-copied, tree-copied_lists}
+use Rattle.jv_data.proofs.CopiedLaws.{crowded-copied, lives-copied, whole-copied, others-copied, tree-copied_lists}
 use Rattle.jv_data.proofs.PartsLaws.{get-copied, have-copied}
 use Rattle.jv_data.proofs.RefusedLaws.{changes-refused}
 use Rattle.jv_data.proofs.ResizingLaws.{leave-resized}
@@ -99,9 +100,9 @@ pub adjusts-as : (gone came added : List Rec) (due : ℕ) (before after : Store)
 adjusts-as gone came added due before after changes changed result none same a =
     subst (λ (l : List Rec). Adjusts l added due before after changes changed result) none (subst (λ (l : List Rec). Adjusts gone l due before after changes changed result) same a)
 
-module _ (sid now src dst from to len : ℕ) where
+module _ (sid now src dst from to len : ℕ) (due : Setting → ℕ) where
   abbrev pub makes : Makes
-  makes = record { own = 0; size = 0; more = len }
+  makes = record { own = 0; size = 0; more = len; due = due }
 
   -- of so many bytes
   abbrev last_step : ℕ → Tree → Result Outcome Fault
@@ -206,6 +207,7 @@ module _ (sid now src dst from to len : ℕ) where
               whole = whole;
               others = keeps-stay (typed known) (typed known) (λ key of. refl) 0 len refl;
               size = λ slice here. (let no = whole.slices.none in absurd (cc));
+              dies = λ setting set id slice here gone. absurd (cc);
               model = past_within.goes_on known is whole (bytes_of told (typed known))
                   ∙ ap (λ m. fitting m (tree_with told (typed known))) none
                   ∙ ap (λ b. require b NoSpace >>= (λ unit. answered (tree_with told (typed known)) (Count 0))) (fits_same (tree_with told (typed known)));
@@ -383,6 +385,8 @@ module _ (sid now src dst from to len : ℕ) where
                       others = others-copied (typed known) course target t_sized.counters now length whole (target_there known is) g.file t_sized.there (small known is whole) refl
                           (drafted d2 known) added (y known is whole) len 0 few left adjusted t_sized.given;
                       size = λ slice here. (let none = whole_left.slices.none in absurd (cc));
+                      dies = λ setting set id slice here gone. absurd (lives-copied (typed known) course target t_sized.counters now length whole (target_there known is) g.file
+                          t_sized.there (small known is whole) refl (drafted d2 known) added (y known is whole) len 0 few left adjusted id slice here gone);
                       model = past_counted.goes_on known is whole (bytes_of told (typed known))
                           ∙ ap (λ (x : Tree). answered x (Count n)) (copied_is known is whole (bytes_of told (typed known))
                           ∙ sym (tree-copied_lists (typed known) course target t_sized.counters now length whole (target_there known is) g.file t_sized.there (small known is whole) refl
@@ -400,15 +404,16 @@ module _ (sid now src dst from to len : ℕ) where
 
 -- ---- by the caller of the model
 
-copy-as : (t : Tree) (caller : Caller) (sid now src dst from to len : ℕ) → caller.sid ≡ sid → caller.now ≡ now → caller.inode ≡ src → caller.other ≡ dst
-    → copy t caller from to len ≡ act sid now src dst from to len t
+copy-as : (t : Tree) (caller : Caller) (sid now src dst from to len : ℕ) (due : Setting → ℕ) → caller.sid ≡ sid → caller.now ≡ now → caller.inode ≡ src
+    → caller.other ≡ dst → copy t caller from to len ≡ act sid now src dst from to len due t
 unfolding copy
-copy-as t caller sid now src dst from to len s n i o = λ k. act (s k) (n k) (i k) (o k) from to len t
+copy-as t caller sid now src dst from to len due s n i o = λ k. act (s k) (n k) (i k) (o k) from to len due t
 
-pub ends-as : (who : Who) (src dst from to len now : ℕ) (before after : Store) (result : Result ℕ TxFault) → now ≡ who.now
-    → Ends who.sid now src dst from to len before after result
+pub ends-as : (who : Who) (src dst from to len now : ℕ) (due : Setting → ℕ) (before after : Store) (result : Result ℕ TxFault) → now ≡ who.now
+    → Ends who.sid now src dst from to len due before after result
     → (caller : Caller) → IsFor who caller → caller.inode ≡ src → caller.other ≡ dst
-    → Changes {A = ℕ} (record { own = 0; size = 0; more = len }) AnyTold (IsCrowded len) before after result (λ n. Count n) (λ t. copy t caller from to len)
-ends-as who src dst from to len now before after result now_is e caller for of to_other =
-    subst (λ (act : Tree → Result Outcome Fault). Changes {A = ℕ} (record { own = 0; size = 0; more = len }) AnyTold (IsCrowded len) before after result (λ n. Count n) act)
-    (λ i t. sym (copy-as t caller who.sid now src dst from to len for.sid (for.now ∙ sym now_is) of to_other) i) e
+    → Changes {A = ℕ} (record { own = 0; size = 0; more = len; due = due }) AnyTold (IsCrowded len) before after result (λ n. Count n) (λ t. copy t caller from to len)
+ends-as who src dst from to len now due before after result now_is e caller for of to_other =
+    subst (λ (act : Tree → Result Outcome Fault).
+    Changes {A = ℕ} (record { own = 0; size = 0; more = len; due = due }) AnyTold (IsCrowded len) before after result (λ n. Count n) act)
+    (λ i t. sym (copy-as t caller who.sid now src dst from to len due for.sid (for.now ∙ sym now_is) of to_other) i) e

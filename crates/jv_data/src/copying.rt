@@ -1,5 +1,5 @@
 //! Copies between files, and inside of one.
-ghost use Rattle.std.specs.Prelude.{◌≡◌, ◌+◌, ◌≤◌, ◌<◌, ◌++◌, ◌&&◌, ◌==◌, nat_le, IfOk, IfSome, OnOk};
+ghost use Rattle.std.specs.Prelude.{◌≡◌, ℕ, ◌+◌, ◌≤◌, ◌<◌, ◌++◌, ◌&&◌, ◌==◌, nat_le, IfOk, IfSome, OnOk};
 ghost use Rattle.jv_contents.specs.Fills.{record_at_spot, records_of_plan};
 ghost use Rattle.jv_data.specs.Changing.{Changes, AnyTold, IsCrowded};
 ghost use Rattle.jv_data.specs.Copying.{pieces_len, part_len, ShowsRange, CopiesPart, CopiesLists};
@@ -7,6 +7,7 @@ ghost use Rattle.jv_data.specs.Records.{HasRecords};
 ghost use Rattle.jv_data.specs.Truncating.{HaveSlices};
 ghost use Rattle.jv_model.specs.declared.limits.TheConstants.{FILE_END, WINDOW};
 ghost use Rattle.jv_model.specs.declared.op.Reply.TheVariants.{Count};
+ghost use Rattle.jv_model.specs.declared.setting.Setting.{Setting};
 ghost use Rattle.jv_model.specs.tree.Caller.{Caller};
 ghost use Rattle.jv_model.specs.tree.FileBytes as model;
 ghost use Rattle.jv_rows.specs.Transactions.{IsFor};
@@ -34,7 +35,7 @@ struct Course {
 /// Copies at most `len` bytes of the file `src` from the position `from` on, as far as it goes, to the position `to` of
 /// the file `dst`, which may be the same, and returns how many. The target's lists get records of the slices that show
 /// the bytes, and no block is read or written. The target reaches at least to the last byte copied, and its times are
-/// set. A copy of 0 bytes changes nothing.
+/// set. No slice dies. A copy of 0 bytes changes nothing.
 ///
 /// # Errors
 ///
@@ -53,8 +54,9 @@ pub fn copy_range<K: Keeper>(
     to: u64,
     len: u64,
 ) -> Result<u64, TxFault>
-    ensures { (caller : Caller) → IsFor who.entry.now caller → caller.inode ≡ src → caller.other ≡ dst
-        → Changes (record { own = 0; size = 0; more = len }) AnyTold (IsCrowded len)
+    ensures { (caller : Caller) (due : Setting → ℕ) → IsFor who.entry.now caller
+        → caller.inode ≡ src → caller.other ≡ dst
+        → Changes (record { own = 0; size = 0; more = len; due = due }) AnyTold (IsCrowded len)
         (K.seen k.old) (K.seen k.new) result (λ n. Count n) (λ t. model.copy t caller from to len) }
 {
     let source = file(alloc, k, who.sid, src)?;
