@@ -3,7 +3,7 @@ use Rattle.std.proofs.Common.{◌≡◌, ◌≢◌, ℕ, ◌+◌, ◌<◌, ◌�
 use Rattle.std.specs.Prelude.{◌==◌, ◌&&◌, ◌||◌, not, nat_le, Contains, if◌then◌else◌, IsTrue}
 use Rattle.std.specs.List.{AllByRecursion}
 use Rattle.std.specs.Ordering.{eq_by_cmp}
-use Rattle.std.proofs.lemmas.Bool.{eq-eqb, ne_eqb, eqb-true, leb-false, and_left}
+use Rattle.std.proofs.lemmas.Bool.{eq-eqb, ne_eqb, eqb-true, eqb-false, leb-false, and_left}
 use Rattle.std.proofs.lemmas.List.{length-append}
 use Rattle.std.proofs.lemmas.List.Sums.{count_by-le-length}
 use Rattle.std.proofs.lemmas.List.Elements.{recursion_from_All, All-weaker, All-contains_itself}
@@ -293,26 +293,28 @@ module _ (more : ℕ) (rows middle after : Rows) (gone added : List Rec) (due : 
   dead_row : ℕ → Cell
   dead_row size = Ok (OfDead (record { size = size; due = due }))
 
-  dies_after : (id : ℕ) (slice : SliceRow) → slice_row_at rows id ≡ Some slice → slice_row_at after id ≡ None → HasDied after id slice.size
-  dies_after id slice there none = by_becomes (becomes gone added due middle after a id)
+  -- a slice whose row has gone is dead, with its size, until it is due
+  pub dead_after : (id : ℕ) (slice : SliceRow) → slice_row_at rows id ≡ Some slice → slice_row_at after id ≡ None
+      → dead_at after id ≡ Some (record { size = slice.size; due = due })
+  dead_after id slice there none = by_becomes (becomes gone added due middle after a id)
     where
       by_zero : (r : Recounted id (records_naming id gone) (records_naming id added) due middle after) (b : Bool)
-          → (recounted r.slice.count (records_naming id gone) (records_naming id added) == 0) ≡ b → HasDied after id slice.size
+          → (recounted r.slice.count (records_naming id gone) (records_naming id added) == 0) ≡ b → dead_at after id ≡ Some (record { size = slice.size; due = due })
       by_zero r true e =
           let same : r.slice ≡ slice = same_Some r.slice slice (sym (ap (λ c. slice_in (row_in c)) r.was) ∙ m.slices id ∙ there) in
-          record {
-            dead = record { size = r.slice.size; due = due };
-            is = ap (λ c. dead_in (row_in c)) r.dead ∙ ap (λ b. dead_in (row_in (cond b (Some (Ok (OfDead (record { size = r.slice.size; due = due })))) (get middle (dead_key id))))) e;
-            size_is = ap (λ (s : SliceRow). s.size) same;
-          }
+          ap (λ c. dead_in (row_in c)) r.dead ∙ ap (λ b. dead_in (row_in (cond b (Some (Ok (OfDead (record { size = r.slice.size; due = due })))) (get middle (dead_key id))))) e
+          ∙ ap (λ (s : SliceRow). Some (record { size = s.size; due = due })) same
       by_zero r false e =
           let row = ap (λ c. slice_in (row_in c)) r.row
           ∙ ap (λ b. slice_in (row_in (cond b None (Some (Ok (OfSlice (record { size = r.slice.size; count = recounted r.slice.count (records_naming id gone) (records_naming id added) }))))))) e in
           absurd (cc)
 
-      by_becomes : Becomes gone added due middle after id → HasDied after id slice.size
+      by_becomes : Becomes gone added due middle after id → dead_at after id ≡ Some (record { size = slice.size; due = due })
       by_becomes (Follows named r) = by_zero r (recounted r.slice.count (records_naming id gone) (records_naming id added) == 0) refl
       by_becomes (Stays other row dead) = (let there_after = row ∙ m.slices id ∙ there in absurd (cc))
+
+  dies_after : (id : ℕ) (slice : SliceRow) → slice_row_at rows id ≡ Some slice → slice_row_at after id ≡ None → HasDied after id slice.size
+  dies_after id slice there none = record { dead = record { size = slice.size; due = due }; is = dead_after id slice there none; size_is = refl }
 
   -- a slice with a row has no dead one
   not_dead : (id : ℕ) (slice : SliceRow) (dead : Dead) → slice_row_at rows id ≡ Some slice → dead_at rows id ≡ Some dead → ⊥
@@ -365,6 +367,31 @@ module _ (more : ℕ) (rows middle after : Rows) (gone added : List Rec) (due : 
     died = died_after;
     count = (let was = m.count in let now = record_count-lists middle after (lists-adjusted gone added due middle after a) in omega (arith, was, now, few));
   }
+
+-- ---- records that came alone
+
+named_some : (zero_id none : Bool) (n : ℕ) → (n == 0) ≡ none → (not zero_id && not none) ≡ true → 0 < n
+named_some true none n e h = absurd (cc)
+named_some false true n e h = absurd (cc)
+named_some false false n e h = (let some = eqb-false n 0 e in omega (arith, some))
+
+-- no slice dies of them
+pub lives-added : (added : List Rec) (due : ℕ) (middle after : Rows) → Adjusted [] added due middle after
+    → (id : ℕ) (slice : SliceRow) → slice_row_at middle id ≡ Some slice → slice_row_at after id ≡ None → ⊥
+lives-added added due middle after a id slice there none = by_becomes (becomes [] added due middle after a id)
+  where
+    by_zero : (r : Recounted id 0 (records_naming id added) due middle after) → 0 < 0 + records_naming id added
+        → (b : Bool) → (recounted r.slice.count 0 (records_naming id added) == 0) ≡ b → ⊥
+    by_zero r some true e = (let no = eqb-true (recounted r.slice.count 0 (records_naming id added)) 0 e in absurd (omega (arith, no, some)))
+    by_zero r some false e =
+        let row = ap (λ c. slice_in (row_in c)) r.row
+        ∙ ap (λ b. slice_in (row_in (cond b None (Some (Ok (OfSlice (record { size = r.slice.size; count = recounted r.slice.count 0 (records_naming id added) }))))))) e in
+        absurd (cc)
+
+    by_becomes : Becomes [] added due middle after id → ⊥
+    by_becomes (Follows named r) = by_zero r (named_some (id == 0) (0 + records_naming id added == 0) (0 + records_naming id added) refl named)
+        (recounted r.slice.count 0 (records_naming id added) == 0) refl
+    by_becomes (Stays other row dead) = (let there_after = row ∙ there in absurd (cc))
 
 -- ---- counts that can't follow
 

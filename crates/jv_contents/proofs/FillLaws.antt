@@ -208,3 +208,14 @@ fills-name P places from to (r ∷ rs) (at, is, shows, rest) has = (
 pub plan-length : (pieces : List Piece) (pos : ℕ) → length (records_of_plan pos pieces) ≡ length pieces
 plan-length [] pos = refl
 plan-length (piece ∷ pieces) pos = ap (λ n. suc n) (plan-length pieces (pos + piece.len))
+
+-- each record is of a position at least
+pub fills-few : (places : ℕ → Spot) (from to : ℕ) (rs : List Rec) → Fills places from to rs → from + length rs ≤ to
+fills-few places from to [] e = omega (arith, e)
+fills-few places from to (r ∷ rs) (at, is, shows, rest) =
+    (let some = record_some r is in let more = fills-few places (from + r.len) to rs rest in omega (arith, some, more))
+
+-- there are some where there is a position
+pub fills-some : (places : ℕ → Spot) (from to : ℕ) (rs : List Rec) → Fills places from to rs → from < to → 0 < length rs
+fills-some places from to [] e less = absurd (omega (arith, e, less))
+fills-some places from to (r ∷ rs) f less = omega arith

@@ -75,7 +75,7 @@ module _ (block : ℕ) (rows : Rows) (blocks : Blocks) (f : Flight) (flies : InF
   pub flies-on : (own more : ℕ) (after : Rows) (blocks' : Blocks) → KeepsOthers own more rows after → f.id ≢ own → Grows blocks blocks'
       → ((b : BlockId) (bytes : List ℕ) → b.id ≡ f.id → blocks' b ≡ Some bytes → blocks b ≡ Some bytes) → InFlight block after blocks' f
   flies-on own more after blocks' keeps apart grows alone =
-      flies-still after blocks' (subst (λ n. f.id < n) (sym keeps.next) flies.below) (keeps.unknown f.id apart flies.unknown) grows alone
+      flies-still after blocks' (subst (λ n. f.id < n) (sym keeps.next) flies.below) (keeps.unknown f.id flies.some apart flies.unknown) grows alone
 
   -- its next block is put
   pub flies-put : (blocks' : Blocks) → Grows blocks blocks' → blocks' (flight_block block f f.put) ≡ Some (flight_bytes block f f.put)

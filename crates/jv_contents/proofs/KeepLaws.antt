@@ -111,7 +111,7 @@ module _ (rows after : Rows) (stay : SlicesStay rows after) where
   pub keeps-stay : (own more : ℕ) → next_slice after ≡ next_slice rows → KeepsOthers own more rows after
   keeps-stay own more next = record {
     next = next;
-    unknown = λ id apart u. unknown-stay id u;
+    unknown = λ id some apart u. unknown-stay id u;
     had = λ id slice apart there. record { slice = slice; is = sym (slice_row-stay id) ∙ there; size_is = refl };
     dies = λ id slice there gone. (let same = slice_row-stay id in absurd (cc));
     dead = λ id dead there. dead-stay id ∙ there;
@@ -131,7 +131,7 @@ pub keeps-then_stay : (own more : ℕ) (rows middle after : Rows) → KeepsOther
     → next_slice after ≡ next_slice middle → KeepsOthers own more rows after
 keeps-then_stay own more rows middle after k stay next = record {
   next = next ∙ k.next;
-  unknown = λ id apart u. unknown-stay middle after stay id (k.unknown id apart u);
+  unknown = λ id some apart u. unknown-stay middle after stay id (k.unknown id some apart u);
   had = λ id slice apart there. k.had id slice apart (sym (slice_row-stay middle after stay id) ∙ there);
   dies = λ id slice there gone.
       (let died = k.dies id slice there (sym (slice_row-stay middle after stay id) ∙ gone) in
@@ -144,7 +144,7 @@ pub keeps-stay_then : (own more : ℕ) (rows middle after : Rows) → SlicesStay
     → KeepsOthers own more middle after → KeepsOthers own more rows after
 keeps-stay_then own more rows middle after stay next k = record {
   next = k.next ∙ next;
-  unknown = λ id apart u. k.unknown id apart (unknown-stay rows middle stay id u);
+  unknown = λ id some apart u. k.unknown id some apart (unknown-stay rows middle stay id u);
   had = λ id slice apart there.
       (let had = k.had id slice apart there in
       record { slice = had.slice; is = sym (slice_row-stay rows middle stay id) ∙ had.is; size_is = had.size_is });
@@ -158,7 +158,7 @@ pub keeps-then : (own first second : ℕ) (rows middle after : Rows) → slice_r
     → KeepsOthers own second middle after → KeepsOthers own (first + second) rows after
 keeps-then own first second rows middle after fresh k l = record {
   next = l.next ∙ k.next;
-  unknown = λ id apart u. l.unknown id apart (k.unknown id apart u);
+  unknown = λ id some apart u. l.unknown id some apart (k.unknown id some apart u);
   had = λ id slice apart there.
       (let late = l.had id slice apart there in
       let early = k.had id late.slice apart late.is in

@@ -65,7 +65,7 @@ module _ (more : ℕ) (rows after : Rows) (go : SlicesGo more rows after) where
   pub keeps-go : KeepsOthers 0 more rows after
   keeps-go = record {
     next = go.next;
-    unknown = λ id named u. unknown-go id (omega (arith, named)) u;
+    unknown = λ id some apart u. unknown-go id some u;
     had = λ id slice named there. go.had id slice there;
     dies = go.dies;
     dead = go.stays;

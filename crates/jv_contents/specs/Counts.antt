@@ -33,7 +33,7 @@ pub record HadSize (rows : Rows) (id size : ℕ) : Type 0 where
 -- row that had none; one that loses its row is dead, with its size; dead ones stay dead. There are so many more records at most.
 pub record KeepsOthers (own more : ℕ) (rows after : Rows) : Type 0 where
   pub next : next_slice after ≡ next_slice rows
-  pub unknown : (id : ℕ) → id ≢ own → IsUnknown rows id → IsUnknown after id
+  pub unknown : (id : ℕ) → 0 < id → id ≢ own → IsUnknown rows id → IsUnknown after id
   pub had : (id : ℕ) (slice : SliceRow) → id ≢ own → slice_row_at after id ≡ Some slice → HadSize rows id slice.size
   pub dies : (id : ℕ) (slice : SliceRow) → slice_row_at rows id ≡ Some slice → slice_row_at after id ≡ None → HasDied after id slice.size
   pub dead : (id : ℕ) (dead : Dead) → dead_at rows id ≡ Some dead → dead_at after id ≡ Some dead

@@ -1,25 +1,22 @@
 -- Lists of a file that are ended or dropped: what its windows show then, and what is as before.
-use Rattle.std.proofs.Common.{◌≡◌, ◌≢◌, ℕ, ◌+◌, ◌*◌, ◌/◌, ◌%◌, ◌<◌, ◌≤◌, ◌^◌, ◌⊎◌, inl, inr, Bool, true, false, List, [], ◌∷◌, ◌++◌, length, Option, None, Some, Ok, refl, sym, ap, subst, ◌∙◌, arith}
-use Rattle.std.specs.Prelude.{◌==◌, nat_le, nat_lt, if◌then◌else◌}
-use Rattle.std.specs.List.{AllByRecursion}
+use Rattle.std.proofs.Common.{◌≡◌, ◌≢◌, ℕ, ◌<◌, ◌≤◌, ◌^◌, ◌⊎◌, inl, inr, Bool, true, false, List, [], ◌∷◌, ◌++◌, Option, None, Some, refl, sym, ap, subst, ◌∙◌, arith}
+use Rattle.std.specs.Prelude.{◌==◌, nat_lt, if◌then◌else◌}
 use Rattle.std.proofs.lemmas.Bool.{cases_eq, cases_lt, cond-true, cond-false, lt-ltb, le-ltb, ltb-false, eq-eqb, ne_eqb}
-use Rattle.std.proofs.lemmas.List.{append-nil, length-append}
+use Rattle.std.proofs.lemmas.List.{append-nil}
 use Rattle.jv_model.specs.declared.row.RowKey.{RowKey}
-use Rattle.jv_model.specs.declared.row.Row.TheVariants.{OfList}
 use Rattle.jv_model.specs.declared.slice.Rec.{Rec}
-use Rattle.jv_model.specs.FiniteMap.{get, alter}
+use Rattle.jv_model.specs.FiniteMap.{get}
 use Rattle.jv_model.specs.rows.RowKeys.{row_key}
 use Rattle.jv_model.specs.rows.RowPlaces.{list_key}
-use Rattle.jv_rows.specs.Lists.{is_past, is_ahead, HasNoList, HaveWindows}
-use Rattle.jv_volume.specs.TypedRows.{Cell, Rows}
+use Rattle.jv_rows.specs.Lists.{is_past, HasNoList, HaveWindows}
+use Rattle.jv_volume.specs.TypedRows.{Rows}
 use Rattle.jv_volume.specs.Views.{row_in, records_in, lists_of}
 use Rattle.jv_volume.specs.Slices.{listed}
-use Rattle.jv_volume.proofs.MapLaws.{get-alter-here, get-alter-apart}
-use Rattle.jv_contents.specs.Places.{with_list, zero_record}
+use Rattle.jv_volume.proofs.MapLaws.{get-alter-apart}
 use Rattle.jv_contents.proofs.CountLaws.{ListsMove, move-list}
-use Rattle.jv_data.specs.Truncating.{rows_ended, rows_without, records_of, latest, IsNext, Follow}
+use Rattle.jv_data.specs.Truncating.{rows_without, records_of, latest, Follow}
 use Rattle.jv_data.proofs.BesideLaws.{Beside, beside-none, beside-then, beside-alter}
-use Rattle.jv_data.proofs.ListRowLaws.{get-other, list_is, lists_of-list, lists_of-beside}
+use Rattle.jv_data.proofs.ListRowLaws.{get-other, list_is, lists_of-list}
 
 -- ---- windows in order
 

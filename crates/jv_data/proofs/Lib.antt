@@ -7,6 +7,7 @@ pub mod SizedLaws
 pub mod ChangedLaws
 pub mod RecordedLaws
 pub mod ResizingLaws
+pub mod RefusedLaws
 pub mod BeginningLaws
 pub mod CommitLaws
 pub mod RecordsLaws
@@ -19,3 +20,8 @@ pub mod CutListsLaws
 pub mod TruncatedLaws
 pub mod TruncateLaws
 pub mod TruncateEndsLaws
+pub mod PartsLaws
+pub mod CopiedLaws
+pub mod ShownLaws
+pub mod CopyingLaws
+pub mod CopyEndsLaws

@@ -18,11 +18,11 @@ use Rattle.jv_volume.specs.Views.{row_in, counters_in, counters_at, node_in, nod
 use Rattle.jv_volume.specs.TreeOf.{content_of, counters_of, or_no_counters}
 use Rattle.jv_volume.specs.Slices.{next_slice, place_in, WholeSlices}
 use Rattle.jv_volume.specs.Whole.{Quiet, Whole, is_of_slices}
-use Rattle.jv_volume.proofs.QuietLaws.{quiet-slices, quiet-lists_of}
+use Rattle.jv_volume.proofs.QuietLaws.{quiet-slices}
 use Rattle.jv_contents.specs.Places.{put_over, cut_at}
 use Rattle.jv_contents.specs.Bytes.{Told, spot_byte, bytes_of, tree_with}
 use Rattle.jv_contents.specs.Counts.{KeepsOthers}
-use Rattle.jv_contents.proofs.ByteLaws.{byte-cut, byte-grown, byte-copied, past-put_over, past-cut}
+use Rattle.jv_contents.proofs.ByteLaws.{byte-cut, byte-grown, byte-copied}
 use Rattle.jv_contents.proofs.KeepLaws.{keeps-stay_then}
 use Rattle.jv_contents.proofs.WholeLaws.{SlicesGo, keeps-go, slices-go, FileGoes, files-go}
 use Rattle.jv_data.proofs.BesideLaws.{Beside, formed-beside, whole-formed}

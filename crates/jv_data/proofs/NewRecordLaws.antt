@@ -139,6 +139,13 @@ module _ (rows : Rows) (inode window : ℕ) (low : window < 2 ^ 32) (rec : Rec) 
 
   -- ---- slices
 
+  -- no slice loses its row
+  pub lives-recorded : (id : ℕ) (slice : SliceRow) → slice_row_at rows id ≡ Some slice → slice_row_at recorded_rows id ≡ None → ⊥
+  lives-recorded id slice there none = elim (cases_eq id rec.id) [
+    | inl same ↦ (let both : Some new_slice ≡ None = sym (ap (slice_row_at recorded_rows) same ∙ slice_there) ∙ none in absurd (cc))
+    | inr apart ↦ (let both : Some slice ≡ None = sym (slice_beside id apart ∙ there) ∙ none in absurd (cc))
+  ]
+
   module _ (w : WholeSlices rows) (unknown : IsUnknown rows rec.id) (given : rec.id < next_slice rows) where
     abbrev sizes : ℕ → ℕ
     sizes id = if id == rec.id then rec.size else w.sizes id
@@ -208,12 +215,9 @@ module _ (rows : Rows) (inode window : ℕ) (low : window < 2 ^ 32) (rec : Rec) 
     pub others-recorded : KeepsOthers rec.id 1 rows recorded_rows
     others-recorded = record {
       next = ap (λ c. c.slice) counters_same;
-      unknown = unknown_still;
+      unknown = λ id some apart old. unknown_still id apart old;
       had = λ id slice apart there. record { slice = slice; is = sym (slice_beside id apart) ∙ there; size_is = refl };
-      dies = λ id slice there none. elim (cases_eq id rec.id) [
-        | inl same ↦ (let both : Some new_slice ≡ None = sym (ap (slice_row_at recorded_rows) same ∙ slice_there) ∙ none in absurd (cc))
-        | inr apart ↦ (let both : Some slice ≡ None = sym (slice_beside id apart ∙ there) ∙ none in absurd (cc))
-      ];
+      dies = λ id slice there none. absurd (lives-recorded id slice there none);
       dead = λ id dead there. dead_same id ∙ there;
       records = (let more = count_more in omega (arith, more));
     }

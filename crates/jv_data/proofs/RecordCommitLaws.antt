@@ -12,6 +12,7 @@ use Rattle.jv_model.specs.declared.limits.TheConstants.{FILE_END, WINDOW}
 use Rattle.jv_model.specs.declared.op.Reply.TheVariants.{Done}
 use Rattle.jv_model.specs.declared.row.Row.TheVariants.{OfList, OfSlice}
 use Rattle.jv_model.specs.declared.row.SliceRow.{SliceRow}
+use Rattle.jv_model.specs.declared.setting.Setting.{Setting}
 use Rattle.jv_model.specs.declared.slice.Rec.{Rec}
 use Rattle.jv_model.specs.FiniteMap.{alter}
 use Rattle.jv_model.specs.blocks.Slices.{IsRecord, is_record}
@@ -39,7 +40,7 @@ use Rattle.jv_data.specs.Committing.{BeginsCommit, Begun, commit_of}
 use Rattle.jv_data.specs.Resizing.{rows_sized}
 use Rattle.jv_data.specs.Records.{HasRecords, IsNew, CommitsRecord, committing}
 use Rattle.jv_data.proofs.CommitLaws.{RefusedBy, began, commit-unbegun, commit-reads, commit-fails}
-use Rattle.jv_data.proofs.RecordedLaws.{last, whole-last, others-last, size-last, tree-last}
+use Rattle.jv_data.proofs.RecordedLaws.{last, lives-last, whole-last, others-last, size-last, tree-last}
 
 -- a reading, and then something that fails
 pub fails-after : {A : Type 0} (before middle after : Store) (x : A) (fault : TxFault) → (act : Tree → Result A Fault) → Looks before middle (Ok x) act
@@ -70,8 +71,8 @@ module _ (sid now inode window : ℕ) (rec : Rec) (started : ℕ) where
   abbrev end : ℕ
   end = from + rec.len
 
-  abbrev makes : Makes
-  makes = record { own = rec.id; size = rec.size; more = 1 }
+  abbrev makes : (Setting → ℕ) → Makes
+  makes due = record { own = rec.id; size = rec.size; more = 1; due = due }
 
   -- a beginning by the numbers of the arguments
   pub at_end : (before middle : Store) (changes : List Change) (result : Result (Unit {0}) TxFault) (w p l : ℕ) → w ≡ window → p ≡ rec.pos → l ≡ rec.len
@@ -82,24 +83,24 @@ module _ (sid now inode window : ℕ) (rec : Rec) (started : ℕ) where
 
   -- ---- one that is refused
 
-  lands_refused : (fault : TxFault) (known : RowMap) (after : Option RowMap) (told : Told) (bytes : List ℕ)
+  lands_refused : (fault : TxFault) (known : RowMap) (after : Option RowMap) (told : Told) (bytes : List ℕ) (due : Setting → ℕ)
       → Agrees {A = Tree} (Err fault) (commit_of sid inode from bytes started now (tree_with told (typed known)))
-      → LandsChanged {A = Unit {0}} makes Never known after told (λ unit. Done) (committing sid inode from bytes started now) (Err fault)
-  lands_refused (Refused fault) known after told bytes h = inl (ap (λ r. r >>= (λ left. done left)) h)
-  lands_refused (Moved list) known after told bytes h = h
-  lands_refused (OfRows (Bad at bad)) known after told bytes h = h
-  lands_refused (OfRows Failed) known after told bytes h = tt
-  lands_refused (OfRows Memory) known after told bytes h = tt
+      → LandsChanged {A = Unit {0}} (makes due) Never known after told (λ unit. Done) (committing sid inode from bytes started now) (Err fault)
+  lands_refused (Refused fault) known after told bytes due h = inl (ap (λ r. r >>= (λ left. done left)) h)
+  lands_refused (Moved list) known after told bytes due h = h
+  lands_refused (OfRows (Bad at bad)) known after told bytes due h = h
+  lands_refused (OfRows Failed) known after told bytes due h = tt
+  lands_refused (OfRows Memory) known after told bytes due h = tt
 
   pub record-refused : (before after : Store) (fault : TxFault) → RefusedBy sid now inode end started before after fault
       → CommitsRecord sid now inode window rec started before after (Err fault)
-  record-refused before after fault looks bytes =
+  record-refused before after fault looks bytes due =
       let any = looks end [] (omega arith) in
       record {
         opened_at = any.opened_at;
         counts = any.counts;
         undone = any.rows_are;
-        lands = λ known is whole told new. lands_refused fault known after.rows told bytes
+        lands = λ known is whole told new. lands_refused fault known after.rows told bytes due
             ((looks from bytes (ap (λ n. from + n) new.shows.long)).agrees known is whole (bytes_of told (typed known)));
         bad = any.bad;
       }
@@ -156,10 +157,10 @@ module _ (sid now inode window : ℕ) (rec : Rec) (started : ℕ) where
             ∙ (λ i. alter (alter (rows_sized (typed known) inode begun.was begun.sized.counters (max begun.was.length end) now) (list_key inode window)
             (cell OfList (Some (after_is i)))) (slice_key rec.id) (cell OfSlice (Some (slice_is i))))
 
-        changed : (told : Told) (bytes : List ℕ) → IsNew rec bytes (typed known) told → (last_rows : Option RowMap) → last_rows ≡ Some (applied d2 known)
-            → Changed makes known last_rows told Done (committing sid inode from bytes started now)
+        changed : (told : Told) (bytes : List ℕ) (due : Setting → ℕ) → IsNew rec bytes (typed known) told → (last_rows : Option RowMap) → last_rows ≡ Some (applied d2 known)
+            → Changed (makes due) known last_rows told Done (committing sid inode from bytes started now)
         unfolding drafted
-        changed told bytes new last_rows stands = record {
+        changed told bytes due new last_rows stands = record {
           left = applied d2 known;
           is = stands;
           whole = subst Whole (sym rows_are) (whole-last (typed known) inode window low begun.was begun.sized.counters now rec list whole there begun.file
@@ -168,6 +169,8 @@ module _ (sid now inode window : ℕ) (rec : Rec) (started : ℕ) where
               whole there begun.file begun.sized.there list_is is_rec some small within new.unknown new.below);
           size = λ slice here. size-last (typed known) inode window low begun.was begun.sized.counters now rec list whole there begun.file
               begun.sized.there list_is is_rec some small within slice (ap (λ (rows : Rows). slice_row_at rows rec.id) (sym rows_are) ∙ here);
+          dies = λ setting set id old here none. absurd (lives-last (typed known) inode window low begun.was begun.sized.counters now rec list whole there begun.file
+              begun.sized.there list_is is_rec some small within id old here (ap (λ (rows : Rows). slice_row_at rows id) (sym rows_are) ∙ none));
           model = ap (λ r. r >>= (λ left. done left)) ((began sid now inode end started before middle begun_by b from bytes (ap (λ n. from + n) new.shows.long)).goes_on
               known is whole (bytes_of told (typed known)))
               ∙ ap done (sym (tree-last (typed known) inode window low begun.was begun.sized.counters now rec list whole there begun.file
@@ -176,13 +179,13 @@ module _ (sid now inode window : ℕ) (rec : Rec) (started : ℕ) where
 
       -- all is committed
       pub record-done : (last_store : Store) → Commits read last_store (Ok tt) d2 → CommitsRecord sid now inode window rec started before last_store (Ok tt)
-      record-done last_store commits bytes =
+      record-done last_store commits bytes due =
           let so_far = began sid now inode end started before middle begun_by b end [] (omega arith) in
           record {
             opened_at = commits.opened_at ∙ r.looks.opened_at ∙ so_far.opened_at;
             counts = commits.calm ∙ r.looks.counts ∙ so_far.calm;
             undone = tt;
-            lands = λ known is whole told new. changed known is whole told bytes new last_store.rows
+            lands = λ known is whole told new. changed known is whole told bytes due new last_store.rows
                 (commits.rows_are ∙ ap (option_map (applied d2)) (r.looks.rows_are ∙ so_far.rows_are ∙ is));
             bad = tt;
           }

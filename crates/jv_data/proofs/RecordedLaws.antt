@@ -24,11 +24,11 @@ use Rattle.jv_contents.specs.Places.{shown, put_over}
 use Rattle.jv_contents.specs.Bytes.{Told, spot_byte, bytes_of, tree_with}
 use Rattle.jv_contents.specs.Counts.{KeepsOthers}
 use Rattle.jv_contents.proofs.ByteLaws.{byte-committed, past-put_over}
-use Rattle.jv_contents.proofs.KeepLaws.{unknown-stay, keeps-stay_then}
+use Rattle.jv_contents.proofs.KeepLaws.{unknown-stay, slice_row-stay, keeps-stay_then}
 use Rattle.jv_contents.proofs.PlaceLaws.{place_in-same}
 use Rattle.jv_data.proofs.BesideLaws.{Beside, beside-alter, beside-then, formed-beside, whole-formed}
 use Rattle.jv_data.proofs.ChangedLaws.{tree-changed}
-use Rattle.jv_data.proofs.NewRecordLaws.{recorded_rows, slice_there, slices-recorded, others-recorded, files-recorded, places-recorded, places-beside}
+use Rattle.jv_data.proofs.NewRecordLaws.{recorded_rows, slice_there, slices-recorded, others-recorded, files-recorded, places-recorded, places-beside, lives-recorded}
 use Rattle.jv_data.proofs.SizedLaws.{sized_rows, sized, formed-sized, quiet-sized, whole-sized, node-sized, content_was}
 
 -- rows of lists and slices may stand where they are put
@@ -91,6 +91,10 @@ module _ (rows : Rows) (inode window : ℕ) (low : window < 2 ^ 32) (was : NodeR
     pub others-last : KeepsOthers rec.id 1 rows last
     others-last = keeps-stay_then rec.id 1 rows middle last quiet.apart quiet.next
         (others-recorded middle inode window low rec list same_list is some small whole_middle.slices unknown_middle below_middle)
+
+  pub lives-last : (id : ℕ) (slice : SliceRow) → slice_row_at rows id ≡ Some slice → slice_row_at last id ≡ None → ⊥
+  lives-last id slice here none =
+      lives-recorded middle inode window low rec list same_list is some small id slice (slice_row-stay rows middle quiet.apart id ∙ here) none
 
   pub size-last : (slice : SliceRow) → slice_row_at last rec.id ≡ Some slice → slice.size ≡ rec.size
   size-last slice here =

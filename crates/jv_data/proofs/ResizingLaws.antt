@@ -1,6 +1,6 @@
 -- How a file gets another length: each exit, by what was read and what was changed.
-use Rattle.std.proofs.Common.{◌≡◌, ℕ, ◌<◌, arith, List, [], None, Some, Result, Ok, Err, refl, ap, ◌∙◌}
-use Rattle.std.specs.Prelude.{◌&&◌, nat_le}
+use Rattle.std.proofs.Common.{◌≡◌, ℕ, ◌<◌, arith, true, false, List, [], None, Some, Result, Ok, Err, refl, sym, ap, ◌∙◌}
+use Rattle.std.specs.Prelude.{◌&&◌, ◌||◌, ◌==◌, nat_le, IsTrue}
 use Rattle.std.proofs.lemmas.Bool.{and_parts, leb-true}
 use Rattle.jv_model.specs.declared.fault.Fault.{Fault}
 use Rattle.jv_model.specs.declared.fault.Fault.TheVariants.{NoSpace}
@@ -13,7 +13,7 @@ use Rattle.jv_model.specs.declared.row.RowKey.{RowKey}
 use Rattle.jv_model.specs.declared.setting.Setting.{Setting}
 use Rattle.jv_model.specs.FiniteMap.{get, alter}
 use Rattle.jv_model.specs.rows.RowGrammar.{is_setting, is_counters}
-use Rattle.jv_model.specs.rows.RowKeys.{RowMap}
+use Rattle.jv_model.specs.rows.RowKeys.{RowMap, row_key}
 use Rattle.jv_model.specs.rows.RowPlaces.{setting_key, counters_key, node_key}
 use Rattle.jv_model.specs.tree.Attempt.{require}
 use Rattle.jv_model.specs.tree.Tree.{Tree, Content, fits, sum_fits, space_limit}
@@ -28,8 +28,9 @@ use Rattle.jv_volume.specs.TypedRows.{Rows, typed}
 use Rattle.jv_volume.specs.Views.{row_in, setting_in, setting_at, counters_in, counters_at, node_in, node_row_at}
 use Rattle.jv_volume.specs.TreeOf.{tree_of, or_no_counters}
 use Rattle.jv_volume.specs.Slices.{next_slice}
-use Rattle.jv_volume.specs.Whole.{Whole}
-use Rattle.jv_data.specs.Resizing.{Resizes, ResizesFile, used_after, row_sized, rows_sized}
+use Rattle.jv_volume.specs.Whole.{Whole, is_of_slices}
+use Rattle.jv_volume.proofs.MapLaws.{get-alter-apart}
+use Rattle.jv_data.specs.Resizing.{Resizes, ResizesFile, AreSized, used_after, row_sized, rows_sized}
 use Rattle.jv_data.proofs.SizedLaws.{fits-sized}
 
 module _ (inode : ℕ) (was : NodeRow) (length now : ℕ) (before : Store) (there : HasNodeRow before inode was) (file : was.kind ≡ 1)
@@ -118,3 +119,18 @@ module _ (inode : ℕ) (was : NodeRow) (length now : ℕ) (before : Store) (ther
               ∙ ap (λ (rows : Rows). alter rows counters_key (cell OfCounters (Some left)))
               (one known ∙ ap (λ (rows : Rows). alter rows (node_key inode) (cell OfNode (Some new))) (ap (λ ch. drafted ch known) is_none ∙ drafted-none known))
               ∙ (λ i. alter (alter (typed known) (node_key inode) (cell OfNode (Some (new_is i)))) counters_key (cell OfCounters (Some (room.1 i))))
+
+-- setting, lists, slices and dead slices stay as they are
+pub leave-resized : (rows after : Rows) (inode : ℕ) (was : NodeRow) (length now : ℕ) → AreSized rows after inode was length now
+    → (key : RowKey) → IsTrue ((key.tab == 0) || is_of_slices key.tab) → get after key ≡ get rows key
+leave-resized rows after inode was length now z key of =
+    ap (λ (r : Rows). get r key) z.is
+    ∙ get-alter-apart row_key (alter rows (node_key inode) (Some (Ok (OfNode (row_sized was length now))))) counters_key
+    (Some (Ok (OfCounters (record z.counters { used_space = used_after z.counters was.length length })))) key (λ same. absurd (apart (ap (λ (k : RowKey). k.tab) same) of))
+    ∙ get-alter-apart row_key rows (node_key inode) (Some (Ok (OfNode (row_sized was length now)))) key (λ same. absurd (apart_two (ap (λ (k : RowKey). k.tab) same) of))
+  where
+    apart : {n : ℕ} → n ≡ 1 → IsTrue ((n == 0) || is_of_slices n) → ⊥
+    apart {n} is h = (let no : false ≡ true = ap (λ m. (m == 0) || is_of_slices m) (sym is) ∙ h in absurd (cc))
+
+    apart_two : {n : ℕ} → n ≡ 2 → IsTrue ((n == 0) || is_of_slices n) → ⊥
+    apart_two {n} is h = (let no : false ≡ true = ap (λ m. (m == 0) || is_of_slices m) (sym is) ∙ h in absurd (cc))

@@ -1,5 +1,5 @@
 -- Rows that differ in lists, slices and dead slices alone have the same tree; so have those whose counts have followed.
-use Rattle.std.proofs.Common.{◌≡◌, ℕ, ◌<◌, ◌^◌, Bool, true, false, inl, inr, List, [], ◌∷◌, Option, None, Some, Ok, option_map, refl, sym, ap, subst, ◌∙◌}
+use Rattle.std.proofs.Common.{◌≡◌, ℕ, ◌^◌, Bool, true, false, inl, inr, List, [], ◌∷◌, Option, None, Some, Ok, option_map, refl, sym, ap, subst, ◌∙◌}
 use Rattle.std.specs.Prelude.{◌==◌, ◌&&◌, ◌||◌, if◌then◌else◌}
 use Rattle.std.proofs.lemmas.Bool.{cases_lt, or_parts, eqb-true}
 use Rattle.std.proofs.lemmas.Option.{same_Some}

@@ -1,7 +1,8 @@
 -- How a truncate ends, by the model's.
-use Rattle.std.proofs.Common.{◌≡◌, ◌≢◌, ℕ, ◌+◌, ◌<◌, ◌≤◌, inl, Bool, true, false, List, [], Option, None, Some, Result, Ok, Err, refl, sym, ap, subst, ◌∙◌, arith}
-use Rattle.std.specs.Prelude.{◌==◌, ◌||◌, nat_le, is_some, IsTrue}
+use Rattle.std.proofs.Common.{◌≡◌, ℕ, ◌<◌, ◌≤◌, Bool, true, false, List, Option, None, Some, Result, Ok, Err, refl, sym, ap, subst, ◌∙◌, arith}
+use Rattle.std.specs.Prelude.{nat_le, is_some}
 use Rattle.std.specs.Option.{option_map}
+use Rattle.std.proofs.lemmas.Option.{same_Some}
 use Rattle.std.proofs.lemmas.Bool.{le-leb, lt-leb}
 use Rattle.jv_model.specs.declared.fault.Fault.{Fault}
 use Rattle.jv_model.specs.declared.fault.Fault.TheVariants.{FileTooLarge, NoSpace, Stale}
@@ -11,8 +12,8 @@ use Rattle.jv_model.specs.declared.fault.TxFault.{TxFault}
 use Rattle.jv_model.specs.declared.fault.TxFault.TheVariants.{Refused, Moved, Rows as OfRows}
 use Rattle.jv_model.specs.declared.limits.TheConstants.{FILE_END}
 use Rattle.jv_model.specs.declared.op.Reply.TheVariants.{Done}
-use Rattle.jv_model.specs.FiniteMap.{get, alter}
-use Rattle.jv_model.specs.rows.RowKeys.{RowMap, row_key}
+use Rattle.jv_model.specs.FiniteMap.{get}
+use Rattle.jv_model.specs.rows.RowKeys.{RowMap}
 use Rattle.jv_model.specs.tree.Attempt.{◌>>=◌, require, some_or}
 use Rattle.jv_model.specs.tree.Caller.{Caller, Outcome, done}
 use Rattle.jv_model.specs.tree.Changes.{resized, with_content}
@@ -20,10 +21,10 @@ use Rattle.jv_model.specs.tree.FileBytes.{truncated, truncate}
 use Rattle.jv_model.specs.tree.Tree.{Tree, Content, content_at, fits}
 use Rattle.jv_outside.specs.Store.{Store, Commits}
 use Rattle.jv_model.specs.declared.basics.Who.{Who}
-use Rattle.jv_rows.specs.Transactions.{Agrees, IsFor, Looks}
+use Rattle.jv_rows.specs.Transactions.{Agrees, IsFor}
 use Rattle.jv_rows.proofs.TransactionLaws.{Past, of_known, past-as, past-calm, past-ends, past-fails, past-looks, past-refuses, past-stops, fails-commit}
-use Rattle.jv_data.specs.Resizing.{ResizesFile, AreSized, row_sized, rows_sized, used_after}
-use Rattle.jv_data.specs.Truncating.{ListsCut, LeaveSlices, Cut, Kept, Shortens}
+use Rattle.jv_data.specs.Resizing.{ResizesFile, AreSized}
+use Rattle.jv_data.specs.Truncating.{due_after, ListsCut, LeaveSlices, Cut, Kept, Shortens}
 use Rattle.jv_data.proofs.BeginningLaws.{content_found}
 use Rattle.jv_data.proofs.CommitLaws.{looks-any}
 use Rattle.jv_outside.specs.Rows.{applied}
@@ -31,28 +32,29 @@ use Rattle.jv_rows.specs.Drafts.{drafted}
 use Rattle.jv_model.specs.declared.slice.Spot.TheVariants.{Zero}
 use Rattle.jv_contents.specs.Counts.{KeepsOthers}
 use Rattle.jv_contents.proofs.ByteLaws.{byte-grown}
-use Rattle.jv_contents.proofs.KeepLaws.{keeps-stay}
+use Rattle.jv_contents.proofs.KeepLaws.{keeps-stay, slice_row-stay}
 use Rattle.jv_contents.proofs.PlaceLaws.{place_in-same}
 use Rattle.jv_volume.proofs.QuietLaws.{quiet-lists_of}
 use Rattle.jv_volume.specs.Slices.{place_in}
 use Rattle.jv_data.proofs.BesideLaws.{beside-none}
 use Rattle.jv_data.proofs.ChangedLaws.{tree-changed}
+use Rattle.jv_data.proofs.ResizingLaws.{leave-resized}
+use Rattle.jv_data.proofs.RefusedLaws.{changes-refused}
 use Rattle.jv_data.proofs.SizedLaws.{sized_rows, quiet-sized, whole-sized}
-use Rattle.jv_data.proofs.TruncatedLaws.{whole-cut, others-cut, tree-cut_lists}
+use Rattle.jv_data.proofs.TruncatedLaws.{dies-cut, whole-cut, others-cut, tree-cut_lists}
 use Rattle.jv_model.specs.declared.fault.Down.{Down}
-use Rattle.jv_model.specs.declared.row.Row.TheVariants.{OfNode, OfCounters}
-use Rattle.jv_model.specs.declared.row.RowKey.{RowKey}
+use Rattle.jv_model.specs.declared.row.Row.TheVariants.{OfNode}
 use Rattle.jv_model.specs.rows.RowFaults.{row_fault}
-use Rattle.jv_model.specs.rows.RowPlaces.{counters_key, node_key}
+use Rattle.jv_model.specs.rows.RowPlaces.{node_key}
 use Rattle.jv_outside.specs.declared.batch.Change.{Change}
-use Rattle.jv_volume.specs.Views.{row_in, node_in, node_row_at, lists_of}
-use Rattle.jv_volume.specs.Whole.{Whole, Quiet, is_of_slices}
-use Rattle.jv_volume.proofs.MapLaws.{get-alter-apart}
+use Rattle.jv_volume.specs.Views.{row_in, node_in, node_row_at, lists_of, slice_row_at, dead_at}
+use Rattle.jv_volume.specs.Whole.{Whole, Quiet}
 use Rattle.jv_model.specs.declared.row.Node.{Node as NodeRow}
+use Rattle.jv_model.specs.declared.row.SliceRow.{SliceRow}
 use Rattle.jv_volume.specs.TreeOf.{content_of, tree_of}
 use Rattle.jv_volume.specs.TypedRows.{Rows, typed}
 use Rattle.jv_contents.specs.Bytes.{Told, spot_byte, bytes_of, tree_with}
-use Rattle.jv_data.specs.Changing.{Makes, AnyTold, Never, Changed, LandsChanged, Changes}
+use Rattle.jv_data.specs.Changing.{Makes, DieUntil, AnyTold, Never, Changed, Changes}
 use Rattle.jv_data.specs.Committing.{HasFile, length_seen}
 
 -- the model's truncate of a file that a session sees
@@ -83,35 +85,15 @@ goes false o f g n rest e = absurd (cc)
 goes true None f g n rest e = absurd (cc)
 goes true (Some content) f g n rest e = refl
 
-module _ (makes : Makes) (before after : Store) (act : Tree → Result Outcome Fault) where
-  lands_refused : (fault : TxFault) (known : RowMap) (told : Told) → Agrees {A = Outcome} (Err fault) (act (tree_with told (typed known)))
-      → LandsChanged {A = Unit {0}} makes Never known after.rows told (λ unit. Done) act (Err fault)
-  lands_refused (Refused fault) known told h = inl h
-  lands_refused (Moved list) known told h = h
-  lands_refused (OfRows (Bad at bytes)) known told h = h
-  lands_refused (OfRows Failed) known told h = tt
-  lands_refused (OfRows Memory) known told h = tt
-
-  -- one that is refused
-  pub changes-refused : (fault : TxFault) → Looks {A = Outcome} before after (Err fault) act
-      → Changes {A = Unit {0}} makes AnyTold Never before after (Err fault) (λ unit. Done) act
-  changes-refused fault l = record {
-    opened_at = l.opened_at;
-    counts = l.counts;
-    undone = l.rows_are;
-    lands = λ known is whole told ready. lands_refused fault known told (l.agrees known is whole (bytes_of told (typed known)));
-    bad = l.bad;
-  }
-
-abbrev pub makes : Makes
-makes = record { own = 0; size = 0; more = 1 }
+abbrev makes : ℕ → Makes
+makes now = record { own = 0; size = 0; more = 1; due = due_after now }
 
 module _ (sid now inode len : ℕ) where
   abbrev act : Tree → Result Outcome Fault
   act = truncating sid now inode len
 
   abbrev pub Ends : Store → Store → Result (Unit {0}) TxFault → Type 0
-  Ends before after result = Changes {A = Unit {0}} makes AnyTold Never before after result (λ unit. Done) act
+  Ends before after result = Changes {A = Unit {0}} (makes now) AnyTold Never before after result (λ unit. Done) act
 
   -- the content that the file gets
   abbrev content : Tree → Content
@@ -125,7 +107,7 @@ module _ (sid now inode len : ℕ) where
       by_content (Some old) = refl
 
   pub truncate-unread : (before after : Store) (fault : TxFault) → HasFile sid inode before after (Err fault) → Ends before after (Err fault)
-  truncate-unread before after fault h = changes-refused makes before after act fault (record {
+  truncate-unread before after fault h = changes-refused (makes now) Never (λ unit. Done) before after act fault (record {
     rows_are = h.looks.rows_are;
     opened_at = h.looks.opened_at;
     counts = h.looks.counts;
@@ -154,7 +136,7 @@ module _ (sid now inode len : ℕ) where
     }
 
     pub truncate-too_long : FILE_END < len → Ends before seen (Err (Refused FileTooLarge))
-    truncate-too_long over = changes-refused makes before seen act (Refused FileTooLarge)
+    truncate-too_long over = changes-refused (makes now) Never (λ unit. Done) before seen act (Refused FileTooLarge)
         (past-refuses before seen act FileTooLarge (past-as before seen seen act rest past_file (λ t. Err FileTooLarge)
         (λ known is whole bytes. (let t = tree_of bytes (typed known) in
         ap (λ b. require b FileTooLarge >>= (λ unit. require (fits t (truncated t now inode len)) NoSpace >>= (λ unit. done (truncated t now inode len)))) (lt-leb len FILE_END over)))))
@@ -179,7 +161,7 @@ module _ (sid now inode len : ℕ) where
           ∙ ap (λ x. require (fits t x) NoSpace >>= (λ unit. last_step t)) (same_tree t _ (content_found known inode was whole (there known is) h.file bytes))))
 
       pub truncate-no_room : (after : Store) (changes : List Change) (fault : TxFault) → ResizesFile inode was len now seen after changes (Err fault) → Ends before after (Err fault)
-      truncate-no_room after changes fault r = changes-refused makes before after act fault
+      truncate-no_room after changes fault r = changes-refused (makes now) Never (λ unit. Done) before after act fault
           (past-stops before seen after act (λ t. require (fits t (with_content t now inode (content t))) NoSpace) (λ t unit. last_step t) past_fits fault (r.looks content long))
 
       module _ (sized : Store) (d1 : List Change) (r : ResizesFile inode was len now seen sized d1 (Ok tt)) where
@@ -187,22 +169,10 @@ module _ (sid now inode len : ℕ) where
         past_sized = past-looks before seen sized act (λ t. require (fits t (with_content t now inode (content t))) NoSpace) (λ t unit. last_step t) past_fits tt (r.looks content long)
 
         pub leave-sized : LeaveSlices sized.rows d1
-        leave-sized known is key of =
-            let at_seen : seen.rows ≡ Some known = sym (r.looks content long).rows_are ∙ is in
-            let z = r.sized known at_seen in
-            ap (λ (rows : Rows). get rows key) z.is
-            ∙ get-alter-apart row_key (alter (typed known) (node_key inode) (Some (Ok (OfNode (row_sized was len now))))) counters_key
-            (Some (Ok (OfCounters (record z.counters { used_space = used_after z.counters was.length len })))) key (λ same. absurd (apart (ap (λ (k : RowKey). k.tab) same) of))
-            ∙ get-alter-apart row_key (typed known) (node_key inode) (Some (Ok (OfNode (row_sized was len now)))) key (λ same. absurd (apart_two (ap (λ (k : RowKey). k.tab) same) of))
-          where
-            apart : {n : ℕ} → n ≡ 1 → IsTrue ((n == 0) || is_of_slices n) → ⊥
-            apart {n} is h = (let no : false ≡ true = ap (λ m. (m == 0) || is_of_slices m) (sym is) ∙ h in absurd (cc))
-
-            apart_two : {n : ℕ} → n ≡ 2 → IsTrue ((n == 0) || is_of_slices n) → ⊥
-            apart_two {n} is h = (let no : false ≡ true = ap (λ m. (m == 0) || is_of_slices m) (sym is) ∙ h in absurd (cc))
+        leave-sized known is key of = leave-resized (typed known) (drafted d1 known) inode was len now (r.sized known (sym (r.looks content long).rows_are ∙ is)) key of
 
         pub truncate-unread_lists : (after : Store) (d2 : List Change) (fault : TxFault) → Shortens inode was.length len now sized after d1 d2 (Err fault) → Ends before after (Err fault)
-        truncate-unread_lists after d2 fault z = changes-refused makes before after act fault
+        truncate-unread_lists after d2 fault z = changes-refused (makes now) Never (λ unit. Done) before after act fault
             (past-ends before sized after act last_step past_sized (Err fault) (looks-any sized after fault last_step z.looks))
 
         module _ (cut : Store) (d2 : List Change) (z : Shortens inode was.length len now sized cut d1 d2 (Ok tt)) where
@@ -210,7 +180,7 @@ module _ (sid now inode len : ℕ) where
           past_cut = past-calm before sized cut act last_step past_sized z.looks.rows_are z.looks.opened_at z.looks.counts
 
           pub truncate-down : (after : Store) (down : Down) → Commits cut after (Err down) d2 → Ends before after (Err (OfRows (row_fault down)))
-          truncate-down after down commits = changes-refused makes before after act (OfRows (row_fault down))
+          truncate-down after down commits = changes-refused (makes now) Never (λ unit. Done) before after act (OfRows (row_fault down))
               (past-fails before cut after act last_step past_cut (OfRows (row_fault down)) (fails-commit cut after down d2 commits))
 
           module _ (last : Store) (commits : Commits cut last (Ok tt) d2) (known : RowMap) (is : before.rows ≡ Some known) (whole : Whole (typed known)) where
@@ -248,6 +218,14 @@ module _ (sid now inode len : ℕ) where
                 (λ c. others-cut (typed known) inode was s.counters now len whole (there known is) h.file s.there small left c s.given)
                 (λ longer. keeps-stay (typed known) sized_known quiet.apart 0 1 quiet.next)
 
+            dies_left : DieUntil (due_after now) (typed known) left
+            dies_left setting set = by_lists (λ rows. (id : ℕ) (slice : SliceRow) → slice_row_at (typed known) id ≡ Some slice → slice_row_at rows id ≡ None
+                → dead_at rows id ≡ Some (record { size = slice.size; due = due_after now setting }))
+                (λ c id slice here none. dies-cut (typed known) inode was s.counters now len whole (there known is) h.file s.there small left c id slice here none
+                ∙ ap (λ (n : ℕ). Some (record { size = slice.size; due = n })) (c.is_due.is
+                ∙ ap (due_after now) (same_Some c.is_due.setting setting (sym c.is_due.set ∙ set))))
+                (λ longer id slice here none. (let stays = slice_row-stay (typed known) sized_known quiet.apart id in absurd (cc)))
+
             tree_left : (told : Told) → tree_with told left ≡ truncated (tree_with told (typed known)) now inode len
             tree_left told = by_lists (λ rows. tree_with told rows ≡ truncated (tree_with told (typed known)) now inode len)
                 (λ c. tree-cut_lists (typed known) inode was s.counters now len whole (there known is) h.file s.there small left c told)
@@ -265,7 +243,7 @@ module _ (sid now inode len : ℕ) where
                 past_was : (p : ℕ) → was.length ≤ p → place_in (lists_of (typed known) inode) p ≡ Zero
                 past_was = whole.files.past inode was (there known is) h.file
 
-            changed : (told : Told) → Changed makes known last.rows told Done act
+            changed : (told : Told) → Changed (makes now) known last.rows told Done act
             unfolding drafted
             changed told = record {
               left = applied d2 known;
@@ -273,6 +251,7 @@ module _ (sid now inode len : ℕ) where
               whole = whole_left;
               others = others_left;
               size = λ slice here. (let none = whole_left.slices.none in absurd (cc));
+              dies = dies_left;
               model = past_cut.goes_on known is whole (bytes_of told (typed known)) ∙ ap done (sym (tree_left told));
             }
 
@@ -288,7 +267,8 @@ module _ (sid now inode len : ℕ) where
 -- the same by the caller of the model
 pub ends-as : (who : Who) (inode len now : ℕ) (before after : Store) (result : Result (Unit {0}) TxFault) → now ≡ who.now → Ends who.sid now inode len before after result
     → (caller : Caller) → IsFor who caller → caller.inode ≡ inode
-    → Changes {A = Unit {0}} makes AnyTold Never before after result (λ unit. Done) (λ t. truncate t caller len)
+    → Changes {A = Unit {0}} (makes who.now) AnyTold Never before after result (λ unit. Done) (λ t. truncate t caller len)
 ends-as who inode len now before after result now_is e caller for of =
-    subst (λ (act : Tree → Result Outcome Fault). Changes {A = Unit {0}} makes AnyTold Never before after result (λ unit. Done) act)
-    (λ i t. sym (truncate-as t caller who.sid now inode len for.sid (for.now ∙ sym now_is) of) i) e
+    subst (λ (act : Tree → Result Outcome Fault). Changes {A = Unit {0}} (makes who.now) AnyTold Never before after result (λ unit. Done) act)
+    (λ i t. sym (truncate-as t caller who.sid who.now inode len for.sid for.now of) i)
+    (subst (λ (n : ℕ). Ends who.sid n inode len before after result) now_is e)

@@ -1,9 +1,9 @@
 -- How a truncate ends: each exit of its parts, by what was read and what was changed.
 use Rattle.std.specs.Cmp.{eq_by_cmp_equiv}
-use Rattle.std.proofs.Common.{◌≡◌, ◌≢◌, ℕ, suc, ◌+◌, ◌-◌, ◌*◌, ◌/◌, ◌%◌, ◌<◌, ◌≤◌, ◌^◌, ◌⊎◌, inl, inr, Bool, true, false, cond, List, [], ◌∷◌, ◌++◌, length, take, get_or, Option, None, Some, Result, Ok, Err, refl, sym, ap, subst, ◌∙◌, arith}
+use Rattle.std.proofs.Common.{◌≡◌, ◌≢◌, ℕ, suc, ◌+◌, ◌-◌, ◌/◌, ◌%◌, ◌<◌, ◌^◌, inl, inr, Bool, true, false, cond, List, [], ◌∷◌, ◌++◌, length, take, get_or, Option, None, Some, Result, Ok, Err, refl, sym, ap, subst, ◌∙◌, arith}
 use Rattle.std.proofs.Math.Seq.{take-suc}
-use Rattle.std.specs.Prelude.{◌==◌, ◌&&◌, ◌||◌, not, if◌then◌else◌, nat_le, IsTrue, IfErr, IfSome, OnOk, IfOk}
-use Rattle.std.specs.List.{AllByRecursion, list_any}
+use Rattle.std.specs.Prelude.{◌==◌, ◌&&◌, not, nat_le, IsTrue, IfErr, IfSome}
+use Rattle.std.specs.List.{list_any}
 use Rattle.std.proofs.lemmas.Bool.{cases_eq, ltb-true, le-leb, eqb-false, ne_eqb, or_left, or_right}
 use Rattle.jv_model.specs.declared.fault.Fault.{Fault}
 use Rattle.jv_model.specs.declared.fault.RowFault.{RowFault}
@@ -16,7 +16,7 @@ use Rattle.jv_model.specs.declared.row.RowKey.{RowKey}
 use Rattle.jv_model.specs.declared.row.SliceRow.{SliceRow}
 use Rattle.jv_model.specs.declared.slice.Rec.{Rec}
 use Rattle.jv_model.specs.FiniteMap.{get, alter}
-use Rattle.jv_model.specs.rows.RowGrammar.{is_slice, slice_of, slice_bytes, list_bytes, row_bytes}
+use Rattle.jv_model.specs.rows.RowGrammar.{is_slice, slice_of, slice_bytes, list_bytes}
 use Rattle.jv_model.specs.rows.RowKeys.{RowMap, row_key}
 use Rattle.jv_model.specs.rows.RowPlaces.{list_key, slice_key}
 use Rattle.jv_outside.specs.declared.batch.Change.{Change}
@@ -28,10 +28,10 @@ use Rattle.jv_rows.specs.Readings.{ReadsRow}
 use Rattle.jv_rows.specs.Tables.{slice_row}
 use Rattle.jv_rows.specs.Transactions.{Agrees, BadFault, Looks, IsBad, Malformed, NamesNone, is_key_of}
 use Rattle.jv_rows.proofs.DraftLaws.{sees_stored}
-use Rattle.jv_rows.proofs.TransactionLaws.{Fails, FailsBy, fails-memory, if_known, of_known, past-ends, fails-looks, fails-sees, stands-sees, drafted-none}
+use Rattle.jv_rows.proofs.TransactionLaws.{FailsBy, fails-memory, if_known, of_known, past-ends, fails-looks, fails-sees, stands-sees, drafted-none}
 use Rattle.jv_volume.specs.TypedRows.{Rows, typed}
 use Rattle.jv_volume.specs.Views.{row_in, records_in, lists_of, slice_in}
-use Rattle.jv_volume.specs.Slices.{listed, records_naming, named_by, count_in}
+use Rattle.jv_volume.specs.Slices.{listed, records_naming, count_in}
 use Rattle.jv_volume.specs.Whole.{Whole}
 use Rattle.jv_volume.proofs.StoredLaws.{whole-typed}
 use Rattle.jv_contents.proofs.BehindLaws.{naming-append}
@@ -261,7 +261,7 @@ have_all : (rows : Rows) (inode : ℕ) (start : Option ℕ) (ds : List (ℕ × L
 have_all rows inode start [] f = tt
 have_all rows inode start (d ∷ ds) f = all-append (λ r. r.id ≢ 0 → HasSlice rows r.id) (records_of ds) d.1 (have_all rows inode start ds f.1) f.0.slices
 
-has_named : (rows : Rows) (id : ℕ) → id ≢ 0 → (l : List Rec) → HaveSlices rows l → 0 < records_naming id l → HasSlice rows id
+pub has_named : (rows : Rows) (id : ℕ) → id ≢ 0 → (l : List Rec) → HaveSlices rows l → 0 < records_naming id l → HasSlice rows id
 has_named rows id some [] all naming = absurd (omega (arith, naming))
 has_named rows id some (r ∷ rs) all naming = elim (cases_eq r.id id) [
   | inl same ↦ subst (HasSlice rows) same (all.0 (λ zero. some (sym same ∙ zero)))

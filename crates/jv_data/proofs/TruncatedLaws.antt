@@ -1,19 +1,19 @@
 -- A file that is cut: its lists show what the cut leaves of it, rows are whole again, and the tree is that of the model's truncate.
-use Rattle.std.proofs.Common.{◌≡◌, ◌≢◌, ℕ, ◌+◌, ◌*◌, ◌/◌, ◌%◌, ◌<◌, ◌≤◌, ◌^◌, ◌⊎◌, inl, inr, Bool, true, false, List, [], ◌∷◌, length, Option, None, Some, refl, sym, ap, subst, ◌∙◌, arith}
+use Rattle.std.proofs.Common.{◌≡◌, ◌≢◌, ℕ, ◌*◌, ◌/◌, ◌%◌, ◌<◌, ◌≤◌, ◌^◌, ◌⊎◌, inl, inr, true, false, List, [], ◌∷◌, length, Option, None, Some, refl, sym, ap, subst, ◌∙◌, arith}
 use Rattle.std.specs.Prelude.{◌==◌, ◌||◌, nat_le, nat_lt, if◌then◌else◌}
 use Rattle.std.proofs.lemmas.Bool.{cases_eq, cond-true, cond-false, eq-eqb, ne_eqb, eqb-true, leb-true, or_parts}
-use Rattle.jv_model.specs.declared.lifetimes.TheConstants.{DAY}
 use Rattle.jv_model.specs.declared.limits.TheConstants.{FILE_END, WINDOW}
 use Rattle.jv_model.specs.declared.row.Counters.{Counters}
 use Rattle.jv_model.specs.declared.row.Node.{Node as NodeRow}
 use Rattle.jv_model.specs.declared.row.RowKey.{RowKey}
+use Rattle.jv_model.specs.declared.row.SliceRow.{SliceRow}
 use Rattle.jv_model.specs.declared.slice.Rec.{Rec}
 use Rattle.jv_model.specs.FiniteMap.{get}
 use Rattle.jv_model.specs.rows.RowPlaces.{list_key}
 use Rattle.jv_model.specs.tree.FileBytes.{truncated}
 use Rattle.jv_rows.specs.Lists.{is_past, HasNoList, HaveWindows}
 use Rattle.jv_volume.specs.TypedRows.{Cell, Rows, is_key}
-use Rattle.jv_volume.specs.Views.{row_in, records_in, node_row_at, counters_at, lists_of}
+use Rattle.jv_volume.specs.Views.{row_in, records_in, node_row_at, counters_at, lists_of, slice_row_at, dead_at}
 use Rattle.jv_volume.specs.Slices.{place_in, next_slice, WholeSlices}
 use Rattle.jv_volume.specs.Whole.{Quiet, Whole, is_of_slices}
 use Rattle.jv_volume.proofs.QuietLaws.{quiet-slices, quiet-lists_of}
@@ -21,10 +21,11 @@ use Rattle.jv_contents.specs.Bytes.{Told, tree_with}
 use Rattle.jv_contents.specs.Counts.{KeepsOthers}
 use Rattle.jv_contents.specs.Places.{with_list, cut_list, cut_at}
 use Rattle.jv_contents.proofs.ByteLaws.{past-cut}
-use Rattle.jv_contents.proofs.CountLaws.{ListsMove, move-none, others-adjusted, go-adjusted}
+use Rattle.jv_contents.proofs.CountLaws.{ListsMove, move-none, others-adjusted, dead_after, go-adjusted}
+use Rattle.jv_contents.proofs.KeepLaws.{slice_row-stay}
 use Rattle.jv_contents.proofs.PlaceLaws.{place_in-same, place_in-cut}
 use Rattle.jv_contents.proofs.WholeLaws.{SlicesGo}
-use Rattle.jv_data.specs.Truncating.{rows_ended, rows_without, records_of, latest, Follow, ListsCut}
+use Rattle.jv_data.specs.Truncating.{rows_ended, rows_without, latest, Follow, ListsCut}
 use Rattle.jv_data.proofs.BesideLaws.{Beside, beside-then}
 use Rattle.jv_data.proofs.CutListsLaws.{list_ended, came, came-naming, came-few, get-ended, get-ended-file, beside-ended, lists_of-ended-file, shows-ended, move-ended, cut-is, adjusted-came}
 use Rattle.jv_data.proofs.DroppedLaws.{get-without, get-without-file, beside-without, lists_of-without-file, move-without, shows-without}
@@ -141,6 +142,13 @@ module _ (rows : Rows) (inode : ℕ) (was : NodeRow) (c : Counters) (now len : �
   go : SlicesGo 1 middle last
   go = go-adjusted 1 middle cut.without last cut.gone (came pos inner) _ slices_middle move
       (adjusted-came cut.gone (came pos inner) _ cut.without last (came-naming pos inner) cut.adjusted) (let few = came-few pos inner in omega (arith, few))
+
+  -- a slice whose row has gone is dead until it is due
+  pub dies-cut : (id : ℕ) (slice : SliceRow) → slice_row_at rows id ≡ Some slice → slice_row_at last id ≡ None
+      → dead_at last id ≡ Some (record { size = slice.size; due = cut.due })
+  dies-cut id slice here none = dead_after 1 middle cut.without last cut.gone (came pos inner) _ slices_middle move
+      (adjusted-came cut.gone (came pos inner) _ cut.without last (came-naming pos inner) cut.adjusted) (let few = came-few pos inner in omega (arith, few))
+      id slice (slice_row-stay rows middle quiet.apart id ∙ here) none
 
   -- ---- all rows
 

@@ -1,5 +1,5 @@
 -- What a transaction on the bytes of files does, by the tree that the rows have with the bytes that are told of slices.
-use Rattle.std.specs.Prelude.{◌≡◌, ◌⊎◌, ℕ, ◌+◌, ◌<◌, Option, Some, Result, Ok, Err, IfErr, IfSome, OnErr}
+use Rattle.std.specs.Prelude.{◌≡◌, ◌⊎◌, ℕ, ◌+◌, ◌<◌, Option, None, Some, Result, Ok, Err, IfErr, IfSome, OnErr}
 use Rattle.jv_model.specs.declared.fault.Fault.{Fault}
 use Rattle.jv_model.specs.declared.fault.Fault.TheVariants.{NoSpace}
 use Rattle.jv_model.specs.declared.fault.RowFault.TheVariants.{Bad, Failed, Memory}
@@ -8,30 +8,40 @@ use Rattle.jv_model.specs.declared.fault.TxFault.TheVariants.{Refused, Moved, Ro
 use Rattle.jv_model.specs.declared.limits.TheConstants.{FULL_COUNT}
 use Rattle.jv_model.specs.declared.op.Reply.{Reply}
 use Rattle.jv_model.specs.declared.row.SliceRow.{SliceRow}
+use Rattle.jv_model.specs.declared.setting.Setting.{Setting}
 use Rattle.jv_model.specs.rows.RowKeys.{RowMap}
 use Rattle.jv_model.specs.tree.Tree.{Tree}
 use Rattle.jv_model.specs.tree.Caller.{Outcome}
 use Rattle.jv_outside.specs.Store.{Store}
 use Rattle.jv_rows.specs.Transactions.{TransactionCounts, BadFault}
 use Rattle.jv_volume.specs.TypedRows.{Rows, typed}
-use Rattle.jv_volume.specs.Views.{slice_row_at}
+use Rattle.jv_volume.specs.Views.{setting_at, slice_row_at, dead_at}
 use Rattle.jv_volume.specs.Whole.{Whole}
 use Rattle.jv_contents.specs.Bytes.{Told, tree_with}
 use Rattle.jv_contents.specs.Counts.{KeepsOthers, record_count}
 
--- the slice that a transaction makes, if it makes one, and how many records it adds at most
+-- the slice that a transaction makes, if it makes one; how many records it adds at most; and when a slice may go that nothing names any
+-- more, by the volume's setting
 pub record Makes : Type 0 where
   pub own : ℕ  -- 0 where it makes none
   pub size : ℕ
   pub more : ℕ
+  pub due : Setting → ℕ
 
--- A transaction that was made: the rows left are whole, their tree is the model's after it, and other slices are kept.
+-- each slice that had a row, and has none any more, is dead, with its size, until it may go
+abbrev pub DieUntil : (Setting → ℕ) → Rows → Rows → Type 0
+DieUntil due rows after = (setting : Setting) → setting_at rows ≡ Some setting → (id : ℕ) (slice : SliceRow) → slice_row_at rows id ≡ Some slice
+    → slice_row_at after id ≡ None → dead_at after id ≡ Some (record { size = slice.size; due = due setting })
+
+-- A transaction that was made: the rows left are whole, their tree is the model's after it, other slices are kept, and those that nothing
+-- names any more are dead.
 pub record Changed (makes : Makes) (known : RowMap) (after : Option RowMap) (told : Told) (reply : Reply) (act : Tree → Result Outcome Fault) : Type 0 where
   pub left : RowMap
   pub is : after ≡ Some left
   pub whole : Whole (typed left)
   pub others : KeepsOthers makes.own makes.more (typed known) (typed left)
   pub size : (slice : SliceRow) → slice_row_at (typed left) makes.own ≡ Some slice → slice.size ≡ makes.size
+  pub dies : DieUntil makes.due (typed known) (typed left)
   pub model : act (tree_with told (typed known)) ≡ Ok (record { tree = tree_with told (typed left); reply = reply })
 
 -- a slice can't be named more often, which the tree doesn't see

@@ -4,3 +4,4 @@ pub mod Committing
 pub mod Changing
 pub mod Records
 pub mod Truncating
+pub mod Copying

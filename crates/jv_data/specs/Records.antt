@@ -10,6 +10,7 @@ use Rattle.jv_model.specs.declared.fault.RowFault.TheVariants.{Bad, Failed, Memo
 use Rattle.jv_model.specs.declared.limits.TheConstants.{FULL_COUNT, WINDOW}
 use Rattle.jv_model.specs.declared.op.Reply.TheVariants.{Done}
 use Rattle.jv_model.specs.declared.row.RowKey.{RowKey}
+use Rattle.jv_model.specs.declared.setting.Setting.{Setting}
 use Rattle.jv_model.specs.declared.slice.Rec.{Rec}
 use Rattle.jv_model.specs.FiniteMap.{get}
 use Rattle.jv_model.specs.blocks.Slices.{IsRecord}
@@ -103,8 +104,8 @@ committing sid inode from bytes started now t = do
   after ← commit_of sid inode from bytes started now t
   done after
 
--- a commit of a record of a new slice to a window of a file
+-- a commit of a record of a new slice to a window of a file, by which no slice dies: each that did would be due at any moment
 abbrev pub CommitsRecord : (sid now inode window : ℕ) → Rec → (started : ℕ) → Store → Store → Result (Unit {0}) TxFault → Type 0
-CommitsRecord sid now inode window rec started before after result = (bytes : List ℕ)
-    → Changes (record { own = rec.id; size = rec.size; more = 1 }) (IsNew rec bytes) Never before after result (λ unit. Done)
+CommitsRecord sid now inode window rec started before after result = (bytes : List ℕ) (due : Setting → ℕ)
+    → Changes (record { own = rec.id; size = rec.size; more = 1; due = due }) (IsNew rec bytes) Never before after result (λ unit. Done)
     (committing sid inode (window * WINDOW + rec.pos) bytes started now)

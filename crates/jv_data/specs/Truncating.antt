@@ -1,5 +1,5 @@
 -- What a truncate does to a file's lists: the one that its length lies inside of reads zero from there on, and those behind it are dropped.
-use Rattle.std.specs.Prelude.{◌≡◌, ◌≢◌, ℕ, ◌+◌, ◌*◌, ◌/◌, ◌%◌, ◌<◌, ◌≤◌, ◌^◌, true, ◌==◌, ◌||◌, nat_le, nat_lt, if◌then◌else◌, List, [], ◌∷◌, ◌++◌, Option, None, Some, Result, Ok, Err, IfOk, OnOk, IsTrue}
+use Rattle.std.specs.Prelude.{◌≡◌, ◌≢◌, ℕ, ◌+◌, ◌*◌, ◌/◌, ◌%◌, ◌<◌, ◌≤◌, ◌^◌, true, ◌==◌, ◌||◌, nat_le, if◌then◌else◌, List, [], ◌∷◌, ◌++◌, Option, None, Some, Result, Ok, Err, IfOk, OnOk, IsTrue}
 use Rattle.std.specs.List.{AllByRecursion}
 use Rattle.jv_model.specs.declared.fault.TxFault.{TxFault}
 use Rattle.jv_model.specs.declared.lifetimes.TheConstants.{DAY}
@@ -84,11 +84,15 @@ pub record Dropped (inode : ℕ) (last : Option ℕ) (rows middle after : Rows) 
 abbrev pub IsLastBefore : ℕ → Option ℕ → Type 0
 IsLastBefore len last = (window : ℕ) → is_past last window ≡ nat_le len (window * WINDOW)
 
--- a moment and the days that the setting has for the trash
+-- when a slice may go that died at a moment: as many days later as the trash has
+abbrev pub due_after : ℕ → Setting → ℕ
+due_after now setting = now + setting.trash_days * DAY
+
+-- that moment by the setting of rows
 pub record IsDue (now : ℕ) (rows : Rows) (due : ℕ) : Type 0 where
   pub setting : Setting
   pub set : setting_at rows ≡ Some setting
-  pub is : due ≡ now + setting.trash_days * DAY
+  pub is : due ≡ due_after now setting
 
 -- The lists of a file are cut to a length, and counts of slices have followed: those that nothing names any more are dead, due the
 -- trash's days after a moment.

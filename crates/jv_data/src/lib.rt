@@ -4,12 +4,14 @@
 #![tactic(auto)]
 
 mod committing;
+mod copying;
 mod looking;
 mod numbering;
 mod resizing;
 mod truncating;
 
 pub use committing::{commit, commit_length};
+pub use copying::copy_range;
 pub use looking::{View, look, look_at};
 pub use numbering::next_id;
 pub use truncating::truncate;

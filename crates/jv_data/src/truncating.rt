@@ -1,6 +1,6 @@
 //! Truncates of files.
 ghost use Rattle.std.specs.Prelude.{◌≡◌, ◌<◌, ◌≤◌};
-ghost use Rattle.jv_data.specs.Truncating.{IsLastBefore, LeaveSlices, TellsDue, EndsList, ChecksSlice, ChecksSlices, DropsLists, CutsLists, Shortens};
+ghost use Rattle.jv_data.specs.Truncating.{due_after, IsLastBefore, LeaveSlices, TellsDue, EndsList, ChecksSlice, ChecksSlices, DropsLists, CutsLists, Shortens};
 ghost use Rattle.jv_data.specs.Changing.{Changes, AnyTold, Never};
 ghost use Rattle.jv_model.specs.declared.limits.TheConstants.{FILE_END, LAST_MOMENT};
 ghost use Rattle.jv_model.specs.declared.op.Reply.TheVariants.{Done};
@@ -34,7 +34,7 @@ pub fn truncate<K: Keeper>(
     len: u64,
 ) -> Result<(), TxFault>
     ensures { (caller : Caller) → IsFor who.entry.now caller → caller.inode ≡ inode
-        → Changes (record { own = 0; size = 0; more = 1 }) AnyTold Never (K.seen k.old) (K.seen k.new)
+        → Changes (record { own = 0; size = 0; more = 1; due = due_after who.entry.now.now }) AnyTold Never (K.seen k.old) (K.seen k.new)
         result (λ unit. Done) (λ t. model.truncate t caller len) }
 {
     let now = who.now.seconds();
@@ -165,7 +165,7 @@ fn drop_lists<K: Keeper>(
 }
 
 /// Fails with Bad where a list names a slice that has no row.
-fn check_slices<K: Keeper>(
+pub(crate) fn check_slices<K: Keeper>(
     alloc: Global,
     k: &mut K,
     inode: u64,

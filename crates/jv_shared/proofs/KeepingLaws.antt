@@ -31,7 +31,7 @@ use Rattle.jv_shared.specs.Keeping.{Keeps, KeepsShared, Leads}
 pub keeps-none : (own : ℕ) (rows : Rows) (g : Known) (present : Blocks) → Keeps own rows rows g g present present
 keeps-none own rows g present = record {
   learns = record { blocks = grows-none g.blocks; only = λ b bytes apart there. there; sizes = λ id low. refl };
-  numbers = record { next = omega arith; unknown = λ id apart u. u };
+  numbers = record { next = omega arith; unknown = λ id some apart u. u };
   blocks = record { grows = grows-none present; only = λ b bytes apart there. there };
 }
 
@@ -46,7 +46,7 @@ keeps-then own rows rows' rows'' g g' g'' present present' present'' k l = recor
   };
   numbers = record {
     next = (let first = k.numbers.next in let second = l.numbers.next in omega (arith, first, second));
-    unknown = λ id apart u. l.numbers.unknown id apart (k.numbers.unknown id apart u);
+    unknown = λ id some apart u. l.numbers.unknown id some apart (k.numbers.unknown id some apart u);
   };
   blocks = record {
     grows = grows-then present present' present'' k.blocks.grows l.blocks.grows;
@@ -116,7 +116,7 @@ module _ (own : ℕ) (rows rows' : Rows) (g g' : Known) (present present' : Bloc
       low = (let was = flying.ever.below in let more = k.numbers.next in omega (arith, was, more))
 
       unknown : IsUnknown rows' f.id
-      unknown = k.numbers.unknown f.id apart flying.ever.unknown
+      unknown = k.numbers.unknown f.id flying.ever.some apart flying.ever.unknown
 
 -- ---- what clients share
 

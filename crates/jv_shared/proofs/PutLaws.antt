@@ -125,7 +125,7 @@ module _ (t : Tree) (g : Known) (v : Shared) (s : HasStore t g v) (f : Flight) (
             (subst (λ (blocks : Blocks). Keeps f.id (rows_in v) (rows_in v) g learned present blocks) (sym (ap (depot_blocks v.yard.setting) content))
             (record {
               learns = record { blocks = ever_grows; only = put_own g.blocks learned.blocks ever_put; sizes = λ id low. refl };
-              numbers = record { next = omega arith; unknown = λ id apart u. u };
+              numbers = record { next = omega arith; unknown = λ id some apart u. u };
               blocks = record { grows = present_grows; only = put_own present present' present_put };
             }));
       }

@@ -139,7 +139,7 @@ module _ (t : Tree) (g : Known) (v : Shared) (s : HasStore t g v) where
     kept = keeps_left keeper carrier left g.sizes own is
         (record {
           next = (let same = quiet.next in omega (arith, same));
-          unknown = λ id apart u. unknown-stay (typed s.rows) (typed left) quiet.apart id u;
+          unknown = λ id some apart u. unknown-stay (typed s.rows) (typed left) quiet.apart id u;
         })
         (λ id low. refl);
   }
@@ -203,7 +203,7 @@ module _ (t : Tree) (g : Known) (v : Shared) (s : HasStore t g v) where
       kept = keeps_left keeper carrier left (with_size id size g).sizes own is
           (record {
             next = omega (arith, given, next);
-            unknown = λ other apart u. unknown-stay (typed s.rows) (typed left) numbered_stay other u;
+            unknown = λ other some apart u. unknown-stay (typed s.rows) (typed left) numbered_stay other u;
           })
           (λ other low. numbered_size size other (λ new. absurd (omega (arith, new, low, given))));
     }

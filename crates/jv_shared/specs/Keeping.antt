@@ -17,7 +17,7 @@ pub record Learns (own next : ℕ) (before after : Known) : Type 0 where
 -- Numbers aren't given twice, and a slice that no row names is named by the step's own transaction alone.
 pub record KeepsNumbers (own : ℕ) (rows after : Rows) : Type 0 where
   pub next : next_slice rows ≤ next_slice after
-  pub unknown : (id : ℕ) → id ≢ own → IsUnknown rows id → IsUnknown after id
+  pub unknown : (id : ℕ) → 0 < id → id ≢ own → IsUnknown rows id → IsUnknown after id
 
 -- The depot keeps its blocks, and gets none but of the step's own slice.
 pub record KeepsBlocks (own : ℕ) (before after : Blocks) : Type 0 where

@@ -18,6 +18,17 @@ fn whole(pos: u32, id: u64, len: u32) -> Rec {
     }
 }
 
+/// A record that shows a part of a slice of 1,000 bytes.
+fn part(pos: u32, id: u64, off: u32, len: u32) -> Rec {
+    Rec {
+        pos,
+        id,
+        size: 1_000,
+        off,
+        len,
+    }
+}
+
 /// A record that reads zero.
 fn zeros(pos: u32, len: u32) -> Rec {
     Rec {
@@ -126,4 +137,44 @@ fn a_truncate_ends_lists(rt: HostRuntime) -> Result<(), Fail> {
     let too_large = TxFault::Refused(Fault::FileTooLarge);
     assert_eq!(rt; volume.truncate(2, 1_099_511_627_777), Err(too_large));
     Ok(())
+}
+
+#[test]
+fn a_copy_goes_over_the_border_of_a_window(rt: HostRuntime) -> Result<(), Fail> {
+    let mut volume = two_files(&rt)?;
+    let border = u64::from(WINDOW);
+    assert_eq!(rt; volume.copy((2, border - 5), (3, border - 8), 15), Ok(15));
+    let before = [zeros(WINDOW - 8, 5), part(WINDOW - 3, 2, 0, 3)];
+    shows(&mut volume, (3, 0), border + 7, &before)?;
+    shows(&mut volume, (3, 1), border + 7, &[part(0, 2, 3, 7)])?;
+    let counted = SliceRow {
+        size: 1_000,
+        count: 3,
+    };
+    assert_eq!(rt; volume.slice(2)?, Some(counted));
+    assert_eq!(rt; volume.copy((2, border + 998), (3, border), 100), Ok(2));
+    let after = [part(0, 2, 3, 7), part(0, 2, 998, 2)];
+    shows(&mut volume, (3, 1), border + 7, &after)
+}
+
+#[test]
+fn a_copy_is_refused(rt: HostRuntime) -> Result<(), Fail> {
+    let mut volume = two_files(&rt)?;
+    let end = 1_099_511_627_776;
+    let invalid = TxFault::Refused(Fault::Invalid);
+    assert_eq!(rt; volume.copy((2, 10), (2, 109), 100), Err(invalid));
+    let too_large = TxFault::Refused(Fault::FileTooLarge);
+    assert_eq!(rt; volume.copy((2, 0), (3, end), 1), Err(too_large));
+    let gone = TxFault::Refused(Fault::Stale(Gone::Node(9)));
+    assert_eq!(rt; volume.copy((2, 0), (9, 0), 1), Err(gone));
+    assert_eq!(rt; volume.copy((3, 0), (2, end), 1), Ok(0));
+    assert_eq!(rt; volume.copy((2, 10), (2, 110), 100), Ok(100));
+    let both = [
+        whole(10, 1, 100),
+        Rec {
+            pos: 110,
+            ..whole(10, 1, 100)
+        },
+    ];
+    shows(&mut volume, (2, 0), u64::from(WINDOW) + 1_000, &both)
 }

@@ -1,5 +1,5 @@
 //! A volume in memory, whose operations are lines of a script.
-use jv_data::{View, commit, commit_length, look, look_at, next_id, truncate};
+use jv_data::{View, commit, commit_length, copy_range, look, look_at, next_id, truncate};
 use jv_live::mount;
 use jv_metadata::{is_metadata, is_spelled, transact};
 use jv_model::{
@@ -136,6 +136,17 @@ impl Volume {
 
     pub(crate) fn truncate(&mut self, inode: u64, len: u64) -> Result<(), TxFault> {
         truncate(self.alloc, &mut self.keeper, &self.who, inode, len)
+    }
+
+    /// Copies bytes of a file from a position on, to a position of a file.
+    pub(crate) fn copy(
+        &mut self,
+        (src, from): (u64, u64),
+        (dst, to): (u64, u64),
+        len: u64,
+    ) -> Result<u64, TxFault> {
+        let (alloc, k, who) = (self.alloc, &mut self.keeper, &self.who);
+        copy_range(alloc, k, who, src, from, dst, to, len)
     }
 
     /// What a look at a window sees.

@@ -1,6 +1,5 @@
-use Rattle.std.proofs.Common.{◌≡◌, ◌<◌, ◌++◌, ℕ, List, Option, Some, None, Ok, Err, refl, sym, ap, subst, ◌∙◌}
+use Rattle.std.proofs.Common.{◌++◌, ℕ, List, Option, Some, Ok, ap, subst, ◌∙◌}
 use Rattle.std.proofs.lemmas.Result.{err_from_is_err_and}
-use Rattle.jv_model.specs.declared.fault.RowFault.TheVariants.{Memory}
 use Rattle.jv_model.specs.declared.slice.Rec.{Rec}
 use Rattle.jv_rows.specs.Lists.{FindsList}
 use Rattle.jv_data.proofs.TruncateLaws.{dropping-none, dropping-unread, dropping-ends, dropping-fails, dropping-memory, dropping-more, fewer-left}

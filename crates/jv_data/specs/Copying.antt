@@ -1,0 +1,86 @@
+-- What a copy between files does: to lists of the target come records that show what the source shows.
+use Rattle.std.specs.Prelude.{◌≡◌, ℕ, ◌+◌, ◌-◌, ◌/◌, ◌%◌, ◌<◌, min, List, [], ◌∷◌, ◌++◌, length, Some, Result, Ok, IfOk}
+use Rattle.std.specs.List.{AllByRecursion}
+use Rattle.jv_model.specs.declared.fault.TxFault.{TxFault}
+use Rattle.jv_model.specs.declared.limits.TheConstants.{WINDOW}
+use Rattle.jv_model.specs.declared.row.Row.TheVariants.{OfList}
+use Rattle.jv_model.specs.declared.slice.Piece.{Piece}
+use Rattle.jv_model.specs.declared.slice.Rec.{Rec}
+use Rattle.jv_model.specs.FiniteMap.{alter}
+use Rattle.jv_model.specs.blocks.Slices.{IsRecord}
+use Rattle.jv_model.specs.rows.RowKeys.{RowMap}
+use Rattle.jv_model.specs.rows.RowPlaces.{list_key}
+use Rattle.jv_outside.specs.declared.batch.Change.{Change}
+use Rattle.jv_outside.specs.Store.{Store}
+use Rattle.jv_rows.specs.Drafts.{drafted}
+use Rattle.jv_rows.specs.Transactions.{Looks}
+use Rattle.jv_volume.specs.TypedRows.{Rows, typed}
+use Rattle.jv_volume.specs.Views.{lists_of}
+use Rattle.jv_volume.specs.Slices.{place_in}
+use Rattle.jv_contents.specs.Fills.{Fills}
+use Rattle.jv_data.specs.declared.copying.Course.{Course}
+use Rattle.jv_data.specs.Truncating.{HaveSlices, no_answer, records_of}
+
+-- the lengths of pieces together
+abbrev pub pieces_len : List Piece → ℕ
+pieces_len [] = 0
+pieces_len (piece ∷ pieces) = piece.len + pieces_len pieces
+
+-- records of slices with rows that show, from a position of a window on, a range of a file
+pub record IsShown (rows : Rows) (inode from pos len : ℕ) (shown : List Rec) : Type 0 where
+  pub fills : Fills (λ q. place_in (lists_of rows inode) (from + (q - pos))) pos (pos + len) shown
+  pub slices : HaveSlices rows shown
+
+-- A reading of a range of a file, as records at a position of a window that show it.
+pub record ShowsRange (inode from pos len : ℕ) (before after : Store) (result : Result (List Rec) TxFault) : Type 0 where
+  pub looks : Looks before after (no_answer result) (λ t. Ok tt)
+  pub records : IfOk result (AllByRecursion IsRecord)
+  pub some : IfOk result (λ shown. 0 < len → 0 < length shown)
+  pub shows : IfOk result (λ shown. (known : RowMap) → before.rows ≡ Some known → IsShown (typed known) inode from pos len shown)
+
+-- ---- parts of a copy, each in one window of the target
+
+-- how many bytes the part has that begins when so many are done: as far as the window goes
+abbrev pub part_len : Course → ℕ → ℕ
+part_len c done = min (c.len - done) (WINDOW - (c.to + done) % WINDOW)
+
+abbrev pub window_at : Course → ℕ → ℕ
+window_at c done = (c.to + done) / WINDOW
+
+-- records that show the source there
+abbrev pub ShowPart : Rows → Course → ℕ → List Rec → Type 0
+ShowPart rows c done shown = IsShown rows c.source (c.from + done) ((c.to + done) % WINDOW) (part_len c done) shown
+
+-- the list of the target's window with records added
+abbrev pub rows_added : Rows → Course → ℕ → List Rec → Rows → Rows
+rows_added rows c done shown middle =
+    alter middle (list_key c.target (window_at c done)) (Some (Ok (OfList (lists_of rows c.target (window_at c done) ++ shown))))
+
+-- The changes add a part to a window's list; the answer is its records.
+pub record CopiesPart (c : Course) (done : ℕ) (before after : Store) (changes changed : List Change) (result : Result (List Rec) TxFault) : Type 0 where
+  pub looks : Looks before after (no_answer result) (λ t. Ok tt)
+  pub shows : IfOk result (λ shown. (known : RowMap) → before.rows ≡ Some known → ShowPart (typed known) c done shown)
+  pub added : IfOk result (λ shown. (known : RowMap) → before.rows ≡ Some known
+      → drafted changed known ≡ rows_added (typed known) c done shown (drafted changes known))
+
+-- parts that follow one another until so many bytes are done, the latest first, each with how many were done before
+abbrev pub AreParts : Rows → Course → List (ℕ × List Rec) → ℕ → Type 0
+AreParts rows c [] done = done ≡ 0
+AreParts rows c (part ∷ parts) done = (part.0 < c.len) × (done ≡ part.0 + part_len c part.0) × ShowPart rows c part.0 part.1 × AreParts rows c parts part.0
+
+abbrev pub rows_copied : Rows → Course → List (ℕ × List Rec) → Rows → Rows
+rows_copied rows c [] middle = middle
+rows_copied rows c (part ∷ parts) middle = rows_added rows c part.0 part.1 (rows_copied rows c parts middle)
+
+-- so many bytes of a copy are done, by records that came to lists of the target
+pub record Copying (c : Course) (done : ℕ) (rows middle after : Rows) (added : List Rec) : Type 0 where
+  pub parts : List (ℕ × List Rec)
+  pub follow : AreParts rows c parts done
+  pub added_is : added ≡ records_of parts
+  pub is : after ≡ rows_copied rows c parts middle
+
+-- The changes add all parts; the answer is their records.
+pub record CopiesLists (c : Course) (before after : Store) (changes changed : List Change) (result : Result (List Rec) TxFault) : Type 0 where
+  pub looks : Looks before after (no_answer result) (λ t. Ok tt)
+  pub copied : IfOk result (λ added. (known : RowMap) → before.rows ≡ Some known
+      → Copying c c.len (typed known) (drafted changes known) (drafted changed known) added)
