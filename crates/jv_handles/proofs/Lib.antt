@@ -1,1 +1,3 @@
--- Lemmas.
+-- Laws about open files and what they saw.
+pub mod TableLaws
+pub mod OpenLaws

@@ -6,6 +6,7 @@ use Rattle.jv_shared.specs.Shared.{Known, Shared}
 use Rattle.jv_shared.specs.Seen.{IsView}
 use Rattle.jv_handles.specs.declared.handle.Handle.{Handle}
 use Rattle.jv_handles.specs.declared.views.View.{View}
+use Rattle.jv_handles.specs.Views.{view_at}
 
 abbrev pub SamePlace : {X Y : Type 0} → (X → Y → Type 0) → Option X → Option Y → Type 0
 SamePlace P None None = Unit {0}
@@ -30,7 +31,7 @@ pub record IsHandle (g : Known) (v : Shared) (views : List ModelView) (count : �
   pub inode : file.inode ≡ handle.inode
   pub opened : file.opened ≡ handle.opened
   pub before : file.opened ≤ count
-  pub seen : (window : ℕ) → SamePlace (IsSeen g v window) (fresh_view views number file window) (handle.views.at window)
+  pub seen : (window : ℕ) → SamePlace (IsSeen g v window) (fresh_view views number file window) (view_at handle.views window)
 
 -- all of a client's open files
 abbrev pub AreHandles : Known → Shared → List ModelView → ℕ → List (Option OpenFile) → List (Option Handle) → Type 0

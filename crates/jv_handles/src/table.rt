@@ -1,10 +1,9 @@
 //! The table of a client's open files: the handle numbered `h` stands at index `h - 1`.
 ghost use Rattle.std.specs.Prelude.{◌≡◌, ◌+◌, ◌-◌, ◌<◌, ◌≤◌, ◌^◌, ◌==◌, ◌&&◌, not, None, Some, IsSome, IfOk, OnOk, OnErr, is_some, [], ◌∷◌, length, map, vec_len, vec_capacity};
 ghost use Rattle.std.specs.Option.{option_copied};
-ghost use Rattle.std.specs.List.{AllByRecursion};
-ghost use Rattle.jv_model.specs.blocks.Slices.{IsRecord};
 ghost use Rattle.jv_model.specs.client.ModelClient.{file_of, free_handle, is_among, open_count, with_file};
 ghost use Rattle.jv_handles.specs.Handles.{held_here, inode_here, seen_by, unseen};
+ghost use Rattle.jv_handles.specs.Views.{HasRecords};
 
 use crate::handle::Handle;
 use crate::views::View;
@@ -131,8 +130,8 @@ pub fn set_view(
     window: u32,
     view: View,
 ) -> Result<(), AllocError>
-    requires open { IsSome (file_of handles.old handle) }
-    requires records { AllByRecursion IsRecord view.list }
+    requires there { IsSome (file_of handles.old handle) }
+    requires records { HasRecords view }
     ensures set { OnOk result (handles.new
         ≡ with_file handle (seen_by window view (file_of handles.old handle)) handles.old) }
     ensures err { OnErr result (handles.new ≡ handles.old) }

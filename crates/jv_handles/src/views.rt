@@ -22,21 +22,19 @@ pub struct Views {
 }
 
 impl Model for Views {
-    ghost use Rattle.jv_handles.specs.Views.{SeenViews, view_in, AreRecords};
+    ghost use Rattle.jv_handles.specs.Views.{SeenViews, AreRecords};
 
     ghost Value = { SeenViews };
 
-    ghost view = { λ v. record { at = view_in v.by_window.entries } };
+    ghost view = { λ v. record { entries = v.by_window.entries } };
 
     ghost invariant = { λ v. AreRecords v.by_window.entries };
 }
 
 impl Views {
-    ghost use Rattle.std.specs.Prelude.{◌≡◌, None, Some, OnOk, OnErr};
+    ghost use Rattle.std.specs.Prelude.{◌≡◌, IfSome, OnOk, OnErr};
     ghost use Rattle.std.specs.Option.{option_copied};
-    ghost use Rattle.std.specs.List.{AllByRecursion};
-    ghost use Rattle.jv_model.specs.blocks.Slices.{IsRecord};
-    ghost use Rattle.jv_handles.specs.Views.{no_views, with_view};
+    ghost use Rattle.jv_handles.specs.Views.{HasRecords, no_views, view_at, with_view};
 
     /// No views. Takes no memory.
     pub fn new(alloc: Global) -> Views
@@ -49,14 +47,15 @@ impl Views {
 
     /// The view of a window, if there is one. Takes time that is logarithmic in the number of windows seen.
     pub fn at(&self, window: u32) -> Option<&View>
-        ensures { option_copied result ≡ self.now.at window }
+        ensures view { option_copied result ≡ view_at self.now window }
+        ensures records { IfSome (option_copied result) HasRecords }
     {
         self.by_window.get(&window)
     }
 
     /// Keeps the view of a window, in place of the one before. On error nothing has changed.
     pub fn set(&mut self, window: u32, view: View) -> Result<(), AllocError>
-        requires { AllByRecursion IsRecord view.list }
+        requires { HasRecords view }
         ensures set { OnOk result (self.new ≡ with_view window view self.old) }
         ensures err { OnErr result (self.new ≡ self.old) }
     {
