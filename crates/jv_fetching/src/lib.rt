@@ -2,9 +2,11 @@
 //! at a time. It asks no device.
 #![tactic(auto)]
 
+mod begun;
 mod fetch;
 mod laws;
 mod need;
+mod spans;
 
 pub use fetch::Fetch;
 pub use laws::{fetches_go_on, fetches_show};
