@@ -1,7 +1,7 @@
 -- Whether a file is open by another handle than one, place by place.
-use Rattle.std.proofs.Common.{◌≡◌, ℕ, zero, suc, ◌+◌, ◌-◌, ◌≤◌, ◌<◌, Bool, true, false, ◌&&◌, ◌||◌, not, inl, inr, List, [], ◌∷◌, ◌++◌, length, drop, get_or, slice_set, Option, None, Some, refl, sym, ap, ◌∙◌, arith, add-one, drop-cons}
+use Rattle.std.proofs.Common.{◌≡◌, ℕ, zero, suc, ◌+◌, ◌-◌, ◌≤◌, ◌<◌, Bool, true, false, ◌&&◌, ◌||◌, not, List, [], ◌∷◌, ◌++◌, length, drop, get_or, slice_set, Option, None, Some, refl, sym, ap, ◌∙◌, arith, add-one, drop-cons}
 use Rattle.std.specs.Prelude.{◌==◌, nat_le, if◌then◌else◌}
-use Rattle.std.proofs.lemmas.List.{drop_all}
+use Rattle.std.proofs.lemmas.List.{drop_all, get_or_default}
 use Rattle.std.proofs.lemmas.Bool.{eq-eqb, ne_eqb, leb-false}
 use Rattle.jv_model.specs.client.ModelClient.{is_among, with_file}
 use Rattle.jv_handles.specs.declared.handle.Handle.{Handle}
@@ -73,26 +73,29 @@ on_other-same : (handle inode : ℕ) (xs : List (Option Handle))
 on_other-same handle inode xs =
     up_to_it (handle - 1) inode 0 (handle - 1) xs (omega arith) ∙ ap (is_among inode) (sym (held-without handle xs))
 
--- while the places so far are looked at: none of them is on the inode but the handle's own
+-- What stands at a place, which is looked at after those before it: none of them is on the inode but the handle's own.
 module _ (handle inode place n : ℕ) (xs : List (Option Handle)) where
   abbrev pub NoneSoFar : Type 0
   NoneSoFar = is_on_other place inode n (drop n xs) ≡ is_on_other place inode 0 xs
-
-  abbrev here : Bool
-  here = not (n == place) && is_on inode (get_or xs n None)
-
-  pub found_other : place ≡ handle - 1 → n < length xs → here ≡ true → NoneSoFar
-      → true ≡ is_among inode (held_here (with_file handle None xs))
-  found_other e inside found none =
-      ap (λ b. b || is_on_other place inode (n + 1) (drop (n + 1) xs)) (sym found) ∙ sym (on_other-next place inode n xs inside) ∙ none
-      ∙ ap (λ p. is_on_other p inode 0 xs) e ∙ on_other-same handle inode xs
 
   pub none_other : place ≡ handle - 1 → length xs ≤ n → NoneSoFar → false ≡ is_among inode (held_here (with_file handle None xs))
   none_other e past none =
       ap (is_on_other place inode n) (sym (drop_all n xs past)) ∙ none ∙ ap (λ p. is_on_other p inode 0 xs) e ∙ on_other-same handle inode xs
 
-pub none_here : (place inode n : ℕ) (xs : List (Option Handle)) → n < length xs → (not (n == place) && is_on inode (get_or xs n None)) ≡ false
-    → is_on_other place inode n (drop n xs) ≡ is_on_other place inode 0 xs
-    → is_on_other place inode (n + 1) (drop (n + 1) xs) ≡ is_on_other place inode 0 xs
-none_here place inode n xs inside off none =
-    ap (λ b. b || is_on_other place inode (n + 1) (drop (n + 1) xs)) (sym off) ∙ sym (on_other-next place inode n xs inside) ∙ none
+  module _ (slot : Option Handle) (stands : slot ≡ get_or xs n slot) (inside : n < length xs) where
+    abbrev here : Bool
+    here = not (n == place) && is_on inode slot
+
+    one_more : is_on_other place inode n (drop n xs) ≡ (here || is_on_other place inode (n + 1) (drop (n + 1) xs))
+    one_more =
+        on_other-next place inode n xs inside
+        ∙ ap (λ x. (not (n == place) && is_on inode x) || is_on_other place inode (n + 1) (drop (n + 1) xs))
+        (get_or_default xs n None slot inside ∙ sym stands)
+
+    pub found_other : place ≡ handle - 1 → here ≡ true → NoneSoFar → true ≡ is_among inode (held_here (with_file handle None xs))
+    found_other e found none =
+        ap (λ b. b || is_on_other place inode (n + 1) (drop (n + 1) xs)) (sym found) ∙ sym one_more ∙ none
+        ∙ ap (λ p. is_on_other p inode 0 xs) e ∙ on_other-same handle inode xs
+
+    pub none_here : here ≡ false → NoneSoFar → is_on_other place inode (n + 1) (drop (n + 1) xs) ≡ is_on_other place inode 0 xs
+    none_here off none = ap (λ b. b || is_on_other place inode (n + 1) (drop (n + 1) xs)) (sym off) ∙ sym one_more ∙ none

@@ -14,7 +14,7 @@ use Rattle.std.proofs.lemmas.Cmp.{ranked}
 use Rattle.jv_model.specs.client.ModelClient.{OpenFile, View as ModelView, views_without}
 use Rattle.jv_model.specs.journal.Reading.{fresh_view, is_fresh, first_that}
 use Rattle.jv_handles.specs.declared.views.View.{View}
-use Rattle.jv_handles.specs.Views.{SeenViews, no_views, view_at, with_view}
+use Rattle.jv_handles.specs.Views.{SeenViews, view_at, with_view}
 
 -- ---- the views that a handle keeps
 
@@ -170,8 +170,9 @@ views-later count later (view ∷ views) le old = ((let low = old.0 in omega (ar
 pub views-left : (inode count : ℕ) (views : List ModelView) → AllByRecursion (λ (view : ModelView). view.entry ≤ count) views
     → AllByRecursion (λ (view : ModelView). view.entry ≤ count) (views_without inode views)
 views-left inode count [] old = tt
-views-left inode count (view ∷ views) old = by_test (not (view.inode == inode))
+views-left inode count (view ∷ views) old = by_test (not (view.inode == inode)) (views-left inode count views old.1)
   where
-    by_test : (b : Bool) → AllByRecursion (λ (view : ModelView). view.entry ≤ count) (cond b (view ∷ views_without inode views) (views_without inode views))
-    by_test true = (old.0, views-left inode count views old.1)
-    by_test false = views-left inode count views old.1
+    by_test : (b : Bool) → AllByRecursion (λ (view : ModelView). view.entry ≤ count) (views_without inode views)
+        → AllByRecursion (λ (view : ModelView). view.entry ≤ count) (cond b (view ∷ views_without inode views) (views_without inode views))
+    by_test true later = (old.0, later)
+    by_test false later = later
