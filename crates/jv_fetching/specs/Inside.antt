@@ -49,9 +49,10 @@ pub record IsWithin (asked : Asked) : Type 0 where
   pub some : asked.from < asked.to
   pub high : asked.to ≤ window_start asked.window + WINDOW
 
--- at most two parts, each in its window, and what has begun is one of those that are left
+-- at most two parts, each in its window; what has begun is one of those that are left, and the second is read after the first
 pub record IsSound (f : Inside) : Type 0 where
   pub wide : 0 < f.block
+  pub in_order : f.first ≡ None → f.second ≡ None
   pub within : AllByRecursion IsWithin (parts_of f.parts)
   pub few : length (reads_of f.first f.second) + length (parts_of f.parts) ≤ 2
   pub some : IfSome f.begun (λ begun. 1 ≤ length (parts_of f.parts))
@@ -79,9 +80,15 @@ Starts views block parts (StartBegun begun) = FirstBegins views block parts begu
 abbrev pub StartsFrom : SeenViews → Fetching → Start → Type 0
 StartsFrom views f StartOver = (f.begun ≡ None) × (f.parts ≡ [])
 StartsFrom views f (StartLook window) = (f.begun ≡ None) × first_unseen views f.parts window
-StartsFrom views f (StartBegun begun) = (f.begun ≡ Some begun) ⊎ ((f.begun ≡ None) × FirstBegins views f.block f.parts begun)
+StartsFrom views f (StartBegun begun) = (1 ≤ length f.parts) × ((f.begun ≡ Some begun) ⊎ ((f.begun ≡ None) × FirstBegins views f.block f.parts begun))
 
 -- ---- blocks are filled in
+
+-- a part with some of its blocks filled in
+pub record IsFurther (before after : Part) : Type 0 where
+  pub part : IsPartOf before.list before.from before.to before.block after
+  pub count : ℕ
+  pub left : after.left ≡ drop count before.left
 
 -- the block that is next is filled in
 pub record FillsOne (bytes : List ℕ) (before after : Part) : Type 0 where
@@ -97,9 +104,7 @@ pub record HasFilled (cache : Cached) (b : BlockId) (before after : Part) : Type
 
 -- blocks that the cache has are filled in
 pub record Fills (cache later : Cached) (before after : Part) : Type 0 where
-  pub part : IsPartOf before.list before.from before.to before.block after
-  pub count : ℕ
-  pub left : after.left ≡ drop count before.left
+  pub further : IsFurther before after
   pub looks : LooksUp cache later
   pub reads : (blocks : Blocks) → CachedOf blocks before.list before.block cache → ReadsBlocks blocks before → ReadsBlocks blocks after
 

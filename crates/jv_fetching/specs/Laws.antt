@@ -2,7 +2,7 @@
 use Rattle.std.specs.Prelude.{◌≡◌, ◌≢◌, ℕ, ◌+◌, ◌<◌, ◌≤◌, List, [], Option, None, Some}
 use Rattle.std.specs.List.{AllByRecursion}
 use Rattle.std.specs.Option.{option_map}
-use Rattle.jv_model.specs.declared.limits.TheConstants.{FILE_END}
+use Rattle.jv_model.specs.declared.limits.TheConstants.{FILE_END, WINDOW}
 use Rattle.jv_model.specs.declared.slice.BlockId.{BlockId}
 use Rattle.jv_model.specs.client.ModelClient.{OpenFile, View as ModelView}
 use Rattle.jv_model.specs.journal.Reading.{Asked, asked_parts, part_to_look, reading}
@@ -21,7 +21,7 @@ use Rattle.jv_fetching.specs.Shows.{IsReadBy, window_needed}
 
 -- a reading begins well, with this many requests at most, and stays so where blocks come and where a window is seen
 pub record FetchesGoOn : Type 0 where
-  pub begins : (blocks : Blocks) (views : SeenViews) (block offset len : ℕ) → 0 < len → offset < FILE_END
+  pub begin : (blocks : Blocks) (views : SeenViews) (block offset len : ℕ) → 0 < len → offset < FILE_END
       → IsFetching blocks views (asked_parts offset len) (begins block (asked_parts offset len))
   pub come : (blocks later : Blocks) (views : SeenViews) (all : List Asked) (f : Fetching) → Grows blocks later
       → IsFetching blocks views all f → IsFetching later views all f
@@ -48,7 +48,7 @@ pub record FetchesShow : Type 0 where
   pub block : (blocks : Blocks) (views : SeenViews) (all : List Asked) (f : Fetching) (b : BlockId) → block_needed f ≡ Some b
       → IsFetching blocks views all f → IsOfView views f.block all b
   pub same : (g : Known) (v : Shared) (views : List ModelView) (count number offset len : ℕ) (file : OpenFile) (handle : Handle) (read : ℕ × ℕ × List ℕ)
-      → IsHandle g v views count number file handle
+      → 0 < len → offset < FILE_END → len ≤ WINDOW → IsHandle g v views count number file handle
       → IsReadBy (told_by v.yard.setting.block g.blocks) handle.views (asked_parts offset len) read
       → reading views number file (asked_parts offset len) read.0 read.1 ≡ Some read.2
   pub same_look : (g : Known) (v : Shared) (views : List ModelView) (count number : ℕ) (file : OpenFile) (handle : Handle) (all : List Asked)

@@ -40,7 +40,7 @@ impl Model for Fetch {
 }
 
 impl Fetch {
-    ghost use Rattle.std.specs.Prelude.{ℕ, ◌<◌, ◌≤◌, [], length, OnOk, Some, None};
+    ghost use Rattle.std.specs.Prelude.{ℕ, ◌<◌, ◌≤◌, List, [], length, OnOk, Some, None};
     ghost use Rattle.jv_model.specs.declared.limits.TheConstants.{WINDOW, FILE_END};
     ghost use Rattle.jv_model.specs.journal.Reading.{Asked, asked_parts};
     ghost use Rattle.jv_contents.specs.Blocks.{Blocks};
@@ -99,6 +99,7 @@ impl Fetch {
         cache: &mut BlockCache,
     ) -> Result<Option<Need>, AllocError>
         ensures block { self.new.block ≡ self.old.block }
+        ensures few { length self.old.parts ≤ 2 }
         ensures stops { IfOk result (Stops views.now self.old self.new) }
         ensures cache { LooksUp cache.old cache.new }
         ensures goes { OnOk result (Goes views.now cache.old cache.new self.old self.new) }
@@ -112,6 +113,7 @@ impl Fetch {
 
     /// Takes the part that has begun, or begins with the first of the parts.
     fn take_start(&mut self, views: &Views) -> Result<Start, AllocError>
+        ensures few { length self.old.parts ≤ 2 }
         ensures taken { self.new ≡ record self.old { begun = None } }
         ensures starts { IfOk result (StartsFrom views.now self.old) }
     {
