@@ -1,5 +1,5 @@
 -- Laws of a cache in which blocks are looked up and kept.
-use Rattle.std.proofs.Common.{◌≡◌, ℕ, zero, suc, ◌-◌, ◌<◌, ◌⊎◌, inl, inr, Bool, true, false, cond, List, [], ◌∷◌, ◌++◌, take, Option, None, Some, refl, sym, ap, subst, ◌∙◌, arith}
+use Rattle.std.proofs.Common.{◌≡◌, ℕ, zero, suc, ◌+◌, ◌-◌, ◌<◌, ◌≤◌, ◌⊎◌, inl, inr, Bool, true, false, cond, List, [], ◌∷◌, ◌++◌, take, Option, None, Some, refl, sym, ap, subst, ◌∙◌, arith, length, length-append}
 use Rattle.std.specs.Prelude.{◌≢◌, ◌==◌, fold, is_some, Contains}
 use Rattle.std.specs.List.{AllByRecursion}
 use Rattle.std.specs.Map.{lookup, lookup_entry, remove_entry}
@@ -20,7 +20,7 @@ use Rattle.jv_contents.specs.Blocks.{Blocks, Grows}
 use Rattle.jv_handles.specs.declared.views.View.{View}
 use Rattle.jv_handles.specs.Views.{SeenViews, view_at}
 use Rattle.jv_reading.specs.Parts.{IsNamed}
-use Rattle.jv_fetching.specs.Calls.{CachedOf, HasCached, IsOnly, Keeps, Kept, Lost, LooksUp, cache_key}
+use Rattle.jv_fetching.specs.Calls.{AreSizedBy, CachedOf, HasCached, IsMissing, IsOnly, Keeps, Kept, Lost, LooksUp, LooksUpFew, cache_key}
 
 -- ---- what is found under a key
 
@@ -77,17 +77,34 @@ found-all cache (b ∷ bs) q = found-all (note cache b) bs q ∙ found-noted cac
 pub looks_keep : (before after : Cached) → LooksUp before after → (q : BlockKey) → found_in after q ≡ found_in before q
 looks_keep before after looks q = ap (λ (cache : Cached). found_in cache q) looks.is ∙ found-all before looks.blocks q
 
-pub looks_none : (cache : Cached) → LooksUp cache cache
+abbrev pub looks_none : (cache : Cached) → LooksUp cache cache
 looks_none cache = record { blocks = []; is = refl }
 
-pub looks_one : (before after : Cached) (b : BlockId) → after ≡ noted_in before (cache_key b) → LooksUp before after
+abbrev pub looks_one : (before after : Cached) (b : BlockId) → after ≡ noted_in before (cache_key b) → LooksUp before after
 looks_one before after b e = record { blocks = b ∷ []; is = e }
 
-pub looks_then : (before middle after : Cached) → LooksUp before middle → LooksUp middle after → LooksUp before after
+abbrev pub looks_then : (before middle after : Cached) → LooksUp before middle → LooksUp middle after → LooksUp before after
 looks_then before middle after first second = record {
   blocks = first.blocks ++ second.blocks;
   is = second.is ∙ ap (λ (cache : Cached). fold note cache second.blocks) first.is ∙ sym (fold-append note before first.blocks second.blocks);
 }
+
+-- as many as before and after, or more
+pub few_none : (n : ℕ) (cache : Cached) → LooksUpFew n cache cache
+few_none n cache = record { looks = looks_none cache; few = omega arith }
+
+pub few_then : (k m n : ℕ) (before middle after : Cached) → k + m ≤ n → LooksUpFew k before middle → LooksUpFew m middle after → LooksUpFew n before after
+few_then k m n before middle after h first second = record {
+  looks = looks_then before middle after first.looks second.looks;
+  few = omega (arith, h, first.few, second.few, length-append first.looks.blocks second.looks.blocks);
+}
+
+pub few_one : (before after : Cached) (b : BlockId) → after ≡ noted_in before (cache_key b) → LooksUpFew 1 before after
+few_one before after b e = record { looks = looks_one before after b e; few = omega arith }
+
+-- a block that wasn't there after look-ups wasn't there before them
+pub missing_before : (before after : Cached) (b : BlockId) → LooksUp before after → IsMissing after b → IsMissing before b
+missing_before before after b looks missing = λ bytes found. missing bytes (looks_keep before after looks (cache_key b) ∙ found)
 
 pub cached_looks : (blocks : Blocks) (list : List Rec) (block : ℕ) (before after : Cached) → LooksUp before after
     → CachedOf blocks list block before → CachedOf blocks list block after
@@ -173,10 +190,6 @@ has_keeps blocks views block b bytes before after (Kept is) own alone h = record
     by_key window view seen other named y (inr found) = (h.has window view seen).has other named y found
 
 -- ---- which blocks are the only ones of their names
-
--- the records of views have sizes that their slices' numbers determine
-pub record AreSizedBy (sizes : ℕ → ℕ) (views : SeenViews) : Type 0 where
-  pub sized : (window : ℕ) (view : View) → view_at views window ≡ Some view → AllByRecursion (λ r. r.id ≢ 0 → r.size ≡ sizes r.id) view.list
 
 abbrev HasSize : (ℕ → ℕ) → Rec → Type 0
 HasSize sizes r = r.id ≢ 0 → r.size ≡ sizes r.id

@@ -25,6 +25,7 @@ use Rattle.jv_fetching.specs.Going.{CanFetch, HasBegun, HasRead, IsFetching, IsS
 use Rattle.jv_fetching.specs.Calls.{Wants, first_seen, first_unseen}
 use Rattle.jv_fetching.specs.Inside.{IsWithin}
 use Rattle.jv_fetching.specs.Laws.{FetchesGoOn, IsOfView}
+use Rattle.jv_fetching.proofs.CacheLaws.{has_keeps, has_looks, looks_keep, only_sized}
 
 -- ---- the parts of a range
 
@@ -76,8 +77,10 @@ module _ (offset len : ℕ) where
     parts_within small =
         by_parts (AllByRecursion IsWithin)
         (λ h. (record { low = begins_low; some = omega arith; high = omega (arith, h) }, tt))
-        (λ h. (record { low = begins_low; some = ends_high; high = omega arith },
-        (record { low = omega arith; some = h; high = omega (arith, ends_high) }, tt)))
+        (λ h. (
+          record { low = begins_low; some = ends_high; high = omega arith },
+          (record { low = omega arith; some = h; high = omega (arith, ends_high) }, tt),
+        ))
 
 -- ---- blocks and views that come
 
@@ -85,11 +88,12 @@ pub read_come : (blocks later : Blocks) (views : SeenViews) (block : ℕ) → Gr
     → HasRead blocks views block all read parts → HasRead later views block all read parts
 read_come blocks later views block grows all [] parts h = h
 read_come blocks later views block grows [] (r ∷ rs) parts h = h
-read_come blocks later views block grows (asked ∷ others) (r ∷ rs) parts (view, shown, full, short) =
-    (view,
-    record { seen = shown.seen; entry = shown.entry; bytes = λ last more. shown.bytes last (grows-then blocks later last grows more) },
-    (λ h. read_come blocks later views block grows others rs parts (full h)),
-    short)
+read_come blocks later views block grows (asked ∷ others) (r ∷ rs) parts (view, shown, full, short) = (
+  view,
+  record { seen = shown.seen; entry = shown.entry; bytes = λ last more. shown.bytes last (grows-then blocks later last grows more) },
+  (λ h. read_come blocks later views block grows others rs parts (full h)),
+  short,
+)
 
 pub come : (blocks later : Blocks) (views : SeenViews) (all : List Asked) (f : Fetching) → Grows blocks later → IsFetching blocks views all f → IsFetching later views all f
 come blocks later views all f grows is = record {
@@ -121,11 +125,12 @@ module _ (views : SeenViews) (window : ℕ) (view : View) (none : view_at views 
       → HasRead blocks views block all read parts → HasRead blocks more_views block all read parts
   read_seen blocks block all [] parts h = h
   read_seen blocks block [] (r ∷ rs) parts h = h
-  read_seen blocks block (asked ∷ others) (r ∷ rs) parts (own, shown, full, short) =
-      (own,
-      record { seen = still_seen asked.window own shown.seen; entry = shown.entry; bytes = shown.bytes },
-      (λ h. read_seen blocks block others rs parts (full h)),
-      short)
+  read_seen blocks block (asked ∷ others) (r ∷ rs) parts (own, shown, full, short) = (
+    own,
+    record { seen = still_seen asked.window own shown.seen; entry = shown.entry; bytes = shown.bytes },
+    (λ h. read_seen blocks block others rs parts (full h)),
+    short,
+  )
 
   pub seen : (blocks : Blocks) (all : List Asked) (f : Fetching) → IsFetching blocks views all f → IsFetching blocks more_views all f
   seen blocks all f is = record {
@@ -149,6 +154,10 @@ fetches_go_on = record {
   come = come;
   seen = λ blocks views all f window view none is. seen views window view none blocks all f is;
   can_seen = λ views f window view none can. begun_seen views window view none f.block f.begun f.parts can;
+  found = looks_keep;
+  looked = has_looks;
+  kept = has_keeps;
+  only = only_sized;
   weight = λ block offset len some low. parts_weight offset len some low;
 }
 
@@ -258,9 +267,9 @@ module _ (blocks : Blocks) (views : SeenViews) (block : ℕ) where
   next_named view (x ∷ bs) b named is = let same : x ≡ b = cc in subst (IsNamed view.list block) same (All-head (IsNamed view.list block) x bs named)
 
   of_view : (begun : Begun) (parts all : List Asked) (b : BlockId) → slice_get begun.part.left 0 ≡ Some b → HasBegun views block (Some begun) parts → first_seen views all → IsOfView views block all b
-  of_view begun [] all b next h first = absurd h
-  of_view begun (asked ∷ others) all b next (view, is, by) first =
-      record { window = asked.window; view = view; seen = is; named = next_named view begun.part.left b by.named next; first = first }
+  of_view begun [] all b next h begins = absurd h
+  of_view begun (asked ∷ others) all b next (view, is, by) begins =
+      record { window = asked.window; view = view; seen = is; named = next_named view begun.part.left b by.named next; first = begins }
 
   pub needs : (begun : Option Begun) (parts all : List Asked) (read : List Read) (b : BlockId) → next_of begun ≡ Some b → HasBegun views block begun parts
       → HasRead blocks views block all read parts → IsOfView views block all b

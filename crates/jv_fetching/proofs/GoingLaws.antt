@@ -22,9 +22,9 @@ use Rattle.jv_fetching.specs.declared.need.Need.TheVariants.{Look, Block, Nothin
 use Rattle.jv_fetching.specs.Fetching.{Fetching, block_needed, fetch_left, next_of, weight}
 use Rattle.jv_fetching.specs.Shows.{shown_bytes, shown_len}
 use Rattle.jv_fetching.specs.Going.{CanFetch, HasBegun, HasRead, IsBegunBy, IsFetching, IsShown}
-use Rattle.jv_fetching.specs.Calls.{CachedOf, HasCached, LooksUp, Wants, cache_key, first_seen, first_unseen}
-use Rattle.jv_fetching.specs.Inside.{BeginsBy, Fills, FillsBegun, FillsOne, FirstBegins, Goes, GoesOn, HasFilled, IsFurther, Stops, Waits, Ended, ended, parts_after, waiting}
-use Rattle.jv_fetching.proofs.CacheLaws.{cached_looks, has_looks, looks_keep, looks_none, looks_one, looks_then}
+use Rattle.jv_fetching.specs.Calls.{Asks, CachedOf, HasCached, IsMissing, LooksUp, LooksUpFew, Wants, cache_key, first_seen, first_unseen}
+use Rattle.jv_fetching.specs.Inside.{BeginsBy, Ends, Fills, FillsBegun, FillsOne, FillsUp, FirstBegins, Goes, GoesOn, GoesTo, HasFilled, IsFurther, Misses, Stops, Waits, Ended, ended, parts_after, waiting}
+use Rattle.jv_fetching.proofs.CacheLaws.{cached_looks, few_none, few_one, few_then, has_looks, looks_keep, looks_one, looks_then, missing_before}
 
 -- ---- blocks of a part
 
@@ -48,20 +48,29 @@ further_one bytes before after fills = record { part = fills.part; count = 1; le
 
 -- nothing is filled in yet
 pub fills_none : (cache : Cached) (part : Part) → Fills cache cache part part
-fills_none cache part = record { further = further_none part; looks = looks_none cache; reads = λ blocks cached reads. reads }
+fills_none cache part = record { further = further_none part; looks = few_none (length part.left - length part.left) cache; reads = λ blocks cached reads. reads }
+
+next_less : (bs : List BlockId) (b : BlockId) → slice_get bs 0 ≡ Some b → length (drop 1 bs) + 1 ≡ length bs
+next_less [] b h = let never : ⊥ = cc in absurd never
+next_less (x ∷ bs) b h = omega arith
+
+further_fewer : (before after : Part) → IsFurther before after → length after.left ≤ length before.left
+further_fewer before after further = omega (arith, ap (length {A = BlockId}) further.left, length-drop further.count before.left)
 
 module _ (cache middle later : Cached) (before now : Part) (b : BlockId) (so_far : Fills cache middle before now)
-    (noted : later ≡ noted_in middle (cache_key b)) where
-  looks_more : LooksUp cache later
-  looks_more = looks_then cache middle later so_far.looks (looks_one middle later b noted)
-
+    (noted : later ≡ noted_in middle (cache_key b)) (next : slice_get now.left 0 ≡ Some b) where
   -- one block more is filled in
-  pub fills_more : (after : Part) → slice_get now.left 0 ≡ Some b → IsNamed now.list now.block b → HasFilled middle b now after → Fills cache later before after
-  fills_more after next named filled = record {
+  pub fills_more : (after : Part) → IsNamed now.list now.block b → HasFilled middle b now after → Fills cache later before after
+  fills_more after named filled = record {
     further = further_then before now after so_far.further (further_one filled.bytes now after filled.fills);
-    looks = looks_more;
+    looks =
+        let less = next_less now.left b next in
+        let left = ap (length {A = BlockId}) filled.fills.left in
+        let fewer = further_fewer before now so_far.further in
+        few_then (length before.left - length now.left) 1 (length before.left - length after.left) cache middle later (omega (arith, less, left, fewer))
+        so_far.looks (few_one middle later b noted);
     reads = λ blocks cached reads.
-        let found : found_in cache (cache_key b) ≡ Some filled.bytes = sym (looks_keep cache middle so_far.looks (cache_key b)) ∙ filled.found in
+        let found : found_in cache (cache_key b) ≡ Some filled.bytes = sym (looks_keep cache middle so_far.looks.looks (cache_key b)) ∙ filled.found in
         let by_list : IsNamed before.list now.block b = subst (λ (l : List Rec). IsNamed l now.block b) so_far.further.part.list_is named in
         let named' : IsNamed before.list before.block b = subst (λ (n : ℕ). IsNamed before.list n b) so_far.further.part.block_is by_list in
         reads_go_on.filled blocks b filled.bytes now after (cached.has b named' filled.bytes found) next filled.fills.part.block_is filled.fills.reads
@@ -69,9 +78,14 @@ module _ (cache middle later : Cached) (before now : Part) (b : BlockId) (so_far
   }
 
   -- one isn't there
-  pub fills_less : (after : Part) → after ≡ now → Fills cache later before after
-  fills_less after same = subst (λ (p : Part). Fills cache later before p) (sym same)
-      (record { further = so_far.further; looks = looks_more; reads = so_far.reads })
+  pub misses : (after : Part) → after ≡ now → IsMissing middle b → Misses cache later before after b
+  misses after same missing = subst (λ (p : Part). Misses cache later before p b) (sym same) (record {
+    middle = middle;
+    fills = so_far;
+    next = next;
+    noted = noted;
+    missing = missing_before cache middle b so_far.looks.looks missing;
+  })
 
 -- ---- steps of a reading
 
@@ -81,9 +95,10 @@ goes_then views c d e f g h first second = record {
   can = λ can. second.can (first.can can);
   falls = omega (arith, first.falls, second.falls);
   begins = λ none seen. omega (arith, first.begins none seen, second.falls);
-  looks = looks_then c d e first.looks second.looks;
+  looks = few_then (fetch_left f - fetch_left g) (fetch_left g - fetch_left h) (fetch_left f - fetch_left h) c d e (omega (arith, first.falls, second.falls))
+      first.looks second.looks;
   reads = λ blocks all has is.
-      let has' : HasCached blocks views g.block d = subst (λ (n : ℕ). HasCached blocks views n d) (sym first.block) (has_looks blocks views f.block c d first.looks has) in
+      let has' : HasCached blocks views g.block d = subst (λ (n : ℕ). HasCached blocks views n d) (sym first.block) (has_looks blocks views f.block c d first.looks.looks has) in
       second.reads blocks all has' (first.reads blocks all has is);
 }
 
@@ -94,7 +109,7 @@ goes_nowhere views cache f stuck = record {
   can = λ can. can;
   falls = omega arith;
   begins = λ none seen. absurd (stuck none seen);
-  looks = looks_none cache;
+  looks = few_none (fetch_left f - fetch_left f) cache;
   reads = λ blocks all has is. is;
 }
 
@@ -157,7 +172,7 @@ module _ (views : SeenViews) (cache : Cached) (block : ℕ) (read : List Read) w
     can = λ can. (h.view, h.seen, h.by);
     falls = omega (arith, h.few);
     begins = λ none seen. omega (arith, h.few);
-    looks = looks_none cache;
+    looks = few_none (1 + (asked.to - asked.from) + weight others - (length begun.part.left + weight others)) cache;
     reads = λ blocks all has is. record { some = is.some; few = is.few; read = is.read; begun = (h.view, h.seen, h.by); fills = h.reads blocks };
   }
 
@@ -169,7 +184,10 @@ module _ (views : SeenViews) (cache : Cached) (block : ℕ) (read : List Read) w
     can = further_can views block parts begun part fills.further;
     falls = omega (arith, ap (length {A = BlockId}) fills.further.left, length-drop fills.further.count begun.part.left);
     begins = λ none seen. (let never : ⊥ = cc in absurd never);
-    looks = fills.looks;
+    looks =
+        let rest = weight (drop 1 parts) in
+        let same : length begun.part.left - length part.left ≡ length begun.part.left + rest - (length part.left + rest) = omega arith in
+        subst (λ (n : ℕ). LooksUpFew n cache later) same fills.looks;
     reads = λ blocks all has is. record {
       some = is.some;
       few = is.few;
@@ -211,18 +229,23 @@ module _ (blocks : Blocks) (views : SeenViews) (block : ℕ) (parts : List Asked
 
   read_first : (ps : List Asked) → HasBegun views block (Some begun) ps → HasRead blocks views block ps (own ∷ []) (parts_after begun.is_full ps)
   read_first [] h = h
-  read_first (asked ∷ others) (view, seen, by) =
-      (view, shown_by asked view seen by,
-      (λ full. ap (λ b. parts_after b (asked ∷ others)) (by.full ∙ le-leb asked.to view.length full)),
-      (λ short. (refl, ap (λ b. parts_after b (asked ∷ others)) (by.full ∙ lt-leb asked.to view.length short))))
+  read_first (asked ∷ others) (view, seen, by) = (
+    view,
+    shown_by asked view seen by,
+    (λ full. ap (λ b. parts_after b (asked ∷ others)) (by.full ∙ le-leb asked.to view.length full)),
+    (λ short. (refl, ap (λ b. parts_after b (asked ∷ others)) (by.full ∙ lt-leb asked.to view.length short))),
+  )
 
   -- one part more is read
   pub read_more : (all : List Asked) (read : List Read) → HasRead blocks views block all read parts → HasRead blocks views block all (read ++ own ∷ []) rest
   read_more all [] same = subst (λ (ps : List Asked). HasRead blocks views block ps (own ∷ []) rest) same (read_first parts has)
   read_more [] (r ∷ rs) h = h
-  read_more (asked ∷ others) (r ∷ rs) (view, shown, full, short) =
-      (view, shown, (λ low. read_more others rs (full low)),
-      (λ low. absurd (subst (λ (ps : List Asked). HasBegun views block (Some begun) ps) ((short low).1) has)))
+  read_more (asked ∷ others) (r ∷ rs) (view, shown, full, short) = (
+    view,
+    shown,
+    (λ low. read_more others rs (full low)),
+    (λ low. absurd (subst (λ (ps : List Asked). HasBegun views block (Some begun) ps) ((short low).1) has)),
+  )
 
 module _ (views : SeenViews) (cache : Cached) (block : ℕ) (read : List Read) where
   ends_goes : (parts : List Asked) (begun : Begun) (bytes : List ℕ) → AreOf bytes begun.part
@@ -232,7 +255,7 @@ module _ (views : SeenViews) (cache : Cached) (block : ℕ) (read : List Read) w
     can = λ can. tt;
     falls = omega (arith, after_less begun.is_full parts);
     begins = λ none seen. (let never : ⊥ = cc in absurd never);
-    looks = looks_none cache;
+    looks = few_none (length begun.part.left + weight (drop 1 parts) - weight (parts_after begun.is_full parts)) cache;
     reads = λ blocks all has is. record {
       some = is.some;
       few = is.few;
@@ -249,34 +272,77 @@ with_begun f begun = record f { begun = Some begun }
 
 -- it waits for a block, or is done with the part
 went_on : (views : SeenViews) (cache later : Cached) (f after : Fetching) (begun : Begun) (result : Option Need)
-    → GoesOn begun cache later (record f { begun = None }) after result → Goes views cache later (with_begun f begun) after × Stops views f after result
-went_on views cache later f after begun result (Waits part fills b next is) =
-    (subst (λ (g : Fetching). Goes views cache later (with_begun f begun) g) (sym is) (fills_goes views cache f.block f.read later f.parts begun part fills),
-    ap block_needed is ∙ next)
+    → GoesOn begun cache later (record f { begun = None }) after result → GoesTo views cache later (with_begun f begun) after result
+went_on views cache later f after begun result (Waits part b missed is) = record {
+  middle = missed.middle;
+  goes = subst (λ (g : Fetching). Goes views cache missed.middle (with_begun f begun) g) (sym is)
+      (fills_goes views cache f.block f.read missed.middle f.parts begun part missed.fills);
+  ends = (missed.noted, missed.missing);
+}
 went_on views cache later f after begun result (Ended part fills none bytes are is) =
     let begun' : Begun = record begun { part = part } in
-    (subst (λ (g : Fetching). Goes views cache later (with_begun f begun) g) (sym is)
-    (goes_then views cache later later (with_begun f begun) (with_begun f begun') (ended begun.entry begun.is_full bytes (with_begun f begun'))
-    (fills_goes views cache f.block f.read later f.parts begun part fills) (ends_goes views later f.block f.read f.parts begun' bytes are)),
-    (ap (λ (g : Fetching). g.begun) is,
-    (let few : length after.parts ≡ length (parts_after begun.is_full f.parts) = ap (λ (g : Fetching). length g.parts) is in
-    omega (arith, few, after_few begun.is_full f.parts))))
+    record {
+      middle = later;
+      goes = subst (λ (g : Fetching). Goes views cache later (with_begun f begun) g) (sym is)
+          (goes_then views cache later later (with_begun f begun) (with_begun f begun') (ended begun.entry begun.is_full bytes (with_begun f begun'))
+          (fills_goes views cache f.block f.read later f.parts begun part fills) (ends_goes views later f.block f.read f.parts begun' bytes are));
+      ends = refl;
+    }
+
+pub stops_on : (views : SeenViews) (cache later : Cached) (f after : Fetching) (begun : Begun) (result : Option Need)
+    → GoesOn begun cache later (record f { begun = None }) after result → Stops views f after result
+stops_on views cache later f after begun result (Waits part b missed is) = ap block_needed is ∙ missed.next
+stops_on views cache later f after begun result (Ended part fills none bytes are is) = (
+  ap (λ (g : Fetching). g.begun) is,
+  (let few : length after.parts ≡ length (parts_after begun.is_full f.parts) = ap (λ (g : Fetching). length g.parts) is in
+      omega (arith, few, after_few begun.is_full f.parts)),
+)
+
+-- one step after another
+pub goes_to_then : (views : SeenViews) (c d e : Cached) (f g h : Fetching) (result : Option Need) → Goes views c d f g → GoesTo views d e g h result → GoesTo views c e f h result
+goes_to_then views c d e f g h result first second = record {
+  middle = second.middle;
+  goes = goes_then views c d second.middle f g h first second.goes;
+  ends = ends_before result second.ends;
+}
+  where
+    ends_before : (r : Option Need) → Ends d second.middle e r → Ends c second.middle e r
+    ends_before None h = h
+    ends_before (Some (Look window)) h = h
+    ends_before (Some (Block b)) (noted, missing) = (noted, missing_before c d b first.looks.looks missing)
+    ends_before (Some Nothing) h = h
 
 -- from where it had begun, or begins now
 pub goes_on : (views : SeenViews) (cache later : Cached) (f after : Fetching) (begun : Begun) (result : Option Need)
     → (f.begun ≡ Some begun) ⊎ ((f.begun ≡ None) × FirstBegins views f.block f.parts begun)
-    → GoesOn begun cache later (record f { begun = None }) after result → Goes views cache later f after
+    → GoesOn begun cache later (record f { begun = None }) after result → GoesTo views cache later f after result
 goes_on views cache later f after begun result (inl was) on =
     let same : with_begun f begun ≡ f = ap (λ (o : Option Begun). let g : Fetching = record f { begun = o } in g) (sym was) in
-    subst (λ (g : Fetching). Goes views cache later g after) same (went_on views cache later f after begun result on).0
+    subst (λ (g : Fetching). GoesTo views cache later g after result) same (went_on views cache later f after begun result on)
 goes_on views cache later f after begun result (inr (none, first)) on =
     let same : record f { begun = None } ≡ f = ap (λ (o : Option Begun). let g : Fetching = record f { begun = o } in g) (sym none) in
     let begins = subst (λ (g : Fetching). Goes views cache cache g (with_begun f begun)) same (begins_goes views cache f.block f.read f.parts begun first) in
-    goes_then views cache cache later f (with_begun f begun) after begins (went_on views cache later f after begun result on).0
+    goes_to_then views cache cache later f (with_begun f begun) after result begins (went_on views cache later f after begun result on)
 
-pub stops_on : (views : SeenViews) (cache later : Cached) (f after : Fetching) (begun : Begun) (result : Option Need)
-    → GoesOn begun cache later (record f { begun = None }) after result → Stops views f after result
-stops_on views cache later f after begun result on = (went_on views cache later f after begun result on).1
+-- where it was done with a part it goes on
+pub goes_twice : (views : SeenViews) (c d e : Cached) (f g h : Fetching) (result : Option Need) → GoesTo views c d f g None → GoesTo views d e g h result → GoesTo views c e f h result
+goes_twice views c d e f g h result first second =
+    goes_to_then views c d e f g h result (subst (λ (cache : Cached). Goes views c cache f g) (sym first.ends) first.goes) second
+
+module _ (views : SeenViews) (cache later : Cached) (f after : Fetching) where
+  pub looks_to : (result : Option Need) → GoesTo views cache later f after result → LooksUp cache later
+  looks_to None to = subst (LooksUp cache) (sym to.ends) to.goes.looks.looks
+  looks_to (Some (Look window)) to = subst (LooksUp cache) (sym to.ends) to.goes.looks.looks
+  looks_to (Some (Block b)) to = looks_then cache to.middle later to.goes.looks.looks (looks_one to.middle later b to.ends.0)
+  looks_to (Some Nothing) to = subst (LooksUp cache) (sym to.ends) to.goes.looks.looks
+
+  pub asks_to : (need : Need) → GoesTo views cache later f after (Some need) → Asks need (fetch_left f - fetch_left after) cache later
+  asks_to (Look window) to = subst (LooksUpFew (fetch_left f - fetch_left after) cache) (sym to.ends) to.goes.looks
+  asks_to (Block b) to = (to.middle, to.goes.looks, to.ends.0, to.ends.1)
+  asks_to Nothing to = subst (LooksUpFew (fetch_left f - fetch_left after) cache) (sym to.ends) to.goes.looks
+
+  pub asks_nothing : GoesTo views cache later f after None → Asks Nothing (fetch_left f - fetch_left after) cache later
+  asks_nothing to = subst (LooksUpFew (fetch_left f - fetch_left after) cache) (sym to.ends) to.goes.looks
 
 -- after two parts nothing is left
 pub nothing_left : (first second third : List Asked) → length first ≤ 2 → length second ≤ length first - 1 → length third ≤ length second - 1 → third ≡ []
@@ -288,17 +354,21 @@ module _ (views : SeenViews) (cache : Cached) (f after : Fetching) (none : f.beg
   pub stays : after ≡ f
   stays = is ∙ ap (λ (o : Option Begun). let g : Fetching = record f { begun = o } in g) (sym none)
 
-  pub goes_over : f.parts ≡ [] → Goes views cache cache f after
-  goes_over over = subst (λ (g : Fetching). Goes views cache cache f g) (sym stays) (goes_nowhere views cache f (λ e. over_seen views f.parts over))
+  pub goes_over : f.parts ≡ [] → GoesTo views cache cache f after None
+  goes_over over = record {
+    middle = cache;
+    goes = subst (λ (g : Fetching). Goes views cache cache f g) (sym stays) (goes_nowhere views cache f (λ e. over_seen views f.parts over));
+    ends = refl;
+  }
 
-  pub goes_look : (window : ℕ) → first_unseen views f.parts window → Goes views cache cache f after
-  goes_look window unseen = subst (λ (g : Fetching). Goes views cache cache f g) (sym stays) (goes_nowhere views cache f (λ e. unseen_seen views f.parts window unseen))
+  pub goes_look : (window : ℕ) → first_unseen views f.parts window → GoesTo views cache cache f after (Some (Look window))
+  goes_look window unseen = record {
+    middle = cache;
+    goes = subst (λ (g : Fetching). Goes views cache cache f g) (sym stays) (goes_nowhere views cache f (λ e. unseen_seen views f.parts window unseen));
+    ends = refl;
+  }
 
 -- ---- a block that came is filled in
-
-next_less : (bs : List BlockId) (b : BlockId) → slice_get bs 0 ≡ Some b → length (drop 1 bs) < length bs
-next_less [] b h = let never : ⊥ = cc in absurd never
-next_less (x ∷ bs) b h = omega arith
 
 module _ (bytes : List ℕ) (before after : Fetching) (fills : FillsBegun bytes before after) where
   pub fill_can : (views : SeenViews) → CanFetch views before → CanFetch views after

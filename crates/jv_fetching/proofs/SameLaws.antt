@@ -1,24 +1,28 @@
 -- What views of a handle show is what those of the model's file show.
 use Rattle.std.proofs.Common.{◌≡◌, ◌⊎◌, ℕ, zero, suc, ◌+◌, ◌-◌, ◌*◌, ◌<◌, ◌≤◌, min, Bool, true, false, cond, List, [], ◌∷◌, ◌++◌, length, Option, None, Some, inl, inr, refl, sym, ap, subst, ◌∙◌, arith, eq-eqb, ne_eqb}
-use Rattle.std.specs.Prelude.{◌==◌, ◌&&◌, nat_le, if◌then◌else◌}
+use Rattle.std.specs.Prelude.{◌≢◌, ◌==◌, ◌&&◌, nat_le, if◌then◌else◌}
 use Rattle.std.specs.List.{AllByRecursion}
 use Rattle.std.specs.Option.{option_map}
 use Rattle.std.proofs.lemmas.Bool.{cases_lt}
 use Rattle.jv_model.specs.declared.limits.TheConstants.{FILE_END, WINDOW}
 use Rattle.jv_model.specs.client.ModelClient.{OpenFile, View as ModelView}
 use Rattle.jv_model.specs.journal.Reading.{Asked, asked_parts, bytes_between, bytes_from, cited_view, first_that, fresh_view, is_fresh, is_full, joined, only_if, part_read, part_to_look, read_on, reading, window_start}
+use Rattle.jv_model.specs.declared.slice.Rec.{Rec}
 use Rattle.jv_contents.specs.Blocks.{told_by}
 use Rattle.jv_contents.specs.Bytes.{Told}
-use Rattle.jv_shared.specs.Shared.{Known, Shared}
+use Rattle.jv_shared.specs.Shared.{Known, Shared, present_in, rows_in}
+use Rattle.jv_shared.specs.Seen.{IsFound}
 use Rattle.jv_shared.proofs.SeenLaws.{bytes_from-same}
 use Rattle.jv_handles.specs.declared.handle.Handle.{Handle}
 use Rattle.jv_handles.specs.declared.views.View.{View}
 use Rattle.jv_handles.specs.Held.{IsHandle, IsSeen, SamePlace}
 use Rattle.jv_handles.specs.Views.{SeenViews, view_at}
 use Rattle.jv_reading.specs.Parts.{window_byte}
+use Rattle.jv_fetching.specs.Calls.{AreSizedBy}
 use Rattle.jv_fetching.specs.Shows.{IsReadBy, One, Two, shown_bytes, shown_len, window_needed}
 use Rattle.jv_fetching.specs.Inside.{IsWithin}
 use Rattle.jv_fetching.specs.Laws.{FetchesShow}
+use Rattle.jv_fetching.proofs.CacheLaws.{named_sized}
 use Rattle.jv_fetching.proofs.FetchLaws.{all_read, looks, needs, parts_within}
 
 -- the first of those that pass two tests, where the first that passes one passes both
@@ -42,6 +46,11 @@ first-both test also (x ∷ xs) m h e = go (test x) (also x) refl h (first-both 
 length-bytes : (byte : ℕ → ℕ) (from n : ℕ) → length (bytes_from byte from n) ≡ n
 length-bytes byte from zero = refl
 length-bytes byte from (suc n) = ap suc (length-bytes byte (from + 1) n)
+
+all_sized : (g : Known) (v : Shared) (list : List Rec) → AllByRecursion (IsFound v.yard.setting.block (rows_in v) g (present_in v)) list
+    → AllByRecursion (λ r. r.id ≢ 0 → r.size ≡ g.sizes r.id) list
+all_sized g v [] h = tt
+all_sized g v (r ∷ list) (first, others) = (first.sized, all_sized g v list others)
 
 module _ (g : Known) (v : Shared) (views : List ModelView) (count number : ℕ) (file : OpenFile) (handle : Handle)
     (held : IsHandle g v views count number file handle) where
@@ -121,6 +130,14 @@ module _ (g : Known) (v : Shared) (views : List ModelView) (count number : ℕ) 
       ∙ ap (λ b. cond b (joined bytes (part_read views number file next.entry other)) (only_if (next.entry == 0) bytes)) (full_is asked view full)
       ∙ ap (joined bytes) (part_shown other next within'.1.0 seen'))
 
+  -- its records have the sizes that are known
+  pub handle_sized : AreSizedBy g.sizes handle.views
+  handle_sized = record { sized = λ window view is. by_view window view (fresh_seen window view is) }
+    where
+      by_view : (window : ℕ) (view : View) → (m : ModelView) × (fresh_view views number file window ≡ Some m) × IsSeen g v window m view
+          → AllByRecursion (λ r. r.id ≢ 0 → r.size ≡ g.sizes r.id) view.list
+      by_view window view (m, e, seen) = all_sized g v view.list seen.shows.records
+
   -- the window that has to be looked at
   pub same_needed : (all : List Asked) → window_needed handle.views all ≡ option_map (λ (asked : Asked). asked.window) (part_to_look views number file all)
   same_needed [] = refl
@@ -150,5 +167,7 @@ fetches_show = record {
   block = λ blocks views all f b next is. needs blocks views f.block f.begun f.parts all f.read b next is.begun is.read;
   same = λ g v views count number offset len file handle read some low small held is.
       same_read g v views count number file handle held (asked_parts offset len) read (parts_within offset len some low small) is;
+  sized = handle_sized;
+  block_sized = λ sizes views block all b sized of. named_sized sizes block of.view.list b (sized.sized of.window of.view of.seen) of.named;
   same_look = λ g v views count number file handle all held. same_needed g v views count number file handle held all;
 }

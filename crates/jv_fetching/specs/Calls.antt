@@ -1,5 +1,6 @@
 -- What the calls of a reading do.
-use Rattle.std.specs.Prelude.{◌≡◌, ℕ, List, [], ◌∷◌, fold, is_some, true, Option, None, Some}
+use Rattle.std.specs.Prelude.{◌≡◌, ◌≢◌, ℕ, ◌≤◌, List, [], ◌∷◌, fold, length, is_some, true, Option, None, Some}
+use Rattle.std.specs.List.{AllByRecursion}
 use Rattle.jv_model.specs.declared.slice.BlockId.{BlockId}
 use Rattle.jv_model.specs.declared.slice.Rec.{Rec}
 use Rattle.jv_model.specs.journal.Reading.{Asked}
@@ -37,6 +38,21 @@ pub record LooksUp (before after : Cached) : Type 0 where
   pub blocks : List BlockId
   pub is : after ≡ fold (λ cache b. noted_in cache (cache_key b)) before blocks
 
+-- at most this many were
+pub record LooksUpFew (most : ℕ) (before after : Cached) : Type 0 where
+  pub looks : LooksUp before after
+  pub few : length looks.blocks ≤ most
+
+-- a cache doesn't have a block: bytes of another length under its name are another block's
+abbrev pub IsMissing : Cached → BlockId → Type 0
+IsMissing cache b = (bytes : List ℕ) → found_in cache (cache_key b) ≡ Some bytes → length bytes ≢ b.size
+
+-- before a need at most this many blocks were looked up; a block that is needed was looked up last, and isn't there
+abbrev pub Asks : Need → ℕ → Cached → Cached → Type 0
+Asks (Look window) most before after = LooksUpFew most before after
+Asks (Block b) most before after = (middle : Cached) × LooksUpFew most before middle × (after ≡ noted_in middle (cache_key b)) × IsMissing before b
+Asks Nothing most before after = LooksUpFew most before after
+
 -- a block that came is kept, or not where memory is out
 pub data Keeps (b : BlockId) (bytes : List ℕ) (before after : Cached) : Type 0 where
   Kept : after ≡ kept_in before (cache_key b) bytes → Keeps b bytes before after
@@ -54,3 +70,7 @@ pub record HasCached (blocks : Blocks) (views : SeenViews) (block : ℕ) (cache 
 pub record IsOnly (views : SeenViews) (block : ℕ) (b : BlockId) : Type 0 where
   pub only : (window : ℕ) (view : View) → view_at views window ≡ Some view → (other : BlockId) → IsNamed view.list block other
       → cache_key other ≡ cache_key b → other ≡ b
+
+-- the records of views have sizes that their slices determine
+pub record AreSizedBy (sizes : ℕ → ℕ) (views : SeenViews) : Type 0 where
+  pub sized : (window : ℕ) (view : View) → view_at views window ≡ Some view → AllByRecursion (λ r. r.id ≢ 0 → r.size ≡ sizes r.id) view.list

@@ -4,7 +4,7 @@ use Rattle.std.specs.List.{AllByRecursion}
 use Rattle.jv_model.specs.declared.limits.TheConstants.{WINDOW}
 use Rattle.jv_model.specs.declared.slice.BlockId.{BlockId}
 use Rattle.jv_model.specs.journal.Reading.{Asked, bytes_from, window_start}
-use Rattle.jv_cache.specs.Cached.{Cached, found_in}
+use Rattle.jv_cache.specs.Cached.{Cached, found_in, noted_in}
 use Rattle.jv_contents.specs.Blocks.{Blocks}
 use Rattle.jv_contents.specs.Bytes.{Told}
 use Rattle.jv_handles.specs.declared.views.View.{View}
@@ -16,14 +16,14 @@ use Rattle.jv_fetching.specs.declared.begun.Read.{Read}
 use Rattle.jv_fetching.specs.declared.begun.Start.{Start}
 use Rattle.jv_fetching.specs.declared.begun.Start.TheVariants.{Over as StartOver, Look as StartLook, Begun as StartBegun}
 use Rattle.jv_fetching.specs.declared.need.Need.{Need}
-use Rattle.jv_fetching.specs.declared.need.Need.TheVariants.{Block}
+use Rattle.jv_fetching.specs.declared.need.Need.TheVariants.{Look, Block, Nothing}
 use Rattle.jv_fetching.specs.declared.spans.Span.{Span}
 use Rattle.jv_fetching.specs.declared.spans.Spans.{Spans}
 use Rattle.jv_fetching.specs.declared.spans.Spans.TheVariants.{Over, Last, Two}
 use Rattle.jv_fetching.specs.declared.fetch.Fetch.TheInside.{Inside}
 use Rattle.jv_fetching.specs.Fetching.{Fetching, fetch_left}
 use Rattle.jv_fetching.specs.Going.{CanFetch, IsBegunBy, IsFetching}
-use Rattle.jv_fetching.specs.Calls.{CachedOf, HasCached, LooksUp, Wants, cache_key, first_seen, first_unseen}
+use Rattle.jv_fetching.specs.Calls.{CachedOf, HasCached, IsMissing, LooksUpFew, Wants, cache_key, first_seen, first_unseen}
 
 -- ---- what is kept
 
@@ -102,11 +102,24 @@ pub record HasFilled (cache : Cached) (b : BlockId) (before after : Part) : Type
   pub found : found_in cache (cache_key b) ≡ Some bytes
   pub fills : FillsOne bytes before after
 
--- blocks that the cache has are filled in
+-- blocks that the cache has are filled in, each looked up once
 pub record Fills (cache later : Cached) (before after : Part) : Type 0 where
   pub further : IsFurther before after
-  pub looks : LooksUp cache later
+  pub looks : LooksUpFew (length before.left - length after.left) cache later
   pub reads : (blocks : Blocks) → CachedOf blocks before.list before.block cache → ReadsBlocks blocks before → ReadsBlocks blocks after
+
+-- up to one that it doesn't have, which was looked up too
+pub record Misses (cache later : Cached) (before after : Part) (b : BlockId) : Type 0 where
+  pub middle : Cached
+  pub fills : Fills cache middle before after
+  pub next : slice_get after.left 0 ≡ Some b
+  pub noted : later ≡ noted_in middle (cache_key b)
+  pub missing : IsMissing cache b
+
+-- or to the end
+abbrev pub FillsUp : Cached → Cached → Part → Part → Option BlockId → Type 0
+FillsUp cache later before after None = Fills cache later before after × (after.left ≡ [])
+FillsUp cache later before after (Some b) = Misses cache later before after b
 
 -- ---- a reading goes on
 
@@ -137,7 +150,7 @@ pub record FillsBegun (bytes : List ℕ) (before after : Fetching) : Type 0 wher
 
 -- a part's blocks are filled in as far as the cache has them: it waits for one, or was read
 pub data GoesOn (begun : Begun) (cache later : Cached) (before after : Fetching) : Option Need → Type 0 where
-  Waits : (part : Part) → Fills cache later begun.part part → (b : BlockId) → slice_get part.left 0 ≡ Some b
+  Waits : (part : Part) (b : BlockId) → Misses cache later begun.part part b
       → after ≡ waiting begun part before → GoesOn begun cache later before after (Some (Block b))
   Ended : (part : Part) → Fills cache later begun.part part → part.left ≡ [] → (bytes : List ℕ)
       → ((told : Told) → ReadsAs told part → bytes ≡ bytes_from (window_byte told part.list) part.from (part.to - part.from))
@@ -149,9 +162,21 @@ pub record Goes (views : SeenViews) (cache later : Cached) (before after : Fetch
   pub can : CanFetch views before → CanFetch views after
   pub falls : fetch_left after ≤ fetch_left before
   pub begins : before.begun ≡ None → first_seen views before.parts → fetch_left after < fetch_left before
-  pub looks : LooksUp cache later
+  pub looks : LooksUpFew (fetch_left before - fetch_left after) cache later
   pub reads : (blocks : Blocks) (all : List Asked) → HasCached blocks views before.block cache → IsFetching blocks views all before
       → IsFetching blocks views all after
+
+-- a block that is needed was looked up last, and isn't there
+abbrev pub Ends : Cached → Cached → Cached → Option Need → Type 0
+Ends cache middle later None = later ≡ middle
+Ends cache middle later (Some (Look window)) = later ≡ middle
+Ends cache middle later (Some (Block b)) = (later ≡ noted_in middle (cache_key b)) × IsMissing cache b
+Ends cache middle later (Some Nothing) = later ≡ middle
+
+pub record GoesTo (views : SeenViews) (cache later : Cached) (before after : Fetching) (result : Option Need) : Type 0 where
+  pub middle : Cached
+  pub goes : Goes views cache middle before after
+  pub ends : Ends cache middle later result
 
 -- it stops where something is needed, or where it is done with one part more
 abbrev pub Stops : SeenViews → Fetching → Fetching → Option Need → Type 0

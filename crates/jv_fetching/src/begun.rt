@@ -1,13 +1,13 @@
 //! A part of a range, while its blocks come.
-ghost use Rattle.std.specs.Prelude.{◌≡◌, ◌≤◌, ◌<◌, ◌-◌, Some, None, [], length, slice_get, IfOk, true, false};
+ghost use Rattle.std.specs.Prelude.{◌≡◌, ◌≢◌, ◌≤◌, ◌<◌, ◌-◌, Some, length, slice_get, IfOk, true, false};
 ghost use Rattle.std.specs.List.{AllByRecursion};
 ghost use Rattle.jv_contents.specs.Blocks.{Blocks};
 ghost use Rattle.jv_cache.specs.Cached.{noted_in};
 ghost use Rattle.jv_handles.specs.Views.{HasRecords};
 ghost use Rattle.jv_reading.specs.Laws.{ReadsBlocks};
-ghost use Rattle.jv_fetching.specs.Calls.{cache_key};
+ghost use Rattle.jv_fetching.specs.Calls.{IsMissing, cache_key};
 ghost use Rattle.jv_fetching.specs.Going.{IsBegunBy};
-ghost use Rattle.jv_fetching.specs.Inside.{IsWithin, Fills, FillsOne, HasFilled, Starts, asked_of, parts_of};
+ghost use Rattle.jv_fetching.specs.Inside.{IsWithin, FillsOne, FillsUp, HasFilled, Starts, asked_of, parts_of};
 
 use crate::spans::{Span, Spans};
 use jv_cache::{BlockCache, BlockKey};
@@ -89,9 +89,7 @@ fn begin(alloc: Global, block: u32, span: Span, view: &View) -> Result<Begun, Al
 
 /// Fills in the blocks that the cache has up to the first that it hasn't, which is returned. Each is looked up once.
 pub(crate) fn fill_cached(part: &mut WindowRead, cache: &mut BlockCache) -> Option<BlockId>
-    ensures fills { Fills cache.old cache.new part.old part.new }
-    ensures next { result ≡ slice_get part.new.left 0 }
-    ensures none { result ≡ None → part.new.left ≡ [] }
+    ensures { FillsUp cache.old cache.new part.old part.new result }
 {
     while let Some(block) = part.next() {
         if !fill_next(part, cache, block) {
@@ -107,6 +105,7 @@ fn fill_next(part: &mut WindowRead, cache: &mut BlockCache, block: BlockId) -> b
     ensures cache { cache.new ≡ noted_in cache.old (cache_key block) }
     ensures hit { result ≡ true → HasFilled cache.old block part.old part.new }
     ensures miss { result ≡ false → part.new ≡ part.old }
+    ensures missing { result ≡ false → IsMissing cache.old block }
 {
     let key = BlockKey {
         id: block.id,
@@ -123,6 +122,7 @@ fn fill_fitting(part: &mut WindowRead, block: BlockId, bytes: &Bytes) -> bool
     requires { slice_get part.old.left 0 ≡ Some block }
     ensures hit { result ≡ true → FillsOne bytes.now part.old part.new }
     ensures miss { result ≡ false → part.new ≡ part.old }
+    ensures other { result ≡ false → length bytes.now ≢ block.size }
 {
     if bytes.len() != block.size as usize {
         return false;

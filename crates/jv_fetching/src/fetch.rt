@@ -1,4 +1,9 @@
 //! A reading of a range of a file, window by window.
+ghost use Rattle.std.specs.Prelude.{◌≡◌, ◌++◌, IfOk};
+ghost use Rattle.jv_fetching.specs.Calls.{Keeps};
+ghost use Rattle.jv_fetching.specs.Fetching.{bytes_read, entry_at};
+ghost use Rattle.jv_fetching.specs.Inside.{parts_after, parts_of, reads_of};
+
 use crate::begun::{Begun, Read, Start, begin_first, fill_cached};
 use crate::need::Need;
 use crate::spans::{Spans, spans_of};
@@ -7,11 +12,6 @@ use jv_handles::Views;
 use jv_model::{BlockId, Bytes};
 use std::alloc::{AllocError, Global};
 use std::marker::Model;
-
-ghost use Rattle.std.specs.Prelude.{◌≡◌, ◌++◌, IfOk};
-ghost use Rattle.jv_fetching.specs.Calls.{Keeps};
-ghost use Rattle.jv_fetching.specs.Fetching.{bytes_read, entry_at};
-ghost use Rattle.jv_fetching.specs.Inside.{parts_after, parts_of, reads_of};
 
 /// A reading of a range of at most a window's length, which touches at most two windows. It goes from left to right; where
 /// the file ends inside a part, the part after it isn't read. Its memory is that of the bytes read and of one window's pieces.
@@ -40,15 +40,15 @@ impl Model for Fetch {
 }
 
 impl Fetch {
-    ghost use Rattle.std.specs.Prelude.{ℕ, ◌<◌, ◌≤◌, List, [], length, OnOk, Some, None};
+    ghost use Rattle.std.specs.Prelude.{ℕ, ◌-◌, ◌<◌, ◌≤◌, List, [], length, OnOk, Some, None};
     ghost use Rattle.jv_model.specs.declared.limits.TheConstants.{WINDOW, FILE_END};
     ghost use Rattle.jv_model.specs.journal.Reading.{Asked, asked_parts};
     ghost use Rattle.jv_contents.specs.Blocks.{Blocks};
     ghost use Rattle.jv_handles.specs.Views.{SeenViews};
     ghost use Rattle.jv_fetching.specs.Fetching.{begins, block_needed, fetch_left, fetched_of};
     ghost use Rattle.jv_fetching.specs.Going.{CanFetch, IsFetching};
-    ghost use Rattle.jv_fetching.specs.Calls.{HasCached, LooksUp, Wants, first_seen};
-    ghost use Rattle.jv_fetching.specs.Inside.{FillsBegun, FitsNext, Goes, GoesOn, StartsFrom, Stops, ended};
+    ghost use Rattle.jv_fetching.specs.Calls.{Asks, HasCached, LooksUp, Wants, first_seen};
+    ghost use Rattle.jv_fetching.specs.Inside.{FillsBegun, FitsNext, GoesOn, GoesTo, StartsFrom, Stops, ended};
 
     /// The reading of `len` bytes from `offset` on, 1 to 67,108,864 of them, over a volume whose blocks have `block` bytes.
     /// Nothing is read yet. Takes no memory.
@@ -78,6 +78,8 @@ impl Fetch {
         ensures begins_part { self.old.begun ≡ None → first_seen views.now self.old.parts
             → OnOk result (fetch_left self.new < fetch_left self.old) }
         ensures cache { LooksUp cache.old cache.new }
+        ensures asks { IfOk result (λ need. let most = fetch_left self.old - fetch_left self.new in
+            Asks need most cache.old cache.new) }
         ensures reads { (blocks : Blocks) (all : List Asked)
             → HasCached blocks views.now self.old.block cache.old
             → IsFetching blocks views.now all self.old
@@ -102,7 +104,7 @@ impl Fetch {
         ensures few { length self.old.parts ≤ 2 }
         ensures stops { IfOk result (Stops views.now self.old self.new) }
         ensures cache { LooksUp cache.old cache.new }
-        ensures goes { OnOk result (Goes views.now cache.old cache.new self.old self.new) }
+        ensures goes { IfOk result (GoesTo views.now cache.old cache.new self.old self.new) }
     {
         match self.take_start(views)? {
             Start::Over => Ok(None),
