@@ -1,6 +1,6 @@
 -- Laws of a cache in which blocks are looked up and kept.
-use Rattle.std.proofs.Common.{◌≡◌, ℕ, zero, suc, ◌+◌, ◌-◌, ◌<◌, ◌≤◌, ◌⊎◌, inl, inr, Bool, true, false, cond, List, [], ◌∷◌, ◌++◌, take, Option, None, Some, refl, sym, ap, subst, ◌∙◌, arith, length, length-append}
-use Rattle.std.specs.Prelude.{◌≢◌, ◌==◌, fold, is_some, Contains}
+use Rattle.std.proofs.Common.{◌≡◌, ℕ, zero, suc, ◌+◌, ◌-◌, ◌≤◌, ◌⊎◌, inl, inr, Bool, true, false, cond, List, [], ◌∷◌, ◌++◌, take, Option, None, Some, refl, sym, ap, subst, ◌∙◌, arith, length-append}
+use Rattle.std.specs.Prelude.{◌≢◌, ◌==◌, fold, is_some}
 use Rattle.std.specs.List.{AllByRecursion}
 use Rattle.std.specs.Map.{lookup, lookup_entry, remove_entry}
 use Rattle.std.specs.Option.{option_map_or}
@@ -9,7 +9,7 @@ use Rattle.std.proofs.lemmas.List.Elements.{All-contains, All-from_recursion}
 use Rattle.jv_model.specs.Counts.{counted}
 use Rattle.jv_model.specs.declared.slice.BlockId.{BlockId}
 use Rattle.jv_model.specs.declared.slice.Rec.{Rec}
-use Rattle.jv_model.specs.blocks.Slices.{block_at, block_length}
+use Rattle.jv_model.specs.blocks.Slices.{block_at}
 use Rattle.lru.specs.LruCache.{lru_cache, promoted, put_entries}
 use Rattle.jv_cache.specs.declared.key.BlockKey.{BlockKey}
 use Rattle.jv_cache.specs.Keys.{same_key}

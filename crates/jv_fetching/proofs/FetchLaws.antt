@@ -1,5 +1,5 @@
 -- Laws of a reading between its calls: it begins well, stays so while blocks and views come, and shows what its views show.
-use Rattle.std.proofs.Common.{◌≡◌, ◌⊎◌, ℕ, zero, suc, ◌+◌, ◌-◌, ◌*◌, ◌/◌, ◌%◌, ◌<◌, ◌≤◌, min, Bool, true, false, cond, List, [], ◌∷◌, ◌++◌, length, Option, None, Some, inl, inr, refl, sym, ap, subst, ◌∙◌, arith, append-nil}
+use Rattle.std.proofs.Common.{◌≡◌, ◌⊎◌, ℕ, ◌+◌, ◌*◌, ◌/◌, ◌<◌, ◌≤◌, min, Bool, true, false, cond, List, [], ◌∷◌, ◌++◌, length, Option, None, Some, inl, inr, refl, sym, ap, subst, ◌∙◌, arith, append-nil}
 use Rattle.std.specs.Prelude.{All, IfSome, is_some, nat_le, slice_get, if◌then◌else◌}
 use Rattle.std.specs.List.{AllByRecursion}
 use Rattle.std.proofs.lemmas.Bool.{cases_lt, le-leb, leb-false, leb-true, lt-leb}
@@ -7,7 +7,7 @@ use Rattle.std.proofs.lemmas.List.Elements.{All-head}
 use Rattle.std.proofs.lemmas.Nat.{div-add-mod', mod_below}
 use Rattle.jv_model.specs.declared.limits.TheConstants.{FILE_END, WINDOW}
 use Rattle.jv_model.specs.declared.slice.BlockId.{BlockId}
-use Rattle.jv_model.specs.journal.Reading.{Asked, asked_parts, window_start}
+use Rattle.jv_model.specs.journal.Reading.{Asked, asked_parts}
 use Rattle.jv_contents.specs.Blocks.{Blocks, Grows, told_by}
 use Rattle.jv_contents.proofs.BlockLaws.{grows-none, grows-then}
 use Rattle.jv_handles.specs.declared.views.View.{View}
@@ -19,9 +19,9 @@ use Rattle.jv_reading.proofs.PartLaws.{reads_go_on}
 use Rattle.jv_fetching.specs.declared.begun.Begun.{Begun}
 use Rattle.jv_fetching.specs.declared.begun.Read.{Read}
 use Rattle.jv_fetching.specs.declared.need.Need.TheVariants.{Look}
-use Rattle.jv_fetching.specs.Fetching.{Fetching, begins, block_needed, bytes_read, entry_at, fetch_left, fetched_of, next_of, weight}
+use Rattle.jv_fetching.specs.Fetching.{Fetching, begins, bytes_read, entry_at, fetched_of, next_of, weight}
 use Rattle.jv_fetching.specs.Shows.{IsReadBy, One, Two, shown_bytes, window_needed}
-use Rattle.jv_fetching.specs.Going.{CanFetch, HasBegun, HasRead, IsFetching, IsShown}
+use Rattle.jv_fetching.specs.Going.{HasBegun, HasRead, IsFetching, IsShown}
 use Rattle.jv_fetching.specs.Calls.{Wants, first_seen, first_unseen}
 use Rattle.jv_fetching.specs.Inside.{IsWithin}
 use Rattle.jv_fetching.specs.Laws.{FetchesGoOn, IsOfView}

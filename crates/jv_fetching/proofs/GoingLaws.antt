@@ -1,18 +1,18 @@
 -- Laws of a reading that goes on: it begins with a part, fills in its blocks, and ends with it.
-use Rattle.std.proofs.Common.{◌≡◌, ℕ, zero, suc, ◌+◌, ◌-◌, ◌<◌, ◌≤◌, Bool, true, false, List, [], ◌∷◌, ◌++◌, length, drop, get_or, Option, None, Some, inl, inr, refl, sym, ap, subst, ◌∙◌, arith, length-drop}
-use Rattle.std.specs.Prelude.{◌⊎◌, All, IfSome, is_some, nat_le, slice_get}
+use Rattle.std.proofs.Common.{◌≡◌, ℕ, ◌+◌, ◌-◌, ◌<◌, ◌≤◌, Bool, true, false, List, [], ◌∷◌, ◌++◌, length, drop, Option, None, Some, inl, inr, refl, sym, ap, subst, ◌∙◌, arith, length-drop}
+use Rattle.std.specs.Prelude.{◌⊎◌, All, IfSome, is_some, slice_get}
 use Rattle.std.proofs.lemmas.Bool.{le-leb, lt-leb}
 use Rattle.std.proofs.lemmas.List.{drop-drop}
-use Rattle.std.proofs.lemmas.List.Elements.{All-drop, All-head}
+use Rattle.std.proofs.lemmas.List.Elements.{All-drop}
 use Rattle.jv_model.specs.declared.slice.BlockId.{BlockId}
 use Rattle.jv_model.specs.declared.slice.Rec.{Rec}
 use Rattle.jv_model.specs.journal.Reading.{Asked, bytes_from, window_start}
 use Rattle.jv_cache.specs.Cached.{Cached, found_in, noted_in}
-use Rattle.jv_contents.specs.Blocks.{Blocks, Grows, told_by}
+use Rattle.jv_contents.specs.Blocks.{Blocks, told_by}
 use Rattle.jv_contents.specs.Bytes.{Told}
 use Rattle.jv_handles.specs.declared.views.View.{View}
 use Rattle.jv_handles.specs.Views.{SeenViews, view_at}
-use Rattle.jv_reading.specs.Parts.{FillsIn, IsNamed, IsPartOf, Part, ReadsAs, window_byte}
+use Rattle.jv_reading.specs.Parts.{IsNamed, Part, ReadsAs, window_byte}
 use Rattle.jv_reading.specs.Laws.{ReadsBlocks}
 use Rattle.jv_reading.proofs.PartLaws.{reads_go_on}
 use Rattle.jv_fetching.specs.declared.begun.Begun.{Begun}
@@ -20,11 +20,11 @@ use Rattle.jv_fetching.specs.declared.begun.Read.{Read}
 use Rattle.jv_fetching.specs.declared.need.Need.{Need}
 use Rattle.jv_fetching.specs.declared.need.Need.TheVariants.{Look, Block, Nothing}
 use Rattle.jv_fetching.specs.Fetching.{Fetching, block_needed, fetch_left, next_of, weight}
-use Rattle.jv_fetching.specs.Shows.{shown_bytes, shown_len}
+use Rattle.jv_fetching.specs.Shows.{shown_len}
 use Rattle.jv_fetching.specs.Going.{CanFetch, HasBegun, HasRead, IsBegunBy, IsFetching, IsShown}
-use Rattle.jv_fetching.specs.Calls.{Asks, CachedOf, HasCached, IsMissing, LooksUp, LooksUpFew, Wants, cache_key, first_seen, first_unseen}
-use Rattle.jv_fetching.specs.Inside.{BeginsBy, Ends, Fills, FillsBegun, FillsOne, FillsUp, FirstBegins, Goes, GoesOn, GoesTo, HasFilled, IsFurther, Misses, Stops, Waits, Ended, ended, parts_after, waiting}
-use Rattle.jv_fetching.proofs.CacheLaws.{cached_looks, few_none, few_one, few_then, has_looks, looks_keep, looks_one, looks_then, missing_before}
+use Rattle.jv_fetching.specs.Calls.{Asks, CachedOf, HasCached, IsMissing, LooksUp, LooksUpFew, cache_key, first_seen, first_unseen}
+use Rattle.jv_fetching.specs.Inside.{Ends, Fills, FillsBegun, FillsOne, FirstBegins, Goes, GoesOn, GoesTo, HasFilled, IsFurther, Misses, Stops, Waits, Ended, ended, parts_after}
+use Rattle.jv_fetching.proofs.CacheLaws.{few_none, few_one, few_then, has_looks, looks_keep, looks_one, looks_then, missing_before}
 
 -- ---- blocks of a part
 

@@ -1,10 +1,9 @@
 -- What views of a handle show is what those of the model's file show.
-use Rattle.std.proofs.Common.{◌≡◌, ◌⊎◌, ℕ, zero, suc, ◌+◌, ◌-◌, ◌*◌, ◌<◌, ◌≤◌, min, Bool, true, false, cond, List, [], ◌∷◌, ◌++◌, length, Option, None, Some, inl, inr, refl, sym, ap, subst, ◌∙◌, arith, eq-eqb, ne_eqb}
+use Rattle.std.proofs.Common.{◌≡◌, ◌⊎◌, ℕ, zero, suc, ◌+◌, ◌-◌, ◌*◌, ◌<◌, ◌≤◌, min, Bool, true, false, cond, List, [], ◌∷◌, length, Option, None, Some, inl, inr, refl, sym, ap, subst, ◌∙◌, arith, eq-eqb, ne_eqb}
 use Rattle.std.specs.Prelude.{◌≢◌, ◌==◌, ◌&&◌, nat_le, if◌then◌else◌}
 use Rattle.std.specs.List.{AllByRecursion}
 use Rattle.std.specs.Option.{option_map}
-use Rattle.std.proofs.lemmas.Bool.{cases_lt}
-use Rattle.jv_model.specs.declared.limits.TheConstants.{FILE_END, WINDOW}
+use Rattle.jv_model.specs.declared.limits.TheConstants.{WINDOW}
 use Rattle.jv_model.specs.client.ModelClient.{OpenFile, View as ModelView}
 use Rattle.jv_model.specs.journal.Reading.{Asked, asked_parts, bytes_between, bytes_from, cited_view, first_that, fresh_view, is_fresh, is_full, joined, only_if, part_read, part_to_look, read_on, reading, window_start}
 use Rattle.jv_model.specs.declared.slice.Rec.{Rec}
@@ -16,7 +15,7 @@ use Rattle.jv_shared.proofs.SeenLaws.{bytes_from-same}
 use Rattle.jv_handles.specs.declared.handle.Handle.{Handle}
 use Rattle.jv_handles.specs.declared.views.View.{View}
 use Rattle.jv_handles.specs.Held.{IsHandle, IsSeen, SamePlace}
-use Rattle.jv_handles.specs.Views.{SeenViews, view_at}
+use Rattle.jv_handles.specs.Views.{view_at}
 use Rattle.jv_reading.specs.Parts.{window_byte}
 use Rattle.jv_fetching.specs.Calls.{AreSizedBy}
 use Rattle.jv_fetching.specs.Shows.{IsReadBy, One, Two, shown_bytes, shown_len, window_needed}

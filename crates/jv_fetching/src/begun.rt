@@ -99,7 +99,8 @@ pub(crate) fn fill_cached(part: &mut WindowRead, cache: &mut BlockCache) -> Opti
     None
 }
 
-/// Looks up the next block, and fills it in where the cache has it; returns whether it has. One of another length isn't it.
+/// Looks up the next block, and fills it in where the cache has it; returns whether it has. Bytes of another length
+/// aren't it.
 fn fill_next(part: &mut WindowRead, cache: &mut BlockCache, block: BlockId) -> bool
     requires { slice_get part.old.left 0 ≡ Some block }
     ensures cache { cache.new ≡ noted_in cache.old (cache_key block) }

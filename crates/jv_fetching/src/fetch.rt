@@ -13,8 +13,9 @@ use jv_model::{BlockId, Bytes};
 use std::alloc::{AllocError, Global};
 use std::marker::Model;
 
-/// A reading of a range of at most a window's length, which touches at most two windows. It goes from left to right; where
-/// the file ends inside a part, the part after it isn't read. Its memory is that of the bytes read and of one window's pieces.
+/// A reading of a range of at most a window's length, which touches at most two windows. It goes from left to right;
+/// where the file ends inside a part, the part after it isn't read. Its memory is that of the bytes read and of one
+/// window's pieces.
 #[derive(Drop)]
 pub struct Fetch {
     alloc: Global,
@@ -50,8 +51,8 @@ impl Fetch {
     ghost use Rattle.jv_fetching.specs.Calls.{Asks, HasCached, LooksUp, Wants, first_seen};
     ghost use Rattle.jv_fetching.specs.Inside.{FillsBegun, FitsNext, GoesOn, GoesTo, StartsFrom, Stops, ended};
 
-    /// The reading of `len` bytes from `offset` on, 1 to 67,108,864 of them, over a volume whose blocks have `block` bytes.
-    /// Nothing is read yet. Takes no memory.
+    /// The reading of `len` bytes from `offset` on, 1 to 67,108,864 of them, over a volume whose blocks have `block`
+    /// bytes, at least 1. Nothing is read yet. Takes no memory.
     pub fn new(alloc: Global, offset: u64, len: u32, block: u32) -> Fetch
         requires some { 0 < block }
         requires low { offset < FILE_END }
@@ -68,8 +69,9 @@ impl Fetch {
         }
     }
 
-    /// Goes on as far as views and cached blocks reach, and returns what it needs then. Each block is looked up once: a hit
-    /// where the cache has it, else a miss. Where memory is out, the reading is over.
+    /// Goes on as far as views and cached blocks reach, and returns what it needs then: a look at the window of the next
+    /// part, a block that the cache lacks, or nothing. Each block is looked up once, a hit or a miss; bytes of another
+    /// length than the block's aren't it. Out of memory, the reading is over.
     pub fn advance(&mut self, views: &Views, cache: &mut BlockCache) -> Result<Need, AllocError>
         ensures block { self.new.block ≡ self.old.block }
         ensures wants { IfOk result (Wants views.now self.new) }
@@ -94,7 +96,8 @@ impl Fetch {
         Ok(Need::Nothing)
     }
 
-    /// Reads the first of the parts, and returns what it needs for that, or `None` where the part was read or there is none.
+    /// Reads the first of the parts, and returns what it needs for that, or `None` where the part was read or there is
+    /// none.
     fn read_part(
         &mut self,
         views: &Views,
@@ -159,8 +162,8 @@ impl Fetch {
         }
     }
 
-    /// Fills in the block that is needed, and keeps it in the cache where memory allows. It has as many bytes as its `size`
-    /// says.
+    /// Fills in the block that is needed, and keeps it in the cache where memory allows. It has as many bytes as its
+    /// `size` says. The reading goes on by the next `advance`.
     pub fn fill(&mut self, cache: &mut BlockCache, block: BlockId, bytes: Bytes)
         requires needed { block_needed self.old ≡ Some block }
         requires long { length bytes ≡ block.size }
@@ -191,7 +194,8 @@ impl Fetch {
         }
     }
 
-    /// The entries of the looks that the reading cites, 0 for a window that wasn't read, and its bytes. It needs nothing more.
+    /// The entries of the looks that the reading cites, 0 for a window that wasn't read, and its bytes. It needs nothing
+    /// more. Takes memory only where two parts were read: the bytes of one are moved.
     pub fn into_parts(self) -> Result<(u64, u64, Bytes), AllocError>
         requires { self.parts ≡ [] }
         ensures { IfOk result (λ parts. parts ≡ fetched_of self) }

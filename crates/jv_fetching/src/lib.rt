@@ -1,5 +1,5 @@
-//! The bytes that a read returns, put together from what its handle saw, from blocks at hand and from blocks that come one
-//! at a time. It asks no device.
+//! The bytes that a read returns, put together from what its handle saw, from blocks at hand and from blocks that come
+//! one at a time. It asks no device.
 #![tactic(auto)]
 
 mod begun;
