@@ -64,6 +64,27 @@ file_of-with_file files handle file new e =
     ∙ ap (λ n. file_of (slice_set files o.place new) n) next
     ∙ file_of-place (slice_set files o.place new) o.place ∙ ap file_in (slice_get-set files o.place new o.inside)
 
+-- what is put back where it stood
+set-back : {X : Type 0} (files : List (Option X)) (k : ℕ) (file : X) (new : Option X)
+    → file_in (slice_get files k) ≡ Some file → slice_set (slice_set files k new) k (Some file) ≡ files
+set-back [] k file new e = refl
+set-back (x ∷ xs) zero file new e = ap (λ o. o ∷ xs) (sym e)
+set-back (x ∷ xs) (suc k) file new e = ap (λ ys. x ∷ ys) (set-back xs k file new e)
+
+pub with_file-back : {X : Type 0} (files : List (Option X)) (handle : ℕ) (file new : X)
+    → file_of files handle ≡ Some file → with_file handle (Some file) (with_file handle (Some new) files) ≡ files
+with_file-back files handle file new e =
+    let o = open_at files handle file e in
+    let later = with_file handle (Some new) files in
+    let given = open_at later handle new (file_of-with_file files handle file (Some new) e) in
+    let number = o.number in
+    let numbers = given.number in
+    let place : given.place ≡ o.place = omega (arith, number, numbers) in
+    with_file-open later handle new (Some file) given
+    ∙ ap (λ k. slice_set later k (Some file)) place
+    ∙ ap (λ files. slice_set files o.place (Some file)) (with_file-open files handle file (Some new) o)
+    ∙ set-back files o.place file (Some new) o.is
+
 -- a table whose files all changed
 module _ {X : Type 0} (change : Option X → Option X) (none : change None ≡ None) where
   place-changed : (files : List (Option X)) (n : ℕ)

@@ -3,7 +3,7 @@ use Rattle.std.specs.Prelude.{ℕ, ◌==◌, if◌then◌else◌, List, [], ◌�
 use Rattle.jv_model.specs.client.ModelClient.{file_of}
 use Rattle.jv_handles.specs.declared.handle.Handle.{Handle}
 use Rattle.jv_handles.specs.declared.views.View.{View}
-use Rattle.jv_handles.specs.Views.{no_views, with_view}
+use Rattle.jv_handles.specs.Views.{no_views, with_view, without_view}
 
 -- the inode of a handle's file, 0 where it isn't open
 abbrev pub inode_of_handle : Option Handle → ℕ
@@ -32,3 +32,8 @@ unseen inode (Some handle) = if handle.inode == inode then Some (record handle {
 abbrev pub seen_by : ℕ → View → Option Handle → Option Handle
 seen_by window view None = None
 seen_by window view (Some handle) = Some (record handle { views = with_view window view handle.views })
+
+-- a handle without its view of a window
+abbrev pub unseen_by : ℕ → Option Handle → Option Handle
+unseen_by window None = None
+unseen_by window (Some handle) = Some (record handle { views = without_view window handle.views })

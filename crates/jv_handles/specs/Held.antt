@@ -27,11 +27,13 @@ pub record IsSeen (g : Known) (v : Shared) (window : ℕ) (m : ModelView) (view 
   pub shows : IsView g v window view.length view.list m.content
 
 -- an open file of the model is the one of a handle, opened by now, with the fresh views of its windows
-pub record IsHandle (g : Known) (v : Shared) (views : List ModelView) (count : ℕ) (number : ℕ) (file : OpenFile) (handle : Handle) : Type 0 where
+pub record IsHandle (g : Known) (v : Shared) (views : List ModelView) (count : ℕ) (number : ℕ) (file : OpenFile)
+    (handle : Handle) : Type 0 where
   pub inode : file.inode ≡ handle.inode
   pub opened : file.opened ≡ handle.opened
   pub before : file.opened ≤ count
-  pub seen : (window : ℕ) → SamePlace (IsSeen g v window) (fresh_view views number file window) (view_at handle.views window)
+  pub seen : (window : ℕ) → SamePlace (IsSeen g v window) (fresh_view views number file window)
+      (view_at handle.views window)
 
 -- all of a client's open files
 abbrev pub AreHandles : Known → Shared → List ModelView → ℕ → List (Option OpenFile) → List (Option Handle) → Type 0

@@ -2,7 +2,7 @@
 use Rattle.std.specs.Prelude.{ℕ, List, [], Option}
 use Rattle.std.specs.List.{All, AllByRecursion}
 use Rattle.std.specs.BTreeMap.{insert_entry, is_at}
-use Rattle.std.specs.Map.{lookup, values_of}
+use Rattle.std.specs.Map.{lookup, remove_entry, values_of}
 use Rattle.std.specs.Ordering.{nat_cmp}
 use Rattle.jv_model.specs.blocks.Slices.{IsRecord}
 use Rattle.jv_handles.specs.declared.views.View.{View}
@@ -28,3 +28,6 @@ no_views = record { entries = [] }
 -- with a view of a window, in place of the one before
 abbrev pub with_view : ℕ → View → SeenViews → SeenViews
 with_view window view views = record { entries = insert_entry nat_cmp views.entries window view }
+
+abbrev pub without_view : ℕ → SeenViews → SeenViews
+without_view window views = record { entries = remove_entry (is_at (nat_cmp window)) views.entries }

@@ -7,7 +7,7 @@ mod views;
 
 pub use handle::Handle;
 pub use table::{
-    clear, forget_views, free_handle, held, inode_at, is_open_elsewhere, named, open_count, set,
-    set_view,
+    clear, drop_view, forget_views, free_handle, held, inode_at, is_open_elsewhere, named,
+    open_count, set, set_view,
 };
 pub use views::{View, Views};

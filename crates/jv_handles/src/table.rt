@@ -1,8 +1,9 @@
 //! The table of a client's open files: the handle numbered `h` stands at index `h - 1`.
-ghost use Rattle.std.specs.Prelude.{◌≡◌, ◌+◌, ◌-◌, ◌<◌, ◌≤◌, ◌^◌, ◌==◌, ◌&&◌, not, None, Some, IsSome, IfOk, OnOk, OnErr, is_some, [], ◌∷◌, length, map, vec_len, vec_capacity};
+ghost use Rattle.std.specs.Prelude.{◌≡◌, ◌+◌, ◌-◌, ◌<◌, ◌≤◌, ◌^◌, ◌==◌, ◌&&◌, not, None, Some, IsSome, IfOk, OnOk};
+ghost use Rattle.std.specs.Prelude.{OnErr, is_some, [], ◌∷◌, length, map, vec_len, vec_capacity};
 ghost use Rattle.std.specs.Option.{option_copied};
 ghost use Rattle.jv_model.specs.client.ModelClient.{file_of, free_handle, is_among, open_count, with_file};
-ghost use Rattle.jv_handles.specs.Handles.{held_here, inode_here, seen_by, unseen};
+ghost use Rattle.jv_handles.specs.Handles.{held_here, inode_here, seen_by, unseen, unseen_by};
 ghost use Rattle.jv_handles.specs.Views.{HasRecords};
 
 use crate::handle::Handle;
@@ -10,7 +11,7 @@ use crate::views::View;
 use jv_model::{InodeList, Sequence, push_in_room};
 use std::alloc::{AllocError, Global};
 
-/// What a handle names.
+/// What a handle names, None where it isn't open. Handles count from 1.
 pub fn named(handles: &[Option<Handle>], handle: u64) -> Option<&Handle>
     ensures { option_copied result ≡ file_of handles.now handle }
 {
@@ -34,7 +35,7 @@ pub fn inode_at(handles: &[Option<Handle>], handle: u64) -> u64
     }
 }
 
-/// The inodes of all open files, in the order of their handles.
+/// The inodes of all open files, in the order of their handles; an error where there is no memory for them.
 pub fn held(alloc: Global, handles: &[Option<Handle>]) -> Result<InodeList, AllocError>
     ensures { IfOk result (λ inodes. inodes ≡ held_here handles.now) }
 {
@@ -83,7 +84,7 @@ pub fn open_count(handles: &[Option<Handle>]) -> usize
     count
 }
 
-/// The least handle that isn't in use.
+/// The least handle that isn't in use, 1 or more.
 pub fn free_handle(handles: &[Option<Handle>]) -> u64
     requires { length handles.now < 2 ^ 63 }
     ensures free { result ≡ free_handle handles.now }
@@ -123,7 +124,8 @@ pub fn clear(handles: &mut [Option<Handle>], handle: u64)
     handles[(handle - 1) as usize] = None;
 }
 
-/// Gives a handle that is in use the view of a window. On error nothing has changed.
+/// Gives a handle that is in use the view of a window, in place of the one before. Without memory for a window that it
+/// had no view of, an error, and nothing has changed.
 pub fn set_view(
     handles: &mut [Option<Handle>],
     handle: u64,
@@ -143,7 +145,20 @@ pub fn set_view(
     }
 }
 
-/// Drops the views of a file that changed. Takes no memory.
+/// Drops the view of a window by a handle that is in use, if there is one. Takes no memory.
+pub fn drop_view(handles: &mut [Option<Handle>], handle: u64, window: u32)
+    requires { IsSome (file_of handles.old handle) }
+    ensures { handles.new
+        ≡ with_file handle (unseen_by window (file_of handles.old handle)) handles.old }
+{
+    let index = (handle - 1) as usize;
+    match &mut handles[index] {
+        Some(open) => open.views.remove(window),
+        None => unreachable!(),
+    }
+}
+
+/// Drops the views of a file that changed, of all its windows and by each of its handles. Takes no memory.
 pub fn forget_views(handles: &mut [Option<Handle>], inode: u64)
     ensures { handles.new ≡ map (unseen inode) handles.old }
 {

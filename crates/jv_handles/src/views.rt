@@ -34,7 +34,7 @@ impl Model for Views {
 impl Views {
     ghost use Rattle.std.specs.Prelude.{◌≡◌, IfSome, OnOk, OnErr};
     ghost use Rattle.std.specs.Option.{option_copied};
-    ghost use Rattle.jv_handles.specs.Views.{HasRecords, no_views, view_at, with_view};
+    ghost use Rattle.jv_handles.specs.Views.{HasRecords, no_views, view_at, with_view, without_view};
 
     /// No views. Takes no memory.
     pub fn new(alloc: Global) -> Views
@@ -53,7 +53,8 @@ impl Views {
         self.by_window.get(&window)
     }
 
-    /// Keeps the view of a window, in place of the one before. On error nothing has changed.
+    /// Keeps the view of a window, in place of the one before. Without memory for a window that has none, an error, and
+    /// nothing has changed.
     pub fn set(&mut self, window: u32, view: View) -> Result<(), AllocError>
         requires { HasRecords view }
         ensures set { OnOk result (self.new ≡ with_view window view self.old) }
@@ -63,6 +64,13 @@ impl Views {
             Ok(_) => Ok(()),
             Err(_) => Err(AllocError),
         }
+    }
+
+    /// Drops the view of a window, if there is one. Takes no memory.
+    pub fn remove(&mut self, window: u32)
+        ensures { self.new ≡ without_view window self.old }
+    {
+        self.by_window.remove(&window);
     }
 
     /// Drops all views. Takes no memory.

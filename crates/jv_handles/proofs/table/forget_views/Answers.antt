@@ -11,4 +11,5 @@ loop-open-preserved c =
     let seen = c.loop-open.handles in
     let inside : i < length seen = omega arith in
     ap (slice_set seen i) c.forget_slot.ensures
-    ∙ map_over_more (unseen c.args.inode) c.args.handles.now seen i (get_or seen i c.open-item.result) c.loop-open-test.true c.loop-open.invariant (get_or_default seen i c.open-item.result _ inside)
+    ∙ map_over_more (unseen c.args.inode) c.args.handles.now seen i (get_or seen i c.open-item.result)
+    c.loop-open-test.true c.loop-open.invariant (get_or_default seen i c.open-item.result _ inside)
