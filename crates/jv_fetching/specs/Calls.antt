@@ -3,6 +3,7 @@ use Rattle.std.specs.Prelude.{◌≡◌, ◌≢◌, ℕ, ◌≤◌, List, [], �
 use Rattle.std.specs.List.{AllByRecursion}
 use Rattle.jv_model.specs.declared.slice.BlockId.{BlockId}
 use Rattle.jv_model.specs.declared.slice.Rec.{Rec}
+use Rattle.jv_model.specs.blocks.Slices.{block_at}
 use Rattle.jv_model.specs.journal.Reading.{Asked}
 use Rattle.jv_cache.specs.declared.key.BlockKey.{BlockKey}
 use Rattle.jv_cache.specs.Cached.{Cached, found_in, kept_in, noted_in}
@@ -50,7 +51,8 @@ IsMissing cache b = (bytes : List ℕ) → found_in cache (cache_key b) ≡ Some
 -- before a need at most this many blocks were looked up; a block that is needed was looked up last, and isn't there
 abbrev pub Asks : Need → ℕ → Cached → Cached → Type 0
 Asks (Look window) most before after = LooksUpFew most before after
-Asks (Block b) most before after = (middle : Cached) × LooksUpFew most before middle × (after ≡ noted_in middle (cache_key b)) × IsMissing before b
+Asks (Block b) most before after =
+    (middle : Cached) × LooksUpFew most before middle × (after ≡ noted_in middle (cache_key b)) × IsMissing before b
 Asks Nothing most before after = LooksUpFew most before after
 
 -- a block that came is kept, or not where memory is out
@@ -60,7 +62,8 @@ pub data Keeps (b : BlockId) (bytes : List ℕ) (before after : Cached) : Type 0
 
 -- what the cache has under the name of a block of these records is that block
 pub record CachedOf (blocks : Blocks) (list : List Rec) (block : ℕ) (cache : Cached) : Type 0 where
-  pub has : (b : BlockId) → IsNamed list block b → (bytes : List ℕ) → found_in cache (cache_key b) ≡ Some bytes → blocks b ≡ Some bytes
+  pub has : (b : BlockId) → IsNamed list block b → (bytes : List ℕ) → found_in cache (cache_key b) ≡ Some bytes
+      → blocks b ≡ Some bytes
 
 -- and so of the records of each view
 pub record HasCached (blocks : Blocks) (views : SeenViews) (block : ℕ) (cache : Cached) : Type 0 where
@@ -68,9 +71,16 @@ pub record HasCached (blocks : Blocks) (views : SeenViews) (block : ℕ) (cache 
 
 -- no other block that views name has this one's slice and index
 pub record IsOnly (views : SeenViews) (block : ℕ) (b : BlockId) : Type 0 where
-  pub only : (window : ℕ) (view : View) → view_at views window ≡ Some view → (other : BlockId) → IsNamed view.list block other
+  pub only : (window : ℕ) (view : View) → view_at views window ≡ Some view → (other : BlockId)
+      → IsNamed view.list block other
       → cache_key other ≡ cache_key b → other ≡ b
 
 -- the records of views have sizes that their slices determine
 pub record AreSizedBy (sizes : ℕ → ℕ) (views : SeenViews) : Type 0 where
-  pub sized : (window : ℕ) (view : View) → view_at views window ≡ Some view → AllByRecursion (λ r. r.id ≢ 0 → r.size ≡ sizes r.id) view.list
+  pub sized : (window : ℕ) (view : View) → view_at views window ≡ Some view
+      → AllByRecursion (λ r. r.id ≢ 0 → r.size ≡ sizes r.id) view.list
+
+-- all that the cache has are blocks of slices with these sizes, each under its own name
+pub record IsCacheOf (sizes : ℕ → ℕ) (block : ℕ) (blocks : Blocks) (cache : Cached) : Type 0 where
+  pub has : (key : BlockKey) (bytes : List ℕ) → found_in cache key ≡ Some bytes
+      → blocks (block_at key.id (sizes key.id) block key.index) ≡ Some bytes

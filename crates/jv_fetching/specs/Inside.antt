@@ -1,5 +1,6 @@
 -- What a reading keeps, and what the functions within do.
-use Rattle.std.specs.Prelude.{◌≡◌, ◌⊎◌, ℕ, ◌+◌, ◌-◌, ◌<◌, ◌≤◌, Bool, true, false, List, [], ◌∷◌, ◌++◌, drop, length, slice_get, Option, None, Some, IfSome, IsSomeAnd}
+use Rattle.std.specs.Prelude.{◌≡◌, ◌⊎◌, ℕ, ◌+◌, ◌-◌, ◌<◌, ◌≤◌, Bool, true, false, List, [], ◌∷◌, ◌++◌, drop, length}
+use Rattle.std.specs.Prelude.{slice_get, Option, None, Some, IfSome, IsSomeAnd}
 use Rattle.std.specs.List.{AllByRecursion}
 use Rattle.jv_model.specs.declared.limits.TheConstants.{WINDOW}
 use Rattle.jv_model.specs.declared.slice.BlockId.{BlockId}
@@ -14,7 +15,8 @@ use Rattle.jv_reading.specs.Laws.{ReadsBlocks}
 use Rattle.jv_fetching.specs.declared.begun.Begun.{Begun}
 use Rattle.jv_fetching.specs.declared.begun.Read.{Read}
 use Rattle.jv_fetching.specs.declared.begun.Start.{Start}
-use Rattle.jv_fetching.specs.declared.begun.Start.TheVariants.{Over as StartOver, Look as StartLook, Begun as StartBegun}
+use Rattle.jv_fetching.specs.declared.begun.Start.TheVariants.{Over as StartOver, Look as StartLook}
+use Rattle.jv_fetching.specs.declared.begun.Start.TheVariants.{Begun as StartBegun}
 use Rattle.jv_fetching.specs.declared.need.Need.{Need}
 use Rattle.jv_fetching.specs.declared.need.Need.TheVariants.{Look, Block, Nothing}
 use Rattle.jv_fetching.specs.declared.spans.Span.{Span}
@@ -23,7 +25,8 @@ use Rattle.jv_fetching.specs.declared.spans.Spans.TheVariants.{Over, Last, Two}
 use Rattle.jv_fetching.specs.declared.fetch.Fetch.TheInside.{Inside}
 use Rattle.jv_fetching.specs.Fetching.{Fetching, fetch_left}
 use Rattle.jv_fetching.specs.Going.{CanFetch, IsBegunBy, IsFetching}
-use Rattle.jv_fetching.specs.Calls.{CachedOf, HasCached, IsMissing, LooksUpFew, Wants, cache_key, first_seen, first_unseen}
+use Rattle.jv_fetching.specs.Calls.{CachedOf, HasCached, IsMissing, LooksUpFew, Wants, cache_key, first_seen}
+use Rattle.jv_fetching.specs.Calls.{first_unseen}
 
 -- ---- what is kept
 
@@ -49,7 +52,8 @@ pub record IsWithin (asked : Asked) : Type 0 where
   pub some : asked.from < asked.to
   pub high : asked.to ≤ window_start asked.window + WINDOW
 
--- at most two parts, each in its window; what has begun is one of those that are left, and the second is read after the first
+-- at most two parts, each in its window; what has begun is one of those that are left, and the second is read after the
+-- first
 pub record IsSound (f : Inside) : Type 0 where
   pub wide : 0 < f.block
   pub in_order : f.first ≡ None → f.second ≡ None
@@ -80,7 +84,8 @@ Starts views block parts (StartBegun begun) = FirstBegins views block parts begu
 abbrev pub StartsFrom : SeenViews → Fetching → Start → Type 0
 StartsFrom views f StartOver = (f.begun ≡ None) × (f.parts ≡ [])
 StartsFrom views f (StartLook window) = (f.begun ≡ None) × first_unseen views f.parts window
-StartsFrom views f (StartBegun begun) = (1 ≤ length f.parts) × ((f.begun ≡ Some begun) ⊎ ((f.begun ≡ None) × FirstBegins views f.block f.parts begun))
+StartsFrom views f (StartBegun begun) =
+    (1 ≤ length f.parts) × ((f.begun ≡ Some begun) ⊎ ((f.begun ≡ None) × FirstBegins views f.block f.parts begun))
 
 -- ---- blocks are filled in
 
@@ -106,7 +111,8 @@ pub record HasFilled (cache : Cached) (b : BlockId) (before after : Part) : Type
 pub record Fills (cache later : Cached) (before after : Part) : Type 0 where
   pub further : IsFurther before after
   pub looks : LooksUpFew (length before.left - length after.left) cache later
-  pub reads : (blocks : Blocks) → CachedOf blocks before.list before.block cache → ReadsBlocks blocks before → ReadsBlocks blocks after
+  pub reads : (blocks : Blocks) → CachedOf blocks before.list before.block cache → ReadsBlocks blocks before
+      → ReadsBlocks blocks after
 
 -- up to one that it doesn't have, which was looked up too
 pub record Misses (cache later : Cached) (before after : Part) (b : BlockId) : Type 0 where
@@ -133,7 +139,12 @@ parts_after true parts = drop 1 parts
 parts_after false parts = []
 
 abbrev pub ended : ℕ → Bool → List ℕ → Fetching → Fetching
-ended entry is_full bytes f = record f { begun = None; parts = parts_after is_full f.parts; read = f.read ++ record { entry = entry; bytes = bytes } ∷ [] }
+ended entry is_full bytes f =
+    record f {
+      begun = None;
+      parts = parts_after is_full f.parts;
+      read = f.read ++ record { entry = entry; bytes = bytes } ∷ [];
+    }
 
 -- bytes that are as many as the block that is needed has
 abbrev pub FitsNext : List ℕ → Option Begun → Type 0
@@ -153,7 +164,8 @@ pub data GoesOn (begun : Begun) (cache later : Cached) (before after : Fetching)
   Waits : (part : Part) (b : BlockId) → Misses cache later begun.part part b
       → after ≡ waiting begun part before → GoesOn begun cache later before after (Some (Block b))
   Ended : (part : Part) → Fills cache later begun.part part → part.left ≡ [] → (bytes : List ℕ)
-      → ((told : Told) → ReadsAs told part → bytes ≡ bytes_from (window_byte told part.list) part.from (part.to - part.from))
+      → ((told : Told) → ReadsAs told part
+      → bytes ≡ bytes_from (window_byte told part.list) part.from (part.to - part.from))
       → after ≡ ended begun.entry begun.is_full bytes before → GoesOn begun cache later before after None
 
 -- a reading goes on by views and cache
@@ -163,7 +175,8 @@ pub record Goes (views : SeenViews) (cache later : Cached) (before after : Fetch
   pub falls : fetch_left after ≤ fetch_left before
   pub begins : before.begun ≡ None → first_seen views before.parts → fetch_left after < fetch_left before
   pub looks : LooksUpFew (fetch_left before - fetch_left after) cache later
-  pub reads : (blocks : Blocks) (all : List Asked) → HasCached blocks views before.block cache → IsFetching blocks views all before
+  pub reads : (blocks : Blocks) (all : List Asked) → HasCached blocks views before.block cache
+      → IsFetching blocks views all before
       → IsFetching blocks views all after
 
 -- a block that is needed was looked up last, and isn't there
@@ -173,10 +186,11 @@ Ends cache middle later (Some (Look window)) = later ≡ middle
 Ends cache middle later (Some (Block b)) = (later ≡ noted_in middle (cache_key b)) × IsMissing cache b
 Ends cache middle later (Some Nothing) = later ≡ middle
 
-pub record GoesTo (views : SeenViews) (cache later : Cached) (before after : Fetching) (result : Option Need) : Type 0 where
-  pub middle : Cached
-  pub goes : Goes views cache middle before after
-  pub ends : Ends cache middle later result
+pub record GoesTo (views : SeenViews) (cache later : Cached) (before after : Fetching) (result : Option Need) : Type 0
+  where
+    pub middle : Cached
+    pub goes : Goes views cache middle before after
+    pub ends : Ends cache middle later result
 
 -- it stops where something is needed, or where it is done with one part more
 abbrev pub Stops : SeenViews → Fetching → Fetching → Option Need → Type 0

@@ -7,5 +7,6 @@ returns-clause-can c = fill_can c.as_slice.result.now c.args.self.now c.fill_in.
 
 pub returns-clause-reads : goal.returns-clause-reads
 returns-clause-reads c = λ blocks views all own is.
-    fill_reads c.as_slice.result.now c.args.self.now c.fill_in.new.self c.fill_in.ensures c.args.block c.requires.needed blocks views all
+    fill_reads c.as_slice.result.now c.args.self.now c.fill_in.new.self c.fill_in.ensures c.args.block c.requires.needed
+    blocks views all
     (own ∙ ap Some (sym c.as_slice.ensures)) is
