@@ -1,1 +1,5 @@
 -- Lemmas.
+pub mod CacheLaws
+pub mod GoingLaws
+pub mod FetchLaws
+pub mod SameLaws

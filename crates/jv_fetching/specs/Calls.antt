@@ -1,22 +1,31 @@
 -- What the calls of a reading do.
-use Rattle.std.specs.Prelude.{◌≡◌, ℕ, List, [], ◌∷◌, length, Option, None, Some, IfSome}
+use Rattle.std.specs.Prelude.{◌≡◌, ◌≢◌, ℕ, ◌≤◌, List, [], ◌∷◌, fold, length, is_some, true, None, Some}
+use Rattle.std.specs.List.{AllByRecursion}
 use Rattle.jv_model.specs.declared.slice.BlockId.{BlockId}
+use Rattle.jv_model.specs.declared.slice.Rec.{Rec}
+use Rattle.jv_model.specs.blocks.Slices.{block_at}
 use Rattle.jv_model.specs.journal.Reading.{Asked}
 use Rattle.jv_cache.specs.declared.key.BlockKey.{BlockKey}
 use Rattle.jv_cache.specs.Cached.{Cached, found_in, kept_in, noted_in}
 use Rattle.jv_contents.specs.Blocks.{Blocks}
 use Rattle.jv_handles.specs.declared.views.View.{View}
-use Rattle.jv_handles.specs.Views.{SeenViews}
+use Rattle.jv_handles.specs.Views.{SeenViews, view_at}
 use Rattle.jv_reading.specs.Parts.{IsNamed}
 use Rattle.jv_fetching.specs.declared.need.Need.{Need}
 use Rattle.jv_fetching.specs.declared.need.Need.TheVariants.{Look, Block, Nothing}
 use Rattle.jv_fetching.specs.Fetching.{Fetching, block_needed}
 
--- what is needed next: a look at the window of the next part, which its handle didn't see; a block; or nothing where all is read
+-- the window of the next part wasn't seen
 abbrev pub first_unseen : SeenViews → List Asked → ℕ → Type 0
 first_unseen views [] window = ⊥
-first_unseen views (asked ∷ others) window = (asked.window ≡ window) × (views.at window ≡ None)
+first_unseen views (asked ∷ others) window = (asked.window ≡ window) × (view_at views window ≡ None)
 
+-- it was
+abbrev pub first_seen : SeenViews → List Asked → Type 0
+first_seen views [] = ⊥
+first_seen views (asked ∷ others) = is_some (view_at views asked.window) ≡ true
+
+-- what is needed next: a look at the window of the next part; a block; or nothing where all is read
 abbrev pub Wants : SeenViews → Fetching → Need → Type 0
 Wants views f (Look window) = (f.begun ≡ None) × first_unseen views f.parts window
 Wants views f (Block b) = block_needed f ≡ Some b
@@ -25,17 +34,53 @@ Wants views f Nothing = (f.begun ≡ None) × (f.parts ≡ [])
 abbrev pub cache_key : BlockId → BlockKey
 cache_key b = record { id = b.id; index = b.index }
 
--- A cache in which blocks were looked up one after the other.
-pub data LooksUp (before after : Cached) : Type 0 where
-  Same : after ≡ before → LooksUp before after
-  Then : (b : BlockId) → LooksUp (noted_in before (cache_key b)) after → LooksUp before after
+-- blocks were looked up one after the other
+pub record LooksUp (before after : Cached) : Type 0 where
+  pub blocks : List BlockId
+  pub is : after ≡ fold (λ cache b. noted_in cache (cache_key b)) before blocks
+
+-- at most this many were
+pub record LooksUpFew (most : ℕ) (before after : Cached) : Type 0 where
+  pub looks : LooksUp before after
+  pub few : length looks.blocks ≤ most
+
+-- a cache doesn't have a block: bytes of another length under its name are another block's
+abbrev pub IsMissing : Cached → BlockId → Type 0
+IsMissing cache b = (bytes : List ℕ) → found_in cache (cache_key b) ≡ Some bytes → length bytes ≢ b.size
+
+-- before a need at most this many blocks were looked up; a block that is needed was looked up last, and isn't there
+abbrev pub Asks : Need → ℕ → Cached → Cached → Type 0
+Asks (Look window) most before after = LooksUpFew most before after
+Asks (Block b) most before after =
+    (middle : Cached) × LooksUpFew most before middle × (after ≡ noted_in middle (cache_key b)) × IsMissing before b
+Asks Nothing most before after = LooksUpFew most before after
 
 -- a block that came is kept, or not where memory is out
 pub data Keeps (b : BlockId) (bytes : List ℕ) (before after : Cached) : Type 0 where
   Kept : after ≡ kept_in before (cache_key b) bytes → Keeps b bytes before after
   Lost : after ≡ before → Keeps b bytes before after
 
--- what the cache has under a block's name is that block
+-- what the cache has under the name of a block of these records is that block
+pub record CachedOf (blocks : Blocks) (list : List Rec) (block : ℕ) (cache : Cached) : Type 0 where
+  pub has : (b : BlockId) → IsNamed list block b → (bytes : List ℕ) → found_in cache (cache_key b) ≡ Some bytes
+      → blocks b ≡ Some bytes
+
+-- and so of the records of each view
 pub record HasCached (blocks : Blocks) (views : SeenViews) (block : ℕ) (cache : Cached) : Type 0 where
-  pub has : (window : ℕ) (view : View) → views.at window ≡ Some view → (b : BlockId) → IsNamed view.list block b
-      → (bytes : List ℕ) → found_in cache (cache_key b) ≡ Some bytes → blocks b ≡ Some bytes
+  pub has : (window : ℕ) (view : View) → view_at views window ≡ Some view → CachedOf blocks view.list block cache
+
+-- no other block that views name has this one's slice and index
+pub record IsOnly (views : SeenViews) (block : ℕ) (b : BlockId) : Type 0 where
+  pub only : (window : ℕ) (view : View) → view_at views window ≡ Some view → (other : BlockId)
+      → IsNamed view.list block other
+      → cache_key other ≡ cache_key b → other ≡ b
+
+-- the records of views have sizes that their slices determine
+pub record AreSizedBy (sizes : ℕ → ℕ) (views : SeenViews) : Type 0 where
+  pub sized : (window : ℕ) (view : View) → view_at views window ≡ Some view
+      → AllByRecursion (λ r. r.id ≢ 0 → r.size ≡ sizes r.id) view.list
+
+-- all that the cache has are blocks of slices with these sizes, each under its own name
+pub record IsCacheOf (sizes : ℕ → ℕ) (block : ℕ) (blocks : Blocks) (cache : Cached) : Type 0 where
+  pub has : (key : BlockKey) (bytes : List ℕ) → found_in cache key ≡ Some bytes
+      → blocks (block_at key.id (sizes key.id) block key.index) ≡ Some bytes

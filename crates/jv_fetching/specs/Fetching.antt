@@ -1,19 +1,9 @@
 -- A reading of a range, window by window.
-use Rattle.std.specs.Prelude.{◌≡◌, ℕ, ◌+◌, ◌-◌, Bool, nat_lt, List, [], ◌∷◌, ◌++◌, drop, length, slice_get, Option, None, Some}
+use Rattle.std.specs.Prelude.{ℕ, zero, suc, ◌+◌, ◌-◌, List, [], ◌∷◌, ◌++◌, drop, length, slice_get, Option, None, Some}
 use Rattle.jv_model.specs.declared.slice.BlockId.{BlockId}
 use Rattle.jv_model.specs.journal.Reading.{Asked}
-use Rattle.jv_reading.specs.Parts.{Part}
-
--- a part whose blocks come: the entry of the look that it is read by, whether the file has all that it asks for, and its bytes so far
-pub record Begun : Type 0 where
-  pub entry : ℕ
-  pub is_full : Bool
-  pub part : Part
-
--- a part that was read: the entry of its look, and its bytes
-pub record Read : Type 0 where
-  pub entry : ℕ
-  pub bytes : List ℕ
+use Rattle.jv_fetching.specs.declared.begun.Begun.{Begun}
+use Rattle.jv_fetching.specs.declared.begun.Read.{Read}
 
 -- The parts that aren't read yet, of which the first may have begun, and those that were read. Blocks have this length.
 pub record Fetching : Type 0 where
@@ -40,13 +30,18 @@ weight [] = 0
 weight (asked ∷ others) = 1 + (asked.to - asked.from) + weight others
 
 -- the most requests that the reading still makes
+abbrev pub left_of : Option Begun → List Asked → ℕ
+left_of None parts = weight parts
+left_of (Some begun) parts = length begun.part.left + weight (drop 1 parts)
+
 abbrev pub fetch_left : Fetching → ℕ
-fetch_left f = elim f.begun [ None ↦ weight f.parts | Some begun ↦ length begun.part.left + weight (drop 1 f.parts) ]
+fetch_left f = left_of f.begun f.parts
 
 -- what a reading returns: the entries of the looks that it cites, 0 for none, and the bytes
 abbrev pub entry_at : ℕ → List Read → ℕ
 entry_at n [] = 0
-entry_at n (read ∷ others) = elim n [ zero ↦ read.entry | suc m ↦ entry_at m others ]
+entry_at zero (read ∷ others) = read.entry
+entry_at (suc n) (read ∷ others) = entry_at n others
 
 abbrev pub bytes_read : List Read → List ℕ
 bytes_read [] = []

@@ -1,43 +1,32 @@
 //! A reading of a range of a file, window by window.
+ghost use Rattle.std.specs.Prelude.{◌≡◌, ◌++◌, IfOk};
+ghost use Rattle.jv_fetching.specs.Calls.{Keeps};
+ghost use Rattle.jv_fetching.specs.Fetching.{bytes_read, entry_at};
+ghost use Rattle.jv_fetching.specs.Inside.{parts_after, parts_of, reads_of};
+
+use crate::begun::{Begun, Read, Start, begin_first, fill_cached};
 use crate::need::Need;
+use crate::spans::{Spans, spans_of};
 use jv_cache::{BlockCache, BlockKey};
-use jv_handles::{View, Views};
-use jv_model::{BlockId, Bytes, FILE_END, WINDOW};
-use jv_reading::WindowRead;
+use jv_handles::Views;
+use jv_model::{BlockId, Bytes};
 use std::alloc::{AllocError, Global};
 use std::marker::Model;
 
-/// A part of a range that lies in one window, while its blocks come.
-#[derive(Drop)]
-struct Begun {
-    /// The entry of the look that it is read by.
-    entry: u64,
-    /// Whether the file has all bytes that the part asks for.
-    is_full: bool,
-    read: WindowRead,
-}
-
-/// A part that was read.
-#[derive(Drop)]
-struct Read {
-    entry: u64,
-    bytes: Bytes,
-}
-
-/// A reading of a range of at most a window's length, which touches at most two windows. It goes from left to right; where
-/// the file ends inside a part, the part after it isn't read. Its memory is that of the bytes read and of one window's pieces.
+/// A reading of a range of at most a window's length, which touches at most two windows. It goes from left to right;
+/// where the file ends inside a part, the part after it isn't read. Its memory is that of the bytes read and of one
+/// window's pieces.
 #[derive(Drop)]
 pub struct Fetch {
     alloc: Global,
     /// The length of the volume's blocks.
     block: u32,
-    /// The next position that no part has reached.
-    from: u64,
-    /// Where the range ends.
-    to: u64,
+    /// The parts that aren't read yet.
+    parts: Spans,
+    /// The first of them, once it has begun.
+    begun: Option<Begun>,
     first: Option<Read>,
     second: Option<Read>,
-    begun: Option<Begun>,
 }
 
 impl Model for Fetch {
@@ -52,55 +41,217 @@ impl Model for Fetch {
 }
 
 impl Fetch {
-    ghost use Rattle.std.specs.Prelude.{◌≡◌, ℕ, ◌<◌, ◌≤◌, [], length, IfOk, OnOk, IsSomeAnd, slice_get, Some, None};
+    ghost use Rattle.std.specs.Prelude.{ℕ, ◌-◌, ◌<◌, ◌≤◌, List, [], length, OnOk, Some, None};
     ghost use Rattle.jv_model.specs.declared.limits.TheConstants.{WINDOW, FILE_END};
     ghost use Rattle.jv_model.specs.journal.Reading.{Asked, asked_parts};
     ghost use Rattle.jv_contents.specs.Blocks.{Blocks};
-    ghost use Rattle.jv_fetching.specs.Fetching.{begins, block_needed, Wants, LooksUp, Keeps, fetch_left, CanFetch, HasCached, IsFetching, IsReadBy, fetched_of};
+    ghost use Rattle.jv_handles.specs.Views.{SeenViews};
+    ghost use Rattle.jv_fetching.specs.Fetching.{begins, block_needed, fetch_left, fetched_of};
+    ghost use Rattle.jv_fetching.specs.Going.{CanFetch, IsFetching};
+    ghost use Rattle.jv_fetching.specs.Calls.{Asks, HasCached, LooksUp, Wants, first_seen};
+    ghost use Rattle.jv_fetching.specs.Inside.{FillsBegun, FitsNext, GoesOn, GoesTo, StartsFrom, Stops, ended};
 
-    /// The reading of `len` bytes from `offset` on, 1 to 67,108,864 of them, over a volume whose blocks have `block` bytes.
-    /// Nothing is read yet. Takes no memory.
+    /// The reading of `len` bytes from `offset` on, 1 to 67,108,864 of them, over a volume whose blocks have `block`
+    /// bytes, at least 1. Nothing is read yet. Takes no memory.
     pub fn new(alloc: Global, offset: u64, len: u32, block: u32) -> Fetch
         requires some { 0 < block }
         requires low { offset < FILE_END }
         requires len { (0 < len) × (len ≤ WINDOW) }
         ensures { result ≡ begins block (asked_parts offset len) }
     {
-        todo!()
+        Fetch {
+            alloc,
+            block,
+            parts: spans_of(offset, len),
+            begun: None,
+            first: None,
+            second: None,
+        }
     }
 
-    /// Goes on as far as views and cached blocks reach, and returns what it needs then. Each block is looked up once: a hit
-    /// where the cache has it, else a miss. Where memory is out, the reading is over.
+    /// Goes on as far as views and cached blocks reach, and returns what it needs then: a look at the window of the next
+    /// part, a block that the cache lacks, or nothing. Each block is looked up once, a hit or a miss; bytes of another
+    /// length than the block's aren't it. Out of memory, the reading is over.
     pub fn advance(&mut self, views: &Views, cache: &mut BlockCache) -> Result<Need, AllocError>
-        requires { CanFetch views.now self.old }
         ensures block { self.new.block ≡ self.old.block }
         ensures wants { IfOk result (Wants views.now self.new) }
-        ensures can { OnOk result (CanFetch views.now self.new) }
+        ensures can { CanFetch views.now self.old → OnOk result (CanFetch views.now self.new) }
         ensures falls { OnOk result (fetch_left self.new ≤ fetch_left self.old) }
+        ensures begins_part { self.old.begun ≡ None → first_seen views.now self.old.parts
+            → OnOk result (fetch_left self.new < fetch_left self.old) }
         ensures cache { LooksUp cache.old cache.new }
-        ensures reads { (blocks : Blocks) (all : List Asked) → HasCached blocks views.now self.old.block cache.old
-            → IsFetching blocks views.now all self.old → OnOk result (IsFetching blocks views.now all self.new) }
+        ensures asks { IfOk result (λ need. let most = fetch_left self.old - fetch_left self.new in
+            Asks need most cache.old cache.new) }
+        ensures reads { (blocks : Blocks) (all : List Asked)
+            → HasCached blocks views.now self.old.block cache.old
+            → IsFetching blocks views.now all self.old
+            → OnOk result (IsFetching blocks views.now all self.new) }
     {
-        todo!()
+        if let Some(need) = self.read_part(views, cache)? {
+            return Ok(need);
+        }
+        if let Some(need) = self.read_part(views, cache)? {
+            return Ok(need);
+        }
+        Ok(Need::Nothing)
     }
 
-    /// Fills in the block that is needed, and keeps it in the cache where memory allows. It has as many bytes as its `size`
-    /// says.
+    /// Reads the first of the parts, and returns what it needs for that, or `None` where the part was read or there is
+    /// none.
+    fn read_part(
+        &mut self,
+        views: &Views,
+        cache: &mut BlockCache,
+    ) -> Result<Option<Need>, AllocError>
+        ensures block { self.new.block ≡ self.old.block }
+        ensures few { length self.old.parts ≤ 2 }
+        ensures stops { IfOk result (Stops views.now self.old self.new) }
+        ensures cache { LooksUp cache.old cache.new }
+        ensures goes { IfOk result (GoesTo views.now cache.old cache.new self.old self.new) }
+    {
+        match self.take_start(views)? {
+            Start::Over => Ok(None),
+            Start::Look(window) => Ok(Some(Need::Look(window))),
+            Start::Begun(begun) => Ok(self.go_on(begun, cache)),
+        }
+    }
+
+    /// Takes the part that has begun, or begins with the first of the parts.
+    fn take_start(&mut self, views: &Views) -> Result<Start, AllocError>
+        ensures few { length self.old.parts ≤ 2 }
+        ensures taken { self.new ≡ record self.old { begun = None } }
+        ensures starts { IfOk result (StartsFrom views.now self.old) }
+    {
+        match self.begun.take() {
+            Some(begun) => Ok(Start::Begun(begun)),
+            None => begin_first(self.alloc, self.block, &self.parts, views),
+        }
+    }
+
+    /// Goes on with a part by the cache's blocks.
+    fn go_on(&mut self, begun: Begun, cache: &mut BlockCache) -> Option<Need>
+        requires { 1 ≤ length self.old.parts }
+        ensures { GoesOn begun cache.old cache.new self.old self.new result }
+    {
+        let mut begun = begun;
+        match fill_cached(&mut begun.part, cache) {
+            Some(block) => {
+                self.begun = Some(begun);
+                Some(Need::Block(block))
+            }
+            None => {
+                let bytes = begun.part.into_bytes();
+                self.end(begun.entry, begun.is_full, bytes);
+                None
+            }
+        }
+    }
+
+    /// Keeps the bytes of the first of the parts. Where the file has all of them, the other part is next.
+    fn end(&mut self, entry: u64, is_full: bool, bytes: Bytes)
+        requires { 1 ≤ length self.old.parts }
+        ensures { self.new ≡ ended entry is_full bytes self.old }
+    {
+        self.begun = None;
+        self.parts = after(self.parts, is_full);
+        let read = Some(Read { entry, bytes });
+        if self.first.is_none() {
+            self.first = read;
+        } else {
+            self.second = read;
+        }
+    }
+
+    /// Fills in the block that is needed, and keeps it in the cache where memory allows. It has as many bytes as its
+    /// `size` says. The reading goes on by the next `advance`.
     pub fn fill(&mut self, cache: &mut BlockCache, block: BlockId, bytes: Bytes)
         requires needed { block_needed self.old ≡ Some block }
         requires long { length bytes ≡ block.size }
         ensures block { self.new.block ≡ self.old.block }
+        ensures can { (views : SeenViews) → CanFetch views self.old → CanFetch views self.new }
         ensures falls { fetch_left self.new < fetch_left self.old }
         ensures cache { Keeps block bytes cache.old cache.new }
+        ensures reads { (blocks : Blocks) (views : SeenViews) (all : List Asked)
+            → blocks block ≡ Some bytes → IsFetching blocks views all self.old
+            → IsFetching blocks views all self.new }
     {
-        todo!()
+        self.fill_in(bytes.as_slice());
+        keep(cache, block, bytes);
     }
 
-    /// The entries of the looks that the reading cites, 0 for a window that wasn't read, and its bytes. It needs nothing more.
+    /// Fills in the block that is needed.
+    fn fill_in(&mut self, bytes: &[u8])
+        requires { FitsNext bytes.now self.old.begun }
+        ensures { FillsBegun bytes.now self.old self.new }
+    {
+        match self.begun.take() {
+            Some(begun) => {
+                let mut begun = begun;
+                begun.part.fill(bytes);
+                self.begun = Some(begun);
+            }
+            None => unreachable!(),
+        }
+    }
+
+    /// The entries of the looks that the reading cites, 0 for a window that wasn't read, and its bytes. It needs nothing
+    /// more. Takes memory only where two parts were read: the bytes of one are moved.
     pub fn into_parts(self) -> Result<(u64, u64, Bytes), AllocError>
         requires { self.parts ≡ [] }
         ensures { IfOk result (λ parts. parts ≡ fetched_of self) }
     {
-        todo!()
+        let alloc = self.alloc;
+        let first = self.first;
+        let second = self.second;
+        parts_read(alloc, first, second)
     }
+}
+
+/// The parts that are left once the first was read.
+fn after(parts: Spans, is_full: bool) -> Spans
+    ensures { parts_of result ≡ parts_after is_full (parts_of parts) }
+{
+    match parts {
+        Spans::Two(_, other) if is_full => Spans::Last(other),
+        _ => Spans::Over,
+    }
+}
+
+/// Keeps a block where memory allows.
+fn keep(cache: &mut BlockCache, block: BlockId, bytes: Bytes)
+    ensures { Keeps block bytes cache.old cache.new }
+{
+    let key = BlockKey {
+        id: block.id,
+        index: block.index,
+    };
+    let _ = cache.keep(key, bytes);
+}
+
+/// The entries and the bytes of at most two parts that were read.
+fn parts_read(
+    alloc: Global,
+    first: Option<Read>,
+    second: Option<Read>,
+) -> Result<(u64, u64, Bytes), AllocError>
+    ensures { let reads = reads_of first second in
+        IfOk result (λ parts. parts ≡ (entry_at 0 reads, entry_at 1 reads, bytes_read reads)) }
+{
+    let Some(first) = first else {
+        return Ok((0, 0, Bytes::new(alloc)));
+    };
+    let Some(second) = second else {
+        return Ok((first.entry, 0, first.bytes));
+    };
+    let bytes = joined(first.bytes, second.bytes.as_slice())?;
+    Ok((first.entry, second.entry, bytes))
+}
+
+/// Bytes with others after them.
+fn joined(bytes: Bytes, more: &[u8]) -> Result<Bytes, AllocError>
+    ensures { IfOk result (λ both. both ≡ bytes ++ more.now) }
+{
+    let mut both = bytes.into_vec();
+    both.extend_from_slice(more)?;
+    Ok(Bytes::from_vec(both))
 }

@@ -57,6 +57,8 @@ impl WindowRead {
         ensures part { IfOk result (IsPartOf list.now from to block) }
         ensures left { IfOk result (λ part. (pieces : List PieceSeen) →
             IsPlan list.now from to pieces → part.left ≡ needed_blocks block pieces) }
+        ensures few { IfOk result (λ part. length part.left ≤ to - from) }
+        ensures named { IfOk result (λ part. All (IsNamed list.now block) part.left) }
         ensures reads { IfOk result (λ part. (told : Told) → ReadsAs told part) }
     {
         let pieces = plan(alloc, list, from, to)?;

@@ -1,8 +1,9 @@
-use Rattle.std.proofs.Common.{◌≡◌, ◌+◌, ◌-◌, ◌∙◌, List, ap, sym, subst, arith}
+use Rattle.std.proofs.Common.{◌≡◌, ◌+◌, ◌-◌, ◌≤◌, ◌∙◌, List, length, ap, sym, subst, arith}
 use Rattle.std.specs.Prelude.{All}
 use Rattle.jv_model.specs.declared.slice.BlockId.{BlockId}
 use Rattle.jv_model.specs.declared.slice.Rec.{Rec}
 use Rattle.jv_model.specs.blocks.Slices.{needed_blocks, stored_place}
+use Rattle.jv_slices.proofs.NeedLaws.{needs_are_few}
 use Rattle.jv_slices.proofs.PlanFormLaws.{plans_are_determined}
 use Rattle.jv_reading.specs.Overlaps.{HasOverlaps, overlaps_at}
 use Rattle.jv_reading.specs.Parts.{IsNamed, ReadsAs}
@@ -36,6 +37,21 @@ pub returns-clause-left : goal.returns-clause-left
 returns-clause-left c = λ pieces plan.
     c.into_vec-needed.ensures ∙ c.in_ok-needs.ensures
     ∙ ap (needed_blocks c.args.block) (plans_are_determined c.args.list.now c.args.from c.args.to c.in_ok-pieces.pieces pieces c.in_ok-pieces.ensures.plan plan)
+
+pub returns-clause-few : goal.returns-clause-few
+returns-clause-few c =
+    let pieces = c.in_ok-pieces.pieces in
+    let few : length (needed_blocks c.args.block pieces) ≤ c.args.to - c.args.from =
+    needs_are_few c.args.block c.args.list.now c.args.from c.args.to pieces c.requires.some c.in_ok-pieces.ensures.plan in
+    subst (λ (bs : List BlockId). length bs ≤ c.args.to - c.args.from) (sym (c.into_vec-needed.ensures ∙ c.in_ok-needs.ensures)) few
+
+pub returns-clause-named : goal.returns-clause-named
+returns-clause-named c =
+    let list = c.args.list.now in
+    let block = c.args.block in
+    let pieces = c.in_ok-pieces.pieces in
+    subst (λ (bs : List BlockId). All (IsNamed list block) bs) (sym (c.into_vec-needed.ensures ∙ c.in_ok-needs.ensures))
+    (needed_All (IsNamed list block) block pieces (pieces_named list block pieces c.requires.some c.in_ok-pieces.ensures.parts c.in_ok-pieces.ensures.named))
 
 pub returns-clause-reads : goal.returns-clause-reads
 returns-clause-reads c = λ told.
