@@ -1,1 +1,2 @@
 -- What is proved of steps.
+pub mod StepFormLaws

@@ -1,2 +1,3 @@
 -- What a step leaves of a state.
+pub mod IsStep
 pub mod Leaves
