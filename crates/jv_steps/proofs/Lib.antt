@@ -1,3 +1,4 @@
 -- What is proved of steps.
+pub mod CommitStepLaws
 pub mod FlushStepLaws
 pub mod StepFormLaws
