@@ -95,7 +95,8 @@ module _ (start : Start) (alone : Bool) (s : State) (client now : ℕ) (d : Doin
 later : (end n more : ℕ) → n ≤ more → nat_le end n ≡ true → nat_le end more ≡ true
 later end n more less e = le-leb end more (let past = leb-true end n e in omega (arith, past, less))
 
-either : (a b more others : Bool) → (a ≡ true → more ≡ true) → (b ≡ true → others ≡ true) → (a || b) ≡ true
+-- a weaker test of two
+pub either : (a b more others : Bool) → (a ≡ true → more ≡ true) → (b ≡ true → others ≡ true) → (a || b) ≡ true
     → (more || others) ≡ true
 either true b more others first second e = or_left more others (first refl)
 either false b more others first second e = or_right more others (second e)

@@ -1,4 +1,5 @@
 -- What is proved of steps.
 pub mod CommitStepLaws
 pub mod FlushStepLaws
+pub mod RefusalStepLaws
 pub mod StepFormLaws
