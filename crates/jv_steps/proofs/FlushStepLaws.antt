@@ -1,6 +1,6 @@
 -- The requests of a flush before its commit: for the number of a segment's slice, and for each of its blocks.
-use Rattle.std.proofs.Common.{◌≡◌, ◌≢◌, ℕ, ◌+◌, ◌≤◌, ◌<◌, Bool, true, false, ◌||◌, not, ◌==◌, [], ◌∷◌, Option, None, Some}
-use Rattle.std.proofs.Common.{refl, sym, ap, subst, ◌∙◌, arith, ne_eqb}
+use Rattle.std.proofs.Common.{◌≡◌, ℕ, ◌+◌, ◌≤◌, ◌<◌, Bool, true, false, ◌||◌, not, ◌==◌, [], ◌∷◌, Option, None, Some}
+use Rattle.std.proofs.Common.{refl, ap, subst, ◌∙◌, arith, ne_eqb}
 use Rattle.std.specs.Prelude.{if◌then◌else◌, is_some, nat_le, IsTrue}
 use Rattle.std.proofs.lemmas.Bool.{eqb-true, le-leb, leb-true, or_left, or_right}
 use Rattle.jv_model.specs.declared.limits.TheConstants.{FULL_COUNT, FILE_END}

@@ -1,9 +1,9 @@
 -- What refuses a commit, and the failure that ends an operation at any step.
-use Rattle.std.proofs.Common.{◌≡◌, ℕ, ◌+◌, ◌≤◌, ◌<◌, Bool, true, false, ◌||◌, not, ◌==◌, List, [], ◌∷◌}
-use Rattle.std.proofs.Common.{Option, None, Some, Result, Ok, Err, refl, sym, ap, subst, ◌∙◌, arith, ne_eqb}
-use Rattle.std.specs.Prelude.{if◌then◌else◌, is_some, nat_lt, nat_le, IsTrue}
+use Rattle.std.proofs.Common.{◌≡◌, ℕ, ◌+◌, ◌≤◌, ◌<◌, Bool, true, false, ◌||◌, not, [], ◌∷◌}
+use Rattle.std.proofs.Common.{Option, None, Some, refl, sym, ap, subst, ◌∙◌, arith, ne_eqb}
+use Rattle.std.specs.Prelude.{if◌then◌else◌, is_some, nat_le, IsTrue}
 use Rattle.std.specs.Option.{option_map}
-use Rattle.std.proofs.lemmas.Bool.{le-leb, ltb-false, ltb-true, or_right}
+use Rattle.std.proofs.lemmas.Bool.{le-leb, or_right}
 use Rattle.jv_model.specs.declared.lifetimes.TheConstants.{UPLOAD_LIFE}
 use Rattle.jv_model.specs.declared.act.ActKind.TheVariants.{Answered, Quiet}
 use Rattle.jv_model.specs.declared.act.Told.TheVariants.{Refused as ToldRefused}
@@ -13,9 +13,7 @@ use Rattle.jv_model.specs.declared.fault.Gone.TheVariants.{Session, Node}
 use Rattle.jv_model.specs.declared.op.Reply.{Reply}
 use Rattle.jv_model.specs.declared.op.Reply.TheVariants.{Refused}
 use Rattle.jv_model.specs.declared.op.Step.TheVariants.{Done}
-use Rattle.jv_model.specs.FiniteMap.{get}
-use Rattle.jv_model.specs.tree.Attempt.{◌>>=◌, require, some_or}
-use Rattle.jv_model.specs.tree.Tree.{Tree, Content, content_at, fits, node_at}
+use Rattle.jv_model.specs.tree.Tree.{fits, node_at}
 use Rattle.jv_model.specs.tree.FileBytes.{committed}
 use Rattle.jv_model.specs.client.Pending.{Segment, bytes_in_range, pending_of_others}
 use Rattle.jv_model.specs.client.Submission.{next_segment}
@@ -23,7 +21,7 @@ use Rattle.jv_model.specs.client.ModelClient.{ModelClient, Doing, Stage, Working
 use Rattle.jv_model.specs.journal.State.{State, after_told, flushing_on, has_session, is_of_another, refused_as}
 use Rattle.jv_model.specs.journal.Steps.{Start, CommitAsked, CommitLate, CommitTooLarge, Fails, InodeGone, IsRefusedIn}
 use Rattle.jv_model.specs.journal.Steps.{Refuses, SessionGone, is_crowded, is_failure, must_answer}
-use Rattle.jv_model.specs.journal.Past.{reply_of, settled_reply, told_reply}
+use Rattle.jv_model.specs.journal.Past.{settled_reply, told_reply}
 use Rattle.jv_steps.specs.IsStep.{IsStep, at_stage}
 use Rattle.jv_steps.specs.RefusesCommit.{RefusesCommit, Late, NoFile, NoRoom, NoSession}
 use Rattle.jv_steps.proofs.StepFormLaws.{requested, step-alone}
@@ -135,7 +133,7 @@ failed-own _ stage e = absurd (cc e)
 
 unsettled : (d : Doing) (stage : Stage) → must_answer (record d { stage = stage }) ≡ false → settled_reply stage ≡ None
 unsettled d (Replying answer) e = absurd (cc e)
-unsettled d stage e = refl
+unsettled d _ e = refl
 
 -- an operation that flushes or reads may go on
 pub goes-working : (d : Doing) (quiets started : ℕ) → d.stage ≡ Working quiets started → must_answer d ≡ false
@@ -160,13 +158,3 @@ module _ (start : Start) (alone : Bool) (s : State) (client now : ℕ) (d : Doin
         | Some settled ↦ settled
       ]) (unsettled d d.stage goes))
       (Fails goes fails))
-
--- the tests of a commit, in their order
-
--- the tree after a commit of bytes by a session, whose first block was put at a moment; or its refusal
-abbrev pub commit_tested : (sid inode from : ℕ) → List ℕ → (started now : ℕ) → Tree → Result Tree Fault
-commit_tested sid inode from bytes started now t =
-    (require (is_some (get t.sessions sid)) (Stale (Session sid)) >>=
-    (λ _. some_or (content_at t inode) (Stale (Node inode)) >>= (λ content. Ok content.length)))
-    >>= (λ _. require (nat_lt now (started + UPLOAD_LIFE)) (TimedOut started now) >>=
-    (λ _. require (fits t (committed t now inode from bytes)) NoSpace >>= (λ _. Ok (committed t now inode from bytes))))
