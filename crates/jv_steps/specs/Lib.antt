@@ -1,2 +1,5 @@
 -- What a step leaves of a state.
+pub mod IsStep
 pub mod Leaves
+pub mod RefusesCommit
+pub mod WithoutCommitted
