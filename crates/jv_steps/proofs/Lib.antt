@@ -1,1 +1,6 @@
 -- What is proved of steps.
+pub mod EntryLaws
+pub mod LookStepLaws
+pub mod ReadStepLaws
+pub mod ReadyLaws
+pub mod StepFormLaws

@@ -1,2 +1,4 @@
 -- What a step leaves of a state.
+pub mod IsStep
 pub mod Leaves
+pub mod Stages
