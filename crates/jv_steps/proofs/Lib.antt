@@ -1,6 +1,8 @@
 -- What is proved of steps.
+pub mod ChangeStepLaws
 pub mod EntryLaws
 pub mod LookStepLaws
 pub mod ReadStepLaws
 pub mod ReadyLaws
 pub mod StepFormLaws
+pub mod TreeChangeLaws
