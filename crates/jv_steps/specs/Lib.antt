@@ -3,3 +3,4 @@ pub mod IsStep
 pub mod Leaves
 pub mod RefusesCommit
 pub mod WithoutCommitted
+pub mod Stages

@@ -1,0 +1,2 @@
+-- What a request leads to.
+pub mod Request

@@ -1,0 +1,120 @@
+-- Steps of truncates and copies, whose files are committed: the transaction with its answer, or its refusal.
+use Rattle.std.proofs.Common.{◌≡◌, ℕ, ◌+◌, Bool, true, false, [], ◌∷◌, Option, None, Some, Result, Ok, Err, refl, sym, ap, subst, ◌∙◌}
+use Rattle.std.specs.Prelude.{◌||◌, nat_le}
+use Rattle.jv_model.specs.declared.limits.TheConstants.{FILE_END}
+use Rattle.std.proofs.lemmas.Bool.{or_right}
+use Rattle.jv_model.specs.declared.act.ActKind.{ActKind}
+use Rattle.jv_model.specs.declared.act.ActKind.TheVariants.{Answered, Quiet, Truncated, Copied}
+use Rattle.jv_model.specs.declared.act.Told.{Told}
+use Rattle.jv_model.specs.declared.act.Told.TheVariants.{Fine, Refused as ToldRefused}
+use Rattle.jv_model.specs.declared.fault.Fault.{Fault}
+use Rattle.jv_model.specs.declared.fault.Fault.TheVariants.{FileTooLarge, NoSpace}
+use Rattle.jv_model.specs.declared.op.Op.{Op}
+use Rattle.jv_model.specs.declared.op.Op.TheVariants as op
+use Rattle.jv_model.specs.declared.op.Reply.{Reply}
+use Rattle.jv_model.specs.declared.op.Reply.TheVariants as reply
+use Rattle.jv_model.specs.declared.op.Step.TheVariants.{More, Done}
+use Rattle.jv_model.specs.tree.Tree.{Tree, Content, fits}
+use Rattle.jv_model.specs.tree.Caller.{Caller, Outcome, done, in_session, outcome}
+use Rattle.jv_model.specs.tree.TreeAct.{tree_act}
+use Rattle.jv_model.specs.tree.Attempt.{◌>>=◌, require}
+use Rattle.jv_model.specs.tree.FileBytes.{truncate, truncated, copy, copied, open_content}
+use Rattle.jv_model.specs.client.ModelClient.{ModelClient, Doing, Stage, Working, Replying, inode_at, views_without}
+use Rattle.jv_model.specs.client.Submission.{is_flushed}
+use Rattle.jv_model.specs.journal.State.{State, after_told, caller, is_refused, refusal_in, transacted}
+use Rattle.jv_model.specs.journal.Steps.{Start, Settles, change_entry, is_crowded, is_failure}
+use Rattle.jv_steps.specs.IsStep.{IsStep}
+use Rattle.jv_steps.specs.Stages.{at_stage, changes_files}
+use Rattle.jv_steps.proofs.ReadyLaws.{ready-at, quiet-changes, quieted-changes}
+use Rattle.jv_steps.proofs.StepFormLaws.{step-answered}
+use Rattle.jv_steps.proofs.EntryLaws.{told-staged, leaves-truncated, leaves-copied, leaves-quiet}
+
+module _ (start : Start) (alone : Bool) (s : State) (client now : ℕ) (d : Doing) (busy : (s.clients client).doing ≡ Some d)
+    (started : ℕ) (at : d.stage ≡ Working 0 started) (flushed : is_flushed d.flush (s.clients client).pending ≡ true) where
+  abbrev mine : ModelClient
+  mine = s.clients client
+
+  abbrev done_reply : Reply
+  done_reply = (transacted s client now d.op).reply
+
+  -- the transaction is the tree's
+  pub transacted-truncate : (handle len : ℕ) → d.op ≡ op.Truncate handle len → (result : Result Outcome Fault)
+      → truncate s.tree (caller mine client now d.op) len ≡ result → transacted s client now d.op ≡ outcome s.tree result
+  transacted-truncate handle len of_op result e =
+      ap (tree_act s.tree (caller mine client now d.op)) of_op ∙ ap (outcome s.tree) e
+
+  pub transacted-copy : (source from target to len : ℕ) → d.op ≡ op.Copy source from target to len → (result : Result Outcome Fault)
+      → copy s.tree (caller mine client now d.op) from to len ≡ result → transacted s client now d.op ≡ outcome s.tree result
+  transacted-copy source from target to len of_op result e =
+      ap (tree_act s.tree (caller mine client now d.op)) of_op ∙ ap (outcome s.tree) e
+
+  -- a truncate that the tree doesn't refuse
+  pub truncated-step : (handle len : ℕ) → d.op ≡ op.Truncate handle len → done_reply ≡ reply.Done
+      → IsStep start alone s client now (Truncated (inode_at mine handle) len ∷ Answered (Fine 0 0 0 0) ∷ []) (Done reply.Done)
+      (truncated s.tree now (inode_at mine handle) len)
+      (record mine { views = views_without (inode_at mine handle) mine.views; doing = None }) s.copied
+  truncated-step handle len of_op fine =
+      let inode = inode_at mine handle in
+      let rest : ModelClient = record mine { views = views_without inode mine.views } in
+      let settling : Doing = record d { stage = Replying reply.Done; moved = true } in
+      subst (λ c. IsStep start alone s client now (Truncated inode len ∷ Answered (Fine 0 0 0 0) ∷ []) (Done reply.Done)
+      (truncated s.tree now inode len) c s.copied)
+      (ap (λ o. after_told o (Fine 0 0 0 0) (at_stage (Replying reply.Done) d rest)) of_op)
+      (step-answered s client now d busy start alone (Truncated inode len) refl
+      (record {
+        ready = ready-at s client now mine d started at flushed;
+        same = ap (λ o. change_entry mine o done_reply) of_op ∙ ap (change_entry mine (op.Truncate handle len)) fine;
+      })
+      (truncated s.tree now inode len) (at_stage (Replying reply.Done) d rest) s.copied (leaves-truncated s client now d busy inode len)
+      settling (Fine 0 0 0 0) reply.Done refl refl refl refl (Settles reply.Done refl refl))
+
+  -- a copy that it doesn't refuse
+  pub copied-step : (source from target to len count : ℕ) → d.op ≡ op.Copy source from target to len → done_reply ≡ reply.Count count
+      → IsStep start alone s client now
+      (Copied (inode_at mine source) from (inode_at mine target) to count ∷ Answered (Fine count 0 0 0) ∷ []) (Done (reply.Count count))
+      (copied s.tree now (inode_at mine source) from (inode_at mine target) to count)
+      (record mine { views = views_without (inode_at mine target) mine.views; doing = None }) (s.copied + count)
+  copied-step source from target to len count of_op fine =
+      let first = inode_at mine source in
+      let second = inode_at mine target in
+      let rest : ModelClient = record mine { views = views_without second mine.views } in
+      let settling : Doing = record d { stage = Replying (reply.Count count); moved = true } in
+      subst (λ c. IsStep start alone s client now (Copied first from second to count ∷ Answered (Fine count 0 0 0) ∷ []) (Done (reply.Count count))
+      (copied s.tree now first from second to count) c (s.copied + count))
+      (ap (λ o. after_told o (Fine count 0 0 0) (at_stage (Replying (reply.Count count)) d rest)) of_op)
+      (step-answered s client now d busy start alone (Copied first from second to count) refl
+      (record {
+        ready = ready-at s client now mine d started at flushed;
+        same = ap (λ o. change_entry mine o done_reply) of_op ∙ ap (change_entry mine (op.Copy source from target to len)) fine;
+      })
+      (copied s.tree now first from second to count) (at_stage (Replying (reply.Count count)) d rest) (s.copied + count)
+      (leaves-copied s client now d busy first from second to count)
+      settling (Fine count 0 0 0) (reply.Count count) refl refl refl refl (Settles (reply.Count count) refl refl))
+
+  -- either one is refused, by the tree or since a stored number is near its end
+  module _ (changes : changes_files d.does ≡ true) (fault : Fault) where
+    abbrev told : Told
+    told = ToldRefused fault
+
+    abbrev IsRefused : Type 0
+    IsRefused = IsStep start alone s client now (Quiet ∷ Answered told ∷ []) (Done (reply.Refused fault)) s.tree (after_told d.op told mine) s.copied
+
+    refused-by : is_failure told ≡ false → refusal_in done_reply ≡ reply.Refused fault → (is_refused done_reply || is_crowded start s) ≡ true → IsRefused
+    refused-by fine refusal refused =
+        let settling : Doing = record d { stage = Replying (reply.Refused fault); moved = true } in
+        subst (λ c. IsStep start alone s client now (Quiet ∷ Answered told ∷ []) (Done (reply.Refused fault)) s.tree c s.copied)
+        (told-staged d.op told mine (Some settling))
+        (step-answered s client now d busy start alone Quiet refl
+        (quiet-changes s client now mine d started at flushed start d.does changes refl ∙ refused)
+        s.tree (at_stage (Replying (reply.Refused fault)) d mine) s.copied
+        (leaves-quiet s client now d busy (Replying (reply.Refused fault))
+        (quieted-changes s client now mine d started at flushed d.does changes refl ∙ ap Replying refusal))
+        settling told (reply.Refused fault) refl refl fine refl (Settles (reply.Refused fault) refl refl))
+
+    pub change-refused : is_failure told ≡ false → done_reply ≡ reply.Refused fault → IsRefused
+    change-refused fine refused = refused-by fine (ap refusal_in refused) (ap (λ r. is_refused r || is_crowded start s) refused)
+
+  pub change-crowded : changes_files d.does ≡ true → is_crowded start s ≡ true → refusal_in done_reply ≡ reply.Refused NoSpace
+      → IsStep start alone s client now (Quiet ∷ Answered (ToldRefused NoSpace) ∷ []) (Done (reply.Refused NoSpace)) s.tree
+      (record mine { doing = None }) s.copied
+  change-crowded changes crowded refusal = refused-by changes NoSpace refl refusal (or_right (is_refused done_reply) (is_crowded start s) crowded)

@@ -1,0 +1,21 @@
+-- Operations and their clients between one request and the next.
+use Rattle.std.specs.Prelude.{◌≡◌, ℕ, Bool, true, false, Some}
+use Rattle.jv_model.specs.declared.profile.Does.{Does}
+use Rattle.jv_model.specs.declared.profile.Does.TheVariants.{Truncates, Copies}
+use Rattle.jv_model.specs.client.ModelClient.{ModelClient, Doing, Stage, Working, Reading}
+use Rattle.jv_model.specs.client.Submission.{is_flushed}
+
+-- the client, whose operation made a request and is at this stage
+abbrev pub at_stage : Stage → Doing → ModelClient → ModelClient
+at_stage stage d c = record c { doing = Some (record d { stage = stage; moved = true }) }
+
+-- the operations that change the bytes of files in one transaction
+abbrev pub changes_files : Does → Bool
+changes_files Truncates = true
+changes_files Copies = true
+changes_files _ = false
+
+-- A reading may go on: all that it flushes is committed and it asked for nothing since; or it made a request, and missed this many blocks.
+pub data MayRead (c : ModelClient) (d : Doing) (misses : ℕ) : Type 0 where
+  Begins : (started : ℕ) → d.stage ≡ Working 0 started → is_flushed d.flush c.pending ≡ true → misses ≡ 0 → MayRead c d misses
+  GoesOn : d.stage ≡ Reading misses → MayRead c d misses
