@@ -12,7 +12,7 @@ use Rattle.jv_fetching.specs.declared.begun.Read.{Read}
 use Rattle.jv_fetching.specs.Fetching.{Fetching}
 use Rattle.jv_fetching.specs.Shows.{place_of, shown_bytes, shown_len}
 
--- a part has begun by a view of its window, with the positions that the file had; what is left are blocks of its records
+-- a part has begun by a view of its window, with the positions that the file had; blocks of the view's records are left
 pub record IsBegunBy (block : ℕ) (asked : Asked) (view : View) (begun : Begun) : Type 0 where
   pub entry : begun.entry ≡ view.entry
   pub full : begun.is_full ≡ nat_le asked.to view.length

@@ -75,4 +75,5 @@ pub record FetchesShow : Type 0 where
   pub same_look : (g : Known) (v : Shared) (views : List ModelView) (count number : ℕ) (file : OpenFile)
       (handle : Handle) (all : List Asked)
       → IsHandle g v views count number file handle
-      → window_needed handle.views all ≡ option_map (λ (asked : Asked). asked.window) (part_to_look views number file all)
+      → window_needed handle.views all
+      ≡ option_map (λ (asked : Asked). asked.window) (part_to_look views number file all)

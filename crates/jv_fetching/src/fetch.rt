@@ -69,9 +69,9 @@ impl Fetch {
         }
     }
 
-    /// Goes on as far as views and cached blocks reach, and returns what it needs then: a look at the window of the next
-    /// part, a block that the cache lacks, or nothing. Each block is looked up once, a hit or a miss; bytes of another
-    /// length than the block's aren't it. Out of memory, the reading is over.
+    /// Goes on as far as views and cached blocks reach, and returns what it needs then: a look at the window of the
+    /// next part, a block that the cache lacks, or nothing. Each block is looked up once, a hit or a miss; bytes of
+    /// another length than the block's aren't it. Out of memory, the reading is over.
     pub fn advance(&mut self, views: &Views, cache: &mut BlockCache) -> Result<Need, AllocError>
         ensures block { self.new.block ≡ self.old.block }
         ensures wants { IfOk result (Wants views.now self.new) }
@@ -194,8 +194,8 @@ impl Fetch {
         }
     }
 
-    /// The entries of the looks that the reading cites, 0 for a window that wasn't read, and its bytes. It needs nothing
-    /// more. Takes memory only where two parts were read: the bytes of one are moved.
+    /// The entries of the looks that the reading cites, 0 for a window that wasn't read, and its bytes. It needs
+    /// nothing more. Takes memory only where two parts were read: the bytes of one are moved.
     pub fn into_parts(self) -> Result<(u64, u64, Bytes), AllocError>
         requires { self.parts ≡ [] }
         ensures { IfOk result (λ parts. parts ≡ fetched_of self) }
