@@ -1,7 +1,7 @@
 -- What holds of a reading while it goes on.
-use Rattle.std.specs.Prelude.{◌≡◌, ℕ, ◌+◌, ◌-◌, ◌<◌, ◌≤◌, nat_le, All, IfSome, List, [], ◌∷◌, length, Option, None}
+use Rattle.std.specs.Prelude.{◌≡◌, ℕ, ◌+◌, ◌<◌, ◌≤◌, nat_le, All, IfSome, List, [], ◌∷◌, length, Option, None}
 use Rattle.std.specs.Prelude.{Some}
-use Rattle.jv_model.specs.journal.Reading.{Asked, window_start}
+use Rattle.jv_model.specs.journal.Reading.{Asked}
 use Rattle.jv_contents.specs.Blocks.{Blocks, Grows, told_by}
 use Rattle.jv_handles.specs.declared.views.View.{View}
 use Rattle.jv_handles.specs.Views.{SeenViews, view_at}
