@@ -72,8 +72,7 @@ pub record HasCached (blocks : Blocks) (views : SeenViews) (block : ℕ) (cache 
 -- no other block that views name has this one's slice and index
 pub record IsOnly (views : SeenViews) (block : ℕ) (b : BlockId) : Type 0 where
   pub only : (window : ℕ) (view : View) → view_at views window ≡ Some view → (other : BlockId)
-      → IsNamed view.list block other
-      → cache_key other ≡ cache_key b → other ≡ b
+      → IsNamed view.list block other → cache_key other ≡ cache_key b → other ≡ b
 
 -- the records of views have sizes that their slices determine
 pub record AreSizedBy (sizes : ℕ → ℕ) (views : SeenViews) : Type 0 where

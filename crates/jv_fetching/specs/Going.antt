@@ -1,7 +1,7 @@
 -- What holds of a reading while it goes on.
-use Rattle.std.specs.Prelude.{◌≡◌, ℕ, ◌+◌, ◌-◌, ◌<◌, ◌≤◌, nat_le, All, IfSome, List, [], ◌∷◌, length, Option, None}
+use Rattle.std.specs.Prelude.{◌≡◌, ℕ, ◌+◌, ◌<◌, ◌≤◌, nat_le, All, IfSome, List, [], ◌∷◌, length, Option, None}
 use Rattle.std.specs.Prelude.{Some}
-use Rattle.jv_model.specs.journal.Reading.{Asked, window_start}
+use Rattle.jv_model.specs.journal.Reading.{Asked}
 use Rattle.jv_contents.specs.Blocks.{Blocks, Grows, told_by}
 use Rattle.jv_handles.specs.declared.views.View.{View}
 use Rattle.jv_handles.specs.Views.{SeenViews, view_at}
@@ -10,15 +10,13 @@ use Rattle.jv_reading.specs.Laws.{ReadsBlocks}
 use Rattle.jv_fetching.specs.declared.begun.Begun.{Begun}
 use Rattle.jv_fetching.specs.declared.begun.Read.{Read}
 use Rattle.jv_fetching.specs.Fetching.{Fetching}
-use Rattle.jv_fetching.specs.Shows.{shown_bytes, shown_len}
+use Rattle.jv_fetching.specs.Shows.{place_of, shown_bytes, shown_len}
 
--- a part has begun by a view of its window: it has the positions that the file had, and blocks of the view's records
--- are left
+-- a part has begun by a view of its window, with the positions that the file had; blocks of the view's records are left
 pub record IsBegunBy (block : ℕ) (asked : Asked) (view : View) (begun : Begun) : Type 0 where
   pub entry : begun.entry ≡ view.entry
   pub full : begun.is_full ≡ nat_le asked.to view.length
-  pub part : let from =
-      asked.from - window_start asked.window in IsPartOf view.list from (from + shown_len view asked) block begun.part
+  pub part : IsPartOf view.list (place_of asked) (place_of asked + shown_len view asked) block begun.part
   pub named : All (IsNamed view.list block) begun.part.left
 
 -- what has begun is the first of the parts, by what its handle saw
@@ -32,8 +30,8 @@ abbrev pub CanFetch : SeenViews → Fetching → Type 0
 CanFetch views f = HasBegun views f.block f.begun f.parts
 
 -- a part was read by a view, by these blocks and by all that may come later
-pub record IsShown (blocks : Blocks) (views : SeenViews) (block : ℕ) (asked : Asked) (view : View) (read : Read) : Type
-    0 where
+pub record IsShown (blocks : Blocks) (views : SeenViews) (block : ℕ) (asked : Asked) (view : View) (read : Read)
+    : Type 0 where
   pub seen : view_at views asked.window ≡ Some view
   pub entry : read.entry ≡ view.entry
   pub bytes : (later : Blocks) → Grows blocks later → read.bytes ≡ shown_bytes (told_by block later) view asked
@@ -44,8 +42,8 @@ HasRead blocks views block all [] parts = parts ≡ all
 HasRead blocks views block [] (read ∷ reads) parts = ⊥
 HasRead blocks views block (asked ∷ others) (read ∷ reads) parts =
     (view : View) × IsShown blocks views block asked view read
-    × (asked.to ≤ view.length → HasRead blocks views block others reads parts) × (view.length < asked.to
-    → (reads ≡ []) × (parts ≡ []))
+    × (asked.to ≤ view.length → HasRead blocks views block others reads parts)
+    × (view.length < asked.to → (reads ≡ []) × (parts ≡ []))
 
 -- the reading of one or two parts has gone on well
 pub record IsFetching (blocks : Blocks) (views : SeenViews) (all : List Asked) (f : Fetching) : Type 0 where

@@ -7,26 +7,26 @@ use Rattle.jv_handles.specs.declared.views.View.{View}
 use Rattle.jv_handles.specs.Views.{SeenViews, view_at}
 use Rattle.jv_reading.specs.Parts.{window_byte}
 
+-- where in its window a part begins
+abbrev pub place_of : Asked → ℕ
+place_of asked = asked.from - window_start asked.window
+
 -- how many positions of a part the file had
 abbrev pub shown_len : View → Asked → ℕ
 shown_len view asked = min asked.to view.length - asked.from
 
 -- the bytes that a view shows of a part, as far as the file went, by what is told of slices
 abbrev pub shown_bytes : Told → View → Asked → List ℕ
-shown_bytes told view asked =
-    bytes_from (window_byte told view.list) (asked.from - window_start asked.window) (shown_len view asked)
+shown_bytes told view asked = bytes_from (window_byte told view.list) (place_of asked) (shown_len view asked)
 
 -- What is read of these parts: the entries of the views, and their bytes. The part after one that the file doesn't fill
--- isn't
--- read, and cites none.
+-- isn't read, and cites none.
 pub data IsReadBy (told : Told) (views : SeenViews) (parts : List Asked) (read : ℕ × ℕ × List ℕ) : Type 0 where
   One : (asked : Asked) → (others : List Asked) → (view : View) → parts ≡ asked ∷ others
-      → view_at views asked.window ≡ Some view
-      → (others ≡ []) ⊎ (view.length < asked.to) → read ≡ (view.entry, 0, shown_bytes told view asked)
-      → IsReadBy told views parts read
+      → view_at views asked.window ≡ Some view → (others ≡ []) ⊎ (view.length < asked.to)
+      → read ≡ (view.entry, 0, shown_bytes told view asked) → IsReadBy told views parts read
   Two : (asked other : Asked) → (view next : View) → parts ≡ asked ∷ other ∷ [] → view_at views asked.window ≡ Some view
-      → asked.to ≤ view.length
-      → view_at views other.window ≡ Some next
+      → asked.to ≤ view.length → view_at views other.window ≡ Some next
       → read ≡ (view.entry, next.entry, shown_bytes told view asked ++ shown_bytes told next other)
       → IsReadBy told views parts read
 

@@ -1,5 +1,5 @@
 //! A reading of a range of a file, window by window.
-ghost use Rattle.std.specs.Prelude.{◌≡◌, ◌++◌, IfOk};
+ghost use Rattle.std.specs.Prelude.{◌≡◌, ◌≤◌, ◌++◌, IfOk, IsOk, length};
 ghost use Rattle.jv_fetching.specs.Calls.{Keeps};
 ghost use Rattle.jv_fetching.specs.Fetching.{bytes_read, entry_at};
 ghost use Rattle.jv_fetching.specs.Inside.{parts_after, parts_of, reads_of};
@@ -41,7 +41,7 @@ impl Model for Fetch {
 }
 
 impl Fetch {
-    ghost use Rattle.std.specs.Prelude.{ℕ, ◌-◌, ◌<◌, ◌≤◌, List, [], length, OnOk, Some, None};
+    ghost use Rattle.std.specs.Prelude.{ℕ, ◌-◌, ◌<◌, List, [], OnOk, Some, None};
     ghost use Rattle.jv_model.specs.declared.limits.TheConstants.{WINDOW, FILE_END};
     ghost use Rattle.jv_model.specs.journal.Reading.{Asked, asked_parts};
     ghost use Rattle.jv_contents.specs.Blocks.{Blocks};
@@ -69,9 +69,9 @@ impl Fetch {
         }
     }
 
-    /// Goes on as far as views and cached blocks reach, and returns what it needs then: a look at the window of the next
-    /// part, a block that the cache lacks, or nothing. Each block is looked up once, a hit or a miss; bytes of another
-    /// length than the block's aren't it. Out of memory, the reading is over.
+    /// Goes on as far as views and cached blocks reach, and returns what it needs then: a look at the window of the
+    /// next part, a block that the cache lacks, or nothing. Each block is looked up once, a hit or a miss; bytes of
+    /// another length than the block's aren't it. Out of memory, the reading is over.
     pub fn advance(&mut self, views: &Views, cache: &mut BlockCache) -> Result<Need, AllocError>
         ensures block { self.new.block ≡ self.old.block }
         ensures wants { IfOk result (Wants views.now self.new) }
@@ -194,11 +194,12 @@ impl Fetch {
         }
     }
 
-    /// The entries of the looks that the reading cites, 0 for a window that wasn't read, and its bytes. It needs nothing
-    /// more. Takes memory only where two parts were read: the bytes of one are moved.
+    /// The entries of the looks that the reading cites, 0 for a window that wasn't read, and its bytes. It needs
+    /// nothing more. Takes memory only where two parts were read: the bytes of one are moved.
     pub fn into_parts(self) -> Result<(u64, u64, Bytes), AllocError>
         requires { self.parts ≡ [] }
-        ensures { IfOk result (λ parts. parts ≡ fetched_of self) }
+        ensures parts { IfOk result (λ parts. parts ≡ fetched_of self) }
+        ensures moved { length self.read ≤ 1 → IsOk result }
     {
         let alloc = self.alloc;
         let first = self.first;
@@ -234,8 +235,9 @@ fn parts_read(
     first: Option<Read>,
     second: Option<Read>,
 ) -> Result<(u64, u64, Bytes), AllocError>
-    ensures { let reads = reads_of first second in
+    ensures parts { let reads = reads_of first second in
         IfOk result (λ parts. parts ≡ (entry_at 0 reads, entry_at 1 reads, bytes_read reads)) }
+    ensures moved { length (reads_of first second) ≤ 1 → IsOk result }
 {
     let Some(first) = first else {
         return Ok((0, 0, Bytes::new(alloc)));
