@@ -1,6 +1,6 @@
 -- Steps of truncates and copies, whose files are committed: the transaction with its answer, or its refusal.
 use Rattle.std.proofs.Common.{◌≡◌, ℕ, ◌+◌, Bool, true, false, [], ◌∷◌, Option, None, Some, Result, Ok, Err, refl, sym, ap, subst, ◌∙◌}
-use Rattle.std.specs.Prelude.{◌||◌, nat_le}
+use Rattle.std.specs.Prelude.{IfErr, ◌||◌, nat_le}
 use Rattle.jv_model.specs.declared.limits.TheConstants.{FILE_END}
 use Rattle.std.proofs.lemmas.Bool.{or_right}
 use Rattle.jv_model.specs.declared.act.ActKind.{ActKind}
@@ -14,12 +14,14 @@ use Rattle.jv_model.specs.declared.op.Op.TheVariants as op
 use Rattle.jv_model.specs.declared.op.Reply.{Reply}
 use Rattle.jv_model.specs.declared.op.Reply.TheVariants as reply
 use Rattle.jv_model.specs.declared.op.Step.TheVariants.{More, Done}
+use Rattle.jv_model.specs.declared.profile.Does.TheVariants.{Truncates, Copies}
 use Rattle.jv_model.specs.tree.Tree.{Tree, Content, fits}
 use Rattle.jv_model.specs.tree.Caller.{Caller, Outcome, done, in_session, outcome}
 use Rattle.jv_model.specs.tree.TreeAct.{tree_act}
 use Rattle.jv_model.specs.tree.Attempt.{◌>>=◌, require}
 use Rattle.jv_model.specs.tree.FileBytes.{truncate, truncated, copy, copied, open_content}
 use Rattle.jv_model.specs.client.ModelClient.{ModelClient, Doing, Stage, Working, Replying, inode_at, views_without}
+use Rattle.jv_model.specs.client.Profile.{handle_of}
 use Rattle.jv_model.specs.client.Submission.{is_flushed}
 use Rattle.jv_model.specs.journal.State.{State, after_told, caller, is_refused, refusal_in, transacted}
 use Rattle.jv_model.specs.journal.Steps.{Start, Settles, change_entry, is_crowded, is_failure}
@@ -27,6 +29,7 @@ use Rattle.jv_steps.specs.IsStep.{IsStep}
 use Rattle.jv_steps.specs.Stages.{at_stage, changes_files}
 use Rattle.jv_steps.proofs.ReadyLaws.{ready-at, quiet-changes, quieted-changes}
 use Rattle.jv_steps.proofs.StepFormLaws.{step-answered}
+use Rattle.jv_steps.proofs.TreeChangeLaws.{copy-calm, copy-ok, truncate-calm, truncate-ok}
 use Rattle.jv_steps.proofs.EntryLaws.{told-staged, leaves-truncated, leaves-copied, leaves-quiet}
 
 module _ (start : Start) (alone : Bool) (s : State) (client now : ℕ) (d : Doing) (busy : (s.clients client).doing ≡ Some d)
@@ -118,3 +121,69 @@ module _ (start : Start) (alone : Bool) (s : State) (client now : ℕ) (d : Doin
       → IsStep start alone s client now (Quiet ∷ Answered (ToldRefused NoSpace) ∷ []) (Done (reply.Refused NoSpace)) s.tree
       (record mine { doing = None }) s.copied
   change-crowded changes crowded refusal = refused-by changes NoSpace refl refusal (or_right (is_refused done_reply) (is_crowded start s) crowded)
+
+  -- by what the tree's transaction comes to
+  abbrev who : Caller
+  who = caller mine client now d.op
+
+  abbrev answered_refused : Fault → Type 0
+  answered_refused fault = IsStep start alone s client now (Quiet ∷ Answered (ToldRefused fault) ∷ []) (Done (reply.Refused fault)) s.tree
+      (after_told d.op (ToldRefused fault) mine) s.copied
+
+  module _ (handle len : ℕ) (of_op : d.op ≡ op.Truncate handle len) where
+    reply-truncate : (result : Result Outcome Fault) → truncate s.tree who len ≡ result → done_reply ≡ (outcome s.tree result).reply
+    reply-truncate result e = ap (λ (done : Outcome). done.reply) (transacted-truncate handle len of_op result e)
+
+    pub truncate-made : (t : Tree) → truncate s.tree who len ≡ Ok (record { tree = t; reply = reply.Done })
+        → IsStep start alone s client now (Truncated (inode_at mine handle) len ∷ Answered (Fine 0 0 0 0) ∷ []) (Done reply.Done) t
+        (record mine { views = views_without (inode_at mine handle) mine.views; doing = None }) s.copied
+    truncate-made t e =
+        let out : Outcome = record { tree = t; reply = reply.Done } in
+        let same : t ≡ truncated s.tree now (inode_at mine handle) len =
+        ap (λ (done : Outcome). done.tree) (truncate-ok s.tree who len out e)
+        ∙ ap (λ o. truncated s.tree now (inode_at mine (handle_of o)) len) of_op in
+        subst (λ t. IsStep start alone s client now (Truncated (inode_at mine handle) len ∷ Answered (Fine 0 0 0 0) ∷ []) (Done reply.Done) t
+        (record mine { views = views_without (inode_at mine handle) mine.views; doing = None }) s.copied) (sym same)
+        (truncated-step handle len of_op (reply-truncate (Ok out) e))
+
+    pub truncate-refused : d.does ≡ Truncates → (fault : Fault) → truncate s.tree who len ≡ Err fault → answered_refused fault
+    truncate-refused does fault e =
+        change-refused (ap changes_files does) fault (truncate-calm s.tree who len fault e) (reply-truncate (Err fault) e)
+
+  module _ (source from target to len : ℕ) (of_op : d.op ≡ op.Copy source from target to len) where
+    reply-copy : (result : Result Outcome Fault) → copy s.tree who from to len ≡ result → done_reply ≡ (outcome s.tree result).reply
+    reply-copy result e = ap (λ (done : Outcome). done.reply) (transacted-copy source from target to len of_op result e)
+
+    pub copy-made : (t : Tree) (count : ℕ) → copy s.tree who from to len ≡ Ok (record { tree = t; reply = reply.Count count })
+        → IsStep start alone s client now
+        (Copied (inode_at mine source) from (inode_at mine target) to count ∷ Answered (Fine count 0 0 0) ∷ []) (Done (reply.Count count)) t
+        (record mine { views = views_without (inode_at mine target) mine.views; doing = None }) (s.copied + count)
+    copy-made t count e =
+        let out : Outcome = record { tree = t; reply = reply.Count count } in
+        let found = copy-ok s.tree who from to len out e in
+        let counted : reply.Count count ≡ reply.Count found.0 = ap (λ (done : Outcome). done.reply) found.1 in
+        let many : count ≡ found.0 = cc counted in
+        let same : t ≡ copied s.tree now (inode_at mine source) from (inode_at mine target) to count =
+        ap (λ (done : Outcome). done.tree) found.1
+        ∙ ap (λ o. copied s.tree now (caller mine client now o).inode from (caller mine client now o).other to found.0) of_op
+        ∙ ap (copied s.tree now (inode_at mine source) from (inode_at mine target) to) (sym many) in
+        subst (λ t. IsStep start alone s client now
+        (Copied (inode_at mine source) from (inode_at mine target) to count ∷ Answered (Fine count 0 0 0) ∷ []) (Done (reply.Count count)) t
+        (record mine { views = views_without (inode_at mine target) mine.views; doing = None }) (s.copied + count)) (sym same)
+        (copied-step source from target to len count of_op (reply-copy (Ok out) e))
+
+    pub copy-refused : d.does ≡ Copies → (fault : Fault) → copy s.tree who from to len ≡ Err fault → answered_refused fault
+    copy-refused does fault e =
+        change-refused (ap changes_files does) fault (copy-calm s.tree who from to len fault e) (reply-copy (Err fault) e)
+
+    -- since slices can't be named more often, where the tree doesn't refuse it otherwise
+    pub copy-crowded : d.does ≡ Copies → is_crowded start s ≡ true → (result : Result Outcome Fault) → copy s.tree who from to len ≡ result
+        → IfErr result (λ fault. fault ≡ NoSpace)
+        → IsStep start alone s client now (Quiet ∷ Answered (ToldRefused NoSpace) ∷ []) (Done (reply.Refused NoSpace)) s.tree
+        (record mine { doing = None }) s.copied
+    copy-crowded does crowded (Ok out) e only =
+        let found = copy-ok s.tree who from to len out e in
+        change-crowded (ap changes_files does) crowded
+        (ap refusal_in (reply-copy (Ok out) e ∙ ap (λ (done : Outcome). done.reply) found.1))
+    copy-crowded does crowded (Err fault) e only =
+        change-crowded (ap changes_files does) crowded (ap refusal_in (reply-copy (Err fault) e) ∙ ap reply.Refused only)
