@@ -1,8 +1,10 @@
 -- What is proved of steps.
+pub mod AnswerStepLaws
 pub mod ChangeStepLaws
 pub mod EntryLaws
 pub mod LookStepLaws
 pub mod ReadStepLaws
 pub mod ReadyLaws
 pub mod StepFormLaws
+pub mod TransactionStepLaws
 pub mod TreeChangeLaws
