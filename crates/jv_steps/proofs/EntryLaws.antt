@@ -1,5 +1,5 @@
 -- What one entry of a client's operation leaves.
-use Rattle.std.proofs.Common.{◌≡◌, ℕ, ◌+◌, Bool, true, false, ◌∷◌, Option, None, refl, ap, ◌∙◌}
+use Rattle.std.proofs.Common.{◌≡◌, ℕ, ◌+◌, false, ◌∷◌, Option, None, refl, ap, ◌∙◌}
 use Rattle.std.specs.Prelude.{if◌then◌else◌, Some}
 use Rattle.jv_model.specs.declared.act.Told.{Told}
 use Rattle.jv_model.specs.declared.act.Told.TheVariants.{Fine, Looks, Refused as ToldRefused}
@@ -9,11 +9,12 @@ use Rattle.jv_model.specs.declared.fault.Gone.TheVariants.{Session, Node}
 use Rattle.jv_model.specs.declared.op.Op.{Op}
 use Rattle.jv_model.specs.declared.op.Op.TheVariants as op
 use Rattle.jv_model.specs.declared.op.Reply.TheVariants as reply
-use Rattle.jv_model.specs.tree.Tree.{Tree}
 use Rattle.jv_model.specs.tree.FileBytes.{truncated, copied}
 use Rattle.jv_model.specs.client.Profile.{handle_of}
 use Rattle.jv_model.specs.client.ModelClient.{ModelClient, Doing, Stage, Replying, with_stage, views_without}
-use Rattle.jv_model.specs.journal.State.{State, after_quiet, after_look, after_truncation, after_copy, after_told, quieted, finished, refused_as, view_now, looked, compaction_looked, is_compaction, with_client}
+use Rattle.jv_model.specs.journal.State.{State, after_quiet, after_look, after_truncation, after_copy, after_told}
+use Rattle.jv_model.specs.journal.State.{quieted, finished, refused_as, view_now, looked, compaction_looked}
+use Rattle.jv_model.specs.journal.State.{is_compaction, with_client}
 use Rattle.jv_steps.specs.Leaves.{Leaves}
 use Rattle.jv_steps.specs.Stages.{at_stage}
 use Rattle.jv_steps.proofs.StepFormLaws.{with_stage-doing, leaves-one}
@@ -28,7 +29,8 @@ finished-staged (op.Write handle offset bytes) c doing = refl
 finished-staged _ c doing = refl
 
 refused-staged : (fault : Fault) (c : ModelClient) (doing : Option Doing)
-    → record (refused_as fault (record c { doing = doing })) { doing = None } ≡ record (refused_as fault c) { doing = None }
+    → record (refused_as fault (record c { doing = doing })) { doing = None } ≡ record
+    (refused_as fault c) { doing = None }
 refused-staged (Stale (Session sid)) c doing = refl
 refused-staged (Stale (Node inode)) c doing = refl
 refused-staged _ c doing = refl
@@ -48,7 +50,8 @@ module _ (s : State) (client now : ℕ) (d : Doing) (busy : (s.clients client).d
 
   -- a request that changed nothing of the tree
   pub leaves-quiet : (stage : Stage) → quieted s client mine now d d.stage ≡ stage
-      → Leaves s (record (after_quiet s client now d) { count = s.count + 1 }) client 1 s.tree (at_stage stage d mine) s.copied
+      → Leaves s (record (after_quiet s client now d) { count = s.count + 1 }) client 1 s.tree
+      (at_stage stage d mine) s.copied
   leaves-quiet stage at = leaves-one s (after_quiet s client now d) client s.tree (at_stage stage d mine) s.copied refl
       (ap (with_client s.clients client)
       (with_stage-doing (quieted s client mine now d d.stage) mine d busy ∙ ap (λ stage. at_stage stage d mine) at))
@@ -75,7 +78,8 @@ module _ (s : State) (client now : ℕ) (d : Doing) (busy : (s.clients client).d
 
   -- a file was cut, or lengthened
   pub leaves-truncated : (inode len : ℕ)
-      → Leaves s (record (after_truncation s client now inode len d) { count = s.count + 1 }) client 1 (truncated s.tree now inode len)
+      → Leaves s (record (after_truncation s client now inode len d) { count = s.count + 1 }) client 1
+      (truncated s.tree now inode len)
       (at_stage (Replying reply.Done) d (without_views inode)) s.copied
   leaves-truncated inode len =
       leaves-one s (after_truncation s client now inode len d) client (truncated s.tree now inode len)
@@ -85,8 +89,11 @@ module _ (s : State) (client now : ℕ) (d : Doing) (busy : (s.clients client).d
   -- bytes were copied into a file
   pub leaves-copied : (source from target to len : ℕ)
       → Leaves s (record (after_copy s client now source from target to len d) { count = s.count + 1 }) client 1
-      (copied s.tree now source from target to len) (at_stage (Replying (reply.Count len)) d (without_views target)) (s.copied + len)
+      (copied s.tree now source from target to len) (at_stage (Replying (reply.Count len)) d (without_views target))
+      (s.copied + len)
   leaves-copied source from target to len =
-      leaves-one s (after_copy s client now source from target to len d) client (copied s.tree now source from target to len)
+      leaves-one s (after_copy s client now source from target to len d) client
+      (copied s.tree now source from target to len)
       (at_stage (Replying (reply.Count len)) d (without_views target)) (s.copied + len) refl
-      (ap (with_client s.clients client) (with_stage-doing (Replying (reply.Count len)) (without_views target) d busy)) refl
+      (ap (with_client s.clients client) (with_stage-doing (Replying (reply.Count len)) (without_views target) d
+      busy)) refl

@@ -1,7 +1,7 @@
 -- Steps of a reading that look at a window of its file, or are refused that.
-use Rattle.std.proofs.Common.{◌≡◌, ℕ, zero, Bool, true, false, [], ◌∷◌, Option, None, Some, refl, sym, ap, subst, ◌∙◌}
+use Rattle.std.proofs.Common.{◌≡◌, ℕ, Bool, true, false, [], ◌∷◌, Option, None, Some, refl, sym, ap, subst, ◌∙◌}
 use Rattle.std.specs.Option.{option_map}
-use Rattle.std.specs.Prelude.{◌&&◌, ◌||◌, ◌==◌, if◌then◌else◌, IsSomeAnd, IsTrue, MatchBool, is_some, not}
+use Rattle.std.specs.Prelude.{◌||◌, if◌then◌else◌, IsSomeAnd, MatchBool, is_some, not}
 use Rattle.jv_model.specs.declared.act.ActKind.TheVariants.{Answered, Quiet, Look}
 use Rattle.jv_model.specs.declared.act.Told.{Told}
 use Rattle.jv_model.specs.declared.act.Told.TheVariants.{Refused as ToldRefused}
@@ -11,14 +11,16 @@ use Rattle.jv_model.specs.declared.fault.Gone.TheVariants.{Session, Node}
 use Rattle.jv_model.specs.declared.op.Reply.{Reply}
 use Rattle.jv_model.specs.declared.op.Reply.TheVariants as reply
 use Rattle.jv_model.specs.declared.op.Step.TheVariants.{More, Done}
-use Rattle.jv_model.specs.declared.profile.Does.{Does}
 use Rattle.jv_model.specs.declared.profile.Does.TheVariants.{Reads}
 use Rattle.jv_model.specs.tree.Tree.{Tree, Node as TreeNode, node_at}
-use Rattle.jv_model.specs.client.ModelClient.{ModelClient, OpenFile, Doing, Stage, Working, Reading, Replying, session_of, inode_at, inode_in}
+use Rattle.jv_model.specs.client.ModelClient.{ModelClient, OpenFile, Doing, Stage, Reading, Replying, session_of}
+use Rattle.jv_model.specs.client.ModelClient.{inode_at, inode_in}
 use Rattle.jv_model.specs.client.Profile.{handle_of}
-use Rattle.jv_model.specs.client.Submission.{is_flushed}
-use Rattle.jv_model.specs.journal.State.{State, after_told, has_session, is_compaction, look_refusal, looked, begun_quietly, quieted, sees_first, view_now, is_of_another}
-use Rattle.jv_model.specs.journal.Steps.{Start, IsRefusedIn, SessionGone, InodeGone, LooksAt, CompactionLooks, MayStep, MayAnswer, MayLook, Refuses, Settles, file_in_use, is_missing, may_be_quiet, may_read_on, window_to_look}
+use Rattle.jv_model.specs.journal.State.{State, after_told, has_session, is_compaction, look_refusal, looked}
+use Rattle.jv_model.specs.journal.State.{quieted, sees_first, view_now, is_of_another}
+use Rattle.jv_model.specs.journal.Steps.{Start, IsRefusedIn, SessionGone, InodeGone, LooksAt, CompactionLooks}
+use Rattle.jv_model.specs.journal.Steps.{MayStep, MayAnswer, Refuses, Settles, file_in_use, is_missing}
+use Rattle.jv_model.specs.journal.Steps.{may_be_quiet, may_read_on, window_to_look}
 use Rattle.jv_model.specs.journal.Past.{reply_of}
 use Rattle.jv_model.specs.journal.Reading.{asked_parts}
 use Rattle.jv_steps.specs.IsStep.{IsStep}
@@ -41,7 +43,8 @@ module _ (c : ModelClient) (d : Doing) (misses : ℕ) where
   -- it looks at the same window once it made a request
   pub window-reads : MayRead c d misses → (file : OpenFile)
       → window_to_look c (record d { stage = Reading misses }) file ≡ window_to_look c d file
-  window-reads (Begins started at flushed first) file = sym (ap (λ stage. window_to_look c (record d { stage = stage }) file) at)
+  window-reads (Begins started at flushed first) file = sym
+      (ap (λ stage. window_to_look c (record d { stage = stage }) file) at)
   window-reads (GoesOn at) file = sym (ap (λ stage. window_to_look c (record d { stage = stage }) file) at)
 
 -- ---- why a look is refused
@@ -59,7 +62,8 @@ look_refused-node t c inode there gone =
     then None else Some (reply.Refused (Stale (Node inode)))) there
     ∙ ap (λ (o : Option TreeNode). if is_some o then None else Some (reply.Refused (Stale (Node inode)))) gone
 
-module _ (start : Start) (alone : Bool) (s : State) (client now : ℕ) (d : Doing) (busy : (s.clients client).doing ≡ Some d)
+module _ (start : Start) (alone : Bool) (s : State) (client now : ℕ) (d : Doing)
+    (busy : (s.clients client).doing ≡ Some d)
     (offset len : ℕ) (does : d.does ≡ Reads offset len) where
   abbrev mine : ModelClient
   mine = s.clients client
@@ -69,11 +73,13 @@ module _ (start : Start) (alone : Bool) (s : State) (client now : ℕ) (d : Doin
     pub may-look : has_session s.tree mine ≡ true → is_some (node_at s.tree file.inode) ≡ true
         → MayStep start alone s client now mine d (Look file.inode window)
     may-look session there =
-        subst (λ b. MatchBool b (CompactionLooks s client now mine d file.inode window) (LooksAt s mine d file.inode window))
+        subst (λ b. MatchBool b (CompactionLooks s client now mine d file.inode window)
+        (LooksAt s mine d file.inode window))
         (sym (ap is_compaction does))
         (record {
           goes_on = ap (λ b. b || is_missing d.stage) (may_read-on mine d misses may);
-          file = subst (λ o. IsSomeAnd o (λ f. (file.inode ≡ f.inode) × (window_to_look mine d f ≡ Some window))) (sym opened) (refl, look);
+          file = subst (λ o. IsSomeAnd o (λ f. (file.inode ≡ f.inode) × (window_to_look mine d f ≡ Some window)))
+              (sym opened) (refl, look);
           session = session;
           there = there;
         })
@@ -81,11 +87,14 @@ module _ (start : Start) (alone : Bool) (s : State) (client now : ℕ) (d : Doin
     -- it looks at the window, and goes on
     pub look-step : has_session s.tree mine ≡ true → is_some (node_at s.tree file.inode) ≡ true
         → IsStep start alone s client now (Look file.inode window ∷ []) More s.tree
-        (at_stage (Reading misses) d (record mine { views = view_now s (handle_of d.op) file.inode window ∷ mine.views })) s.copied
+        (at_stage (Reading misses) d
+        (record mine { views = view_now s (handle_of d.op) file.inode window ∷ mine.views })) s.copied
     look-step session there =
         step-on s client now d busy start alone (Look file.inode window) refl (may-look session there) s.tree
-        (at_stage (Reading misses) d (record mine { views = view_now s (handle_of d.op) file.inode window ∷ mine.views })) s.copied
-        (leaves-look s client now d busy file.inode window (Reading misses) (ap is_compaction does) (looked-reads mine d misses may)) refl
+        (at_stage (Reading misses) d
+        (record mine { views = view_now s (handle_of d.op) file.inode window ∷ mine.views })) s.copied
+        (leaves-look s client now d busy file.inode window (Reading misses) (ap is_compaction does)
+        (looked-reads mine d misses may)) refl
 
     -- a look that is refused
 
@@ -111,31 +120,39 @@ module _ (start : Start) (alone : Bool) (s : State) (client now : ℕ) (d : Doin
       refused-after : (stage : Stage) → quieted s client mine now d d.stage ≡ stage
           → may_be_quiet start s client now mine d d.stage ≡ true
           → is_of_another stage told ≡ false
-          → reply_of (at_stage stage d mine) (record d { stage = stage; moved = true }) told ≡ reply.Refused (Stale gone)
-          → MayAnswer start alone (requested s client now d busy Quiet) client now (at_stage stage d mine) (record d { stage = stage; moved = true }) told
+          → reply_of (at_stage stage d mine) (record d { stage = stage; moved = true }) told ≡ reply.Refused
+          (Stale gone)
+          → MayAnswer start alone (requested s client now d busy Quiet) client now (at_stage stage d mine)
+          (record d { stage = stage; moved = true }) told
           → IsStep start alone s client now (Quiet ∷ Answered told ∷ []) (Done (reply.Refused (Stale gone))) s.tree
           (after_told d.op told mine) s.copied
       refused-after stage at quiet own says answers =
           let d2 : Doing = record d { stage = stage; moved = true } in
-          subst (λ c. IsStep start alone s client now (Quiet ∷ Answered told ∷ []) (Done (reply.Refused (Stale gone))) s.tree c s.copied)
+          subst (λ c. IsStep start alone s client now (Quiet ∷ Answered told ∷ [])
+          (Done (reply.Refused (Stale gone))) s.tree c s.copied)
           (told-staged d.op told mine (Some d2))
           (step-answered s client now d busy start alone Quiet refl quiet s.tree (at_stage stage d mine) s.copied
           (leaves-quiet s client now d busy stage at) d2 told (reply.Refused (Stale gone)) refl own refl says answers)
 
       module _ (refusal : look_refusal s.tree mine file.inode ≡ Some (reply.Refused (Stale gone)))
-          (refused : IsRefusedIn start (requested s client now d busy Quiet) client now client_then reading_then (Stale gone)) where
+          (refused : IsRefusedIn start (requested s client now d busy Quiet) client now client_then reading_then
+          (Stale gone)) where
         -- where the reading has a view of its first window
-        refused-sees : quieted s client mine now d d.stage ≡ Reading misses → may_be_quiet start s client now mine d d.stage ≡ true
+        refused-sees : quieted s client mine now d d.stage ≡ Reading misses
+            → may_be_quiet start s client now mine d d.stage ≡ true
             → IsStep start alone s client now (Quiet ∷ Answered told ∷ []) (Done (reply.Refused (Stale gone))) s.tree
             (after_told d.op told mine) s.copied
-        refused-sees at quiet = refused-after (Reading misses) at quiet refl refl (Refuses (Stale gone) refl refused refl)
+        refused-sees at quiet = refused-after (Reading misses) at quiet refl refl
+            (Refuses (Stale gone) refl refused refl)
 
         -- where it has none
-        refused-settles : quieted s client mine now d d.stage ≡ Replying (reply.Refused (Stale gone)) → may_be_quiet start s client now mine d d.stage ≡ true
+        refused-settles : quieted s client mine now d d.stage ≡ Replying (reply.Refused (Stale gone))
+            → may_be_quiet start s client now mine d d.stage ≡ true
             → IsStep start alone s client now (Quiet ∷ Answered told ∷ []) (Done (reply.Refused (Stale gone))) s.tree
             (after_told d.op told mine) s.copied
         refused-settles at quiet =
-            refused-after (Replying (reply.Refused (Stale gone))) at quiet refl refl (Settles (reply.Refused (Stale gone)) refl refl)
+            refused-after (Replying (reply.Refused (Stale gone))) at quiet refl refl
+            (Settles (reply.Refused (Stale gone)) refl refl)
 
         own-refusal : look_refusal s.tree mine (inode_at mine (handle_of d.op)) ≡ Some (reply.Refused (Stale gone))
         own-refusal = ap (look_refusal s.tree mine) (ap inode_in opened) ∙ refusal
@@ -143,14 +160,17 @@ module _ (start : Start) (alone : Bool) (s : State) (client now : ℕ) (d : Doin
         look-refused-by : (sees : Bool) → sees_first mine d (asked_parts offset len) ≡ sees → MayRead mine d misses
             → IsStep start alone s client now (Quiet ∷ Answered told ∷ []) (Done (reply.Refused (Stale gone))) s.tree
             (after_told d.op told mine) s.copied
-        look-refused-by sees e (GoesOn at) = refused-sees (ap (quieted s client mine now d) at) (ap (may_be_quiet start s client now mine d) at)
+        look-refused-by sees e (GoesOn at) = refused-sees (ap (quieted s client mine now d) at)
+            (ap (may_be_quiet start s client now mine d) at)
         look-refused-by true e (Begins started at flushed first) =
-            refused-sees (quieted-reads s client now mine d started at flushed offset len does true e ∙ ap Reading (sym first))
+            refused-sees (quieted-reads s client now mine d started at flushed offset len does true e
+            ∙ ap Reading (sym first))
             (quiet-reads s client now mine d started at flushed start offset len does true e)
         look-refused-by false e (Begins started at flushed first) =
             refused-settles
             (quieted-reads s client now mine d started at flushed offset len does false e
-            ∙ ap (λ (o : Option Reply). elim o as (λ _. Stage) [ None ↦ d.stage | Some answer ↦ Replying answer ]) own-refusal)
+            ∙ ap (λ (o : Option Reply). elim o as (λ _. Stage) [ None ↦ d.stage | Some answer ↦ Replying answer ])
+            own-refusal)
             (quiet-reads s client now mine d started at flushed start offset len does false e ∙ ap is_some own-refusal)
 
     -- the session is gone
@@ -159,7 +179,8 @@ module _ (start : Start) (alone : Bool) (s : State) (client now : ℕ) (d : Doin
         (Done (reply.Refused (Stale (Session (session_of mine))))) s.tree
         (after_told d.op (ToldRefused (Stale (Session (session_of mine)))) mine) s.copied
     look-refused_session gone =
-        look-refused-by (Session (session_of mine)) (look_refused-session s.tree mine file.inode gone) (SessionGone asks-rows gone refl)
+        look-refused-by (Session (session_of mine)) (look_refused-session s.tree mine file.inode gone)
+        (SessionGone asks-rows gone refl)
         (sees_first mine d (asked_parts offset len)) refl may
 
     -- the file is gone
