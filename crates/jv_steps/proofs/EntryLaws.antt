@@ -16,7 +16,7 @@ use Rattle.jv_model.specs.journal.State.{State, after_quiet, after_look, after_t
 use Rattle.jv_model.specs.journal.State.{quieted, finished, refused_as, view_now, looked, compaction_looked}
 use Rattle.jv_model.specs.journal.State.{is_compaction, with_client}
 use Rattle.jv_steps.specs.Leaves.{Leaves}
-use Rattle.jv_steps.specs.Stages.{at_stage}
+use Rattle.jv_steps.specs.Stages.{at_stage, with_look, without_views}
 use Rattle.jv_steps.proofs.StepFormLaws.{with_stage-doing, leaves-one}
 
 -- ---- answers
@@ -58,14 +58,11 @@ module _ (s : State) (client now : ℕ) (d : Doing) (busy : (s.clients client).d
       refl
 
   -- a look of a reading
-  abbrev pub with_view : ℕ → ℕ → ModelClient
-  with_view inode window = record mine { views = view_now s (handle_of d.op) inode window ∷ mine.views }
-
   pub leaves-look : (inode window : ℕ) (stage : Stage) → is_compaction d.does ≡ false → looked d.stage ≡ stage
       → Leaves s (record (after_look s client inode window d) { count = s.count + 1 }) client 1 s.tree
-      (at_stage stage d (with_view inode window)) s.copied
+      (at_stage stage d (with_look s d inode window mine)) s.copied
   leaves-look inode window stage reads at =
-      let seen = with_view inode window in
+      let seen = with_look s d inode window mine in
       let compacted = with_stage (compaction_looked (view_now s 0 inode window) d.stage) mine in
       leaves-one s (after_look s client inode window d) client s.tree (at_stage stage d seen) s.copied refl
       (ap (with_client s.clients client)
@@ -73,27 +70,24 @@ module _ (s : State) (client now : ℕ) (d : Doing) (busy : (s.clients client).d
       ∙ with_stage-doing (looked d.stage) seen d busy ∙ ap (λ stage. at_stage stage d seen) at))
       refl
 
-  abbrev pub without_views : ℕ → ModelClient
-  without_views inode = record mine { views = views_without inode mine.views }
-
   -- a file was cut, or lengthened
   pub leaves-truncated : (inode len : ℕ)
       → Leaves s (record (after_truncation s client now inode len d) { count = s.count + 1 }) client 1
       (truncated s.tree now inode len)
-      (at_stage (Replying reply.Done) d (without_views inode)) s.copied
+      (at_stage (Replying reply.Done) d (without_views inode mine)) s.copied
   leaves-truncated inode len =
       leaves-one s (after_truncation s client now inode len d) client (truncated s.tree now inode len)
-      (at_stage (Replying reply.Done) d (without_views inode)) s.copied refl
-      (ap (with_client s.clients client) (with_stage-doing (Replying reply.Done) (without_views inode) d busy)) refl
+      (at_stage (Replying reply.Done) d (without_views inode mine)) s.copied refl
+      (ap (with_client s.clients client) (with_stage-doing (Replying reply.Done) (without_views inode mine) d busy)) refl
 
   -- bytes were copied into a file
   pub leaves-copied : (source from target to len : ℕ)
       → Leaves s (record (after_copy s client now source from target to len d) { count = s.count + 1 }) client 1
-      (copied s.tree now source from target to len) (at_stage (Replying (reply.Count len)) d (without_views target))
+      (copied s.tree now source from target to len) (at_stage (Replying (reply.Count len)) d (without_views target mine))
       (s.copied + len)
   leaves-copied source from target to len =
       leaves-one s (after_copy s client now source from target to len d) client
       (copied s.tree now source from target to len)
-      (at_stage (Replying (reply.Count len)) d (without_views target)) (s.copied + len) refl
-      (ap (with_client s.clients client) (with_stage-doing (Replying (reply.Count len)) (without_views target) d
+      (at_stage (Replying (reply.Count len)) d (without_views target mine)) (s.copied + len) refl
+      (ap (with_client s.clients client) (with_stage-doing (Replying (reply.Count len)) (without_views target mine) d
       busy)) refl

@@ -24,7 +24,8 @@ use Rattle.jv_model.specs.journal.Steps.{may_be_quiet, may_read_on, window_to_lo
 use Rattle.jv_model.specs.journal.Past.{reply_of}
 use Rattle.jv_model.specs.journal.Reading.{asked_parts}
 use Rattle.jv_steps.specs.IsStep.{IsStep}
-use Rattle.jv_steps.specs.Stages.{MayRead, Begins, GoesOn, at_stage}
+use Rattle.jv_steps.specs.Leaves.{Leaves}
+use Rattle.jv_steps.specs.Stages.{MayRead, Begins, GoesOn, at_stage, with_look}
 use Rattle.jv_steps.proofs.ReadyLaws.{quieted-reads, quiet-reads}
 use Rattle.jv_steps.proofs.StepFormLaws.{requested, step-on, step-answered}
 use Rattle.jv_steps.proofs.EntryLaws.{told-staged, leaves-look, leaves-quiet}
@@ -49,22 +50,23 @@ module _ (c : ModelClient) (d : Doing) (misses : ℕ) where
 
 -- ---- why a look is refused
 
+abbrev refused_by : Tree → ModelClient → ℕ → Bool → Option Reply
+refused_by t c inode b = (if not b then Some (reply.Refused (Stale (Session (session_of c))))
+    else if is_some (node_at t inode) then None
+    else Some (reply.Refused (Stale (Node inode))))
+
 pub look_refused-session : (t : Tree) (c : ModelClient) (inode : ℕ) → has_session t c ≡ false
     → look_refusal t c inode ≡ Some (reply.Refused (Stale (Session (session_of c))))
-look_refused-session t c inode gone =
-    ap (λ b. if not b then Some (reply.Refused (Stale (Session (session_of c)))) else if is_some (node_at t inode)
-    then None else Some (reply.Refused (Stale (Node inode)))) gone
+look_refused-session t c inode gone = ap (refused_by t c inode) gone
 
 pub look_refused-node : (t : Tree) (c : ModelClient) (inode : ℕ) → has_session t c ≡ true → node_at t inode ≡ None
     → look_refusal t c inode ≡ Some (reply.Refused (Stale (Node inode)))
 look_refused-node t c inode there gone =
-    ap (λ b. if not b then Some (reply.Refused (Stale (Session (session_of c)))) else if is_some (node_at t inode)
-    then None else Some (reply.Refused (Stale (Node inode)))) there
+    ap (refused_by t c inode) there
     ∙ ap (λ (o : Option TreeNode). if is_some o then None else Some (reply.Refused (Stale (Node inode)))) gone
 
 module _ (start : Start) (alone : Bool) (s : State) (client now : ℕ) (d : Doing)
-    (busy : (s.clients client).doing ≡ Some d)
-    (offset len : ℕ) (does : d.does ≡ Reads offset len) where
+    (busy : (s.clients client).doing ≡ Some d) (offset len : ℕ) (does : d.does ≡ Reads offset len) where
   abbrev mine : ModelClient
   mine = s.clients client
 
@@ -84,111 +86,102 @@ module _ (start : Start) (alone : Bool) (s : State) (client now : ℕ) (d : Doin
           there = there;
         })
 
+    pub leaves-looked : Leaves s (requested s client now d busy (Look file.inode window)) client 1 s.tree
+        (at_stage (Reading misses) d (with_look s d file.inode window mine)) s.copied
+    leaves-looked = leaves-look s client now d busy file.inode window (Reading misses) (ap is_compaction does)
+        (looked-reads mine d misses may)
+
     -- it looks at the window, and goes on
     pub look-step : has_session s.tree mine ≡ true → is_some (node_at s.tree file.inode) ≡ true
         → IsStep start alone s client now (Look file.inode window ∷ []) More s.tree
-        (at_stage (Reading misses) d
-        (record mine { views = view_now s (handle_of d.op) file.inode window ∷ mine.views })) s.copied
+        (at_stage (Reading misses) d (with_look s d file.inode window mine)) s.copied
     look-step session there =
         step-on s client now d busy start alone (Look file.inode window) refl (may-look session there) s.tree
-        (at_stage (Reading misses) d
-        (record mine { views = view_now s (handle_of d.op) file.inode window ∷ mine.views })) s.copied
-        (leaves-look s client now d busy file.inode window (Reading misses) (ap is_compaction does)
-        (looked-reads mine d misses may)) refl
+        (at_stage (Reading misses) d (with_look s d file.inode window mine)) s.copied leaves-looked refl
 
-    -- a look that is refused
+    -- ---- a look that is refused
 
-    abbrev reading_then : Doing
-    reading_then = record d { stage = Reading misses; moved = true }
+    -- what is gone is the answer
+    abbrev told_gone : Gone → Told
+    told_gone gone = ToldRefused (Stale gone)
 
-    abbrev client_then : ModelClient
-    client_then = at_stage (Reading misses) d mine
+    abbrev IsRefused : Gone → Type 0
+    IsRefused gone = IsStep start alone s client now (Quiet ∷ Answered (told_gone gone) ∷ [])
+        (Done (reply.Refused (Stale gone))) s.tree (after_told d.op (told_gone gone) mine) s.copied
+
+    -- the operation between the request and its refusal
+    abbrev reading_then : Stage → Doing
+    reading_then stage = record d { stage = stage; moved = true }
+
+    abbrev client_then : Stage → ModelClient
+    client_then stage = at_stage stage d mine
 
     -- it asks for rows, as a look does
     abbrev asks_in : Option OpenFile → Bool
     asks_in None = false
-    asks_in (Some file) = is_some (window_to_look client_then reading_then file)
+    asks_in (Some file) = is_some (window_to_look (client_then (Reading misses)) (reading_then (Reading misses)) file)
 
-    asks-rows : asks_in (file_in_use client_then reading_then) ≡ true
+    asks-rows : asks_in (file_in_use (client_then (Reading misses)) (reading_then (Reading misses))) ≡ true
     asks-rows = ap asks_in opened ∙ ap is_some (window-reads mine d misses may file ∙ look)
 
-    -- the request was made, and the stage is that of a reading or a refusal that is settled
     module _ (gone : Gone) where
-      abbrev told : Told
-      told = ToldRefused (Stale gone)
+      abbrev IsQuietTo : Stage → Type 0
+      IsQuietTo stage = (quieted s client mine now d d.stage ≡ stage) × (may_be_quiet start s client now mine d d.stage ≡ true)
 
-      refused-after : (stage : Stage) → quieted s client mine now d d.stage ≡ stage
-          → may_be_quiet start s client now mine d d.stage ≡ true
-          → is_of_another stage told ≡ false
-          → reply_of (at_stage stage d mine) (record d { stage = stage; moved = true }) told ≡ reply.Refused
-          (Stale gone)
-          → MayAnswer start alone (requested s client now d busy Quiet) client now (at_stage stage d mine)
-          (record d { stage = stage; moved = true }) told
-          → IsStep start alone s client now (Quiet ∷ Answered told ∷ []) (Done (reply.Refused (Stale gone))) s.tree
-          (after_told d.op told mine) s.copied
-      refused-after stage at quiet own says answers =
-          let d2 : Doing = record d { stage = stage; moved = true } in
-          subst (λ c. IsStep start alone s client now (Quiet ∷ Answered told ∷ [])
+      refused-after : (stage : Stage) → IsQuietTo stage → is_of_another stage (told_gone gone) ≡ false
+          → reply_of (client_then stage) (reading_then stage) (told_gone gone) ≡ reply.Refused (Stale gone)
+          → MayAnswer start alone (requested s client now d busy Quiet) client now (client_then stage)
+          (reading_then stage) (told_gone gone)
+          → IsRefused gone
+      refused-after stage quiet own says answers =
+          subst (λ c. IsStep start alone s client now (Quiet ∷ Answered (told_gone gone) ∷ [])
           (Done (reply.Refused (Stale gone))) s.tree c s.copied)
-          (told-staged d.op told mine (Some d2))
-          (step-answered s client now d busy start alone Quiet refl quiet s.tree (at_stage stage d mine) s.copied
-          (leaves-quiet s client now d busy stage at) d2 told (reply.Refused (Stale gone)) refl own refl says answers)
+          (told-staged d.op (told_gone gone) mine (Some (reading_then stage)))
+          (step-answered s client now d busy start alone Quiet refl quiet.1 s.tree (client_then stage) s.copied
+          (leaves-quiet s client now d busy stage quiet.0) (reading_then stage) (told_gone gone)
+          (reply.Refused (Stale gone)) refl own refl says answers)
 
       module _ (refusal : look_refusal s.tree mine file.inode ≡ Some (reply.Refused (Stale gone)))
-          (refused : IsRefusedIn start (requested s client now d busy Quiet) client now client_then reading_then
-          (Stale gone)) where
+          (refused : IsRefusedIn start (requested s client now d busy Quiet) client now
+          (client_then (Reading misses)) (reading_then (Reading misses)) (Stale gone)) where
         -- where the reading has a view of its first window
-        refused-sees : quieted s client mine now d d.stage ≡ Reading misses
-            → may_be_quiet start s client now mine d d.stage ≡ true
-            → IsStep start alone s client now (Quiet ∷ Answered told ∷ []) (Done (reply.Refused (Stale gone))) s.tree
-            (after_told d.op told mine) s.copied
-        refused-sees at quiet = refused-after (Reading misses) at quiet refl refl
-            (Refuses (Stale gone) refl refused refl)
+        refused-sees : IsQuietTo (Reading misses) → IsRefused gone
+        refused-sees quiet = refused-after (Reading misses) quiet refl refl (Refuses (Stale gone) refl refused refl)
 
         -- where it has none
-        refused-settles : quieted s client mine now d d.stage ≡ Replying (reply.Refused (Stale gone))
-            → may_be_quiet start s client now mine d d.stage ≡ true
-            → IsStep start alone s client now (Quiet ∷ Answered told ∷ []) (Done (reply.Refused (Stale gone))) s.tree
-            (after_told d.op told mine) s.copied
-        refused-settles at quiet =
-            refused-after (Replying (reply.Refused (Stale gone))) at quiet refl refl
+        refused-settles : IsQuietTo (Replying (reply.Refused (Stale gone))) → IsRefused gone
+        refused-settles quiet = refused-after (Replying (reply.Refused (Stale gone))) quiet refl refl
             (Settles (reply.Refused (Stale gone)) refl refl)
 
         own-refusal : look_refusal s.tree mine (inode_at mine (handle_of d.op)) ≡ Some (reply.Refused (Stale gone))
         own-refusal = ap (look_refusal s.tree mine) (ap inode_in opened) ∙ refusal
 
-        look-refused-by : (sees : Bool) → sees_first mine d (asked_parts offset len) ≡ sees → MayRead mine d misses
-            → IsStep start alone s client now (Quiet ∷ Answered told ∷ []) (Done (reply.Refused (Stale gone))) s.tree
-            (after_told d.op told mine) s.copied
-        look-refused-by sees e (GoesOn at) = refused-sees (ap (quieted s client mine now d) at)
-            (ap (may_be_quiet start s client now mine d) at)
-        look-refused-by true e (Begins started at flushed first) =
-            refused-sees (quieted-reads s client now mine d started at flushed offset len does true e
-            ∙ ap Reading (sym first))
-            (quiet-reads s client now mine d started at flushed start offset len does true e)
-        look-refused-by false e (Begins started at flushed first) =
+        look-refused : (sees : Bool) → sees_first mine d (asked_parts offset len) ≡ sees → MayRead mine d misses
+            → IsRefused gone
+        look-refused sees e (GoesOn at) =
+            refused-sees (ap (quieted s client mine now d) at, ap (may_be_quiet start s client now mine d) at)
+        look-refused true e (Begins started at flushed first) =
+            refused-sees
+            (quieted-reads s client now mine d started at flushed offset len does true e ∙ ap Reading (sym first),
+            quiet-reads s client now mine d started at flushed start offset len does true e)
+        look-refused false e (Begins started at flushed first) =
             refused-settles
-            (quieted-reads s client now mine d started at flushed offset len does false e
-            ∙ ap (λ (o : Option Reply). elim o as (λ _. Stage) [ None ↦ d.stage | Some answer ↦ Replying answer ])
-            own-refusal)
-            (quiet-reads s client now mine d started at flushed start offset len does false e ∙ ap is_some own-refusal)
+            (quieted-reads s client now mine d started at flushed offset len does false e ∙ ap settles own-refusal,
+            quiet-reads s client now mine d started at flushed start offset len does false e ∙ ap is_some own-refusal)
+          where
+            settles : Option Reply → Stage
+            settles o = elim o as (λ _. Stage) [ None ↦ d.stage | Some answer ↦ Replying answer ]
 
     -- the session is gone
-    pub look-refused_session : has_session s.tree mine ≡ false
-        → IsStep start alone s client now (Quiet ∷ Answered (ToldRefused (Stale (Session (session_of mine)))) ∷ [])
-        (Done (reply.Refused (Stale (Session (session_of mine))))) s.tree
-        (after_told d.op (ToldRefused (Stale (Session (session_of mine)))) mine) s.copied
+    pub look-refused_session : has_session s.tree mine ≡ false → IsRefused (Session (session_of mine))
     look-refused_session gone =
-        look-refused-by (Session (session_of mine)) (look_refused-session s.tree mine file.inode gone)
-        (SessionGone asks-rows gone refl)
-        (sees_first mine d (asked_parts offset len)) refl may
+        look-refused (Session (session_of mine)) (look_refused-session s.tree mine file.inode gone)
+        (SessionGone asks-rows gone refl) (sees_first mine d (asked_parts offset len)) refl may
 
     -- the file is gone
     pub look-refused_node : has_session s.tree mine ≡ true → node_at s.tree file.inode ≡ None
-        → IsStep start alone s client now (Quiet ∷ Answered (ToldRefused (Stale (Node file.inode))) ∷ [])
-        (Done (reply.Refused (Stale (Node file.inode)))) s.tree
-        (after_told d.op (ToldRefused (Stale (Node file.inode))) mine) s.copied
+        → IsRefused (Node file.inode)
     look-refused_node session gone =
-        look-refused-by (Node file.inode) (look_refused-node s.tree mine file.inode session gone)
+        look-refused (Node file.inode) (look_refused-node s.tree mine file.inode session gone)
         (InodeGone file.inode asks-rows session (ap (option_map (λ (file : OpenFile). file.inode)) opened) gone refl)
         (sees_first mine d (asked_parts offset len)) refl may

@@ -24,11 +24,11 @@ use Rattle.jv_model.specs.journal.Reading.{asked_parts, reading}
 use Rattle.jv_model.specs.journal.Stepping.{is_answer}
 use Rattle.jv_steps.specs.Leaves.{Leaves}
 use Rattle.jv_steps.specs.IsStep.{IsStep}
-use Rattle.jv_steps.specs.Stages.{MayRead, Begins, at_stage}
+use Rattle.jv_steps.specs.Stages.{MayRead, Begins, at_stage, with_look}
 use Rattle.jv_steps.proofs.ReadyLaws.{quieted-reads, quiet-reads}
 use Rattle.jv_steps.proofs.StepFormLaws.{requested, step-alone, step-on, step-answered}
 use Rattle.jv_steps.proofs.EntryLaws.{told-staged, leaves-look, leaves-quiet}
-use Rattle.jv_steps.proofs.LookStepLaws.{looked-reads, may-look, may_read-on}
+use Rattle.jv_steps.proofs.LookStepLaws.{leaves-looked, may-look, may_read-on}
 
 -- ---- the answer of a reading
 
@@ -66,6 +66,9 @@ module _ (start : Start) (alone : Bool) (s : State) (client now : ℕ) (d : Doin
   abbrev mine : ModelClient
   mine = s.clients client
 
+  abbrev IsGet : ℕ → Type 0
+  IsGet misses = IsStep start alone s client now (Quiet ∷ []) More s.tree (at_stage (Reading misses) d mine) s.copied
+
   -- ---- a request for a block
 
   -- before its first request, where it has a view of its first window
@@ -77,7 +80,7 @@ module _ (start : Start) (alone : Bool) (s : State) (client now : ℕ) (d : Doin
     first-quiet : may_be_quiet start s client now mine d d.stage ≡ true
     first-quiet = quiet-reads s client now mine d started at flushed start offset len does true sees
 
-    pub get-begins : IsStep start alone s client now (Quiet ∷ []) More s.tree (at_stage (Reading 0) d mine) s.copied
+    pub get-begins : IsGet 0
     get-begins = step-on s client now d busy start alone Quiet refl first-quiet s.tree (at_stage (Reading 0) d mine)
         s.copied
         (leaves-quiet s client now d busy (Reading 0) first-quieted) refl
@@ -90,7 +93,7 @@ module _ (start : Start) (alone : Bool) (s : State) (client now : ℕ) (d : Doin
     next-quiet : may_be_quiet start s client now mine d d.stage ≡ true
     next-quiet = ap (may_be_quiet start s client now mine d) at
 
-    pub get-step : IsStep start alone s client now (Quiet ∷ []) More s.tree (at_stage (Reading misses) d mine) s.copied
+    pub get-step : IsGet misses
     get-step = step-on s client now d busy start alone Quiet refl next-quiet s.tree
         (at_stage (Reading misses) d mine) s.copied
         (leaves-quiet s client now d busy (Reading misses) next-quieted) refl
@@ -104,12 +107,15 @@ module _ (start : Start) (alone : Bool) (s : State) (client now : ℕ) (d : Doin
     abbrev Reads_by : ModelClient → Type 0
     Reads_by c = reading c.views (handle_of d.op) file (asked_of d.does) first second ≡ Some bytes
 
+    -- it is answered after these entries, with the client as it was but for its views
+    abbrev IsRead : List ActKind → ModelClient → Type 0
+    IsRead kinds c = IsStep start alone s client now kinds (Done (Data bytes)) s.tree (after_told d.op told c) s.copied
+
     -- without a request
     pub read-answered_alone : (started : ℕ) → d.stage ≡ Working 0 started → is_flushed d.flush mine.pending ≡ true
         → d.moved ≡ false
         → Reads_by mine
-        → IsStep start alone s client now (Answered told ∷ []) (Done (Data bytes)) s.tree
-        (after_told d.op told mine) s.copied
+        → IsRead (Answered told ∷ []) mine
     read-answered_alone started at flushed still reads =
         step-alone s client now d busy start alone told (Data bytes) (ap (λ stage. is_of_another stage told) at)
         (ap (λ b. not b || false) still)
@@ -124,8 +130,7 @@ module _ (start : Start) (alone : Bool) (s : State) (client now : ℕ) (d : Doin
         → file_in_use c d ≡ Some file
         → Leaves s (requested s client now d busy kind) client 1 s.tree (at_stage (Reading misses) d c) s.copied
         → Reads_by c
-        → IsStep start alone s client now (kind ∷ Answered told ∷ []) (Done (Data bytes)) s.tree
-        (after_told d.op told c) s.copied
+        → IsRead (kind ∷ Answered told ∷ []) c
     read-after kind c misses asks may opened leaves reads =
         let reading_then : Doing = record d { stage = Reading misses; moved = true } in
         let then_c = at_stage (Reading misses) d c in
@@ -137,35 +142,28 @@ module _ (start : Start) (alone : Bool) (s : State) (client now : ℕ) (d : Doin
         (ReadsViews (reads-fresh then_c reading_then file opened first second bytes reads refl)))
 
     -- after a look
-    pub read-answered_look : (misses : ℕ) → MayRead mine d misses → (window : ℕ)
-        → window_to_look mine d file ≡ Some window
-        → has_session s.tree mine ≡ true → is_some (node_at s.tree file.inode) ≡ true
-        → reading (view_now s (handle_of d.op) file.inode window ∷ mine.views) (handle_of d.op) file
-        (asked_of d.does) first second ≡ Some bytes
-        → IsStep start alone s client now (Look file.inode window ∷ Answered told ∷ []) (Done (Data bytes)) s.tree
-        (after_told d.op told (record mine { views = view_now s (handle_of d.op) file.inode window ∷ mine.views }))
-        s.copied
-    read-answered_look misses may window look session there reads =
-        read-after (Look file.inode window)
-        (record mine { views = view_now s (handle_of d.op) file.inode window ∷ mine.views }) misses refl
-        (may-look start alone s client now d busy offset len does misses may file opened window look session there)
-        opened
-        (leaves-look s client now d busy file.inode window (Reading misses) (ap is_compaction does)
-        (looked-reads mine d misses may)) reads
+    module _ (misses : ℕ) (may : MayRead mine d misses) (window : ℕ) (look : window_to_look mine d file ≡ Some window) where
+      abbrev seeing : ModelClient
+      seeing = with_look s d file.inode window mine
+
+      pub read-answered_look : has_session s.tree mine ≡ true → is_some (node_at s.tree file.inode) ≡ true
+          → Reads_by seeing → IsRead (Look file.inode window ∷ Answered told ∷ []) seeing
+      read-answered_look session there reads =
+          read-after (Look file.inode window) seeing misses refl
+          (may-look start alone s client now d busy offset len does misses may file opened window look session there) opened
+          (leaves-looked start alone s client now d busy offset len does misses may file opened window look) reads
 
     -- after its first request, which was for a block
     pub read-answered_begins : (started : ℕ) → d.stage ≡ Working 0 started → is_flushed d.flush mine.pending ≡ true
         → sees_first mine d (asked_parts offset len) ≡ true → Reads_by mine
-        → IsStep start alone s client now (Quiet ∷ Answered told ∷ []) (Done (Data bytes)) s.tree
-        (after_told d.op told mine) s.copied
+        → IsRead (Quiet ∷ Answered told ∷ []) mine
     read-answered_begins started at flushed sees reads =
         read-after Quiet mine 0 refl (first-quiet started at flushed sees) opened
         (leaves-quiet s client now d busy (Reading 0) (first-quieted started at flushed sees)) reads
 
     -- after a later one
     pub read-answered_get : (misses : ℕ) → d.stage ≡ Reading misses → Reads_by mine
-        → IsStep start alone s client now (Quiet ∷ Answered told ∷ []) (Done (Data bytes)) s.tree
-        (after_told d.op told mine) s.copied
+        → IsRead (Quiet ∷ Answered told ∷ []) mine
     read-answered_get misses at reads =
         read-after Quiet mine misses refl (next-quiet misses at) opened
         (leaves-quiet s client now d busy (Reading misses) (next-quieted misses at)) reads

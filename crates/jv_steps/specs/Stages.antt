@@ -1,13 +1,23 @@
 -- Operations and their clients between one request and the next.
-use Rattle.std.specs.Prelude.{◌≡◌, ℕ, Bool, true, false, Some}
+use Rattle.std.specs.Prelude.{◌≡◌, ℕ, Bool, true, false, ◌∷◌, Some}
 use Rattle.jv_model.specs.declared.profile.Does.{Does}
 use Rattle.jv_model.specs.declared.profile.Does.TheVariants.{Truncates, Copies}
-use Rattle.jv_model.specs.client.ModelClient.{ModelClient, Doing, Stage, Working, Reading}
+use Rattle.jv_model.specs.client.ModelClient.{ModelClient, Doing, Stage, Working, Reading, views_without}
+use Rattle.jv_model.specs.client.Profile.{handle_of}
 use Rattle.jv_model.specs.client.Submission.{is_flushed}
+use Rattle.jv_model.specs.journal.State.{State, view_now}
 
 -- the client, whose operation made a request and is at this stage
 abbrev pub at_stage : Stage → Doing → ModelClient → ModelClient
 at_stage stage d c = record c { doing = Some (record d { stage = stage; moved = true }) }
+
+-- the client once its operation looked at a window of a file
+abbrev pub with_look : State → Doing → (inode window : ℕ) → ModelClient → ModelClient
+with_look s d inode window c = record c { views = view_now s (handle_of d.op) inode window ∷ c.views }
+
+-- the client once it changed a file
+abbrev pub without_views : ℕ → ModelClient → ModelClient
+without_views inode c = record c { views = views_without inode c.views }
 
 -- the operations that change the bytes of files in one transaction
 abbrev pub changes_files : Does → Bool
