@@ -2,6 +2,7 @@
 pub mod AnswerStepLaws
 pub mod ChangeStepLaws
 pub mod EntryLaws
+pub mod GiftLaws
 pub mod LookStepLaws
 pub mod ReadStepLaws
 pub mod ReadyLaws

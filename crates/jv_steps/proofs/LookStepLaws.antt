@@ -1,5 +1,5 @@
 -- Steps of a reading that look at a window of its file, or are refused that.
-use Rattle.std.proofs.Common.{◌≡◌, ℕ, Bool, true, false, [], ◌∷◌, Option, None, Some, refl, sym, ap, subst, ◌∙◌}
+use Rattle.std.proofs.Common.{◌≡◌, ℕ, Bool, true, false, List, [], ◌∷◌, Option, None, Some, refl, sym, ap, subst, ◌∙◌}
 use Rattle.std.specs.Option.{option_map}
 use Rattle.std.specs.Prelude.{◌||◌, if◌then◌else◌, IsSomeAnd, MatchBool, is_some, not}
 use Rattle.jv_model.specs.declared.act.ActKind.TheVariants.{Answered, Quiet, Look}
@@ -22,7 +22,7 @@ use Rattle.jv_model.specs.journal.Steps.{Start, IsRefusedIn, SessionGone, InodeG
 use Rattle.jv_model.specs.journal.Steps.{MayStep, MayAnswer, Refuses, Settles, file_in_use, is_missing}
 use Rattle.jv_model.specs.journal.Steps.{may_be_quiet, may_read_on, window_to_look}
 use Rattle.jv_model.specs.journal.Past.{reply_of}
-use Rattle.jv_model.specs.journal.Reading.{asked_parts}
+use Rattle.jv_model.specs.journal.Reading.{Asked, asked_parts, fresh_view, part_to_look}
 use Rattle.jv_steps.specs.IsStep.{IsStep}
 use Rattle.jv_steps.specs.Leaves.{Leaves}
 use Rattle.jv_steps.specs.Stages.{MayRead, Begins, GoesOn, at_stage, with_look}
@@ -47,6 +47,29 @@ module _ (c : ModelClient) (d : Doing) (misses : ℕ) where
   window-reads (Begins started at flushed first) file = sym
       (ap (λ stage. window_to_look c (record d { stage = stage }) file) at)
   window-reads (GoesOn at) file = sym (ap (λ stage. window_to_look c (record d { stage = stage }) file) at)
+
+-- the window that it looks at is that of the part that has to be looked at
+pub window-needed : (c : ModelClient) (d : Doing) (misses offset len : ℕ) → d.does ≡ Reads offset len → MayRead c d misses
+    → (file : OpenFile) → window_to_look c d file
+    ≡ option_map (λ (asked : Asked). asked.window) (part_to_look c.views (handle_of d.op) file (asked_parts offset len))
+window-needed c d misses offset len does may file =
+    sym (window-reads c d misses may file) ∙ ap (λ does. window_to_look c (record d { stage = Reading misses; does = does }) file) does
+    ∙ by_part (part_to_look c.views (handle_of d.op) file (asked_parts offset len))
+  where
+    by_part : (o : Option Asked) → elim o as (λ _. Option ℕ) [ None ↦ None | Some asked ↦ Some asked.window ]
+        ≡ option_map (λ (asked : Asked). asked.window) o
+    by_part None = refl
+    by_part (Some asked) = refl
+
+-- whether a reading has a view of its first window
+abbrev sees_by : ModelClient → ℕ → Option OpenFile → List Asked → Bool
+sees_by c handle None parts = false
+sees_by c handle (Some file) [] = false
+sees_by c handle (Some file) (asked ∷ others) = is_some (fresh_view c.views handle file asked.window)
+
+pub sees_first-is : (c : ModelClient) (d : Doing) (file : OpenFile) → file_in_use c d ≡ Some file → (asked : Asked)
+    (others : List Asked) → sees_first c d (asked ∷ others) ≡ is_some (fresh_view c.views (handle_of d.op) file asked.window)
+sees_first-is c d file opened asked others = ap (λ o. sees_by c (handle_of d.op) o (asked ∷ others)) opened
 
 -- ---- why a look is refused
 

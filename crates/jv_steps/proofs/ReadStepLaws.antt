@@ -105,7 +105,11 @@ module _ (start : Start) (alone : Bool) (s : State) (client now : ℕ) (d : Doin
     told = Looks first second (length bytes)
 
     abbrev Reads_by : ModelClient → Type 0
-    Reads_by c = reading c.views (handle_of d.op) file (asked_of d.does) first second ≡ Some bytes
+    Reads_by c = reading c.views (handle_of d.op) file (asked_parts offset len) first second ≡ Some bytes
+
+    reads-asked : (c : ModelClient) → Reads_by c
+        → reading c.views (handle_of d.op) file (asked_of d.does) first second ≡ Some bytes
+    reads-asked c reads = ap (λ does. reading c.views (handle_of d.op) file (asked_of does) first second) does ∙ reads
 
     -- it is answered after these entries, with the client as it was but for its views
     abbrev IsRead : List ActKind → ModelClient → Type 0
@@ -116,7 +120,8 @@ module _ (start : Start) (alone : Bool) (s : State) (client now : ℕ) (d : Doin
         → d.moved ≡ false
         → Reads_by mine
         → IsRead (Answered told ∷ []) mine
-    read-answered_alone started at flushed still reads =
+    read-answered_alone started at flushed still shows =
+        let reads = reads-asked mine shows in
         step-alone s client now d busy start alone told (Data bytes) (ap (λ stage. is_of_another stage told) at)
         (ap (λ b. not b || false) still)
         (ap (λ stage. reply_of mine (record d { stage = stage }) told) at
@@ -131,7 +136,8 @@ module _ (start : Start) (alone : Bool) (s : State) (client now : ℕ) (d : Doin
         → Leaves s (requested s client now d busy kind) client 1 s.tree (at_stage (Reading misses) d c) s.copied
         → Reads_by c
         → IsRead (kind ∷ Answered told ∷ []) c
-    read-after kind c misses asks may opened leaves reads =
+    read-after kind c misses asks may opened leaves shows =
+        let reads = reads-asked c shows in
         let reading_then : Doing = record d { stage = Reading misses; moved = true } in
         let then_c = at_stage (Reading misses) d c in
         subst (λ c. IsStep start alone s client now (kind ∷ Answered told ∷ []) (Done (Data bytes)) s.tree c s.copied)
