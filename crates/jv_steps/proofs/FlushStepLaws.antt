@@ -46,7 +46,7 @@ module _ (start : Start) (alone : Bool) (s : State) (client now : ℕ) (d : Doin
 
   -- the state after the request
   abbrev quiet : State
-  quiet = requested s client now d busy Quiet
+  quiet = requested s client now d Quiet
 
   quiet-may : may_be_quiet start s client now c d d.stage ≡ true
   quiet-may =
@@ -148,9 +148,9 @@ module _ (start : Start) (alone : Bool) (s : State) (client now : ℕ) (d : Doin
       flush-refused start alone s client now d busy segment next 0 started at (Working 1 0) (ap asks_by session) NoSpace
       refl refl refl
       (Refuses NoSpace refl (NumberRefused refl
-      (crowded-later start s (requested s client now d busy Quiet) refl refl crowded) refl) refl)
+      (crowded-later start s (requested s client now d Quiet) refl refl crowded) refl) refl)
 
--- the request for a block of it: from the second request of the segment on, whose moment is when the first block was put
+-- the request for a block of it: the second one of a segment, whose moment is kept, or a later one
 
 module _ (quiets now started : ℕ) where
   blocks-first : (b : Bool) → (b ≡ true → quiets ≡ 1)
