@@ -143,9 +143,9 @@ module _ (start : Start) (alone : Bool) (s : State) (client now : ℕ) (d : Doin
   grown = committed s.tree now inode from (bytes_in_range inode from len c.pending)
 
   commit-leaves : (stage : Stage) → committed_stage rest d ≡ stage
-      → Leaves s (requested s client now d kind) client 1 grown (at_stage stage d rest) s.copied
+      → Leaves s (requested s client now d busy kind) client 1 grown (at_stage stage d rest) s.copied
   commit-leaves stage leads =
-      leaves-one s (requested s client now d kind) client grown (at_stage stage d rest) s.copied refl
+      leaves-one s (requested s client now d busy kind) client grown (at_stage stage d rest) s.copied refl
       (ap (with_client s.clients client)
       (with_stage-doing (committed_stage rest d) rest d busy ∙ ap (λ stage. at_stage stage d rest) leads)) refl
 

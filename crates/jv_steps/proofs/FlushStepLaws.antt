@@ -46,7 +46,7 @@ module _ (start : Start) (alone : Bool) (s : State) (client now : ℕ) (d : Doin
 
   -- the state after the request
   abbrev quiet : State
-  quiet = requested s client now d Quiet
+  quiet = requested s client now d busy Quiet
 
   quiet-may : may_be_quiet start s client now c d d.stage ≡ true
   quiet-may =
@@ -148,7 +148,7 @@ module _ (start : Start) (alone : Bool) (s : State) (client now : ℕ) (d : Doin
       flush-refused start alone s client now d busy segment next 0 started at (Working 1 0) (ap asks_by session) NoSpace
       refl refl refl
       (Refuses NoSpace refl (NumberRefused refl
-      (crowded-later start s (requested s client now d Quiet) refl refl crowded) refl) refl)
+      (crowded-later start s (requested s client now d busy Quiet) refl refl crowded) refl) refl)
 
 -- the request for a block of it: the second one of a segment, whose moment is kept, or a later one
 

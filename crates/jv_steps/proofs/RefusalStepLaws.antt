@@ -42,7 +42,7 @@ module _ (start : Start) (alone : Bool) (s : State) (client now : ℕ) (d : Doin
 
   -- the state, the operation and its client after the request
   abbrev quiet : State
-  quiet = requested s client now d Quiet
+  quiet = requested s client now d busy Quiet
 
   abbrev after : Doing
   after = record d { stage = stage; moved = true }

@@ -85,17 +85,17 @@ leaves-then s between client now t c copied d told first second = record {
 
 -- an operation in progress
 
--- the state after a request of the operation
-abbrev pub requested : State → ℕ → ℕ → Doing → ActKind → State
-requested s client now d kind = record (after_step s (entry_of 0 now client kind) d kind) { count = s.count + 1 }
-
 module _ (s : State) (client now : ℕ) (d : Doing) (busy : (s.clients client).doing ≡ Some d) where
+  -- the state after a request of the operation
+  abbrev pub requested : ActKind → State
+  requested kind = record (after_step s (entry_of 0 now client kind) d kind) { count = s.count + 1 }
+
   by_doing : ActKind → Option Doing → State
   by_doing kind o = record (of_doing s (entry_of 0 now client kind) o) { count = s.count + 1 }
 
   pub stepped-requested : (start : Start) (alone : Bool) (kind : ActKind) → is_answer kind ≡ false
       → MayStep start alone s client now (s.clients client) d kind
-      → stepped s client now kind ≡ requested s client now d kind
+      → stepped s client now kind ≡ requested kind
   unfolding by_doing
   stepped-requested start alone Crashed asks may = absurd may
   stepped-requested start alone (Ticked by) asks may = absurd may
@@ -121,7 +121,7 @@ module _ (s : State) (client now : ℕ) (d : Doing) (busy : (s.clients client).d
 
   module _ (start : Start) (alone : Bool) (kind : ActKind) (asks : is_answer kind ≡ false)
       (may : MayStep start alone s client now (s.clients client) d kind) (t : Tree) (c : ModelClient) (copied : ℕ)
-      (leaves : Leaves s (requested s client now d kind) client 1 t c copied) where
+      (leaves : Leaves s (requested kind) client 1 t c copied) where
     is_entry : IsEntry start alone s client now kind true
     is_entry = record { doing = d; busy = busy; begins_is = begins-asked kind asks; may = may }
 
@@ -139,7 +139,7 @@ module _ (s : State) (client now : ℕ) (d : Doing) (busy : (s.clients client).d
     -- a request, and the answer of the operation as it is after that
     pub step-answered : (after : Doing) (told : Told) (reply : Reply) → c.doing ≡ Some after
         → is_of_another after.stage told ≡ false → begins_step after (Answered told) ≡ false
-        → reply_of c after told ≡ reply → MayAnswer start alone (requested s client now d kind) client now c after told
+        → reply_of c after told ≡ reply → MayAnswer start alone (requested kind) client now c after told
         → IsStep start alone s client now (kind ∷ Answered told ∷ []) (Done reply) t (after_told after.op told c) copied
     step-answered after told reply busy_after own begins says answers =
         let between = stepped s client now kind in
