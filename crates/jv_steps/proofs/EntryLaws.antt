@@ -16,31 +16,20 @@ use Rattle.jv_model.specs.journal.State.{State, after_quiet, after_look, after_t
 use Rattle.jv_model.specs.journal.State.{quieted, finished, refused_as, view_now, looked, compaction_looked}
 use Rattle.jv_model.specs.journal.State.{is_compaction, with_client}
 use Rattle.jv_steps.specs.Leaves.{Leaves}
-use Rattle.jv_steps.specs.Stages.{at_stage, with_look, without_views}
+use Rattle.jv_steps.specs.IsStep.{at_stage}
+use Rattle.jv_steps.specs.Stages.{with_look, without_views}
+use Rattle.jv_steps.proofs.CommitStepLaws.{finished-doing}
+use Rattle.jv_steps.proofs.FlushStepLaws.{refused-doing}
 use Rattle.jv_steps.proofs.StepFormLaws.{with_stage-doing, leaves-one}
 
 -- ---- answers
 
-finished-staged : (o : Op) (c : ModelClient) (doing : Option Doing)
-    → record (finished o (record c { doing = doing })) { doing = None } ≡ record (finished o c) { doing = None }
-finished-staged op.Umount c doing = refl
-finished-staged (op.Close handle) c doing = refl
-finished-staged (op.Write handle offset bytes) c doing = refl
-finished-staged _ c doing = refl
-
-refused-staged : (fault : Fault) (c : ModelClient) (doing : Option Doing)
-    → record (refused_as fault (record c { doing = doing })) { doing = None } ≡ record
-    (refused_as fault c) { doing = None }
-refused-staged (Stale (Session sid)) c doing = refl
-refused-staged (Stale (Node inode)) c doing = refl
-refused-staged _ c doing = refl
-
 -- what an answer leaves doesn't depend on how far the operation was
 pub told-staged : (o : Op) (told : Told) (c : ModelClient) (doing : Option Doing)
     → after_told o told (record c { doing = doing }) ≡ after_told o told c
-told-staged o (Fine a b d e) c doing = finished-staged o c doing
-told-staged o (Looks first second len) c doing = finished-staged o c doing
-told-staged o (ToldRefused fault) c doing = refused-staged fault c doing
+told-staged o (Fine a b d e) c doing = finished-doing o c doing
+told-staged o (Looks first second len) c doing = finished-doing o c doing
+told-staged o (ToldRefused fault) c doing = refused-doing fault c doing
 
 -- ---- requests
 

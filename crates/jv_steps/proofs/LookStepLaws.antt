@@ -23,9 +23,9 @@ use Rattle.jv_model.specs.journal.Steps.{MayStep, MayAnswer, Refuses, Settles, f
 use Rattle.jv_model.specs.journal.Steps.{may_be_quiet, may_read_on, window_to_look}
 use Rattle.jv_model.specs.journal.Past.{reply_of}
 use Rattle.jv_model.specs.journal.Reading.{Asked, asked_parts, fresh_view, part_to_look}
-use Rattle.jv_steps.specs.IsStep.{IsStep}
+use Rattle.jv_steps.specs.IsStep.{IsStep, at_stage}
 use Rattle.jv_steps.specs.Leaves.{Leaves}
-use Rattle.jv_steps.specs.Stages.{MayRead, Begins, GoesOn, at_stage, with_look}
+use Rattle.jv_steps.specs.Stages.{MayRead, Begins, GoesOn, with_look}
 use Rattle.jv_steps.proofs.ReadyLaws.{quieted-reads, quiet-reads}
 use Rattle.jv_steps.proofs.StepFormLaws.{requested, step-on, step-answered}
 use Rattle.jv_steps.proofs.EntryLaws.{told-staged, leaves-look, leaves-quiet}

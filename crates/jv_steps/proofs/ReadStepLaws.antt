@@ -23,8 +23,8 @@ use Rattle.jv_model.specs.journal.Past.{or_no_bytes, read_in, reply_of}
 use Rattle.jv_model.specs.journal.Reading.{asked_parts, reading}
 use Rattle.jv_model.specs.journal.Stepping.{is_answer}
 use Rattle.jv_steps.specs.Leaves.{Leaves}
-use Rattle.jv_steps.specs.IsStep.{IsStep}
-use Rattle.jv_steps.specs.Stages.{MayRead, Begins, at_stage, with_look}
+use Rattle.jv_steps.specs.IsStep.{IsStep, at_stage}
+use Rattle.jv_steps.specs.Stages.{MayRead, Begins, with_look}
 use Rattle.jv_steps.proofs.ReadyLaws.{quieted-reads, quiet-reads}
 use Rattle.jv_steps.proofs.StepFormLaws.{requested, step-alone, step-on, step-answered}
 use Rattle.jv_steps.proofs.EntryLaws.{told-staged, leaves-look, leaves-quiet}

@@ -1,9 +1,8 @@
 -- The three forms of a step: a request, after which the operation goes on; an answer; and a request with its answer.
-use Rattle.std.proofs.Common.{◌≡◌, ◌≢◌, ℕ, ◌+◌, Bool, true, false, [], ◌∷◌, Option, None, Some, refl, sym, ap, subst, ◌∙◌, arith}
+use Rattle.std.proofs.Common.{◌≡◌, ℕ, ◌+◌, Bool, true, false, [], ◌∷◌, Option, None, Some}
+use Rattle.std.proofs.Common.{refl, sym, ap, subst, ◌∙◌, arith}
 use Rattle.std.specs.Prelude.{if◌then◌else◌}
 use Rattle.jv_model.specs.declared.act.ActKind.{ActKind}
-use Rattle.jv_model.specs.declared.act.ActKind.TheVariants.{Mounted, Meta, Opened, Look, Commit, Truncated, Copied}
-use Rattle.jv_model.specs.declared.act.ActKind.TheVariants.{Compacted, Settled, Expired, Purged, Cleaned, Quiet, Miss}
 use Rattle.jv_model.specs.declared.act.ActKind.TheVariants.{Crashed, Ticked, Answered}
 use Rattle.jv_model.specs.declared.act.Told.{Told}
 use Rattle.jv_model.specs.declared.op.Reply.{Reply}
@@ -95,7 +94,8 @@ module _ (s : State) (client now : ℕ) (d : Doing) (busy : (s.clients client).d
   by_doing kind o = record (of_doing s (entry_of 0 now client kind) o) { count = s.count + 1 }
 
   pub stepped-requested : (start : Start) (alone : Bool) (kind : ActKind) → is_answer kind ≡ false
-      → MayStep start alone s client now (s.clients client) d kind → stepped s client now kind ≡ requested kind
+      → MayStep start alone s client now (s.clients client) d kind
+      → stepped s client now kind ≡ requested kind
   unfolding by_doing
   stepped-requested start alone Crashed asks may = absurd may
   stepped-requested start alone (Ticked by) asks may = absurd may
@@ -110,8 +110,8 @@ module _ (s : State) (client now : ℕ) (d : Doing) (busy : (s.clients client).d
   pub step-alone : (start : Start) (alone : Bool) (told : Told) (reply : Reply) → is_of_another d.stage told ≡ false
       → begins_step d (Answered told) ≡ true → reply_of (s.clients client) d told ≡ reply
       → MayAnswer start alone s client now (s.clients client) d told
-      → IsStep start alone s client now (Answered told ∷ []) (Done reply) s.tree (after_told d.op told (s.clients client))
-      s.copied
+      → IsStep start alone s client now (Answered told ∷ []) (Done reply) s.tree
+      (after_told d.op told (s.clients client)) s.copied
   step-alone start alone told reply own begins says may = record {
     allows =
         AnswersAlone told reply refl refl (record { doing = d; busy = busy; begins_is = begins; may = may })

@@ -21,9 +21,9 @@ use Rattle.jv_model.specs.journal.Steps.{Start, MayStep, Settles, Transaction, e
 use Rattle.jv_model.specs.journal.Steps.{transacts}
 use Rattle.jv_model.specs.journal.Stepping.{is_answer}
 use Rattle.jv_model.proofs.ClientsLaws.{doing_given}
-use Rattle.jv_steps.specs.IsStep.{IsStep}
+use Rattle.jv_steps.specs.IsStep.{IsStep, at_stage}
 use Rattle.jv_steps.specs.Leaves.{Leaves}
-use Rattle.jv_steps.specs.Stages.{at_stage}
+
 use Rattle.jv_steps.proofs.EntryLaws.{told-staged}
 use Rattle.jv_steps.proofs.ReadyLaws.{ready-at}
 use Rattle.jv_steps.proofs.StepFormLaws.{leaves-one, requested, step-answered, with_stage-doing}

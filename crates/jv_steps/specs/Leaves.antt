@@ -1,5 +1,5 @@
 -- What the entries of one client's step leave of the model's state.
-use Rattle.std.specs.Prelude.{◌≡◌, ◌≢◌, ℕ, ◌+◌, length}
+use Rattle.std.specs.Prelude.{◌≡◌, ◌≢◌, ℕ, ◌+◌}
 use Rattle.jv_model.specs.tree.Tree.{Tree}
 use Rattle.jv_model.specs.client.ModelClient.{ModelClient}
 use Rattle.jv_model.specs.journal.State.{State}

@@ -1,4 +1,6 @@
 -- What a step leaves of a state.
 pub mod IsStep
 pub mod Leaves
+pub mod RefusesCommit
 pub mod Stages
+pub mod WithoutCommitted

@@ -7,10 +7,6 @@ use Rattle.jv_model.specs.client.Profile.{handle_of}
 use Rattle.jv_model.specs.client.Submission.{is_flushed}
 use Rattle.jv_model.specs.journal.State.{State, view_now}
 
--- the client, whose operation made a request and is at this stage
-abbrev pub at_stage : Stage → Doing → ModelClient → ModelClient
-at_stage stage d c = record c { doing = Some (record d { stage = stage; moved = true }) }
-
 -- the client once its operation looked at a window of a file
 abbrev pub with_look : State → Doing → (inode window : ℕ) → ModelClient → ModelClient
 with_look s d inode window c = record c { views = view_now s (handle_of d.op) inode window ∷ c.views }
