@@ -1,10 +1,9 @@
 -- Steps of truncates and copies, whose files are committed: the transaction with its answer, or its refusal.
-use Rattle.std.proofs.Common.{◌≡◌, ℕ, ◌+◌, Bool, true, false, [], ◌∷◌, None, Some, Result, Ok, Err, refl, sym, ap}
+use Rattle.std.proofs.Common.{◌≡◌, ℕ, ◌+◌, Bool, true, [], ◌∷◌, None, Some, Result, Ok, Err, refl, sym, ap}
 use Rattle.std.proofs.Common.{subst, ◌∙◌}
 use Rattle.std.specs.Prelude.{IfErr, ◌||◌}
 use Rattle.std.proofs.lemmas.Bool.{or_right}
 use Rattle.jv_model.specs.declared.act.ActKind.TheVariants.{Answered, Quiet, Truncated, Copied}
-use Rattle.jv_model.specs.declared.act.Told.{Told}
 use Rattle.jv_model.specs.declared.act.Told.TheVariants.{Fine, Refused as ToldRefused}
 use Rattle.jv_model.specs.declared.fault.Fault.{Fault}
 use Rattle.jv_model.specs.declared.fault.Fault.TheVariants.{NoSpace}
@@ -17,11 +16,11 @@ use Rattle.jv_model.specs.tree.Tree.{Tree}
 use Rattle.jv_model.specs.tree.Caller.{Caller, Outcome, outcome}
 use Rattle.jv_model.specs.tree.TreeAct.{tree_act}
 use Rattle.jv_model.specs.tree.FileBytes.{truncate, truncated, copy, copied}
-use Rattle.jv_model.specs.client.ModelClient.{ModelClient, Doing, Working, Replying, inode_at, views_without}
+use Rattle.jv_model.specs.client.ModelClient.{ModelClient, Doing, Working, Replying, inode_at}
 use Rattle.jv_model.specs.client.Profile.{handle_of}
 use Rattle.jv_model.specs.client.Submission.{is_flushed}
 use Rattle.jv_model.specs.journal.State.{State, after_told, caller, is_refused, refusal_in, transacted}
-use Rattle.jv_model.specs.journal.Steps.{Start, Settles, change_entry, is_crowded, is_failure}
+use Rattle.jv_model.specs.journal.Steps.{Start, Settles, change_entry, is_crowded}
 use Rattle.jv_steps.specs.IsStep.{IsStep, at_stage}
 use Rattle.jv_steps.specs.Stages.{changes_files, without_views}
 use Rattle.jv_steps.proofs.ReadyLaws.{ready-at, quiet-changes, quieted-changes}
@@ -55,14 +54,16 @@ module _ (start : Start) (alone : Bool) (s : State) (client now : ℕ) (d : Doin
 
   -- the step in which the file of a handle is cut, or lengthened
   abbrev IsTruncated : (handle len : ℕ) → Tree → Type 0
-  IsTruncated handle len t = IsStep start alone s client now (Truncated (inode_at mine handle) len ∷ Answered (Fine 0 0 0 0) ∷ [])
+  IsTruncated handle len t = IsStep start alone s client now (Truncated (inode_at mine handle) len ∷ Answered
+      (Fine 0 0 0 0) ∷ [])
       (Done reply.Done) t (record (without_views (inode_at mine handle) mine) { doing = None }) s.copied
 
   -- the step in which bytes are copied
   abbrev IsCopied : (source from target to count : ℕ) → Tree → Type 0
   IsCopied source from target to count t = IsStep start alone s client now
       (Copied (inode_at mine source) from (inode_at mine target) to count ∷ Answered (Fine count 0 0 0) ∷ [])
-      (Done (reply.Count count)) t (record (without_views (inode_at mine target) mine) { doing = None }) (s.copied + count)
+      (Done (reply.Count count)) t (record (without_views (inode_at mine target) mine) { doing = None })
+      (s.copied + count)
 
   -- the step in which either is refused
   abbrev IsRefused : Fault → Type 0
@@ -91,7 +92,8 @@ module _ (start : Start) (alone : Bool) (s : State) (client now : ℕ) (d : Doin
   -- a copy that it doesn't refuse
   pub copied-step : (source from target to len count : ℕ) → d.op ≡ op.Copy source from target to len
       → done_reply ≡ reply.Count count
-      → IsCopied source from target to count (copied s.tree now (inode_at mine source) from (inode_at mine target) to count)
+      → IsCopied source from target to count
+      (copied s.tree now (inode_at mine source) from (inode_at mine target) to count)
   copied-step source from target to len count of_op fine =
       let first = inode_at mine source in
       let second = inode_at mine target in

@@ -1,19 +1,14 @@
 -- What one entry of a client's operation leaves.
-use Rattle.std.proofs.Common.{◌≡◌, ℕ, ◌+◌, false, ◌∷◌, Option, None, refl, ap, ◌∙◌}
+use Rattle.std.proofs.Common.{◌≡◌, ℕ, ◌+◌, false, Option, refl, ap, ◌∙◌}
 use Rattle.std.specs.Prelude.{if◌then◌else◌, Some}
 use Rattle.jv_model.specs.declared.act.Told.{Told}
 use Rattle.jv_model.specs.declared.act.Told.TheVariants.{Fine, Looks, Refused as ToldRefused}
-use Rattle.jv_model.specs.declared.fault.Fault.{Fault}
-use Rattle.jv_model.specs.declared.fault.Fault.TheVariants.{Stale}
-use Rattle.jv_model.specs.declared.fault.Gone.TheVariants.{Session, Node}
 use Rattle.jv_model.specs.declared.op.Op.{Op}
-use Rattle.jv_model.specs.declared.op.Op.TheVariants as op
 use Rattle.jv_model.specs.declared.op.Reply.TheVariants as reply
 use Rattle.jv_model.specs.tree.FileBytes.{truncated, copied}
-use Rattle.jv_model.specs.client.Profile.{handle_of}
-use Rattle.jv_model.specs.client.ModelClient.{ModelClient, Doing, Stage, Replying, with_stage, views_without}
+use Rattle.jv_model.specs.client.ModelClient.{ModelClient, Doing, Stage, Replying, with_stage}
 use Rattle.jv_model.specs.journal.State.{State, after_quiet, after_look, after_truncation, after_copy, after_told}
-use Rattle.jv_model.specs.journal.State.{quieted, finished, refused_as, view_now, looked, compaction_looked}
+use Rattle.jv_model.specs.journal.State.{quieted, view_now, looked, compaction_looked}
 use Rattle.jv_model.specs.journal.State.{is_compaction, with_client}
 use Rattle.jv_steps.specs.Leaves.{Leaves}
 use Rattle.jv_steps.specs.IsStep.{at_stage}
@@ -67,12 +62,14 @@ module _ (s : State) (client now : ℕ) (d : Doing) (busy : (s.clients client).d
   leaves-truncated inode len =
       leaves-one s (after_truncation s client now inode len d) client (truncated s.tree now inode len)
       (at_stage (Replying reply.Done) d (without_views inode mine)) s.copied refl
-      (ap (with_client s.clients client) (with_stage-doing (Replying reply.Done) (without_views inode mine) d busy)) refl
+      (ap (with_client s.clients client) (with_stage-doing (Replying reply.Done) (without_views inode mine) d busy))
+      refl
 
   -- bytes were copied into a file
   pub leaves-copied : (source from target to len : ℕ)
       → Leaves s (record (after_copy s client now source from target to len d) { count = s.count + 1 }) client 1
-      (copied s.tree now source from target to len) (at_stage (Replying (reply.Count len)) d (without_views target mine))
+      (copied s.tree now source from target to len)
+      (at_stage (Replying (reply.Count len)) d (without_views target mine))
       (s.copied + len)
   leaves-copied source from target to len =
       leaves-one s (after_copy s client now source from target to len d) client

@@ -17,7 +17,7 @@ use Rattle.jv_model.specs.client.ModelClient.{ModelClient, OpenFile, Doing, Stag
 use Rattle.jv_model.specs.client.ModelClient.{inode_at, inode_in}
 use Rattle.jv_model.specs.client.Profile.{handle_of}
 use Rattle.jv_model.specs.journal.State.{State, after_told, has_session, is_compaction, look_refusal, looked}
-use Rattle.jv_model.specs.journal.State.{quieted, sees_first, view_now, is_of_another}
+use Rattle.jv_model.specs.journal.State.{quieted, sees_first, is_of_another}
 use Rattle.jv_model.specs.journal.Steps.{Start, IsRefusedIn, SessionGone, InodeGone, LooksAt, CompactionLooks}
 use Rattle.jv_model.specs.journal.Steps.{MayStep, MayAnswer, Refuses, Settles, file_in_use, is_missing}
 use Rattle.jv_model.specs.journal.Steps.{may_be_quiet, may_read_on, window_to_look}
@@ -49,11 +49,13 @@ module _ (c : ModelClient) (d : Doing) (misses : ℕ) where
   window-reads (GoesOn at) file = sym (ap (λ stage. window_to_look c (record d { stage = stage }) file) at)
 
 -- the window that it looks at is that of the part that has to be looked at
-pub window-needed : (c : ModelClient) (d : Doing) (misses offset len : ℕ) → d.does ≡ Reads offset len → MayRead c d misses
+pub window-needed : (c : ModelClient) (d : Doing) (misses offset len : ℕ) → d.does ≡ Reads offset len
+    → MayRead c d misses
     → (file : OpenFile) → window_to_look c d file
     ≡ option_map (λ (asked : Asked). asked.window) (part_to_look c.views (handle_of d.op) file (asked_parts offset len))
 window-needed c d misses offset len does may file =
-    sym (window-reads c d misses may file) ∙ ap (λ does. window_to_look c (record d { stage = Reading misses; does = does }) file) does
+    sym (window-reads c d misses may file)
+    ∙ ap (λ does. window_to_look c (record d { stage = Reading misses; does = does }) file) does
     ∙ by_part (part_to_look c.views (handle_of d.op) file (asked_parts offset len))
   where
     by_part : (o : Option Asked) → elim o as (λ _. Option ℕ) [ None ↦ None | Some asked ↦ Some asked.window ]
@@ -68,7 +70,8 @@ sees_by c handle (Some file) [] = false
 sees_by c handle (Some file) (asked ∷ others) = is_some (fresh_view c.views handle file asked.window)
 
 pub sees_first-is : (c : ModelClient) (d : Doing) (file : OpenFile) → file_in_use c d ≡ Some file → (asked : Asked)
-    (others : List Asked) → sees_first c d (asked ∷ others) ≡ is_some (fresh_view c.views (handle_of d.op) file asked.window)
+    (others : List Asked)
+    → sees_first c d (asked ∷ others) ≡ is_some (fresh_view c.views (handle_of d.op) file asked.window)
 sees_first-is c d file opened asked others = ap (λ o. sees_by c (handle_of d.op) o (asked ∷ others)) opened
 
 -- ---- why a look is refused
@@ -149,7 +152,8 @@ module _ (start : Start) (alone : Bool) (s : State) (client now : ℕ) (d : Doin
 
     module _ (gone : Gone) where
       abbrev IsQuietTo : Stage → Type 0
-      IsQuietTo stage = (quieted s client mine now d d.stage ≡ stage) × (may_be_quiet start s client now mine d d.stage ≡ true)
+      IsQuietTo stage = (quieted s client mine now d d.stage ≡ stage)
+          × (may_be_quiet start s client now mine d d.stage ≡ true)
 
       refused-after : (stage : Stage) → IsQuietTo stage → is_of_another stage (told_gone gone) ≡ false
           → reply_of (client_then stage) (reading_then stage) (told_gone gone) ≡ reply.Refused (Stale gone)
@@ -184,13 +188,15 @@ module _ (start : Start) (alone : Bool) (s : State) (client now : ℕ) (d : Doin
         look-refused sees e (GoesOn at) =
             refused-sees (ap (quieted s client mine now d) at, ap (may_be_quiet start s client now mine d) at)
         look-refused true e (Begins started at flushed first) =
-            refused-sees
-            (quieted-reads s client now mine d started at flushed offset len does true e ∙ ap Reading (sym first),
-            quiet-reads s client now mine d started at flushed start offset len does true e)
+            refused-sees (
+              quieted-reads s client now mine d started at flushed offset len does true e ∙ ap Reading (sym first),
+              quiet-reads s client now mine d started at flushed start offset len does true e,
+            )
         look-refused false e (Begins started at flushed first) =
-            refused-settles
-            (quieted-reads s client now mine d started at flushed offset len does false e ∙ ap settles own-refusal,
-            quiet-reads s client now mine d started at flushed start offset len does false e ∙ ap is_some own-refusal)
+            refused-settles (
+              quieted-reads s client now mine d started at flushed offset len does false e ∙ ap settles own-refusal,
+              quiet-reads s client now mine d started at flushed start offset len does false e ∙ ap is_some own-refusal,
+            )
           where
             settles : Option Reply → Stage
             settles o = elim o as (λ _. Stage) [ None ↦ d.stage | Some answer ↦ Replying answer ]

@@ -15,8 +15,8 @@ use Rattle.jv_model.specs.tree.Tree.{node_at}
 use Rattle.jv_model.specs.client.ModelClient.{ModelClient, OpenFile, Doing, Working, Reading}
 use Rattle.jv_model.specs.client.Profile.{handle_of}
 use Rattle.jv_model.specs.client.Submission.{is_flushed}
-use Rattle.jv_model.specs.journal.State.{State, after_told, has_session, is_compaction, is_of_another, quieted}
-use Rattle.jv_model.specs.journal.State.{sees_first, view_now}
+use Rattle.jv_model.specs.journal.State.{State, after_told, has_session, is_of_another, quieted}
+use Rattle.jv_model.specs.journal.State.{sees_first}
 use Rattle.jv_model.specs.journal.Steps.{Start, MayStep, ReadsFresh, ReadsViews, asked_of, file_in_use}
 use Rattle.jv_model.specs.journal.Steps.{may_be_quiet, may_read_on, window_to_look}
 use Rattle.jv_model.specs.journal.Past.{or_no_bytes, read_in, reply_of}
@@ -27,7 +27,7 @@ use Rattle.jv_steps.specs.IsStep.{IsStep, at_stage}
 use Rattle.jv_steps.specs.Stages.{MayRead, Begins, with_look}
 use Rattle.jv_steps.proofs.ReadyLaws.{quieted-reads, quiet-reads}
 use Rattle.jv_steps.proofs.StepFormLaws.{requested, step-alone, step-on, step-answered}
-use Rattle.jv_steps.proofs.EntryLaws.{told-staged, leaves-look, leaves-quiet}
+use Rattle.jv_steps.proofs.EntryLaws.{told-staged, leaves-quiet}
 use Rattle.jv_steps.proofs.LookStepLaws.{leaves-looked, may-look, may_read-on}
 
 -- ---- the answer of a reading
@@ -148,7 +148,8 @@ module _ (start : Start) (alone : Bool) (s : State) (client now : ℕ) (d : Doin
         (ReadsViews (reads-fresh then_c reading_then file opened first second bytes reads refl)))
 
     -- after a look
-    module _ (misses : ℕ) (may : MayRead mine d misses) (window : ℕ) (look : window_to_look mine d file ≡ Some window) where
+    module _ (misses : ℕ) (may : MayRead mine d misses) (window : ℕ)
+        (look : window_to_look mine d file ≡ Some window) where
       abbrev seeing : ModelClient
       seeing = with_look s d file.inode window mine
 
@@ -156,7 +157,8 @@ module _ (start : Start) (alone : Bool) (s : State) (client now : ℕ) (d : Doin
           → Reads_by seeing → IsRead (Look file.inode window ∷ Answered told ∷ []) seeing
       read-answered_look session there reads =
           read-after (Look file.inode window) seeing misses refl
-          (may-look start alone s client now d busy offset len does misses may file opened window look session there) opened
+          (may-look start alone s client now d busy offset len does misses may file opened window look session
+          there) opened
           (leaves-looked start alone s client now d busy offset len does misses may file opened window look) reads
 
     -- after its first request, which was for a block

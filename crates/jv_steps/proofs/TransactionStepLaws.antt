@@ -4,6 +4,7 @@ use Rattle.std.proofs.Common.{◌∙◌}
 use Rattle.std.specs.Prelude.{◌&&◌, filter, is_some, not, if◌then◌else◌}
 use Rattle.jv_model.specs.declared.act.ActKind.{ActKind}
 use Rattle.jv_model.specs.declared.act.ActKind.TheVariants.{Answered, Meta}
+use Rattle.jv_model.specs.declared.act.Told.{Told}
 use Rattle.jv_model.specs.declared.act.Told.TheVariants.{Refused as ToldRefused}
 use Rattle.jv_model.specs.declared.fault.Fault.{Fault}
 use Rattle.jv_model.specs.declared.op.Reply.TheVariants as reply
@@ -11,19 +12,19 @@ use Rattle.jv_model.specs.declared.op.Step.TheVariants.{Done}
 use Rattle.jv_model.specs.declared.profile.Does.TheVariants as does
 use Rattle.jv_model.specs.tree.Tree.{Tree, is_sustained}
 use Rattle.jv_model.specs.tree.Caller.{Outcome}
-use Rattle.jv_model.specs.client.ModelClient.{ModelClient, Doing, Working, Replying, held_inodes}
+use Rattle.jv_model.specs.client.ModelClient.{ModelClient, Doing, Stage, Working, Replying, with_stage, held_inodes}
 use Rattle.jv_model.specs.client.ModelClient.{is_last_of_removed, session_of}
 use Rattle.jv_model.specs.client.Profile.{handle_of}
 use Rattle.jv_model.specs.client.Submission.{is_flushed}
 use Rattle.jv_model.specs.journal.State.{State, Gift, NewSession, NewHandle, Nothing, after_told, after_transaction}
-use Rattle.jv_model.specs.journal.State.{gift_of, given, newly_sustained, replied, transacted, with_client}
+use Rattle.jv_model.specs.journal.State.{gift_of, newly_sustained, transacted, with_client}
 use Rattle.jv_model.specs.journal.Steps.{Start, MayStep, Settles, Transaction, entry_of_gift, is_failure, told_of}
 use Rattle.jv_model.specs.journal.Steps.{transacts}
 use Rattle.jv_model.specs.journal.Stepping.{is_answer}
 use Rattle.jv_model.proofs.ClientsLaws.{doing_given}
+use Rattle.jv_steps.specs.Stages.{handed}
 use Rattle.jv_steps.specs.IsStep.{IsStep, at_stage}
 use Rattle.jv_steps.specs.Leaves.{Leaves}
-
 use Rattle.jv_steps.proofs.EntryLaws.{told-staged}
 use Rattle.jv_steps.proofs.ReadyLaws.{ready-at}
 use Rattle.jv_steps.proofs.StepFormLaws.{leaves-one, requested, step-answered, with_stage-doing}
@@ -94,56 +95,52 @@ module _ (start : Start) (alone : Bool) (s : State) (client now : ℕ) (d : Doin
     abbrev kind : ActKind
     kind = entry_of_gift (gift_of out.reply)
 
-    -- the client with what the reply handed to it, but still in its operation
-    abbrev handed : ModelClient
-    handed = given (s.count + 1) d.does (gift_of out.reply)
-        (record mine { sustained = newly_sustained s.tree out.tree mine ++ mine.sustained })
+    abbrev told : Told
+    told = told_of out.reply
 
-    abbrev settling : Doing
-    settling = record d { stage = Replying out.reply; moved = true }
+    abbrev settling : Stage
+    settling = Replying out.reply
 
     leaves-transaction : Leaves s (requested s client now d busy kind) client 1 out.tree
-        (at_stage (Replying out.reply) d handed) s.copied
+        (at_stage settling d (handed s d out mine)) s.copied
     leaves-transaction =
-        let replies : Outcome → ModelClient = λ done. replied (s.count + 1) d.does done.reply
-        (record mine { sustained = newly_sustained s.tree done.tree mine ++ mine.sustained }) in
-        subst (λ u. Leaves s u client 1 out.tree (at_stage (Replying out.reply) d handed) s.copied)
+        let was = doing_given (s.count + 1) d.does (gift_of out.reply)
+        (record mine { sustained = newly_sustained s.tree out.tree mine ++ mine.sustained }) in
+        subst (λ u. Leaves s u client 1 out.tree (at_stage settling d (handed s d out mine)) s.copied)
         (sym (requested-by_gift s client now d busy (gift_of out.reply)))
-        (leaves-one s (after_transaction s client now d) client out.tree (at_stage (Replying out.reply) d handed)
-        s.copied
+        (leaves-one s (after_transaction s client now d) client out.tree
+        (at_stage settling d (handed s d out mine)) s.copied
         (ap (λ (done : Outcome). done.tree) does)
         (ap (with_client s.clients client)
-        (ap replies does ∙ with_stage-doing (Replying out.reply) handed d
-        (doing_given (s.count + 1) d.does (gift_of out.reply)
-        (record mine { sustained = newly_sustained s.tree out.tree mine ++ mine.sustained }) ∙ busy)))
+        (ap (λ (done : Outcome). with_stage (Replying done.reply) (handed s d done mine)) does
+        ∙ with_stage-doing settling (handed s d out mine) d (was ∙ busy)))
         refl)
 
-    pub transaction-step : IsStep start alone s client now (kind ∷ Answered (told_of out.reply) ∷ [])
-        (Done out.reply) out.tree
-        (after_told d.op (told_of out.reply) handed) s.copied
+    -- one that the tree answers, whatever the answer is
+    pub transaction-step : IsStep start alone s client now (kind ∷ Answered told ∷ []) (Done out.reply) out.tree
+        (after_told d.op told (handed s d out mine)) s.copied
     transaction-step =
-        subst (λ c. IsStep start alone s client now (kind ∷ Answered (told_of out.reply) ∷ [])
-        (Done out.reply) out.tree c s.copied)
-        (told-staged d.op (told_of out.reply) handed (Some settling))
-        (step-answered s client now d busy start alone kind (asks-by_gift (gift_of out.reply))
-        (may-by_gift s client now d busy start alone mine (gift_of out.reply) (record {
+        let after : Doing = record d { stage = settling; moved = true } in
+        let may : Transaction s client now mine d kind = record {
           ready = ready-at s client now mine d started at flushed;
           transacts = makes;
           same = ap (λ (done : Outcome). entry_of_gift (gift_of done.reply)) (sym does);
-        }))
-        out.tree (at_stage (Replying out.reply) d handed) s.copied leaves-transaction settling
-        (told_of out.reply) out.reply
+        } in
+        subst (λ c. IsStep start alone s client now (kind ∷ Answered told ∷ []) (Done out.reply) out.tree c s.copied)
+        (told-staged d.op told (handed s d out mine) (Some after))
+        (step-answered s client now d busy start alone kind (asks-by_gift (gift_of out.reply))
+        (may-by_gift s client now d busy start alone mine (gift_of out.reply) may) out.tree
+        (at_stage settling d (handed s d out mine)) s.copied leaves-transaction after told out.reply
         refl refl calm refl (Settles out.reply refl refl))
 
   -- one that the tree refuses
-  pub transaction-refused : (fault : Fault)
-      → transacted s client now d.op ≡ record { tree = s.tree; reply = reply.Refused fault }
-      → is_failure (ToldRefused fault) ≡ false
-      → IsStep start alone s client now (Meta ∷ Answered (ToldRefused fault) ∷ []) (Done (reply.Refused fault)) s.tree
-      (after_told d.op (ToldRefused fault) mine) s.copied
-  transaction-refused fault does calm =
-      subst (λ gone. IsStep start alone s client now (Meta ∷ Answered (ToldRefused fault) ∷ [])
-      (Done (reply.Refused fault)) s.tree
-      (after_told d.op (ToldRefused fault) (record mine { sustained = gone ++ mine.sustained })) s.copied)
-      (sustains-none s.tree mine)
-      (transaction-step (record { tree = s.tree; reply = reply.Refused fault }) does calm)
+  module _ (fault : Fault) where
+    abbrev IsRefused : ModelClient → Type 0
+    IsRefused c = IsStep start alone s client now (Meta ∷ Answered (ToldRefused fault) ∷ [])
+        (Done (reply.Refused fault)) s.tree (after_told d.op (ToldRefused fault) c) s.copied
+
+    pub transaction-refused : transacted s client now d.op ≡ record { tree = s.tree; reply = reply.Refused fault }
+        → is_failure (ToldRefused fault) ≡ false → IsRefused mine
+    transaction-refused does calm =
+        subst (λ gone. IsRefused (record mine { sustained = gone ++ mine.sustained })) (sustains-none s.tree mine)
+        (transaction-step (record { tree = s.tree; reply = reply.Refused fault }) does calm)
