@@ -1,1 +1,2 @@
 -- What is proved of requests.
+pub mod RequestLaws
