@@ -59,13 +59,20 @@ module _ (s : State) (g : Known) (v v' : Shared) (has : HasStore s.tree g v) (sa
       let records = ap record_count rows in
       record { numbers = omega (arith, numbers); records = omega (arith, records) }
 
-  -- a step of the model that leaves the tree
+  -- a step of the model that leaves the tree, where numbers are as a run's start allows
+  pub still-within : (kinds : List ActKind) (step : Step) (c : ModelClient)
+      → ((start : Start) (alone : Bool) → IsWithin start s (rows_in v)
+      → IsStep start alone s client now kinds step s.tree c s.copied)
+      → Request s g g v v' client now mine mine kinds step s.tree c s.copied
+  still-within kinds step c steps =
+      request-of s g g v v' client now kinds step s.tree c s.copied mine 0 mine steps
+      (same-leads 0 s.tree g v v' same has) (same-grows kinds step c) (apart-none g v mine) (stays-same s.tree)
+
+  -- or whatever they are
   pub still-request : (kinds : List ActKind) (step : Step) (c : ModelClient)
       → ((start : Start) (alone : Bool) → IsStep start alone s client now kinds step s.tree c s.copied)
       → Request s g g v v' client now mine mine kinds step s.tree c s.copied
-  still-request kinds step c steps =
-      request-of s g g v v' client now kinds step s.tree c s.copied mine 0 mine (λ start alone within. steps start alone)
-      (same-leads 0 s.tree g v v' same has) (same-grows kinds step c) (apart-none g v mine) (stays-same s.tree)
+  still-request kinds step c steps = still-within kinds step c (λ start alone within. steps start alone)
 
   -- a device failed, or memory ran out
   pub failure-request : (d : Doing) → (s.clients client).doing ≡ Some d → must_answer d ≡ false → (fault : Fault)
