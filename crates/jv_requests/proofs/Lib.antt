@@ -1,1 +1,7 @@
 -- What is proved of requests.
+pub mod ChangeLaws
+pub mod GetLaws
+pub mod LandedLaws
+pub mod LookLaws
+pub mod RequestLaws
+pub mod StillLaws

@@ -1,5 +1,5 @@
 -- What a step of a client leads to, but for what the client in memory becomes.
-use Rattle.std.specs.Prelude.{◌≢◌, ℕ, ◌+◌, ◌≤◌, Bool, List}
+use Rattle.std.specs.Prelude.{◌≢◌, ℕ, ◌+◌, ◌≤◌, Bool, List, length}
 use Rattle.jv_model.specs.declared.act.ActKind.{ActKind}
 use Rattle.jv_model.specs.declared.op.Step.{Step}
 use Rattle.jv_model.specs.tree.Tree.{Tree}
@@ -27,15 +27,15 @@ pub record IsApart (g : Known) (v : Shared) (mine own after : ℕ) : Type 0 wher
   pub own_apart : (f : Flight) → Flies g v f → f.id ≢ mine → f.id ≢ own
   pub new_apart : (f : Flight) → Flies g v f → f.id ≢ mine → f.id ≢ after
 
--- The model allows these entries as a step, and they lead to a client, to a tree, and to devices that stand for it. Of what is known, of
--- numbers, and of what other clients hold nothing is lost. `mine` is the number of the client's slice in flight before the step, `after`
--- that after it, and 0 stands for none.
+-- The model allows these entries as a step, and they lead to this client, to this tree, to so many bytes copied in all, and to devices
+-- that stand for the tree. Of what is known, of numbers, and of what other clients hold nothing is lost. `mine` is the number of the
+-- client's slice in flight before the step, `after` that after it, and 0 stands for none.
 pub record Request (s : State) (g learned : Known) (before v : Shared) (client now mine after : ℕ) (kinds : List ActKind) (step : Step)
-    (c : ModelClient) : Type 0 where
+    (t : Tree) (c : ModelClient) (copied : ℕ) : Type 0 where
   pub own : ℕ
   pub allows : (start : Start) (alone : Bool) → IsWithin start s (rows_in before) → AllowsStep start alone s client now kinds step
   pub within : (start : Start) → IsWithin start s (rows_in before) → IsWithin start (stepped_by s client now kinds) (rows_in v)
-  pub leaves : (entries : ℕ) × (t : Tree) × (copied : ℕ) × Leaves s (stepped_by s client now kinds) client entries t c copied
+  pub leaves : Leaves s (stepped_by s client now kinds) client (length kinds) t c copied
   pub leads : Leads own (stepped_by s client now kinds).tree g learned before v
   pub apart : IsApart g before mine own after
   pub stays : Stays s.tree (stepped_by s client now kinds).tree
