@@ -1,15 +1,17 @@
-use jv_model::{Dead, List, Rec, Sequence, SliceRow};
+use jv_model::{Dead, Down, List, Rec, Sequence, SliceRow, TxFault};
 use jv_outside::{Batch, Keeper, NeverKeeper};
 use jv_rows::{Draft, adjust, allows_list, next_list, put_list, put_slice, read_dead, read_slice};
-use std::alloc::Global;
+use std::alloc::{AllocError, Global};
 use std::test::Fail;
 
-fn empty_keeper(alloc: Global) -> NeverKeeper {
-    NeverKeeper::new(alloc, Sequence::new(alloc))
+fn keeper_of(alloc: Global, stored: &Batch) -> Result<NeverKeeper, Down> {
+    let mut keeper = NeverKeeper::new(alloc, Sequence::new(alloc));
+    keeper.commit(stored)?;
+    Ok(keeper)
 }
 
 /// One record of each of these slices; 0 is none.
-fn records_of(alloc: Global, slices: &[u64]) -> Result<List, Fail> {
+fn records_of(alloc: Global, slices: &[u64]) -> Result<List, AllocError> {
     let mut list = List::new(alloc);
     for id in slices {
         list.push(Rec {
@@ -23,39 +25,70 @@ fn records_of(alloc: Global, slices: &[u64]) -> Result<List, Fail> {
     Ok(list)
 }
 
-#[test]
-fn a_slice_whose_last_record_goes_is_dead(rt: HostRuntime) -> Result<(), Fail> {
-    let alloc = rt.alloc();
-    let mut keeper = empty_keeper(alloc);
+/// The slices 2, 3 and 4.
+fn slices(alloc: Global) -> Result<Batch, AllocError> {
     let mut stored = Batch::new(alloc);
     put_slice(alloc, &mut stored, 2, &SliceRow { size: 5, count: 2 })?;
     put_slice(alloc, &mut stored, 3, &SliceRow { size: 6, count: 3 })?;
     put_slice(alloc, &mut stored, 4, &SliceRow { size: 7, count: 1 })?;
-    keeper.commit(&stored)?;
+    Ok(stored)
+}
+
+fn keeper_of_slices(alloc: Global) -> Result<NeverKeeper, Down> {
+    let stored = slices(alloc)?;
+    keeper_of(alloc, &stored)
+}
+
+/// The changes that bring counts in line with a record of each slice that goes and of each that comes.
+fn changes(
+    alloc: Global,
+    keeper: &mut NeverKeeper,
+    gone: &[u64],
+    added: &[u64],
+) -> Result<Draft, TxFault> {
+    let gone = records_of(alloc, gone)?;
+    let added = records_of(alloc, added)?;
     let mut draft = Draft::new(alloc);
-    let gone = records_of(alloc, &[3, 2, 0, 3, 2])?;
-    let added = records_of(alloc, &[4, 3, 0, 4])?;
     adjust(
         alloc,
-        &mut keeper,
+        keeper,
         &mut draft,
         gone.as_slice(),
         added.as_slice(),
         9,
     )?;
-    draft.commit(&mut keeper)?;
-    assert_eq!(rt; read_slice(alloc, &mut keeper, 2)?, None);
+    Ok(draft)
+}
+
+/// Whether those changes are made.
+fn counts_anew(
+    alloc: Global,
+    keeper: &mut NeverKeeper,
+    gone: &[u64],
+    added: &[u64],
+) -> Result<bool, TxFault> {
+    let draft = changes(alloc, keeper, gone, added)?;
+    Ok(draft.commit(keeper).is_ok())
+}
+
+#[test]
+fn a_slice_whose_last_record_goes_is_dead(rt: HostRuntime) -> Result<(), Fail> {
+    let alloc = rt.alloc();
+    let mut keeper = keeper_of_slices(alloc)?;
+    let counted = counts_anew(alloc, &mut keeper, &[3, 2, 0, 3, 2], &[4, 3, 0, 4]);
+    assert_eq!(rt; counted, Ok(true));
+    assert_eq!(rt; read_slice(alloc, &mut keeper, 2), Ok(None));
     assert_eq!(rt;
-        read_dead(alloc, &mut keeper, 2)?,
-        Some(Dead { size: 5, due: 9 })
+        read_dead(alloc, &mut keeper, 2),
+        Ok(Some(Dead { size: 5, due: 9 }))
     );
     assert_eq!(rt;
-        read_slice(alloc, &mut keeper, 3)?,
-        Some(SliceRow { size: 6, count: 2 })
+        read_slice(alloc, &mut keeper, 3),
+        Ok(Some(SliceRow { size: 6, count: 2 }))
     );
     assert_eq!(rt;
-        read_slice(alloc, &mut keeper, 4)?,
-        Some(SliceRow { size: 7, count: 3 })
+        read_slice(alloc, &mut keeper, 4),
+        Ok(Some(SliceRow { size: 7, count: 3 }))
     );
     Ok(())
 }
@@ -66,30 +99,50 @@ fn put_allowed(
     stored: &mut Batch,
     inode: u64,
     window: u32,
-    list: &List,
-) -> Result<(), Fail> {
-    if allows_list(list) {
-        put_list(alloc, stored, inode, window, list)?;
+    slices: &[u64],
+) -> Result<(), AllocError> {
+    let list = records_of(alloc, slices)?;
+    if allows_list(&list) {
+        put_list(alloc, stored, inode, window, &list)?;
     }
     Ok(())
+}
+
+/// Two lists of the file 5, that of the later window first, and one of the file 6.
+fn lists(alloc: Global) -> Result<Batch, AllocError> {
+    let mut stored = Batch::new(alloc);
+    put_allowed(alloc, &mut stored, 5, 256, &[3, 4])?;
+    put_allowed(alloc, &mut stored, 5, 1, &[2])?;
+    put_allowed(alloc, &mut stored, 6, 0, &[2])?;
+    Ok(stored)
+}
+
+fn keeper_of_lists(alloc: Global) -> Result<NeverKeeper, Down> {
+    let stored = lists(alloc)?;
+    keeper_of(alloc, &stored)
+}
+
+/// Whether the next list of the file 5 is that of a window, with a record of each of these slices.
+fn is_next(
+    alloc: Global,
+    keeper: &mut NeverKeeper,
+    last: Option<u32>,
+    window: u32,
+    slices: &[u64],
+) -> Result<bool, AllocError> {
+    let list = records_of(alloc, slices)?;
+    Ok(next_list(alloc, keeper, 5, last) == Ok(Some((window, list))))
 }
 
 #[test]
 fn the_lists_of_a_file_come_in_the_order_of_windows(rt: HostRuntime) -> Result<(), Fail> {
     let alloc = rt.alloc();
-    let mut keeper = empty_keeper(alloc);
-    let mut stored = Batch::new(alloc);
-    let first = records_of(alloc, &[2])?;
-    let other = records_of(alloc, &[3, 4])?;
-    put_allowed(alloc, &mut stored, 5, 256, &other)?;
-    put_allowed(alloc, &mut stored, 5, 1, &first)?;
-    put_allowed(alloc, &mut stored, 6, 0, &first)?;
-    keeper.commit(&stored)?;
-    assert_eq!(rt; next_list(alloc, &mut keeper, 5, None)?, Some((1, first)));
+    let mut keeper = keeper_of_lists(alloc)?;
+    assert_eq!(rt; is_next(alloc, &mut keeper, None, 1, &[2]), Ok(true));
     assert_eq!(rt;
-        next_list(alloc, &mut keeper, 5, Some(1))?,
-        Some((256, other))
+        is_next(alloc, &mut keeper, Some(1), 256, &[3, 4]),
+        Ok(true)
     );
-    assert_eq!(rt; next_list(alloc, &mut keeper, 5, Some(256))?, None);
+    assert_eq!(rt; next_list(alloc, &mut keeper, 5, Some(256)), Ok(None));
     Ok(())
 }
