@@ -7,7 +7,6 @@ use jv_outside::{
     NeverSink, NeverSource, Sink, Source, write_whole,
 };
 use std::alloc::{AllocError, Global};
-use std::test::Fail;
 
 /// The number of a device's only call that fails, or 0.
 pub(crate) fn failing_at(alloc: Global, number: u64) -> Result<Fails, AllocError> {
@@ -118,7 +117,7 @@ fn a_sink_takes_bytes_up_to_its_failing_call(rt: HostRuntime) {
 }
 
 #[test]
-fn a_clock_answers_its_moment(rt: HostRuntime) -> Result<(), Fail> {
+fn a_clock_answers_its_moment(rt: HostRuntime) -> Result<(), AllocError> {
     let mut clock = MemClock::new(Moment(1000), failing_at(rt.alloc(), 2)?);
     assert_eq!(rt; clock.now(), Ok(Moment(1000)));
     assert_eq!(rt; clock.now(), Err(Down::Failed));
@@ -256,7 +255,7 @@ fn changes_rows<K: Keeper>(alloc: Global, keeper: &mut K) -> bool {
 }
 
 #[test]
-fn a_keeper_keeps_its_rows(rt: HostRuntime) -> Result<(), Fail> {
+fn a_keeper_keeps_its_rows(rt: HostRuntime) -> Result<(), AllocError> {
     let mut keeper = mem_keeper(rt.alloc())?;
     assert!(rt; reads_rows(rt.alloc(), &mut keeper));
     assert!(rt; changes_rows(rt.alloc(), &mut keeper));
@@ -264,7 +263,7 @@ fn a_keeper_keeps_its_rows(rt: HostRuntime) -> Result<(), Fail> {
 }
 
 #[test]
-fn a_keeper_that_never_fails_keeps_its_rows(rt: HostRuntime) -> Result<(), Fail> {
+fn a_keeper_that_never_fails_keeps_its_rows(rt: HostRuntime) -> Result<(), AllocError> {
     let mut keeper = never_keeper(rt.alloc())?;
     assert!(rt; reads_rows(rt.alloc(), &mut keeper));
     assert!(rt; changes_rows(rt.alloc(), &mut keeper));
