@@ -26,7 +26,7 @@ pub record Makes : Type 0 where
   pub own : ℕ  -- 0 where it makes none
   pub size : ℕ
   pub more : ℕ
-  pub due : Setting → ℕ
+  pub due : Setting → ℕ  -- a transaction that may have any lets none go
 
 -- each slice that had a row, and has none any more, is dead, with its size, until it may go
 abbrev pub DieUntil : (Setting → ℕ) → Rows → Rows → Type 0

@@ -61,7 +61,7 @@ pub fn copy_range<K: Keeper>(
 {
     let source = file(alloc, k, who.sid, src)?;
     let target = file(alloc, k, who.sid, dst)?;
-    // A row that isn't whole may have a length past 2^40, and so windows whose numbers don't fit.
+    // A hostile row may have a length past 2^40, and so windows whose numbers don't fit.
     let len = len.min(source.length.min(FILE_END).saturating_sub(from));
     let course = Course {
         source: src,
@@ -93,7 +93,8 @@ pub fn copy_range<K: Keeper>(
 
 /// Whether a file is copied to itself, to a range that has a position in common with the one that is copied.
 fn overlaps(course: Course) -> bool
-    ensures { result ≡ ((course.source == course.target) && model.overlap course.from course.to course.len) }
+    ensures { result
+        ≡ ((course.source == course.target) && model.overlap course.from course.to course.len) }
 {
     let (from, to, len) = (
         u128::from(course.from),
