@@ -57,7 +57,8 @@ pub fn copy_range<K: Keeper>(
     ensures { (caller : Caller) (due : Setting → ℕ) → IsFor who.entry.now caller
         → caller.inode ≡ src → caller.other ≡ dst
         → Changes (record { own = 0; size = 0; more = count_in result; due = due }) AnyTold
-        (IsCrowded FILE_END) (K.seen k.old) (K.seen k.new) result (λ n. Count n) (λ t. model.copy t caller from to len) }
+        (IsCrowded FILE_END) (K.seen k.old) (K.seen k.new)
+        result (λ n. Count n) (λ t. model.copy t caller from to len) }
 {
     let source = file(alloc, k, who.sid, src)?;
     let target = file(alloc, k, who.sid, dst)?;
