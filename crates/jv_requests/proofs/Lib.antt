@@ -1,2 +1,3 @@
 -- What is proved of requests.
 pub mod RequestLaws
+pub mod NumberLaws
