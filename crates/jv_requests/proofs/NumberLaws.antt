@@ -9,9 +9,12 @@ use Rattle.jv_model.specs.declared.fault.Fault.{Fault}
 use Rattle.jv_model.specs.declared.fault.Fault.TheVariants.{NoSpace, Stale}
 use Rattle.jv_model.specs.declared.fault.Gone.TheVariants.{Session}
 use Rattle.jv_model.specs.declared.fault.RowFault.{RowFault}
-use Rattle.jv_model.specs.declared.fault.TxFault.TheVariants.{Refused as TxRefused, Rows as OfRows}
+use Rattle.jv_model.specs.declared.fault.RowFault.TheVariants.{Bad}
+use Rattle.jv_model.specs.declared.fault.TxFault.TheVariants.{Moved, Refused as TxRefused, Rows as OfRows}
 use Rattle.jv_model.specs.declared.op.Reply.TheVariants.{Refused}
 use Rattle.jv_model.specs.declared.op.Step.TheVariants.{More, Done}
+use Rattle.jv_model.specs.declared.row.RowKey.{RowKey}
+use Rattle.jv_model.specs.declared.slice.Rec.{Rec}
 use Rattle.jv_model.specs.FiniteMap.{get}
 use Rattle.jv_model.specs.tree.Attempt.{◌>>=◌, require}
 use Rattle.jv_model.specs.tree.Tree.{Tree}
@@ -172,9 +175,16 @@ module _ (s : State) (g : Known) (v : Shared) (store : HasStore s.tree g v) (cli
     number-refused =
         by_why (why-not sid (next_slice (typed store.rows)) session_there number_there fault (takes.lands store.rows store.rows_are store.whole))
 
-  -- The keeper failed, or memory ran out; no row is Bad.
+  -- The keeper failed, or memory ran out.
   pub number-failed : (fault : Fault) → is_failure (ToldRefused fault) ≡ true → (row : RowFault)
       → TakesNumber sid v.keeper keeper (Err (OfRows row))
       → Request s g g v asked client now 0 0 (Answered (ToldRefused fault) ∷ []) (Done (Refused fault)) s.tree (record c { doing = None }) s.copied
   number-failed fault fails row takes =
       failure-request s g v asked store (same-rows v keeper v.carrier takes.undone) client now 0 d busy (goes-working d 0 started at) fault fails
+
+  -- Over whole rows no list has moved, and no row is Bad.
+  pub number-unmoved : (list : List Rec) → TakesNumber sid v.keeper keeper (Err (Moved list)) → ⊥
+  number-unmoved list takes = takes.lands store.rows store.rows_are store.whole
+
+  pub number-sound : (row : RowKey) (bytes : List ℕ) → TakesNumber sid v.keeper keeper (Err (OfRows (Bad row bytes))) → ⊥
+  number-sound row bytes takes = takes.lands store.rows store.rows_are store.whole
