@@ -1,6 +1,6 @@
 -- A flush asks for the number of a segment's slice.
-use Rattle.std.proofs.Common.{◌≡◌, ℕ, ◌+◌, ◌≤◌, Bool, true, false, ◌||◌, List, [], ◌∷◌, length, None, Some, Result, Ok, Err, refl, sym, ap, subst, ◌∙◌, arith}
-use Rattle.std.specs.Prelude.{is_some, nat_le, nat_lt, IsTrue}
+use Rattle.std.proofs.Common.{◌≡◌, ℕ, ◌+◌, ◌≤◌, Bool, true, false, List, [], ◌∷◌, length, None, Some, Result, Ok, Err, refl, sym, ap, subst, ◌∙◌, arith}
+use Rattle.std.specs.Prelude.{is_some, nat_le, nat_lt}
 use Rattle.std.proofs.lemmas.Bool.{le-leb, ltb-false, or_left}
 use Rattle.jv_model.specs.declared.limits.TheConstants.{FULL_COUNT, FILE_END}
 use Rattle.jv_model.specs.declared.act.ActKind.TheVariants.{Quiet, Answered}
@@ -20,7 +20,7 @@ use Rattle.jv_model.specs.tree.Attempt.{◌>>=◌, require}
 use Rattle.jv_model.specs.tree.Tree.{Tree}
 use Rattle.jv_model.specs.client.Pending.{Segment}
 use Rattle.jv_model.specs.client.Submission.{next_segment}
-use Rattle.jv_model.specs.client.ModelClient.{ModelClient, Doing, Working, session_of, unmounted}
+use Rattle.jv_model.specs.client.ModelClient.{ModelClient, Doing, Working, session_of}
 use Rattle.jv_model.specs.journal.State.{State, after_told, has_session}
 use Rattle.jv_model.specs.journal.Steps.{Start, is_crowded, is_failure}
 use Rattle.jv_outside.specs.Store.{Store}
@@ -34,7 +34,7 @@ use Rattle.jv_contents.specs.Counts.{record_count}
 use Rattle.jv_contents.proofs.KeepLaws.{record_count-stay, stay-counters}
 use Rattle.jv_data.specs.Records.{Numbered, TakesNumber, number_given}
 use Rattle.jv_shared.specs.Flying.{Flies}
-use Rattle.jv_shared.specs.Shared.{HasStore, Known, Shared, rows_in, typed_in, with_size}
+use Rattle.jv_shared.specs.Shared.{HasStore, Known, Shared, rows_in, with_size}
 use Rattle.jv_shared.proofs.RowStepLaws.{number-apart, number-flies, number-leads}
 use Rattle.jv_shared.proofs.SameLaws.{same-rows}
 use Rattle.jv_shared.proofs.StoreLaws.{rows_are}
@@ -42,7 +42,8 @@ use Rattle.jv_steps.specs.IsStep.{IsStep, at_stage}
 use Rattle.jv_steps.proofs.FlushStepLaws.{number-crowded, number-gone, number-step}
 use Rattle.jv_steps.proofs.RefusalStepLaws.{goes-working}
 use Rattle.jv_requests.specs.Request.{IsWithin, Request}
-use Rattle.jv_requests.proofs.RequestLaws.{Grows, apart-new, failure-request, request-of, same-ends, stays-same}
+use Rattle.jv_requests.proofs.RequestLaws.{Grows, apart-new, failure-request, left-grows}
+use Rattle.jv_requests.proofs.RequestLaws.{request-of, same-ends, stays-same}
 
 -- ---- sessions, which no bytes of files change
 
@@ -109,13 +110,11 @@ module _ (s : State) (g : Known) (v : Shared) (store : HasStore s.tree g v) (cli
         → Grows s g (with_size id (length bytes) g) v asked client now (Quiet ∷ []) More s.tree (at_stage (Working 1 0) d c) s.copied
     taken_grows bytes =
         let n = given.1 in
-        let was : next_slice (rows_in v) ≡ next_slice (typed store.rows) = ap next_slice (rows_are s.tree g v store) in
-        let is : next_slice (rows_in asked) ≡ next_slice (typed n.left) = ap (λ rows. next_slice (typed_in rows)) n.is in
-        let records_were : record_count (rows_in v) ≡ record_count (typed store.rows) = ap record_count (rows_are s.tree g v store) in
-        let records_are : record_count (rows_in asked) ≡ record_count (typed n.left) = ap (λ rows. record_count (typed_in rows)) n.is in
-        let same = record_count-stay (typed store.rows) (typed n.left) (stay-counters (typed store.rows) (typed n.left) n.others) in
+        let same : record_count (typed n.left) ≡ record_count (typed store.rows) =
+        record_count-stay (typed store.rows) (typed n.left) (stay-counters (typed store.rows) (typed n.left) n.others) in
         let first = n.given in let then = n.next in
-        record { numbers = omega (arith, was, is, first, then); records = omega (arith, records_were, records_are, same) }
+        left-grows s g (with_size id (length bytes) g) v store client now (Quiet ∷ []) More s.tree
+        (at_stage (Working 1 0) d c) s.copied keeper n.left n.is (omega (arith, first, then)) (omega (arith, same))
 
     -- The operation goes on with this number, by which nothing was put yet.
     pub number-taken : (bytes : List ℕ) → Request s g (with_size id (length bytes) g) v asked client now 0 id (Quiet ∷ []) More s.tree
@@ -169,6 +168,17 @@ module _ (s : State) (g : Known) (v : Shared) (store : HasStore s.tree g v) (cli
         (λ start alone within. subst (λ f. IsStep start alone s client now (Quiet ∷ Answered (ToldRefused f) ∷ []) (Done (Refused f)) s.tree
         (after_told d.op (ToldRefused f) c) s.copied) (sym same)
         (number-crowded start alone s client now d busy segment next started at (sym session-is ∙ there) (crowded-by start within full)))
+
+    calm_by : WhyNot sid (next_slice (typed store.rows)) session_there number_there fault
+        → is_failure (ToldRefused fault) ≡ false
+    calm_by (NoSession gone same) = ap (λ fault. is_failure (ToldRefused fault)) same
+    calm_by (NoNumber there full same) = ap (λ fault. is_failure (ToldRefused fault)) same
+
+    -- No device failed.
+    pub number-calm : is_failure (ToldRefused fault) ≡ false
+    number-calm =
+        calm_by (why-not sid (next_slice (typed store.rows)) session_there number_there fault
+        (takes.lands store.rows store.rows_are store.whole))
 
     -- The session is gone, or there are no more numbers.
     pub number-refused : RefusedAs fault (after_told d.op (ToldRefused fault) c)

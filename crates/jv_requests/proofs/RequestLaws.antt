@@ -11,7 +11,9 @@ use Rattle.jv_model.specs.tree.Tree.{Tree}
 use Rattle.jv_model.specs.client.ModelClient.{ModelClient, Doing}
 use Rattle.jv_model.specs.journal.State.{State}
 use Rattle.jv_model.specs.journal.Steps.{Start, is_failure, must_answer}
-use Rattle.jv_volume.specs.TypedRows.{Rows}
+use Rattle.jv_model.specs.rows.RowKeys.{RowMap}
+use Rattle.jv_outside.specs.Store.{Store}
+use Rattle.jv_volume.specs.TypedRows.{Rows, typed}
 use Rattle.jv_volume.specs.Slices.{next_slice}
 use Rattle.jv_volume.specs.Holding.{Stays}
 use Rattle.jv_contents.specs.Counts.{record_count}
@@ -20,6 +22,7 @@ use Rattle.jv_shared.specs.Flying.{Flies}
 use Rattle.jv_shared.specs.Keeping.{HoldsSame, Leads}
 use Rattle.jv_shared.specs.Shared.{HasStore, Known, Shared, rows_in, typed_in}
 use Rattle.jv_shared.proofs.SameLaws.{same-leads}
+use Rattle.jv_shared.proofs.StoreLaws.{rows_are}
 use Rattle.jv_steps.specs.IsStep.{IsStep}
 use Rattle.jv_steps.proofs.RefusalStepLaws.{failure-step}
 use Rattle.jv_requests.specs.Request.{IsApart, IsWithin, Request}
@@ -62,7 +65,7 @@ apart-over g v mine = record { own_apart = λ f flies other. other; new_apart = 
 -- ---- a request from its parts
 
 -- a run that began with these rows
-abbrev begun_with : Tree → Rows → Start
+abbrev pub begun_with : Tree → Rows → Start
 begun_with t rows = record { tree = t; shelved = λ inode position. []; next_slice = next_slice rows; records = record_count rows }
 
 begun-within : (s : State) (rows : Rows) → IsWithin (begun_with s.tree rows) s rows
@@ -93,6 +96,24 @@ module _ (s : State) (g learned : Known) (before v : Shared) (client now : ℕ) 
         apart = apart;
         stays = subst (λ (t : Tree). Stays s.tree t) (sym leaves.tree) stays;
       }
+
+-- ---- steps after which the keeper has other rows
+
+-- numbers and records, counted over the rows that there were and those left
+pub left-grows : (s : State) (g learned : Known) (v : Shared) (store : HasStore s.tree g v) (client now : ℕ)
+    (kinds : List ActKind) (step : Step) (t : Tree) (c : ModelClient) (copied : ℕ) (keeper : Store) (left : RowMap)
+    → keeper.rows ≡ Some left
+    → next_slice (typed left) ≤ next_slice (typed store.rows) + length kinds
+    → record_count (typed left) + s.copied ≤ record_count (typed store.rows) + length kinds + copied
+    → Grows s g learned v (record v { keeper = keeper }) client now kinds step t c copied
+left-grows s g learned v store client now kinds step t c copied keeper left is numbers records =
+    let was : next_slice (rows_in v) ≡ next_slice (typed store.rows) = ap next_slice (rows_are s.tree g v store) in
+    let after : next_slice (typed_in keeper.rows) ≡ next_slice (typed left) = ap (λ rows. next_slice (typed_in rows)) is in
+    let were : record_count (rows_in v) ≡ record_count (typed store.rows) =
+    ap record_count (rows_are s.tree g v store) in
+    let are : record_count (typed_in keeper.rows) ≡ record_count (typed left) =
+    ap (λ rows. record_count (typed_in rows)) is in
+    record { numbers = omega (arith, was, after, numbers); records = omega (arith, were, are, records) }
 
 -- ---- steps after which devices hold the same
 
