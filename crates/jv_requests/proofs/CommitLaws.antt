@@ -1,5 +1,6 @@
 -- A flush commits a segment, whose slice's blocks were all put.
-use Rattle.std.proofs.Common.{◌≡◌, ℕ, ◌+◌, ◌*◌, ◌≤◌, Bool, true, false, [], ◌∷◌, inl, inr, List, length, None, Some, Ok, Err, refl, sym, ap, subst, ◌∙◌, arith}
+use Rattle.std.proofs.Common.{◌≡◌, ℕ, ◌+◌, ◌*◌, ◌≤◌, Bool, true, false, [], ◌∷◌, inl, inr, List, length, None, Some, Ok}
+use Rattle.std.proofs.Common.{Err, refl, sym, ap, subst, ◌∙◌, arith}
 use Rattle.jv_model.specs.declared.limits.TheConstants.{WINDOW}
 use Rattle.jv_model.specs.declared.act.ActKind.{ActKind}
 use Rattle.jv_model.specs.declared.act.ActKind.TheVariants.{Answered, Commit, Quiet}
@@ -41,7 +42,8 @@ use Rattle.jv_steps.specs.IsStep.{IsStep, at_stage}
 use Rattle.jv_steps.specs.RefusesCommit.{RefusesCommit, Late, NoFile, NoRoom, NoSession}
 use Rattle.jv_steps.specs.WithoutCommitted.{without_committed}
 use Rattle.jv_steps.proofs.CommitStepLaws.{commit-answered, commit-left, commit-then}
-use Rattle.jv_steps.proofs.CommitTestLaws.{commit_tested, tests-allow, tests-commit, tests-done, tests-refuse, tests-undone}
+use Rattle.jv_steps.proofs.CommitTestLaws.{commit_tested, tests-allow, tests-commit, tests-done, tests-refuse}
+use Rattle.jv_steps.proofs.CommitTestLaws.{tests-undone}
 use Rattle.jv_steps.proofs.RefusalStepLaws.{commit-refused, goes-working}
 use Rattle.jv_requests.specs.Request.{Request}
 use Rattle.jv_requests.proofs.RequestLaws.{Grows, apart-over, begun_with, failure-request, left-grows}
@@ -87,12 +89,14 @@ module _ (s : State) (g : Known) (v : Shared) (store : HasStore s.tree g v) (cli
     below = flies.ever.below;
     shows = record {
       long = refl;
-      each = complete-shown v.yard.setting.block (rows_in v) g.blocks f flies.ever complete (block_some s.tree g v store) rec refl refl refl refl;
+      each = complete-shown v.yard.setting.block (rows_in v) g.blocks f flies.ever complete
+          (block_some s.tree g v store) rec refl refl refl refl;
     };
   })
 
   -- the model's commit, of the tree that the rows have, is that of the state's tree
-  committing-same : committing sid segment.inode (window * WINDOW + pos) f.bytes started now (tree_with told (typed store.rows))
+  committing-same : committing sid segment.inode (window * WINDOW + pos) f.bytes started now
+      (tree_with told (typed store.rows))
       ≡ committing (session_of c) segment.inode segment.from patch started now s.tree
   committing-same i = committing (own i) segment.inode (sym from_is i) (bytes_are i) started now (sym store.tree i)
 
@@ -102,15 +106,18 @@ module _ (s : State) (g : Known) (v : Shared) (store : HasStore s.tree g v) (cli
 
   -- ---- it was made
 
-  module _ (commits : CommitsRecord sid now segment.inode window (whole_record pos f) started v.keeper keeper (Ok tt)) where
+  module _
+      (commits : CommitsRecord sid now segment.inode window (whole_record pos f) started v.keeper keeper (Ok tt)) where
     abbrev Made : Type 0
-    Made = Changed (record { own = f.id; size = length f.bytes; more = 1; due = at_once }) store.rows keeper.rows told reply.Done
-        (committing sid segment.inode (window * WINDOW + pos) f.bytes started now)
+    Made =
+        Changed (record { own = f.id; size = length f.bytes; more = 1; due = at_once }) store.rows keeper.rows told
+        reply.Done (committing sid segment.inode (window * WINDOW + pos) f.bytes started now)
 
     made : Made
     made = (commits f.bytes at_once).lands store.rows store.rows_are store.whole told is_new
 
-    tested : commit_tested (session_of c) segment.inode segment.from patch started now s.tree ≡ Ok (tree_with told (typed made.left))
+    tested : commit_tested (session_of c) segment.inode segment.from patch started now s.tree
+        ≡ Ok (tree_with told (typed made.left))
     tested =
         tests-done (commit_tested (session_of c) segment.inode segment.from patch started now s.tree)
         (record { tree = tree_with told (typed made.left); reply = reply.Done }) (sym committing-same ∙ made.model)
@@ -120,11 +127,13 @@ module _ (s : State) (g : Known) (v : Shared) (store : HasStore s.tree g v) (cli
 
     commit_leads : Leads f.id grown g g v left_shared
     commit_leads = subst (λ (t : Tree). Leads f.id t g g v left_shared) tree-is
-        (commit-leads s.tree g v store keeper v.carrier made.left f 1 flies complete made.is made.whole made.others made.size
+        (commit-leads s.tree g v store keeper v.carrier made.left f 1 flies complete made.is made.whole made.others
+        made.size
         (ap (λ (t : Tree). t.setting) tree-is ∙ (stays-committed s.tree now segment.inode segment.from patch).setting))
 
     commit_may : c.writeback ≡ false → Commits s now c d segment.inode segment.from segment.len 0
-    commit_may direct = tests-commit s now c segment started d quiets (tree_with told (typed made.left)) tested at asked direct next
+    commit_may direct =
+        tests-commit s now c segment started d quiets (tree_with told (typed made.left)) tested at asked direct next
 
     abbrev Goes : List ActKind → Step → ModelClient → Type 0
     Goes kinds step after = Request s g g v left_shared client now f.id 0 kinds step grown after s.copied
@@ -137,9 +146,11 @@ module _ (s : State) (g : Known) (v : Shared) (store : HasStore s.tree g v) (cli
         (omega (arith, same)) (omega (arith, few, some))
 
     commit_goes : (kinds : List ActKind) (step : Step) (after : ModelClient) → 1 ≤ length kinds
-        → ((start : Start) (alone : Bool) → IsStep start alone s client now kinds step grown after s.copied) → Goes kinds step after
+        → ((start : Start) (alone : Bool) → IsStep start alone s client now kinds step grown after s.copied)
+        → Goes kinds step after
     commit_goes kinds step after some steps =
-        request-of s g g v left_shared client now kinds step grown after s.copied f.id f.id 0 (λ start alone within. steps start alone)
+        request-of s g g v left_shared client now kinds step grown after s.copied f.id f.id 0
+        (λ start alone within. steps start alone)
         commit_leads (commit_grows kinds step after some) (apart-over g v f.id)
         (stays-committed s.tree now segment.inode segment.from patch)
 
@@ -149,16 +160,21 @@ module _ (s : State) (g : Known) (v : Shared) (store : HasStore s.tree g v) (cli
           → next_segment d.flush (without_range segment.inode segment.from segment.len c.pending) ≡ Some then_segment
           → Goes (Commit segment.inode segment.from segment.len 0 ∷ []) More (at_stage (Working 0 0) d rest)
       committed-left then_segment left =
-          commit_goes (Commit segment.inode segment.from segment.len 0 ∷ []) More (at_stage (Working 0 0) d rest) (omega arith)
-          (λ start alone. commit-left start alone s client now d busy segment.inode segment.from segment.len (commit_may direct) then_segment left)
+          commit_goes (Commit segment.inode segment.from segment.len 0 ∷ []) More (at_stage (Working 0 0) d rest)
+          (omega arith)
+          (λ start alone. commit-left start alone s client now d busy segment.inode segment.from segment.len
+          (commit_may direct) then_segment left)
 
-      module _ (over : next_segment d.flush (without_range segment.inode segment.from segment.len (s.clients client).pending) ≡ None) where
+      module _ (over : next_segment d.flush
+          (without_range segment.inode segment.from segment.len (s.clients client).pending) ≡ None) where
         -- Nothing is left, and the operation has requests of its own.
         pub committed-then : answer_then c d ≡ None
             → Goes (Commit segment.inode segment.from segment.len 0 ∷ []) More (at_stage (Working 0 0) d rest)
         committed-then none =
-            commit_goes (Commit segment.inode segment.from segment.len 0 ∷ []) More (at_stage (Working 0 0) d rest) (omega arith)
-            (λ start alone. commit-then start alone s client now d busy segment.inode segment.from segment.len (commit_may direct) over none)
+            commit_goes (Commit segment.inode segment.from segment.len 0 ∷ []) More (at_stage (Working 0 0) d rest)
+            (omega arith)
+            (λ start alone. commit-then start alone s client now d busy segment.inode segment.from segment.len
+            (commit_may direct) over none)
 
         -- Nothing is left, and the operation is answered.
         pub committed-answered : (said : Reply) → answer_then c d ≡ Some said
@@ -167,15 +183,18 @@ module _ (s : State) (g : Known) (v : Shared) (store : HasStore s.tree g v) (cli
         committed-answered said same =
             commit_goes (Commit segment.inode segment.from segment.len 0 ∷ Answered (told_of said) ∷ []) (Done said)
             (record (finished d.op rest) { doing = None }) (omega arith)
-            (λ start alone. commit-answered start alone s client now d busy segment.inode segment.from segment.len (commit_may direct) over said same)
+            (λ start alone. commit-answered start alone s client now d busy segment.inode segment.from segment.len
+            (commit_may direct) over said same)
 
   -- ---- it was refused
 
   module _ (fault : Fault)
-      (commits : CommitsRecord sid now segment.inode window (whole_record pos f) started v.keeper keeper (Err (TxRefused fault))) where
+      (commits : CommitsRecord sid now segment.inode window (whole_record pos f) started v.keeper keeper
+      (Err (TxRefused fault))) where
     undone : commit_tested (session_of c) segment.inode segment.from patch started now s.tree ≡ Err fault
     undone = elim ((commits f.bytes at_once).lands store.rows store.rows_are store.whole told is_new) [
-      | inl refused ↦ tests-undone (commit_tested (session_of c) segment.inode segment.from patch started now s.tree) fault
+      | inl refused ↦
+          tests-undone (commit_tested (session_of c) segment.inode segment.from patch started now s.tree) fault
           (sym committing-same ∙ refused)
       | inr full ↦ absurd full.full
     ]
@@ -195,7 +214,8 @@ module _ (s : State) (g : Known) (v : Shared) (store : HasStore s.tree g v) (cli
 
     -- Its session or its file is gone, it comes too late, or the volume has no room. No other node is where no file is.
     pub commit-unmade : (content_at s.tree segment.inode ≡ None → node_at s.tree segment.inode ≡ None)
-        → Request s g g v left_shared client now f.id 0 (Quiet ∷ Answered (ToldRefused fault) ∷ []) (Done (reply.Refused fault)) s.tree
+        → Request s g g v left_shared client now f.id 0 (Quiet ∷ Answered (ToldRefused fault) ∷ [])
+        (Done (reply.Refused fault)) s.tree
         (after_told d.op (ToldRefused fault) c) s.copied
     commit-unmade file =
         same-ends s g v left_shared store (same-rows v keeper v.carrier (commits f.bytes at_once).undone) client now
@@ -206,10 +226,12 @@ module _ (s : State) (g : Known) (v : Shared) (store : HasStore s.tree g v) (cli
   -- The keeper failed, or memory ran out.
   pub commit-failed : (fault : Fault) → is_failure (ToldRefused fault) ≡ true → (row : RowFault)
       → CommitsRecord sid now segment.inode window (whole_record pos f) started v.keeper keeper (Err (OfRows row))
-      → Request s g g v left_shared client now f.id 0 (Answered (ToldRefused fault) ∷ []) (Done (reply.Refused fault)) s.tree
+      → Request s g g v left_shared client now f.id 0 (Answered (ToldRefused fault) ∷ []) (Done (reply.Refused fault))
+      s.tree
       (record c { doing = None }) s.copied
   commit-failed fault fails row commits =
-      failure-request s g v left_shared store (same-rows v keeper v.carrier (commits f.bytes at_once).undone) client now f.id d busy
+      failure-request s g v left_shared store (same-rows v keeper v.carrier (commits f.bytes at_once).undone) client now
+      f.id d busy
       (goes-working d quiets started at) fault fails
 
   -- Over whole rows no list has moved, and no row is Bad.
@@ -218,5 +240,6 @@ module _ (s : State) (g : Known) (v : Shared) (store : HasStore s.tree g v) (cli
   commit-unmoved list commits = (commits f.bytes at_once).lands store.rows store.rows_are store.whole told is_new
 
   pub commit-sound : (row : RowKey) (bytes : List ℕ)
-      → CommitsRecord sid now segment.inode window (whole_record pos f) started v.keeper keeper (Err (OfRows (Bad row bytes))) → ⊥
+      → CommitsRecord sid now segment.inode window (whole_record pos f) started v.keeper keeper
+      (Err (OfRows (Bad row bytes))) → ⊥
   commit-sound row bytes commits = (commits f.bytes at_once).lands store.rows store.rows_are store.whole told is_new

@@ -1,5 +1,6 @@
 -- A flush asks for the number of a segment's slice.
-use Rattle.std.proofs.Common.{◌≡◌, ℕ, ◌+◌, ◌≤◌, Bool, true, false, List, [], ◌∷◌, length, None, Some, Result, Ok, Err, refl, sym, ap, subst, ◌∙◌, arith}
+use Rattle.std.proofs.Common.{◌≡◌, ℕ, ◌+◌, ◌≤◌, Bool, true, false, List, [], ◌∷◌, length, None, Some, Result, Ok, Err}
+use Rattle.std.proofs.Common.{refl, sym, ap, subst, ◌∙◌, arith}
 use Rattle.std.specs.Prelude.{is_some, nat_le, nat_lt}
 use Rattle.std.proofs.lemmas.Bool.{le-leb, ltb-false, or_left}
 use Rattle.jv_model.specs.declared.limits.TheConstants.{FULL_COUNT, FILE_END}
@@ -47,11 +48,13 @@ use Rattle.jv_requests.proofs.RequestLaws.{request-of, same-ends, stays-same}
 
 -- ---- sessions, which no bytes of files change
 
-sessions-told : (bytes : ℕ → ℕ → ℕ) (rows : Rows) (sid : ℕ) → is_some (get (tree_of bytes rows).sessions sid) ≡ is_some (get (sessions_of rows) sid)
+sessions-told : (bytes : ℕ → ℕ → ℕ) (rows : Rows) (sid : ℕ)
+    → is_some (get (tree_of bytes rows).sessions sid) ≡ is_some (get (sessions_of rows) sid)
 unfolding tree_of
 sessions-told bytes rows sid = refl
 
-pub session-same : (s : State) (g : Known) (v : Shared) (store : HasStore s.tree g v) (c : ModelClient) (sid : ℕ) → sid ≡ session_of c
+pub session-same : (s : State) (g : Known) (v : Shared) (store : HasStore s.tree g v) (c : ModelClient) (sid : ℕ)
+    → sid ≡ session_of c
     → (bytes : ℕ → ℕ → ℕ) → is_some (get (tree_of bytes (typed store.rows)).sessions sid) ≡ has_session s.tree c
 session-same s g v store c sid own bytes =
     sessions-told bytes (typed store.rows) sid
@@ -76,14 +79,16 @@ module _ (sid next : ℕ) where
   why-not : (session room : Bool) (fault : Fault) → by_tests session room ≡ Err fault → WhyNot session room fault
   why-not false room fault e =
       NoSession refl (let same : ◌≡◌ {A = Result ℕ Fault} (Err (Stale (Session sid))) (Err fault) = e in cc)
-  why-not true false fault e = NoNumber refl refl (let same : ◌≡◌ {A = Result ℕ Fault} (Err NoSpace) (Err fault) = e in cc)
+  why-not true false fault e = NoNumber refl refl
+      (let same : ◌≡◌ {A = Result ℕ Fault} (Err NoSpace) (Err fault) = e in cc)
   why-not true true fault e = absurd (cc e)
 
 -- ---- the request
 
 module _ (s : State) (g : Known) (v : Shared) (store : HasStore s.tree g v) (client now : ℕ) (d : Doing)
     (busy : (s.clients client).doing ≡ Some d) (segment : Segment)
-    (next : next_segment d.flush (s.clients client).pending ≡ Some segment) (started : ℕ) (at : d.stage ≡ Working 0 started)
+    (next : next_segment d.flush (s.clients client).pending ≡ Some segment) (started : ℕ)
+    (at : d.stage ≡ Working 0 started)
     (keeper : Store) (sid : ℕ) (own : sid ≡ session_of (s.clients client)) where
   abbrev c : ModelClient
   c = s.clients client
@@ -103,71 +108,88 @@ module _ (s : State) (g : Known) (v : Shared) (store : HasStore s.tree g v) (cli
   -- a number was given
 
   module _ (id : ℕ) (takes : TakesNumber sid v.keeper keeper (Ok id)) where
-    given : (number_given sid (typed store.rows) (tree_of no_bytes (typed store.rows)) ≡ Ok id) × Numbered store.rows keeper.rows id
+    given : (number_given sid (typed store.rows) (tree_of no_bytes (typed store.rows)) ≡ Ok id)
+        × Numbered store.rows keeper.rows id
     given = takes.lands store.rows store.rows_are store.whole
 
     taken_grows : (bytes : List ℕ)
-        → Grows s g (with_size id (length bytes) g) v asked client now (Quiet ∷ []) More s.tree (at_stage (Working 1 0) d c) s.copied
+        → Grows s g (with_size id (length bytes) g) v asked client now (Quiet ∷ []) More s.tree
+        (at_stage (Working 1 0) d c) s.copied
     taken_grows bytes =
         let n = given.1 in
         let same : record_count (typed n.left) ≡ record_count (typed store.rows) =
-        record_count-stay (typed store.rows) (typed n.left) (stay-counters (typed store.rows) (typed n.left) n.others) in
+        record_count-stay (typed store.rows) (typed n.left) (stay-counters (typed store.rows) (typed n.left) n.others)
+        in
         let first = n.given in let then = n.next in
         left-grows s g (with_size id (length bytes) g) v store client now (Quiet ∷ []) More s.tree
         (at_stage (Working 1 0) d c) s.copied keeper n.left n.is (omega (arith, first, then)) (omega (arith, same))
 
     -- The operation goes on with this number, by which nothing was put yet.
-    pub number-taken : (bytes : List ℕ) → Request s g (with_size id (length bytes) g) v asked client now 0 id (Quiet ∷ []) More s.tree
+    pub number-taken : (bytes : List ℕ)
+        → Request s g (with_size id (length bytes) g) v asked client now 0 id (Quiet ∷ []) More s.tree
         (at_stage (Working 1 0) d c) s.copied
     number-taken bytes =
         let n = given.1 in
-        request-of s g (with_size id (length bytes) g) v asked client now (Quiet ∷ []) More s.tree (at_stage (Working 1 0) d c) s.copied 0 0 id
+        request-of s g (with_size id (length bytes) g) v asked client now (Quiet ∷ []) More s.tree
+        (at_stage (Working 1 0) d c) s.copied 0 0 id
         (λ start alone within. number-step start alone s client now d busy segment next started at
         (sym session-is ∙ given-session sid (next_slice (typed store.rows)) session_there number_there id given.0))
-        (number-leads s.tree g v store keeper v.carrier n.left id n.is n.whole n.low n.given n.next n.unknown n.same n.others (length bytes) 0)
+        (number-leads s.tree g v store keeper v.carrier n.left id n.is n.whole n.low n.given n.next n.unknown n.same
+        n.others (length bytes) 0)
         (taken_grows bytes)
         (apart-new g v 0 id
-        (number-apart s.tree g v store keeper v.carrier n.left id n.is n.whole n.low n.given n.next n.unknown n.same n.others))
+        (number-apart s.tree g v store keeper v.carrier n.left id n.is n.whole n.low n.given n.next n.unknown n.same
+        n.others))
         (stays-same s.tree)
 
-    pub number-taken_flies : (bytes : List ℕ) → Flies (with_size id (length bytes) g) asked (record { id = id; bytes = bytes; put = 0 })
+    pub number-taken_flies : (bytes : List ℕ)
+        → Flies (with_size id (length bytes) g) asked (record { id = id; bytes = bytes; put = 0 })
     number-taken_flies bytes =
         let n = given.1 in
-        number-flies s.tree g v store keeper v.carrier n.left id n.is n.whole n.low n.given n.next n.unknown n.same n.others bytes
+        number-flies s.tree g v store keeper v.carrier n.left id n.is n.whole n.low n.given n.next n.unknown n.same
+        n.others bytes
 
   -- it was refused
 
   abbrev RefusedAs : Fault → ModelClient → Type 0
   RefusedAs fault c =
-      Request s g g v asked client now 0 0 (Quiet ∷ Answered (ToldRefused fault) ∷ []) (Done (Refused fault)) s.tree c s.copied
+      Request s g g v asked client now 0 0 (Quiet ∷ Answered (ToldRefused fault) ∷ []) (Done (Refused fault)) s.tree c
+      s.copied
 
   module _ (fault : Fault) (takes : TakesNumber sid v.keeper keeper (Err (TxRefused fault))) where
     refused-by : (after : ModelClient) → ((start : Start) (alone : Bool) → IsWithin start s (rows_in v)
-        → IsStep start alone s client now (Quiet ∷ Answered (ToldRefused fault) ∷ []) (Done (Refused fault)) s.tree after s.copied)
+        → IsStep start alone s client now (Quiet ∷ Answered (ToldRefused fault) ∷ []) (Done (Refused fault)) s.tree
+        after s.copied)
         → RefusedAs fault after
     refused-by after steps =
-        same-ends s g v asked store (same-rows v keeper v.carrier takes.undone) client now (Quiet ∷ Answered (ToldRefused fault) ∷ [])
+        same-ends s g v asked store (same-rows v keeper v.carrier takes.undone) client now
+        (Quiet ∷ Answered (ToldRefused fault) ∷ [])
         (Done (Refused fault)) after steps 0
 
     crowded-by : (start : Start) → IsWithin start s (rows_in v) → number_there ≡ false → is_crowded start s ≡ true
     crowded-by start within full =
-        or_left (nat_le FULL_COUNT (start.next_slice + s.count)) (nat_le FULL_COUNT (start.records + s.count + FILE_END + s.copied))
+        or_left (nat_le FULL_COUNT (start.next_slice + s.count))
+        (nat_le FULL_COUNT (start.records + s.count + FILE_END + s.copied))
         (le-leb FULL_COUNT (start.next_slice + s.count)
-        (let high : FULL_COUNT ≤ next_slice (typed store.rows) = ltb-false (next_slice (typed store.rows)) FULL_COUNT full in
+        (let high : FULL_COUNT ≤ next_slice (typed store.rows) =
+        ltb-false (next_slice (typed store.rows)) FULL_COUNT full in
         let same : next_slice (rows_in v) ≡ next_slice (typed store.rows) = ap next_slice (rows_are s.tree g v store) in
         let low = within.numbers in omega (arith, high, same, low)))
 
-    by_why : WhyNot sid (next_slice (typed store.rows)) session_there number_there fault → RefusedAs fault (after_told d.op (ToldRefused fault) c)
+    by_why : WhyNot sid (next_slice (typed store.rows)) session_there number_there fault
+        → RefusedAs fault (after_told d.op (ToldRefused fault) c)
     by_why (NoSession gone same) =
         let is : fault ≡ Stale (Session (session_of c)) = same ∙ ap (λ sid. Stale (Session sid)) own in
         refused-by (after_told d.op (ToldRefused fault) c)
-        (λ start alone within. subst (λ f. IsStep start alone s client now (Quiet ∷ Answered (ToldRefused f) ∷ []) (Done (Refused f)) s.tree
-        (after_told d.op (ToldRefused f) c) s.copied) (sym is) (number-gone start alone s client now d busy segment next started at (sym session-is ∙ gone)))
+        (λ start alone within. subst (λ f. IsStep start alone s client now (Quiet ∷ Answered (ToldRefused f) ∷ [])
+        (Done (Refused f)) s.tree (after_told d.op (ToldRefused f) c) s.copied) (sym is)
+        (number-gone start alone s client now d busy segment next started at (sym session-is ∙ gone)))
     by_why (NoNumber there full same) =
         refused-by (after_told d.op (ToldRefused fault) c)
-        (λ start alone within. subst (λ f. IsStep start alone s client now (Quiet ∷ Answered (ToldRefused f) ∷ []) (Done (Refused f)) s.tree
-        (after_told d.op (ToldRefused f) c) s.copied) (sym same)
-        (number-crowded start alone s client now d busy segment next started at (sym session-is ∙ there) (crowded-by start within full)))
+        (λ start alone within. subst (λ f. IsStep start alone s client now (Quiet ∷ Answered (ToldRefused f) ∷ [])
+        (Done (Refused f)) s.tree (after_told d.op (ToldRefused f) c) s.copied) (sym same)
+        (number-crowded start alone s client now d busy segment next started at (sym session-is ∙ there)
+        (crowded-by start within full)))
 
     calm_by : WhyNot sid (next_slice (typed store.rows)) session_there number_there fault
         → is_failure (ToldRefused fault) ≡ false
@@ -183,18 +205,22 @@ module _ (s : State) (g : Known) (v : Shared) (store : HasStore s.tree g v) (cli
     -- The session is gone, or there are no more numbers.
     pub number-refused : RefusedAs fault (after_told d.op (ToldRefused fault) c)
     number-refused =
-        by_why (why-not sid (next_slice (typed store.rows)) session_there number_there fault (takes.lands store.rows store.rows_are store.whole))
+        by_why (why-not sid (next_slice (typed store.rows)) session_there number_there fault
+        (takes.lands store.rows store.rows_are store.whole))
 
   -- The keeper failed, or memory ran out.
   pub number-failed : (fault : Fault) → is_failure (ToldRefused fault) ≡ true → (row : RowFault)
       → TakesNumber sid v.keeper keeper (Err (OfRows row))
-      → Request s g g v asked client now 0 0 (Answered (ToldRefused fault) ∷ []) (Done (Refused fault)) s.tree (record c { doing = None }) s.copied
+      → Request s g g v asked client now 0 0 (Answered (ToldRefused fault) ∷ []) (Done (Refused fault)) s.tree
+      (record c { doing = None }) s.copied
   number-failed fault fails row takes =
-      failure-request s g v asked store (same-rows v keeper v.carrier takes.undone) client now 0 d busy (goes-working d 0 started at) fault fails
+      failure-request s g v asked store (same-rows v keeper v.carrier takes.undone) client now 0 d busy
+      (goes-working d 0 started at) fault fails
 
   -- Over whole rows no list has moved, and no row is Bad.
   pub number-unmoved : (list : List Rec) → TakesNumber sid v.keeper keeper (Err (Moved list)) → ⊥
   number-unmoved list takes = takes.lands store.rows store.rows_are store.whole
 
-  pub number-sound : (row : RowKey) (bytes : List ℕ) → TakesNumber sid v.keeper keeper (Err (OfRows (Bad row bytes))) → ⊥
+  pub number-sound : (row : RowKey) (bytes : List ℕ)
+      → TakesNumber sid v.keeper keeper (Err (OfRows (Bad row bytes))) → ⊥
   number-sound row bytes takes = takes.lands store.rows store.rows_are store.whole

@@ -42,9 +42,12 @@ module _ (s : State) (g : Known) (v : Shared) (store : HasStore s.tree g v) (cli
   abbrev then_shared : Shared
   then_shared = record v { yard = yard; carrier = carrier }
 
-  -- The block was put: the operation goes on, and the moment of the first block is kept. How the slice flies then, put-step_flies says.
-  module _ (segment : Segment) (next : next_segment d.flush (s.clients client).pending ≡ Some segment) (asked : 0 < quiets)
-      (flies : Flies g v f) (short : length f.bytes ≤ WINDOW) (more : f.put < block_count (length f.bytes) v.yard.setting.block)
+  -- The block was put: the operation goes on, and the moment of the first block is kept. How the slice flies then is
+  -- said by put-step_flies.
+  module _ (segment : Segment) (next : next_segment d.flush (s.clients client).pending ≡ Some segment)
+      (asked : 0 < quiets) (flies : Flies g v f)
+      (short : length f.bytes ≤ WINDOW)
+      (more : f.put < block_count (length f.bytes) v.yard.setting.block)
       (puts : PutsFlight client now f v.yard yard v.carrier carrier (Ok tt)) where
     abbrev learned : Known
     learned = with_block (flight_block v.yard.setting.block f f.put) (flight_bytes v.yard.setting.block f f.put) g
@@ -57,13 +60,14 @@ module _ (s : State) (g : Known) (v : Shared) (store : HasStore s.tree g v) (cli
         v (record v { yard = yard; carrier = carrier }) client now f.id f.id (Quiet ∷ []) More s.tree
         (at_stage (Working (quiets + 1) (if quiets == 1 then now else started)) d (s.clients client)) s.copied
     put-request =
-        request-of s g learned v then_shared client now (Quiet ∷ []) More s.tree (at_stage stage d c) s.copied f.id f.id f.id
+        request-of s g learned v then_shared client now (Quiet ∷ []) More s.tree (at_stage stage d c) s.copied
+        f.id f.id f.id
         (λ start alone within. put-step start alone s client now d busy segment next quiets started at asked)
         (put-step_leads v f client now yard carrier s.tree g store flies short more puts)
         (record { numbers = omega arith; records = omega arith })
         (apart-own g v f.id) (stays-same s.tree)
 
-  -- The block wasn't put: the operation ends, and all is as before. That the slice still flies, unput-flies says.
+  -- The block wasn't put: the operation ends, and all is as before, the slice's flight too, by unput-flies.
   pub put-failed : (fault : PutFault) → PutsFlight client now f v.yard yard v.carrier carrier (Err fault)
       → Request s g g v (record v { yard = yard; carrier = carrier }) client now f.id 0
       (Answered (ToldRefused (fault_of fault)) ∷ []) (Done (Refused (fault_of fault))) s.tree
