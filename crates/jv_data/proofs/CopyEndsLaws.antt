@@ -1,6 +1,6 @@
 -- How a copy ends, by the model's.
 use Rattle.std.proofs.Common.{◌≡◌, ◌≢◌, ℕ, ◌+◌, ◌-◌, ◌<◌, ◌≤◌, inr, Bool, true, false, List, [], Option, None, Some, Result, Ok, Err, refl, sym, ap, subst, ◌∙◌, arith}
-use Rattle.std.specs.Prelude.{◌==◌, ◌&&◌, not, min, max, nat_le, is_some, IsTrue}
+use Rattle.std.specs.Prelude.{◌==◌, ◌&&◌, not, min, max, nat_le, is_some, IfErr, IsTrue}
 use Rattle.std.specs.Option.{option_map}
 use Rattle.std.proofs.lemmas.Bool.{and_from, or_right, le-leb, leb-true, eqb-false, ne_eqb}
 use Rattle.jv_model.specs.declared.fault.Down.{Down}
@@ -42,7 +42,7 @@ use Rattle.jv_volume.specs.Whole.{Whole}
 use Rattle.jv_contents.specs.Bytes.{Told, bytes_of, tree_with}
 use Rattle.jv_contents.proofs.KeepLaws.{keeps-stay}
 use Rattle.jv_data.specs.declared.copying.Course.{Course}
-use Rattle.jv_data.specs.Changing.{Makes, AnyTold, IsCrowded, IsFull, Changed, LandsChanged, Changes}
+use Rattle.jv_data.specs.Changing.{Makes, AnyTold, IsCrowded, IsFull, Changed, LandsChanged, Changes, count_in}
 use Rattle.jv_data.specs.Committing.{HasFile, length_seen}
 use Rattle.jv_data.specs.Copying.{Copying, CopiesLists}
 use Rattle.jv_data.specs.Resizing.{ResizesFile, AreSized}
@@ -101,8 +101,9 @@ adjusts-as gone came added due before after changes changed result none same a =
     subst (λ (l : List Rec). Adjusts l added due before after changes changed result) none (subst (λ (l : List Rec). Adjusts gone l due before after changes changed result) same a)
 
 module _ (sid now src dst from to len : ℕ) (due : Setting → ℕ) where
-  abbrev pub makes : Makes
-  makes = record { own = 0; size = 0; more = len; due = due }
+  -- by the number of bytes that were copied
+  abbrev pub makes : ℕ → Makes
+  makes count = record { own = 0; size = 0; more = count; due = due }
 
   -- of so many bytes
   abbrev last_step : ℕ → Tree → Result Outcome Fault
@@ -129,10 +130,10 @@ module _ (sid now src dst from to len : ℕ) (due : Setting → ℕ) where
   with_target t n = length_seen sid dst t >>= (λ m. starting (min len (n - from)) t)
 
   abbrev pub Ends : Store → Store → Result ℕ TxFault → Type 0
-  Ends before after result = Changes {A = ℕ} makes AnyTold (IsCrowded len) before after result (λ n. Count n) act
+  Ends before after result = Changes {A = ℕ} (makes (count_in result)) AnyTold (IsCrowded FILE_END) before after result (λ n. Count n) act
 
   ends-refused : (before after : Store) (fault : TxFault) → Looks {A = Outcome} before after (Err fault) act → Ends before after (Err fault)
-  ends-refused before after fault l = changes-refused {A = ℕ} makes (IsCrowded len) (λ n. Count n) before after act fault l
+  ends-refused before after fault l = changes-refused {A = ℕ} (makes 0) (IsCrowded FILE_END) (λ n. Count n) before after act fault l
 
   past_start : (before : Store) → Past before before act (λ t. length_seen sid src t >>= with_target t)
   past_start before = past-as before before before act act (past-start before act) (λ t. length_seen sid src t >>= with_target t) (λ known is whole bytes.
@@ -205,7 +206,7 @@ module _ (sid now src dst from to len : ℕ) (due : Setting → ℕ) where
               left = known;
               is = past_within.rows_are ∙ is;
               whole = whole;
-              others = keeps-stay (typed known) (typed known) (λ key of. refl) 0 len refl;
+              others = keeps-stay (typed known) (typed known) (λ key of. refl) 0 0 refl;
               size = λ slice here. (let no = whole.slices.none in absurd (cc));
               dies = λ setting set id slice here gone. absurd (cc);
               model = past_within.goes_on known is whole (bytes_of told (typed known))
@@ -315,21 +316,25 @@ module _ (sid now src dst from to len : ℕ) (due : Setting → ℕ) where
                   y : Copying course n (typed known) sized_known (drafted d2 known) added
                   y = subst (λ (rows : Rows). Copying course n (typed known) rows (drafted d2 known) added) s.is (z.copied known (at_sized known is))
 
-                  crowded : (fault : Fault) → FailsToRecount [] added d2 lists.rows (Refused fault) → IsFull (IsCrowded len) (typed known) fault
-                  crowded fault f = record {
+                  crowded : (told : Told) (fault : Fault) → FailsToRecount [] added d2 lists.rows (Refused fault)
+                      → IsFull (IsCrowded FILE_END) (typed known) fault (act (tree_with told (typed known)))
+                  crowded told fault f = record {
                     fault_is = f.why.0;
                     full =
                         (let p = named_is added f.id f.named in
                         let full = of_known (λ known. CountIsFull f.id 0 (records_naming f.id added) (drafted d2 known)) lists.rows known (at_lists known is) f.why.1 in
                         let many = crowded-copied (typed known) course target s.counters now length whole (target_there known is) g.file s.there small refl
                         (drafted d2 known) added y f.id (omega (arith, p.0)) full in
-                        omega (arith, many, n_is));
+                        let end = leb-true (to + n) FILE_END within in
+                        omega (arith, many, end));
+                    otherwise = subst (λ (r : Result Outcome Fault). IfErr r (λ other. other ≡ NoSpace))
+                        (sym (past_lists.goes_on known is whole (bytes_of told (typed known)))) tt;
                   }
 
                 -- counts that didn't follow
                 lands_uncounted : (after : Store) (fault : TxFault) → RefusesAdjust [] added d2 lists.rows fault → (known : RowMap) → before.rows ≡ Some known → Whole (typed known)
-                    → (told : Told) → LandsChanged {A = ℕ} makes (IsCrowded len) known after.rows told (λ n. Count n) act (Err fault)
-                lands_uncounted after (Refused fault) f known is whole told = inr (crowded known is whole fault f)
+                    → (told : Told) → LandsChanged {A = ℕ} (makes 0) (IsCrowded FILE_END) known after.rows told (λ n. Count n) act (Err fault)
+                lands_uncounted after (Refused fault) f known is whole told = inr (crowded known is whole told fault f)
                 lands_uncounted after (Moved list) f known is whole told = f
                 lands_uncounted after (OfRows (Bad at bad)) f known is whole told = never_bad at bad f known (at_lists known is)
                 lands_uncounted after (OfRows Failed) f known is whole told = tt
@@ -369,28 +374,28 @@ module _ (sid now src dst from to len : ℕ) (due : Setting → ℕ) where
                     adjusted : Adjusted [] added 0 (drafted d2 known) left
                     adjusted = of_known (λ known. Adjusted [] added 0 (drafted d2 known) (drafted d3 known)) lists.rows known (at_lists known is) a.done
 
-                    few : n ≤ len
-                    few = omega (arith, n_is)
+                    few : n ≤ n
+                    few = omega arith
 
                     whole_left : Whole left
                     whole_left = whole-copied (typed known) course target t_sized.counters now length whole (target_there known is) g.file t_sized.there (small known is whole) refl
-                        (drafted d2 known) added (y known is whole) len 0 few left adjusted t_sized.given
+                        (drafted d2 known) added (y known is whole) n 0 few left adjusted t_sized.given
 
-                    changed : (told : Told) → Changed makes known last.rows told (Count n) act
+                    changed : (told : Told) → Changed (makes n) known last.rows told (Count n) act
                     unfolding drafted
                     changed told = record {
                       left = applied d3 known;
                       is = commits.rows_are ∙ ap (option_map (applied d3)) (past_counted.rows_are ∙ is);
                       whole = whole_left;
                       others = others-copied (typed known) course target t_sized.counters now length whole (target_there known is) g.file t_sized.there (small known is whole) refl
-                          (drafted d2 known) added (y known is whole) len 0 few left adjusted t_sized.given;
+                          (drafted d2 known) added (y known is whole) n 0 few left adjusted t_sized.given;
                       size = λ slice here. (let none = whole_left.slices.none in absurd (cc));
                       dies = λ setting set id slice here gone. absurd (lives-copied (typed known) course target t_sized.counters now length whole (target_there known is) g.file
-                          t_sized.there (small known is whole) refl (drafted d2 known) added (y known is whole) len 0 few left adjusted id slice here gone);
+                          t_sized.there (small known is whole) refl (drafted d2 known) added (y known is whole) n 0 few left adjusted id slice here gone);
                       model = past_counted.goes_on known is whole (bytes_of told (typed known))
                           ∙ ap (λ (x : Tree). answered x (Count n)) (copied_is known is whole (bytes_of told (typed known))
                           ∙ sym (tree-copied_lists (typed known) course target t_sized.counters now length whole (target_there known is) g.file t_sized.there (small known is whole) refl
-                          (drafted d2 known) added (y known is whole) len 0 few left adjusted told source (source_there known is) h.file));
+                          (drafted d2 known) added (y known is whole) n 0 few left adjusted told source (source_there known is) h.file));
                     }
 
                   pub copy-done : (last : Store) → Commits counted last (Ok tt) d3 → Ends before last (Ok n)
@@ -412,8 +417,8 @@ copy-as t caller sid now src dst from to len due s n i o = λ k. act (s k) (n k)
 pub ends-as : (who : Who) (src dst from to len now : ℕ) (due : Setting → ℕ) (before after : Store) (result : Result ℕ TxFault) → now ≡ who.now
     → Ends who.sid now src dst from to len due before after result
     → (caller : Caller) → IsFor who caller → caller.inode ≡ src → caller.other ≡ dst
-    → Changes {A = ℕ} (record { own = 0; size = 0; more = len; due = due }) AnyTold (IsCrowded len) before after result (λ n. Count n) (λ t. copy t caller from to len)
+    → Changes {A = ℕ} (record { own = 0; size = 0; more = count_in result; due = due }) AnyTold (IsCrowded FILE_END) before after result (λ n. Count n) (λ t. copy t caller from to len)
 ends-as who src dst from to len now due before after result now_is e caller for of to_other =
     subst (λ (act : Tree → Result Outcome Fault).
-    Changes {A = ℕ} (record { own = 0; size = 0; more = len; due = due }) AnyTold (IsCrowded len) before after result (λ n. Count n) act)
+    Changes {A = ℕ} (record { own = 0; size = 0; more = count_in result; due = due }) AnyTold (IsCrowded FILE_END) before after result (λ n. Count n) act)
     (λ i t. sym (copy-as t caller who.sid now src dst from to len due for.sid (for.now ∙ sym now_is) of to_other) i) e

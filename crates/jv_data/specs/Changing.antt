@@ -44,14 +44,15 @@ pub record Changed (makes : Makes) (known : RowMap) (after : Option RowMap) (tol
   pub dies : DieUntil makes.due (typed known) (typed left)
   pub model : act (tree_with told (typed known)) ≡ Ok (record { tree = tree_with told (typed left); reply = reply })
 
--- a slice can't be named more often, which the tree doesn't see
-pub record IsFull (crowded : Rows → Type 0) (rows : Rows) (fault : Fault) : Type 0 where
+-- a slice can't be named more often, which the tree doesn't see, and the model's transaction is refused for no other reason
+pub record IsFull (crowded : Rows → Type 0) (rows : Rows) (fault : Fault) (wanted : Result Outcome Fault) : Type 0 where
   pub fault_is : fault ≡ NoSpace
   pub full : crowded rows
+  pub otherwise : IfErr wanted (λ other. other ≡ NoSpace)
 
 abbrev pub LandsChanged : {A : Type 0} → Makes → (Rows → Type 0) → RowMap → Option RowMap → Told → (A → Reply) → (Tree → Result Outcome Fault) → Result A TxFault → Type 0
 LandsChanged makes crowded known after told reply act (Ok x) = Changed makes known after told (reply x) act
-LandsChanged makes crowded known after told reply act (Err (Refused fault)) = (act (tree_with told (typed known)) ≡ Err fault) ⊎ IsFull crowded (typed known) fault
+LandsChanged makes crowded known after told reply act (Err (Refused fault)) = (act (tree_with told (typed known)) ≡ Err fault) ⊎ IsFull crowded (typed known) fault (act (tree_with told (typed known)))
 LandsChanged makes crowded known after told reply act (Err (Moved list)) = ⊥
 LandsChanged makes crowded known after told reply act (Err (OfRows (Bad at bytes))) = ⊥
 LandsChanged makes crowded known after told reply act (Err (OfRows Failed)) = Unit {0}
@@ -75,6 +76,11 @@ Never rows = ⊥
 -- so many more records could name a slice more often than may be
 abbrev pub IsCrowded : ℕ → Rows → Type 0
 IsCrowded more rows = FULL_COUNT < record_count rows + more
+
+-- how many bytes a transaction says that it copied, none where it didn't
+abbrev pub count_in : Result ℕ TxFault → ℕ
+count_in (Ok count) = count
+count_in (Err fault) = 0
 
 -- whatever is told
 abbrev pub AnyTold : Rows → Told → Type 0

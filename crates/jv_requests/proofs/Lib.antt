@@ -1,5 +1,10 @@
 -- What is proved of requests.
-pub mod RequestLaws
+pub mod ChangeLaws
+pub mod CommitLaws
+pub mod GetLaws
+pub mod LandedLaws
+pub mod LookLaws
 pub mod NumberLaws
 pub mod PutLaws
-pub mod CommitLaws
+pub mod RequestLaws
+pub mod StillLaws

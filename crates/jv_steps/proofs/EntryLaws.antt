@@ -1,44 +1,30 @@
 -- What one entry of a client's operation leaves.
-use Rattle.std.proofs.Common.{◌≡◌, ℕ, ◌+◌, Bool, true, false, ◌∷◌, Option, None, refl, ap, ◌∙◌}
+use Rattle.std.proofs.Common.{◌≡◌, ℕ, ◌+◌, false, Option, refl, ap, ◌∙◌}
 use Rattle.std.specs.Prelude.{if◌then◌else◌, Some}
 use Rattle.jv_model.specs.declared.act.Told.{Told}
 use Rattle.jv_model.specs.declared.act.Told.TheVariants.{Fine, Looks, Refused as ToldRefused}
-use Rattle.jv_model.specs.declared.fault.Fault.{Fault}
-use Rattle.jv_model.specs.declared.fault.Fault.TheVariants.{Stale}
-use Rattle.jv_model.specs.declared.fault.Gone.TheVariants.{Session, Node}
 use Rattle.jv_model.specs.declared.op.Op.{Op}
-use Rattle.jv_model.specs.declared.op.Op.TheVariants as op
 use Rattle.jv_model.specs.declared.op.Reply.TheVariants as reply
-use Rattle.jv_model.specs.tree.Tree.{Tree}
 use Rattle.jv_model.specs.tree.FileBytes.{truncated, copied}
-use Rattle.jv_model.specs.client.Profile.{handle_of}
-use Rattle.jv_model.specs.client.ModelClient.{ModelClient, Doing, Stage, Replying, with_stage, views_without}
-use Rattle.jv_model.specs.journal.State.{State, after_quiet, after_look, after_truncation, after_copy, after_told, quieted, finished, refused_as, view_now, looked, compaction_looked, is_compaction, with_client}
+use Rattle.jv_model.specs.client.ModelClient.{ModelClient, Doing, Stage, Replying, with_stage}
+use Rattle.jv_model.specs.journal.State.{State, after_quiet, after_look, after_truncation, after_copy, after_told}
+use Rattle.jv_model.specs.journal.State.{quieted, view_now, looked, compaction_looked}
+use Rattle.jv_model.specs.journal.State.{is_compaction, with_client}
 use Rattle.jv_steps.specs.Leaves.{Leaves}
-use Rattle.jv_steps.specs.Stages.{at_stage}
+use Rattle.jv_steps.specs.IsStep.{at_stage}
+use Rattle.jv_steps.specs.Stages.{with_look, without_views}
+use Rattle.jv_steps.proofs.CommitStepLaws.{finished-doing}
+use Rattle.jv_steps.proofs.FlushStepLaws.{refused-doing}
 use Rattle.jv_steps.proofs.StepFormLaws.{with_stage-doing, leaves-one}
 
 -- ---- answers
 
-finished-staged : (o : Op) (c : ModelClient) (doing : Option Doing)
-    → record (finished o (record c { doing = doing })) { doing = None } ≡ record (finished o c) { doing = None }
-finished-staged op.Umount c doing = refl
-finished-staged (op.Close handle) c doing = refl
-finished-staged (op.Write handle offset bytes) c doing = refl
-finished-staged _ c doing = refl
-
-refused-staged : (fault : Fault) (c : ModelClient) (doing : Option Doing)
-    → record (refused_as fault (record c { doing = doing })) { doing = None } ≡ record (refused_as fault c) { doing = None }
-refused-staged (Stale (Session sid)) c doing = refl
-refused-staged (Stale (Node inode)) c doing = refl
-refused-staged _ c doing = refl
-
 -- what an answer leaves doesn't depend on how far the operation was
 pub told-staged : (o : Op) (told : Told) (c : ModelClient) (doing : Option Doing)
     → after_told o told (record c { doing = doing }) ≡ after_told o told c
-told-staged o (Fine a b d e) c doing = finished-staged o c doing
-told-staged o (Looks first second len) c doing = finished-staged o c doing
-told-staged o (ToldRefused fault) c doing = refused-staged fault c doing
+told-staged o (Fine a b d e) c doing = finished-doing o c doing
+told-staged o (Looks first second len) c doing = finished-doing o c doing
+told-staged o (ToldRefused fault) c doing = refused-doing fault c doing
 
 -- ---- requests
 
@@ -48,21 +34,19 @@ module _ (s : State) (client now : ℕ) (d : Doing) (busy : (s.clients client).d
 
   -- a request that changed nothing of the tree
   pub leaves-quiet : (stage : Stage) → quieted s client mine now d d.stage ≡ stage
-      → Leaves s (record (after_quiet s client now d) { count = s.count + 1 }) client 1 s.tree (at_stage stage d mine) s.copied
+      → Leaves s (record (after_quiet s client now d) { count = s.count + 1 }) client 1 s.tree
+      (at_stage stage d mine) s.copied
   leaves-quiet stage at = leaves-one s (after_quiet s client now d) client s.tree (at_stage stage d mine) s.copied refl
       (ap (with_client s.clients client)
       (with_stage-doing (quieted s client mine now d d.stage) mine d busy ∙ ap (λ stage. at_stage stage d mine) at))
       refl
 
   -- a look of a reading
-  abbrev pub with_view : ℕ → ℕ → ModelClient
-  with_view inode window = record mine { views = view_now s (handle_of d.op) inode window ∷ mine.views }
-
   pub leaves-look : (inode window : ℕ) (stage : Stage) → is_compaction d.does ≡ false → looked d.stage ≡ stage
       → Leaves s (record (after_look s client inode window d) { count = s.count + 1 }) client 1 s.tree
-      (at_stage stage d (with_view inode window)) s.copied
+      (at_stage stage d (with_look s d inode window mine)) s.copied
   leaves-look inode window stage reads at =
-      let seen = with_view inode window in
+      let seen = with_look s d inode window mine in
       let compacted = with_stage (compaction_looked (view_now s 0 inode window) d.stage) mine in
       leaves-one s (after_look s client inode window d) client s.tree (at_stage stage d seen) s.copied refl
       (ap (with_client s.clients client)
@@ -70,23 +54,26 @@ module _ (s : State) (client now : ℕ) (d : Doing) (busy : (s.clients client).d
       ∙ with_stage-doing (looked d.stage) seen d busy ∙ ap (λ stage. at_stage stage d seen) at))
       refl
 
-  abbrev pub without_views : ℕ → ModelClient
-  without_views inode = record mine { views = views_without inode mine.views }
-
   -- a file was cut, or lengthened
   pub leaves-truncated : (inode len : ℕ)
-      → Leaves s (record (after_truncation s client now inode len d) { count = s.count + 1 }) client 1 (truncated s.tree now inode len)
-      (at_stage (Replying reply.Done) d (without_views inode)) s.copied
+      → Leaves s (record (after_truncation s client now inode len d) { count = s.count + 1 }) client 1
+      (truncated s.tree now inode len)
+      (at_stage (Replying reply.Done) d (without_views inode mine)) s.copied
   leaves-truncated inode len =
       leaves-one s (after_truncation s client now inode len d) client (truncated s.tree now inode len)
-      (at_stage (Replying reply.Done) d (without_views inode)) s.copied refl
-      (ap (with_client s.clients client) (with_stage-doing (Replying reply.Done) (without_views inode) d busy)) refl
+      (at_stage (Replying reply.Done) d (without_views inode mine)) s.copied refl
+      (ap (with_client s.clients client) (with_stage-doing (Replying reply.Done) (without_views inode mine) d busy))
+      refl
 
   -- bytes were copied into a file
   pub leaves-copied : (source from target to len : ℕ)
       → Leaves s (record (after_copy s client now source from target to len d) { count = s.count + 1 }) client 1
-      (copied s.tree now source from target to len) (at_stage (Replying (reply.Count len)) d (without_views target)) (s.copied + len)
+      (copied s.tree now source from target to len)
+      (at_stage (Replying (reply.Count len)) d (without_views target mine))
+      (s.copied + len)
   leaves-copied source from target to len =
-      leaves-one s (after_copy s client now source from target to len d) client (copied s.tree now source from target to len)
-      (at_stage (Replying (reply.Count len)) d (without_views target)) (s.copied + len) refl
-      (ap (with_client s.clients client) (with_stage-doing (Replying (reply.Count len)) (without_views target) d busy)) refl
+      leaves-one s (after_copy s client now source from target to len d) client
+      (copied s.tree now source from target to len)
+      (at_stage (Replying (reply.Count len)) d (without_views target mine)) (s.copied + len) refl
+      (ap (with_client s.clients client) (with_stage-doing (Replying (reply.Count len)) (without_views target mine) d
+      busy)) refl

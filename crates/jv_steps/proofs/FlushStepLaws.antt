@@ -150,7 +150,7 @@ module _ (start : Start) (alone : Bool) (s : State) (client now : ℕ) (d : Doin
       (Refuses NoSpace refl (NumberRefused refl
       (crowded-later start s (requested s client now d busy Quiet) refl refl crowded) refl) refl)
 
--- the request for a block of it: from the second request of the segment on, whose moment is when the first block was put
+-- the request for a block of it: the second one of a segment, whose moment is kept, or a later one
 
 module _ (quiets now started : ℕ) where
   blocks-first : (b : Bool) → (b ≡ true → quiets ≡ 1)

@@ -1,7 +1,7 @@
 -- Steps of a reading that look at a window of its file, or are refused that.
-use Rattle.std.proofs.Common.{◌≡◌, ℕ, zero, Bool, true, false, [], ◌∷◌, Option, None, Some, refl, sym, ap, subst, ◌∙◌}
+use Rattle.std.proofs.Common.{◌≡◌, ℕ, Bool, true, false, List, [], ◌∷◌, Option, None, Some, refl, sym, ap, subst, ◌∙◌}
 use Rattle.std.specs.Option.{option_map}
-use Rattle.std.specs.Prelude.{◌&&◌, ◌||◌, ◌==◌, if◌then◌else◌, IsSomeAnd, IsTrue, MatchBool, is_some, not}
+use Rattle.std.specs.Prelude.{◌||◌, if◌then◌else◌, IsSomeAnd, MatchBool, is_some, not}
 use Rattle.jv_model.specs.declared.act.ActKind.TheVariants.{Answered, Quiet, Look}
 use Rattle.jv_model.specs.declared.act.Told.{Told}
 use Rattle.jv_model.specs.declared.act.Told.TheVariants.{Refused as ToldRefused}
@@ -11,18 +11,21 @@ use Rattle.jv_model.specs.declared.fault.Gone.TheVariants.{Session, Node}
 use Rattle.jv_model.specs.declared.op.Reply.{Reply}
 use Rattle.jv_model.specs.declared.op.Reply.TheVariants as reply
 use Rattle.jv_model.specs.declared.op.Step.TheVariants.{More, Done}
-use Rattle.jv_model.specs.declared.profile.Does.{Does}
 use Rattle.jv_model.specs.declared.profile.Does.TheVariants.{Reads}
 use Rattle.jv_model.specs.tree.Tree.{Tree, Node as TreeNode, node_at}
-use Rattle.jv_model.specs.client.ModelClient.{ModelClient, OpenFile, Doing, Stage, Working, Reading, Replying, session_of, inode_at, inode_in}
+use Rattle.jv_model.specs.client.ModelClient.{ModelClient, OpenFile, Doing, Stage, Reading, Replying, session_of}
+use Rattle.jv_model.specs.client.ModelClient.{inode_at, inode_in}
 use Rattle.jv_model.specs.client.Profile.{handle_of}
-use Rattle.jv_model.specs.client.Submission.{is_flushed}
-use Rattle.jv_model.specs.journal.State.{State, after_told, has_session, is_compaction, look_refusal, looked, begun_quietly, quieted, sees_first, view_now, is_of_another}
-use Rattle.jv_model.specs.journal.Steps.{Start, IsRefusedIn, SessionGone, InodeGone, LooksAt, CompactionLooks, MayStep, MayAnswer, MayLook, Refuses, Settles, file_in_use, is_missing, may_be_quiet, may_read_on, window_to_look}
+use Rattle.jv_model.specs.journal.State.{State, after_told, has_session, is_compaction, look_refusal, looked}
+use Rattle.jv_model.specs.journal.State.{quieted, sees_first, is_of_another}
+use Rattle.jv_model.specs.journal.Steps.{Start, IsRefusedIn, SessionGone, InodeGone, LooksAt, CompactionLooks}
+use Rattle.jv_model.specs.journal.Steps.{MayStep, MayAnswer, Refuses, Settles, file_in_use, is_missing}
+use Rattle.jv_model.specs.journal.Steps.{may_be_quiet, may_read_on, window_to_look}
 use Rattle.jv_model.specs.journal.Past.{reply_of}
-use Rattle.jv_model.specs.journal.Reading.{asked_parts}
-use Rattle.jv_steps.specs.IsStep.{IsStep}
-use Rattle.jv_steps.specs.Stages.{MayRead, Begins, GoesOn, at_stage}
+use Rattle.jv_model.specs.journal.Reading.{Asked, asked_parts, fresh_view, part_to_look}
+use Rattle.jv_steps.specs.IsStep.{IsStep, at_stage}
+use Rattle.jv_steps.specs.Leaves.{Leaves}
+use Rattle.jv_steps.specs.Stages.{MayRead, Begins, GoesOn, with_look}
 use Rattle.jv_steps.proofs.ReadyLaws.{quieted-reads, quiet-reads}
 use Rattle.jv_steps.proofs.StepFormLaws.{requested, step-on, step-answered}
 use Rattle.jv_steps.proofs.EntryLaws.{told-staged, leaves-look, leaves-quiet}
@@ -41,26 +44,55 @@ module _ (c : ModelClient) (d : Doing) (misses : ℕ) where
   -- it looks at the same window once it made a request
   pub window-reads : MayRead c d misses → (file : OpenFile)
       → window_to_look c (record d { stage = Reading misses }) file ≡ window_to_look c d file
-  window-reads (Begins started at flushed first) file = sym (ap (λ stage. window_to_look c (record d { stage = stage }) file) at)
+  window-reads (Begins started at flushed first) file = sym
+      (ap (λ stage. window_to_look c (record d { stage = stage }) file) at)
   window-reads (GoesOn at) file = sym (ap (λ stage. window_to_look c (record d { stage = stage }) file) at)
+
+-- the window that it looks at is that of the part that has to be looked at
+pub window-needed : (c : ModelClient) (d : Doing) (misses offset len : ℕ) → d.does ≡ Reads offset len
+    → MayRead c d misses
+    → (file : OpenFile) → window_to_look c d file
+    ≡ option_map (λ (asked : Asked). asked.window) (part_to_look c.views (handle_of d.op) file (asked_parts offset len))
+window-needed c d misses offset len does may file =
+    sym (window-reads c d misses may file)
+    ∙ ap (λ does. window_to_look c (record d { stage = Reading misses; does = does }) file) does
+    ∙ by_part (part_to_look c.views (handle_of d.op) file (asked_parts offset len))
+  where
+    by_part : (o : Option Asked) → elim o as (λ _. Option ℕ) [ None ↦ None | Some asked ↦ Some asked.window ]
+        ≡ option_map (λ (asked : Asked). asked.window) o
+    by_part None = refl
+    by_part (Some asked) = refl
+
+-- whether a reading has a view of its first window
+abbrev sees_by : ModelClient → ℕ → Option OpenFile → List Asked → Bool
+sees_by c handle None parts = false
+sees_by c handle (Some file) [] = false
+sees_by c handle (Some file) (asked ∷ others) = is_some (fresh_view c.views handle file asked.window)
+
+pub sees_first-is : (c : ModelClient) (d : Doing) (file : OpenFile) → file_in_use c d ≡ Some file → (asked : Asked)
+    (others : List Asked)
+    → sees_first c d (asked ∷ others) ≡ is_some (fresh_view c.views (handle_of d.op) file asked.window)
+sees_first-is c d file opened asked others = ap (λ o. sees_by c (handle_of d.op) o (asked ∷ others)) opened
 
 -- ---- why a look is refused
 
+abbrev refused_by : Tree → ModelClient → ℕ → Bool → Option Reply
+refused_by t c inode b = (if not b then Some (reply.Refused (Stale (Session (session_of c))))
+    else if is_some (node_at t inode) then None
+    else Some (reply.Refused (Stale (Node inode))))
+
 pub look_refused-session : (t : Tree) (c : ModelClient) (inode : ℕ) → has_session t c ≡ false
     → look_refusal t c inode ≡ Some (reply.Refused (Stale (Session (session_of c))))
-look_refused-session t c inode gone =
-    ap (λ b. if not b then Some (reply.Refused (Stale (Session (session_of c)))) else if is_some (node_at t inode)
-    then None else Some (reply.Refused (Stale (Node inode)))) gone
+look_refused-session t c inode gone = ap (refused_by t c inode) gone
 
 pub look_refused-node : (t : Tree) (c : ModelClient) (inode : ℕ) → has_session t c ≡ true → node_at t inode ≡ None
     → look_refusal t c inode ≡ Some (reply.Refused (Stale (Node inode)))
 look_refused-node t c inode there gone =
-    ap (λ b. if not b then Some (reply.Refused (Stale (Session (session_of c)))) else if is_some (node_at t inode)
-    then None else Some (reply.Refused (Stale (Node inode)))) there
+    ap (refused_by t c inode) there
     ∙ ap (λ (o : Option TreeNode). if is_some o then None else Some (reply.Refused (Stale (Node inode)))) gone
 
-module _ (start : Start) (alone : Bool) (s : State) (client now : ℕ) (d : Doing) (busy : (s.clients client).doing ≡ Some d)
-    (offset len : ℕ) (does : d.does ≡ Reads offset len) where
+module _ (start : Start) (alone : Bool) (s : State) (client now : ℕ) (d : Doing)
+    (busy : (s.clients client).doing ≡ Some d) (offset len : ℕ) (does : d.does ≡ Reads offset len) where
   abbrev mine : ModelClient
   mine = s.clients client
 
@@ -69,105 +101,116 @@ module _ (start : Start) (alone : Bool) (s : State) (client now : ℕ) (d : Doin
     pub may-look : has_session s.tree mine ≡ true → is_some (node_at s.tree file.inode) ≡ true
         → MayStep start alone s client now mine d (Look file.inode window)
     may-look session there =
-        subst (λ b. MatchBool b (CompactionLooks s client now mine d file.inode window) (LooksAt s mine d file.inode window))
+        subst (λ b. MatchBool b (CompactionLooks s client now mine d file.inode window)
+        (LooksAt s mine d file.inode window))
         (sym (ap is_compaction does))
         (record {
           goes_on = ap (λ b. b || is_missing d.stage) (may_read-on mine d misses may);
-          file = subst (λ o. IsSomeAnd o (λ f. (file.inode ≡ f.inode) × (window_to_look mine d f ≡ Some window))) (sym opened) (refl, look);
+          file = subst (λ o. IsSomeAnd o (λ f. (file.inode ≡ f.inode) × (window_to_look mine d f ≡ Some window)))
+              (sym opened) (refl, look);
           session = session;
           there = there;
         })
 
+    pub leaves-looked : Leaves s (requested s client now d busy (Look file.inode window)) client 1 s.tree
+        (at_stage (Reading misses) d (with_look s d file.inode window mine)) s.copied
+    leaves-looked = leaves-look s client now d busy file.inode window (Reading misses) (ap is_compaction does)
+        (looked-reads mine d misses may)
+
     -- it looks at the window, and goes on
     pub look-step : has_session s.tree mine ≡ true → is_some (node_at s.tree file.inode) ≡ true
         → IsStep start alone s client now (Look file.inode window ∷ []) More s.tree
-        (at_stage (Reading misses) d (record mine { views = view_now s (handle_of d.op) file.inode window ∷ mine.views })) s.copied
+        (at_stage (Reading misses) d (with_look s d file.inode window mine)) s.copied
     look-step session there =
         step-on s client now d busy start alone (Look file.inode window) refl (may-look session there) s.tree
-        (at_stage (Reading misses) d (record mine { views = view_now s (handle_of d.op) file.inode window ∷ mine.views })) s.copied
-        (leaves-look s client now d busy file.inode window (Reading misses) (ap is_compaction does) (looked-reads mine d misses may)) refl
+        (at_stage (Reading misses) d (with_look s d file.inode window mine)) s.copied leaves-looked refl
 
-    -- a look that is refused
+    -- ---- a look that is refused
 
-    abbrev reading_then : Doing
-    reading_then = record d { stage = Reading misses; moved = true }
+    -- what is gone is the answer
+    abbrev told_gone : Gone → Told
+    told_gone gone = ToldRefused (Stale gone)
 
-    abbrev client_then : ModelClient
-    client_then = at_stage (Reading misses) d mine
+    abbrev IsRefused : Gone → Type 0
+    IsRefused gone = IsStep start alone s client now (Quiet ∷ Answered (told_gone gone) ∷ [])
+        (Done (reply.Refused (Stale gone))) s.tree (after_told d.op (told_gone gone) mine) s.copied
+
+    -- the operation between the request and its refusal
+    abbrev reading_then : Stage → Doing
+    reading_then stage = record d { stage = stage; moved = true }
+
+    abbrev client_then : Stage → ModelClient
+    client_then stage = at_stage stage d mine
 
     -- it asks for rows, as a look does
     abbrev asks_in : Option OpenFile → Bool
     asks_in None = false
-    asks_in (Some file) = is_some (window_to_look client_then reading_then file)
+    asks_in (Some file) = is_some (window_to_look (client_then (Reading misses)) (reading_then (Reading misses)) file)
 
-    asks-rows : asks_in (file_in_use client_then reading_then) ≡ true
+    asks-rows : asks_in (file_in_use (client_then (Reading misses)) (reading_then (Reading misses))) ≡ true
     asks-rows = ap asks_in opened ∙ ap is_some (window-reads mine d misses may file ∙ look)
 
-    -- the request was made, and the stage is that of a reading or a refusal that is settled
     module _ (gone : Gone) where
-      abbrev told : Told
-      told = ToldRefused (Stale gone)
+      abbrev IsQuietTo : Stage → Type 0
+      IsQuietTo stage = (quieted s client mine now d d.stage ≡ stage)
+          × (may_be_quiet start s client now mine d d.stage ≡ true)
 
-      refused-after : (stage : Stage) → quieted s client mine now d d.stage ≡ stage
-          → may_be_quiet start s client now mine d d.stage ≡ true
-          → is_of_another stage told ≡ false
-          → reply_of (at_stage stage d mine) (record d { stage = stage; moved = true }) told ≡ reply.Refused (Stale gone)
-          → MayAnswer start alone (requested s client now d busy Quiet) client now (at_stage stage d mine) (record d { stage = stage; moved = true }) told
-          → IsStep start alone s client now (Quiet ∷ Answered told ∷ []) (Done (reply.Refused (Stale gone))) s.tree
-          (after_told d.op told mine) s.copied
-      refused-after stage at quiet own says answers =
-          let d2 : Doing = record d { stage = stage; moved = true } in
-          subst (λ c. IsStep start alone s client now (Quiet ∷ Answered told ∷ []) (Done (reply.Refused (Stale gone))) s.tree c s.copied)
-          (told-staged d.op told mine (Some d2))
-          (step-answered s client now d busy start alone Quiet refl quiet s.tree (at_stage stage d mine) s.copied
-          (leaves-quiet s client now d busy stage at) d2 told (reply.Refused (Stale gone)) refl own refl says answers)
+      refused-after : (stage : Stage) → IsQuietTo stage → is_of_another stage (told_gone gone) ≡ false
+          → reply_of (client_then stage) (reading_then stage) (told_gone gone) ≡ reply.Refused (Stale gone)
+          → MayAnswer start alone (requested s client now d busy Quiet) client now (client_then stage)
+          (reading_then stage) (told_gone gone)
+          → IsRefused gone
+      refused-after stage quiet own says answers =
+          subst (λ c. IsStep start alone s client now (Quiet ∷ Answered (told_gone gone) ∷ [])
+          (Done (reply.Refused (Stale gone))) s.tree c s.copied)
+          (told-staged d.op (told_gone gone) mine (Some (reading_then stage)))
+          (step-answered s client now d busy start alone Quiet refl quiet.1 s.tree (client_then stage) s.copied
+          (leaves-quiet s client now d busy stage quiet.0) (reading_then stage) (told_gone gone)
+          (reply.Refused (Stale gone)) refl own refl says answers)
 
       module _ (refusal : look_refusal s.tree mine file.inode ≡ Some (reply.Refused (Stale gone)))
-          (refused : IsRefusedIn start (requested s client now d busy Quiet) client now client_then reading_then (Stale gone)) where
+          (refused : IsRefusedIn start (requested s client now d busy Quiet) client now
+          (client_then (Reading misses)) (reading_then (Reading misses)) (Stale gone)) where
         -- where the reading has a view of its first window
-        refused-sees : quieted s client mine now d d.stage ≡ Reading misses → may_be_quiet start s client now mine d d.stage ≡ true
-            → IsStep start alone s client now (Quiet ∷ Answered told ∷ []) (Done (reply.Refused (Stale gone))) s.tree
-            (after_told d.op told mine) s.copied
-        refused-sees at quiet = refused-after (Reading misses) at quiet refl refl (Refuses (Stale gone) refl refused refl)
+        refused-sees : IsQuietTo (Reading misses) → IsRefused gone
+        refused-sees quiet = refused-after (Reading misses) quiet refl refl (Refuses (Stale gone) refl refused refl)
 
         -- where it has none
-        refused-settles : quieted s client mine now d d.stage ≡ Replying (reply.Refused (Stale gone)) → may_be_quiet start s client now mine d d.stage ≡ true
-            → IsStep start alone s client now (Quiet ∷ Answered told ∷ []) (Done (reply.Refused (Stale gone))) s.tree
-            (after_told d.op told mine) s.copied
-        refused-settles at quiet =
-            refused-after (Replying (reply.Refused (Stale gone))) at quiet refl refl (Settles (reply.Refused (Stale gone)) refl refl)
+        refused-settles : IsQuietTo (Replying (reply.Refused (Stale gone))) → IsRefused gone
+        refused-settles quiet = refused-after (Replying (reply.Refused (Stale gone))) quiet refl refl
+            (Settles (reply.Refused (Stale gone)) refl refl)
 
         own-refusal : look_refusal s.tree mine (inode_at mine (handle_of d.op)) ≡ Some (reply.Refused (Stale gone))
         own-refusal = ap (look_refusal s.tree mine) (ap inode_in opened) ∙ refusal
 
-        look-refused-by : (sees : Bool) → sees_first mine d (asked_parts offset len) ≡ sees → MayRead mine d misses
-            → IsStep start alone s client now (Quiet ∷ Answered told ∷ []) (Done (reply.Refused (Stale gone))) s.tree
-            (after_told d.op told mine) s.copied
-        look-refused-by sees e (GoesOn at) = refused-sees (ap (quieted s client mine now d) at) (ap (may_be_quiet start s client now mine d) at)
-        look-refused-by true e (Begins started at flushed first) =
-            refused-sees (quieted-reads s client now mine d started at flushed offset len does true e ∙ ap Reading (sym first))
-            (quiet-reads s client now mine d started at flushed start offset len does true e)
-        look-refused-by false e (Begins started at flushed first) =
-            refused-settles
-            (quieted-reads s client now mine d started at flushed offset len does false e
-            ∙ ap (λ (o : Option Reply). elim o as (λ _. Stage) [ None ↦ d.stage | Some answer ↦ Replying answer ]) own-refusal)
-            (quiet-reads s client now mine d started at flushed start offset len does false e ∙ ap is_some own-refusal)
+        look-refused : (sees : Bool) → sees_first mine d (asked_parts offset len) ≡ sees → MayRead mine d misses
+            → IsRefused gone
+        look-refused sees e (GoesOn at) =
+            refused-sees (ap (quieted s client mine now d) at, ap (may_be_quiet start s client now mine d) at)
+        look-refused true e (Begins started at flushed first) =
+            refused-sees (
+              quieted-reads s client now mine d started at flushed offset len does true e ∙ ap Reading (sym first),
+              quiet-reads s client now mine d started at flushed start offset len does true e,
+            )
+        look-refused false e (Begins started at flushed first) =
+            refused-settles (
+              quieted-reads s client now mine d started at flushed offset len does false e ∙ ap settles own-refusal,
+              quiet-reads s client now mine d started at flushed start offset len does false e ∙ ap is_some own-refusal,
+            )
+          where
+            settles : Option Reply → Stage
+            settles o = elim o as (λ _. Stage) [ None ↦ d.stage | Some answer ↦ Replying answer ]
 
     -- the session is gone
-    pub look-refused_session : has_session s.tree mine ≡ false
-        → IsStep start alone s client now (Quiet ∷ Answered (ToldRefused (Stale (Session (session_of mine)))) ∷ [])
-        (Done (reply.Refused (Stale (Session (session_of mine))))) s.tree
-        (after_told d.op (ToldRefused (Stale (Session (session_of mine)))) mine) s.copied
+    pub look-refused_session : has_session s.tree mine ≡ false → IsRefused (Session (session_of mine))
     look-refused_session gone =
-        look-refused-by (Session (session_of mine)) (look_refused-session s.tree mine file.inode gone) (SessionGone asks-rows gone refl)
-        (sees_first mine d (asked_parts offset len)) refl may
+        look-refused (Session (session_of mine)) (look_refused-session s.tree mine file.inode gone)
+        (SessionGone asks-rows gone refl) (sees_first mine d (asked_parts offset len)) refl may
 
     -- the file is gone
     pub look-refused_node : has_session s.tree mine ≡ true → node_at s.tree file.inode ≡ None
-        → IsStep start alone s client now (Quiet ∷ Answered (ToldRefused (Stale (Node file.inode))) ∷ [])
-        (Done (reply.Refused (Stale (Node file.inode)))) s.tree
-        (after_told d.op (ToldRefused (Stale (Node file.inode))) mine) s.copied
+        → IsRefused (Node file.inode)
     look-refused_node session gone =
-        look-refused-by (Node file.inode) (look_refused-node s.tree mine file.inode session gone)
+        look-refused (Node file.inode) (look_refused-node s.tree mine file.inode session gone)
         (InodeGone file.inode asks-rows session (ap (option_map (λ (file : OpenFile). file.inode)) opened) gone refl)
         (sees_first mine d (asked_parts offset len)) refl may

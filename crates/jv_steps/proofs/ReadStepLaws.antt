@@ -1,37 +1,40 @@
 -- Steps of a reading that ask for a block, or that answer with what was read.
-use Rattle.std.proofs.Common.{◌≡◌, ℕ, Bool, true, false, List, [], ◌∷◌, length, Option, None, Some, refl, sym, ap, subst, ◌∙◌}
-use Rattle.std.specs.Prelude.{◌&&◌, ◌||◌, not, is_some}
+use Rattle.std.proofs.Common.{◌≡◌, ℕ, Bool, true, false, List, [], ◌∷◌, length, Option, None, Some, refl, ap, subst}
+use Rattle.std.proofs.Common.{◌∙◌}
+use Rattle.std.specs.Prelude.{◌||◌, not, is_some}
 use Rattle.jv_model.specs.declared.act.ActKind.{ActKind}
 use Rattle.jv_model.specs.declared.act.ActKind.TheVariants.{Answered, Quiet, Look}
 use Rattle.jv_model.specs.declared.act.Told.{Told}
 use Rattle.jv_model.specs.declared.act.Told.TheVariants.{Looks}
 use Rattle.jv_model.specs.declared.op.Op.{Op}
 use Rattle.jv_model.specs.declared.op.Op.TheVariants as op
-use Rattle.jv_model.specs.declared.op.Reply.{Reply}
 use Rattle.jv_model.specs.declared.op.Reply.TheVariants.{Data}
 use Rattle.jv_model.specs.declared.op.Step.TheVariants.{More, Done}
 use Rattle.jv_model.specs.declared.profile.Does.TheVariants.{Reads}
-use Rattle.jv_model.specs.tree.Tree.{Tree, node_at}
-use Rattle.jv_model.specs.client.ModelClient.{ModelClient, OpenFile, Doing, Stage, Working, Reading, inode_at}
+use Rattle.jv_model.specs.tree.Tree.{node_at}
+use Rattle.jv_model.specs.client.ModelClient.{ModelClient, OpenFile, Doing, Working, Reading}
 use Rattle.jv_model.specs.client.Profile.{handle_of}
 use Rattle.jv_model.specs.client.Submission.{is_flushed}
-use Rattle.jv_model.specs.journal.State.{State, after_told, has_session, is_compaction, is_of_another, look_refusal, quieted, sees_first, view_now}
-use Rattle.jv_model.specs.journal.Steps.{Start, MayStep, ReadsFresh, ReadsViews, asked_of, file_in_use, is_ready, may_be_quiet, may_read_on, window_to_look}
+use Rattle.jv_model.specs.journal.State.{State, after_told, has_session, is_of_another, quieted}
+use Rattle.jv_model.specs.journal.State.{sees_first}
+use Rattle.jv_model.specs.journal.Steps.{Start, MayStep, ReadsFresh, ReadsViews, asked_of, file_in_use}
+use Rattle.jv_model.specs.journal.Steps.{may_be_quiet, may_read_on, window_to_look}
 use Rattle.jv_model.specs.journal.Past.{or_no_bytes, read_in, reply_of}
 use Rattle.jv_model.specs.journal.Reading.{asked_parts, reading}
 use Rattle.jv_model.specs.journal.Stepping.{is_answer}
 use Rattle.jv_steps.specs.Leaves.{Leaves}
-use Rattle.jv_steps.specs.IsStep.{IsStep}
-use Rattle.jv_steps.specs.Stages.{MayRead, Begins, at_stage}
+use Rattle.jv_steps.specs.IsStep.{IsStep, at_stage}
+use Rattle.jv_steps.specs.Stages.{MayRead, Begins, with_look}
 use Rattle.jv_steps.proofs.ReadyLaws.{quieted-reads, quiet-reads}
 use Rattle.jv_steps.proofs.StepFormLaws.{requested, step-alone, step-on, step-answered}
-use Rattle.jv_steps.proofs.EntryLaws.{told-staged, leaves-look, leaves-quiet}
-use Rattle.jv_steps.proofs.LookStepLaws.{looked-reads, may-look, may_read-on}
+use Rattle.jv_steps.proofs.EntryLaws.{told-staged, leaves-quiet}
+use Rattle.jv_steps.proofs.LookStepLaws.{leaves-looked, may-look, may_read-on}
 
 -- ---- the answer of a reading
 
 -- the bytes that it returns
-module _ (c : ModelClient) (d : Doing) (file : OpenFile) (opened : file_in_use c d ≡ Some file) (first second : ℕ) (bytes : List ℕ)
+module _ (c : ModelClient) (d : Doing) (file : OpenFile) (opened : file_in_use c d ≡ Some file) (first second : ℕ)
+    (bytes : List ℕ)
     (reads : reading c.views (handle_of d.op) file (asked_of d.does) first second ≡ Some bytes) where
   abbrev bytes_of : Option OpenFile → List ℕ
   bytes_of None = []
@@ -57,10 +60,14 @@ pub told-read : (o : Op) (handle offset len first second count : ℕ) (c : Model
     → after_told o (Looks first second count) c ≡ record c { doing = None }
 told-read o handle offset len first second count c e = ap (λ o. after_told o (Looks first second count) c) e
 
-module _ (start : Start) (alone : Bool) (s : State) (client now : ℕ) (d : Doing) (busy : (s.clients client).doing ≡ Some d)
+module _ (start : Start) (alone : Bool) (s : State) (client now : ℕ) (d : Doing)
+    (busy : (s.clients client).doing ≡ Some d)
     (offset len : ℕ) (does : d.does ≡ Reads offset len) where
   abbrev mine : ModelClient
   mine = s.clients client
+
+  abbrev IsGet : ℕ → Type 0
+  IsGet misses = IsStep start alone s client now (Quiet ∷ []) More s.tree (at_stage (Reading misses) d mine) s.copied
 
   -- ---- a request for a block
 
@@ -73,8 +80,9 @@ module _ (start : Start) (alone : Bool) (s : State) (client now : ℕ) (d : Doin
     first-quiet : may_be_quiet start s client now mine d d.stage ≡ true
     first-quiet = quiet-reads s client now mine d started at flushed start offset len does true sees
 
-    pub get-begins : IsStep start alone s client now (Quiet ∷ []) More s.tree (at_stage (Reading 0) d mine) s.copied
-    get-begins = step-on s client now d busy start alone Quiet refl first-quiet s.tree (at_stage (Reading 0) d mine) s.copied
+    pub get-begins : IsGet 0
+    get-begins = step-on s client now d busy start alone Quiet refl first-quiet s.tree (at_stage (Reading 0) d mine)
+        s.copied
         (leaves-quiet s client now d busy (Reading 0) first-quieted) refl
 
   -- and later on
@@ -85,8 +93,9 @@ module _ (start : Start) (alone : Bool) (s : State) (client now : ℕ) (d : Doin
     next-quiet : may_be_quiet start s client now mine d d.stage ≡ true
     next-quiet = ap (may_be_quiet start s client now mine d) at
 
-    pub get-step : IsStep start alone s client now (Quiet ∷ []) More s.tree (at_stage (Reading misses) d mine) s.copied
-    get-step = step-on s client now d busy start alone Quiet refl next-quiet s.tree (at_stage (Reading misses) d mine) s.copied
+    pub get-step : IsGet misses
+    get-step = step-on s client now d busy start alone Quiet refl next-quiet s.tree
+        (at_stage (Reading misses) d mine) s.copied
         (leaves-quiet s client now d busy (Reading misses) next-quieted) refl
 
   -- ---- what was read
@@ -96,55 +105,73 @@ module _ (start : Start) (alone : Bool) (s : State) (client now : ℕ) (d : Doin
     told = Looks first second (length bytes)
 
     abbrev Reads_by : ModelClient → Type 0
-    Reads_by c = reading c.views (handle_of d.op) file (asked_of d.does) first second ≡ Some bytes
+    Reads_by c = reading c.views (handle_of d.op) file (asked_parts offset len) first second ≡ Some bytes
+
+    reads-asked : (c : ModelClient) → Reads_by c
+        → reading c.views (handle_of d.op) file (asked_of d.does) first second ≡ Some bytes
+    reads-asked c reads = ap (λ does. reading c.views (handle_of d.op) file (asked_of does) first second) does ∙ reads
+
+    -- it is answered after these entries, with the client as it was but for its views
+    abbrev IsRead : List ActKind → ModelClient → Type 0
+    IsRead kinds c = IsStep start alone s client now kinds (Done (Data bytes)) s.tree (after_told d.op told c) s.copied
 
     -- without a request
-    pub read-answered_alone : (started : ℕ) → d.stage ≡ Working 0 started → is_flushed d.flush mine.pending ≡ true → d.moved ≡ false
+    pub read-answered_alone : (started : ℕ) → d.stage ≡ Working 0 started → is_flushed d.flush mine.pending ≡ true
+        → d.moved ≡ false
         → Reads_by mine
-        → IsStep start alone s client now (Answered told ∷ []) (Done (Data bytes)) s.tree (after_told d.op told mine) s.copied
-    read-answered_alone started at flushed still reads =
+        → IsRead (Answered told ∷ []) mine
+    read-answered_alone started at flushed still shows =
+        let reads = reads-asked mine shows in
         step-alone s client now d busy start alone told (Data bytes) (ap (λ stage. is_of_another stage told) at)
         (ap (λ b. not b || false) still)
-        (ap (λ stage. reply_of mine (record d { stage = stage }) told) at ∙ ap Data (read-is mine d file opened first second bytes reads))
-        (ReadsViews (reads-fresh mine d file opened first second bytes reads (may_read-on mine d 0 (Begins started at flushed refl))))
+        (ap (λ stage. reply_of mine (record d { stage = stage }) told) at
+        ∙ ap Data (read-is mine d file opened first second bytes reads))
+        (ReadsViews (reads-fresh mine d file opened first second bytes reads
+        (may_read-on mine d 0 (Begins started at flushed refl))))
 
     -- after a request that left these views
-    read-after : (kind : ActKind) (c : ModelClient) (misses : ℕ) → is_answer kind ≡ false → MayStep start alone s client now mine d kind
+    read-after : (kind : ActKind) (c : ModelClient) (misses : ℕ) → is_answer kind ≡ false
+        → MayStep start alone s client now mine d kind
         → file_in_use c d ≡ Some file
         → Leaves s (requested s client now d busy kind) client 1 s.tree (at_stage (Reading misses) d c) s.copied
         → Reads_by c
-        → IsStep start alone s client now (kind ∷ Answered told ∷ []) (Done (Data bytes)) s.tree (after_told d.op told c) s.copied
-    read-after kind c misses asks may opened leaves reads =
+        → IsRead (kind ∷ Answered told ∷ []) c
+    read-after kind c misses asks may opened leaves shows =
+        let reads = reads-asked c shows in
         let reading_then : Doing = record d { stage = Reading misses; moved = true } in
         let then_c = at_stage (Reading misses) d c in
         subst (λ c. IsStep start alone s client now (kind ∷ Answered told ∷ []) (Done (Data bytes)) s.tree c s.copied)
         (told-staged d.op told c (Some reading_then))
-        (step-answered s client now d busy start alone kind asks may s.tree then_c s.copied leaves reading_then told (Data bytes)
+        (step-answered s client now d busy start alone kind asks may s.tree then_c s.copied leaves reading_then told
+        (Data bytes)
         refl refl refl (ap Data (read-is then_c reading_then file opened first second bytes reads))
         (ReadsViews (reads-fresh then_c reading_then file opened first second bytes reads refl)))
 
     -- after a look
-    pub read-answered_look : (misses : ℕ) → MayRead mine d misses → (window : ℕ) → window_to_look mine d file ≡ Some window
-        → has_session s.tree mine ≡ true → is_some (node_at s.tree file.inode) ≡ true
-        → reading (view_now s (handle_of d.op) file.inode window ∷ mine.views) (handle_of d.op) file (asked_of d.does) first second ≡ Some bytes
-        → IsStep start alone s client now (Look file.inode window ∷ Answered told ∷ []) (Done (Data bytes)) s.tree
-        (after_told d.op told (record mine { views = view_now s (handle_of d.op) file.inode window ∷ mine.views })) s.copied
-    read-answered_look misses may window look session there reads =
-        read-after (Look file.inode window) (record mine { views = view_now s (handle_of d.op) file.inode window ∷ mine.views }) misses refl
-        (may-look start alone s client now d busy offset len does misses may file opened window look session there) opened
-        (leaves-look s client now d busy file.inode window (Reading misses) (ap is_compaction does) (looked-reads mine d misses may)) reads
+    module _ (misses : ℕ) (may : MayRead mine d misses) (window : ℕ)
+        (look : window_to_look mine d file ≡ Some window) where
+      abbrev seeing : ModelClient
+      seeing = with_look s d file.inode window mine
+
+      pub read-answered_look : has_session s.tree mine ≡ true → is_some (node_at s.tree file.inode) ≡ true
+          → Reads_by seeing → IsRead (Look file.inode window ∷ Answered told ∷ []) seeing
+      read-answered_look session there reads =
+          read-after (Look file.inode window) seeing misses refl
+          (may-look start alone s client now d busy offset len does misses may file opened window look session
+          there) opened
+          (leaves-looked start alone s client now d busy offset len does misses may file opened window look) reads
 
     -- after its first request, which was for a block
     pub read-answered_begins : (started : ℕ) → d.stage ≡ Working 0 started → is_flushed d.flush mine.pending ≡ true
         → sees_first mine d (asked_parts offset len) ≡ true → Reads_by mine
-        → IsStep start alone s client now (Quiet ∷ Answered told ∷ []) (Done (Data bytes)) s.tree (after_told d.op told mine) s.copied
+        → IsRead (Quiet ∷ Answered told ∷ []) mine
     read-answered_begins started at flushed sees reads =
         read-after Quiet mine 0 refl (first-quiet started at flushed sees) opened
         (leaves-quiet s client now d busy (Reading 0) (first-quieted started at flushed sees)) reads
 
     -- after a later one
     pub read-answered_get : (misses : ℕ) → d.stage ≡ Reading misses → Reads_by mine
-        → IsStep start alone s client now (Quiet ∷ Answered told ∷ []) (Done (Data bytes)) s.tree (after_told d.op told mine) s.copied
+        → IsRead (Quiet ∷ Answered told ∷ []) mine
     read-answered_get misses at reads =
         read-after Quiet mine misses refl (next-quiet misses at) opened
         (leaves-quiet s client now d busy (Reading misses) (next-quieted misses at)) reads

@@ -17,7 +17,8 @@ use Rattle.jv_model.specs.tree.Tree.{fits, node_at}
 use Rattle.jv_model.specs.tree.FileBytes.{committed}
 use Rattle.jv_model.specs.client.Pending.{Segment, bytes_in_range, pending_of_others}
 use Rattle.jv_model.specs.client.Submission.{next_segment}
-use Rattle.jv_model.specs.client.ModelClient.{ModelClient, Doing, Stage, Working, Reading, Replying, session_of, unmounted}
+use Rattle.jv_model.specs.client.ModelClient.{ModelClient, Doing, Stage, Working, Reading, Replying, session_of}
+use Rattle.jv_model.specs.client.ModelClient.{unmounted}
 use Rattle.jv_model.specs.journal.State.{State, after_told, flushing_on, has_session, is_of_another, refused_as}
 use Rattle.jv_model.specs.journal.Steps.{Start, CommitAsked, CommitLate, CommitTooLarge, Fails, InodeGone, IsRefusedIn}
 use Rattle.jv_model.specs.journal.Steps.{Refuses, SessionGone, is_crowded, is_failure, must_answer}
@@ -67,7 +68,8 @@ module _ (start : Start) (alone : Bool) (s : State) (client now : ℕ) (d : Doin
       IsStep start alone s client now (Quiet ∷ Answered (ToldRefused fault) ∷ []) (Done (Refused fault)) s.tree c
       s.copied
 
-  refused-by : (fault : Fault) → is_of_another stage (ToldRefused fault) ≡ false → is_failure (ToldRefused fault) ≡ false
+  refused-by : (fault : Fault) → is_of_another stage (ToldRefused fault) ≡ false
+      → is_failure (ToldRefused fault) ≡ false
       → IsRefusedIn start quiet client now client_after after fault → Ends fault (after_told d.op (ToldRefused fault) c)
   refused-by fault own fails why =
       flush-refused start alone s client now d busy segment next quiets started at stage leads fault own fails refl

@@ -1,5 +1,5 @@
 -- What a truncate and a copy of the tree are answered, whether they are refused or not.
-use Rattle.std.proofs.Common.{◌≡◌, ℕ, ◌+◌, ◌-◌, Bool, true, false, Option, None, Some, Result, Ok, Err, refl, sym, ap, ◌∙◌}
+use Rattle.std.proofs.Common.{◌≡◌, ℕ, ◌+◌, ◌-◌, Bool, true, false, Option, None, Some, Result, Ok, Err, refl, ap, ◌∙◌}
 use Rattle.std.specs.Prelude.{◌&&◌, not, ◌==◌, is_some, min, nat_le}
 use Rattle.jv_model.specs.declared.limits.TheConstants.{FILE_END}
 use Rattle.jv_model.specs.declared.act.Told.TheVariants.{Refused as ToldRefused}
@@ -18,13 +18,16 @@ use Rattle.jv_model.specs.journal.Steps.{is_failure}
 abbrev pub IsCalm : Fault → Type 0
 IsCalm fault = is_failure (ToldRefused fault) ≡ false
 
-calm-as : (refusal fault : Fault) → IsCalm refusal → ◌≡◌ {A = Result Outcome Fault} (Err refusal) (Err fault) → IsCalm fault
+calm-as : (refusal fault : Fault) → IsCalm refusal → ◌≡◌ {A = Result Outcome Fault} (Err refusal) (Err fault)
+    → IsCalm fault
 calm-as refusal fault calm e = let same : fault ≡ refusal = cc e in ap (λ f. is_failure (ToldRefused f)) same ∙ calm
 
 -- ---- truncates
 
-truncate-by : (session : Result (Unit {0}) Fault) (content : Result Content Fault) (short fits : Bool) (t : Tree) (out : Outcome)
-    → ((session >>= λ u. content >>= λ c. require short FileTooLarge >>= λ u. require fits NoSpace >>= λ u. done t) ≡ Ok out)
+truncate-by : (session : Result (Unit {0}) Fault) (content : Result Content Fault) (short fits : Bool) (t : Tree)
+    (out : Outcome)
+    → ((session >>= λ u. content >>= λ c. require short FileTooLarge >>= λ u. require fits NoSpace >>= λ u. done t)
+    ≡ Ok out)
     → out ≡ record { tree = t; reply = Done }
 truncate-by (Ok u) (Ok c) true true t out e = cc e
 truncate-by _ _ _ _ t out e = absurd (cc e)
@@ -36,8 +39,10 @@ truncate-ok t who len out e =
     let after = truncated t who.now who.inode len in
     truncate-by (in_session t who) (open_content t who.inode) (nat_le len FILE_END) (fits t after) after out e
 
-truncate-calm_by : (session : Bool) (content : Option Content) (short fits : Bool) (sid inode : ℕ) (t : Tree) (fault : Fault)
-    → ((require session (Stale (Session sid)) >>= λ u. some_or content (Stale (Node inode)) >>= λ c. require short FileTooLarge
+truncate-calm_by : (session : Bool) (content : Option Content) (short fits : Bool) (sid inode : ℕ) (t : Tree)
+    (fault : Fault)
+    → ((require session (Stale (Session sid)) >>= λ u. some_or content (Stale (Node inode)) >>= λ c. require short
+    FileTooLarge
     >>= λ u. require fits NoSpace >>= λ u. done t) ≡ Err fault)
     → IsCalm fault
 truncate-calm_by true (Some c) true true sid inode t fault e = absurd (cc e)
@@ -50,34 +55,40 @@ pub truncate-calm : (t : Tree) (who : Caller) (len : ℕ) (fault : Fault) → tr
 unfolding truncate
 truncate-calm t who len fault e =
     let after = truncated t who.now who.inode len in
-    truncate-calm_by (is_some (get t.sessions who.sid)) (content_at t who.inode) (nat_le len FILE_END) (fits t after) who.sid who.inode after
+    truncate-calm_by (is_some (get t.sessions who.sid)) (content_at t who.inode) (nat_le len FILE_END)
+    (fits t after) who.sid who.inode after
     fault e
 
 -- ---- copies
 
 bytes-by : (apart short fits : Bool) (t : Tree) (count : ℕ) (out : Outcome)
-    → ((require apart Invalid >>= λ u. require short FileTooLarge >>= λ u. require fits NoSpace >>= λ u. answered t (Count count)) ≡ Ok out)
+    → ((require apart Invalid >>= λ u. require short FileTooLarge >>= λ u. require fits NoSpace >>= λ u. answered t
+    (Count count)) ≡ Ok out)
     → out ≡ record { tree = t; reply = Count count }
 bytes-by true true true t count out e = cc e
 bytes-by _ _ _ t count out e = absurd (cc e)
 
 bytes-calm : (apart short fits : Bool) (t : Tree) (count : ℕ) (fault : Fault)
-    → ((require apart Invalid >>= λ u. require short FileTooLarge >>= λ u. require fits NoSpace >>= λ u. answered t (Count count)) ≡ Err fault)
+    → ((require apart Invalid >>= λ u. require short FileTooLarge >>= λ u. require fits NoSpace >>= λ u. answered t
+    (Count count)) ≡ Err fault)
     → IsCalm fault
 bytes-calm true true true t count fault e = absurd (cc e)
 bytes-calm true true false t count fault e = calm-as NoSpace fault refl e
 bytes-calm true false fits t count fault e = calm-as FileTooLarge fault refl e
 bytes-calm false short fits t count fault e = calm-as Invalid fault refl e
 
-copy-by : (session : Result (Unit {0}) Fault) (source target : Result Content Fault) (next : ℕ → Result Outcome Fault) (from len : ℕ) (out : Outcome)
+copy-by : (session : Result (Unit {0}) Fault) (source target : Result Content Fault) (next : ℕ
+    → Result Outcome Fault) (from len : ℕ) (out : Outcome)
     → ((session >>= λ u. source >>= λ c. target >>= λ u. next (min len (c.length - from))) ≡ Ok out)
     → (count : ℕ) × (next count ≡ Ok out)
 copy-by (Ok u) (Ok c) (Ok o) next from len out e = (min len (c.length - from), e)
 copy-by _ _ _ next from len out e = absurd (cc e)
 
-copy-calm_by : (session : Bool) (source target : Option Content) (next : ℕ → Result Outcome Fault) (from len sid inode other : ℕ) (fault : Fault)
+copy-calm_by : (session : Bool) (source target : Option Content) (next : ℕ
+    → Result Outcome Fault) (from len sid inode other : ℕ) (fault : Fault)
     → ((count : ℕ) → next count ≡ Err fault → IsCalm fault)
-    → ((require session (Stale (Session sid)) >>= λ u. some_or source (Stale (Node inode)) >>= λ c. some_or target (Stale (Node other))
+    → ((require session (Stale (Session sid)) >>= λ u. some_or source (Stale (Node inode)) >>= λ c. some_or target
+    (Stale (Node other))
     >>= λ u. next (min len (c.length - from))) ≡ Err fault)
     → IsCalm fault
 copy-calm_by true (Some c) (Some o) next from len sid inode other fault calm e = calm (min len (c.length - from)) e
@@ -96,12 +107,18 @@ module _ (t : Tree) (who : Caller) (from to : ℕ) where
       → (count : ℕ) × (out ≡ record { tree = after count; reply = Count count })
   unfolding copy
   copy-ok len out e =
-      let found = copy-by (in_session t who) (open_content t who.inode) (open_content t who.other) (copy_bytes t who from to) from len out e in
-      (found.0, bytes-by (apart found.0) (nat_le (to + found.0) FILE_END) (fits t (after found.0)) (after found.0) found.0 out found.1)
+      let found = copy-by (in_session t who) (open_content t who.inode) (open_content t who.other)
+      (copy_bytes t who from to) from len out e in (
+        found.0,
+        bytes-by (apart found.0) (nat_le (to + found.0) FILE_END) (fits t (after found.0))
+            (after found.0) found.0 out found.1,
+      )
 
   pub copy-calm : (len : ℕ) (fault : Fault) → copy t who from to len ≡ Err fault → IsCalm fault
   unfolding copy
   copy-calm len fault e =
-      copy-calm_by (is_some (get t.sessions who.sid)) (content_at t who.inode) (content_at t who.other) (copy_bytes t who from to) from len
+      copy-calm_by (is_some (get t.sessions who.sid)) (content_at t who.inode) (content_at t who.other)
+      (copy_bytes t who from to) from len
       who.sid who.inode who.other fault
-      (λ count. bytes-calm (apart count) (nat_le (to + count) FILE_END) (fits t (after count)) (after count) count fault) e
+      (λ count. bytes-calm (apart count) (nat_le (to + count) FILE_END) (fits t (after count))
+      (after count) count fault) e

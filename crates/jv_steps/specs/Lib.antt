@@ -2,5 +2,5 @@
 pub mod IsStep
 pub mod Leaves
 pub mod RefusesCommit
-pub mod WithoutCommitted
 pub mod Stages
+pub mod WithoutCommitted
