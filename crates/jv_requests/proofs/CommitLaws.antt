@@ -46,8 +46,10 @@ use Rattle.jv_steps.proofs.CommitTestLaws.{commit_tested, tests-allow, tests-com
 use Rattle.jv_steps.proofs.CommitTestLaws.{tests-undone}
 use Rattle.jv_steps.proofs.RefusalStepLaws.{commit-refused, goes-working}
 use Rattle.jv_requests.specs.Request.{Request}
-use Rattle.jv_requests.proofs.RequestLaws.{Grows, apart-over, begun_with, failure-request, left-grows}
-use Rattle.jv_requests.proofs.RequestLaws.{request-of, same-ends}
+use Rattle.jv_requests.proofs.RequestLaws.{Grows, begun_with, request-of}
+use Rattle.jv_requests.proofs.GrowsLaws.{left-grows}
+use Rattle.jv_requests.proofs.FlightLaws.{apart-own, flight-over}
+use Rattle.jv_requests.proofs.StillLaws.{failure-request, still-within}
 
 -- the record of a whole slice, from a position of a window on
 abbrev pub whole_record : ℕ → Flight → Rec
@@ -149,10 +151,10 @@ module _ (s : State) (g : Known) (v : Shared) (store : HasStore s.tree g v) (cli
         → ((start : Start) (alone : Bool) → IsStep start alone s client now kinds step grown after s.copied)
         → Goes kinds step after
     commit_goes kinds step after some steps =
-        request-of s g g v left_shared client now kinds step grown after s.copied f.id f.id 0
-        (λ start alone within. steps start alone)
-        commit_leads (commit_grows kinds step after some) (apart-over g v f.id)
-        (stays-committed s.tree now segment.inode segment.from patch)
+        flight-over g v f.id s g left_shared client now f.id kinds step grown after s.copied
+        (request-of s g g v left_shared client now kinds step grown after s.copied f.id f.id f.id
+        (λ start alone within. steps start alone) commit_leads (commit_grows kinds step after some) (apart-own g v f.id)
+        (stays-committed s.tree now segment.inode segment.from patch))
 
     module _ (direct : (s.clients client).writeback ≡ false) where
       -- Another segment is left.
@@ -218,10 +220,13 @@ module _ (s : State) (g : Known) (v : Shared) (store : HasStore s.tree g v) (cli
         (Done (reply.Refused fault)) s.tree
         (after_told d.op (ToldRefused fault) c) s.copied
     commit-unmade file =
-        same-ends s g v left_shared store (same-rows v keeper v.carrier (commits f.bytes at_once).undone) client now
-        (Quiet ∷ Answered (ToldRefused fault) ∷ []) (Done (reply.Refused fault)) (after_told d.op (ToldRefused fault) c)
+        flight-over g v f.id s g left_shared client now f.id (Quiet ∷ Answered (ToldRefused fault) ∷ [])
+        (Done (reply.Refused fault)) s.tree (after_told d.op (ToldRefused fault) c) s.copied
+        (still-within s g v left_shared store (same-rows v keeper v.carrier (commits f.bytes at_once).undone) client now
+        f.id (Quiet ∷ Answered (ToldRefused fault) ∷ []) (Done (reply.Refused fault))
+        (after_told d.op (ToldRefused fault) c)
         (λ start alone within. commit-refused start alone s client now d busy segment next quiets started at asked fault
-        (tests-refuse s now c segment started start fault undone file)) f.id
+        (tests-refuse s now c segment started start fault undone file)))
 
   -- The keeper failed, or memory ran out.
   pub commit-failed : (fault : Fault) → is_failure (ToldRefused fault) ≡ true → (row : RowFault)
@@ -230,9 +235,10 @@ module _ (s : State) (g : Known) (v : Shared) (store : HasStore s.tree g v) (cli
       s.tree
       (record c { doing = None }) s.copied
   commit-failed fault fails row commits =
-      failure-request s g v left_shared store (same-rows v keeper v.carrier (commits f.bytes at_once).undone) client now
-      f.id d busy
-      (goes-working d quiets started at) fault fails
+      flight-over g v f.id s g left_shared client now f.id (Answered (ToldRefused fault) ∷ [])
+      (Done (reply.Refused fault)) s.tree (record c { doing = None }) s.copied
+      (failure-request s g v left_shared store (same-rows v keeper v.carrier (commits f.bytes at_once).undone) client now
+      f.id d busy (goes-working d quiets started at) fault fails)
 
   -- Over whole rows no list has moved, and no row is Bad.
   pub commit-unmoved : (list : List Rec)

@@ -1,7 +1,9 @@
 -- What is proved of requests.
 pub mod ChangeLaws
 pub mod CommitLaws
+pub mod FlightLaws
 pub mod GetLaws
+pub mod GrowsLaws
 pub mod LandedLaws
 pub mod LookLaws
 pub mod NumberLaws

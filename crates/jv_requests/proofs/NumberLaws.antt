@@ -43,8 +43,10 @@ use Rattle.jv_steps.specs.IsStep.{IsStep, at_stage}
 use Rattle.jv_steps.proofs.FlushStepLaws.{number-crowded, number-gone, number-step}
 use Rattle.jv_steps.proofs.RefusalStepLaws.{goes-working}
 use Rattle.jv_requests.specs.Request.{IsWithin, Request}
-use Rattle.jv_requests.proofs.RequestLaws.{Grows, apart-new, failure-request, left-grows}
-use Rattle.jv_requests.proofs.RequestLaws.{request-of, same-ends, stays-same}
+use Rattle.jv_requests.proofs.RequestLaws.{Grows, request-of}
+use Rattle.jv_requests.proofs.GrowsLaws.{left-grows}
+use Rattle.jv_requests.proofs.FlightLaws.{apart-new}
+use Rattle.jv_requests.proofs.StillLaws.{failure-request, stays-same, still-within}
 
 -- ---- sessions, which no bytes of files change
 
@@ -162,9 +164,8 @@ module _ (s : State) (g : Known) (v : Shared) (store : HasStore s.tree g v) (cli
         after s.copied)
         → RefusedAs fault after
     refused-by after steps =
-        same-ends s g v asked store (same-rows v keeper v.carrier takes.undone) client now
-        (Quiet ∷ Answered (ToldRefused fault) ∷ [])
-        (Done (Refused fault)) after steps 0
+        still-within s g v asked store (same-rows v keeper v.carrier takes.undone) client now 0
+        (Quiet ∷ Answered (ToldRefused fault) ∷ []) (Done (Refused fault)) after steps
 
     crowded-by : (start : Start) → IsWithin start s (rows_in v) → number_there ≡ false → is_crowded start s ≡ true
     crowded-by start within full =

@@ -25,7 +25,9 @@ use Rattle.jv_steps.specs.IsStep.{at_stage}
 use Rattle.jv_steps.proofs.FlushStepLaws.{put-step}
 use Rattle.jv_steps.proofs.RefusalStepLaws.{goes-working}
 use Rattle.jv_requests.specs.Request.{Request}
-use Rattle.jv_requests.proofs.RequestLaws.{apart-own, failure-request, request-of, stays-same}
+use Rattle.jv_requests.proofs.RequestLaws.{request-of}
+use Rattle.jv_requests.proofs.FlightLaws.{apart-own, flight-over}
+use Rattle.jv_requests.proofs.StillLaws.{failure-request, stays-same}
 
 -- a block that isn't put is answered as a failure
 put-fails : (fault : PutFault) → is_failure (ToldRefused (fault_of fault)) ≡ true
@@ -73,5 +75,7 @@ module _ (s : State) (g : Known) (v : Shared) (store : HasStore s.tree g v) (cli
       (Answered (ToldRefused (fault_of fault)) ∷ []) (Done (Refused (fault_of fault))) s.tree
       (record (s.clients client) { doing = None }) s.copied
   put-failed fault puts =
-      failure-request s g v then_shared store (unput-same v f client now yard carrier fault puts) client now f.id d busy
-      (goes-working d quiets started at) (fault_of fault) (put-fails fault)
+      flight-over g v f.id s g then_shared client now f.id (Answered (ToldRefused (fault_of fault)) ∷ [])
+      (Done (Refused (fault_of fault))) s.tree (record c { doing = None }) s.copied
+      (failure-request s g v then_shared store (unput-same v f client now yard carrier fault puts) client now f.id d busy
+      (goes-working d quiets started at) (fault_of fault) (put-fails fault))
