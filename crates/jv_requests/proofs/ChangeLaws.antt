@@ -4,6 +4,7 @@ use Rattle.std.specs.Prelude.{◌||◌, nat_le, length, IfErr}
 use Rattle.std.proofs.lemmas.Bool.{le-leb, or_right}
 use Rattle.jv_model.specs.declared.act.ActKind.TheVariants.{Answered, Copied, Quiet, Truncated}
 use Rattle.jv_model.specs.declared.act.Told.TheVariants.{Fine, Refused as ToldRefused}
+use Rattle.jv_model.specs.declared.fault.Down.{Down}
 use Rattle.jv_model.specs.declared.fault.Fault.{Fault}
 use Rattle.jv_model.specs.declared.fault.Fault.TheVariants.{NoSpace}
 use Rattle.jv_model.specs.declared.fault.RowFault.TheVariants.{Bad}
@@ -18,6 +19,7 @@ use Rattle.jv_model.specs.declared.profile.Does.TheVariants.{Truncates, Copies}
 use Rattle.jv_model.specs.declared.row.RowKey.{RowKey}
 use Rattle.jv_model.specs.declared.setting.Setting.{Setting}
 use Rattle.jv_model.specs.declared.slice.Rec.{Rec}
+use Rattle.jv_model.specs.rows.RowFaults.{row_fault}
 use Rattle.jv_model.specs.rows.RowKeys.{RowMap}
 use Rattle.jv_model.specs.tree.Tree.{Tree}
 use Rattle.jv_model.specs.tree.Caller.{Caller, Outcome, outcome}
@@ -37,9 +39,10 @@ use Rattle.jv_shared.proofs.SameLaws.{same-rows}
 use Rattle.jv_steps.specs.IsStep.{IsStep}
 use Rattle.jv_steps.specs.Stages.{without_views}
 use Rattle.jv_steps.proofs.ChangeStepLaws.{truncate-made, truncate-refused, copy-made, copy-refused, copy-crowded}
+use Rattle.jv_steps.proofs.RefusalStepLaws.{goes-working}
 use Rattle.jv_requests.specs.Request.{IsWithin, Request}
 use Rattle.jv_requests.proofs.LandedLaws.{acted-stays, landed-request, told_in}
-use Rattle.jv_requests.proofs.StillLaws.{still-request, still-within}
+use Rattle.jv_requests.proofs.StillLaws.{fault_of_rows, rows-failed, still-request, still-within}
 
 -- ---- what a change comes to, by the tree of the rows
 
@@ -85,6 +88,15 @@ module _ (s : State) (client now : ℕ) (d : Doing) (busy : (s.clients client).d
   IsRefused fault = Request s g g v changed client now flying flying (Quiet ∷ Answered (ToldRefused fault) ∷ [])
       (Done (reply.Refused fault)) s.tree (after_told d.op (ToldRefused fault) mine) s.copied
 
+  -- the keeper failed, or memory ran out
+  abbrev IsFailed : Down → Type 0
+  IsFailed down = Request s g g v changed client now flying flying (Answered (ToldRefused (fault_of_rows down)) ∷ [])
+      (Done (reply.Refused (fault_of_rows down))) s.tree (record mine { doing = None }) s.copied
+
+  fails : keeper.rows ≡ v.keeper.rows → (down : Down) → IsFailed down
+  fails rows down = rows-failed s g v changed has (same-rows v keeper v.carrier rows) client now flying d busy
+      (goes-working d 0 started at) down
+
   -- ---- truncates
 
   module _ (handle len : ℕ) (of_op : d.op ≡ op.Truncate handle len) where
@@ -127,6 +139,9 @@ module _ (s : State) (client now : ℕ) (d : Doing) (busy : (s.clients client).d
             → truncate s.tree who len ≡ Err fault
         refusal (inl e) = ap (λ (t : Tree). truncate t who len) has.tree ∙ e
         refusal (inr full) = absurd full.full
+
+    pub truncate-failed : (down : Down) → Truncates_to (Err (OfRows (row_fault down))) → IsFailed down
+    truncate-failed down changes = fails changes.undone down
 
   -- ---- copies
 
@@ -193,3 +208,6 @@ module _ (s : State) (client now : ℕ) (d : Doing) (busy : (s.clients client).d
             copy-crowded start alone s client now d busy started at flushed source from target to len of_op does
             (crowds start within full.full) (copy rows_tree who from to len)
             (ap (λ (t : Tree). copy t who from to len) has.tree) full.otherwise))
+
+    pub copy-failed : (more : ℕ) (down : Down) → Copies_to more (Err (OfRows (row_fault down))) → IsFailed down
+    copy-failed more down changes = fails changes.undone down

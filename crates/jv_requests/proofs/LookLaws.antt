@@ -4,6 +4,7 @@ use Rattle.std.specs.Prelude.{is_some, length, IfSome, IsTrue}
 use Rattle.jv_model.specs.declared.act.ActKind.TheVariants.{Answered, Look, Quiet}
 use Rattle.jv_model.specs.declared.act.Told.{Told}
 use Rattle.jv_model.specs.declared.act.Told.TheVariants.{Looks, Refused as ToldRefused}
+use Rattle.jv_model.specs.declared.fault.Down.{Down}
 use Rattle.jv_model.specs.declared.fault.Fault.{Fault}
 use Rattle.jv_model.specs.declared.fault.Fault.TheVariants.{Stale}
 use Rattle.jv_model.specs.declared.fault.Gone.TheVariants.{Session, Node}
@@ -17,13 +18,14 @@ use Rattle.jv_model.specs.declared.profile.Does.TheVariants.{Reads}
 use Rattle.jv_model.specs.declared.row.RowKey.{RowKey}
 use Rattle.jv_model.specs.declared.slice.Rec.{Rec}
 use Rattle.jv_model.specs.FiniteMap.{get}
+use Rattle.jv_model.specs.rows.RowFaults.{row_fault}
 use Rattle.jv_model.specs.tree.Attempt.{◌>>=◌, require, some_or}
 use Rattle.jv_model.specs.tree.Tree.{Tree, Content, Kind, File, Directory, Symlink, Node as TreeNode, content_at, content_of, node_at}
 use Rattle.jv_model.specs.client.ModelClient.{ModelClient, OpenFile, Doing, Reading, session_of}
 use Rattle.jv_model.specs.client.Profile.{handle_of}
 use Rattle.jv_model.specs.journal.Reading.{asked_parts, reading}
-use Rattle.jv_model.specs.journal.State.{State, after_told}
-use Rattle.jv_model.specs.journal.Steps.{file_in_use, window_to_look}
+use Rattle.jv_model.specs.journal.State.{State, after_told, or_empty}
+use Rattle.jv_model.specs.journal.Steps.{file_in_use, must_answer, window_to_look}
 use Rattle.jv_outside.specs.Store.{Store}
 use Rattle.jv_volume.specs.TypedRows.{typed}
 use Rattle.jv_volume.specs.Views.{lists_of}
@@ -39,11 +41,12 @@ use Rattle.jv_shared.specs.Shared.{HasStore, Known, Shared}
 use Rattle.jv_shared.proofs.SameLaws.{same-rows, same-stays}
 use Rattle.jv_shared.proofs.StoreLaws.{look-view, view-stays}
 use Rattle.jv_steps.specs.IsStep.{at_stage}
-use Rattle.jv_steps.specs.Stages.{MayRead, with_look}
+use Rattle.jv_steps.specs.Stages.{Begins, GoesOn, MayRead, with_look}
 use Rattle.jv_steps.proofs.ReadStepLaws.{read-answered_look}
+use Rattle.jv_steps.proofs.RefusalStepLaws.{goes-reading, goes-working}
 use Rattle.jv_steps.proofs.LookStepLaws.{look-step, look-refused_session, look-refused_node}
 use Rattle.jv_requests.specs.Request.{Request}
-use Rattle.jv_requests.proofs.StillLaws.{found-in, still-request}
+use Rattle.jv_requests.proofs.StillLaws.{fault_of_rows, found-in, rows-failed, still-request}
 
 -- ---- what a session sees of a file
 
@@ -102,6 +105,11 @@ file-gone (Some node) file none =
 
 -- ---- the look of a reading
 
+-- a reading that may go on may fail
+pub goes-look : {c : ModelClient} {d : Doing} {misses : ℕ} → MayRead c d misses → must_answer d ≡ false
+goes-look {d = d} (Begins started at flushed first) = goes-working d 0 started at
+goes-look {d = d} {misses = misses} (GoesOn at) = goes-reading d misses at
+
 module _ (s : State) (client now : ℕ) (d : Doing) (busy : (s.clients client).doing ≡ Some d)
     (offset len : ℕ) (does : d.does ≡ Reads offset len) where
   abbrev mine : ModelClient
@@ -127,6 +135,10 @@ module _ (s : State) (client now : ℕ) (d : Doing) (busy : (s.clients client).d
       pub looked-sees : SeesFile sid file.inode view.length s.tree
       looked-sees = sees_file sid file.inode s.tree view.length
           (found-in s.tree g v has keeper (Ok view.length) (length_seen sid file.inode) looks.looks)
+
+      -- the model's view has the bytes that the file has
+      pub looked-content : or_empty (content_at s.tree file.inode) ≡ looked-sees.content
+      looked-content = ap or_empty looked-sees.file
 
       -- it looks at the window, and goes on
       pub look-request : Request s g g v looked client now flying flying (Look file.inode window ∷ []) More s.tree
@@ -163,6 +175,14 @@ module _ (s : State) (client now : ℕ) (d : Doing) (busy : (s.clients client).d
             (λ start alone. read-answered_look start alone s client now d busy offset len does file opened first second
             bytes misses may window look sees.session
             (content-there (node_at s.tree file.inode) sees.content sees.file) reads)
+
+    -- the keeper failed, or memory ran out
+    pub look-failed : (down : Down) → LooksAt sid file.inode window v.keeper keeper (Err (OfRows (row_fault down)))
+        → Request s g g v looked client now flying flying (Answered (ToldRefused (fault_of_rows down)) ∷ [])
+        (Done (Refused (fault_of_rows down))) s.tree (record mine { doing = None }) s.copied
+    look-failed down looks =
+        rows-failed s g v looked has (looked-still (Err (OfRows (row_fault down))) looks) client now flying d busy
+        (goes-look may) down
 
     -- a look that is refused, since the session or the file is gone
     module _ (holdable : IsHoldable s.tree file.inode) (fault : Fault)

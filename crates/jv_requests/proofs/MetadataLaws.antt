@@ -3,6 +3,7 @@ use Rattle.std.proofs.Common.{◌≡◌, ℕ, ◌+◌, ◌≤◌, Bool, true, fa
 use Rattle.std.specs.Prelude.{length}
 use Rattle.jv_model.specs.declared.act.ActKind.TheVariants.{Answered, Meta}
 use Rattle.jv_model.specs.declared.act.Told.TheVariants.{Refused as ToldRefused}
+use Rattle.jv_model.specs.declared.fault.Down.{Down}
 use Rattle.jv_model.specs.declared.fault.Fault.{Fault}
 use Rattle.jv_model.specs.declared.fault.Fault.TheVariants.{DeviceFailed, NoMemory}
 use Rattle.jv_model.specs.declared.fault.RowFault.TheVariants.{Bad}
@@ -14,7 +15,7 @@ use Rattle.jv_model.specs.declared.op.Reply.TheVariants as reply
 use Rattle.jv_model.specs.declared.op.Step.TheVariants.{Done}
 use Rattle.jv_model.specs.declared.row.RowKey.{RowKey}
 use Rattle.jv_model.specs.declared.slice.Rec.{Rec}
-use Rattle.jv_model.specs.rows.RowKeys.{RowMap}
+use Rattle.jv_model.specs.rows.RowFaults.{row_fault}
 use Rattle.jv_model.specs.tree.Tree.{Tree, is_sustained}
 use Rattle.jv_model.specs.tree.Caller.{Caller, Outcome, outcome}
 use Rattle.jv_model.specs.tree.TreeAct.{tree_act}
@@ -38,9 +39,10 @@ use Rattle.jv_shared.specs.Shared.{HasStore, Known, Shared}
 use Rattle.jv_shared.proofs.SameLaws.{same-rows}
 use Rattle.jv_steps.specs.Stages.{handed}
 use Rattle.jv_steps.proofs.TransactionStepLaws.{transaction-step, transaction-refused}
+use Rattle.jv_steps.proofs.RefusalStepLaws.{goes-working}
 use Rattle.jv_requests.specs.Request.{Request}
 use Rattle.jv_requests.proofs.LandedLaws.{acted-stays, landed-request, told_in}
-use Rattle.jv_requests.proofs.StillLaws.{still-request}
+use Rattle.jv_requests.proofs.StillLaws.{fault_of_rows, rows-failed, still-request}
 
 -- ---- the tree answers no failure
 
@@ -150,6 +152,14 @@ module _ (s : State) (client now : ℕ) (d : Doing) (busy : (s.clients client).d
         (Meta ∷ Answered (ToldRefused fault) ∷ []) (Done (reply.Refused fault)) (after_told d.op (ToldRefused fault) mine)
         (λ start alone. transaction-refused start alone s client now d busy started at flushed makes fault does
         (replies-calm s.tree who d.op (reply.Refused fault) (ap (λ (done : Outcome). done.reply) does)))
+
+    -- the keeper failed, or memory ran out
+    pub transaction-failed : (down : Down) → Transacts {A = A} ready v.keeper keeper (Err (OfRows (row_fault down))) says act
+        → Request s g g v made client now flying flying (Answered (ToldRefused (fault_of_rows down)) ∷ [])
+        (Done (reply.Refused (fault_of_rows down))) s.tree (record mine { doing = None }) s.copied
+    transaction-failed down tx =
+        rows-failed s g v made has (same-rows v keeper v.carrier tx.undone) client now flying d busy
+        (goes-working d 0 started at) down
 
   -- the file that the session keeps from then on is the one that is told
   pub keeps-told : HoldsFiles who.held s.tree → (kept : Option ℕ) → KeepsOne who d.op v.keeper kept → (inode : ℕ)

@@ -4,7 +4,11 @@ use Rattle.std.specs.Prelude.{◌<◌, true, false, Result}
 use Rattle.jv_model.specs.declared.act.ActKind.{ActKind}
 use Rattle.jv_model.specs.declared.act.ActKind.TheVariants.{Answered}
 use Rattle.jv_model.specs.declared.act.Told.TheVariants.{Refused as ToldRefused}
+use Rattle.jv_model.specs.declared.fault.Device.TheVariants.{Keeper}
+use Rattle.jv_model.specs.declared.fault.Down.{Down}
+use Rattle.jv_model.specs.declared.fault.Down.TheVariants.{Failed, Memory}
 use Rattle.jv_model.specs.declared.fault.Fault.{Fault}
+use Rattle.jv_model.specs.declared.fault.Fault.TheVariants.{DeviceFailed, NoMemory}
 use Rattle.jv_model.specs.declared.fault.TxFault.{TxFault}
 use Rattle.jv_model.specs.declared.op.Reply.TheVariants.{Refused}
 use Rattle.jv_model.specs.declared.op.Step.{Step}
@@ -49,6 +53,15 @@ found-in t g v has after result finds looks =
     subst (λ t. Agrees result (finds t)) (sym has.tree)
     (looks.agrees has.rows has.rows_are has.whole (bytes_of (told_by v.yard.setting.block g.blocks) (typed has.rows)))
 
+-- what a call on rows that wasn't made is to the client
+abbrev pub fault_of_rows : Down → Fault
+fault_of_rows Failed = DeviceFailed Keeper
+fault_of_rows Memory = NoMemory
+
+fails-rows : (down : Down) → is_failure (ToldRefused (fault_of_rows down)) ≡ true
+fails-rows Failed = refl
+fails-rows Memory = refl
+
 module _ (s : State) (g : Known) (v v' : Shared) (has : HasStore s.tree g v) (same : HoldsSame v v')
     (client now mine : ℕ) where
   same-grows : (kinds : List ActKind) (step : Step) (c : ModelClient)
@@ -82,3 +95,9 @@ module _ (s : State) (g : Known) (v v' : Shared) (has : HasStore s.tree g v) (sa
   failure-request d busy goes fault fails =
       still-request (Answered (ToldRefused fault) ∷ []) (Done (Refused fault)) (record (s.clients client) { doing = None })
       (λ start alone. failure-step start alone s client now d busy goes fault fails)
+
+  -- the keeper failed, or memory ran out
+  pub rows-failed : (d : Doing) → (s.clients client).doing ≡ Some d → must_answer d ≡ false → (down : Down)
+      → Request s g g v v' client now mine mine (Answered (ToldRefused (fault_of_rows down)) ∷ [])
+      (Done (Refused (fault_of_rows down))) s.tree (record (s.clients client) { doing = None }) s.copied
+  rows-failed d busy goes down = failure-request d busy goes (fault_of_rows down) (fails-rows down)
