@@ -1,6 +1,6 @@
 -- Truncates and copies, each one transaction on lists of slices: made, refused, or not made since rows couldn't be had.
-use Rattle.std.proofs.Common.{◌≡◌, ◌⊎◌, ℕ, ◌+◌, ◌≤◌, ◌<◌, inl, inr, Bool, true, false, List, [], ◌∷◌, Option, None, Some, Result, Ok, Err, refl, sym, ap, subst, ◌∙◌, arith}
-use Rattle.std.specs.Prelude.{◌||◌, nat_le, length, IfErr}
+use Rattle.std.proofs.Common.{◌≡◌, ◌⊎◌, ℕ, ◌+◌, inl, inr, Bool, true, List, [], ◌∷◌, None, Some, Result, Ok, Err, sym, ap, subst, ◌∙◌, arith}
+use Rattle.std.specs.Prelude.{nat_le}
 use Rattle.std.proofs.lemmas.Bool.{le-leb, or_right}
 use Rattle.jv_model.specs.declared.act.ActKind.TheVariants.{Answered, Copied, Quiet, Truncated}
 use Rattle.jv_model.specs.declared.act.Told.TheVariants.{Fine, Refused as ToldRefused}
@@ -32,7 +32,7 @@ use Rattle.jv_outside.specs.Store.{Store}
 use Rattle.jv_volume.specs.TypedRows.{Rows, typed}
 use Rattle.jv_contents.specs.Bytes.{tree_with}
 use Rattle.jv_contents.specs.Counts.{record_count}
-use Rattle.jv_data.specs.Changing.{AnyTold, Changed, Changes, IsCrowded, IsFull, LandsChanged, Makes, Never}
+use Rattle.jv_data.specs.Changing.{AnyTold, Changes, IsCrowded, IsFull, LandsChanged, Makes, Never}
 use Rattle.jv_shared.specs.Keeping.{HoldsSame}
 use Rattle.jv_shared.specs.Shared.{HasStore, Known, Shared, rows_in, typed_in}
 use Rattle.jv_shared.proofs.SameLaws.{same-rows}
@@ -114,8 +114,7 @@ module _ (s : State) (client now : ℕ) (d : Doing) (busy : (s.clients client).d
         let landed = lands-in (record { own = 0; size = 0; more = 1; due = due }) Never s.tree g v has keeper
         (λ unit. reply.Done) (λ t. truncate t who len) (Ok tt) changes in
         let model : truncate s.tree who len ≡ Ok (record { tree = left_tree landed.left; reply = reply.Done }) =
-        ap (λ (t : Tree). truncate t who len) has.tree ∙ landed.model in
-        (
+        ap (λ (t : Tree). truncate t who len) has.tree ∙ landed.model in (
           left_tree landed.left,
           landed-request s g v has client now flying keeper landed.left landed.is landed.whole 1 landed.others
               (acted-stays s.tree g v has who (op.Truncate handle len) (record { tree = left_tree landed.left; reply = reply.Done })
@@ -160,8 +159,7 @@ module _ (s : State) (client now : ℕ) (d : Doing) (busy : (s.clients client).d
         let landed = lands-in (record { own = 0; size = 0; more = count; due = due }) (IsCrowded FILE_END) s.tree g v has keeper
         (λ n. reply.Count n) (λ t. copy t who from to len) (Ok count) changes in
         let model : copy s.tree who from to len ≡ Ok (record { tree = left_tree landed.left; reply = reply.Count count }) =
-        ap (λ (t : Tree). copy t who from to len) has.tree ∙ landed.model in
-        (
+        ap (λ (t : Tree). copy t who from to len) has.tree ∙ landed.model in (
           left_tree landed.left,
           landed-request s g v has client now flying keeper landed.left landed.is landed.whole count landed.others
               (acted-stays s.tree g v has who (op.Copy source from target to len)

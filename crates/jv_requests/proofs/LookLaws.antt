@@ -1,6 +1,6 @@
 -- Looks at a window of a file: the view that a reading goes on with, or why it is refused.
-use Rattle.std.proofs.Common.{◌≡◌, ℕ, Bool, true, false, List, [], ◌∷◌, Option, None, Some, Result, Ok, Err, refl, sym, ap, subst, ◌∙◌}
-use Rattle.std.specs.Prelude.{is_some, length, IfSome, IsTrue}
+use Rattle.std.proofs.Common.{◌≡◌, ℕ, Bool, true, false, List, [], ◌∷◌, Option, None, Some, Result, Ok, Err, refl, sym, ap, subst}
+use Rattle.std.specs.Prelude.{is_some, length, IsTrue}
 use Rattle.jv_model.specs.declared.act.ActKind.TheVariants.{Answered, Look, Quiet}
 use Rattle.jv_model.specs.declared.act.Told.{Told}
 use Rattle.jv_model.specs.declared.act.Told.TheVariants.{Looks, Refused as ToldRefused}
@@ -8,7 +8,6 @@ use Rattle.jv_model.specs.declared.fault.Down.{Down}
 use Rattle.jv_model.specs.declared.fault.Fault.{Fault}
 use Rattle.jv_model.specs.declared.fault.Fault.TheVariants.{Stale}
 use Rattle.jv_model.specs.declared.fault.Gone.TheVariants.{Session, Node}
-use Rattle.jv_model.specs.declared.fault.RowFault.{RowFault}
 use Rattle.jv_model.specs.declared.fault.RowFault.TheVariants.{Bad}
 use Rattle.jv_model.specs.declared.fault.TxFault.{TxFault}
 use Rattle.jv_model.specs.declared.fault.TxFault.TheVariants.{Refused as RefusedBy, Moved, Rows as OfRows}
@@ -20,7 +19,7 @@ use Rattle.jv_model.specs.declared.slice.Rec.{Rec}
 use Rattle.jv_model.specs.FiniteMap.{get}
 use Rattle.jv_model.specs.rows.RowFaults.{row_fault}
 use Rattle.jv_model.specs.tree.Attempt.{◌>>=◌, require, some_or}
-use Rattle.jv_model.specs.tree.Tree.{Tree, Content, Kind, File, Directory, Symlink, Node as TreeNode, content_at, content_of, node_at}
+use Rattle.jv_model.specs.tree.Tree.{Tree, Content, File, Directory, Symlink, Node as TreeNode, content_at, content_of, node_at}
 use Rattle.jv_model.specs.client.ModelClient.{ModelClient, OpenFile, Doing, Reading, session_of}
 use Rattle.jv_model.specs.client.Profile.{handle_of}
 use Rattle.jv_model.specs.journal.Reading.{asked_parts, reading}
@@ -34,7 +33,7 @@ use Rattle.jv_volume.specs.Shape.{Regular, form_of, is_there}
 use Rattle.jv_yard.proofs.CallLaws.{known_is}
 use Rattle.jv_data.specs.declared.looking.View.{View}
 use Rattle.jv_data.specs.Committing.{length_seen}
-use Rattle.jv_data.specs.Records.{LooksAt, length_viewed}
+use Rattle.jv_data.specs.Records.{LooksAt}
 use Rattle.jv_shared.specs.Keeping.{HoldsSame}
 use Rattle.jv_shared.specs.Seen.{IsView}
 use Rattle.jv_shared.specs.Shared.{HasStore, Known, Shared}

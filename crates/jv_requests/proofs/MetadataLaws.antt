@@ -1,6 +1,5 @@
 -- Transactions on metadata: made and answered, refused, or not made since rows couldn't be had.
-use Rattle.std.proofs.Common.{◌≡◌, ℕ, ◌+◌, ◌≤◌, Bool, true, false, ◌&&◌, not, List, [], ◌∷◌, Option, None, Some, Result, Ok, Err, refl, sym, ap, subst, ◌∙◌, arith}
-use Rattle.std.specs.Prelude.{length}
+use Rattle.std.proofs.Common.{◌≡◌, ℕ, true, false, ◌&&◌, not, List, [], ◌∷◌, Option, None, Some, Result, Ok, Err, refl, sym, ap, subst, ◌∙◌, arith}
 use Rattle.jv_model.specs.declared.act.ActKind.TheVariants.{Answered, Meta}
 use Rattle.jv_model.specs.declared.act.Told.TheVariants.{Refused as ToldRefused}
 use Rattle.jv_model.specs.declared.fault.Down.{Down}
@@ -24,8 +23,8 @@ use Rattle.jv_model.specs.client.Submission.{is_flushed}
 use Rattle.jv_model.specs.journal.State.{State, after_told, caller, gift_of, transacted}
 use Rattle.jv_model.specs.journal.Steps.{entry_of_gift, is_failure, told_of, transacts}
 use Rattle.jv_outside.specs.Store.{Store}
-use Rattle.jv_rows.specs.Transactions.{Landed, Lands, Transacts}
-use Rattle.jv_volume.specs.TypedRows.{Rows, typed}
+use Rattle.jv_rows.specs.Transactions.{Lands, Transacts}
+use Rattle.jv_volume.specs.TypedRows.{typed}
 use Rattle.jv_volume.specs.TreeOf.{tree_of}
 use Rattle.jv_volume.specs.Holding.{is_device_or_memory}
 use Rattle.jv_volume.proofs.ReplyLaws.{no_device_or_memory}
@@ -128,8 +127,7 @@ module _ (s : State) (client now : ℕ) (d : Doing) (busy : (s.clients client).d
         (λ i inode p. bytes-stay (typed has.rows) (typed landed.left) landed.quiet.apart told inode p i)) in
         let does : transacted s client now d.op ≡ out =
         acted (Ok (record { tree = tree_of (bytes_of told (typed has.rows)) (typed landed.left); reply = says x })) landed.model
-        ∙ ap (λ (t : Tree). record { tree = t; reply = says x }) same in
-        (
+        ∙ ap (λ (t : Tree). record { tree = t; reply = says x }) same in (
           after,
           does,
           landed-request s g v has client now flying keeper landed.left landed.is landed.whole 0

@@ -1,6 +1,6 @@
 -- Requests after which devices hold what they held: they lead to the same tree.
-use Rattle.std.proofs.Common.{◌≡◌, ◌≢◌, ℕ, Bool, [], ◌∷◌, List, length, None, Some, refl, sym, ap, subst, arith}
-use Rattle.std.specs.Prelude.{◌<◌, true, false, Result}
+use Rattle.std.proofs.Common.{◌≡◌, ℕ, Bool, [], ◌∷◌, List, None, Some, refl, sym, ap, subst, arith}
+use Rattle.std.specs.Prelude.{true, false, Result}
 use Rattle.jv_model.specs.declared.act.ActKind.{ActKind}
 use Rattle.jv_model.specs.declared.act.ActKind.TheVariants.{Answered}
 use Rattle.jv_model.specs.declared.act.Told.TheVariants.{Refused as ToldRefused}
@@ -19,17 +19,15 @@ use Rattle.jv_model.specs.journal.State.{State}
 use Rattle.jv_model.specs.journal.Steps.{Start, is_failure, must_answer}
 use Rattle.jv_outside.specs.Store.{Store}
 use Rattle.jv_rows.specs.Transactions.{Agrees, Looks}
-use Rattle.jv_volume.specs.TypedRows.{Rows, typed}
+use Rattle.jv_volume.specs.TypedRows.{typed}
 use Rattle.jv_volume.specs.Slices.{next_slice}
 use Rattle.jv_volume.specs.Holding.{Stays}
 use Rattle.jv_contents.specs.Blocks.{told_by}
 use Rattle.jv_contents.specs.Bytes.{bytes_of}
 use Rattle.jv_contents.specs.Counts.{record_count}
-use Rattle.jv_contents.specs.Flights.{Flight}
-use Rattle.jv_shared.specs.Flying.{Flies}
 use Rattle.jv_shared.specs.Keeping.{HoldsSame}
 use Rattle.jv_shared.specs.Shared.{HasStore, Known, Shared, rows_in, typed_in}
-use Rattle.jv_shared.proofs.SameLaws.{same-leads, same-rows}
+use Rattle.jv_shared.proofs.SameLaws.{same-leads}
 use Rattle.jv_steps.specs.IsStep.{IsStep}
 use Rattle.jv_steps.proofs.RefusalStepLaws.{failure-step}
 use Rattle.jv_requests.specs.Request.{IsApart, IsWithin, Request}
