@@ -41,7 +41,8 @@ module _ (t : Tree) (g : Known) (v : Shared) (has : HasStore t g v) where
   pub acted-stays : (who : Caller) (o : Op) (after : Outcome) → tree_act t who o ≡ after → Stays t after.tree
   acted-stays who o after e = subst (λ (done : Outcome). Stays t done.tree) e (stays-tree_act t who store-shape o)
 
-module _ (s : State) (g : Known) (v : Shared) (has : HasStore s.tree g v) (client now flying : ℕ) (keeper : Store) where
+module _ (s : State) (g : Known) (v : Shared) (has : HasStore s.tree g v) (client now flying : ℕ)
+    (keeper : Store) where
   abbrev after : Shared
   after = record v { keeper = keeper }
 
@@ -63,7 +64,10 @@ module _ (s : State) (g : Known) (v : Shared) (has : HasStore s.tree g v) (clien
         let records_left = ap record_count is_left in
         let next = others.next in
         let many = others.records in
-        record { numbers = omega (arith, numbers, numbers_left, next); records = omega (arith, records, records_left, many, few) }
+        record {
+          numbers = omega (arith, numbers, numbers_left, next);
+          records = omega (arith, records, records_left, many, few);
+        }
 
     -- A transaction that makes no slice, and adds no more records than the model counts for it.
     pub landed-request : more + s.copied ≤ length kinds + copied

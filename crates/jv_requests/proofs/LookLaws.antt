@@ -1,5 +1,6 @@
 -- Looks at a window of a file: the view that a reading goes on with, or why it is refused.
-use Rattle.std.proofs.Common.{◌≡◌, ℕ, Bool, true, false, List, [], ◌∷◌, Option, None, Some, Result, Ok, Err, refl, sym, ap, subst}
+use Rattle.std.proofs.Common.{◌≡◌, ℕ, Bool, true, false, List, [], ◌∷◌, Option, None, Some, Result, Ok, Err, refl}
+use Rattle.std.proofs.Common.{sym, ap, subst}
 use Rattle.std.specs.Prelude.{is_some, length, IsTrue}
 use Rattle.jv_model.specs.declared.act.ActKind.TheVariants.{Answered, Look, Quiet}
 use Rattle.jv_model.specs.declared.act.Told.{Told}
@@ -19,7 +20,8 @@ use Rattle.jv_model.specs.declared.slice.Rec.{Rec}
 use Rattle.jv_model.specs.FiniteMap.{get}
 use Rattle.jv_model.specs.rows.RowFaults.{row_fault}
 use Rattle.jv_model.specs.tree.Attempt.{◌>>=◌, require, some_or}
-use Rattle.jv_model.specs.tree.Tree.{Tree, Content, File, Directory, Symlink, Node as TreeNode, content_at, content_of, node_at}
+use Rattle.jv_model.specs.tree.Tree.{Tree, Content, File, Directory, Symlink, Node as TreeNode, content_at}
+use Rattle.jv_model.specs.tree.Tree.{content_of, node_at}
 use Rattle.jv_model.specs.client.ModelClient.{ModelClient, OpenFile, Doing, Reading, session_of}
 use Rattle.jv_model.specs.client.Profile.{handle_of}
 use Rattle.jv_model.specs.journal.Reading.{asked_parts, reading}
@@ -92,10 +94,13 @@ content-there None content e = absurd (cc)
 content-there (Some node) content e = refl
 
 -- a node that can only be a file, and has no bytes, is gone
-pub file-gone : (o : Option TreeNode) → (IsTrue (is_there (form_of o)) → form_of o ≡ Regular) → content_of o ≡ None → o ≡ None
+pub file-gone : (o : Option TreeNode) → (IsTrue (is_there (form_of o)) → form_of o ≡ Regular) → content_of o ≡ None
+    → o ≡ None
 file-gone None file none = refl
 file-gone (Some node) file none =
-    elim node.kind as (λ kind. (IsTrue (is_there (form_of (Some (record node { kind = kind })))) → form_of (Some (record node { kind = kind })) ≡ Regular)
+    elim node.kind as (λ kind.
+    (IsTrue (is_there (form_of (Some (record node { kind = kind }))))
+    → form_of (Some (record node { kind = kind })) ≡ Regular)
     → content_of (Some (record node { kind = kind })) ≡ None → Some node ≡ None) [
       | File content ↦ λ file none. absurd (cc none)
       | Directory parent ↦ λ file none. absurd (let is = file refl in cc is)
@@ -124,7 +129,8 @@ module _ (s : State) (client now : ℕ) (d : Doing) (busy : (s.clients client).d
     looked = record v { keeper = keeper }
 
     -- whatever it came to, devices hold what they held
-    pub looked-still : (result : Result View TxFault) → LooksAt sid file.inode window v.keeper keeper result → HoldsSame v looked
+    pub looked-still : (result : Result View TxFault) → LooksAt sid file.inode window v.keeper keeper result
+        → HoldsSame v looked
     looked-still result looks = same-rows v keeper v.carrier looks.looks.rows_are
 
     module _ (view : View) (looks : LooksAt sid file.inode window v.keeper keeper (Ok view)) where
@@ -153,9 +159,11 @@ module _ (s : State) (client now : ℕ) (d : Doing) (busy : (s.clients client).d
       pub look-shows : IsView g looked window view.length view.list looked-sees.content
       look-shows =
           let sees = looked-sees in
-          view-stays s.tree g v has 0 g looked (same-stays 0 g v looked still) window view.length view.list sees.content
+          view-stays s.tree g v has 0 g looked (same-stays 0 g v looked still) window view.length view.list
+          sees.content
           (look-view s.tree g v has file.inode window view.length view.list sees.content sees.file sees.long
-          (known_is v.keeper.rows has.rows (λ known. view.list ≡ lists_of (typed known) file.inode window) has.rows_are looks.list))
+          (known_is v.keeper.rows has.rows (λ known. view.list ≡ lists_of (typed known) file.inode window)
+          has.rows_are looks.list))
 
       -- or that was all it wanted, and it answers with what it read
       module _ (first second : ℕ) (bytes : List ℕ)
@@ -171,8 +179,8 @@ module _ (s : State) (client now : ℕ) (d : Doing) (busy : (s.clients client).d
             let sees = looked-sees in
             still-request s g v looked has still client now flying (Look file.inode window ∷ Answered told ∷ [])
             (Done (Data bytes)) (after_told d.op told (with_look s d file.inode window mine))
-            (λ start alone. read-answered_look start alone s client now d busy offset len does file opened first second
-            bytes misses may window look sees.session
+            (λ start alone. read-answered_look start alone s client now d busy offset len does file opened first
+            second bytes misses may window look sees.session
             (content-there (node_at s.tree file.inode) sees.content sees.file) reads)
 
     -- the keeper failed, or memory ran out
@@ -195,7 +203,8 @@ module _ (s : State) (client now : ℕ) (d : Doing) (busy : (s.clients client).d
           still = looked-still (Err (RefusedBy fault)) looks
 
           IsRefused : Fault → Type 0
-          IsRefused fault = Request s g g v looked client now flying flying (Quiet ∷ Answered (ToldRefused fault) ∷ [])
+          IsRefused fault = Request s g g v looked client now flying flying
+              (Quiet ∷ Answered (ToldRefused fault) ∷ [])
               (Done (Refused fault)) s.tree (after_told d.op (ToldRefused fault) mine) s.copied
 
           by_cause : SeesNone sid file.inode s.tree fault → IsRefused fault
@@ -204,13 +213,16 @@ module _ (s : State) (client now : ℕ) (d : Doing) (busy : (s.clients client).d
               (still-request s g v looked has still client now flying
               (Quiet ∷ Answered (ToldRefused (Stale (Session sid))) ∷ []) (Done (Refused (Stale (Session sid))))
               (after_told d.op (ToldRefused (Stale (Session sid))) mine)
-              (λ start alone. look-refused_session start alone s client now d busy offset len does misses may file opened window look gone))
+              (λ start alone. look-refused_session start alone s client now d busy offset len does misses may file
+              opened window look gone))
           by_cause (NoFile session none is) =
               subst IsRefused (sym is)
               (still-request s g v looked has still client now flying
-              (Quiet ∷ Answered (ToldRefused (Stale (Node file.inode))) ∷ []) (Done (Refused (Stale (Node file.inode))))
+              (Quiet ∷ Answered (ToldRefused (Stale (Node file.inode))) ∷ [])
+              (Done (Refused (Stale (Node file.inode))))
               (after_told d.op (ToldRefused (Stale (Node file.inode))) mine)
-              (λ start alone. look-refused_node start alone s client now d busy offset len does misses may file opened window look session
+              (λ start alone. look-refused_node start alone s client now d busy offset len does misses may file opened
+              window look session
               (file-gone (node_at s.tree file.inode) holdable.file none)))
 
 -- A look at rows that are a tree's meets no malformed row, and asks for no list that may have moved.

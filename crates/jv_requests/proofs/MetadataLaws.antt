@@ -1,5 +1,6 @@
--- Transactions on metadata: made and answered, refused, or not made since rows couldn't be had.
-use Rattle.std.proofs.Common.{◌≡◌, ℕ, true, false, ◌&&◌, not, List, [], ◌∷◌, Option, None, Some, Result, Ok, Err, refl, sym, ap, subst, ◌∙◌, arith}
+-- Transactions on metadata: made and answered, refused, or failed.
+use Rattle.std.proofs.Common.{◌≡◌, ℕ, true, false, ◌&&◌, not, List, [], ◌∷◌, Option, None, Some, Result, Ok, Err}
+use Rattle.std.proofs.Common.{refl, sym, ap, subst, ◌∙◌, arith}
 use Rattle.jv_model.specs.declared.act.ActKind.TheVariants.{Answered, Meta}
 use Rattle.jv_model.specs.declared.act.Told.TheVariants.{Refused as ToldRefused}
 use Rattle.jv_model.specs.declared.fault.Down.{Down}
@@ -126,7 +127,8 @@ module _ (s : State) (client now : ℕ) (d : Doing) (busy : (s.clients client).d
         sym (ap (λ (bytes : ℕ → ℕ → ℕ). tree_of bytes (typed landed.left))
         (λ i inode p. bytes-stay (typed has.rows) (typed landed.left) landed.quiet.apart told inode p i)) in
         let does : transacted s client now d.op ≡ out =
-        acted (Ok (record { tree = tree_of (bytes_of told (typed has.rows)) (typed landed.left); reply = says x })) landed.model
+        acted (Ok (record { tree = tree_of (bytes_of told (typed has.rows)) (typed landed.left); reply = says x }))
+        landed.model
         ∙ ap (λ (t : Tree). record { tree = t; reply = says x }) same in (
           after,
           does,
@@ -140,19 +142,22 @@ module _ (s : State) (client now : ℕ) (d : Doing) (busy : (s.clients client).d
         )
 
     -- it is refused
-    pub transaction-not_made : (fault : Fault) → Transacts {A = A} ready v.keeper keeper (Err (RefusedBy fault)) says act
+    pub transaction-not_made : (fault : Fault)
+        → Transacts {A = A} ready v.keeper keeper (Err (RefusedBy fault)) says act
         → Request s g g v made client now flying flying (Meta ∷ Answered (ToldRefused fault) ∷ [])
         (Done (reply.Refused fault)) s.tree (after_told d.op (ToldRefused fault) mine) s.copied
     transaction-not_made fault tx =
         let does : transacted s client now d.op ≡ record { tree = s.tree; reply = reply.Refused fault } =
         acted (Err fault) (lands-in s.tree g v has keeper ready says act is_ready (Err (RefusedBy fault)) tx) in
         still-request s g v made has (same-rows v keeper v.carrier tx.undone) client now flying
-        (Meta ∷ Answered (ToldRefused fault) ∷ []) (Done (reply.Refused fault)) (after_told d.op (ToldRefused fault) mine)
+        (Meta ∷ Answered (ToldRefused fault) ∷ []) (Done (reply.Refused fault))
+        (after_told d.op (ToldRefused fault) mine)
         (λ start alone. transaction-refused start alone s client now d busy started at flushed makes fault does
         (replies-calm s.tree who d.op (reply.Refused fault) (ap (λ (done : Outcome). done.reply) does)))
 
     -- the keeper failed, or memory ran out
-    pub transaction-failed : (down : Down) → Transacts {A = A} ready v.keeper keeper (Err (OfRows (row_fault down))) says act
+    pub transaction-failed : (down : Down)
+        → Transacts {A = A} ready v.keeper keeper (Err (OfRows (row_fault down))) says act
         → Request s g g v made client now flying flying (Answered (ToldRefused (fault_of_rows down)) ∷ [])
         (Done (reply.Refused (fault_of_rows down))) s.tree (record mine { doing = None }) s.copied
     transaction-failed down tx =
@@ -169,5 +174,6 @@ module _ (s : State) (client now : ℕ) (d : Doing) (busy : (s.clients client).d
       (subst (HoldsFiles who.held) has.tree holds) inode in
       ap (λ (done : Outcome). is_sustained done.tree who.sid inode && not (is_sustained s.tree who.sid inode))
       (tree_act-attempt s.tree who d.op)
-      ∙ ap (λ (t : Tree). is_sustained (outcome t (attempt t who d.op)).tree who.sid inode && not (is_sustained t who.sid inode)) has.tree
+      ∙ ap (λ (t : Tree). is_sustained (outcome t (attempt t who d.op)).tree who.sid inode && not
+      (is_sustained t who.sid inode)) has.tree
       ∙ told

@@ -91,7 +91,8 @@ module _ (s : State) (g : Known) (v v' : Shared) (has : HasStore s.tree g v) (sa
       → Request s g g v v' client now mine mine (Answered (ToldRefused fault) ∷ []) (Done (Refused fault)) s.tree
       (record (s.clients client) { doing = None }) s.copied
   failure-request d busy goes fault fails =
-      still-request (Answered (ToldRefused fault) ∷ []) (Done (Refused fault)) (record (s.clients client) { doing = None })
+      still-request (Answered (ToldRefused fault) ∷ []) (Done (Refused fault))
+      (record (s.clients client) { doing = None })
       (λ start alone. failure-step start alone s client now d busy goes fault fails)
 
   -- the keeper failed, or memory ran out
