@@ -1,15 +1,15 @@
-//! Each device in memory: its short reads and writes, and its failing calls.
+//! Each device in memory: its short reads and writes, and its failing calls. Out of memory a check is false, too.
 ghost use Rattle.std.specs.Prelude.{◌<◌};
 
-use jv_model::{Down, Moment, RowKey, Rows, Sequence, copied};
+use jv_model::{Bytes, Down, Moment, RowKey, Rows, Sequence, copied};
 use jv_outside::{
     Batch, Clock, Fails, Keeper, MemClock, MemKeeper, MemSink, MemSource, NeverClock, NeverKeeper,
     NeverSink, NeverSource, Sink, Source, write_whole,
 };
 use std::alloc::{AllocError, Global};
-use std::test::Fail;
 
-fn failing_at(alloc: Global, number: u64) -> Result<Fails, AllocError> {
+/// The number of a device's only call that fails, or 0.
+pub(crate) fn failing_at(alloc: Global, number: u64) -> Result<Fails, AllocError> {
     let mut numbers = Sequence::new(alloc);
     numbers.push(number)?;
     Ok(Fails::At(numbers))
@@ -29,61 +29,95 @@ fn drained<S: Source>(alloc: Global, source: &mut S) -> Result<(Vec<u8>, u32), A
     Ok((bytes, errors))
 }
 
+/// Whether eight reads take the whole script, and `errors` of them fail.
+fn reads<S: Source>(alloc: Global, source: &mut S, errors: u32) -> bool {
+    match drained(alloc, source) {
+        Ok((bytes, failed)) => failed == errors && bytes.as_slice() == b"script".as_slice(),
+        Err(_) => false,
+    }
+}
+
 fn mem_source(alloc: Global, most: usize, failing: u64) -> Result<MemSource, AllocError>
     requires { 0 < most }
 {
-    let source = MemSource::new(copied(alloc, b"script")?, failing_at(alloc, failing)?);
+    let fails = failing_at(alloc, failing)?;
+    let source = MemSource::new(copied(alloc, b"script")?, fails);
     Ok(source.in_pieces_of(most))
 }
 
+fn mem_reads(alloc: Global, most: usize, failing: u64, errors: u32) -> bool
+    requires { 0 < most }
+{
+    match mem_source(alloc, most, failing) {
+        Ok(mut source) => reads(alloc, &mut source, errors),
+        Err(_) => false,
+    }
+}
+
+fn never_reads(alloc: Global) -> bool {
+    match copied(alloc, b"script") {
+        Ok(script) => reads(alloc, &mut NeverSource::new(script), 0),
+        Err(_) => false,
+    }
+}
+
 #[test]
-fn a_source_reads_all_its_bytes(rt: HostRuntime) -> Result<(), Fail> {
-    let alloc = rt.alloc();
+fn a_source_reads_all_its_bytes(rt: HostRuntime) {
     for (name, most, failing, errors) in [
         ("byte by byte", 1, 0, 0),
         ("its second call fails", 3, 2, 1),
         ("a call after the end fails", 9, 8, 1),
     ] {
-        let read = drained(alloc, &mut mem_source(alloc, most, failing)?)?;
-        assert_eq!(rt; read.0.as_slice(), b"script".as_slice(), "{name}");
-        assert_eq!(rt; read.1, errors, "{name}");
+        assert!(rt; mem_reads(rt.alloc(), most, failing, errors), "{name}");
     }
-    let mut never = NeverSource::new(copied(alloc, b"script")?);
-    assert_eq!(rt;
-        drained(alloc, &mut never)?.0.as_slice(),
-        b"script".as_slice()
-    );
-    Ok(())
+    assert!(rt; never_reads(rt.alloc()));
 }
 
 fn mem_sink(alloc: Global, most: usize, failing: u64) -> Result<MemSink, AllocError>
     requires { 0 < most }
 {
-    let sink = MemSink::new(copied(alloc, b"> ")?, failing_at(alloc, failing)?);
+    let fails = failing_at(alloc, failing)?;
+    let sink = MemSink::new(copied(alloc, b"> ")?, fails);
     Ok(sink.in_pieces_of(most))
 }
 
-#[test]
-fn a_sink_takes_bytes_up_to_its_failing_call(rt: HostRuntime) -> Result<(), Fail> {
-    let alloc = rt.alloc();
-    for (name, most, failing, taken) in [
-        ("byte by byte", 1, 0, 6),
-        ("its second call fails", 3, 2, 5),
-        ("its first call fails", 9, 1, 2),
-    ] {
-        let mut sink = mem_sink(alloc, most, failing)?;
-        let written = write_whole(&mut sink, b"ok 1");
-        assert_eq!(rt; sink.taken(), &b"> ok 1"[..taken], "{name}");
-        assert_eq!(rt; written.is_ok(), taken == 6, "{name}");
+/// Whether a write of `ok 1` succeeds if and only if the sink is to take the whole.
+fn takes<K: Sink>(sink: &mut K, whole: bool) -> bool {
+    write_whole(sink, b"ok 1").is_ok() == whole
+}
+
+/// Whether a sink that had `> ` has `taken` after a write of `ok 1`, which succeeds if and only if that is all.
+fn mem_takes(alloc: Global, most: usize, failing: u64, taken: &[u8]) -> bool
+    requires { 0 < most }
+{
+    match mem_sink(alloc, most, failing) {
+        Ok(mut sink) => takes(&mut sink, taken.len() == 6) && sink.taken() == taken,
+        Err(_) => false,
     }
-    let mut sink = NeverSink::new(copied(alloc, b"> ")?);
-    assert_eq!(rt; write_whole(&mut sink, b"ok 1"), Ok(()));
-    assert_eq!(rt; sink.taken(), Some(b"> ok 1".as_slice()));
-    Ok(())
+}
+
+fn never_takes(alloc: Global) -> bool {
+    let Ok(taken) = copied(alloc, b"> ") else {
+        return false;
+    };
+    let mut sink = NeverSink::new(taken);
+    takes(&mut sink, true) && sink.taken() == Some(b"> ok 1".as_slice())
 }
 
 #[test]
-fn a_clock_answers_its_moment(rt: HostRuntime) -> Result<(), Fail> {
+fn a_sink_takes_bytes_up_to_its_failing_call(rt: HostRuntime) {
+    for (name, most, failing, taken) in [
+        ("byte by byte", 1, 0, b"> ok 1".as_slice()),
+        ("its second call fails", 3, 2, b"> ok ".as_slice()),
+        ("its first call fails", 9, 1, b"> ".as_slice()),
+    ] {
+        assert!(rt; mem_takes(rt.alloc(), most, failing, taken), "{name}");
+    }
+    assert!(rt; never_takes(rt.alloc()));
+}
+
+#[test]
+fn a_clock_answers_its_moment(rt: HostRuntime) -> Result<(), AllocError> {
     let mut clock = MemClock::new(Moment(1000), failing_at(rt.alloc(), 2)?);
     assert_eq!(rt; clock.now(), Ok(Moment(1000)));
     assert_eq!(rt; clock.now(), Err(Down::Failed));
@@ -97,49 +131,141 @@ fn key(alloc: Global, tab: u8, a: u64, b: &[u8]) -> Result<RowKey, AllocError> {
     Ok(RowKey { tab, a, b })
 }
 
-fn rows(
-    alloc: Global,
-    all: &[(u8, u64, &'static [u8], &'static [u8])],
-) -> Result<Rows, AllocError> {
+/// A row's table, the number and the bytes of its key, and its own bytes.
+type Row = (u8, u64, &'static [u8], &'static [u8]);
+
+fn row(alloc: Global, shown: Row) -> Result<(RowKey, Bytes), AllocError> {
+    let (tab, a, b, bytes) = shown;
+    let key = key(alloc, tab, a, b)?;
+    Ok((key, copied(alloc, bytes)?))
+}
+
+fn rows(alloc: Global, all: &[Row]) -> Result<Rows, AllocError> {
     let mut rows = Sequence::new(alloc);
-    for (tab, a, b, bytes) in all {
-        rows.push((key(alloc, *tab, *a, *b)?, copied(alloc, *bytes)?))?;
+    for shown in all {
+        rows.push(row(alloc, *shown)?)?;
     }
     Ok(rows)
 }
 
-/// Whether a keeper of three rows opens, finds and scans them, takes a batch, and has what that left.
-fn keeps<K: Keeper>(alloc: Global, keeper: &mut K) -> Result<bool, AllocError> {
-    let mut batch = Batch::new(alloc);
-    batch.del(key(alloc, 3, 2, b"")?)?;
-    batch.put(key(alloc, 3, 4, b"")?, copied(alloc, b"new")?)?;
-    let opened = keeper.attach(&copied(alloc, b"a place")?).is_ok();
-    let first = keeper.get(&key(alloc, 3, 1, b"a")?);
-    let scanned = keeper.scan(3, None, 9);
-    let after = keeper.scan(3, Some(&key(alloc, 3, 1, b"")?), 1);
-    let committed = keeper.commit(&batch).is_ok();
-    let left = keeper.scan(3, None, 9);
-    Ok(
-        opened
-            && committed
-            && first == Ok(Some(copied(alloc, b"one")?))
-            && scanned == Ok(rows(alloc, &[(3, 1, b"a", b"one"), (3, 2, b"", b"two")])?)
-            && after == Ok(rows(alloc, &[(3, 1, b"a", b"one")])?)
-            && left == Ok(rows(alloc, &[(3, 1, b"a", b"one"), (3, 4, b"", b"new")])?),
+/// Three rows, two of them in table 3, in no order.
+fn three(alloc: Global) -> Result<Rows, AllocError> {
+    rows(
+        alloc,
+        &[
+            (3, 2, b"", b"two"),
+            (4, 0, b"", b"other"),
+            (3, 1, b"a", b"one"),
+        ],
     )
 }
 
-#[test]
-fn a_keeper_keeps_its_rows(rt: HostRuntime) -> Result<(), Fail> {
-    let alloc = rt.alloc();
-    let three = [
-        (3, 2, b"".as_slice(), b"two".as_slice()),
-        (4, 0, b"".as_slice(), b"other".as_slice()),
+fn mem_keeper(alloc: Global) -> Result<MemKeeper, AllocError> {
+    let fails = failing_at(alloc, 0)?;
+    Ok(MemKeeper::new(alloc, three(alloc)?, fails))
+}
+
+fn never_keeper(alloc: Global) -> Result<NeverKeeper, AllocError> {
+    Ok(NeverKeeper::new(alloc, three(alloc)?))
+}
+
+fn opens<K: Keeper>(alloc: Global, keeper: &mut K) -> bool {
+    let Ok(place) = copied(alloc, b"a place") else {
+        return false;
+    };
+    keeper.attach(&place).is_ok()
+}
+
+/// Whether a keeper finds the row 1 of table 3.
+fn finds<K: Keeper>(alloc: Global, keeper: &mut K) -> bool {
+    let Ok(key) = key(alloc, 3, 1, b"a") else {
+        return false;
+    };
+    match keeper.get(&key) {
+        Ok(Some(found)) => found.as_slice() == b"one".as_slice(),
+        _ => false,
+    }
+}
+
+/// Whether a keeper scans these rows of table 3, the first `n` after a key.
+fn scans<K: Keeper>(
+    alloc: Global,
+    keeper: &mut K,
+    after: Option<&RowKey>,
+    n: u32,
+    all: &[Row],
+) -> bool {
+    let Ok(rows) = rows(alloc, all) else {
+        return false;
+    };
+    keeper.scan(3, after, n) == Ok(rows)
+}
+
+fn scans_all<K: Keeper>(alloc: Global, keeper: &mut K) -> bool {
+    let all = [
         (3, 1, b"a".as_slice(), b"one".as_slice()),
+        (3, 2, b"", b"two"),
     ];
-    let mut mem = MemKeeper::new(alloc, rows(alloc, &three)?, failing_at(alloc, 0)?);
-    assert!(rt; keeps(alloc, &mut mem)?);
-    let mut never = NeverKeeper::new(alloc, rows(alloc, &three)?);
-    assert!(rt; keeps(alloc, &mut never)?);
+    scans(alloc, keeper, None, 9, &all)
+}
+
+fn scans_after_a_key<K: Keeper>(alloc: Global, keeper: &mut K) -> bool {
+    let Ok(key) = key(alloc, 3, 1, b"") else {
+        return false;
+    };
+    scans(alloc, keeper, Some(&key), 1, &[(3, 1, b"a", b"one")])
+}
+
+/// A batch that takes the row 2 and puts a row 4.
+fn changes(alloc: Global) -> Result<Batch, AllocError> {
+    let mut batch = Batch::new(alloc);
+    batch.del(key(alloc, 3, 2, b"")?)?;
+    let (key, bytes) = row(alloc, (3, 4, b"", b"new"))?;
+    batch.put(key, bytes)?;
+    Ok(batch)
+}
+
+fn commits<K: Keeper>(alloc: Global, keeper: &mut K) -> bool {
+    let Ok(batch) = changes(alloc) else {
+        return false;
+    };
+    keeper.commit(&batch).is_ok()
+}
+
+/// Whether a keeper scans what the changes left.
+fn scans_the_rest<K: Keeper>(alloc: Global, keeper: &mut K) -> bool {
+    let left = [
+        (3, 1, b"a".as_slice(), b"one".as_slice()),
+        (3, 4, b"", b"new"),
+    ];
+    scans(alloc, keeper, None, 9, &left)
+}
+
+/// Whether a keeper of three rows opens, finds and scans them.
+fn reads_rows<K: Keeper>(alloc: Global, keeper: &mut K) -> bool {
+    opens(alloc, keeper)
+        && finds(alloc, keeper)
+        && scans_all(alloc, keeper)
+        && scans_after_a_key(alloc, keeper)
+}
+
+/// Whether a keeper takes a batch, and has what that left.
+fn changes_rows<K: Keeper>(alloc: Global, keeper: &mut K) -> bool {
+    commits(alloc, keeper) && scans_the_rest(alloc, keeper)
+}
+
+#[test]
+fn a_keeper_keeps_its_rows(rt: HostRuntime) -> Result<(), AllocError> {
+    let mut keeper = mem_keeper(rt.alloc())?;
+    assert!(rt; reads_rows(rt.alloc(), &mut keeper));
+    assert!(rt; changes_rows(rt.alloc(), &mut keeper));
+    Ok(())
+}
+
+#[test]
+fn a_keeper_that_never_fails_keeps_its_rows(rt: HostRuntime) -> Result<(), AllocError> {
+    let mut keeper = never_keeper(rt.alloc())?;
+    assert!(rt; reads_rows(rt.alloc(), &mut keeper));
+    assert!(rt; changes_rows(rt.alloc(), &mut keeper));
     Ok(())
 }
