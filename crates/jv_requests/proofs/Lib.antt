@@ -6,6 +6,7 @@ pub mod GetLaws
 pub mod GrowsLaws
 pub mod LandedLaws
 pub mod LookLaws
+pub mod MetadataLaws
 pub mod NumberLaws
 pub mod PutLaws
 pub mod RequestLaws
