@@ -77,5 +77,5 @@ module _ (s : State) (g : Known) (v : Shared) (store : HasStore s.tree g v) (cli
   put-failed fault puts =
       flight-over g v f.id s g then_shared client now f.id (Answered (ToldRefused (fault_of fault)) ∷ [])
       (Done (Refused (fault_of fault))) s.tree (record c { doing = None }) s.copied
-      (failure-request s g v then_shared store (unput-same v f client now yard carrier fault puts) client now f.id d busy
-      (goes-working d quiets started at) (fault_of fault) (put-fails fault))
+      (failure-request s g v then_shared store (unput-same v f client now yard carrier fault puts) client now f.id d
+      busy (goes-working d quiets started at) (fault_of fault) (put-fails fault))
