@@ -30,7 +30,7 @@ use Rattle.jv_requests.proofs.FlightLaws.{apart-own, flight-over}
 use Rattle.jv_requests.proofs.StillLaws.{failure-request, stays-same}
 
 -- a block that isn't put is answered as a failure
-put-fails : (fault : PutFault) → is_failure (ToldRefused (fault_of fault)) ≡ true
+pub put-fails : (fault : PutFault) → is_failure (ToldRefused (fault_of fault)) ≡ true
 put-fails Carrier = refl
 put-fails Depot = refl
 put-fails Memory = refl
