@@ -1,5 +1,6 @@
--- Blocks that a reading asks for: it goes on with their bytes, which are those that are known of them, or a device failed.
-use Rattle.std.proofs.Common.{◌≡◌, ℕ, ◌<◌, ◌≤◌, Bool, true, false, List, [], ◌∷◌, Option, None, Some, Ok, Err, refl, sym, subst, ◌∙◌}
+-- Blocks that a reading asks for: it goes on with the bytes that are known of them, or a device failed.
+use Rattle.std.proofs.Common.{◌≡◌, ℕ, ◌<◌, ◌≤◌, Bool, true, false, List, [], ◌∷◌, Option, None, Some, Ok, Err, refl}
+use Rattle.std.proofs.Common.{sym, subst, ◌∙◌}
 use Rattle.std.specs.Prelude.{length, Contains}
 use Rattle.jv_model.specs.declared.act.ActKind.TheVariants.{Answered, Quiet}
 use Rattle.jv_model.specs.declared.act.Told.{Told}
@@ -36,7 +37,8 @@ use Rattle.jv_steps.proofs.RefusalStepLaws.{goes-reading, goes-working}
 use Rattle.jv_requests.specs.Request.{Request}
 use Rattle.jv_requests.proofs.StillLaws.{failure-request, still-request}
 
--- A reading may ask for a block: before its first request where it has a view of its first window, and after a request that missed none.
+-- A reading may ask for a block: before its first request where it has a view of its first window, and after a
+-- request that missed none.
 pub data MayGet (offset len : ℕ) (c : ModelClient) (d : Doing) (misses : ℕ) : Type 0 where
   First : (started : ℕ) → d.stage ≡ Working 0 started → is_flushed d.flush c.pending ≡ true
       → sees_first c d (asked_parts offset len) ≡ true → misses ≡ 0 → MayGet offset len c d misses
@@ -73,7 +75,8 @@ module _ (s : State) (g : Known) (v : Shared) (has : HasStore s.tree g v) (clien
       → b ≡ block_at r.id r.size v.yard.setting.block b.index → client ≤ 7 → (value : Option (List ℕ))
       → GetsBlock client (name_in v.yard.setting b) v.yard yard (Ok value) → GotBlock g b value
   got-block window long list content view b r among some below is low value gets =
-      let read = named_read s.tree g v has window long list content view b r among some below is client value low gets.1 in
+      let read = named_read s.tree g v has window long list content view b r among some below is client value low
+      gets.1 in
       record { bytes = read.1.bytes; is = read.0 ∙ read.1.is; known = read.1.is; long = read.1.long }
 
   module _ (now : ℕ) (d : Doing) (busy : (s.clients client).doing ≡ Some d) (offset len : ℕ)
@@ -91,14 +94,15 @@ module _ (s : State) (g : Known) (v : Shared) (has : HasStore s.tree g v) (clien
       -- the reading goes on
       pub get-request : Request s g g v got client now flying flying (Quiet ∷ []) More s.tree
           (at_stage (Reading misses) d mine) s.copied
-      get-request = still-request s g v got has still client now flying (Quiet ∷ []) More (at_stage (Reading misses) d mine)
+      get-request = still-request s g v got has still client now flying (Quiet ∷ []) More
+          (at_stage (Reading misses) d mine)
           (λ start alone. steps start alone misses may)
         where
           steps : (start : Start) (alone : Bool) (misses : ℕ) → MayGet offset len mine d misses
               → IsStep start alone s client now (Quiet ∷ []) More s.tree (at_stage (Reading misses) d mine) s.copied
           steps start alone misses (First started at flushed sees none) =
-              subst (λ n. IsStep start alone s client now (Quiet ∷ []) More s.tree (at_stage (Reading n) d mine) s.copied)
-              (sym none) (get-begins start alone s client now d busy offset len does started at flushed sees)
+              subst (λ n. IsStep start alone s client now (Quiet ∷ []) More s.tree (at_stage (Reading n) d mine)
+              s.copied) (sym none) (get-begins start alone s client now d busy offset len does started at flushed sees)
           steps start alone misses (Later at) = get-step start alone s client now d busy offset len does misses at
 
       -- or that was all it wanted, and it answers with what it read
@@ -107,9 +111,11 @@ module _ (s : State) (g : Known) (v : Shared) (has : HasStore s.tree g v) (clien
         abbrev told : Told
         told = Looks first second (length bytes)
 
-        pub get-answered : Request s g g v got client now flying flying (Quiet ∷ Answered told ∷ []) (Done (Data bytes))
+        pub get-answered : Request s g g v got client now flying flying (Quiet ∷ Answered told ∷ [])
+            (Done (Data bytes))
             s.tree (after_told d.op told mine) s.copied
-        get-answered = still-request s g v got has still client now flying (Quiet ∷ Answered told ∷ []) (Done (Data bytes))
+        get-answered = still-request s g v got has still client now flying (Quiet ∷ Answered told ∷ [])
+            (Done (Data bytes))
             (after_told d.op told mine) (λ start alone. steps start alone may)
           where
             steps : (start : Start) (alone : Bool) → MayGet offset len mine d misses
@@ -119,8 +125,8 @@ module _ (s : State) (g : Known) (v : Shared) (has : HasStore s.tree g v) (clien
                 read-answered_begins start alone s client now d busy offset len does file opened first second bytes
                 started at flushed sees reads
             steps start alone (Later at) =
-                read-answered_get start alone s client now d busy offset len does file opened first second bytes misses
-                at reads
+                read-answered_get start alone s client now d busy offset len does file opened first second bytes
+                misses at reads
 
     -- ---- a device failed, or memory ran out
 

@@ -1,5 +1,5 @@
 -- Requests that are one transaction on the keeper's rows: they lead to the tree of the rows left.
-use Rattle.std.proofs.Common.{◌≡◌, ◌≢◌, ℕ, ◌+◌, ◌≤◌, Bool, List, length, Option, Some, refl, sym, ap, subst, ◌∙◌, arith}
+use Rattle.std.proofs.Common.{◌≡◌, ℕ, ◌+◌, ◌≤◌, Bool, List, length, Some, sym, ap, subst, arith}
 use Rattle.jv_model.specs.declared.act.ActKind.{ActKind}
 use Rattle.jv_model.specs.declared.op.Op.{Op}
 use Rattle.jv_model.specs.declared.op.Step.{Step}
@@ -11,7 +11,7 @@ use Rattle.jv_model.specs.client.ModelClient.{ModelClient}
 use Rattle.jv_model.specs.journal.State.{State}
 use Rattle.jv_model.specs.journal.Steps.{Start}
 use Rattle.jv_outside.specs.Store.{Store}
-use Rattle.jv_volume.specs.TypedRows.{Rows, typed}
+use Rattle.jv_volume.specs.TypedRows.{typed}
 use Rattle.jv_volume.specs.Shape.{WholeShape, shape_of}
 use Rattle.jv_volume.specs.Slices.{next_slice}
 use Rattle.jv_volume.specs.Holding.{Stays}
@@ -24,7 +24,7 @@ use Rattle.jv_contents.specs.Counts.{KeepsOthers, record_count}
 use Rattle.jv_shared.specs.Shared.{HasStore, Known, Shared, rows_in, typed_in}
 use Rattle.jv_shared.proofs.RowStepLaws.{others-lead}
 use Rattle.jv_steps.specs.IsStep.{IsStep}
-use Rattle.jv_requests.specs.Request.{IsWithin, Request}
+use Rattle.jv_requests.specs.Request.{Request}
 use Rattle.jv_requests.proofs.RequestLaws.{Grows, request-of}
 use Rattle.jv_requests.proofs.StillLaws.{apart-none}
 
@@ -41,7 +41,8 @@ module _ (t : Tree) (g : Known) (v : Shared) (has : HasStore t g v) where
   pub acted-stays : (who : Caller) (o : Op) (after : Outcome) → tree_act t who o ≡ after → Stays t after.tree
   acted-stays who o after e = subst (λ (done : Outcome). Stays t done.tree) e (stays-tree_act t who store-shape o)
 
-module _ (s : State) (g : Known) (v : Shared) (has : HasStore s.tree g v) (client now flying : ℕ) (keeper : Store) where
+module _ (s : State) (g : Known) (v : Shared) (has : HasStore s.tree g v) (client now flying : ℕ)
+    (keeper : Store) where
   abbrev after : Shared
   after = record v { keeper = keeper }
 
@@ -63,7 +64,10 @@ module _ (s : State) (g : Known) (v : Shared) (has : HasStore s.tree g v) (clien
         let records_left = ap record_count is_left in
         let next = others.next in
         let many = others.records in
-        record { numbers = omega (arith, numbers, numbers_left, next); records = omega (arith, records, records_left, many, few) }
+        record {
+          numbers = omega (arith, numbers, numbers_left, next);
+          records = omega (arith, records, records_left, many, few);
+        }
 
     -- A transaction that makes no slice, and adds no more records than the model counts for it.
     pub landed-request : more + s.copied ≤ length kinds + copied

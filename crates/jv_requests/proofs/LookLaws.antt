@@ -1,13 +1,14 @@
 -- Looks at a window of a file: the view that a reading goes on with, or why it is refused.
-use Rattle.std.proofs.Common.{◌≡◌, ℕ, Bool, true, false, List, [], ◌∷◌, Option, None, Some, Result, Ok, Err, refl, sym, ap, subst, ◌∙◌}
-use Rattle.std.specs.Prelude.{is_some, length, IfSome, IsTrue}
+use Rattle.std.proofs.Common.{◌≡◌, ℕ, Bool, true, false, List, [], ◌∷◌, Option, None, Some, Result, Ok, Err, refl}
+use Rattle.std.proofs.Common.{sym, ap, subst}
+use Rattle.std.specs.Prelude.{is_some, length, IsTrue}
 use Rattle.jv_model.specs.declared.act.ActKind.TheVariants.{Answered, Look, Quiet}
 use Rattle.jv_model.specs.declared.act.Told.{Told}
 use Rattle.jv_model.specs.declared.act.Told.TheVariants.{Looks, Refused as ToldRefused}
+use Rattle.jv_model.specs.declared.fault.Down.{Down}
 use Rattle.jv_model.specs.declared.fault.Fault.{Fault}
 use Rattle.jv_model.specs.declared.fault.Fault.TheVariants.{Stale}
 use Rattle.jv_model.specs.declared.fault.Gone.TheVariants.{Session, Node}
-use Rattle.jv_model.specs.declared.fault.RowFault.{RowFault}
 use Rattle.jv_model.specs.declared.fault.RowFault.TheVariants.{Bad}
 use Rattle.jv_model.specs.declared.fault.TxFault.{TxFault}
 use Rattle.jv_model.specs.declared.fault.TxFault.TheVariants.{Refused as RefusedBy, Moved, Rows as OfRows}
@@ -17,13 +18,15 @@ use Rattle.jv_model.specs.declared.profile.Does.TheVariants.{Reads}
 use Rattle.jv_model.specs.declared.row.RowKey.{RowKey}
 use Rattle.jv_model.specs.declared.slice.Rec.{Rec}
 use Rattle.jv_model.specs.FiniteMap.{get}
+use Rattle.jv_model.specs.rows.RowFaults.{row_fault}
 use Rattle.jv_model.specs.tree.Attempt.{◌>>=◌, require, some_or}
-use Rattle.jv_model.specs.tree.Tree.{Tree, Content, Kind, File, Directory, Symlink, Node as TreeNode, content_at, content_of, node_at}
+use Rattle.jv_model.specs.tree.Tree.{Tree, Content, File, Directory, Symlink, Node as TreeNode, content_at}
+use Rattle.jv_model.specs.tree.Tree.{content_of, node_at}
 use Rattle.jv_model.specs.client.ModelClient.{ModelClient, OpenFile, Doing, Reading, session_of}
 use Rattle.jv_model.specs.client.Profile.{handle_of}
 use Rattle.jv_model.specs.journal.Reading.{asked_parts, reading}
-use Rattle.jv_model.specs.journal.State.{State, after_told}
-use Rattle.jv_model.specs.journal.Steps.{file_in_use, window_to_look}
+use Rattle.jv_model.specs.journal.State.{State, after_told, or_empty}
+use Rattle.jv_model.specs.journal.Steps.{file_in_use, must_answer, window_to_look}
 use Rattle.jv_outside.specs.Store.{Store}
 use Rattle.jv_volume.specs.TypedRows.{typed}
 use Rattle.jv_volume.specs.Views.{lists_of}
@@ -32,18 +35,19 @@ use Rattle.jv_volume.specs.Shape.{Regular, form_of, is_there}
 use Rattle.jv_yard.proofs.CallLaws.{known_is}
 use Rattle.jv_data.specs.declared.looking.View.{View}
 use Rattle.jv_data.specs.Committing.{length_seen}
-use Rattle.jv_data.specs.Records.{LooksAt, length_viewed}
+use Rattle.jv_data.specs.Records.{LooksAt}
 use Rattle.jv_shared.specs.Keeping.{HoldsSame}
 use Rattle.jv_shared.specs.Seen.{IsView}
 use Rattle.jv_shared.specs.Shared.{HasStore, Known, Shared}
 use Rattle.jv_shared.proofs.SameLaws.{same-rows, same-stays}
 use Rattle.jv_shared.proofs.StoreLaws.{look-view, view-stays}
 use Rattle.jv_steps.specs.IsStep.{at_stage}
-use Rattle.jv_steps.specs.Stages.{MayRead, with_look}
+use Rattle.jv_steps.specs.Stages.{Begins, GoesOn, MayRead, with_look}
 use Rattle.jv_steps.proofs.ReadStepLaws.{read-answered_look}
+use Rattle.jv_steps.proofs.RefusalStepLaws.{goes-reading, goes-working}
 use Rattle.jv_steps.proofs.LookStepLaws.{look-step, look-refused_session, look-refused_node}
 use Rattle.jv_requests.specs.Request.{Request}
-use Rattle.jv_requests.proofs.StillLaws.{found-in, still-request}
+use Rattle.jv_requests.proofs.StillLaws.{fault_of_rows, found-in, rows-failed, still-request}
 
 -- ---- what a session sees of a file
 
@@ -90,10 +94,13 @@ content-there None content e = absurd (cc)
 content-there (Some node) content e = refl
 
 -- a node that can only be a file, and has no bytes, is gone
-pub file-gone : (o : Option TreeNode) → (IsTrue (is_there (form_of o)) → form_of o ≡ Regular) → content_of o ≡ None → o ≡ None
+pub file-gone : (o : Option TreeNode) → (IsTrue (is_there (form_of o)) → form_of o ≡ Regular) → content_of o ≡ None
+    → o ≡ None
 file-gone None file none = refl
 file-gone (Some node) file none =
-    elim node.kind as (λ kind. (IsTrue (is_there (form_of (Some (record node { kind = kind })))) → form_of (Some (record node { kind = kind })) ≡ Regular)
+    elim node.kind as (λ kind.
+    (IsTrue (is_there (form_of (Some (record node { kind = kind }))))
+    → form_of (Some (record node { kind = kind })) ≡ Regular)
     → content_of (Some (record node { kind = kind })) ≡ None → Some node ≡ None) [
       | File content ↦ λ file none. absurd (cc none)
       | Directory parent ↦ λ file none. absurd (let is = file refl in cc is)
@@ -101,6 +108,11 @@ file-gone (Some node) file none =
     ] file none
 
 -- ---- the look of a reading
+
+-- a reading that may go on may fail
+pub goes-look : {c : ModelClient} {d : Doing} {misses : ℕ} → MayRead c d misses → must_answer d ≡ false
+goes-look {d = d} (Begins started at flushed first) = goes-working d 0 started at
+goes-look {d = d} {misses = misses} (GoesOn at) = goes-reading d misses at
 
 module _ (s : State) (client now : ℕ) (d : Doing) (busy : (s.clients client).doing ≡ Some d)
     (offset len : ℕ) (does : d.does ≡ Reads offset len) where
@@ -117,7 +129,8 @@ module _ (s : State) (client now : ℕ) (d : Doing) (busy : (s.clients client).d
     looked = record v { keeper = keeper }
 
     -- whatever it came to, devices hold what they held
-    pub looked-still : (result : Result View TxFault) → LooksAt sid file.inode window v.keeper keeper result → HoldsSame v looked
+    pub looked-still : (result : Result View TxFault) → LooksAt sid file.inode window v.keeper keeper result
+        → HoldsSame v looked
     looked-still result looks = same-rows v keeper v.carrier looks.looks.rows_are
 
     module _ (view : View) (looks : LooksAt sid file.inode window v.keeper keeper (Ok view)) where
@@ -127,6 +140,10 @@ module _ (s : State) (client now : ℕ) (d : Doing) (busy : (s.clients client).d
       pub looked-sees : SeesFile sid file.inode view.length s.tree
       looked-sees = sees_file sid file.inode s.tree view.length
           (found-in s.tree g v has keeper (Ok view.length) (length_seen sid file.inode) looks.looks)
+
+      -- the model's view has the bytes that the file has
+      pub looked-content : or_empty (content_at s.tree file.inode) ≡ looked-sees.content
+      looked-content = ap or_empty looked-sees.file
 
       -- it looks at the window, and goes on
       pub look-request : Request s g g v looked client now flying flying (Look file.inode window ∷ []) More s.tree
@@ -142,9 +159,11 @@ module _ (s : State) (client now : ℕ) (d : Doing) (busy : (s.clients client).d
       pub look-shows : IsView g looked window view.length view.list looked-sees.content
       look-shows =
           let sees = looked-sees in
-          view-stays s.tree g v has 0 g looked (same-stays 0 g v looked still) window view.length view.list sees.content
+          view-stays s.tree g v has 0 g looked (same-stays 0 g v looked still) window view.length view.list
+          sees.content
           (look-view s.tree g v has file.inode window view.length view.list sees.content sees.file sees.long
-          (known_is v.keeper.rows has.rows (λ known. view.list ≡ lists_of (typed known) file.inode window) has.rows_are looks.list))
+          (known_is v.keeper.rows has.rows (λ known. view.list ≡ lists_of (typed known) file.inode window)
+          has.rows_are looks.list))
 
       -- or that was all it wanted, and it answers with what it read
       module _ (first second : ℕ) (bytes : List ℕ)
@@ -160,9 +179,17 @@ module _ (s : State) (client now : ℕ) (d : Doing) (busy : (s.clients client).d
             let sees = looked-sees in
             still-request s g v looked has still client now flying (Look file.inode window ∷ Answered told ∷ [])
             (Done (Data bytes)) (after_told d.op told (with_look s d file.inode window mine))
-            (λ start alone. read-answered_look start alone s client now d busy offset len does file opened first second
-            bytes misses may window look sees.session
+            (λ start alone. read-answered_look start alone s client now d busy offset len does file opened first
+            second bytes misses may window look sees.session
             (content-there (node_at s.tree file.inode) sees.content sees.file) reads)
+
+    -- the keeper failed, or memory ran out
+    pub look-failed : (down : Down) → LooksAt sid file.inode window v.keeper keeper (Err (OfRows (row_fault down)))
+        → Request s g g v looked client now flying flying (Answered (ToldRefused (fault_of_rows down)) ∷ [])
+        (Done (Refused (fault_of_rows down))) s.tree (record mine { doing = None }) s.copied
+    look-failed down looks =
+        rows-failed s g v looked has (looked-still (Err (OfRows (row_fault down))) looks) client now flying d busy
+        (goes-look may) down
 
     -- a look that is refused, since the session or the file is gone
     module _ (holdable : IsHoldable s.tree file.inode) (fault : Fault)
@@ -176,7 +203,8 @@ module _ (s : State) (client now : ℕ) (d : Doing) (busy : (s.clients client).d
           still = looked-still (Err (RefusedBy fault)) looks
 
           IsRefused : Fault → Type 0
-          IsRefused fault = Request s g g v looked client now flying flying (Quiet ∷ Answered (ToldRefused fault) ∷ [])
+          IsRefused fault = Request s g g v looked client now flying flying
+              (Quiet ∷ Answered (ToldRefused fault) ∷ [])
               (Done (Refused fault)) s.tree (after_told d.op (ToldRefused fault) mine) s.copied
 
           by_cause : SeesNone sid file.inode s.tree fault → IsRefused fault
@@ -185,13 +213,16 @@ module _ (s : State) (client now : ℕ) (d : Doing) (busy : (s.clients client).d
               (still-request s g v looked has still client now flying
               (Quiet ∷ Answered (ToldRefused (Stale (Session sid))) ∷ []) (Done (Refused (Stale (Session sid))))
               (after_told d.op (ToldRefused (Stale (Session sid))) mine)
-              (λ start alone. look-refused_session start alone s client now d busy offset len does misses may file opened window look gone))
+              (λ start alone. look-refused_session start alone s client now d busy offset len does misses may file
+              opened window look gone))
           by_cause (NoFile session none is) =
               subst IsRefused (sym is)
               (still-request s g v looked has still client now flying
-              (Quiet ∷ Answered (ToldRefused (Stale (Node file.inode))) ∷ []) (Done (Refused (Stale (Node file.inode))))
+              (Quiet ∷ Answered (ToldRefused (Stale (Node file.inode))) ∷ [])
+              (Done (Refused (Stale (Node file.inode))))
               (after_told d.op (ToldRefused (Stale (Node file.inode))) mine)
-              (λ start alone. look-refused_node start alone s client now d busy offset len does misses may file opened window look session
+              (λ start alone. look-refused_node start alone s client now d busy offset len does misses may file opened
+              window look session
               (file-gone (node_at s.tree file.inode) holdable.file none)))
 
 -- A look at rows that are a tree's meets no malformed row, and asks for no list that may have moved.

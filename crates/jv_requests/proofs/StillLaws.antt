@@ -1,10 +1,14 @@
 -- Requests after which devices hold what they held: they lead to the same tree.
-use Rattle.std.proofs.Common.{◌≡◌, ◌≢◌, ℕ, Bool, [], ◌∷◌, List, length, None, Some, refl, sym, ap, subst, arith}
-use Rattle.std.specs.Prelude.{◌<◌, true, false, Result}
+use Rattle.std.proofs.Common.{◌≡◌, ℕ, Bool, [], ◌∷◌, List, None, Some, refl, sym, ap, subst, arith}
+use Rattle.std.specs.Prelude.{true, false, Result}
 use Rattle.jv_model.specs.declared.act.ActKind.{ActKind}
 use Rattle.jv_model.specs.declared.act.ActKind.TheVariants.{Answered}
 use Rattle.jv_model.specs.declared.act.Told.TheVariants.{Refused as ToldRefused}
+use Rattle.jv_model.specs.declared.fault.Device.TheVariants.{Keeper}
+use Rattle.jv_model.specs.declared.fault.Down.{Down}
+use Rattle.jv_model.specs.declared.fault.Down.TheVariants.{Failed, Memory}
 use Rattle.jv_model.specs.declared.fault.Fault.{Fault}
+use Rattle.jv_model.specs.declared.fault.Fault.TheVariants.{DeviceFailed, NoMemory}
 use Rattle.jv_model.specs.declared.fault.TxFault.{TxFault}
 use Rattle.jv_model.specs.declared.op.Reply.TheVariants.{Refused}
 use Rattle.jv_model.specs.declared.op.Step.{Step}
@@ -15,17 +19,15 @@ use Rattle.jv_model.specs.journal.State.{State}
 use Rattle.jv_model.specs.journal.Steps.{Start, is_failure, must_answer}
 use Rattle.jv_outside.specs.Store.{Store}
 use Rattle.jv_rows.specs.Transactions.{Agrees, Looks}
-use Rattle.jv_volume.specs.TypedRows.{Rows, typed}
+use Rattle.jv_volume.specs.TypedRows.{typed}
 use Rattle.jv_volume.specs.Slices.{next_slice}
 use Rattle.jv_volume.specs.Holding.{Stays}
 use Rattle.jv_contents.specs.Blocks.{told_by}
 use Rattle.jv_contents.specs.Bytes.{bytes_of}
 use Rattle.jv_contents.specs.Counts.{record_count}
-use Rattle.jv_contents.specs.Flights.{Flight}
-use Rattle.jv_shared.specs.Flying.{Flies}
 use Rattle.jv_shared.specs.Keeping.{HoldsSame}
 use Rattle.jv_shared.specs.Shared.{HasStore, Known, Shared, rows_in, typed_in}
-use Rattle.jv_shared.proofs.SameLaws.{same-leads, same-rows}
+use Rattle.jv_shared.proofs.SameLaws.{same-leads}
 use Rattle.jv_steps.specs.IsStep.{IsStep}
 use Rattle.jv_steps.proofs.RefusalStepLaws.{failure-step}
 use Rattle.jv_requests.specs.Request.{IsApart, IsWithin, Request}
@@ -48,6 +50,15 @@ pub found-in : {A : Type 0} (t : Tree) (g : Known) (v : Shared) → HasStore t g
 found-in t g v has after result finds looks =
     subst (λ t. Agrees result (finds t)) (sym has.tree)
     (looks.agrees has.rows has.rows_are has.whole (bytes_of (told_by v.yard.setting.block g.blocks) (typed has.rows)))
+
+-- what a call on rows that wasn't made is to the client
+abbrev pub fault_of_rows : Down → Fault
+fault_of_rows Failed = DeviceFailed Keeper
+fault_of_rows Memory = NoMemory
+
+fails-rows : (down : Down) → is_failure (ToldRefused (fault_of_rows down)) ≡ true
+fails-rows Failed = refl
+fails-rows Memory = refl
 
 module _ (s : State) (g : Known) (v v' : Shared) (has : HasStore s.tree g v) (same : HoldsSame v v')
     (client now mine : ℕ) where
@@ -80,5 +91,12 @@ module _ (s : State) (g : Known) (v v' : Shared) (has : HasStore s.tree g v) (sa
       → Request s g g v v' client now mine mine (Answered (ToldRefused fault) ∷ []) (Done (Refused fault)) s.tree
       (record (s.clients client) { doing = None }) s.copied
   failure-request d busy goes fault fails =
-      still-request (Answered (ToldRefused fault) ∷ []) (Done (Refused fault)) (record (s.clients client) { doing = None })
+      still-request (Answered (ToldRefused fault) ∷ []) (Done (Refused fault))
+      (record (s.clients client) { doing = None })
       (λ start alone. failure-step start alone s client now d busy goes fault fails)
+
+  -- the keeper failed, or memory ran out
+  pub rows-failed : (d : Doing) → (s.clients client).doing ≡ Some d → must_answer d ≡ false → (down : Down)
+      → Request s g g v v' client now mine mine (Answered (ToldRefused (fault_of_rows down)) ∷ [])
+      (Done (Refused (fault_of_rows down))) s.tree (record (s.clients client) { doing = None }) s.copied
+  rows-failed d busy goes down = failure-request d busy goes (fault_of_rows down) (fails-rows down)

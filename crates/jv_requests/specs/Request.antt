@@ -22,19 +22,22 @@ pub record IsWithin (start : Start) (s : State) (rows : Rows) : Type 0 where
   pub numbers : next_slice rows ≤ start.next_slice + s.count
   pub records : record_count rows ≤ start.records + s.count + s.copied
 
--- A slice in flight is another one's, whose number isn't `mine`; it is neither the step's own nor the client's own afterwards.
+-- A slice in flight is another one's, whose number isn't `mine`; it is neither the step's own nor the client's own
+-- afterwards.
 pub record IsApart (g : Known) (v : Shared) (mine own after : ℕ) : Type 0 where
   pub own_apart : (f : Flight) → Flies g v f → f.id ≢ mine → f.id ≢ own
   pub new_apart : (f : Flight) → Flies g v f → f.id ≢ mine → f.id ≢ after
 
--- The model allows these entries as a step, and they lead to this client, to this tree, to so many bytes copied in all, and to devices
--- that stand for the tree. Of what is known, of numbers, and of what other clients hold nothing is lost. `mine` is the number of the
--- client's slice in flight before the step, `after` that after it, and 0 stands for none.
-pub record Request (s : State) (g learned : Known) (before v : Shared) (client now mine after : ℕ) (kinds : List ActKind) (step : Step)
-    (t : Tree) (c : ModelClient) (copied : ℕ) : Type 0 where
+-- The model allows these entries as a step, and they lead to this client, to this tree, to so many bytes copied in all,
+-- and to devices that stand for the tree. Of what is known, of numbers, and of what other clients hold nothing is lost.
+-- `mine` is the number of the client's slice in flight before the step, `after` that after it, and 0 stands for none.
+pub record Request (s : State) (g learned : Known) (before v : Shared) (client now mine after : ℕ)
+    (kinds : List ActKind) (step : Step) (t : Tree) (c : ModelClient) (copied : ℕ) : Type 0 where
   pub own : ℕ
-  pub allows : (start : Start) (alone : Bool) → IsWithin start s (rows_in before) → AllowsStep start alone s client now kinds step
-  pub within : (start : Start) → IsWithin start s (rows_in before) → IsWithin start (stepped_by s client now kinds) (rows_in v)
+  pub allows : (start : Start) (alone : Bool) → IsWithin start s (rows_in before)
+      → AllowsStep start alone s client now kinds step
+  pub within : (start : Start) → IsWithin start s (rows_in before)
+      → IsWithin start (stepped_by s client now kinds) (rows_in v)
   pub leaves : Leaves s (stepped_by s client now kinds) client (length kinds) t c copied
   pub leads : Leads own (stepped_by s client now kinds).tree g learned before v
   pub apart : IsApart g before mine own after
