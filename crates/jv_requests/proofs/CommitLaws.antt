@@ -1,12 +1,12 @@
 -- A flush commits a segment, whose slice's blocks were all put.
-use Rattle.std.proofs.Common.{◌≡◌, ℕ, ◌+◌, ◌*◌, ◌≤◌, Bool, true, false, [], ◌∷◌, inl, inr, List, length, None, Some, Ok}
+use Rattle.std.proofs.Common.{◌≡◌, ℕ, ◌+◌, ◌*◌, ◌≤◌, Bool, false, [], ◌∷◌, inl, inr, List, length, None, Some, Ok}
 use Rattle.std.proofs.Common.{Err, refl, sym, ap, subst, ◌∙◌, arith}
 use Rattle.jv_model.specs.declared.limits.TheConstants.{WINDOW}
 use Rattle.jv_model.specs.declared.act.ActKind.{ActKind}
 use Rattle.jv_model.specs.declared.act.ActKind.TheVariants.{Answered, Commit, Quiet}
 use Rattle.jv_model.specs.declared.act.Told.TheVariants.{Refused as ToldRefused}
+use Rattle.jv_model.specs.declared.fault.Down.{Down}
 use Rattle.jv_model.specs.declared.fault.Fault.{Fault}
-use Rattle.jv_model.specs.declared.fault.RowFault.{RowFault}
 use Rattle.jv_model.specs.declared.fault.RowFault.TheVariants.{Bad}
 use Rattle.jv_model.specs.declared.fault.TxFault.TheVariants.{Moved, Refused as TxRefused, Rows as OfRows}
 use Rattle.jv_model.specs.declared.op.Reply.{Reply}
@@ -16,7 +16,8 @@ use Rattle.jv_model.specs.declared.op.Step.TheVariants.{More, Done}
 use Rattle.jv_model.specs.declared.row.RowKey.{RowKey}
 use Rattle.jv_model.specs.declared.setting.Setting.{Setting}
 use Rattle.jv_model.specs.declared.slice.Rec.{Rec}
-use Rattle.jv_model.specs.tree.Tree.{Tree, content_at, node_at}
+use Rattle.jv_model.specs.rows.RowFaults.{row_fault}
+use Rattle.jv_model.specs.tree.Tree.{Tree, node_at}
 use Rattle.jv_model.specs.tree.FileBytes.{committed}
 use Rattle.jv_model.specs.client.Pending.{Segment, bytes_in_range, without_range}
 use Rattle.jv_model.specs.client.Submission.{next_segment}
@@ -25,6 +26,7 @@ use Rattle.jv_model.specs.journal.State.{State, after_told, answer_then, finishe
 use Rattle.jv_model.specs.journal.Steps.{Start, Commits, is_failure, told_of}
 use Rattle.jv_outside.specs.Store.{Store}
 use Rattle.jv_volume.specs.TypedRows.{typed}
+use Rattle.jv_volume.specs.Holding.{IsHoldable}
 use Rattle.jv_volume.proofs.HoldingLaws.{stays-committed}
 use Rattle.jv_contents.specs.Blocks.{told_by}
 use Rattle.jv_contents.specs.Bytes.{Told, tree_with}
@@ -49,7 +51,8 @@ use Rattle.jv_requests.specs.Request.{Request}
 use Rattle.jv_requests.proofs.RequestLaws.{Grows, begun_with, request-of}
 use Rattle.jv_requests.proofs.GrowsLaws.{left-grows}
 use Rattle.jv_requests.proofs.FlightLaws.{apart-own, flight-over}
-use Rattle.jv_requests.proofs.StillLaws.{failure-request, still-within}
+use Rattle.jv_requests.proofs.StillLaws.{fault_of_rows, rows-failed, still-within}
+use Rattle.jv_requests.proofs.LookLaws.{file-gone}
 
 -- the record of a whole slice, from a position of a window on
 abbrev pub whole_record : ℕ → Flight → Rec
@@ -208,44 +211,46 @@ module _ (s : State) (g : Known) (v : Shared) (store : HasStore s.tree g v) (cli
     calm_by (Late there node late same) = ap (λ fault. is_failure (ToldRefused fault)) same
     calm_by (NoRoom there node early full same) = ap (λ fault. is_failure (ToldRefused fault)) same
 
-    -- No device failed.
-    pub commit-calm : (content_at s.tree segment.inode ≡ None → node_at s.tree segment.inode ≡ None)
-        → is_failure (ToldRefused fault) ≡ false
-    commit-calm file =
-        calm_by (tests-refuse s now c segment started (begun_with s.tree (typed store.rows)) fault undone file)
+    -- Its session or its file is gone, it comes too late, or the volume has no room.
+    module _ (holdable : IsHoldable s.tree segment.inode) where
+      why : (start : Start) → RefusesCommit start s now c segment started fault
+      why start =
+          tests-refuse s now c segment started start fault undone
+          (file-gone (node_at s.tree segment.inode) holdable.file)
 
-    -- Its session or its file is gone, it comes too late, or the volume has no room. No other node is where no file is.
-    pub commit-unmade : (content_at s.tree segment.inode ≡ None → node_at s.tree segment.inode ≡ None)
-        → Request s g g v left_shared client now f.id 0 (Quiet ∷ Answered (ToldRefused fault) ∷ [])
-        (Done (reply.Refused fault)) s.tree
-        (after_told d.op (ToldRefused fault) c) s.copied
-    commit-unmade file =
-        flight-over g v f.id s g left_shared client now f.id (Quiet ∷ Answered (ToldRefused fault) ∷ [])
-        (Done (reply.Refused fault)) s.tree (after_told d.op (ToldRefused fault) c) s.copied
-        (still-within s g v left_shared store (same-rows v keeper v.carrier (commits f.bytes at_once).undone) client now
-        f.id (Quiet ∷ Answered (ToldRefused fault) ∷ []) (Done (reply.Refused fault))
-        (after_told d.op (ToldRefused fault) c)
-        (λ start alone within. commit-refused start alone s client now d busy segment next quiets started at asked fault
-        (tests-refuse s now c segment started start fault undone file)))
+      pub commit-unmade : Request s g g v left_shared client now f.id 0 (Quiet ∷ Answered (ToldRefused fault) ∷ [])
+          (Done (reply.Refused fault)) s.tree (after_told d.op (ToldRefused fault) c) s.copied
+      commit-unmade =
+          flight-over g v f.id s g left_shared client now f.id (Quiet ∷ Answered (ToldRefused fault) ∷ [])
+          (Done (reply.Refused fault)) s.tree (after_told d.op (ToldRefused fault) c) s.copied
+          (still-within s g v left_shared store (same-rows v keeper v.carrier (commits f.bytes at_once).undone) client
+          now f.id (Quiet ∷ Answered (ToldRefused fault) ∷ []) (Done (reply.Refused fault))
+          (after_told d.op (ToldRefused fault) c)
+          (λ start alone within. commit-refused start alone s client now d busy segment next quiets started at asked
+          fault (why start)))
+
+      -- No device failed.
+      pub commit-calm : is_failure (ToldRefused fault) ≡ false
+      commit-calm = calm_by (why (begun_with s.tree (typed store.rows)))
 
   -- The keeper failed, or memory ran out.
-  pub commit-failed : (fault : Fault) → is_failure (ToldRefused fault) ≡ true → (row : RowFault)
-      → CommitsRecord sid now segment.inode window (whole_record pos f) started v.keeper keeper (Err (OfRows row))
-      → Request s g g v left_shared client now f.id 0 (Answered (ToldRefused fault) ∷ []) (Done (reply.Refused fault))
-      s.tree
-      (record c { doing = None }) s.copied
-  commit-failed fault fails row commits =
-      flight-over g v f.id s g left_shared client now f.id (Answered (ToldRefused fault) ∷ [])
-      (Done (reply.Refused fault)) s.tree (record c { doing = None }) s.copied
-      (failure-request s g v left_shared store (same-rows v keeper v.carrier (commits f.bytes at_once).undone) client now
-      f.id d busy (goes-working d quiets started at) fault fails)
+  pub commit-failed : (down : Down)
+      → CommitsRecord sid now segment.inode window (whole_record pos f) started v.keeper keeper
+      (Err (OfRows (row_fault down)))
+      → Request s g g v left_shared client now f.id 0 (Answered (ToldRefused (fault_of_rows down)) ∷ [])
+      (Done (reply.Refused (fault_of_rows down))) s.tree (record c { doing = None }) s.copied
+  commit-failed down commits =
+      flight-over g v f.id s g left_shared client now f.id (Answered (ToldRefused (fault_of_rows down)) ∷ [])
+      (Done (reply.Refused (fault_of_rows down))) s.tree (record c { doing = None }) s.copied
+      (rows-failed s g v left_shared store (same-rows v keeper v.carrier (commits f.bytes at_once).undone) client now
+      f.id d busy (goes-working d quiets started at) down)
 
   -- Over whole rows no list has moved, and no row is Bad.
-  pub commit-unmoved : (list : List Rec)
+  pub commit-never_moved : (list : List Rec)
       → CommitsRecord sid now segment.inode window (whole_record pos f) started v.keeper keeper (Err (Moved list)) → ⊥
-  commit-unmoved list commits = (commits f.bytes at_once).lands store.rows store.rows_are store.whole told is_new
+  commit-never_moved list commits = (commits f.bytes at_once).lands store.rows store.rows_are store.whole told is_new
 
-  pub commit-sound : (row : RowKey) (bytes : List ℕ)
+  pub commit-never_bad : (row : RowKey) (bytes : List ℕ)
       → CommitsRecord sid now segment.inode window (whole_record pos f) started v.keeper keeper
       (Err (OfRows (Bad row bytes))) → ⊥
-  commit-sound row bytes commits = (commits f.bytes at_once).lands store.rows store.rows_are store.whole told is_new
+  commit-never_bad row bytes commits = (commits f.bytes at_once).lands store.rows store.rows_are store.whole told is_new

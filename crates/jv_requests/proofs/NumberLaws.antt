@@ -6,10 +6,10 @@ use Rattle.std.proofs.lemmas.Bool.{le-leb, ltb-false, or_left}
 use Rattle.jv_model.specs.declared.limits.TheConstants.{FULL_COUNT, FILE_END}
 use Rattle.jv_model.specs.declared.act.ActKind.TheVariants.{Quiet, Answered}
 use Rattle.jv_model.specs.declared.act.Told.TheVariants.{Refused as ToldRefused}
+use Rattle.jv_model.specs.declared.fault.Down.{Down}
 use Rattle.jv_model.specs.declared.fault.Fault.{Fault}
 use Rattle.jv_model.specs.declared.fault.Fault.TheVariants.{NoSpace, Stale}
 use Rattle.jv_model.specs.declared.fault.Gone.TheVariants.{Session}
-use Rattle.jv_model.specs.declared.fault.RowFault.{RowFault}
 use Rattle.jv_model.specs.declared.fault.RowFault.TheVariants.{Bad}
 use Rattle.jv_model.specs.declared.fault.TxFault.TheVariants.{Moved, Refused as TxRefused, Rows as OfRows}
 use Rattle.jv_model.specs.declared.op.Reply.TheVariants.{Refused}
@@ -17,6 +17,7 @@ use Rattle.jv_model.specs.declared.op.Step.TheVariants.{More, Done}
 use Rattle.jv_model.specs.declared.row.RowKey.{RowKey}
 use Rattle.jv_model.specs.declared.slice.Rec.{Rec}
 use Rattle.jv_model.specs.FiniteMap.{get}
+use Rattle.jv_model.specs.rows.RowFaults.{row_fault}
 use Rattle.jv_model.specs.tree.Attempt.{◌>>=◌, require}
 use Rattle.jv_model.specs.tree.Tree.{Tree}
 use Rattle.jv_model.specs.client.Pending.{Segment}
@@ -46,7 +47,7 @@ use Rattle.jv_requests.specs.Request.{IsWithin, Request}
 use Rattle.jv_requests.proofs.RequestLaws.{Grows, request-of}
 use Rattle.jv_requests.proofs.GrowsLaws.{left-grows}
 use Rattle.jv_requests.proofs.FlightLaws.{apart-new}
-use Rattle.jv_requests.proofs.StillLaws.{failure-request, stays-same, still-within}
+use Rattle.jv_requests.proofs.StillLaws.{fault_of_rows, rows-failed, stays-same, still-within}
 
 -- ---- sessions, which no bytes of files change
 
@@ -210,18 +211,17 @@ module _ (s : State) (g : Known) (v : Shared) (store : HasStore s.tree g v) (cli
         (takes.lands store.rows store.rows_are store.whole))
 
   -- The keeper failed, or memory ran out.
-  pub number-failed : (fault : Fault) → is_failure (ToldRefused fault) ≡ true → (row : RowFault)
-      → TakesNumber sid v.keeper keeper (Err (OfRows row))
-      → Request s g g v asked client now 0 0 (Answered (ToldRefused fault) ∷ []) (Done (Refused fault)) s.tree
-      (record c { doing = None }) s.copied
-  number-failed fault fails row takes =
-      failure-request s g v asked store (same-rows v keeper v.carrier takes.undone) client now 0 d busy
-      (goes-working d 0 started at) fault fails
+  pub number-failed : (down : Down) → TakesNumber sid v.keeper keeper (Err (OfRows (row_fault down)))
+      → Request s g g v asked client now 0 0 (Answered (ToldRefused (fault_of_rows down)) ∷ [])
+      (Done (Refused (fault_of_rows down))) s.tree (record c { doing = None }) s.copied
+  number-failed down takes =
+      rows-failed s g v asked store (same-rows v keeper v.carrier takes.undone) client now 0 d busy
+      (goes-working d 0 started at) down
 
   -- Over whole rows no list has moved, and no row is Bad.
-  pub number-unmoved : (list : List Rec) → TakesNumber sid v.keeper keeper (Err (Moved list)) → ⊥
-  number-unmoved list takes = takes.lands store.rows store.rows_are store.whole
+  pub number-never_moved : (list : List Rec) → TakesNumber sid v.keeper keeper (Err (Moved list)) → ⊥
+  number-never_moved list takes = takes.lands store.rows store.rows_are store.whole
 
-  pub number-sound : (row : RowKey) (bytes : List ℕ)
+  pub number-never_bad : (row : RowKey) (bytes : List ℕ)
       → TakesNumber sid v.keeper keeper (Err (OfRows (Bad row bytes))) → ⊥
-  number-sound row bytes takes = takes.lands store.rows store.rows_are store.whole
+  number-never_bad row bytes takes = takes.lands store.rows store.rows_are store.whole

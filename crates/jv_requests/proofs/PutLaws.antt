@@ -30,7 +30,7 @@ use Rattle.jv_requests.proofs.FlightLaws.{apart-own, flight-over}
 use Rattle.jv_requests.proofs.StillLaws.{failure-request, stays-same}
 
 -- a block that isn't put is answered as a failure
-put-fails : (fault : PutFault) → is_failure (ToldRefused (fault_of fault)) ≡ true
+pub put-fails : (fault : PutFault) → is_failure (ToldRefused (fault_of fault)) ≡ true
 put-fails Carrier = refl
 put-fails Depot = refl
 put-fails Memory = refl
@@ -77,5 +77,5 @@ module _ (s : State) (g : Known) (v : Shared) (store : HasStore s.tree g v) (cli
   put-failed fault puts =
       flight-over g v f.id s g then_shared client now f.id (Answered (ToldRefused (fault_of fault)) ∷ [])
       (Done (Refused (fault_of fault))) s.tree (record c { doing = None }) s.copied
-      (failure-request s g v then_shared store (unput-same v f client now yard carrier fault puts) client now f.id d busy
-      (goes-working d quiets started at) (fault_of fault) (put-fails fault))
+      (failure-request s g v then_shared store (unput-same v f client now yard carrier fault puts) client now f.id d
+      busy (goes-working d quiets started at) (fault_of fault) (put-fails fault))
