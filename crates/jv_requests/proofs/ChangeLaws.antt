@@ -1,6 +1,6 @@
 -- Truncates and copies, each one transaction on lists of slices: made, refused, or failed.
 use Rattle.std.proofs.Common.{◌≡◌, ◌⊎◌, ℕ, ◌+◌, inl, inr, Bool, true, List, [], ◌∷◌, None, Some, Result, Ok, Err, sym}
-use Rattle.std.proofs.Common.{ap, subst, ◌∙◌, arith}
+use Rattle.std.proofs.Common.{refl, ap, subst, ◌∙◌, arith}
 use Rattle.std.specs.Prelude.{nat_le}
 use Rattle.std.proofs.lemmas.Bool.{le-leb, or_right}
 use Rattle.jv_model.specs.declared.act.ActKind.TheVariants.{Answered, Copied, Quiet, Truncated}
@@ -41,6 +41,7 @@ use Rattle.jv_steps.specs.IsStep.{IsStep}
 use Rattle.jv_steps.specs.Stages.{without_views}
 use Rattle.jv_steps.proofs.ChangeStepLaws.{truncate-made, truncate-refused, copy-made, copy-refused, copy-crowded}
 use Rattle.jv_steps.proofs.RefusalStepLaws.{goes-working}
+use Rattle.jv_steps.proofs.TreeChangeLaws.{IsCalm, copy-calm, truncate-calm}
 use Rattle.jv_requests.specs.Request.{IsWithin, Request}
 use Rattle.jv_requests.proofs.LandedLaws.{acted-stays, landed-request, told_in}
 use Rattle.jv_requests.proofs.StillLaws.{fault_of_rows, rows-failed, still-request, still-within}
@@ -146,6 +147,19 @@ module _ (s : State) (client now : ℕ) (d : Doing) (busy : (s.clients client).d
         refusal (inl e) = ap (λ (t : Tree). truncate t who len) has.tree ∙ e
         refusal (inr full) = absurd full.full
 
+    -- and that is no failure
+    pub truncate-not_made_calm : (fault : Fault) → Truncates_to (Err (RefusedBy fault)) → IsCalm fault
+    truncate-not_made_calm fault changes = by_cause (lands-in (record { own = 0; size = 0; more = 1; due = due }) Never
+        s.tree g v has keeper (λ unit. reply.Done) (λ t. truncate t who len) (Err (RefusedBy fault)) changes)
+      where
+        rows_tree : Tree
+        rows_tree = tree_with (told_in s.tree g v has) (typed has.rows)
+
+        by_cause : (truncate rows_tree who len ≡ Err fault)
+            ⊎ IsFull Never (typed has.rows) fault (truncate rows_tree who len) → IsCalm fault
+        by_cause (inl e) = truncate-calm rows_tree who len fault e
+        by_cause (inr full) = absurd full.full
+
     pub truncate-failed : (down : Down) → Truncates_to (Err (OfRows (row_fault down))) → IsFailed down
     truncate-failed down changes = fails changes.undone down
 
@@ -219,6 +233,20 @@ module _ (s : State) (client now : ℕ) (d : Doing) (busy : (s.clients client).d
             copy-crowded start alone s client now d busy started at flushed source from target to len of_op does
             (crowds start within full.full) (copy rows_tree who from to len)
             (ap (λ (t : Tree). copy t who from to len) has.tree) full.otherwise))
+
+    -- and that is no failure
+    pub copy-not_made_calm : (more : ℕ) (fault : Fault) → Copies_to more (Err (RefusedBy fault)) → IsCalm fault
+    copy-not_made_calm more fault changes = by_cause (lands-in (record { own = 0; size = 0; more = more; due = due })
+        (IsCrowded FILE_END) s.tree g v has keeper (λ n. reply.Count n) (λ t. copy t who from to len)
+        (Err (RefusedBy fault)) changes)
+      where
+        rows_tree : Tree
+        rows_tree = tree_with (told_in s.tree g v has) (typed has.rows)
+
+        by_cause : (copy rows_tree who from to len ≡ Err fault)
+            ⊎ IsFull (IsCrowded FILE_END) (typed has.rows) fault (copy rows_tree who from to len) → IsCalm fault
+        by_cause (inl e) = copy-calm rows_tree who from to len fault e
+        by_cause (inr full) = subst IsCalm (sym full.fault_is) refl
 
     pub copy-failed : (more : ℕ) (down : Down) → Copies_to more (Err (OfRows (row_fault down))) → IsFailed down
     copy-failed more down changes = fails changes.undone down

@@ -1,5 +1,5 @@
 -- Requests that are one transaction on the keeper's rows: they lead to the tree of the rows left.
-use Rattle.std.proofs.Common.{◌≡◌, ℕ, ◌+◌, ◌≤◌, Bool, List, length, Some, sym, ap, subst, arith}
+use Rattle.std.proofs.Common.{◌≡◌, ℕ, ◌+◌, ◌≤◌, Bool, List, length, Some, sym, subst, arith}
 use Rattle.jv_model.specs.declared.act.ActKind.{ActKind}
 use Rattle.jv_model.specs.declared.op.Op.{Op}
 use Rattle.jv_model.specs.declared.op.Step.{Step}
@@ -13,18 +13,18 @@ use Rattle.jv_model.specs.journal.Steps.{Start}
 use Rattle.jv_outside.specs.Store.{Store}
 use Rattle.jv_volume.specs.TypedRows.{typed}
 use Rattle.jv_volume.specs.Shape.{WholeShape, shape_of}
-use Rattle.jv_volume.specs.Slices.{next_slice}
 use Rattle.jv_volume.specs.Holding.{Stays}
 use Rattle.jv_volume.specs.Whole.{Whole}
 use Rattle.jv_volume.proofs.HoldingLaws.{stays-tree_act}
 use Rattle.jv_volume.proofs.StoredLaws.{whole-shape}
 use Rattle.jv_contents.specs.Blocks.{told_by}
 use Rattle.jv_contents.specs.Bytes.{Told, bytes_of, tree_with}
-use Rattle.jv_contents.specs.Counts.{KeepsOthers, record_count}
-use Rattle.jv_shared.specs.Shared.{HasStore, Known, Shared, rows_in, typed_in}
+use Rattle.jv_contents.specs.Counts.{KeepsOthers}
+use Rattle.jv_shared.specs.Shared.{HasStore, Known, Shared}
 use Rattle.jv_shared.proofs.RowStepLaws.{others-lead}
 use Rattle.jv_steps.specs.IsStep.{IsStep}
 use Rattle.jv_requests.specs.Request.{Request}
+use Rattle.jv_requests.proofs.GrowsLaws.{left-grows}
 use Rattle.jv_requests.proofs.RequestLaws.{Grows, request-of}
 use Rattle.jv_requests.proofs.StillLaws.{apart-none}
 
@@ -56,18 +56,10 @@ module _ (s : State) (g : Known) (v : Shared) (has : HasStore s.tree g v) (clien
     landed-grows : more + s.copied ≤ length kinds + copied
         → Grows s g g v after client now kinds step (tree_left left) c copied
     landed-grows few =
-        let was : rows_in v ≡ typed has.rows = ap typed_in has.rows_are in
-        let is_left : rows_in after ≡ typed left = ap typed_in is in
-        let numbers = ap next_slice was in
-        let numbers_left = ap next_slice is_left in
-        let records = ap record_count was in
-        let records_left = ap record_count is_left in
         let next = others.next in
         let many = others.records in
-        record {
-          numbers = omega (arith, numbers, numbers_left, next);
-          records = omega (arith, records, records_left, many, few);
-        }
+        left-grows s g g v has client now kinds step (tree_left left) c copied keeper left is (omega (arith, next))
+        (omega (arith, many, few))
 
     -- A transaction that makes no slice, and adds no more records than the model counts for it.
     pub landed-request : more + s.copied ≤ length kinds + copied

@@ -26,7 +26,7 @@ use Rattle.jv_model.specs.client.ModelClient.{ModelClient, OpenFile, Doing, Read
 use Rattle.jv_model.specs.client.Profile.{handle_of}
 use Rattle.jv_model.specs.journal.Reading.{asked_parts, reading}
 use Rattle.jv_model.specs.journal.State.{State, after_told, or_empty}
-use Rattle.jv_model.specs.journal.Steps.{file_in_use, must_answer, window_to_look}
+use Rattle.jv_model.specs.journal.Steps.{file_in_use, is_failure, must_answer, window_to_look}
 use Rattle.jv_outside.specs.Store.{Store}
 use Rattle.jv_volume.specs.TypedRows.{typed}
 use Rattle.jv_volume.specs.Views.{lists_of}
@@ -192,6 +192,15 @@ module _ (s : State) (client now : ℕ) (d : Doing) (busy : (s.clients client).d
         (goes-look may) down
 
     -- a look that is refused, since the session or the file is gone
+    pub look-calm : (fault : Fault) → LooksAt sid file.inode window v.keeper keeper (Err (RefusedBy fault))
+        → is_failure (ToldRefused fault) ≡ false
+    look-calm fault looks = by_cause (sees_none sid file.inode s.tree fault
+        (found-in s.tree g v has keeper (Err (RefusedBy fault)) (length_seen sid file.inode) looks.looks))
+      where
+        by_cause : SeesNone sid file.inode s.tree fault → is_failure (ToldRefused fault) ≡ false
+        by_cause (NoSession gone is) = ap (λ f. is_failure (ToldRefused f)) is
+        by_cause (NoFile session none is) = ap (λ f. is_failure (ToldRefused f)) is
+
     module _ (holdable : IsHoldable s.tree file.inode) (fault : Fault)
         (looks : LooksAt sid file.inode window v.keeper keeper (Err (RefusedBy fault))) where
       pub look-refused : Request s g g v looked client now flying flying (Quiet ∷ Answered (ToldRefused fault) ∷ [])
