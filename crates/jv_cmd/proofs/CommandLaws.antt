@@ -176,9 +176,12 @@ late_shelf = record {
 
 late_ended : (bucket folder : List ℕ) (before after : BlockDevices) (ended : Ended)
     → CannotAttach bucket folder before after ended → IsLate ended
-late_ended bucket folder before after ended (NoDepot down is depot carrier shelf) = late_at DepotFailed late_depot down ended is
-late_ended bucket folder before after ended (NoCarrier down is depot carrier shelf) = late_at CarrierFailed late_carrier down ended is
-late_ended bucket folder before after ended (NoShelf down is depot carrier shelf) = late_at ShelfFailed late_shelf down ended is
+late_ended bucket folder before after ended (NoDepot down is depot carrier shelf) =
+    late_at DepotFailed late_depot down ended is
+late_ended bucket folder before after ended (NoCarrier down is depot carrier shelf) =
+    late_at CarrierFailed late_carrier down ended is
+late_ended bucket folder before after ended (NoShelf down is depot carrier shelf) =
+    late_at ShelfFailed late_shelf down ended is
 
 -- a session after the keeper was opened and the setting read
 module _ (place folder : List ℕ) (before after : WorldValue) (opened : Store) (setting : Setting) (ended : Ended)

@@ -31,14 +31,15 @@ pub record RunsNone (answers : ℕ) (before after : WorldValue) : Type 0 where
   pub lines : LeavesLines before after
   pub rows : after.keeper.rows ≡ before.keeper.rows
 
--- A session, whose staged blocks lie in this folder: there is no volume to run on, and no device for blocks is opened; or one of
--- them isn't opened for the volume of that setting; or the lines run on that volume, once they and the keeper are opened. So
--- many operations were answered that the keeper failed.
+-- A session, whose staged blocks lie in this folder: there is no volume to run on, and no device for blocks is
+-- opened; or one of them isn't opened for the volume of that setting; or the lines run on that volume, once they and the
+-- keeper are opened. So many operations were answered that the keeper failed.
 pub data SessionEnds (folder : List ℕ) (answers : ℕ) (before after : WorldValue) (ended : Ended) : Type 0 where
   NotOpened : CannotOpen before.keeper.rows ended → RunsNone answers before after → after.blocks ≡ before.blocks
       → SessionEnds folder answers before after ended
   NotAttached : (setting : Setting) → IsKnown before.keeper.rows setting → RunsNone answers before after
-      → CannotAttach setting.bucket folder before.blocks after.blocks ended → SessionEnds folder answers before after ended
+      → CannotAttach setting.bucket folder before.blocks after.blocks ended
+      → SessionEnds folder answers before after ended
   Opened : (setting : Setting) (opened : Store) (attached : BlockDevices) → IsKnown before.keeper.rows setting
       → opened.rows ≡ before.keeper.rows → AreAttached setting.bucket folder before.blocks attached
       → RunsLines answers (record before { keeper = opened; blocks = attached }) after ended → after.blocks ≡ attached
@@ -52,8 +53,8 @@ abbrev pub place_of : Command → List ℕ
 place_of (Format place setting) = place
 place_of (Session place options) = place
 
--- A session over the volume of a setting, where the keeper is opened: a device for blocks isn't opened, and no line was run; or the
--- lines ran, and used no such device.
+-- A session over the volume of a setting, where the keeper is opened: a device for blocks isn't opened, and no line was
+-- run; or the lines ran, and used no such device.
 pub data RunsVolume (setting : Setting) (folder : List ℕ) (before after : WorldValue) (ended : Ended) : Type 0 where
   Stopped : CannotAttach setting.bucket folder before.blocks after.blocks ended → LeavesLines before after
       → after.keeper ≡ before.keeper → RunsVolume setting folder before after ended

@@ -21,9 +21,9 @@ use std::alloc::Global;
 /// runs the script of the source over the rows of the volume, and prints an answer for each line that has one; the bytes of
 /// files are kept until the run ends.
 ///
-/// Once a session has read the volume's setting, it opens the depot and then the carrier at the setting's bucket, and then
-/// the shelf at the folder of `--cache-dir`. The first of them that isn't opened ends the run before its first line, and
-/// those after it aren't called. No block is put or read. `format` calls none of them.
+/// Once a session has read the volume's setting, it opens the depot and then the carrier at the setting's bucket, and
+/// then the shelf at the folder of `--cache-dir`. The first of them that isn't opened ends the run before its first line,
+/// and those after it aren't called. No block is put or read. `format` calls none of them.
 ///
 /// The status is 0 if the command did its work: every line of the source was run, or the volume is formatted. It is 2 if
 /// the words are refused, 3 if the next line isn't run, 4 if there is no volume for a session, or one for `format`, or the
