@@ -8,21 +8,15 @@ pub enum Device {
     Err,
     Clock,
     Keeper,
-    Depot,
-    Carrier,
-    Shelf,
 }
 
 /// All devices, in the order in which they are printed.
-pub const DEVICES: [Device; 8] = [
+pub const DEVICES: [Device; 5] = [
     Device::Source,
     Device::Out,
     Device::Err,
     Device::Clock,
     Device::Keeper,
-    Device::Depot,
-    Device::Carrier,
-    Device::Shelf,
 ];
 
 impl Device {
@@ -34,9 +28,6 @@ impl Device {
             Device::Err => "err",
             Device::Clock => "clock",
             Device::Keeper => "keeper",
-            Device::Depot => "depot",
-            Device::Carrier => "carrier",
-            Device::Shelf => "shelf",
         }
     }
 
@@ -48,15 +39,7 @@ impl Device {
             "err" => Some(Device::Err),
             "clock" => Some(Device::Clock),
             "keeper" => Some(Device::Keeper),
-            "depot" => Some(Device::Depot),
-            "carrier" => Some(Device::Carrier),
-            "shelf" => Some(Device::Shelf),
             _ => None,
         }
-    }
-
-    /// Whether it is one of the three for the blocks of files, of which a scene is printed only where it asks.
-    pub fn is_for_blocks(self) -> bool {
-        matches!(self, Device::Depot | Device::Carrier | Device::Shelf)
     }
 }

@@ -20,8 +20,8 @@
 //!   which may be empty or have spaces, and `long N TEXT` one more, whose last letter stands N times. Without these
 //!   there is no first run.
 //! - `clock SECONDS` is what the clock answers, else 1000.
-//! - `fail DEVICE K ..` has these calls of a device fail, counted from 1. DEVICE is `source`, `out`, `err`, `clock`,
-//!   `keeper`, or one of the three for blocks: `depot`, `carrier` and `shelf`, which hold nothing.
+//! - `fail DEVICE K ..` has these calls of a device fail, counted from 1. DEVICE is `source`, `out`, `err`, `clock`
+//!   or `keeper`.
 //! - `in_pieces_of N`: the source returns, and `out` and `err` take, at most N bytes a call, else as many as there
 //!   are.
 //! - `rows none`: the keeper has no rows, else those of a volume `juicefs` that was formatted at moment 0. `row TAB A
@@ -36,13 +36,12 @@
 //! What is done, in this order:
 //! - The first run is made. Printed are its status, the lines that `out` and standard error gained, the number of its
 //!   journal's entries, how often each device was called and failed, and the place where the keeper was opened. The counts
-//!   are those since the world was made. Of the three devices for blocks that is printed only in a scene with `show
-//!   blocks`.
+//!   are those since the world was made.
 //! - Where the scene has a `list`, that run is made by the scene's words over the rows that are left, on a world of its own
 //!   of which no call fails. Printed are the lines that `out` gained, and the status where that isn't 0.
 //! - `for k FIRST..LAST DEVICE` makes the first run again, with call FIRST of the device failing, then with the next
-//!   one, up to LAST; DEVICE may be `each`, for all of them one after the other, those for blocks only in a scene with
-//!   `show blocks`. Printed is one line for each run that breaks the rule below, and a sum.
+//!   one, up to LAST; DEVICE may be `each`, for all of them one after the other. Printed is one line for each run
+//!   that breaks the rule below, and a sum.
 //! - `again` makes a run on the world that the last one left, by the same words, and `again WORD ..` by these. Where the
 //!   scene has a script already, a `script` behind it is that of this run.
 //! - `try WORD ..` makes a run by these words on a world of its own, and `then LINE` one by the scene's words whose
@@ -61,7 +60,6 @@
 //! A malformed line is refused with its number, and then nothing is run.
 #![tactic(auto)]
 
-mod carrier;
 mod device;
 mod reader;
 mod report;
@@ -76,7 +74,7 @@ use reader::{BadLine, SceneReader};
 use report::{push_list, push_played, push_then, push_try};
 use rows::rows_text;
 use scene::{Again, Further, Scene, Variant, bytes_of};
-use stage::{Stage, play, staged, with_rows, with_script};
+use stage::{MemWorld, play, with_rows, with_script, world};
 use std::alloc::{AllocError, Global};
 use std::io;
 use std::process::ExitCode;
@@ -133,14 +131,14 @@ fn push_scene(alloc: Global, report: &mut String, scene: &Scene) -> Result<(), A
 
 /// Makes a scene's first run, where it has words for one, and its sweeps, and adds what they came to. Returns the world
 /// that the run left.
-fn push_first(alloc: Global, report: &mut String, scene: &Scene) -> Result<Stage, AllocError> {
-    let stage = staged(alloc, scene, Variant::Same)?;
+fn push_first(alloc: Global, report: &mut String, scene: &Scene) -> Result<MemWorld, AllocError> {
+    let world = world(alloc, scene, Variant::Same)?;
     if scene.words.is_none() {
-        return Ok(stage);
+        return Ok(world);
     }
-    let played = play(alloc, scene.words(), stage)?;
-    push_played(alloc, report, scene, &played)?;
-    let (rows, left) = with_rows(alloc, played.stage)?;
+    let played = play(alloc, scene.words(), world)?;
+    push_played(alloc, report, &played)?;
+    let (rows, left) = with_rows(alloc, played.world)?;
     push_after_first(alloc, report, scene, rows)?;
     Ok(left)
 }
@@ -165,8 +163,8 @@ fn push_further(
     report: &mut String,
     scene: &Scene,
     further: &Further,
-    left: Stage,
-) -> Result<Stage, AllocError> {
+    left: MemWorld,
+) -> Result<MemWorld, AllocError> {
     match further {
         Further::Again(again) => push_again(alloc, report, scene, again, left),
         Further::Try(words) => {
@@ -187,8 +185,8 @@ fn try_words(
     scene: &Scene,
     words: &[String],
 ) -> Result<(), AllocError> {
-    let stage = staged(alloc, scene, Variant::Same)?;
-    let played = play(alloc, words, stage)?;
+    let world = world(alloc, scene, Variant::Same)?;
+    let played = play(alloc, words, world)?;
     push_try(report, words, &played)
 }
 
@@ -199,8 +197,8 @@ fn try_line(
     scene: &Scene,
     line: &str,
 ) -> Result<(), AllocError> {
-    let stage = staged(alloc, scene, Variant::Line(line))?;
-    let played = play(alloc, scene.words(), stage)?;
+    let world = world(alloc, scene, Variant::Line(line))?;
+    let played = play(alloc, scene.words(), world)?;
     push_then(report, line, &played)
 }
 
@@ -210,22 +208,22 @@ fn push_again(
     report: &mut String,
     scene: &Scene,
     again: &Again,
-    left: Stage,
-) -> Result<Stage, AllocError> {
+    left: MemWorld,
+) -> Result<MemWorld, AllocError> {
     let words = match &again.words {
         Some(words) => words.as_slice(),
         None => scene.words(),
     };
-    let stage = if again.script.is_empty() {
+    let world = if again.script.is_empty() {
         left
     } else {
         let never = Fails::At(Sequence::new(alloc));
         with_script(left, bytes_of(alloc, again.script.as_slice())?, never)
     };
-    let played = play(alloc, words, stage)?;
+    let played = play(alloc, words, world)?;
     report.push_str("again\n")?;
-    push_played(alloc, report, scene, &played)?;
-    Ok(played.stage)
+    push_played(alloc, report, &played)?;
+    Ok(played.world)
 }
 
 /// Runs the scenes of standard input, and prints what each came to.

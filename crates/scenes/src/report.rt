@@ -1,5 +1,5 @@
 //! What is printed of runs.
-use crate::device::{DEVICES, Device};
+use crate::device::DEVICES;
 use crate::scene::Scene;
 use crate::stage::{Played, play_list};
 use jv_model::Rows;
@@ -52,62 +52,37 @@ fn push_gained(
 }
 
 /// Adds how often each device was called, and failed where it did.
-fn push_counts(report: &mut String, scene: &Scene, played: &Played) -> Result<(), AllocError> {
+fn push_counts(report: &mut String, played: &Played) -> Result<(), AllocError> {
     report.push_str("calls")?;
     for device in DEVICES {
-        if scene.shows(device) {
-            push_count(report, played, device)?;
+        let name = device.name();
+        let made = played.made(device);
+        write!(report, " {name} {made}")?;
+        let faults = played.faults(device);
+        if faults > 0 {
+            write!(report, " ({faults} failed)")?;
         }
     }
     report.push_str("\n")
 }
 
-fn push_count(report: &mut String, played: &Played, device: Device) -> Result<(), AllocError> {
-    let name = device.name();
-    let made = played.made(device);
-    write!(report, " {name} {made}")?;
-    match played.faults(device) {
-        0 => Ok(()),
-        faults => write!(report, " ({faults} failed)"),
-    }
-}
-
-/// Adds the places where devices are opened, the keeper's without its name.
-fn push_places(report: &mut String, scene: &Scene, played: &Played) -> Result<(), AllocError> {
-    for device in DEVICES {
-        if scene.shows(device) {
-            push_place(report, played, device)?;
-        }
-    }
-    Ok(())
-}
-
-fn push_place(report: &mut String, played: &Played, device: Device) -> Result<(), AllocError> {
-    let Some(place) = played.opened(device) else {
-        return Ok(());
-    };
-    let place = str::from_utf8(place).unwrap_or("not text");
-    match device {
-        Device::Keeper => push_line(report, "opened", place),
-        _ => writeln!(report, "opened {} {place}", device.name()),
-    }
-}
-
 /// Adds what a run came to.
-pub fn push_played(
-    alloc: Global,
-    report: &mut String,
-    scene: &Scene,
-    played: &Played,
-) -> Result<(), AllocError> {
+pub fn push_played(alloc: Global, report: &mut String, played: &Played) -> Result<(), AllocError> {
     let status = played.status;
     writeln!(report, "status {status}")?;
     push_gained(alloc, report, "out", played.out.as_slice())?;
     push_gained(alloc, report, "err", played.err.as_slice())?;
-    let entries = played.stage.journal.len();
+    let entries = played.world.journal.len();
     writeln!(report, "entries {entries}")?;
-    push_counts(report, scene, played)?;
-    push_places(report, scene, played)
+    push_counts(report, played)?;
+    match played.world.keeper.opened() {
+        Some(place) => push_line(
+            report,
+            "opened",
+            str::from_utf8(place).unwrap_or("not text"),
+        ),
+        None => Ok(()),
+    }
 }
 
 /// Lists what is left in rows, where the scene has a script for that, and adds the answers.

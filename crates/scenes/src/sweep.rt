@@ -3,7 +3,7 @@ use crate::device::{DEVICES, Device};
 use crate::report::{push_list, push_played};
 use crate::rows::rows_text;
 use crate::scene::{Scene, Sweep, Variant};
-use crate::stage::{Played, Stage, play, staged, with_rows};
+use crate::stage::{MemWorld, Played, play, with_rows, world};
 use jv_model::Rows;
 use std::alloc::{AllocError, Global};
 use std::str;
@@ -52,7 +52,7 @@ fn push_devices(
     sweep: Sweep,
 ) -> Result<(), AllocError> {
     for device in DEVICES {
-        if sweep.is_of(scene, device) {
+        if sweep.is_of(device) {
             push_device(alloc, report, scene, base, sweep, device)?;
         }
     }
@@ -60,18 +60,22 @@ fn push_devices(
 }
 
 fn show(alloc: Global, scene: &Scene, variant: Variant<'_>) -> Result<Run, AllocError> {
-    let (before, stage) = with_left(alloc, scene, staged(alloc, scene, variant)?)?;
-    let played = play(alloc, scene.words(), stage)?;
+    let (before, world) = with_left(alloc, scene, world(alloc, scene, variant)?)?;
+    let played = play(alloc, scene.words(), world)?;
     let mut text = String::new(alloc);
-    push_played(alloc, &mut text, scene, &played)?;
+    push_played(alloc, &mut text, &played)?;
     shown(alloc, scene, played, text, before)
 }
 
-/// What is in a stage's keeper, and the stage.
-fn with_left(alloc: Global, scene: &Scene, stage: Stage) -> Result<(Left, Stage), AllocError> {
-    let (rows, stage) = with_rows(alloc, stage)?;
+/// What is in a world's keeper, and the world.
+fn with_left(
+    alloc: Global,
+    scene: &Scene,
+    world: MemWorld,
+) -> Result<(Left, MemWorld), AllocError> {
+    let (rows, world) = with_rows(alloc, world)?;
     let left = left_in(alloc, scene, rows)?;
-    Ok((left, stage))
+    Ok((left, world))
 }
 
 fn left_in(alloc: Global, scene: &Scene, rows: Rows) -> Result<Left, AllocError> {
@@ -92,14 +96,14 @@ fn shown(
         status,
         out,
         err,
-        stage,
+        world,
     } = played;
-    let (after, stage) = with_left(alloc, scene, stage)?;
+    let (after, world) = with_left(alloc, scene, world)?;
     let played = Played {
         status,
         out,
         err,
-        stage,
+        world,
     };
     Ok(Run {
         played,
@@ -325,7 +329,7 @@ fn has_rows_of(base: &Run, now: &Run) -> bool {
 
 /// Whether a run ended at a failed device after the first step of a script. Its rows are those that its steps left.
 fn was_cut_off(now: &Played) -> bool {
-    now.status == FAILED && now.stage.journal.len() > 0
+    now.status == FAILED && now.world.journal.len() > 0
 }
 
 fn has_other_faults(base: &Played, now: &Played, device: Device) -> bool {
@@ -363,7 +367,7 @@ fn broken_end(
 
 /// Whether a fault of the device ends a run.
 fn is_never_passed_over(device: Device) -> bool {
-    !matches!(device, Device::Err | Device::Keeper)
+    matches!(device, Device::Source | Device::Out | Device::Clock)
 }
 
 /// Whether standard error says that the device failed, and nothing else.
