@@ -3,9 +3,9 @@ use jv_script::{BadLine, read_line};
 use std::alloc::{AllocError, Global};
 
 /// Whether a text is read as this line.
-fn reads(alloc: Global, text: &str, line: &Line) -> bool {
+fn reads(alloc: Global, text: &str, line: Line) -> bool {
     match read_line(alloc, text.as_bytes()) {
-        Ok(read) => read == *line,
+        Ok(read) => read == line,
         Err(_) => false,
     }
 }
@@ -13,17 +13,17 @@ fn reads(alloc: Global, text: &str, line: &Line) -> bool {
 #[test]
 fn lines_without_bytes_are_read(rt: HostRuntime) {
     let begun = Line::Begin(ClientId(0), Op::Umount);
-    assert!(rt; reads(rt.alloc(), "# A mount", &Line::Empty), "a comment");
+    assert!(rt; reads(rt.alloc(), "# A mount", Line::Empty), "a comment");
     assert!(rt;
-        reads(rt.alloc(), "H crash", &Line::Crash(ClientId(7))),
+        reads(rt.alloc(), "H crash", Line::Crash(ClientId(7))),
         "the last client"
     );
     assert!(rt;
-        reads(rt.alloc(), "A begin umount", &begun),
+        reads(rt.alloc(), "A begin umount", begun),
         "an operation that is begun"
     );
     assert!(rt;
-        reads(rt.alloc(), "tick 4294967296", &Line::Tick(4_294_967_296)),
+        reads(rt.alloc(), "tick 4294967296", Line::Tick(4_294_967_296)),
         "the longest tick"
     );
 }
@@ -64,7 +64,7 @@ fn write(alloc: Global) -> Result<Op, AllocError> {
 /// Whether the operation was made, and a text is read as the line on which client A does it.
 fn reads_made(alloc: Global, text: &str, op: Result<Op, AllocError>) -> bool {
     match op {
-        Ok(op) => reads(alloc, text, &Line::Do(ClientId(0), op)),
+        Ok(op) => reads(alloc, text, Line::Do(ClientId(0), op)),
         Err(_) => false,
     }
 }
@@ -92,6 +92,10 @@ fn data_are_read_in_parts_of_each_kind(rt: HostRuntime) {
     assert!(rt; reads_made(rt.alloc(), text, write(rt.alloc())));
 }
 
+fn is_malformed(alloc: Global, text: &str) -> bool {
+    matches!(read_line(alloc, text.as_bytes()), Err(BadLine::Off))
+}
+
 #[test]
 fn malformed_lines_are_refused(rt: HostRuntime) {
     for (name, text) in [
@@ -111,7 +115,6 @@ fn malformed_lines_are_refused(rt: HostRuntime) {
             "A write 1 0 61x8388608+61",
         ),
     ] {
-        let read = read_line(rt.alloc(), text.as_bytes());
-        assert!(rt; matches!(read, Err(BadLine::Off)), "{name}: {text}");
+        assert!(rt; is_malformed(rt.alloc(), text), "{name}: {text}");
     }
 }
