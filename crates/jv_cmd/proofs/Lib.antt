@@ -2,10 +2,15 @@
 pub mod TextLaws
 pub mod Buffers
 pub mod CuttingLaws
+pub mod StageLaws
 pub mod StepLaws
 pub mod FreshLaws
 pub mod FormattedLaws
 pub mod ActLaws
+pub mod ReadingLaws
+pub mod EntryLaws
+pub mod DoneLaws
+pub mod EndLaws
 pub mod GoingLaws
 pub mod SayingLaws
 mod CommandLaws

@@ -1,45 +1,56 @@
 ghost use Rattle.std.specs.Prelude.{◌≡◌, [], map, string_bytes};
-ghost use Rattle.jv_cmd.specs.Commands.{Runs, RunsCommand, RunsSession};
-ghost use Rattle.jv_cmd.specs.Faults.{CountsFaults, UsesKeeper};
+ghost use Rattle.jv_shared.specs.Lengths.{IsLength};
+ghost use Rattle.jv_cmd.specs.Bounds.{AreAllowed};
+ghost use Rattle.jv_cmd.specs.Commands.{Runs, RunsAttached, RunsCommand, RunsSession, RunsVolume};
+ghost use Rattle.jv_cmd.specs.Faults.{CountsFaults, in_world};
 ghost use Rattle.jv_cmd.specs.Words.{IsAllowedCommand};
 
+use crate::blocks::{attach_all, ended_by_yard};
+use crate::bounds::limits_of;
 use crate::ended::{Ended, report, say};
 use crate::format::run_format;
 use crate::lines::run_script;
+use crate::stage::Stage;
 use crate::volume::open_volume;
-use crate::words::{Command, WordsFault, read_words};
+use crate::words::{Command, SessionOptions, WordsFault, read_words};
 use crate::world::{Finish, Observed, World};
-use jv_model::Text;
-use jv_outside::{Clock, Keeper, Sink, Source};
+use jv_model::{Setting, Text};
+use jv_outside::{Clock, Depot, Keeper, Shelf, Sink, Source};
+use jv_yard::{Alone, Yard};
 use std::alloc::Global;
 
 /// Runs the command that the words are, over the devices of the world, with an emptied journal.
 ///
 /// `format` puts the rows of a fresh volume where the keeper has none, in one commit, and prints its name. `session`
-/// runs the script of the source over the rows of the volume, and prints an answer for each line that has one; the bytes of
-/// files are kept until the run ends.
+/// runs the script of the source over the rows of the volume, with the bytes of files in blocks of the depot, and prints
+/// an answer for each line that has one.
+///
+/// Once a session has read the volume's setting, it opens the depot and then the carrier at the setting's bucket, and
+/// then the shelf at the folder of `--cache-dir`. The first of them that isn't opened ends the run before its first line,
+/// and those after it aren't called. Then it lists the blocks on the shelf, and ends before its first line where that
+/// fails. `format` calls none of them.
 ///
 /// The status is 0 if the command did its work: every line of the source was run, or the volume is formatted. It is 2 if
 /// the words are refused, 3 if the next line isn't run, 4 if there is no volume for a session, or one for `format`, or the
 /// row of its setting is of a later version, or a row that is read is malformed or names one that isn't there, 5 if a device
-/// failed, and 6 if the process is out of memory. A keeper that fails inside an operation of a script is answered `EIO`.
+/// failed, and 6 if the process is out of memory. A device that fails inside an operation of a script is answered `EIO`.
 /// Standard error has a text for each but the first, which ends with a line feed. Nothing after the end of the run is done,
 /// and everything before it is done, printed and in the journal. Where the clock fails or memory runs out on a line, the
-/// steps that the line made are in the journal, and it prints nothing. A device's count of faults rises only with status 5,
-/// by that device, and standard error's own faults are passed over.
-pub fn run<S: Source, O: Sink, E: Sink, K: Keeper, C: Clock>(
+/// steps that the line made are in the journal, and it prints nothing. Apart from such answers, a device's count of faults
+/// rises only with status 5, by that device, and standard error's own faults are passed over.
+pub fn run<S: Source, O: Sink, E: Sink, K: Keeper, D: Depot, H: Shelf, C: Clock>(
     alloc: Global,
     words: &[String],
-    world: World<S, O, E, K, C>,
-) -> Finish<S, O, E, K, C>
-    ensures { let seen = ⟦<World<S, O, E, K, C> as Observed>⟧.seen in
+    world: World<S, O, E, K, D, H, C>,
+) -> Finish<S, O, E, K, D, H, C>
+    ensures { let seen = ⟦<World<S, O, E, K, D, H, C> as Observed>⟧.seen in
         Runs (map string_bytes words.now) (seen world) (seen result.world) result.status }
 {
     let mut world = world;
     world.journal.clear();
     match read_words(alloc, words) {
         Ok(command) => {
-            let ended = run_command(alloc, command, &mut world);
+            let (ended, mut world) = run_command(alloc, command, world);
             report(&ended, &mut world.err);
             let status = ended.status();
             Finish { status, world }
@@ -56,38 +67,132 @@ pub fn run<S: Source, O: Sink, E: Sink, K: Keeper, C: Clock>(
     }
 }
 
-fn run_command<S: Source, O: Sink, E: Sink, K: Keeper, C: Clock>(
+/// Runs a command, and returns how it ended and the world then.
+fn run_command<S: Source, O: Sink, E: Sink, K: Keeper, D: Depot, H: Shelf, C: Clock>(
     alloc: Global,
     command: Command,
-    world: &mut World<S, O, E, K, C>,
-) -> Ended
+    world: World<S, O, E, K, D, H, C>,
+) -> (Ended, World<S, O, E, K, D, H, C>)
     requires allowed { IsAllowedCommand command }
-    requires empty { world.old.journal.acts ≡ [] }
-    ensures runs { let seen = ⟦<World<S, O, E, K, C> as Observed>⟧.seen in
-        RunsCommand command (seen world.old) (seen world.new) result }
-    ensures err { world.new.err ≡ world.old.err }
+    requires empty { world.journal.acts ≡ [] }
+    ensures runs { let seen = ⟦<World<S, O, E, K, D, H, C> as Observed>⟧.seen in
+        RunsCommand command (seen world) (seen result.1) result.0 }
+    ensures err { result.1.err ≡ world.err }
 {
     match command {
-        Command::Format { place, setting } => run_format(alloc, &place, &setting, world),
-        Command::Session { place, .. } => run_session(alloc, &place, world),
+        Command::Format { place, setting } => {
+            let mut world = world;
+            let ended = run_format(alloc, &place, &setting, &mut world);
+            (ended, world)
+        }
+        Command::Session { place, options } => run_session(alloc, &place, &options, world),
     }
 }
 
-/// Runs the script of the source over the volume at a place.
-fn run_session<S: Source, O: Sink, E: Sink, K: Keeper, C: Clock>(
+/// Runs the script of the source over the volume at a place, once the devices for its blocks are opened.
+fn run_session<S: Source, O: Sink, E: Sink, K: Keeper, D: Depot, H: Shelf, C: Clock>(
     alloc: Global,
     place: &Text,
-    world: &mut World<S, O, E, K, C>,
-) -> Ended
-    requires { world.old.journal.acts ≡ [] }
-    ensures runs { let seen = ⟦<World<S, O, E, K, C> as Observed>⟧.seen in
-        RunsSession place.now (seen world.old) (seen world.new) result }
-    ensures faults { let seen = ⟦<World<S, O, E, K, C> as Observed>⟧.seen in
-        CountsFaults result (seen world.old) (seen world.new) }
-    ensures err { world.new.err ≡ world.old.err }
+    options: &SessionOptions,
+    world: World<S, O, E, K, D, H, C>,
+) -> (Ended, World<S, O, E, K, D, H, C>)
+    requires allowed { AreAllowed options.now }
+    requires empty { world.journal.acts ≡ [] }
+    ensures runs { let seen = ⟦<World<S, O, E, K, D, H, C> as Observed>⟧.seen in
+        RunsSession place.now options.now (seen world) (seen result.1) result.0 }
+    ensures faults { let seen = ⟦<World<S, O, E, K, D, H, C> as Observed>⟧.seen in
+        CountsFaults result.0 (in_world (seen world)) (in_world (seen result.1)) }
+    ensures err { result.1.err ≡ world.err }
 {
+    let mut world = world;
     match open_volume(alloc, &mut world.keeper, place) {
-        Ok(setting) => run_script(alloc, setting, world),
-        Err(ended) => ended,
+        Ok(setting) => run_volume(alloc, setting, options, world),
+        Err(ended) => (ended, world),
+    }
+}
+
+/// Opens the devices for the blocks of a volume with this setting, and runs the script of the source over it.
+fn run_volume<S: Source, O: Sink, E: Sink, K: Keeper, D: Depot, H: Shelf, C: Clock>(
+    alloc: Global,
+    setting: Setting,
+    options: &SessionOptions,
+    world: World<S, O, E, K, D, H, C>,
+) -> (Ended, World<S, O, E, K, D, H, C>)
+    requires allowed { AreAllowed options.now }
+    requires empty { world.journal.acts ≡ [] }
+    requires block { IsLength setting.block }
+    ensures runs { let seen = ⟦<World<S, O, E, K, D, H, C> as Observed>⟧.seen in
+        RunsVolume options.now setting (seen world) (seen result.1) result.0 }
+    ensures err { result.1.err ≡ world.err }
+{
+    let mut world = world;
+    let attached = attach_all(
+        &setting.bucket,
+        &options.cache_dir,
+        &mut world.depot,
+        &mut world.carrier,
+        &mut world.shelf,
+    );
+    match attached {
+        Ok(()) => run_attached(alloc, setting, options, world),
+        Err(ended) => (ended, world),
+    }
+}
+
+/// Runs the script of the source over a volume with this setting, the devices for whose blocks are opened.
+fn run_attached<S: Source, O: Sink, E: Sink, K: Keeper, D: Depot, H: Shelf, C: Clock>(
+    alloc: Global,
+    setting: Setting,
+    options: &SessionOptions,
+    world: World<S, O, E, K, D, H, C>,
+) -> (Ended, World<S, O, E, K, D, H, C>)
+    requires allowed { AreAllowed options.now }
+    requires empty { world.journal.acts ≡ [] }
+    requires block { IsLength setting.block }
+    ensures runs { let seen = ⟦<World<S, O, E, K, D, H, C> as Observed>⟧.seen in
+        RunsAttached options.now setting (seen world) (seen result.1) result.0 }
+    ensures err { result.1.err ≡ world.err }
+{
+    let World {
+        source,
+        out,
+        err,
+        keeper,
+        depot,
+        shelf,
+        clock,
+        carrier,
+        journal,
+    } = world;
+    match Yard::start(alloc, depot, shelf, &setting) {
+        Ok(yard) => {
+            let limits = limits_of(options, setting.block);
+            let mut stage = Stage {
+                limits,
+                source,
+                out,
+                keeper,
+                door: Alone::new(yard),
+                clock,
+                carrier,
+                journal,
+            };
+            let ended = run_script(alloc, setting, &mut stage);
+            (ended, stage.into_world(err))
+        }
+        Err((depot, shelf, fault)) => {
+            let world = World {
+                source,
+                out,
+                err,
+                keeper,
+                depot,
+                shelf,
+                clock,
+                carrier,
+                journal,
+            };
+            (ended_by_yard(fault), world)
+        }
     }
 }

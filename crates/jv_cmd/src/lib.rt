@@ -1,11 +1,14 @@
 //! The program's commands as one call, over devices that are handed in.
 #![tactic(auto)]
 
+mod blocks;
+mod bounds;
 mod command;
 mod ended;
 mod format;
 mod lines;
 mod reader;
+mod stage;
 mod volume;
 mod words;
 mod world;

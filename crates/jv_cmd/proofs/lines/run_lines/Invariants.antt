@@ -1,26 +1,41 @@
-use Rattle.std.proofs.Common.{◌≤◌, ◌-◌, ◌+◌, ◌≡◌}
+use Rattle.std.proofs.Common.{◌≤◌, ◌-◌, ◌+◌}
+use Rattle.std.specs.Prelude.{IsSomeAnd}
 use Rattle.std.specs.Io.KnownBytes.{prepend_known}
 use Rattle.jv_model.specs.declared.limits.TheConstants.{MAX_LINES}
+use Rattle.jv_yard.specs.Staging.{by_client}
+use Rattle.jv_yard.specs.YardValue.{yard_value}
+use Rattle.jv_client.specs.Shared.{shared}
+use Rattle.jv_session.specs.Stands.{IsYardOf}
 use Rattle.jv_cmd.specs.Steps.{Going}
-use Rattle.jv_cmd.specs.Worlds.{WorldValue, world_value}
+use Rattle.jv_cmd.specs.Stages.{StageValue, given_by, stage_value, yard_at}
 use Rattle.jv_cmd.proofs.lines.run_lines.Given as goal
 
 -- `done` lines are run, where none was at first
 abbrev pub invariant-lines : goal.invariant-lines
-invariant-lines g l = record {
-  few : l.done ≤ MAX_LINES;
-  goes : (before : WorldValue)
-      → Going (prepend_known l.initial.reader (g.S.Source.seen l.initial.world.source).content) before
-      (world_value (g.S.Source.seen l.initial.world.source) (g.O.Sink.seen l.initial.world.out)
-      (g.E.Sink.seen l.initial.world.err) (g.K.Keeper.seen l.initial.world.keeper)
-      (g.C.Clock.seen l.initial.world.clock) l.initial.world.journal.acts)
-      0 l.initial.schedule
-      → Going (prepend_known l.reader (g.S.Source.seen l.world.source).content) before
-      (world_value (g.S.Source.seen l.world.source) (g.O.Sink.seen l.world.out) (g.E.Sink.seen l.world.err)
-      (g.K.Keeper.seen l.world.keeper) (g.C.Clock.seen l.world.clock) l.world.journal.acts)
-      l.done l.schedule;
-  err : l.world.err ≡ l.initial.world.err;
-}
+invariant-lines g l =
+    let at = l.initial.stage in
+    let now = l.stage in
+    let given_at = given_by at.door.yard (λ y. yard_value (g.D.Depot.seen y.depot) (g.H.Shelf.seen y.shelf) y.setting
+    (by_client y.staged) y.last y.log.items) in
+    let given = given_by now.door.yard (λ y. yard_value (g.D.Depot.seen y.depot) (g.H.Shelf.seen y.shelf) y.setting
+    (by_client y.staged) y.last y.log.items) in
+    record {
+      few : l.done ≤ MAX_LINES;
+      goes : (before : StageValue)
+          → Going (prepend_known l.initial.reader (g.S.Source.seen at.source).content) before
+          (stage_value at.limits (g.S.Source.seen at.source) (g.O.Sink.seen at.out)
+          (shared (g.K.Keeper.seen at.keeper) (yard_at given_at)
+          ((goal.Carrier-dyn g (at.carrier.vtable, at.carrier.value)).seen at.carrier.value))
+          (g.C.Clock.seen at.clock) at.journal.acts)
+          0 l.initial.schedule
+          → Going (prepend_known l.reader (g.S.Source.seen now.source).content) before
+          (stage_value now.limits (g.S.Source.seen now.source) (g.O.Sink.seen now.out)
+          (shared (g.K.Keeper.seen now.keeper) (yard_at given)
+          ((goal.Carrier-dyn g (now.carrier.vtable, now.carrier.value)).seen now.carrier.value))
+          (g.C.Clock.seen now.clock) now.journal.acts)
+          l.done l.schedule;
+      yard : IsSomeAnd given (IsYardOf l.schedule);
+    }
 
 abbrev pub decreases-lines : goal.decreases-lines
 decreases-lines g l = MAX_LINES + 1 - l.done
