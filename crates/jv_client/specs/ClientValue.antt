@@ -2,8 +2,9 @@
 use Rattle.std.specs.Prelude.{ℕ, List, [], Option, None, unwrap_or}
 use Rattle.jv_model.specs.declared.basics.Limits.{Limits}
 use Rattle.jv_model.specs.client.Pending.{PendingByte}
+use Rattle.jv_cache.specs.Cached.{Cached}
+use Rattle.jv_handles.specs.declared.handle.Handle.{Handle}
 use Rattle.jv_client.specs.declared.doing.Doing.{Doing}
-use Rattle.jv_client.specs.declared.handles.Handle.{Handle}
 
 pub record ClientValue : Type 0 where
   pub id : ℕ
@@ -12,10 +13,12 @@ pub record ClientValue : Type 0 where
   pub handles : List (Option Handle)
   pub sustained : List ℕ  -- inodes that lost their last name by this client's own hand while it had them open
   pub pending : List PendingByte
+  pub cache : Option Cached  -- None until the first read
   pub doing : Option Doing
 
 abbrev pub fresh_client : ℕ → Limits → ClientValue
-fresh_client id limits = record { id = id; limits = limits; session = None; handles = []; sustained = []; pending = []; doing = None }
+fresh_client id limits =
+    record { id = id; limits = limits; session = None; handles = []; sustained = []; pending = []; cache = None; doing = None }
 
 -- after a crash a client is as before any mount
 abbrev pub crashed : ClientValue → ClientValue

@@ -10,7 +10,8 @@ use Rattle.jv_model.specs.declared.op.Op.TheVariants as op
 use Rattle.jv_model.specs.client.Pending.{pending_of_others}
 use Rattle.jv_model.specs.client.ModelClient.{with_file}
 use Rattle.jv_client.specs.ClientValue.{ClientValue, crashed}
-use Rattle.jv_client.specs.Held.{inode_here, is_last_here}
+use Rattle.jv_handles.specs.Handles.{inode_here}
+use Rattle.jv_client.specs.Held.{is_last_here}
 
 -- without an operation
 abbrev pub ended : ClientValue → ClientValue

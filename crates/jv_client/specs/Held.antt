@@ -1,6 +1,7 @@
 -- When a client in memory stands for one of the model.
-use Rattle.std.specs.Prelude.{◌≡◌, ℕ, Bool, true, false, ◌+◌, ◌≤◌, ◌&&◌, not, nat_lt, if◌then◌else◌, List, [], ◌∷◌, length, Option, None, Some, Result, Ok, Err}
+use Rattle.std.specs.Prelude.{◌≡◌, ℕ, Bool, true, false, ◌-◌, ◌≤◌, ◌&&◌, ◌+◌, not, nat_lt, if◌then◌else◌, zero, suc, List, [], ◌∷◌, length, IfSome, IsSomeAnd, Option, None, Some, Result, Ok, Err}
 use Rattle.std.specs.List.{AllByRecursion}
+use Rattle.std.specs.Option.{option_map}
 use Rattle.jv_model.specs.declared.fault.Fault.{Fault}
 use Rattle.jv_model.specs.declared.op.Op.{Op}
 use Rattle.jv_model.specs.declared.profile.Does.{Does}
@@ -8,54 +9,30 @@ use Rattle.jv_model.specs.declared.profile.Profile.{Profile}
 use Rattle.jv_model.specs.declared.profile.Flushes.TheVariants.{Nothing, ItsFiles, IfFull, Everything}
 use Rattle.jv_model.specs.declared.profile.Handles.{Handles}
 use Rattle.jv_model.specs.declared.profile.Handles.TheVariants as named
+use Rattle.jv_model.specs.blocks.Slices.{block_at, block_count}
 use Rattle.jv_model.specs.tree.Tree.{Tree}
-use Rattle.jv_model.specs.client.Pending.{PendingByte}
-use Rattle.jv_model.specs.client.ModelClient.{ModelClient, OpenFile, View as ModelView, Doing as ModelDoing, Flush as ModelFlush, OfFiles, OfAll, Stage, Working, Reading, file_of, with_file, held_inodes, is_among}
-use Rattle.jv_model.specs.journal.Reading.{fresh_view}
+use Rattle.jv_model.specs.client.Pending.{PendingByte, Segment, bytes_in_range}
+use Rattle.jv_model.specs.client.Profile.{handle_of}
+use Rattle.jv_model.specs.client.ModelClient.{ModelClient, View as ModelView, Doing as ModelDoing, Flush as ModelFlush, OfFiles, OfAll, Stage, Working, Reading, file_of, with_file, held_inodes, is_among}
+use Rattle.jv_model.specs.client.Submission.{next_segment}
+use Rattle.jv_model.specs.journal.Steps.{asked_of}
 use Rattle.jv_volume.specs.Holding.{IsHoldable}
-use Rattle.jv_files.specs.declared.files.StoredSegment.{StoredSegment}
-use Rattle.jv_files.specs.Stored.{FilesValue, segments_at}
-use Rattle.jv_files.specs.Holds.{Keeps}
-use Rattle.jv_files.specs.Shown.{as_seen}
+use Rattle.jv_cache.specs.declared.key.BlockKey.{BlockKey}
+use Rattle.jv_cache.specs.Cached.{Cached, found_in}
+use Rattle.jv_contents.specs.Flights.{Flight}
+use Rattle.jv_fetching.specs.Going.{IsFetching}
+use Rattle.jv_fetching.specs.Calls.{IsCacheOf}
+use Rattle.jv_handles.specs.declared.handle.Handle.{Handle}
+use Rattle.jv_handles.specs.Handles.{held_here, inode_here}
+use Rattle.jv_handles.specs.Held.{AreHandles, SamePlace}
+use Rattle.jv_shared.specs.Flying.{Flies}
+use Rattle.jv_shared.specs.Shared.{Known, Shared}
 use Rattle.jv_client.specs.declared.doing.Doing.{Doing}
 use Rattle.jv_client.specs.declared.doing.Flush.{Flush}
 use Rattle.jv_client.specs.declared.doing.Flush.TheVariants as flush
 use Rattle.jv_client.specs.declared.doing.Progress.{Progress}
 use Rattle.jv_client.specs.declared.doing.Progress.TheVariants as progress
-use Rattle.jv_client.specs.declared.handles.Handle.{Handle}
-use Rattle.jv_client.specs.declared.handles.View.{View}
 use Rattle.jv_client.specs.ClientValue.{ClientValue}
-
-abbrev pub SamePlace : {X Y : Type 0} → (X → Y → Type 0) → Option X → Option Y → Type 0
-SamePlace P None None = Unit {0}
-SamePlace P None (Some y) = ⊥
-SamePlace P (Some x) None = ⊥
-SamePlace P (Some x) (Some y) = P x y
-
--- two tables, whose places are numbered from a number on, have the same places in use, and what stands there is related
-abbrev pub SameTable : {X Y : Type 0} → (ℕ → X → Y → Type 0) → ℕ → List (Option X) → List (Option Y) → Type 0
-SameTable P number [] [] = Unit {0}
-SameTable P number [] (y ∷ ys) = ⊥
-SameTable P number (x ∷ xs) [] = ⊥
-SameTable P number (x ∷ xs) (y ∷ ys) = SamePlace (P number) x y × SameTable P (number + 1) xs ys
-
--- a file as a look saw it has these bytes; it has gone on since
-pub record ShowsContent (view : View) (content : ModelView) (segments : List StoredSegment) : Type 0 where
-  pub seen : view.seen.commits ≤ length segments
-  pub long : content.content.length ≡ view.seen.length
-  pub keeps : Keeps (as_seen view.seen segments) content.content
-
--- a view of the model is the one that a handle on this inode keeps
-pub record IsView (files : FilesValue) (inode : ℕ) (m : ModelView) (view : View) : Type 0 where
-  pub entry : m.entry ≡ view.entry
-  pub shows : ShowsContent view m (segments_at files inode)
-
--- an open file of the model is the one of a handle, opened by now, with the fresh view of its first window
-pub record IsHandle (views : List ModelView) (count : ℕ) (files : FilesValue) (number : ℕ) (file : OpenFile) (handle : Handle) : Type 0 where
-  pub inode : file.inode ≡ handle.inode
-  pub opened : file.opened ≡ handle.opened
-  pub before : file.opened ≤ count
-  pub view : SamePlace (IsView files handle.inode) (fresh_view views number file 0) handle.view
 
 -- what is committed first
 abbrev pub flush_of_code : Flush → ModelFlush
@@ -64,12 +41,16 @@ flush_of_code (flush.File inode) = OfFiles (inode ∷ [])
 flush_of_code (flush.Files first second) = OfFiles (first ∷ second ∷ [])
 flush_of_code flush.All = OfAll
 
+-- the segment that is committed next
+abbrev pub segment_left : Flush → List PendingByte → Option Segment
+segment_left first pending = next_segment (flush_of_code first) pending
+
 -- a client without its operation, after so many entries
-pub record IsHeld (m : ModelClient) (count : ℕ) (files : FilesValue) (c : ClientValue) : Type 0 where
+pub record IsHeld (g : Known) (v : Shared) (m : ModelClient) (count : ℕ) (c : ClientValue) : Type 0 where
   pub session : m.session ≡ c.session
   pub direct : m.writeback ≡ false
   pub removed : (inode : ℕ) → is_among inode m.sustained ≡ is_among inode c.sustained
-  pub handles : SameTable (IsHandle m.views count files) 1 m.handles c.handles
+  pub handles : AreHandles g v m.views count m.handles c.handles
   pub views : AllByRecursion (λ (view : ModelView). view.entry ≤ count) m.views
   pub pending : m.pending ≡ c.pending
 
@@ -77,20 +58,6 @@ pub record IsHeld (m : ModelClient) (count : ℕ) (files : FilesValue) (c : Clie
 pub record Holds (t : Tree) (m : ModelClient) : Type 0 where
   pub opened : (inode : ℕ) → is_among inode (held_inodes m.handles) ≡ true → IsHoldable t inode
   pub pending : AllByRecursion (λ (b : PendingByte). IsHoldable t b.inode) m.pending
-
--- the inode of a handle's file, 0 where it isn't open
-abbrev pub inode_of_handle : Option Handle → ℕ
-inode_of_handle None = 0
-inode_of_handle (Some handle) = handle.inode
-
-abbrev pub inode_here : List (Option Handle) → ℕ → ℕ
-inode_here handles handle = inode_of_handle (file_of handles handle)
-
--- the inodes of all open files
-abbrev pub held_here : List (Option Handle) → List ℕ
-held_here [] = []
-held_here (None ∷ handles) = held_here handles
-held_here (Some handle ∷ handles) = handle.inode ∷ held_here handles
 
 -- whether a handle is the client's last one on a file that it removed itself while it had it open
 abbrev pub is_last_here : ClientValue → ℕ → Bool
@@ -116,12 +83,12 @@ flush_here c row = elim row.flushes [
 
 -- how far an operation is
 abbrev pub stage_of : Progress → Stage
-stage_of (progress.Working quiets started) = Working quiets started
-stage_of progress.Reading = Reading 0
+stage_of (progress.Working quiets started id) = Working quiets started
+stage_of (progress.Reading fetch need) = Reading 0
 
 -- an operation before its first step
 abbrev pub begun : Op → Does → Flush → Doing
-begun o does flush = record { op = o; does = does; flush = flush; progress = progress.Working 0 0; has_moved = false }
+begun o does flush = record { op = o; does = does; flush = flush; progress = progress.Working 0 0 0; has_moved = false }
 
 -- an operation of the model is the one in progress
 pub record IsDoing (m : ModelDoing) (d : Doing) : Type 0 where
@@ -131,10 +98,49 @@ pub record IsDoing (m : ModelDoing) (d : Doing) : Type 0 where
   pub stage : m.stage ≡ stage_of d.progress
   pub moved : m.moved ≡ d.has_moved
 
--- a client of the model is the one in memory, after so many entries
-pub record IsClient (m : ModelClient) (count : ℕ) (files : FilesValue) (c : ClientValue) : Type 0 where
-  pub held : IsHeld m count files c
+-- the slice in flight of an operation that flushes: it has its number, and one block less than requests was put
+abbrev pub flight_from : ℕ → ℕ → List PendingByte → Option Segment → Option Flight
+flight_from put id pending None = None
+flight_from put id pending (Some segment) = Some (record { id = id; bytes = bytes_in_range segment.inode segment.from segment.len pending; put = put })
+
+abbrev pub flight_by : List PendingByte → Flush → Progress → Option Flight
+flight_by pending first (progress.Working quiets started id) = elim quiets [ zero ↦ None | suc put ↦ flight_from put id pending (segment_left first pending) ]
+flight_by pending first (progress.Reading fetch need) = None
+
+abbrev pub flight_in : List PendingByte → Option Doing → Option Flight
+flight_in pending None = None
+flight_in pending (Some d) = flight_by pending d.flush d.progress
+
+-- the slice that a client has in flight
+abbrev pub flight_of : ClientValue → Option Flight
+flight_of c = flight_in c.pending c.doing
+
+-- its number, 0 where there is none
+abbrev pub number_of : Option Flight → ℕ
+number_of None = 0
+number_of (Some f) = f.id
+
+abbrev pub in_flight : ClientValue → ℕ
+in_flight c = number_of (flight_of c)
+
+-- a slice in flight has no more blocks than its bytes fill
+abbrev pub IsOnWay : Known → Shared → Option Flight → Type 0
+IsOnWay g v None = Unit {0}
+IsOnWay g v (Some f) = Flies g v f × (f.put ≤ block_count (length f.bytes) v.yard.setting.block)
+
+-- a reading has gone on well, by the blocks that are known
+abbrev pub GoesOn : Known → Shared → ClientValue → Doing → Progress → Type 0
+GoesOn g v c d (progress.Working quiets started id) = Unit {0}
+GoesOn g v c d (progress.Reading fetch need) = IsSomeAnd (file_of c.handles (handle_of d.op)) (λ (handle : Handle).
+    (fetch.block ≡ v.yard.setting.block) × IsFetching g.blocks handle.views (asked_of d.does) fetch)
+
+-- a client of the model is the one in memory, after so many entries, over what clients share
+pub record IsClient (g : Known) (v : Shared) (m : ModelClient) (count : ℕ) (c : ClientValue) : Type 0 where
+  pub held : IsHeld g v m count c
   pub doing : SamePlace IsDoing m.doing c.doing
+  pub flight : IsOnWay g v (flight_of c)
+  pub reading : IfSome c.doing (λ (d : Doing). GoesOn g v c d d.progress)
+  pub cache : IfSome c.cache (IsCacheOf g.sizes v.yard.setting.block g.blocks)
 
 -- the refusal of a call that begins an operation
 abbrev pub refused_with : Result (Unit {0}) (Op × Fault) → Option Fault

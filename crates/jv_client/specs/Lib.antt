@@ -1,10 +1,12 @@
 -- The definitions that contracts cite.
 pub mod ClientValue
 pub mod Shared
+pub mod Built
 pub mod Held
 pub mod Ending
 pub mod UnderWay
-pub mod Makes
-pub mod Transacting
 pub mod Flushing
-pub mod Built
+pub mod Transacting
+pub mod Changing
+pub mod Stats
+pub mod Makes

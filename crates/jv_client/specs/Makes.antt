@@ -1,11 +1,12 @@
 -- What a step makes of a client and of what all clients share.
-use Rattle.std.specs.Prelude.{◌≡◌, ℕ, ◌+◌, ◌<◌, Bool, true, false, List, [], ◌∷◌, ◌++◌, map, length, IsSome, IsTrue, IfSome, None}
+use Rattle.std.specs.Prelude.{◌≡◌, ◌≢◌, ℕ, ◌+◌, ◌≤◌, ◌<◌, Bool, true, false, List, [], ◌∷◌, ◌++◌, map, length, IsSome, IsTrue, IfSome, None}
 use Rattle.jv_model.specs.declared.act.Act.{Act}
 use Rattle.jv_model.specs.declared.act.ActKind.{ActKind}
 use Rattle.jv_model.specs.declared.act.ActKind.TheVariants.{Answered}
 use Rattle.jv_model.specs.declared.act.Told.{Told}
 use Rattle.jv_model.specs.declared.act.Told.TheVariants.{Refused as ToldRefused}
-use Rattle.jv_model.specs.declared.fault.Device.TheVariants.{Keeper}
+use Rattle.jv_model.specs.declared.fault.Device.{Device}
+use Rattle.jv_model.specs.declared.fault.Device.TheVariants.{Keeper, Depot, Shelf, Carrier}
 use Rattle.jv_model.specs.declared.fault.Fault.TheVariants.{DeviceFailed}
 use Rattle.jv_model.specs.declared.op.Step.{Step}
 use Rattle.jv_model.specs.declared.op.Step.TheVariants.{More, Done, Broken}
@@ -13,16 +14,20 @@ use Rattle.jv_model.specs.journal.State.{State}
 use Rattle.jv_model.specs.journal.Steps.{Start}
 use Rattle.jv_model.specs.journal.Stepping.{AllowsStep, stepped_by, entry_of}
 use Rattle.jv_outside.specs.Causes.{RoseIf}
-use Rattle.jv_outside.specs.Store.{Store}
 use Rattle.jv_rows.specs.Transactions.{IsBad}
-use Rattle.jv_volume.specs.TypedRows.{typed}
+use Rattle.jv_volume.specs.TypedRows.{Rows, typed}
+use Rattle.jv_volume.specs.Slices.{next_slice}
 use Rattle.jv_volume.specs.Holding.{Stays}
-use Rattle.jv_files.specs.Holds.{Grows}
+use Rattle.jv_contents.specs.Counts.{record_count}
+use Rattle.jv_contents.specs.Flights.{Flight}
+use Rattle.jv_shared.specs.Flying.{Flies}
+use Rattle.jv_shared.specs.Keeping.{Leads}
+use Rattle.jv_shared.specs.Shared.{HasStore, Known, Shared}
+use Rattle.jv_requests.specs.Request.{Request}
 use Rattle.jv_client.specs.declared.made.Made.{Made}
 use Rattle.jv_client.specs.declared.made.Made.TheVariants as made
 use Rattle.jv_client.specs.ClientValue.{ClientValue}
-use Rattle.jv_client.specs.Shared.{Shared, HasStore}
-use Rattle.jv_client.specs.Held.{IsClient, Holds}
+use Rattle.jv_client.specs.Held.{IsClient, Holds, in_flight}
 use Rattle.jv_client.specs.UnderWay.{IsReady, steps_left}
 
 -- the entries of a step
@@ -41,21 +46,28 @@ step_of (made.Broken key bytes) = Broken key bytes
 abbrev pub entries_of : ℕ → ℕ → ℕ → List ActKind → List Act
 entries_of line now client kinds = map (entry_of line now client) kinds
 
--- the answer is that the keeper failed
-abbrev pub is_keeper_failure : Told → Bool
-is_keeper_failure (ToldRefused (DeviceFailed Keeper)) = true
-is_keeper_failure _ = false
+abbrev pub is_same_device : Device → Device → Bool
+is_same_device Keeper Keeper = true
+is_same_device Depot Depot = true
+is_same_device Shelf Shelf = true
+is_same_device Carrier Carrier = true
+is_same_device _ _ = false
+
+-- the answer is that the device failed
+abbrev pub is_failure_of : Device → Told → Bool
+is_failure_of device (ToldRefused (DeviceFailed failed)) = is_same_device device failed
+is_failure_of device _ = false
 
 -- such an answer comes without a request
-abbrev pub tells_failure : Made → Bool
-tells_failure (made.Request kind) = false
-tells_failure (made.Answer told reply) = is_keeper_failure told
-tells_failure (made.Both kind told reply) = false
-tells_failure (made.Broken key bytes) = false
+abbrev pub tells_failure : Device → Made → Bool
+tells_failure device (made.Request kind) = false
+tells_failure device (made.Answer told reply) = is_failure_of device told
+tells_failure device (made.Both kind told reply) = false
+tells_failure device (made.Broken key bytes) = false
 
 -- and never in a step that made one
 abbrev pub HasNoFailure : List ActKind → Type 0
-HasNoFailure (kind ∷ Answered told ∷ kinds) = is_keeper_failure told ≡ false
+HasNoFailure (kind ∷ Answered told ∷ kinds) = (device : Device) → is_failure_of device told ≡ false
 HasNoFailure kinds = Unit {0}
 
 -- no request was made
@@ -66,61 +78,76 @@ asks_nothing (made.Both kind told reply) = false
 asks_nothing (made.Broken key bytes) = true
 
 -- where the rows are known, the one that a step stopped at is Bad
-abbrev pub TellsBad : Store → Step → Type 0
-TellsBad keeper More = Unit {0}
-TellsBad keeper (Done reply) = Unit {0}
-TellsBad keeper (Broken key bytes) = IfSome keeper.rows (λ known. IsBad (typed known) key bytes)
+abbrev pub TellsBad : Shared → Step → Type 0
+TellsBad v More = Unit {0}
+TellsBad v (Done reply) = Unit {0}
+TellsBad v (Broken key bytes) = IfSome v.keeper.rows (λ known. IsBad (typed known) key bytes)
 
--- what a step does to the keeper
-pub record UsesKeeper (made : Made) (before after : Store) : Type 0 where
-  pub opened_at : after.opened ≡ before.opened
-  pub counts : RoseIf (tells_failure made) before.faults after.faults
-  pub still : IsTrue (asks_nothing made) → after.rows ≡ before.rows
+-- how often a device failed
+abbrev pub faults_of : Device → Shared → ℕ
+faults_of Keeper v = v.keeper.faults
+faults_of Depot v = v.yard.depot.faults
+faults_of Shelf v = v.yard.shelf.faults
+faults_of Carrier v = v.carrier.faults
+
+-- What a step does to devices: each is open where it was, and failed where the step answers so, and not otherwise. Without a request
+-- they hold what they held.
+pub record UsesDevices (made : Made) (before after : Shared) : Type 0 where
+  pub keeper_at : after.keeper.opened ≡ before.keeper.opened
+  pub carrier_at : after.carrier.opened ≡ before.carrier.opened
+  pub depot_at : after.yard.depot.opened ≡ before.yard.depot.opened
+  pub shelf_at : after.yard.shelf.opened ≡ before.yard.shelf.opened
+  pub setting : after.yard.setting ≡ before.yard.setting
+  pub last : after.yard.last ≡ before.yard.last
+  pub counts : (device : Device) → RoseIf (tells_failure device made) (faults_of device before) (faults_of device after)
+  pub rows : IsTrue (asks_nothing made) → after.keeper.rows ≡ before.keeper.rows
+  pub objects : IsTrue (asks_nothing made) → after.yard.depot.content ≡ before.yard.depot.content
+  pub blocks : after.yard.shelf.content ≡ before.yard.shelf.content
   pub bad : TellsBad before (step_of made)
 
--- the model allows the step, and client, rows and files stand for what it leads to
-pub record StepsTo (s : State) (client now : ℕ) (kinds : List ActKind) (step : Step) (h : ClientValue) (v : Shared) : Type 0 where
-  pub allows : (start : Start) (alone : Bool) → AllowsStep start alone s client now kinds step
-  pub count : (stepped_by s client now kinds).count ≡ s.count + length kinds
-  pub has_store : HasStore (stepped_by s client now kinds).tree v
-  pub is_client : IsClient ((stepped_by s client now kinds).clients client) (stepped_by s client now kinds).count v.files h
+-- The model allows the step (`Request`), and client and devices stand for what it leads to.
+pub record StepsTo (s : State) (g : Known) (before : Shared) (h : ClientValue) (now : ℕ) (kinds : List ActKind) (step : Step)
+    (after : ClientValue) (v : Shared) : Type 0 where
+  pub learned : Known
+  pub tree : Tree
+  pub model : ModelClient
+  pub copied : ℕ
+  pub request : Request s g learned before v h.id now (in_flight h) (in_flight after) kinds step tree model copied
+  pub is_client : IsClient learned v model (s.count + length kinds) after
   pub no_failure : HasNoFailure kinds
-  pub stays : Stays s.tree (stepped_by s client now kinds).tree
-  pub holds : Holds (stepped_by s client now kinds).tree ((stepped_by s client now kinds).clients client)
+  pub holds : Holds tree model
 
 -- after a step that isn't the last one the operation goes on, and fewer are left
 abbrev pub Falls : Step → ClientValue → ClientValue → Type 0
 Falls More before after = (steps_left after < steps_left before) × IsSome after.doing
 Falls (Done reply) before after = after.doing ≡ None
-Falls (Broken key bytes) before after = after ≡ before
+Falls (Broken key bytes) before after = Unit {0}
 
--- A step was made at this moment; its first entry has this number. From every state of the model that client, rows and files
--- stand for, it leads to one that they stand for then. That the rows are known and whole is part of standing for one.
-pub record Makes (now entry : ℕ) (h after : ClientValue) (before grown : Shared) (done : Made) : Type 0 where
+-- A step was made at this moment; its first entry has this number. From every state of the model that client and devices stand for,
+-- it leads to one that they stand for then. That rows and blocks are known and whole is part of standing for one.
+pub record Makes (now entry : ℕ) (h after : ClientValue) (before used : Shared) (done : Made) : Type 0 where
   pub id : after.id ≡ h.id
   pub limits : after.limits ≡ h.limits
   pub ready : IsReady after
-  pub grows : Grows before.files grown.files
-  pub keeper : UsesKeeper done before.keeper grown.keeper
+  pub devices : UsesDevices done before used
   pub falls : Falls (step_of done) h after
-  pub leads : (s : State) → s.count + 1 ≡ entry → HasStore s.tree before → Holds s.tree (s.clients h.id) → IsClient (s.clients h.id) s.count before.files h
-      → StepsTo s h.id now (kinds_of done) (step_of done) after grown
+  pub leads : (s : State) (g : Known) → s.count + 1 ≡ entry → HasStore s.tree g before → Holds s.tree (s.clients h.id)
+      → IsClient g before (s.clients h.id) s.count h → StepsTo s g before h now (kinds_of done) (step_of done) after used
 
--- an entry answers that the keeper failed
-abbrev pub is_failure_entry : ActKind → Bool
-is_failure_entry (Answered told) = is_keeper_failure told
-is_failure_entry _ = false
+-- an entry answers that the device failed
+abbrev pub is_failure_entry : Device → ActKind → Bool
+is_failure_entry device (Answered told) = is_failure_of device told
+is_failure_entry device _ = false
 
 -- the same, with the entries appended to a journal
-pub record Steps (line now : ℕ) (h after : ClientValue) (before grown : Shared) (journal more : List Act) (step : Step) : Type 0 where
+pub record Steps (line now : ℕ) (h after : ClientValue) (before used : Shared) (journal more : List Act) (step : Step) : Type 0 where
   pub made : Made
   pub step_is : step ≡ step_of made
   pub appends : more ≡ journal ++ entries_of line now h.id (kinds_of made)
   pub id : after.id ≡ h.id
   pub limits : after.limits ≡ h.limits
   pub ready : IsReady after
-  pub grows : Grows before.files grown.files
-  pub keeper : UsesKeeper made before.keeper grown.keeper
+  pub devices : UsesDevices made before used
   pub falls : Falls step h after
-  pub leads : (s : State) → s.count ≡ length journal → HasStore s.tree before → Holds s.tree (s.clients h.id) → IsClient (s.clients h.id) s.count before.files h
-      → StepsTo s h.id now (kinds_of made) step after grown
+  pub leads : (s : State) (g : Known) → s.count ≡ length journal → HasStore s.tree g before → Holds s.tree (s.clients h.id)
+      → IsClient g before (s.clients h.id) s.count h → StepsTo s g before h now (kinds_of made) step after used

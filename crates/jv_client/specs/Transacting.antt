@@ -25,11 +25,11 @@ use Rattle.jv_volume.specs.TypedRows.{typed}
 use Rattle.jv_links.specs.Removals.{HoldsFiles}
 use Rattle.jv_metadata.specs.declared.answers.Answer.{Answer}
 use Rattle.jv_metadata.specs.Attempts.{attempt, is_metadata, TellsKept}
-use Rattle.jv_client.specs.declared.handles.Handle.{Handle}
+use Rattle.jv_handles.specs.declared.handle.Handle.{Handle}
+use Rattle.jv_handles.specs.Handles.{held_here, inode_here, new_handle}
 use Rattle.jv_client.specs.declared.made.Made.{Made}
 use Rattle.jv_client.specs.declared.made.Made.TheVariants as made
 use Rattle.jv_client.specs.ClientValue.{ClientValue, session_here}
-use Rattle.jv_client.specs.Held.{held_here, inode_here}
 use Rattle.jv_client.specs.Ending.{ended, refused_here, told_here}
 
 -- in whose name the transaction of a client's operation is made
@@ -50,10 +50,6 @@ is_tried o = is_metadata o && is_spelled o
 pub record Attempts (h : ClientValue) (o : Op) (now : ℕ) (before after : Store) (result : Result Answer TxFault) : Type 0 where
   pub does : (who : Caller) → IsCaller h o now who → Transacts (HoldsFiles who.held) before after result (λ answer. answer.reply) (λ t. attempt t who o)
   pub tells : (who : Caller) → IsCaller h o now who → TellsKept who o before result
-
--- a handle that was just opened
-abbrev pub new_handle : ℕ → ℕ → Handle
-new_handle inode entry = record { inode = inode; opened = entry; view = None }
 
 -- a client's session and its handles with what a reply hands to it, by the entry with this number
 abbrev pub session_given : Gift → Option ℕ → Option ℕ

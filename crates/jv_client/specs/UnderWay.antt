@@ -1,6 +1,6 @@
 -- What holds of a client's own state before each step.
-use Rattle.std.specs.Prelude.{◌≡◌, ℕ, ◌+◌, ◌-◌, ◌*◌, ◌≤◌, ◌<◌, ◌==◌, Bool, true, false, ◌||◌, not, nat_lt, if◌then◌else◌, IsTrue, IfSome, List, [], length, is_some, Option, None, Some}
-use Rattle.jv_model.specs.declared.limits.TheConstants.{FILE_END, WINDOW}
+use Rattle.std.specs.Prelude.{◌≡◌, ◌≢◌, ℕ, ◌+◌, ◌-◌, ◌*◌, ◌/◌, ◌≤◌, ◌<◌, Bool, true, false, ◌||◌, not, if◌then◌else◌, IsTrue, IfSome, IsSomeAnd, List, [], length, is_some, Option, None, Some}
+use Rattle.jv_model.specs.declared.limits.TheConstants.{FILE_END, MAX_DATA, WINDOW}
 use Rattle.jv_model.specs.declared.op.Op.{Op}
 use Rattle.jv_model.specs.declared.op.Op.TheVariants as op
 use Rattle.jv_model.specs.declared.op.Reply.{Reply}
@@ -16,50 +16,42 @@ use Rattle.jv_pending.specs.Held.{PendingValue}
 use Rattle.jv_model.specs.client.Pending.{PendingByte, Segment, written}
 use Rattle.jv_model.specs.client.Profile.{handle_of}
 use Rattle.jv_model.specs.client.ModelClient.{file_of}
-use Rattle.jv_model.specs.client.Submission.{next_segment}
-use Rattle.jv_client.specs.Built.{pending_limit}
 use Rattle.jv_metadata.specs.Attempts.{is_metadata}
+use Rattle.jv_fetching.specs.declared.need.Need.{Need}
+use Rattle.jv_fetching.specs.declared.need.Need.TheVariants as need
+use Rattle.jv_fetching.specs.Fetching.{Fetching, fetch_left}
+use Rattle.jv_fetching.specs.Going.{CanFetch}
+use Rattle.jv_fetching.specs.Calls.{Wants}
+use Rattle.jv_handles.specs.declared.handle.Handle.{Handle}
+use Rattle.jv_handles.specs.Handles.{inode_here}
+use Rattle.jv_handles.specs.Views.{view_at}
 use Rattle.jv_client.specs.declared.doing.Doing.{Doing}
 use Rattle.jv_client.specs.declared.doing.Flush.{Flush}
 use Rattle.jv_client.specs.declared.doing.Flush.TheVariants as flush
 use Rattle.jv_client.specs.declared.doing.Progress.{Progress}
 use Rattle.jv_client.specs.declared.doing.Progress.TheVariants.{Working, Reading}
-use Rattle.jv_client.specs.declared.handles.Handle.{Handle}
-use Rattle.jv_client.specs.declared.handles.View.{View}
 use Rattle.jv_client.specs.ClientValue.{ClientValue}
-use Rattle.jv_client.specs.Held.{flush_of_code, inode_here, is_last_here}
+use Rattle.jv_client.specs.Held.{is_last_here, segment_left}
 use Rattle.jv_client.specs.Ending.{told_here}
-
--- the segment that is committed next
-abbrev pub segment_left : Flush → List PendingByte → Option Segment
-segment_left first pending = next_segment (flush_of_code first) pending
 
 abbrev pub has_segment : ClientValue → Doing → Bool
 has_segment h d = is_some (segment_left d.flush h.pending)
 
--- what the handle of an operation saw of its file
-abbrev pub view_of : Option Handle → Option View
-view_of None = None
-view_of (Some handle) = handle.view
+-- whether the handle of a reading has no view of the first window that it asks for
+abbrev pub has_not_seen : ℕ → Option Handle → Bool
+has_not_seen offset None = true
+has_not_seen offset (Some handle) = not (is_some (view_at handle.views (offset / WINDOW)))
 
-abbrev pub view_here : ClientValue → Doing → Option View
-view_here h d = view_of (file_of h.handles (handle_of d.op))
-
--- whether the file, as far as it was seen, has a byte from a position on; it has to be looked at where it wasn't seen
-abbrev pub shows_from : ℕ → Option View → Bool
-shows_from offset None = true
-shows_from offset (Some view) = nat_lt offset view.seen.length
-
--- whether the operation has something to ask for once it has flushed: a look or a block of a reading, or a transaction
+-- whether the operation has something to ask for once it has flushed: a look, or a transaction
 abbrev pub asks_more : ClientValue → Doing → Bool
 asks_more h d = elim d.does [
   | does.Answers told ↦ false
   | does.Mounts writeback ↦ true
   | does.Transacts ↦ true
   | does.Releases ↦ is_last_here h (handle_of d.op)
-  | does.Reads offset len ↦ shows_from offset (view_here h d)
-  | does.Truncates ↦ false
-  | does.Copies ↦ false
+  | does.Reads offset len ↦ has_not_seen offset (file_of h.handles (handle_of d.op))
+  | does.Truncates ↦ true
+  | does.Copies ↦ true
   | does.Compacts ↦ false
   | does.Cleans ↦ false
   | does.Collects delete ↦ false
@@ -85,52 +77,77 @@ pub data FlushesFor (d : Doing) (handle : ℕ) : Type 0 where
   Syncs : d.op ≡ op.Flush handle → d.does ≡ does.Answers answer.Done → FlushesFor d handle
   Describes : d.op ≡ op.Fstat handle → d.does ≡ does.Transacts → FlushesFor d handle
   ReadsNothing : (offset len : ℕ) → d.op ≡ op.Read handle offset len → d.does ≡ does.Answers answer.NoData → FlushesFor d handle
-  Reads : (offset len : ℕ) → d.op ≡ op.Read handle offset len → d.does ≡ does.Reads offset len → 0 < len → offset + len ≤ WINDOW → FlushesFor d handle
+  Reads : (offset len : ℕ) → d.op ≡ op.Read handle offset len → d.does ≡ does.Reads offset len → 0 < len → len ≤ WINDOW → offset < FILE_END → FlushesFor d handle
+  Truncates : (len : ℕ) → d.op ≡ op.Truncate handle len → d.does ≡ does.Truncates → FlushesFor d handle
 
--- the operations that are built, each as it was begun: an umount flushes all, and some others the file of their handle
+-- A write finds room in the buffer: beside what is pending, or once all of that was committed.
+pub data HasRoom (h : ClientValue) (first : Flush) (len : ℕ) : Type 0 where
+  Beside : first ≡ flush.Nothing → length h.pending + len ≤ h.limits.buffer → HasRoom h first len
+  Alone : first ≡ flush.All → len ≤ h.limits.buffer → HasRoom h first len
+
+-- the operations that are built, each as it was begun: an umount flushes all, and some others the files of their handles
 pub data IsForm (h : ClientValue) (d : Doing) : Type 0 where
   Mounts : d.op ≡ op.Mount false → d.does ≡ does.Mounts false → d.flush ≡ flush.Nothing → IsForm h d
   Transacts : IsTrue (is_transaction d.op) → IsTrue (is_spelled d.op) → d.does ≡ does.Transacts → d.flush ≡ flush.Nothing → IsTrue (is_some h.session) → IsForm h d
   Leaves : d.op ≡ op.Umount → d.does ≡ does.Transacts → d.flush ≡ flush.All → IsTrue (is_some h.session) → IsForm h d
   Writes : (handle offset : ℕ) (bytes : List ℕ) (file : Handle) → d.op ≡ op.Write handle offset bytes → d.does ≡ does.Answers (answer.Count (length bytes))
-      → d.flush ≡ flush.Nothing → file_of h.handles handle ≡ Some file → offset + length bytes ≤ WINDOW
-      → length h.pending + length bytes ≤ pending_limit h.limits → IsForm h d
+      → file_of h.handles handle ≡ Some file → offset + length bytes ≤ FILE_END → HasRoom h d.flush (length bytes) → IsTrue (is_some h.session) → IsForm h d
   Flushes : (handle : ℕ) (file : Handle) → FlushesFor d handle → d.flush ≡ flush.File file.inode → file_of h.handles handle ≡ Some file
       → IsTrue (is_some h.session) → IsForm h d
+  Copies : (source from target to len : ℕ) (file other : Handle) → d.op ≡ op.Copy source from target to len → d.does ≡ does.Copies
+      → d.flush ≡ flush.Files file.inode other.inode → file_of h.handles source ≡ Some file → file_of h.handles target ≡ Some other
+      → IsTrue (is_some h.session) → IsForm h d
+  TellsStats : d.op ≡ op.Stats → d.does ≡ does.Answers answer.CacheStats → d.flush ≡ flush.Nothing → IsTrue (is_some h.session) → IsForm h d
 
--- requests of a segment are made while there is one, and a reading goes on where it has seen a byte that is asked for
-pub record IsWorking (h : ClientValue) (d : Doing) (quiets : ℕ) : Type 0 where
-  pub few : quiets ≤ 2
+-- Requests of a segment are made while there is one: for its slice's number, and then at most one for each of its bytes.
+pub record IsWorking (h : ClientValue) (d : Doing) (quiets id : ℕ) : Type 0 where
+  pub few : IfSome (segment_left d.flush h.pending) (λ (segment : Segment). quiets ≤ 1 + segment.len)
   pub segment : 0 < quiets → IsTrue (has_segment h d)
+  pub numbered : 0 < quiets → 0 < id
 
-pub record IsReading (h : ClientValue) (d : Doing) : Type 0 where
+-- a reading goes on by the views of its handle, and needs a look or a block
+pub record IsReading (h : ClientValue) (d : Doing) (fetch : Fetching) (next : Need) : Type 0 where
   pub read : (offset len : ℕ) × (d.does ≡ does.Reads offset len)
   pub flushed : has_segment h d ≡ false
-  pub reads : IsTrue (asks_more h d)
-  pub seen : IsTrue (is_some (view_here h d))
+  pub goes_on : IsSomeAnd (file_of h.handles (handle_of d.op)) (λ (handle : Handle). CanFetch handle.views fetch × Wants handle.views fetch next)
+  pub more : next ≢ need.Nothing
+  pub cache : IsTrue (is_some h.cache)
 
 abbrev pub IsAt : ClientValue → Doing → Progress → Type 0
-IsAt h d (Working quiets started) = IsWorking h d quiets
-IsAt h d Reading = IsReading h d
+IsAt h d (Working quiets started id) = IsWorking h d quiets id
+IsAt h d (Reading fetch next) = IsReading h d fetch next
+
+-- whether the operation has a further request to make
+abbrev pub has_more : ClientValue → Doing → Progress → Bool
+has_more h d (Working quiets started id) = has_segment h d || asks_more h d
+has_more h d (Reading fetch next) = true
 
 -- An operation that has an entry has a further request to make: its answer comes in the step of its last one.
 pub record IsUnderWay (h : ClientValue) (d : Doing) : Type 0 where
   pub form : IsForm h d
   pub at : IsAt h d d.progress
-  pub asks : d.has_moved ≡ true → IsTrue (has_segment h d || asks_more h d)
+  pub asks : d.has_moved ≡ true → IsTrue (has_more h d d.progress)
 
--- its operation goes on well
-abbrev pub IsReady : ClientValue → Type 0
-IsReady h = IfSome h.doing (IsUnderWay h)
+-- its operation goes on well, and its buffer takes any write
+pub record IsReady (h : ClientValue) : Type 0 where
+  pub buffer : MAX_DATA ≤ h.limits.buffer
+  pub doing : IfSome h.doing (IsUnderWay h)
+
+-- the most requests of a reading: a look for each of two windows at most, and a block for each byte
+abbrev pub reading_steps : Does → ℕ
+reading_steps (does.Reads offset len) = len + 2
+reading_steps _ = 0
 
 -- the most steps that an operation still makes before its last one
-abbrev pub steps_in : ℕ → Progress → ℕ
-steps_in pending (Working quiets started) = 3 * pending + 2 - quiets
-steps_in pending Reading = 3 * pending + 1
+abbrev pub steps_in : ℕ → Doing → ℕ
+steps_in pending d = elim d.progress [
+  | Working quiets started id ↦ 3 * pending + reading_steps d.does - quiets
+  | Reading fetch next ↦ 3 * pending + fetch_left fetch
+]
 
 abbrev pub steps_of : ℕ → Option Doing → ℕ
 steps_of pending None = 0
-steps_of pending (Some d) = steps_in pending d.progress
+steps_of pending (Some d) = steps_in pending d
 
 abbrev pub steps_left : ClientValue → ℕ
 steps_left h = steps_of (length h.pending) h.doing
@@ -157,16 +174,6 @@ left h = left_of h.pending h.doing
 abbrev pub moved_to : Progress → Doing → Doing
 moved_to progress d = record d { progress = progress; has_moved = true }
 
--- a handle without a view of a file that changed
-abbrev pub unseen : ℕ → Option Handle → Option Handle
-unseen inode None = None
-unseen inode (Some handle) = if handle.inode == inode then Some (record handle { view = None }) else Some handle
-
--- a handle with a view
-abbrev pub seen_by : View → Option Handle → Option Handle
-seen_by view None = None
-seen_by view (Some handle) = Some (record handle { view = Some view })
-
 -- the handle of the operation is open
 abbrev pub names_open : ClientValue → Doing → Type 0
 names_open h d = IsTrue (is_some (file_of h.handles (handle_of d.op)))
@@ -187,7 +194,7 @@ ends_itself h d = elim d.does [
   | does.Uploads ↦ false
 ]
 
--- the answer of such an operation: of a read of no bytes, and of a close or a flush
+-- the answer of such an operation: of a read of no bytes, of a write, and of a close or a flush
 abbrev pub answer_here : Does → Told × Reply
 answer_here (does.Answers answer.NoData) = (Looks 0 0 0, Data [])
 answer_here _ = (Fine 0 0 0 0, Done)
@@ -208,6 +215,15 @@ makes_transaction _ = false
 abbrev pub keeps : Does → Bool
 keeps (does.Answers (answer.Count bytes)) = true
 keeps _ = false
+
+abbrev pub tells_stats : Does → Bool
+tells_stats (does.Answers answer.CacheStats) = true
+tells_stats _ = false
+
+abbrev pub changes_files : Does → Bool
+changes_files does.Truncates = true
+changes_files does.Copies = true
+changes_files _ = false
 
 -- a write whose handle is open, and that there is room for
 abbrev pub MayKeep : Op → List (Option Handle) → PendingValue → Type 0

@@ -1,18 +1,20 @@
 //! Answers that need no further request.
-ghost use Rattle.std.specs.Prelude.{◌≡◌, ℕ, ◌+◌, ◌≤◌, length, min, IfSome, IsSome, IsTrue, IfOk, OnErr, false, None, Some, if◌then◌else◌};
+ghost use Rattle.std.specs.Prelude.{◌≡◌, ℕ, ◌+◌, ◌≤◌, length, IfSome, IsSome, IsTrue, IfOk, OnErr, false, None, Some, if◌then◌else◌};
 ghost use Rattle.jv_model.specs.declared.limits.TheConstants.{FILE_END};
 ghost use Rattle.jv_model.specs.declared.act.Told.TheVariants.{Looks};
 ghost use Rattle.jv_model.specs.client.ModelClient.{file_of};
 ghost use Rattle.jv_model.specs.client.Profile.{handle_of};
-ghost use Rattle.jv_client.specs.Shared.{Shared};
+ghost use Rattle.jv_shared.specs.Shared.{Shared};
 ghost use Rattle.jv_client.specs.Ending.{Finishes, closed, finished_here, refused_here, told_here, without};
-ghost use Rattle.jv_client.specs.UnderWay.{IsReady, ClosesOpen, Ends, HasKept, MayKeep, closed_by, does_of, ends_itself, keeps, left};
+ghost use Rattle.jv_client.specs.UnderWay.{IsReady, ClosesOpen, Ends, HasKept, MayKeep, closed_by, does_of, ends_itself, keeps, left, tells_stats};
+ghost use Rattle.jv_client.specs.declared.doing.Flush.TheVariants.{Nothing};
+ghost use Rattle.jv_client.specs.Stats.{IsStatsOf};
 ghost use Rattle.jv_client.specs.Transacting.{Fails, Refuses};
 ghost use Rattle.jv_client.specs.Makes.{Makes};
 
 use crate::client::{Client, forget};
-use crate::handles::{Handle, clear, inode_at, named};
 use crate::made::Made;
+use jv_handles::{Handle, clear, inode_at, named};
 use jv_model::{ActKind, Answer, Does, Fault, Gone, Handles, Op, Reply, Sequence, Told};
 use jv_pending::Pending;
 use std::alloc::AllocError;
@@ -124,7 +126,7 @@ impl Client {
         let handle = self.handle_in_use();
         let (told, reply) = match self.does() {
             Does::Answers(Answer::NoData) => {
-                (looks(0, 0), Reply::Data(Sequence::new(self.alloc)))
+                (looks(0, 0, 0), Reply::Data(Sequence::new(self.alloc)))
             }
             Does::Answers(_) => (Told::Fine(0, 0, 0, 0), Reply::Done),
             Does::Releases if !self.is_last(handle) => (Told::Fine(0, 0, 0, 0), Reply::Done),
@@ -140,6 +142,7 @@ impl Client {
         requires ready { IsReady self.old }
         requires flushed { left self.old ≡ None }
         requires not_write { IfSome self.old.doing (λ d. keeps d.does ≡ false) }
+        requires not_stats { IfSome self.old.doing (λ d. tells_stats d.does ≡ false) }
         requires ends { IfSome self.old.doing (λ d. IsTrue (ends_itself self.old d)) }
         ensures { (now entry : ℕ) (v : Shared) → Makes now entry self.old self.new v v result }
     {
@@ -153,7 +156,9 @@ impl Client {
     pub(crate) fn write(&mut self) -> Made
         requires busy { IsSome self.old.doing }
         requires ready { IsReady self.old }
+        requires flushed { left self.old ≡ None }
         requires writes { IfSome self.old.doing (λ d. IsTrue (keeps d.does)) }
+        requires first { IfSome self.old.doing (λ d. d.flush ≡ Nothing) }
         ensures { (now entry : ℕ) (v : Shared) → Makes now entry self.old self.new v v result }
     {
         let kept = match &self.doing {
@@ -165,6 +170,34 @@ impl Client {
         };
         forget(&mut self.doing);
         Made::Answer(Told::Fine(count, 0, 0, 0), Reply::Count { bytes: count })
+    }
+}
+
+impl Client {
+    /// Answers with the numbers of the cache and of the pending bytes.
+    pub(crate) fn tell_stats(&mut self) -> Made
+        requires busy { IsSome self.old.doing }
+        requires ready { IsReady self.old }
+        requires flushed { left self.old ≡ None }
+        requires tells { IfSome self.old.doing (λ d. IsTrue (tells_stats d.does)) }
+        ensures made { (now entry : ℕ) (v : Shared) → Makes now entry self.old self.new v v result }
+        ensures numbers { IsStatsOf self.old result }
+    {
+        let (hits, misses, cached) = match &self.cache {
+            Some(cache) => (cache.hits(), cache.misses(), cache.len() as u64),
+            None => (0, 0, 0),
+        };
+        let pending = self.pending.bytes();
+        forget(&mut self.doing);
+        Made::Answer(
+            Told::Fine(hits, misses, cached, pending),
+            Reply::CacheStats {
+                hits,
+                misses,
+                cached,
+                pending,
+            },
+        )
     }
 }
 
@@ -224,13 +257,9 @@ fn keep(op: &Op, handles: &[Option<Handle>], pending: &mut Pending) -> Result<u6
     }
 }
 
-/// What a read is told that cites one look, or none by 0.
-pub(crate) fn looks(first: u64, len: u64) -> Told
-    ensures { result ≡ Looks first 0 len }
+/// What a read is told that cites these looks, or none by 0.
+pub(crate) fn looks(first: u64, second: u64, len: u64) -> Told
+    ensures { result ≡ Looks first second len }
 {
-    Told::Looks {
-        first,
-        second: 0,
-        len,
-    }
+    Told::Looks { first, second, len }
 }

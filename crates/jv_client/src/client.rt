@@ -1,10 +1,11 @@
-//! A client: its session, its open files, what it wrote and didn't commit, and what it is doing.
+//! A client: its session, its open files, what it wrote and didn't commit, the blocks that it keeps, and what it is doing.
 ghost use Rattle.std.specs.Prelude.{◌≡◌, ◌≤◌, is_some, length, None};
 ghost use Rattle.jv_model.specs.declared.limits.TheConstants.{MAX_DATA};
 ghost use Rattle.jv_client.specs.ClientValue.{fresh_client, crashed, session_here};
 
 use crate::doing::Doing;
-use crate::handles::Handle;
+use jv_cache::BlockCache;
+use jv_handles::Handle;
 use jv_model::{ClientId, DEFAULT_BUFFER, Limits};
 use jv_pending::Pending;
 use std::alloc::Global;
@@ -21,12 +22,13 @@ pub struct Client {
     /// The inodes that lost their last name by this client's own hand while it had them open.
     pub(crate) sustained: Vec<u64>,
     pub(crate) pending: Pending,
+    /// `None` until the first read.
+    pub(crate) cache: Option<BlockCache>,
     pub(crate) doing: Option<Doing>,
 }
 
 impl Model for Client {
-    ghost use Rattle.std.specs.Prelude.{◌≡◌, min};
-    ghost use Rattle.jv_model.specs.declared.limits.TheConstants.{DEFAULT_BUFFER};
+    ghost use Rattle.std.specs.Prelude.{◌≡◌};
     ghost use Rattle.jv_client.specs.ClientValue.{ClientValue};
 
     ghost Value = { ClientValue };
@@ -38,10 +40,11 @@ impl Model for Client {
       handles = c.handles.items;
       sustained = c.sustained.items;
       pending = c.pending.bytes;
+      cache = c.cache;
       doing = c.doing;
     } };
 
-    ghost invariant = { λ c. c.pending.limit ≡ min c.limits.buffer DEFAULT_BUFFER };
+    ghost invariant = { λ c. c.pending.limit ≡ c.limits.buffer };
 }
 
 impl Client {
@@ -57,7 +60,8 @@ impl Client {
             session: None,
             handles: Vec::new(alloc),
             sustained: Vec::new(alloc),
-            pending: Pending::new(alloc, limits.buffer.min(DEFAULT_BUFFER)),
+            pending: Pending::new(alloc, limits.buffer),
+            cache: None,
             doing: None,
         }
     }
@@ -83,8 +87,8 @@ impl Client {
         self.session.unwrap_or(0)
     }
 
-    /// Ends the client without an `umount`: it drops its session, its operation, handles, views and pending bytes. Takes
-    /// no memory.
+    /// Ends the client without an `umount`: it drops its session, its operation, handles, views, pending bytes and cache.
+    /// Takes no memory.
     pub fn crash(&mut self)
         ensures { self.new ≡ crashed self.old }
     {
@@ -92,6 +96,7 @@ impl Client {
         self.handles.clear();
         self.sustained.clear();
         self.pending.clear_all();
+        self.cache = None;
         forget(&mut self.doing);
     }
 }

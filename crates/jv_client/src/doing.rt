@@ -1,4 +1,5 @@
 //! An operation in progress.
+use jv_fetching::{Fetch, Need};
 use jv_model::{Does, Moment, Op};
 
 /// What an operation commits before it goes on.
@@ -14,12 +15,17 @@ pub enum Flush {
 }
 
 /// How far an operation is.
-#[derive(Clone, Copy, Debug, PartialEq, Eq)]
+#[derive(Drop)]
 pub enum Progress {
-    /// It made so many requests of the next segment, the second of them at the moment `started`.
-    Working { quiets: u32, started: Moment },
-    /// It made a request of a reading.
-    Reading,
+    /// It made so many requests of the next segment: one for the number of its slice, which is `id`, and then one for each
+    /// block that was put, the first of them at the moment `started`.
+    Working {
+        quiets: u32,
+        started: Moment,
+        id: u64,
+    },
+    /// It reads, and needs this next.
+    Reading { fetch: Fetch, need: Need },
 }
 
 impl Progress {
@@ -27,11 +33,12 @@ impl Progress {
     pub const FIRST: Progress = Progress::Working {
         quiets: 0,
         started: Moment(0),
+        id: 0,
     };
 }
 
 /// An operation, and how far it is.
-#[derive(Debug, Drop)]
+#[derive(Drop)]
 pub struct Doing {
     pub op: Op,
     pub does: Does,

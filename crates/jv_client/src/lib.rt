@@ -2,10 +2,10 @@
 #![tactic(auto)]
 
 mod answers;
+mod changes;
 mod client;
 mod doing;
 mod flush;
-mod handles;
 mod made;
 mod reading;
 mod step;
@@ -14,4 +14,3 @@ mod transactions;
 
 pub use client::Client;
 pub use doing::{Doing, Flush, Progress};
-pub use handles::{Handle, View};

@@ -1,116 +1,257 @@
-//! Reading: a look at the file where its handle has no view of it, and then its bytes.
-ghost use Rattle.std.specs.Prelude.{◌≡◌, ℕ, ◌+◌, ◌≤◌, IfSome, IsSome, None, Some};
+//! Reading: looks at windows that the handle didn't see, then blocks that the cache doesn't have, one a step.
+ghost use Rattle.std.specs.Prelude.{◌≡◌, ℕ, IfSome, IsSome, None, Some};
 ghost use Rattle.jv_model.specs.declared.profile.Does.TheVariants.{Reads};
-ghost use Rattle.jv_model.specs.client.ModelClient.{file_of};
-ghost use Rattle.jv_model.specs.client.Profile.{handle_of};
-ghost use Rattle.jv_client.specs.Shared.{Shared, shared};
+ghost use Rattle.jv_outside.specs.Carriage.{Carriage};
+ghost use Rattle.jv_shared.specs.Lengths.{IsLength};
+ghost use Rattle.jv_client.specs.Shared.{shared};
 ghost use Rattle.jv_client.specs.UnderWay.{IsReady, does_of, left};
 ghost use Rattle.jv_client.specs.Makes.{Makes};
-ghost use Rattle.jv_outside.specs.Store.{Store};
 
 use crate::answers::looks;
 use crate::client::{Client, forget};
-use crate::doing::Progress;
-use crate::handles::{Handle, View, named, set_view};
+use crate::doing::{Doing, Progress};
 use crate::made::Made;
 use crate::step::go_on;
-use jv_data::look;
-use jv_files::{Files, Seen};
-use jv_model::{ActKind, Fault, Reply, Sequence};
-use jv_outside::Keeper;
+use jv_cache::BlockCache;
+use jv_data::look_at;
+use jv_fetching::{Fetch, Need};
+use jv_handles::{View, Views, drop_view, inode_at, named, set_view};
+use jv_model::{ActKind, BlockId, Busy, Bytes, ClientId, Device, Fault, Moment, Reply};
+use jv_outside::{Depot, Keeper, Shelf};
+use jv_slices::block_name;
+use jv_yard::{ObservedYard, Yard, YardFault};
+use std::alloc::{AllocError, Global};
+use std::mem::replace;
+
+/// What a reading came to: the looks that it cites, and its bytes.
+#[derive(Drop)]
+struct Found {
+    first: u64,
+    second: u64,
+    bytes: Bytes,
+}
+
+/// How a reading stands once it has gone as far as it wants no request.
+#[derive(Drop)]
+enum Ahead {
+    /// It needs this next.
+    Needs(Fetch, Need),
+    /// All was read.
+    Read(Found),
+}
 
 impl Client {
-    /// Makes the next request of a reading, whose file has nothing pending.
-    pub(crate) fn read_on<K: Keeper>(
+    /// Makes the next request of a reading, whose file has nothing pending, or answers where it wants none.
+    pub(crate) fn read_on<K: Keeper, D: Depot, H: Shelf>(
         &mut self,
         offset: u64,
         len: u32,
         k: &mut K,
-        files: &Files,
+        yard: &mut Yard<D, H>,
         entry: u64,
     ) -> Made
         requires reads { does_of self.old.doing ≡ Some (Reads offset len) }
         requires ready { IsReady self.old }
         requires flushed { left self.old ≡ None }
-        ensures { (now : ℕ) → Makes now entry self.old self.new
-            (shared files.now (K.seen k.old)) (shared files.now (K.seen k.new)) result }
+        requires block { let seen = ⟦<Yard<D, H> as ObservedYard>⟧.seen in
+            IsLength (seen yard.old).setting.block }
+        ensures { let seen = ⟦<Yard<D, H> as ObservedYard>⟧.seen in (now : ℕ) (carrier : Carriage) → Makes now entry
+            self.old self.new (shared (K.seen k.old) (seen yard.old) carrier)
+            (shared (K.seen k.new) (seen yard.new) carrier) result }
     {
-        let handle = self.handle_in_use();
-        let Some(open) = named(&self.handles, handle) else {
-            unreachable!();
-        };
-        match open.view {
-            None => self.look(handle, open, offset, k, files, entry),
-            Some(view) => self.show(open, view, offset, len, files),
+        if let Some(need) = self.need() {
+            return self.ask(need, k, yard, entry);
+        }
+        match self.begin_reading(offset, len, yard.setting().block) {
+            Ok(Some(found)) => self.show(None, found),
+            Ok(None) => match self.need() {
+                Some(need) => self.ask(need, k, yard, entry),
+                None => unreachable!(),
+            },
+            Err(AllocError) => self.fail(Fault::NoMemory),
         }
     }
 
-    /// Looks at the file, and answers where it has no byte that is asked for. Refused with `Stale` where the session or
-    /// the file is gone.
-    fn look<K: Keeper>(
+    /// What a reading that has begun needs next.
+    fn need(&self) -> Option<Need> {
+        match &self.doing {
+            Some(doing) => need_of(&doing.progress),
+            None => None,
+        }
+    }
+
+    /// Asks for what a reading needs.
+    fn ask<K: Keeper, D: Depot, H: Shelf>(
         &mut self,
-        handle: u64,
-        file: Handle,
-        offset: u64,
+        need: Need,
         k: &mut K,
-        files: &Files,
+        yard: &mut Yard<D, H>,
         entry: u64,
-    ) -> Made
-        requires reads { (len : ℕ) × (does_of self.old.doing ≡ Some (Reads offset len)) }
-        requires names { IfSome self.old.doing (λ d. handle ≡ handle_of d.op) }
-        requires opened { file_of self.old.handles handle ≡ Some file }
-        requires not_seen { file.view ≡ None }
-        requires ready { IsReady self.old }
-        requires flushed { left self.old ≡ None }
-        ensures { (now : ℕ) → Makes now entry self.old self.new
-            (shared files.now (K.seen k.old)) (shared files.now (K.seen k.new)) result }
-    {
-        let length = match look(self.alloc, k, self.sid(), file.inode) {
-            Ok(length) => length,
+    ) -> Made {
+        match need {
+            Need::Look(window) => self.look(window, k, entry),
+            Need::Block(block) => self.get(block, yard),
+            Need::Nothing => unreachable!(),
+        }
+    }
+
+    /// Begins a reading, and goes ahead as far as it wants no request. Returns what it found where it wants none at all.
+    fn begin_reading(
+        &mut self,
+        offset: u64,
+        len: u32,
+        block: u32,
+    ) -> Result<Option<Found>, AllocError> {
+        if self.cache.is_none() {
+            self.cache = Some(BlockCache::new(self.alloc, self.limits.entries)?);
+        }
+        match self.ahead(Fetch::new(self.alloc, offset, len, block))? {
+            Ahead::Read(found) => Ok(Some(found)),
+            Ahead::Needs(fetch, need) => {
+                read_from(&mut self.doing, fetch, need);
+                Ok(None)
+            }
+        }
+    }
+
+    /// Goes ahead with a reading by the views of its handle and by the cache.
+    fn ahead(&mut self, fetch: Fetch) -> Result<Ahead, AllocError> {
+        let handle = self.handle_in_use();
+        match (named(&self.handles, handle), &mut self.cache) {
+            (Some(open), Some(cache)) => read_ahead(fetch, &open.views, cache),
+            _ => unreachable!(),
+        }
+    }
+
+    /// Looks at a window of the file. Refused with `Stale` where the session or the file is gone.
+    fn look<K: Keeper>(&mut self, window: u32, k: &mut K, entry: u64) -> Made {
+        let handle = self.handle_in_use();
+        let inode = inode_at(&self.handles, handle);
+        let who = self.who(Moment(0));
+        let seen = match look_at(self.alloc, k, &who, inode, window) {
+            Ok(seen) => seen,
             Err(fault) => return self.unmade(ActKind::Quiet, fault),
         };
-        let seen = Seen {
-            length,
-            commits: files.commits(file.inode),
+        let view = View {
+            entry,
+            length: seen.length,
+            list: seen.list,
         };
-        set_view(&mut self.handles, handle, View { entry, seen });
-        let kind = ActKind::Look {
-            inode: file.inode,
-            window: 0,
-        };
-        if offset < seen.length {
-            go_on(&mut self.doing, Progress::Reading);
-            return Made::Request(kind);
+        if set_view(&mut self.handles, handle, window, view).is_err() {
+            return self.fail(Fault::NoMemory);
         }
-        forget(&mut self.doing);
-        Made::Both(
-            kind,
-            looks(entry, 0),
-            Reply::Data(Sequence::new(self.alloc)),
-        )
+        let fetch = take_fetch(&mut self.doing);
+        match self.ahead(fetch) {
+            Ok(ahead) => self.go_on_reading(ActKind::Look { inode, window }, ahead),
+            Err(AllocError) => {
+                drop_view(&mut self.handles, handle, window);
+                self.fail(Fault::NoMemory)
+            }
+        }
     }
 
-    /// Answers with the bytes that a view shows. Where it shows none, nothing is asked for.
-    fn show(&mut self, file: Handle, view: View, offset: u64, len: u32, files: &Files) -> Made
-        requires reads { does_of self.old.doing ≡ Some (Reads offset len) }
-        requires opened { IfSome self.old.doing (λ d.
-            file_of self.old.handles (handle_of d.op) ≡ Some file) }
-        requires seen { file.view ≡ Some view }
-        requires ready { IsReady self.old }
-        requires flushed { left self.old ≡ None }
-        ensures { (now entry : ℕ) (keeper : Store) → Makes now entry self.old self.new
-            (shared files.now keeper) (shared files.now keeper) result }
-    {
-        if offset >= view.seen.length {
-            forget(&mut self.doing);
-            return Made::Answer(looks(view.entry, 0), Reply::Data(Sequence::new(self.alloc)));
-        }
-        let end = offset + u64::from(len);
-        let Ok(bytes) = files.read_seen(file.inode, view.seen, offset, end) else {
-            return self.fail(Fault::NoMemory);
+    /// Gets a block that the cache doesn't have. Fails where the depot or the shelf does.
+    fn get<D: Depot, H: Shelf>(&mut self, block: BlockId, yard: &mut Yard<D, H>) -> Made {
+        let bytes = match read_block(self.alloc, yard, self.id, block) {
+            Ok(bytes) => bytes,
+            Err(fault) => return self.fail(fault),
         };
+        let mut fetch = take_fetch(&mut self.doing);
+        match &mut self.cache {
+            Some(cache) => fetch.fill(cache, block, bytes),
+            None => unreachable!(),
+        }
+        match self.ahead(fetch) {
+            Ok(ahead) => self.go_on_reading(ActKind::Quiet, ahead),
+            Err(AllocError) => self.fail(Fault::NoMemory),
+        }
+    }
+
+    /// Goes on after a request, or answers with it where the reading wants nothing more.
+    fn go_on_reading(&mut self, kind: ActKind, ahead: Ahead) -> Made {
+        match ahead {
+            Ahead::Read(found) => self.show(Some(kind), found),
+            Ahead::Needs(fetch, need) => {
+                go_on(&mut self.doing, Progress::Reading { fetch, need });
+                Made::Request(kind)
+            }
+        }
+    }
+
+    /// Answers with what was read.
+    fn show(&mut self, kind: Option<ActKind>, found: Found) -> Made {
+        let Found {
+            first,
+            second,
+            bytes,
+        } = found;
         forget(&mut self.doing);
-        let told = looks(view.entry, bytes.len() as u64);
-        Made::Both(ActKind::Quiet, told, Reply::Data(bytes))
+        let told = looks(first, second, bytes.len() as u64);
+        match kind {
+            Some(kind) => Made::Both(kind, told, Reply::Data(bytes)),
+            None => Made::Answer(told, Reply::Data(bytes)),
+        }
+    }
+}
+
+/// What a reading needs next, where it has begun.
+fn need_of(progress: &Progress) -> Option<Need> {
+    match progress {
+        Progress::Working { .. } => None,
+        Progress::Reading { need, .. } => Some(*need),
+    }
+}
+
+/// The operation reads from here on.
+fn read_from(doing: &mut Option<Doing>, fetch: Fetch, need: Need) {
+    if let Some(doing) = doing {
+        doing.progress = Progress::Reading { fetch, need };
+    }
+}
+
+/// Takes the reading out of an operation that reads.
+fn take_fetch(doing: &mut Option<Doing>) -> Fetch {
+    let Some(doing) = doing else {
+        unreachable!();
+    };
+    match replace(&mut doing.progress, Progress::FIRST) {
+        Progress::Reading { fetch, .. } => fetch,
+        Progress::Working { .. } => unreachable!(),
+    }
+}
+
+/// Goes ahead with a reading as far as it wants no request.
+fn read_ahead(mut fetch: Fetch, views: &Views, cache: &mut BlockCache) -> Result<Ahead, AllocError> {
+    match fetch.advance(views, cache)? {
+        Need::Nothing => {
+            let (first, second, bytes) = fetch.into_parts()?;
+            Ok(Ahead::Read(Found {
+                first,
+                second,
+                bytes,
+            }))
+        }
+        need => Ok(Ahead::Needs(fetch, need)),
+    }
+}
+
+/// The bytes of a block. It is missing where it isn't there, or has another length than its name says.
+fn read_block<D: Depot, H: Shelf>(
+    alloc: Global,
+    yard: &mut Yard<D, H>,
+    client: ClientId,
+    block: BlockId,
+) -> Result<Bytes, Fault> {
+    let BlockId { id, index, size } = block;
+    let name = match block_name(alloc, yard.setting(), id, index, size) {
+        Ok(name) => name,
+        Err(AllocError) => return Err(Fault::NoMemory),
+    };
+    match yard.get_block(client, &name) {
+        Ok(Some(bytes)) if bytes.len() == size as usize => Ok(bytes),
+        Ok(_) => Err(Fault::Contended(Busy::Misses(1))),
+        Err(YardFault::Depot) => Err(Fault::DeviceFailed(Device::Depot)),
+        Err(YardFault::Shelf) => Err(Fault::DeviceFailed(Device::Shelf)),
+        Err(YardFault::Memory) => Err(Fault::NoMemory),
     }
 }

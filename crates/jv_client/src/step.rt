@@ -1,6 +1,7 @@
 //! One step of an operation: at most one transaction or one request.
-ghost use Rattle.std.specs.Prelude.{◌≡◌, ◌+◌, ◌≤◌, IsSome, length};
+ghost use Rattle.std.specs.Prelude.{◌≡◌, ◌+◌, ◌≤◌, IsSome};
 ghost use Rattle.std.specs.Option.{option_map};
+ghost use Rattle.jv_shared.specs.Lengths.{IsLength};
 ghost use Rattle.jv_client.specs.Shared.{shared};
 ghost use Rattle.jv_client.specs.UnderWay.{IsReady, moved_to};
 ghost use Rattle.jv_client.specs.Makes.{Makes, Steps};
@@ -8,19 +9,20 @@ ghost use Rattle.jv_client.specs.Makes.{Makes, Steps};
 use crate::client::Client;
 use crate::doing::{Doing, Progress};
 use crate::made::Made;
-use jv_files::Files;
 use jv_model::{Answer, Does, Journal, Moment, Step};
-use jv_outside::Keeper;
+use jv_outside::{Carrier, Depot, Keeper, Shelf};
+use jv_yard::{ObservedYard, Yard};
 
 impl Client {
     /// Makes one step of the operation in progress: at most one transaction or one request, and the answer with the last
-    /// one. Appends the step's entries for this line. Where memory runs out the answer is `NoMemory`, where the keeper
-    /// failed it is `DeviceFailed`, and nothing but the operation's end has changed. `Broken` if a row that the step reads
-    /// is malformed, or names one that isn't there: nothing has changed, and there is no entry.
-    pub fn step<K: Keeper>(
+    /// one. Appends the step's entries for this line. Where memory runs out the answer is `NoMemory`, where a device failed
+    /// it is `DeviceFailed`, and nothing but the operation's end has changed. `Broken` if a row that the step reads is
+    /// malformed, or names one that isn't there: nothing has changed, and there is no entry.
+    pub fn step<K: Keeper, D: Depot, H: Shelf>(
         &mut self,
         k: &mut K,
-        files: &mut Files,
+        yard: &mut Yard<D, H>,
+        carrier: &mut dyn Carrier,
         now: Moment,
         line: u32,
         journal: &mut Journal,
@@ -28,30 +30,48 @@ impl Client {
         requires busy { IsSome self.old.doing }
         requires ready { IsReady self.old }
         requires room { 2 ≤ journal.old.spare }
-        ensures { Steps line now self.old self.new (shared files.old (K.seen k.old))
-            (shared files.new (K.seen k.new)) journal.old.acts journal.new.acts result }
+        requires block { let seen = ⟦<Yard<D, H> as ObservedYard>⟧.seen in
+            IsLength (seen yard.old).setting.block }
+        ensures { let seen = ⟦<Yard<D, H> as ObservedYard>⟧.seen in let way = ⟦<dyn Carrier as Carrier>⟧ in
+            Steps line now self.old self.new
+            (shared (K.seen k.old) (seen yard.old) ((way carrier.old.0).seen carrier.old.1))
+            (shared (K.seen k.new) (seen yard.new) ((way carrier.new.0).seen carrier.new.1))
+            journal.old.acts journal.new.acts result }
     {
         let entry = journal.len() as u64 + 1;
-        let made = self.make(k, files, now, entry);
+        let made = self.make(k, yard, carrier, now, entry);
         made.append(journal, line, now, self.id);
         made.into_step()
     }
 
     /// Makes a step, whose first entry is to have this number.
-    fn make<K: Keeper>(&mut self, k: &mut K, files: &mut Files, now: Moment, entry: u64) -> Made
+    fn make<K: Keeper, D: Depot, H: Shelf>(
+        &mut self,
+        k: &mut K,
+        yard: &mut Yard<D, H>,
+        carrier: &mut dyn Carrier,
+        now: Moment,
+        entry: u64,
+    ) -> Made
         requires busy { IsSome self.old.doing }
         requires ready { IsReady self.old }
-        ensures { Makes now entry self.old self.new (shared files.old (K.seen k.old))
-            (shared files.new (K.seen k.new)) result }
+        requires block { let seen = ⟦<Yard<D, H> as ObservedYard>⟧.seen in
+            IsLength (seen yard.old).setting.block }
+        ensures { let seen = ⟦<Yard<D, H> as ObservedYard>⟧.seen in let way = ⟦<dyn Carrier as Carrier>⟧ in
+            Makes now entry self.old self.new
+            (shared (K.seen k.old) (seen yard.old) ((way carrier.old.0).seen carrier.old.1))
+            (shared (K.seen k.new) (seen yard.new) ((way carrier.new.0).seen carrier.new.1)) result }
     {
         if let Some(at) = self.segment_left() {
-            return self.flush_on(at, k, files, now);
+            return self.flush_on(at, k, yard, carrier, now);
         }
         match self.does() {
             Does::Mounts(_) | Does::Transacts => self.transact(k, now, entry),
             Does::Releases => self.close(k, now, entry),
-            Does::Reads(offset, len) => self.read_on(offset, len, k, files, entry),
+            Does::Reads(offset, len) => self.read_on(offset, len, k, yard, entry),
+            Does::Truncates | Does::Copies => self.change(k, now),
             Does::Answers(Answer::Count(_)) => self.write(),
+            Does::Answers(Answer::CacheStats) => self.tell_stats(),
             _ => self.end_at_once(),
         }
     }

@@ -5,13 +5,14 @@ ghost use Rattle.jv_model.specs.client.ModelClient.{ModelClient, open_count};
 ghost use Rattle.jv_model.specs.client.Profile.{profile};
 ghost use Rattle.jv_model.specs.client.Submission.{submission, submission_of, submitted, names_closed, is_closed, is_mount, by_limits};
 ghost use Rattle.jv_client.specs.Built.{is_built_op};
-ghost use Rattle.jv_files.specs.Stored.{FilesValue};
+ghost use Rattle.jv_handles.specs.Handles.{inode_here};
+ghost use Rattle.jv_shared.specs.Shared.{Known, Shared};
 ghost use Rattle.jv_client.specs.UnderWay.{IsReady};
-ghost use Rattle.jv_client.specs.Held.{IsClient, begun, flush_here, full_flush, files_here, inode_here, refused_with};
+ghost use Rattle.jv_client.specs.Held.{IsClient, begun, flush_here, full_flush, files_here, in_flight, refused_with};
 
 use crate::client::Client;
 use crate::doing::{Doing, Flush, Progress};
-use crate::handles::{Handle, inode_at, named, open_count};
+use jv_handles::{Handle, inode_at, named, open_count};
 use jv_model::{Does, FILE_END, Fault, Flushes, Handles, Limits, MAX_HANDLES, Op, Profile};
 
 impl Client {
@@ -20,13 +21,13 @@ impl Client {
     /// handle that it names isn't open, `TooManyHandles` where it would open one handle more than there may be, and
     /// `FileTooLarge` where a write ends past the longest file. On error nothing has changed.
     pub fn submit(&mut self, op: Op) -> Result<(), (Op, Fault)>
-        ensures refusal { (m : ModelClient) (count : ℕ) (files : FilesValue)
-            → IsClient m count files self.old → refused_with result ≡ submission m op }
-        ensures begun { (m : ModelClient) (count : ℕ) (files : FilesValue)
-            → IsClient m count files self.old
-            → OnOk result (IsClient (submitted self.old.limits op m) count files self.new) }
-        ensures ready { IsReady self.old
-            → IsTrue (is_built_op self.old.limits (length self.old.pending) op)
+        ensures refusal { (g : Known) (v : Shared) (m : ModelClient) (count : ℕ)
+            → IsClient g v m count self.old → refused_with result ≡ submission m op }
+        ensures begun { (g : Known) (v : Shared) (m : ModelClient) (count : ℕ)
+            → IsClient g v m count self.old
+            → OnOk result (IsClient g v (submitted self.old.limits op m) count self.new) }
+        ensures no_flight { OnOk result (in_flight self.new ≡ 0) }
+        ensures ready { IsReady self.old → IsTrue (is_built_op self.old.limits op)
             → OnOk result (IsReady self.new) }
         ensures busy { OnOk result (IsSome self.new.doing) }
         ensures still { self.new ≡ record self.old { doing = self.new.doing } }

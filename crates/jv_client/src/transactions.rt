@@ -4,20 +4,24 @@ ghost use Rattle.jv_model.specs.client.ModelClient.{free_handle, with_file};
 ghost use Rattle.jv_model.specs.journal.State.{gift_of};
 ghost use Rattle.jv_model.specs.journal.Steps.{entry_of_gift, told_of};
 ghost use Rattle.jv_metadata.specs.Attempts.{mapped, plain};
-ghost use Rattle.jv_files.specs.Stored.{FilesValue};
+ghost use Rattle.jv_outside.specs.Carriage.{Carriage};
+ghost use Rattle.jv_yard.specs.YardValue.{YardValue};
 ghost use Rattle.jv_client.specs.ClientValue.{ClientValue};
 ghost use Rattle.jv_client.specs.Shared.{shared};
+ghost use Rattle.jv_handles.specs.Handles.{new_handle};
 ghost use Rattle.jv_client.specs.Held.{is_last_here};
 ghost use Rattle.jv_client.specs.UnderWay.{IsReady, asks_more, does_of, left, makes_transaction};
 ghost use Rattle.jv_client.specs.Makes.{Makes};
-ghost use Rattle.jv_client.specs.Transacting.{Attempts, EndsUnmade, handles_given, is_tried, new_handle, session_given, sustained_with};
+ghost use Rattle.jv_client.specs.Transacting.{Attempts, EndsUnmade, handles_given, is_tried, session_given, sustained_with};
 ghost use Rattle.jv_model.specs.declared.op.Reply.TheVariants.{SessionMade};
 ghost use Rattle.jv_model.specs.declared.profile.Does.TheVariants.{Releases};
 
 use crate::answers::{handle_of, looks};
 use crate::client::Client;
-use crate::handles::{Handle, free_handle, held, inode_at, is_open_elsewhere, set};
 use crate::made::Made;
+use jv_handles::{
+    Handle, Views, free_handle, held, inode_at, is_open_elsewhere, set,
+};
 use jv_live::mount;
 use jv_metadata::{Answer, transact};
 use jv_model::{
@@ -35,8 +39,8 @@ impl Client {
         requires flushed { left self.old ≡ None }
         requires asks { IfSome self.old.doing (λ d. IsTrue (asks_more self.old d)) }
         requires transacts { IfSome self.old.doing (λ d. IsTrue (makes_transaction d.does)) }
-        ensures { (files : FilesValue) → Makes now entry self.old self.new
-            (shared files (K.seen k.old)) (shared files (K.seen k.new)) result }
+        ensures { (yard : YardValue) (carrier : Carriage) → Makes now entry self.old self.new
+            (shared (K.seen k.old) yard carrier) (shared (K.seen k.new) yard carrier) result }
     {
         if make_room(&mut self.handles, &mut self.sustained).is_err() {
             return self.fail(Fault::NoMemory);
@@ -56,7 +60,13 @@ impl Client {
         match tried {
             Ok(answer) => {
                 keep(&mut self.sustained, answer.kept);
-                let kind = give(&answer.reply, &mut self.session, &mut self.handles, entry);
+                let kind = give(
+                    self.alloc,
+                    &answer.reply,
+                    &mut self.session,
+                    &mut self.handles,
+                    entry,
+                );
                 let told = told_of(&answer.reply);
                 self.end_as(told);
                 Made::Both(kind, told, answer.reply)
@@ -72,8 +82,8 @@ impl Client {
         requires ready { IsReady self.old }
         requires flushed { left self.old ≡ None }
         requires releases { does_of self.old.doing ≡ Some Releases }
-        ensures { (files : FilesValue) → Makes now entry self.old self.new
-            (shared files (K.seen k.old)) (shared files (K.seen k.new)) result }
+        ensures { (yard : YardValue) (carrier : Carriage) → Makes now entry self.old self.new
+            (shared (K.seen k.old) yard carrier) (shared (K.seen k.new) yard carrier) result }
     {
         let handle = self.handle_in_use();
         if self.is_last(handle) {
@@ -177,6 +187,7 @@ fn keep(sustained: &mut Vec<u64>, kept: Option<u64>)
 /// Hands to a client what a reply gives it, by the entry with this number, and returns that entry. There must be room for one
 /// handle more.
 fn give(
+    alloc: Global,
     reply: &Reply,
     session: &mut Option<u64>,
     handles: &mut Vec<Option<Handle>>,
@@ -194,7 +205,7 @@ fn give(
             ActKind::Mounted { sid: *sid }
         }
         Reply::FileOpened { handle, inode } => {
-            open(handles, *inode, entry);
+            open(alloc, handles, *inode, entry);
             ActKind::Opened {
                 handle: *handle,
                 inode: *inode,
@@ -205,7 +216,7 @@ fn give(
 }
 
 /// Opens a file at the least free handle. There must be room for one more.
-fn open(handles: &mut Vec<Option<Handle>>, inode: u64, entry: u64)
+fn open(alloc: Global, handles: &mut Vec<Option<Handle>>, inode: u64, entry: u64)
     requires { vec_len handles.old + 1 ≤ vec_capacity handles.old }
     ensures { handles.new.items ≡ with_file (free_handle handles.old.items)
         (Some (new_handle inode entry)) handles.old.items }
@@ -214,13 +225,13 @@ fn open(handles: &mut Vec<Option<Handle>>, inode: u64, entry: u64)
     let open = Handle {
         inode,
         opened: entry,
-        view: None,
+        views: Views::new(alloc),
     };
     set(handles, handle, open);
 }
 
 /// What an answer is in numbers, those of its reply in their order.
-fn told_of(reply: &Reply) -> Told
+pub(crate) fn told_of(reply: &Reply) -> Told
     ensures { result ≡ told_of reply.now }
 {
     match reply {
@@ -231,7 +242,7 @@ fn told_of(reply: &Reply) -> Told
         Reply::SessionMade { sid } => Told::Fine(*sid, 0, 0, 0),
         Reply::Found { inode } => Told::Fine(*inode, 0, 0, 0),
         Reply::FileOpened { handle, inode } => Told::Fine(*handle, *inode, 0, 0),
-        Reply::Data(bytes) => looks(0, bytes.len() as u64),
+        Reply::Data(bytes) => looks(0, 0, bytes.len() as u64),
         Reply::Count { bytes } => Told::Fine(*bytes, 0, 0, 0),
         Reply::Usage(space) => Told::Fine(space.used, space.capacity, space.inodes, space.limit),
         Reply::Compaction { before, after } => Told::Fine(

@@ -1,6 +1,0 @@
-use Rattle.std.proofs.Common.{◌≡◌, ◌++◌, map, take, drop}
-use Rattle.jv_client.specs.UnderWay.{unseen}
-use Rattle.jv_client.proofs.handles.forget_views.Given as goal
-
-abbrev pub invariant-loop-open : goal.invariant-loop-open
-invariant-loop-open l = l.handles ≡ map (unseen l.inode) (take l.open-index l.initial.handles) ++ drop l.open-index l.initial.handles

@@ -1,0 +1,94 @@
+//! Operations that change the bytes of files in one transaction: truncates and copies.
+ghost use Rattle.std.specs.Prelude.{◌≡◌, ℕ, IfSome, IsSome, IsTrue, None};
+ghost use Rattle.jv_outside.specs.Carriage.{Carriage};
+ghost use Rattle.jv_yard.specs.YardValue.{YardValue};
+ghost use Rattle.jv_client.specs.Shared.{shared};
+ghost use Rattle.jv_client.specs.UnderWay.{IsReady, changes_files, left};
+ghost use Rattle.jv_client.specs.Makes.{Makes};
+
+use crate::client::Client;
+use crate::made::Made;
+use crate::transactions::told_of;
+use jv_data::{copy_range, truncate};
+use jv_handles::{Handle, forget_views, inode_at};
+use jv_model::{ActKind, Moment, Op, Reply, TxFault, Who};
+use jv_outside::Keeper;
+use std::alloc::Global;
+
+/// A change that was made: its entry, its answer, and the file that it changed.
+#[derive(Drop)]
+struct Changed {
+    kind: ActKind,
+    reply: Reply,
+    inode: u64,
+}
+
+impl Client {
+    /// Makes the transaction of a truncate or a copy, which has flushed its files, and answers. A refusal changes nothing.
+    pub(crate) fn change<K: Keeper>(&mut self, k: &mut K, now: Moment) -> Made
+        requires busy { IsSome self.old.doing }
+        requires ready { IsReady self.old }
+        requires flushed { left self.old ≡ None }
+        requires changes { IfSome self.old.doing (λ d. IsTrue (changes_files d.does)) }
+        ensures { (entry : ℕ) (yard : YardValue) (carrier : Carriage) → Makes now entry self.old
+            self.new (shared (K.seen k.old) yard carrier) (shared (K.seen k.new) yard carrier) result }
+    {
+        let who = self.who(now);
+        let tried = match &self.doing {
+            Some(doing) => try_change(self.alloc, k, &who, &self.handles, &doing.op),
+            None => unreachable!(),
+        };
+        match tried {
+            Ok(Changed { kind, reply, inode }) => {
+                forget_views(&mut self.handles, inode);
+                let told = told_of(&reply);
+                self.end_as(told);
+                Made::Both(kind, told, reply)
+            }
+            Err(fault) => self.unmade(ActKind::Quiet, fault),
+        }
+    }
+}
+
+/// Tries the transaction of a truncate or a copy.
+fn try_change<K: Keeper>(
+    alloc: Global,
+    k: &mut K,
+    who: &Who,
+    handles: &[Option<Handle>],
+    op: &Op,
+) -> Result<Changed, TxFault> {
+    match op {
+        Op::Truncate { handle, len } => {
+            let inode = inode_at(handles, *handle);
+            truncate(alloc, k, who, inode, *len)?;
+            Ok(Changed {
+                kind: ActKind::Truncated { inode, len: *len },
+                reply: Reply::Done,
+                inode,
+            })
+        }
+        Op::Copy {
+            source,
+            from,
+            target,
+            to,
+            len,
+        } => {
+            let (source, target) = (inode_at(handles, *source), inode_at(handles, *target));
+            let len = copy_range(alloc, k, who, source, *from, target, *to, *len)?;
+            Ok(Changed {
+                kind: ActKind::Copied {
+                    source,
+                    from: *from,
+                    target,
+                    to: *to,
+                    len,
+                },
+                reply: Reply::Count { bytes: len },
+                inode: target,
+            })
+        }
+        _ => unreachable!(),
+    }
+}
