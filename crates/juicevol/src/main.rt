@@ -3,7 +3,10 @@
 
 use jv_cmd::{Finish, World, run};
 use jv_model::{Down, Journal, Moment, Sequence};
-use jv_outside::{Fails, Keeper, MemKeeper, Reading, Sink, Ticking, Writing, write_whole};
+use jv_outside::{
+    Fails, Keeper, MemCarrier, MemDepot, MemKeeper, MemShelf, Reading, Sink, Ticking, Writing,
+    write_whole,
+};
 use jv_rows::{default_setting, fresh_rows};
 use std::alloc::Global;
 use std::process::ExitCode;
@@ -23,11 +26,15 @@ fn words(rt: &(impl Env + AllocGlobal)) -> io::Result<Vec<String>> {
     Ok(all.collect(rt.alloc())?)
 }
 
+/// No call of a device in memory fails.
+fn never(alloc: Global) -> Fails {
+    Fails::At(Sequence::new(alloc))
+}
+
 /// A keeper in memory with the rows of a volume named `juicefs` that was formatted at moment 0. It never fails.
 fn keeper(alloc: Global) -> Result<MemKeeper, Down> {
     let batch = fresh_rows(alloc, &default_setting(alloc)?, Moment(0))?;
-    let never = Fails::At(Sequence::new(alloc));
-    let mut keeper = MemKeeper::new(alloc, Sequence::new(alloc), never);
+    let mut keeper = MemKeeper::new(alloc, Sequence::new(alloc), never(alloc));
     keeper.commit(&batch)?;
     Ok(keeper)
 }
@@ -54,6 +61,9 @@ fn main(rt: HostRuntime) -> ExitCode {
         Ok(words) => words,
         Err(error) => return ExitCode::from(refuse(&error, &mut err)),
     };
+    let Ok(carrier) = Box::new(alloc, MemCarrier::new(alloc, never(alloc))) else {
+        return ExitCode::from(give_up(&mut err));
+    };
     let Ok(keeper) = keeper(alloc) else {
         return ExitCode::from(give_up(&mut err));
     };
@@ -62,7 +72,10 @@ fn main(rt: HostRuntime) -> ExitCode {
         out: Writing::new(rt.stdout()),
         err,
         keeper,
+        depot: MemDepot::new(alloc, Sequence::new(alloc), never(alloc)),
+        shelf: MemShelf::new(alloc, Sequence::new(alloc), never(alloc)),
         clock: Ticking::new(rt),
+        carrier,
         journal: Journal::new(alloc),
     };
     let Finish { status, .. } = run(alloc, &words, world);

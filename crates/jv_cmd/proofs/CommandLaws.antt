@@ -1,26 +1,31 @@
 -- What the top call comes to, by the function that ran the command.
-use Rattle.std.proofs.Common.{◌≡◌, ℕ, List, Option, None, Some, refl, sym, subst, ◌∙◌}
+use Rattle.std.proofs.Common.{◌≡◌, ℕ, false, List, Option, None, Some, refl, ap, sym, subst, ◌∙◌}
 use Rattle.clap.specs.Words.{Text}
+use Rattle.jv_model.specs.declared.fault.Down.{Down}
+use Rattle.jv_model.specs.declared.fault.Down.TheVariants.{Failed, Memory}
 use Rattle.jv_model.specs.declared.setting.Setting.{Setting}
-use Rattle.jv_outside.specs.Causes.{RoseTimes}
+use Rattle.jv_outside.specs.Causes.{RoseIf, RoseTimes}
 use Rattle.jv_outside.specs.Store.{Store}
 use Rattle.jv_outside.specs.Stream.{Stream}
+use Rattle.jv_outside.specs.Ticks.{Ticks}
 use Rattle.jv_cmd.specs.declared.ended.Ended.{Ended}
-use Rattle.jv_cmd.specs.declared.ended.Ended.TheVariants.{Whole, OffLine, NoVolume, VolumeExists, NewerVersion, SettingOff, BadRow, SourceFailed, OutFailed, ClockFailed, KeeperFailed, OutOfMemory}
+use Rattle.jv_cmd.specs.declared.ended.Ended.TheVariants.{Whole, OffLine, NoVolume, VolumeExists, NewerVersion, SettingOff, BadRow, SourceFailed, OutFailed, ClockFailed, KeeperFailed, DepotFailed, CarrierFailed, ShelfFailed, OutOfMemory}
 use Rattle.jv_cmd.specs.declared.words.request.Command.{Command}
 use Rattle.jv_cmd.specs.declared.words.request.Command.TheVariants.{Format, Session}
 use Rattle.jv_cmd.specs.declared.words.request.SessionOptions.{SessionOptions}
-use Rattle.jv_cmd.specs.Commands.{RunsCommand, RunsSession, NotOpened, Refused, NoMemory, RunsAsked}
+use Rattle.jv_cmd.specs.Attaching.{CannotAttach, NoDepot, NoCarrier, NoShelf, ended_at}
+use Rattle.jv_cmd.specs.Commands.{RunsCommand, RunsNone, RunsSession, RunsVolume, LeavesLines, Stopped, Ran, NotOpened, NotAttached, Opened, Refused, NoMemory, RunsAsked}
 use Rattle.jv_cmd.specs.Ends.{status_of, message_of}
-use Rattle.jv_cmd.specs.Faults.{CountsFaults, UsesKeeper, Unopened, OpenedThere}
+use Rattle.jv_cmd.specs.Faults.{CountsFaults, UsesKeeper, Unopened, OpenedThere, source_failed, out_failed, clock_failed}
 use Rattle.jv_cmd.specs.Formatting.{Formats}
+use Rattle.jv_cmd.specs.Opening.{IsKnown}
 use Rattle.jv_cmd.specs.Saying.{Says}
 use Rattle.jv_cmd.specs.Steps.{EndsLines}
 use Rattle.jv_cmd.specs.Words.{IsRefusal}
-use Rattle.jv_cmd.specs.Worlds.{WorldValue}
+use Rattle.jv_cmd.specs.Worlds.{BlockDevices, WorldValue}
 
 pub RunsCommand-session : (command : Command) (place : List ℕ) (options : SessionOptions) (before after : WorldValue)
-    (ended : Ended) → command ≡ Session place options → RunsSession place before after ended
+    (ended : Ended) → command ≡ Session place options → RunsSession place options.cache_dir before after ended
     → CountsFaults ended before after → RunsCommand command before after ended
 RunsCommand-session command place options before after ended is runs faults =
     subst (λ (c : Command). RunsCommand c before after ended) (sym is)
@@ -55,6 +60,14 @@ RunsAsked-refused words asked before err text none refusal says =
     subst (λ o. RunsAsked words o before (record before { err = err }) 2) (sym none)
     (record { refuses = Refused text refusal refl says; others = refl })
 
+-- no line was run, and nothing else was used either
+none_run : (before : WorldValue) → RunsNone 0 before before
+none_run before = record {
+  none = refl;
+  lines = record { source = refl; out = refl; clock = refl; journal = refl };
+  rows = refl;
+}
+
 -- there was no memory to read them
 unread : (words : List Text) (asked : Option Command) (before : WorldValue) (err : Stream)
     → Says before.err err (message_of OutOfMemory)
@@ -64,7 +77,7 @@ unread words (Some (Format place setting)) before err says = record {
   ended = OutOfMemory;
   runs = record {
     answers = 0;
-    does = (record { ends = (tt, refl, refl); source = refl; journal = refl }, refl);
+    does = (record { ends = (tt, refl, refl); source = refl; blocks = refl; journal = refl }, refl);
     faults = record { source = refl; out = refl; clock = refl };
     keeper = record { opened = Unopened refl; faults = refl };
   };
@@ -75,7 +88,7 @@ unread words (Some (Session place options)) before err says = record {
   ended = OutOfMemory;
   runs = record {
     answers = 0;
-    does = NotOpened tt refl (record { source = refl; out = refl; clock = refl; journal = refl }) refl;
+    does = NotOpened tt (none_run before) refl;
     faults = record { source = refl; out = refl; clock = refl };
     keeper = record { opened = Unopened refl; faults = refl };
   };
@@ -109,4 +122,96 @@ module _ (before after : WorldValue) (place : List ℕ) (old : Store) (opened : 
   UsesKeeper-lines OutFailed e = record { opened = e.opened_at ∙ opened; faults = rose OutFailed e }
   UsesKeeper-lines ClockFailed e = record { opened = e.opened_at ∙ opened; faults = rose ClockFailed e }
   UsesKeeper-lines KeeperFailed e = absurd e.runs.cause
+  UsesKeeper-lines DepotFailed e = absurd e.runs.cause
+  UsesKeeper-lines CarrierFailed e = absurd e.runs.cause
+  UsesKeeper-lines ShelfFailed e = absurd e.runs.cause
   UsesKeeper-lines OutOfMemory e = record { opened = OpenedThere (e.opened_at ∙ opened); faults = rose OutOfMemory e }
+
+-- no device that lines use has failed
+calm_lines : (ended : Ended) → source_failed ended ≡ false → out_failed ended ≡ false → clock_failed ended ≡ false
+    → (before after : WorldValue) → LeavesLines before after → CountsFaults ended before after
+calm_lines ended a b c before after l = record {
+  source = subst (λ failed. RoseIf failed before.source.faults after.source.faults) (sym a)
+      (ap (λ (stream : Stream). stream.faults) l.source);
+  out = subst (λ failed. RoseIf failed before.out.faults after.out.faults) (sym b)
+      (ap (λ (stream : Stream). stream.faults) l.out);
+  clock = subst (λ failed. RoseIf failed before.clock.faults after.clock.faults) (sym c)
+      (ap (λ (ticks : Ticks). ticks.faults) l.clock);
+}
+
+-- how a session ends at a device for blocks, which is opened after the keeper
+record IsLate (ended : Ended) : Type 0 where
+  calm : (before after : WorldValue) → LeavesLines before after → CountsFaults ended before after
+  keeper : (place : List ℕ) (before after : Store) → UsesKeeper Whole 0 place before after
+      → UsesKeeper ended 0 place before after
+
+late_memory : IsLate OutOfMemory
+late_memory = record {
+  calm = calm_lines OutOfMemory refl refl refl;
+  keeper = λ place before after k. record { opened = OpenedThere k.opened; faults = k.faults };
+}
+
+late_at : (failed : Ended) → IsLate failed → (down : Down) (ended : Ended) → ended ≡ ended_at failed down
+    → IsLate ended
+late_at failed late Failed ended is = subst IsLate (sym is) late
+late_at failed late Memory ended is = subst IsLate (sym is) late_memory
+
+late_depot : IsLate DepotFailed
+late_depot = record {
+  calm = calm_lines DepotFailed refl refl refl;
+  keeper = λ place before after k. record { opened = k.opened; faults = k.faults };
+}
+
+late_carrier : IsLate CarrierFailed
+late_carrier = record {
+  calm = calm_lines CarrierFailed refl refl refl;
+  keeper = λ place before after k. record { opened = k.opened; faults = k.faults };
+}
+
+late_shelf : IsLate ShelfFailed
+late_shelf = record {
+  calm = calm_lines ShelfFailed refl refl refl;
+  keeper = λ place before after k. record { opened = k.opened; faults = k.faults };
+}
+
+late_ended : (bucket folder : List ℕ) (before after : BlockDevices) (ended : Ended)
+    → CannotAttach bucket folder before after ended → IsLate ended
+late_ended bucket folder before after ended (NoDepot down is depot carrier shelf) =
+    late_at DepotFailed late_depot down ended is
+late_ended bucket folder before after ended (NoCarrier down is depot carrier shelf) =
+    late_at CarrierFailed late_carrier down ended is
+late_ended bucket folder before after ended (NoShelf down is depot carrier shelf) =
+    late_at ShelfFailed late_shelf down ended is
+
+-- a session after the keeper was opened and the setting read
+module _ (place folder : List ℕ) (before after : WorldValue) (opened : Store) (setting : Setting) (ended : Ended)
+    (known : IsKnown before.keeper.rows setting) (rows : opened.rows ≡ before.keeper.rows)
+    (keeper : UsesKeeper Whole 0 place before.keeper opened) where
+  pub RunsSession-volume : RunsVolume setting folder (record before { keeper = opened }) after ended
+      → RunsSession place folder before after ended
+  RunsSession-volume (Stopped cannot leaves same) =
+      let late = late_ended setting.bucket folder before.blocks after.blocks ended cannot in
+      record {
+        answers = 0;
+        ends = NotAttached setting known (record {
+          none = refl;
+          lines = record { source = leaves.source; out = leaves.out; clock = leaves.clock; journal = leaves.journal };
+          rows = ap (λ (store : Store). store.rows) same ∙ rows;
+        }) cannot;
+        keeper = subst (λ store. UsesKeeper ended 0 place before.keeper store) (sym same)
+            (late.keeper place before.keeper opened keeper);
+      }
+  RunsSession-volume (Ran attached are e same) = record {
+    answers = e.answers;
+    ends = Opened setting opened attached known rows are e.runs same;
+    keeper = UsesKeeper-lines (record before { keeper = opened; blocks = attached }) after place before.keeper
+        keeper.opened keeper.faults ended e;
+  }
+
+  pub CountsFaults-volume : RunsVolume setting folder (record before { keeper = opened }) after ended
+      → CountsFaults ended before after
+  CountsFaults-volume (Stopped cannot leaves same) =
+      (late_ended setting.bucket folder before.blocks after.blocks ended cannot).calm before after
+      (record { source = leaves.source; out = leaves.out; clock = leaves.clock; journal = leaves.journal })
+  CountsFaults-volume (Ran attached are e same) =
+      record { source = e.faults.source; out = e.faults.out; clock = e.faults.clock }

@@ -25,7 +25,7 @@ use Rattle.jv_session.specs.Lines.{FromThere, Cut, CutsLine, LineUses, BreaksAt,
 use Rattle.jv_session.specs.Stands.{ScheduleValue, Stands, ClockFor, fresh_schedule}
 use Rattle.jv_session.proofs.UsesLaws.{rose_times-then, failures_then}
 use Rattle.jv_cmd.specs.declared.ended.Ended.{Ended}
-use Rattle.jv_cmd.specs.declared.ended.Ended.TheVariants.{Whole, OffLine, NoVolume, VolumeExists, NewerVersion, SettingOff, BadRow, SourceFailed, OutFailed, ClockFailed, KeeperFailed, OutOfMemory}
+use Rattle.jv_cmd.specs.declared.ended.Ended.TheVariants.{Whole, OffLine, NoVolume, VolumeExists, NewerVersion, SettingOff, BadRow, SourceFailed, OutFailed, ClockFailed, KeeperFailed, DepotFailed, CarrierFailed, ShelfFailed, OutOfMemory}
 use Rattle.jv_cmd.specs.Ends.{status_of}
 use Rattle.jv_cmd.specs.Texts.{texts_of}
 use Rattle.jv_cmd.specs.Cutting.{BeginsWith, CutsText, IsOverlong}
@@ -663,6 +663,9 @@ TextEnds-from_reads number text world s (NewerVersion version) h = absurd h
 TextEnds-from_reads number text world s SettingOff h = absurd h
 TextEnds-from_reads number text world s (BadRow key bytes) h = absurd h
 TextEnds-from_reads number text world s KeeperFailed h = absurd h
+TextEnds-from_reads number text world s DepotFailed h = absurd h
+TextEnds-from_reads number text world s CarrierFailed h = absurd h
+TextEnds-from_reads number text world s ShelfFailed h = absurd h
 
 -- the line of a text was run, or cut off
 pub TextEnds-from_line : (number : ℕ) (text : List ℕ) (line : Line) (before after : WorldValue) (s s' : ScheduleValue)
@@ -681,6 +684,9 @@ TextEnds-from_line number text line before after s s' (Err (NewerVersion version
 TextEnds-from_line number text line before after s s' (Err SettingOff) read ends = absurd ends
 TextEnds-from_line number text line before after s s' (Err (BadRow key bytes)) read ends = (line, read, ends)
 TextEnds-from_line number text line before after s s' (Err KeeperFailed) read ends = absurd ends
+TextEnds-from_line number text line before after s s' (Err DepotFailed) read ends = absurd ends
+TextEnds-from_line number text line before after s s' (Err CarrierFailed) read ends = absurd ends
+TextEnds-from_line number text line before after s s' (Err ShelfFailed) read ends = absurd ends
 
 -- lines are done as before, whatever was read of the source
 Done-read : (left : Option (List ℕ)) (before now : WorldValue) (source : Stream) (n : ℕ) (text : List ℕ)
@@ -873,6 +879,9 @@ module _ (left left0 : Option (List ℕ)) (before now after : WorldValue) (n cou
   Turns-text (Err (NewerVersion version)) ends = absurd ends
   Turns-text (Err SettingOff) ends = absurd ends
   Turns-text (Err KeeperFailed) ends = absurd ends
+  Turns-text (Err DepotFailed) ends = absurd ends
+  Turns-text (Err CarrierFailed) ends = absurd ends
+  Turns-text (Err ShelfFailed) ends = absurd ends
 
 -- the run ended before a line, by what was read of the source
 module _ (left : Option (List ℕ)) (before now : WorldValue) (source : Stream) (n : ℕ) (s : ScheduleValue)

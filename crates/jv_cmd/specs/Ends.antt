@@ -4,7 +4,7 @@ use Rattle.std.specs.List.{flat_map}
 use Rattle.jv_model.specs.declared.row.RowKey.{RowKey}
 use Rattle.jv_model.specs.script.Printed.{hex_pair}
 use Rattle.jv_cmd.specs.declared.ended.Ended.{Ended}
-use Rattle.jv_cmd.specs.declared.ended.Ended.TheVariants.{Whole, OffLine, NoVolume, VolumeExists, NewerVersion, SettingOff, BadRow, SourceFailed, OutFailed, ClockFailed, KeeperFailed, OutOfMemory}
+use Rattle.jv_cmd.specs.declared.ended.Ended.TheVariants.{Whole, OffLine, NoVolume, VolumeExists, NewerVersion, SettingOff, BadRow, SourceFailed, OutFailed, ClockFailed, KeeperFailed, DepotFailed, CarrierFailed, ShelfFailed, OutOfMemory}
 
 -- bytes as pairs of hexadecimal digits, or a dash where there are none
 abbrev pub digits_or_dash : List ℕ → List ℕ
@@ -27,6 +27,9 @@ status_of SourceFailed = 5
 status_of OutFailed = 5
 status_of ClockFailed = 5
 status_of KeeperFailed = 5
+status_of DepotFailed = 5
+status_of CarrierFailed = 5
+status_of ShelfFailed = 5
 status_of OutOfMemory = 6
 
 -- the text on standard error, where no word is off
@@ -42,4 +45,7 @@ message_of SourceFailed = codes "juicevol: source failed\n"
 message_of OutFailed = codes "juicevol: out failed\n"
 message_of ClockFailed = codes "juicevol: clock failed\n"
 message_of KeeperFailed = codes "juicevol: keeper failed\n"
+message_of DepotFailed = codes "juicevol: depot failed\n"
+message_of CarrierFailed = codes "juicevol: carrier failed\n"
+message_of ShelfFailed = codes "juicevol: shelf failed\n"
 message_of OutOfMemory = codes "juicevol: out of memory\n"

@@ -47,8 +47,9 @@ FormatEnds setting before after OutFailed =
 FormatEnds setting before after ended =
     CannotPut before.keeper.rows before.clock after.clock ended × (after.keeper.rows ≡ before.keeper.rows) × (after.out ≡ before.out)
 
--- format reads no line
+-- format reads no line, and uses none of the devices for blocks
 pub record Formats (setting : Setting) (before after : WorldValue) (ended : Ended) : Type 0 where
   pub ends : FormatEnds setting before after ended
   pub source : after.source ≡ before.source
+  pub blocks : after.blocks ≡ before.blocks
   pub journal : after.journal ≡ before.journal

@@ -10,6 +10,7 @@ pub mod Faults
 pub mod Saying
 pub mod Run
 pub mod Opening
+pub mod Attaching
 pub mod Formatting
 pub mod Commands
 pub mod Steps

@@ -1,16 +1,18 @@
 ghost use Rattle.std.specs.Prelude.{◌≡◌, [], map, string_bytes};
-ghost use Rattle.jv_cmd.specs.Commands.{Runs, RunsCommand, RunsSession};
+ghost use Rattle.jv_cmd.specs.Commands.{Runs, RunsCommand, RunsSession, RunsVolume};
 ghost use Rattle.jv_cmd.specs.Faults.{CountsFaults, UsesKeeper};
+ghost use Rattle.jv_cmd.specs.Opening.{IsKnown};
 ghost use Rattle.jv_cmd.specs.Words.{IsAllowedCommand};
 
+use crate::blocks::attach_all;
 use crate::ended::{Ended, report, say};
 use crate::format::run_format;
 use crate::lines::run_script;
 use crate::volume::open_volume;
 use crate::words::{Command, WordsFault, read_words};
 use crate::world::{Finish, Observed, World};
-use jv_model::Text;
-use jv_outside::{Clock, Keeper, Sink, Source};
+use jv_model::{Setting, Text};
+use jv_outside::{Clock, Depot, Keeper, Shelf, Sink, Source};
 use std::alloc::Global;
 
 /// Runs the command that the words are, over the devices of the world, with an emptied journal.
@@ -18,6 +20,10 @@ use std::alloc::Global;
 /// `format` puts the rows of a fresh volume where the keeper has none, in one commit, and prints its name. `session`
 /// runs the script of the source over the rows of the volume, and prints an answer for each line that has one; the bytes of
 /// files are kept until the run ends.
+///
+/// Once a session has read the volume's setting, it opens the depot and then the carrier at the setting's bucket, and
+/// then the shelf at the folder of `--cache-dir`. The first of them that isn't opened ends the run before its first line,
+/// and those after it aren't called. No block is put or read. `format` calls none of them.
 ///
 /// The status is 0 if the command did its work: every line of the source was run, or the volume is formatted. It is 2 if
 /// the words are refused, 3 if the next line isn't run, 4 if there is no volume for a session, or one for `format`, or the
@@ -27,12 +33,12 @@ use std::alloc::Global;
 /// and everything before it is done, printed and in the journal. Where the clock fails or memory runs out on a line, the
 /// steps that the line made are in the journal, and it prints nothing. A device's count of faults rises only with status 5,
 /// by that device, and standard error's own faults are passed over.
-pub fn run<S: Source, O: Sink, E: Sink, K: Keeper, C: Clock>(
+pub fn run<S: Source, O: Sink, E: Sink, K: Keeper, D: Depot, H: Shelf, C: Clock>(
     alloc: Global,
     words: &[String],
-    world: World<S, O, E, K, C>,
-) -> Finish<S, O, E, K, C>
-    ensures { let seen = ⟦<World<S, O, E, K, C> as Observed>⟧.seen in
+    world: World<S, O, E, K, D, H, C>,
+) -> Finish<S, O, E, K, D, H, C>
+    ensures { let seen = ⟦<World<S, O, E, K, D, H, C> as Observed>⟧.seen in
         Runs (map string_bytes words.now) (seen world) (seen result.world) result.status }
 {
     let mut world = world;
@@ -56,38 +62,70 @@ pub fn run<S: Source, O: Sink, E: Sink, K: Keeper, C: Clock>(
     }
 }
 
-fn run_command<S: Source, O: Sink, E: Sink, K: Keeper, C: Clock>(
+fn run_command<S: Source, O: Sink, E: Sink, K: Keeper, D: Depot, H: Shelf, C: Clock>(
     alloc: Global,
     command: Command,
-    world: &mut World<S, O, E, K, C>,
+    world: &mut World<S, O, E, K, D, H, C>,
 ) -> Ended
     requires allowed { IsAllowedCommand command }
     requires empty { world.old.journal.acts ≡ [] }
-    ensures runs { let seen = ⟦<World<S, O, E, K, C> as Observed>⟧.seen in
+    ensures runs { let seen = ⟦<World<S, O, E, K, D, H, C> as Observed>⟧.seen in
         RunsCommand command (seen world.old) (seen world.new) result }
     ensures err { world.new.err ≡ world.old.err }
 {
     match command {
         Command::Format { place, setting } => run_format(alloc, &place, &setting, world),
-        Command::Session { place, .. } => run_session(alloc, &place, world),
+        Command::Session { place, options } => run_session(
+            alloc,
+            &place,
+            &options.cache_dir,
+            world,
+        ),
     }
 }
 
-/// Runs the script of the source over the volume at a place.
-fn run_session<S: Source, O: Sink, E: Sink, K: Keeper, C: Clock>(
+/// Runs the script of the source over the volume at a place, once the devices for its blocks are opened.
+fn run_session<S: Source, O: Sink, E: Sink, K: Keeper, D: Depot, H: Shelf, C: Clock>(
     alloc: Global,
     place: &Text,
-    world: &mut World<S, O, E, K, C>,
+    folder: &Text,
+    world: &mut World<S, O, E, K, D, H, C>,
 ) -> Ended
     requires { world.old.journal.acts ≡ [] }
-    ensures runs { let seen = ⟦<World<S, O, E, K, C> as Observed>⟧.seen in
-        RunsSession place.now (seen world.old) (seen world.new) result }
-    ensures faults { let seen = ⟦<World<S, O, E, K, C> as Observed>⟧.seen in
+    ensures runs { let seen = ⟦<World<S, O, E, K, D, H, C> as Observed>⟧.seen in
+        RunsSession place.now folder.now (seen world.old) (seen world.new) result }
+    ensures faults { let seen = ⟦<World<S, O, E, K, D, H, C> as Observed>⟧.seen in
         CountsFaults result (seen world.old) (seen world.new) }
     ensures err { world.new.err ≡ world.old.err }
 {
     match open_volume(alloc, &mut world.keeper, place) {
-        Ok(setting) => run_script(alloc, setting, world),
+        Ok(setting) => run_volume(alloc, setting, folder, world),
+        Err(ended) => ended,
+    }
+}
+
+/// Opens the devices for the blocks of a volume with this setting, and runs the script of the source over it.
+fn run_volume<S: Source, O: Sink, E: Sink, K: Keeper, D: Depot, H: Shelf, C: Clock>(
+    alloc: Global,
+    setting: Setting,
+    folder: &Text,
+    world: &mut World<S, O, E, K, D, H, C>,
+) -> Ended
+    requires empty { world.old.journal.acts ≡ [] }
+    requires stored { IsKnown (K.seen world.old.keeper).rows setting }
+    ensures runs { let seen = ⟦<World<S, O, E, K, D, H, C> as Observed>⟧.seen in
+        RunsVolume setting folder.now (seen world.old) (seen world.new) result }
+    ensures err { world.new.err ≡ world.old.err }
+{
+    let attached = attach_all(
+        &setting.bucket,
+        folder,
+        &mut world.depot,
+        &mut world.carrier,
+        &mut world.shelf,
+    );
+    match attached {
+        Ok(()) => run_script(alloc, setting, world),
         Err(ended) => ended,
     }
 }

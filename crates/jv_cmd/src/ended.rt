@@ -30,6 +30,9 @@ pub(crate) enum Ended {
     OutFailed,
     ClockFailed,
     KeeperFailed,
+    DepotFailed,
+    CarrierFailed,
+    ShelfFailed,
     /// Out of memory.
     OutOfMemory,
 }
@@ -45,6 +48,7 @@ impl Ended {
             Ended::NoVolume | Ended::VolumeExists | Ended::NewerVersion(_) | Ended::SettingOff => 4,
             Ended::BadRow(..) => 4,
             Ended::SourceFailed | Ended::OutFailed | Ended::ClockFailed | Ended::KeeperFailed => 5,
+            Ended::DepotFailed | Ended::CarrierFailed | Ended::ShelfFailed => 5,
             Ended::OutOfMemory => 6,
         }
     }
@@ -71,6 +75,9 @@ pub(crate) fn report<E: Sink>(ended: &Ended, err: &mut E)
         Ended::OutFailed => say(b"juicevol: out failed\n", err),
         Ended::ClockFailed => say(b"juicevol: clock failed\n", err),
         Ended::KeeperFailed => say(b"juicevol: keeper failed\n", err),
+        Ended::DepotFailed => say(b"juicevol: depot failed\n", err),
+        Ended::CarrierFailed => say(b"juicevol: carrier failed\n", err),
+        Ended::ShelfFailed => say(b"juicevol: shelf failed\n", err),
         Ended::OutOfMemory => say(b"juicevol: out of memory\n", err),
     }
 }

@@ -8,7 +8,7 @@ use crate::ended::Ended;
 use crate::volume::stored_setting;
 use crate::world::{Observed, World};
 use jv_model::{Bytes, Down, Sequence, Setting, Text};
-use jv_outside::{Clock, Keeper, Sink, Source, write_whole};
+use jv_outside::{Clock, Depot, Keeper, Shelf, Sink, Source, write_whole};
 use jv_rows::fresh_rows;
 use std::alloc::{AllocError, Global};
 
@@ -54,16 +54,16 @@ fn put_volume<K: Keeper, C: Clock>(
 }
 
 /// Formats a volume where there is none, and says so.
-pub(crate) fn run_format<S: Source, O: Sink, E: Sink, K: Keeper, C: Clock>(
+pub(crate) fn run_format<S: Source, O: Sink, E: Sink, K: Keeper, D: Depot, H: Shelf, C: Clock>(
     alloc: Global,
     place: &Text,
     setting: &Setting,
-    world: &mut World<S, O, E, K, C>,
+    world: &mut World<S, O, E, K, D, H, C>,
 ) -> Ended
     requires { IsTrue (is_setting setting.now) }
-    ensures formats { let seen = ⟦<World<S, O, E, K, C> as Observed>⟧.seen in
+    ensures formats { let seen = ⟦<World<S, O, E, K, D, H, C> as Observed>⟧.seen in
         Formats setting.now (seen world.old) (seen world.new) result }
-    ensures faults { let seen = ⟦<World<S, O, E, K, C> as Observed>⟧.seen in
+    ensures faults { let seen = ⟦<World<S, O, E, K, D, H, C> as Observed>⟧.seen in
         CountsFaults result (seen world.old) (seen world.new) }
     ensures keeper { UsesKeeper result 0 place.now (K.seen world.old.keeper) (K.seen world.new.keeper) }
     ensures err { world.new.err ≡ world.old.err }

@@ -1,6 +1,7 @@
 //! The program's commands as one call, over devices that are handed in.
 #![tactic(auto)]
 
+mod blocks;
 mod command;
 mod ended;
 mod format;

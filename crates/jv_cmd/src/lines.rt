@@ -8,7 +8,7 @@ use crate::ended::Ended;
 use crate::reader::{LineReader, Next};
 use crate::world::{Observed, World};
 use jv_model::{DEFAULT_BUFFER, Limits, Line, MAX_LINES, Setting};
-use jv_outside::{Clock, Keeper, Sink, Source, write_whole};
+use jv_outside::{Clock, Depot, Keeper, Shelf, Sink, Source, write_whole};
 use jv_script::{BadLine, read_line};
 use jv_session::{LineEnd, Schedule};
 use std::alloc::Global;
@@ -51,17 +51,19 @@ fn discard(line: Line) {
 
 /// Runs a line, and prints its answer where it has one. Where the clock fails or memory runs out, the steps made so far
 /// stand, and nothing is printed.
-fn run_line<S: Source, O: Sink, E: Sink, K: Keeper, C: Clock>(
+fn run_line<S: Source, O: Sink, E: Sink, K: Keeper, D: Depot, H: Shelf, C: Clock>(
     line: Line,
     number: u32,
     schedule: &mut Schedule,
-    world: &mut World<S, O, E, K, C>,
+    world: &mut World<S, O, E, K, D, H, C>,
 ) -> Result<(), Ended>
     requires { IsBuiltHere schedule.old line }
-    ensures ends { let seen = ⟦<World<S, O, E, K, C> as Observed>⟧.seen in
+    ensures ends { let seen = ⟦<World<S, O, E, K, D, H, C> as Observed>⟧.seen in
         LineEnds line number (seen world.old) (seen world.new) schedule.old schedule.new result }
     ensures source { world.new.source ≡ world.old.source }
     ensures err { world.new.err ≡ world.old.err }
+    ensures attached { let seen = ⟦<World<S, O, E, K, D, H, C> as Observed>⟧.seen in
+        (seen world.new).blocks ≡ (seen world.old).blocks }
 {
     match schedule.line(
         line,
@@ -82,17 +84,19 @@ fn run_line<S: Source, O: Sink, E: Sink, K: Keeper, C: Clock>(
 }
 
 /// Reads a text as a line and runs it.
-fn run_text<S: Source, O: Sink, E: Sink, K: Keeper, C: Clock>(
+fn run_text<S: Source, O: Sink, E: Sink, K: Keeper, D: Depot, H: Shelf, C: Clock>(
     alloc: Global,
     number: u32,
     text: &[u8],
     schedule: &mut Schedule,
-    world: &mut World<S, O, E, K, C>,
+    world: &mut World<S, O, E, K, D, H, C>,
 ) -> Result<(), Ended>
-    ensures ends { let seen = ⟦<World<S, O, E, K, C> as Observed>⟧.seen in
+    ensures ends { let seen = ⟦<World<S, O, E, K, D, H, C> as Observed>⟧.seen in
         TextEnds number text.now (seen world.old) (seen world.new) schedule.old schedule.new result }
     ensures source { world.new.source ≡ world.old.source }
     ensures err { world.new.err ≡ world.old.err }
+    ensures attached { let seen = ⟦<World<S, O, E, K, D, H, C> as Observed>⟧.seen in
+        (seen world.new).blocks ≡ (seen world.old).blocks }
 {
     match read_built(alloc, number, text, schedule) {
         Ok(line) => run_line(line, number, schedule, world),
@@ -101,21 +105,23 @@ fn run_text<S: Source, O: Sink, E: Sink, K: Keeper, C: Clock>(
 }
 
 /// Runs the line after `done` others.
-fn turn<S: Source, O: Sink, E: Sink, K: Keeper, C: Clock>(
+fn turn<S: Source, O: Sink, E: Sink, K: Keeper, D: Depot, H: Shelf, C: Clock>(
     alloc: Global,
     done: u32,
     reader: &mut LineReader,
     schedule: &mut Schedule,
-    world: &mut World<S, O, E, K, C>,
+    world: &mut World<S, O, E, K, D, H, C>,
 ) -> Result<(), Ended>
     requires { done ≤ MAX_LINES }
-    ensures turns { let seen = ⟦<World<S, O, E, K, C> as Observed>⟧.seen in
+    ensures turns { let seen = ⟦<World<S, O, E, K, D, H, C> as Observed>⟧.seen in
         (before : WorldValue)
         → Going (prepend_known reader.old (seen world.old).source.content) before (seen world.old) done schedule.old
         → Turns (prepend_known reader.new (seen world.new).source.content) before (seen world.new) done schedule.new
         result }
     ensures more { OnOk result (done < MAX_LINES) }
     ensures err { world.new.err ≡ world.old.err }
+    ensures attached { let seen = ⟦<World<S, O, E, K, D, H, C> as Observed>⟧.seen in
+        (seen world.new).blocks ≡ (seen world.old).blocks }
 {
     match reader.next(&mut world.source) {
         Ok(Next::Text(count)) => {
@@ -133,17 +139,19 @@ fn turn<S: Source, O: Sink, E: Sink, K: Keeper, C: Clock>(
 }
 
 /// Runs lines until the run ends.
-fn run_lines<S: Source, O: Sink, E: Sink, K: Keeper, C: Clock>(
+fn run_lines<S: Source, O: Sink, E: Sink, K: Keeper, D: Depot, H: Shelf, C: Clock>(
     alloc: Global,
     reader: &mut LineReader,
     schedule: &mut Schedule,
-    world: &mut World<S, O, E, K, C>,
+    world: &mut World<S, O, E, K, D, H, C>,
 ) -> Ended
-    ensures runs { let seen = ⟦<World<S, O, E, K, C> as Observed>⟧.seen in
+    ensures runs { let seen = ⟦<World<S, O, E, K, D, H, C> as Observed>⟧.seen in
         (before : WorldValue)
         → Going (prepend_known reader.old (seen world.old).source.content) before (seen world.old) 0 schedule.old
         → EndsLines before (seen world.new) result }
     ensures err { world.new.err ≡ world.old.err }
+    ensures attached { let seen = ⟦<World<S, O, E, K, D, H, C> as Observed>⟧.seen in
+        (seen world.new).blocks ≡ (seen world.old).blocks }
 {
     let mut done = 0;
     'lines: loop {
@@ -155,16 +163,18 @@ fn run_lines<S: Source, O: Sink, E: Sink, K: Keeper, C: Clock>(
 }
 
 /// Runs the script of the source over the rows of the keeper, whose setting this is.
-pub(crate) fn run_script<S: Source, O: Sink, E: Sink, K: Keeper, C: Clock>(
+pub(crate) fn run_script<S: Source, O: Sink, E: Sink, K: Keeper, D: Depot, H: Shelf, C: Clock>(
     alloc: Global,
     setting: Setting,
-    world: &mut World<S, O, E, K, C>,
+    world: &mut World<S, O, E, K, D, H, C>,
 ) -> Ended
     requires empty { world.old.journal.acts ≡ [] }
     requires stored { IsKnown (K.seen world.old.keeper).rows setting }
-    ensures runs { let seen = ⟦<World<S, O, E, K, C> as Observed>⟧.seen in
+    ensures runs { let seen = ⟦<World<S, O, E, K, D, H, C> as Observed>⟧.seen in
         EndsLines (seen world.old) (seen world.new) result }
     ensures err { world.new.err ≡ world.old.err }
+    ensures attached { let seen = ⟦<World<S, O, E, K, D, H, C> as Observed>⟧.seen in
+        (seen world.new).blocks ≡ (seen world.old).blocks }
 {
     let Ok(mut reader) = LineReader::new(alloc) else {
         return Ended::OutOfMemory;

@@ -1,9 +1,9 @@
 use jv_model::Journal;
-use jv_outside::{Clock, Keeper, Sink, Source};
+use jv_outside::{Carrier, Clock, Depot, Keeper, Shelf, Sink, Source};
 
 /// The devices of a command, and its journal.
 #[derive(Drop)]
-pub struct World<S, O, E, K, C> {
+pub struct World<S, O, E, K, D, H, C> {
     /// Where the script comes from.
     pub source: S,
     /// Where answers are printed.
@@ -12,16 +12,22 @@ pub struct World<S, O, E, K, C> {
     pub err: E,
     /// Where the rows of the volume's metadata are kept.
     pub keeper: K,
+    /// The object store of the blocks of files.
+    pub depot: D,
+    /// The local disk of blocks that aren't in the object store yet.
+    pub shelf: H,
     pub clock: C,
+    /// What sends blocks on their way to the depot.
+    pub carrier: Box<dyn Carrier>,
     pub journal: Journal,
 }
 
 /// What comes back from a command.
 #[derive(Drop)]
-pub struct Finish<S, O, E, K, C> {
+pub struct Finish<S, O, E, K, D, H, C> {
     /// The exit status.
     pub status: u8,
-    pub world: World<S, O, E, K, C>,
+    pub world: World<S, O, E, K, D, H, C>,
 }
 
 /// What contracts see of a world.
@@ -31,9 +37,12 @@ pub trait Observed {
     ghost seen: { Self → WorldValue };
 }
 
-impl<S: Source, O: Sink, E: Sink, K: Keeper, C: Clock> Observed for World<S, O, E, K, C> {
-    ghost use Rattle.jv_cmd.specs.Worlds.{world_value};
+impl<S: Source, O: Sink, E: Sink, K: Keeper, D: Depot, H: Shelf, C: Clock> Observed
+    for World<S, O, E, K, D, H, C> {
+    ghost use Rattle.jv_cmd.specs.Worlds.{block_devices, world_value};
 
-    ghost seen = { λ w. world_value (S.seen w.source) (O.seen w.out) (E.seen w.err) (K.seen w.keeper) (C.seen w.clock)
-        w.journal.acts };
+    ghost seen = { λ w. world_value (S.seen w.source) (O.seen w.out) (E.seen w.err) (K.seen w.keeper)
+        (block_devices (D.seen w.depot) (H.seen w.shelf)
+        ((Carrier-box w.carrier).seen w.carrier.value))
+        (C.seen w.clock) w.journal.acts };
 }

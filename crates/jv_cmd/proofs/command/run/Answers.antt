@@ -4,7 +4,7 @@ use Rattle.jv_cmd.specs.declared.words.request.WordsFault.{WordsFault}
 use Rattle.jv_cmd.specs.Commands.{RunsAsked}
 use Rattle.jv_cmd.specs.Saying.{Says}
 use Rattle.jv_cmd.specs.Words.{Answers, Refuses, asked}
-use Rattle.jv_cmd.specs.Worlds.{WorldValue, world_value}
+use Rattle.jv_cmd.specs.Worlds.{WorldValue, block_devices, world_value}
 use Rattle.jv_cmd.proofs.AskedLaws.{asked_allowed}
 use Rattle.jv_cmd.proofs.CommandLaws.{RunsAsked-ran, RunsAsked-refused, RunsAsked-unread}
 use Rattle.jv_cmd.proofs.command.run.Goals as goal
@@ -17,10 +17,14 @@ returns-in-Ok g c =
     let words = map string_bytes c.args.words.now in
     let w = c.args.world in
     let e = c.run_command-ended.new.world in
+    let blocks = block_devices (g.D.Depot.seen w.depot) (g.H.Shelf.seen w.shelf)
+    ((goal.Carrier-dyn g (w.carrier.vtable, w.carrier.value)).seen w.carrier.value) in
     let before : List Act → WorldValue = λ acts. world_value (g.S.Source.seen w.source) (g.O.Sink.seen w.out)
-    (g.E.Sink.seen w.err) (g.K.Keeper.seen w.keeper) (g.C.Clock.seen w.clock) acts in
+    (g.E.Sink.seen w.err) (g.K.Keeper.seen w.keeper) blocks (g.C.Clock.seen w.clock) acts in
     let after = world_value (g.S.Source.seen e.source) (g.O.Sink.seen e.out) (g.E.Sink.seen e.err)
-    (g.K.Keeper.seen e.keeper) (g.C.Clock.seen e.clock) e.journal.acts in
+    (g.K.Keeper.seen e.keeper) (block_devices (g.D.Depot.seen e.depot) (g.H.Shelf.seen e.shelf)
+    ((goal.Carrier-dyn g (e.carrier.vtable, e.carrier.value)).seen e.carrier.value))
+    (g.C.Clock.seen e.clock) e.journal.acts in
     let err = g.E.Sink.seen c.report.new.err in
     subst (λ acts. RunsAsked words (asked words) (before acts) (record after { err = err }) c.status-status.result)
     c.clear.ensures
@@ -33,8 +37,10 @@ pub returns-in-Err-Refused : goal.returns-in-Err-Refused
 returns-in-Err-Refused g c =
     let words = map string_bytes c.args.words.now in
     let w = c.args.world in
+    let blocks = block_devices (g.D.Depot.seen w.depot) (g.H.Shelf.seen w.shelf)
+    ((goal.Carrier-dyn g (w.carrier.vtable, w.carrier.value)).seen w.carrier.value) in
     let before : List Act → WorldValue = λ acts. world_value (g.S.Source.seen w.source) (g.O.Sink.seen w.out)
-    (g.E.Sink.seen w.err) (g.K.Keeper.seen w.keeper) (g.C.Clock.seen w.clock) acts in
+    (g.E.Sink.seen w.err) (g.K.Keeper.seen w.keeper) blocks (g.C.Clock.seen w.clock) acts in
     let err = g.E.Sink.seen c.say.new.err in
     let none = subst (λ (f : WordsFault). Answers (asked words) (Err f)) c.in-Err-Refused.field-0-is
     c.in-Err-Refused.ensures.asked in
@@ -51,8 +57,10 @@ pub returns-in-Err-Memory : goal.returns-in-Err-Memory
 returns-in-Err-Memory g c =
     let words = map string_bytes c.args.words.now in
     let w = c.args.world in
+    let blocks = block_devices (g.D.Depot.seen w.depot) (g.H.Shelf.seen w.shelf)
+    ((goal.Carrier-dyn g (w.carrier.vtable, w.carrier.value)).seen w.carrier.value) in
     let before : List Act → WorldValue = λ acts. world_value (g.S.Source.seen w.source) (g.O.Sink.seen w.out)
-    (g.E.Sink.seen w.err) (g.K.Keeper.seen w.keeper) (g.C.Clock.seen w.clock) acts in
+    (g.E.Sink.seen w.err) (g.K.Keeper.seen w.keeper) blocks (g.C.Clock.seen w.clock) acts in
     let err = g.E.Sink.seen c.report-in-Err-Memory.new.err in
     let status = c.status-status-in-Err-Memory.result in
     subst (λ acts. RunsAsked words (asked words) (before []) (record (before acts) { err = err }) status)

@@ -6,6 +6,6 @@ returns-in-Format-clause-runs g c =
     RunsCommand-format c.args.command _ _ _ _ _ c.in-Format.is c.run_format.ensures.formats
     c.run_format.ensures.faults c.run_format.ensures.keeper
 
-pub returns-clause-runs : goal.returns-clause-runs
-returns-clause-runs g c =
+pub returns-in-Session-clause-runs : goal.returns-in-Session-clause-runs
+returns-in-Session-clause-runs g c =
     RunsCommand-session c.args.command _ _ _ _ _ c.in-Session.is c.run_session.ensures.runs c.run_session.ensures.faults

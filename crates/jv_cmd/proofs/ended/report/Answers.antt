@@ -31,5 +31,14 @@ returns-in-ClockFailed g c = Says-ended c.in-ClockFailed.is c.say-in-ClockFailed
 pub returns-in-KeeperFailed : goal.returns-in-KeeperFailed
 returns-in-KeeperFailed g c = Says-ended c.in-KeeperFailed.is c.say-in-KeeperFailed.ensures
 
+pub returns-in-DepotFailed : goal.returns-in-DepotFailed
+returns-in-DepotFailed g c = Says-ended c.in-DepotFailed.is c.say-in-DepotFailed.ensures
+
+pub returns-in-CarrierFailed : goal.returns-in-CarrierFailed
+returns-in-CarrierFailed g c = Says-ended c.in-CarrierFailed.is c.say-in-CarrierFailed.ensures
+
+pub returns-in-ShelfFailed : goal.returns-in-ShelfFailed
+returns-in-ShelfFailed g c = Says-ended c.in-ShelfFailed.is c.say-in-ShelfFailed.ensures
+
 pub returns-in-OutOfMemory : goal.returns-in-OutOfMemory
 returns-in-OutOfMemory g c = Says-ended c.in-OutOfMemory.is c.say-in-OutOfMemory.ensures
