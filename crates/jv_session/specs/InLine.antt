@@ -3,6 +3,7 @@ use Rattle.std.specs.Prelude.{◌≡◌, ℕ, ◌+◌, min, max, true, ◌||◌,
 use Rattle.jv_model.specs.declared.limits.TheConstants.{LAST_MOMENT}
 use Rattle.jv_model.specs.declared.act.Act.{Act}
 use Rattle.jv_model.specs.declared.act.ActKind.{ActKind}
+use Rattle.jv_model.specs.declared.fault.Device.{Device}
 use Rattle.jv_model.specs.declared.fault.Fault.{Fault}
 use Rattle.jv_model.specs.declared.op.Op.{Op}
 use Rattle.jv_model.specs.declared.op.Step.{Step}
@@ -17,19 +18,17 @@ use Rattle.jv_outside.specs.Causes.{Rose}
 use Rattle.jv_outside.specs.Ticks.{Ticks, HasAnswered}
 use Rattle.jv_client.specs.ClientValue.{ClientValue}
 use Rattle.jv_model.specs.declared.row.RowKey.{RowKey}
-use Rattle.jv_outside.specs.Store.{Store}
 use Rattle.jv_rows.specs.Transactions.{IsBad}
 use Rattle.jv_volume.specs.TypedRows.{typed}
-use Rattle.jv_files.specs.Stored.{FilesValue}
-use Rattle.jv_client.specs.Shared.{shared}
-use Rattle.jv_client.specs.Held.{IsClient}
+use Rattle.jv_shared.specs.Shared.{Known, Shared}
+use Rattle.jv_client.specs.Held.{IsClient, in_flight}
 use Rattle.jv_client.specs.Makes.{Steps}
 use Rattle.jv_session.specs.declared.line_end.LineEnd.{LineEnd}
 use Rattle.jv_session.specs.declared.line_end.LineEnd.TheVariants.{Said, Quiet, ClockFailed, Broken, Memory}
 use Rattle.jv_session.specs.declared.line_end.Stopped.{Stopped}
 use Rattle.jv_session.specs.declared.line_end.Stopped.TheVariants as stopped
 use Rattle.jv_session.specs.Stands.{ScheduleValue, InLine, ClockFor}
-use Rattle.jv_session.specs.Lines.{LineState, LineUses, keeper_failures}
+use Rattle.jv_session.specs.Lines.{LineState, LineUses, AreFailures}
 
 -- entries of the line were appended; they are allowed, and lead there
 pub record Goes (q : Past) (asks : ℕ) (before after acts : List Act) (r : Past) : Type 0 where
@@ -40,22 +39,22 @@ pub record Goes (q : Past) (asks : ℕ) (before after acts : List Act) (r : Past
   pub asked : r.asked ≡ q.asked + asks
 
 -- the line is done and prints this
-pub record Finish (q : Past) (asks failed : ℕ) (before after : LineState) (text : List ℕ) : Type 0 where
+pub record Finish (q : Past) (asks : ℕ) (failed : Device → ℕ) (before after : LineState) (text : List ℕ) : Type 0 where
   pub acts : List Act
   pub end : Past
   pub goes : Goes q asks before.journal after.journal acts end
-  pub failures : keeper_failures acts ≡ failed
-  pub in_line : InLine end after.schedule after.keeper
+  pub failures : AreFailures acts failed
+  pub in_line : InLine end after.schedule after.devices
   pub over : is_over end ≡ true
   pub said : end.said ≡ text
 
 -- the run stopped on the line, and the schedule stands where it is then
-pub record Break (q : Past) (asks failed : ℕ) (before after : LineState) : Type 0 where
+pub record Break (q : Past) (asks : ℕ) (failed : Device → ℕ) (before after : LineState) : Type 0 where
   pub acts : List Act
   pub end : Past
   pub goes : Goes q asks before.journal after.journal acts end
-  pub failures : keeper_failures acts ≡ failed
-  pub in_line : InLine end after.schedule after.keeper
+  pub failures : AreFailures acts failed
+  pub in_line : InLine end after.schedule after.devices
   pub stops : (is_over end || may_stop end) ≡ true
 
 abbrev pub end_of : Stopped → LineEnd
@@ -64,29 +63,29 @@ end_of stopped.Memory = Memory
 
 -- from each past where the line may stand, when the clock tells still what the run's clock tells
 abbrev pub FromLine : (Past → Type 0) → ℕ → LineState → LineState → (Past → Type 0) → Type 0
-FromLine Where number before after Comes = (q : Past) → Where q → InLine q before.schedule before.keeper → q.line ≡ number → q.state.count ≡ length before.journal
+FromLine Where number before after Comes = (q : Past) → Where q → InLine q before.schedule before.devices → q.line ≡ number → q.state.count ≡ length before.journal
     → ClockFor q.run.clock q.asked before.clock.answers after.clock.answers → Comes q
 
 pub record Finishes (Where : Past → Type 0) (number : ℕ) (before after : LineState) (text : List ℕ) : Type 0 where
   pub asks : ℕ
-  pub failed : ℕ
+  pub failed : Device → ℕ
   pub uses : LineUses before after asks failed
   pub calm : after.clock.faults ≡ before.clock.faults
   pub goes : FromLine Where number before after (λ q. Finish q asks failed before after text)
 
 pub record Breaks (Where : Past → Type 0) (number : ℕ) (before after : LineState) : Type 0 where
   pub asks : ℕ
-  pub failed : ℕ
+  pub failed : Device → ℕ
   pub uses : LineUses before after asks failed
   pub goes : FromLine Where number before after (λ q. Break q asks failed before after)
 
 -- the line stopped at a row that is Bad, as none is where a past is stood for
 pub record FindsBad (Where : Past → Type 0) (number : ℕ) (before after : LineState) (key : RowKey) (bytes : List ℕ) : Type 0 where
   pub asks : ℕ
-  pub failed : ℕ
+  pub failed : Device → ℕ
   pub uses : LineUses before after asks failed
   pub calm : after.clock.faults ≡ before.clock.faults
-  pub bad : IfSome after.keeper.rows (λ known. IsBad (typed known) key bytes)
+  pub bad : IfSome after.devices.keeper.rows (λ known. IsBad (typed known) key bytes)
   pub never : FromLine Where number before after (λ q. ⊥)
 
 -- by how the call ended
@@ -147,35 +146,41 @@ abbrev pub Notes : ScheduleValue → ScheduleValue → ℕ → ℕ → ActKind �
 Notes s s' number client kind by before after journal more (Ok now) = HasNoted s s' number client kind by now before after journal more
 Notes s s' number client kind by before after journal more (Err stopped) = LeavesSchedule s s' before after journal more stopped
 
--- a client of the schedule made a step
-pub record HasStepped (s s' : ScheduleValue) (number client : ℕ) (before after : Ticks) (keeper used : Store) (journal more : List Act) (step : Step) : Type 0 where
-  pub now : ℕ
-  pub moment : IsMomentOf s 0 now before after
-  pub old : ClientValue
-  pub found : slice_get s.clients client ≡ Some old
-  pub id : old.id ≡ client
-  pub new : ClientValue
-  pub grown : FilesValue
-  pub steps : Steps number now old new (shared s.files keeper) (shared grown used) journal more step
-  pub same : s' ≡ record s { at = now; clients = slice_set s.clients client new; files = grown }
+-- what clients share once the yard knows of a moment
+abbrev pub at_moment : ℕ → Shared → Shared
+at_moment now v = record v { yard = record v.yard { last = now } }
 
-abbrev pub MakesStep : ScheduleValue → ScheduleValue → ℕ → ℕ → Ticks → Ticks → Store → Store → List Act → List Act → Result Step Stopped → Type 0
-MakesStep s s' number client before after keeper used journal more (Ok step) = HasStepped s s' number client before after keeper used journal more step
-MakesStep s s' number client before after keeper used journal more (Err stopped) = LeavesSchedule s s' before after journal more stopped × (used ≡ keeper)
+-- A client of the schedule made a step at a moment that the yard was told first.
+pub record HasStepped (s s' : ScheduleValue) (number client : ℕ) (before after : Ticks) (v used : Shared) (journal more : List Act) (step : Step) : Type 0
+  where
+    pub now : ℕ
+    pub moment : IsMomentOf s 0 now before after
+    pub old : ClientValue
+    pub found : slice_get s.clients client ≡ Some old
+    pub id : old.id ≡ client
+    pub new : ClientValue
+    pub steps : Steps number now old new (at_moment now v) used journal more step
+    pub same : s' ≡ record s { at = now; clients = slice_set s.clients client new }
+
+abbrev pub MakesStep : ScheduleValue → ScheduleValue → ℕ → ℕ → Ticks → Ticks → Shared → Shared → List Act → List Act → Result Step Stopped → Type 0
+MakesStep s s' number client before after v used journal more (Ok step) = HasStepped s s' number client before after v used journal more step
+MakesStep s s' number client before after v used journal more (Err stopped) = LeavesSchedule s s' before after journal more stopped × (used ≡ v)
 
 -- an operation was begun, or refused
 pub record HasBegun (s s' : ScheduleValue) (client : ℕ) (o : Op) : Type 0 where
   pub old : ClientValue
   pub found : slice_get s.clients client ≡ Some old
   pub new : ClientValue
-  pub is_new : (m : ModelClient) (count : ℕ) → IsClient m count s.files old → (submission m o ≡ None) × IsClient (submitted s.limits o m) count s.files new
+  pub is_new : (g : Known) (v : Shared) (m : ModelClient) (count : ℕ) → IsClient g v m count old
+      → (submission m o ≡ None) × IsClient g v (submitted s.limits o m) count new
+  pub no_flight : in_flight new ≡ 0
   pub same : s' ≡ record s { clients = slice_set s.clients client new }
   pub busy : IsSome new.doing
 
 pub record HasRefused (s s' : ScheduleValue) (client : ℕ) (o : Op) (fault : Fault) : Type 0 where
   pub old : ClientValue
   pub found : slice_get s.clients client ≡ Some old
-  pub refused : (m : ModelClient) (count : ℕ) → IsClient m count s.files old → submission m o ≡ Some fault
+  pub refused : (g : Known) (v : Shared) (m : ModelClient) (count : ℕ) → IsClient g v m count old → submission m o ≡ Some fault
   pub same : s' ≡ s
 
 abbrev pub Submits : ScheduleValue → ScheduleValue → ℕ → Op → Result (Unit {0}) Fault → Type 0

@@ -1,33 +1,39 @@
 -- What the call for one line of a script does.
-use Rattle.std.specs.Prelude.{◌≡◌, ℕ, ◌+◌, true, ◌||◌, List, ◌∷◌, ◌++◌, length, count_by, IfSome}
+use Rattle.std.specs.Prelude.{◌≡◌, ℕ, ◌+◌, true, ◌||◌, List, ◌∷◌, ◌++◌, length, count_by, IfSome, Option, Some}
 use Rattle.jv_model.specs.declared.act.Act.{Act}
+use Rattle.jv_model.specs.declared.fault.Device.{Device}
 use Rattle.jv_model.specs.declared.op.Line.{Line}
 use Rattle.jv_model.specs.journal.Past.{Past, begun_to, past, is_over}
 use Rattle.jv_model.specs.journal.Legal.{AllAllowed, may_stop}
 use Rattle.jv_model.specs.declared.row.RowKey.{RowKey}
 use Rattle.jv_outside.specs.Causes.{Rose, RoseTimes}
-use Rattle.jv_outside.specs.Store.{Store}
+use Rattle.jv_outside.specs.Ticks.{Ticks, Passes}
 use Rattle.jv_rows.specs.Transactions.{IsBad}
 use Rattle.jv_volume.specs.TypedRows.{typed}
-use Rattle.jv_client.specs.Makes.{is_failure_entry}
-use Rattle.jv_outside.specs.Ticks.{Ticks, Passes}
+use Rattle.jv_yard.specs.YardValue.{YardValue}
+use Rattle.jv_shared.specs.Shared.{Shared}
+use Rattle.jv_client.specs.Makes.{faults_of, is_failure_entry}
 use Rattle.jv_session.specs.declared.line_end.LineEnd.{LineEnd}
 use Rattle.jv_session.specs.declared.line_end.LineEnd.TheVariants.{Said, Quiet, ClockFailed, Broken, Memory}
-use Rattle.jv_session.specs.Stands.{ScheduleValue, Stands, InLine, ClockFor}
+use Rattle.jv_session.specs.Stands.{ScheduleValue, Stands, InLine, IsYardOf, ClockFor}
 
--- what the call for a line uses
+-- what the call for a line uses: the clock, the keeper and the carrier with the yard, the journal and the schedule
 pub record LineState : Type 0 where
   pub clock : Ticks
-  pub keeper : Store
+  pub devices : Shared
   pub journal : List Act
   pub schedule : ScheduleValue
 
-abbrev pub line_state : Ticks → Store → List Act → ScheduleValue → LineState
-line_state clock keeper journal schedule = record { clock = clock; keeper = keeper; journal = journal; schedule = schedule }
+abbrev pub line_state : Ticks → Shared → List Act → ScheduleValue → LineState
+line_state clock devices journal schedule = record { clock = clock; devices = devices; journal = journal; schedule = schedule }
 
--- how many entries answer that the keeper failed
-abbrev pub keeper_failures : List Act → ℕ
-keeper_failures = count_by (λ act. is_failure_entry act.kind)
+-- how many entries answer that the device failed
+abbrev pub device_failures : Device → List Act → ℕ
+device_failures device = count_by (λ act. is_failure_entry device act.kind)
+
+-- and that a device failed is answered so many times, by device
+abbrev pub AreFailures : List Act → (Device → ℕ) → Type 0
+AreFailures acts failed = (device : Device) → device_failures device acts ≡ failed device
 
 -- the entries of one line, which has this number, were appended and are allowed, and the clock was asked so often
 pub record Appends (p : Past) (more : List Line) (number asks : ℕ) (before after : List Act) (acts : List Act) (q : Past) : Type 0 where
@@ -42,38 +48,49 @@ pub record Appends (p : Past) (more : List Line) (number asks : ℕ) (before aft
   pub printed : q.printed ≡ p.printed ++ p.said
 
 -- the line is done and prints this
-pub record Ran (p : Past) (more : List Line) (number asks failed : ℕ) (before after : LineState) (text : List ℕ) : Type 0 where
-  pub acts : List Act
-  pub end : Past
-  pub appends : Appends p more number asks before.journal after.journal acts end
-  pub failures : keeper_failures acts ≡ failed
-  pub stands : Stands end after.schedule after.keeper
-  pub said : end.said ≡ text
+pub record Ran (p : Past) (more : List Line) (number asks : ℕ) (failed : Device → ℕ) (before after : LineState) (text : List ℕ) : Type 0
+  where
+    pub acts : List Act
+    pub end : Past
+    pub appends : Appends p more number asks before.journal after.journal acts end
+    pub failures : AreFailures acts failed
+    pub stands : Stands end after.schedule after.devices
+    pub said : end.said ≡ text
 
 -- the run stopped on the line, before a step or after its last one, and the schedule stands where it is then
-pub record Cut (p : Past) (more : List Line) (number asks failed : ℕ) (before after : LineState) : Type 0 where
+pub record Cut (p : Past) (more : List Line) (number asks : ℕ) (failed : Device → ℕ) (before after : LineState) : Type 0 where
   pub acts : List Act
   pub end : Past
   pub appends : Appends p more number asks before.journal after.journal acts end
-  pub failures : keeper_failures acts ≡ failed
-  pub stands : InLine end after.schedule after.keeper
+  pub failures : AreFailures acts failed
+  pub stands : InLine end after.schedule after.devices
   pub stops : (is_over end || may_stop end) ≡ true
 
 -- From wherever the schedule stands, when the clock tells still what the run's clock tells: what the line comes to.
 abbrev pub FromThere : Line → ℕ → LineState → LineState → (Past → List Line → Type 0) → Type 0
-FromThere line number before after Comes = (p : Past) (more : List Line) → Stands p before.schedule before.keeper → p.line + 1 ≡ number → p.rest ≡ line ∷ more
+FromThere line number before after Comes = (p : Past) (more : List Line) → Stands p before.schedule before.devices → p.line + 1 ≡ number → p.rest ≡ line ∷ more
     → p.state.count ≡ length before.journal → ClockFor p.run.clock p.asked before.clock.answers after.clock.answers → Comes p more
 
--- what a line does to clock and keeper, whatever these hold: how often the clock was asked, and how often the keeper failed
-pub record LineUses (before after : LineState) (asks failed : ℕ) : Type 0 where
+-- devices are open where they were, and the yard is one of the same volume
+pub record StaysOpen (before after : Shared) : Type 0 where
+  pub keeper_at : after.keeper.opened ≡ before.keeper.opened
+  pub carrier_at : after.carrier.opened ≡ before.carrier.opened
+  pub depot_at : after.yard.depot.opened ≡ before.yard.depot.opened
+  pub shelf_at : after.yard.shelf.opened ≡ before.yard.shelf.opened
+  pub setting : after.yard.setting ≡ before.yard.setting
+
+-- What a line does to clock and devices, whatever these hold: how often the clock was asked, and how often each device failed. The
+-- schedule may go on with the yard.
+pub record LineUses (before after : LineState) (asks : ℕ) (failed : Device → ℕ) : Type 0 where
   pub passes : Passes before.clock.answers after.clock.answers asks
-  pub opened_at : after.keeper.opened ≡ before.keeper.opened
-  pub counts : RoseTimes failed before.keeper.faults after.keeper.faults
+  pub stays : StaysOpen before.devices after.devices
+  pub counts : (device : Device) → RoseTimes (failed device) (faults_of device before.devices) (faults_of device after.devices)
+  pub yard : IsYardOf before.schedule before.devices.yard → IsYardOf after.schedule after.devices.yard
 
 -- the line was run
 pub record SaysLine (line : Line) (number : ℕ) (before after : LineState) (text : List ℕ) : Type 0 where
   pub asks : ℕ
-  pub failed : ℕ
+  pub failed : Device → ℕ
   pub uses : LineUses before after asks failed
   pub calm : after.clock.faults ≡ before.clock.faults
   pub runs : FromThere line number before after (λ p more. Ran p more number asks failed before after text)
@@ -81,23 +98,23 @@ pub record SaysLine (line : Line) (number : ℕ) (before after : LineState) (tex
 -- the line was cut off
 pub record CutsLine (line : Line) (number : ℕ) (before after : LineState) : Type 0 where
   pub asks : ℕ
-  pub failed : ℕ
+  pub failed : Device → ℕ
   pub uses : LineUses before after asks failed
   pub stops : FromThere line number before after (λ p more. Cut p more number asks failed before after)
 
 -- The line stopped at a row that is Bad, which none is where the schedule stands for a past.
 pub record BreaksAt (line : Line) (number : ℕ) (before after : LineState) (key : RowKey) (bytes : List ℕ) : Type 0 where
   pub asks : ℕ
-  pub failed : ℕ
+  pub failed : Device → ℕ
   pub uses : LineUses before after asks failed
   pub calm : after.clock.faults ≡ before.clock.faults
-  pub bad : IfSome after.keeper.rows (λ known. IsBad (typed known) key bytes)
+  pub bad : IfSome after.devices.keeper.rows (λ known. IsBad (typed known) key bytes)
   pub never : FromThere line number before after (λ p more. ⊥)
 
 -- nothing has changed, and the clock wasn't asked
 pub record LeavesAll (before after : LineState) : Type 0 where
   pub clock : after.clock ≡ before.clock
-  pub keeper : after.keeper ≡ before.keeper
+  pub devices : after.devices ≡ before.devices
   pub journal : after.journal ≡ before.journal
   pub schedule : after.schedule ≡ before.schedule
 
@@ -108,3 +125,11 @@ LineRuns line number before after Quiet = LeavesAll before after
 LineRuns line number before after ClockFailed = CutsLine line number before after × Rose before.clock.faults after.clock.faults
 LineRuns line number before after (Broken key bytes) = BreaksAt line number before after key bytes
 LineRuns line number before after Memory = CutsLine line number before after × (after.clock.faults ≡ before.clock.faults)
+
+-- a door has its yard before a call and after it, which the call took out
+pub record AtDoor (before after : Option YardValue) (Does : YardValue → YardValue → Type 0) : Type 0 where
+  pub taken : YardValue
+  pub taken_is : before ≡ Some taken
+  pub left : YardValue
+  pub left_is : after ≡ Some left
+  pub does : Does taken left

@@ -2,8 +2,10 @@
 ghost use Rattle.std.specs.Prelude.{◌≡◌, ◌≢◌, ℕ, ◌+◌, ◌<◌, ◌≤◌, ◌^◌, IsTrue, IsSome, IsSomeAnd, OnOk, OnErr, false, length, slice_get};
 ghost use Rattle.jv_model.specs.declared.op.Line.TheVariants as line;
 ghost use Rattle.jv_model.specs.declared.act.ActKind.TheVariants.{Crashed};
-ghost use Rattle.jv_outside.specs.Store.{Store};
-ghost use Rattle.jv_session.specs.Stands.{built_op_here, client_is_busy};
+ghost use Rattle.jv_shared.specs.Shared.{Shared};
+ghost use Rattle.jv_client.specs.Built.{is_built_op};
+ghost use Rattle.jv_client.specs.Shared.{shared};
+ghost use Rattle.jv_session.specs.Stands.{IsYardOf, client_is_busy};
 ghost use Rattle.jv_session.specs.Lines.{LineRuns, line_state};
 ghost use Rattle.jv_session.specs.InLine.{Crashes, IsRefused, LineGoes, LineSays, MakesStep, Moments, Notes, Passing, RunsToEnd, StepsOnce, Submits};
 
@@ -14,7 +16,8 @@ use jv_model::{
     Act, ActKind, Bytes, ClientId, Fault, Journal, LAST_MOMENT, Moment, NO_CLIENT, Op, Reply, Step,
     Told,
 };
-use jv_outside::{Clock, Keeper};
+use jv_outside::{Carrier, Clock, Depot, Keeper, Shelf};
+use jv_yard::{ObservedYard, Yard};
 use std::alloc::AllocError;
 
 /// Drops an operation, which has many forms: a proof of this function alone goes over them.
@@ -34,41 +37,49 @@ fn said(text: Result<Bytes, AllocError>) -> LineEnd
 
 impl Schedule {
     /// Submits an operation and runs it to its end.
-    pub(crate) fn run_whole<K: Keeper, C: Clock>(
+    pub(crate) fn run_whole<K: Keeper, D: Depot, H: Shelf, C: Clock>(
         &mut self,
         client: ClientId,
         op: Op,
         number: u32,
         k: &mut K,
+        yard: &mut Yard<D, H>,
+        carrier: &mut dyn Carrier,
         clock: &mut C,
         journal: &mut Journal,
     ) -> LineEnd
-        requires built { IsTrue (built_op_here self.old client op) }
-        ensures runs { LineRuns (line.Do client op) number
-            (line_state (C.seen clock.old) (K.seen k.old) journal.old.acts self.old)
-            (line_state (C.seen clock.new) (K.seen k.new) journal.new.acts self.new) result }
+        requires built { IsTrue (is_built_op self.old.limits op) }
+        requires yard { let seen = ⟦<Yard<D, H> as ObservedYard>⟧.seen in
+            IsYardOf self.old (seen yard.old) }
+        ensures runs { let seen = ⟦<Yard<D, H> as ObservedYard>⟧.seen in
+            let way = ⟦<dyn Carrier as Carrier>⟧ in LineRuns (line.Do client op) number
+            (line_state (C.seen clock.old)
+            (shared (K.seen k.old) (seen yard.old) ((way carrier.old.0).seen carrier.old.1))
+            journal.old.acts self.old)
+            (line_state (C.seen clock.new)
+            (shared (K.seen k.new) (seen yard.new) ((way carrier.new.0).seen carrier.new.1))
+            journal.new.acts self.new) result }
         ensures some { result ≢ LineEnd.Quiet }
     {
         match self.submit(client, op) {
-            Ok(()) => self.run_to_end(client, number, k, clock, journal),
+            Ok(()) => self.run_to_end(client, number, k, yard, carrier, clock, journal),
             Err(fault) => self.refuse(client, fault, number, clock, journal),
         }
     }
 
     /// Submits an operation.
-    pub(crate) fn begin<K: Keeper, C: Clock>(
+    pub(crate) fn begin<C: Clock>(
         &mut self,
         client: ClientId,
         op: Op,
         number: u32,
-        k: &mut K,
         clock: &mut C,
         journal: &mut Journal,
     ) -> LineEnd
-        requires built { IsTrue (built_op_here self.old client op) }
-        ensures runs { LineRuns (line.Begin client op) number
-            (line_state (C.seen clock.old) (K.seen k.old) journal.old.acts self.old)
-            (line_state (C.seen clock.new) (K.seen k.new) journal.new.acts self.new) result }
+        requires built { IsTrue (is_built_op self.old.limits op) }
+        ensures runs { (devices : Shared) → LineRuns (line.Begin client op) number
+            (line_state (C.seen clock.old) devices journal.old.acts self.old)
+            (line_state (C.seen clock.new) devices journal.new.acts self.new) result }
         ensures some { result ≢ LineEnd.Quiet }
     {
         match self.submit(client, op) {
@@ -79,7 +90,7 @@ impl Schedule {
 
     /// Begins an operation of a client, or refuses it.
     fn submit(&mut self, client: ClientId, op: Op) -> Result<(), Fault>
-        requires built { IsTrue (built_op_here self.old client op) }
+        requires built { IsTrue (is_built_op self.old.limits op) }
         ensures { Submits self.old self.new client op result }
     {
         match self.clients[client.number() as usize].submit(op) {
@@ -100,9 +111,9 @@ impl Schedule {
         clock: &mut C,
         journal: &mut Journal,
     ) -> LineEnd
-        ensures goes { (keeper : Store) → LineGoes (IsRefused client fault) number
-            (line_state (C.seen clock.old) keeper journal.old.acts self.old)
-            (line_state (C.seen clock.new) keeper journal.new.acts self.new) result }
+        ensures goes { (devices : Shared) → LineGoes (IsRefused client fault) number
+            (line_state (C.seen clock.old) devices journal.old.acts self.old)
+            (line_state (C.seen clock.new) devices journal.new.acts self.new) result }
     {
         let told = ActKind::Answered {
             told: Told::Refused(fault),
@@ -122,39 +133,57 @@ impl Schedule {
     }
 
     /// Makes one step of the client's operation.
-    pub(crate) fn step<K: Keeper, C: Clock>(
+    pub(crate) fn step<K: Keeper, D: Depot, H: Shelf, C: Clock>(
         &mut self,
         client: ClientId,
         number: u32,
         k: &mut K,
+        yard: &mut Yard<D, H>,
+        carrier: &mut dyn Carrier,
         clock: &mut C,
         journal: &mut Journal,
     ) -> LineEnd
-        ensures runs { LineRuns (line.Step client) number
-            (line_state (C.seen clock.old) (K.seen k.old) journal.old.acts self.old)
-            (line_state (C.seen clock.new) (K.seen k.new) journal.new.acts self.new) result }
+        requires yard { let seen = ⟦<Yard<D, H> as ObservedYard>⟧.seen in
+            IsYardOf self.old (seen yard.old) }
+        ensures runs { let seen = ⟦<Yard<D, H> as ObservedYard>⟧.seen in
+            let way = ⟦<dyn Carrier as Carrier>⟧ in LineRuns (line.Step client) number
+            (line_state (C.seen clock.old)
+            (shared (K.seen k.old) (seen yard.old) ((way carrier.old.0).seen carrier.old.1))
+            journal.old.acts self.old)
+            (line_state (C.seen clock.new)
+            (shared (K.seen k.new) (seen yard.new) ((way carrier.new.0).seen carrier.new.1))
+            journal.new.acts self.new) result }
         ensures some { result ≢ LineEnd.Quiet }
     {
         if !self.is_busy(client) {
             return said(text(self.alloc, b"idle\n"));
         }
-        self.step_once(client, number, k, clock, journal)
+        self.step_once(client, number, k, yard, carrier, clock, journal)
     }
 
-    fn step_once<K: Keeper, C: Clock>(
+    fn step_once<K: Keeper, D: Depot, H: Shelf, C: Clock>(
         &mut self,
         client: ClientId,
         number: u32,
         k: &mut K,
+        yard: &mut Yard<D, H>,
+        carrier: &mut dyn Carrier,
         clock: &mut C,
         journal: &mut Journal,
     ) -> LineEnd
         requires busy { IsTrue (client_is_busy self.old client) }
-        ensures goes { LineGoes (StepsOnce client) number
-            (line_state (C.seen clock.old) (K.seen k.old) journal.old.acts self.old)
-            (line_state (C.seen clock.new) (K.seen k.new) journal.new.acts self.new) result }
+        requires yard { let seen = ⟦<Yard<D, H> as ObservedYard>⟧.seen in
+            IsYardOf self.old (seen yard.old) }
+        ensures goes { let seen = ⟦<Yard<D, H> as ObservedYard>⟧.seen in
+            let way = ⟦<dyn Carrier as Carrier>⟧ in LineGoes (StepsOnce client) number
+            (line_state (C.seen clock.old)
+            (shared (K.seen k.old) (seen yard.old) ((way carrier.old.0).seen carrier.old.1))
+            journal.old.acts self.old)
+            (line_state (C.seen clock.new)
+            (shared (K.seen k.new) (seen yard.new) ((way carrier.new.0).seen carrier.new.1))
+            journal.new.acts self.new) result }
     {
-        match self.make_step(client, number, k, clock, journal) {
+        match self.make_step(client, number, k, yard, carrier, clock, journal) {
             Ok(Step::More) => said(text(self.alloc, b"more\n")),
             Ok(Step::Done(reply)) => said(self.print(&reply)),
             Ok(Step::Broken(key, bytes)) => LineEnd::Broken(key, bytes),
@@ -163,40 +192,58 @@ impl Schedule {
     }
 
     /// Runs the client's operation to its end.
-    pub(crate) fn run_on<K: Keeper, C: Clock>(
+    pub(crate) fn run_on<K: Keeper, D: Depot, H: Shelf, C: Clock>(
         &mut self,
         client: ClientId,
         number: u32,
         k: &mut K,
+        yard: &mut Yard<D, H>,
+        carrier: &mut dyn Carrier,
         clock: &mut C,
         journal: &mut Journal,
     ) -> LineEnd
-        ensures runs { LineRuns (line.Run client) number
-            (line_state (C.seen clock.old) (K.seen k.old) journal.old.acts self.old)
-            (line_state (C.seen clock.new) (K.seen k.new) journal.new.acts self.new) result }
+        requires yard { let seen = ⟦<Yard<D, H> as ObservedYard>⟧.seen in
+            IsYardOf self.old (seen yard.old) }
+        ensures runs { let seen = ⟦<Yard<D, H> as ObservedYard>⟧.seen in
+            let way = ⟦<dyn Carrier as Carrier>⟧ in LineRuns (line.Run client) number
+            (line_state (C.seen clock.old)
+            (shared (K.seen k.old) (seen yard.old) ((way carrier.old.0).seen carrier.old.1))
+            journal.old.acts self.old)
+            (line_state (C.seen clock.new)
+            (shared (K.seen k.new) (seen yard.new) ((way carrier.new.0).seen carrier.new.1))
+            journal.new.acts self.new) result }
         ensures some { result ≢ LineEnd.Quiet }
     {
         if !self.is_busy(client) {
             return said(text(self.alloc, b"idle\n"));
         }
-        self.run_to_end(client, number, k, clock, journal)
+        self.run_to_end(client, number, k, yard, carrier, clock, journal)
     }
 
-    fn run_to_end<K: Keeper, C: Clock>(
+    fn run_to_end<K: Keeper, D: Depot, H: Shelf, C: Clock>(
         &mut self,
         client: ClientId,
         number: u32,
         k: &mut K,
+        yard: &mut Yard<D, H>,
+        carrier: &mut dyn Carrier,
         clock: &mut C,
         journal: &mut Journal,
     ) -> LineEnd
         requires busy { IsTrue (client_is_busy self.old client) }
-        ensures goes { LineGoes (RunsToEnd client) number
-            (line_state (C.seen clock.old) (K.seen k.old) journal.old.acts self.old)
-            (line_state (C.seen clock.new) (K.seen k.new) journal.new.acts self.new) result }
+        requires yard { let seen = ⟦<Yard<D, H> as ObservedYard>⟧.seen in
+            IsYardOf self.old (seen yard.old) }
+        ensures goes { let seen = ⟦<Yard<D, H> as ObservedYard>⟧.seen in
+            let way = ⟦<dyn Carrier as Carrier>⟧ in LineGoes (RunsToEnd client) number
+            (line_state (C.seen clock.old)
+            (shared (K.seen k.old) (seen yard.old) ((way carrier.old.0).seen carrier.old.1))
+            journal.old.acts self.old)
+            (line_state (C.seen clock.new)
+            (shared (K.seen k.new) (seen yard.new) ((way carrier.new.0).seen carrier.new.1))
+            journal.new.acts self.new) result }
     {
         loop {
-            match self.make_step(client, number, k, clock, journal) {
+            match self.make_step(client, number, k, yard, carrier, clock, journal) {
                 Ok(Step::More) => {}
                 Ok(Step::Done(reply)) => return said(self.print(&reply)),
                 Ok(Step::Broken(key, bytes)) => return LineEnd::Broken(key, bytes),
@@ -205,26 +252,31 @@ impl Schedule {
         }
     }
 
-    /// Makes a step, at the moment that the clock answers. On error nothing has changed.
-    fn make_step<K: Keeper, C: Clock>(
+    /// Makes a step, at the moment that the clock answers, which the yard is told first. On error nothing has changed.
+    fn make_step<K: Keeper, D: Depot, H: Shelf, C: Clock>(
         &mut self,
         client: ClientId,
         number: u32,
         k: &mut K,
+        yard: &mut Yard<D, H>,
+        carrier: &mut dyn Carrier,
         clock: &mut C,
         journal: &mut Journal,
     ) -> Result<Step, Stopped>
         requires busy { IsTrue (client_is_busy self.old client) }
-        ensures steps { MakesStep self.old self.new number client (C.seen clock.old) (C.seen clock.new)
-            (K.seen k.old) (K.seen k.new) journal.old.acts journal.new.acts result }
+        requires yard { let seen = ⟦<Yard<D, H> as ObservedYard>⟧.seen in
+            IsYardOf self.old (seen yard.old) }
+        ensures steps { let seen = ⟦<Yard<D, H> as ObservedYard>⟧.seen in
+            let way = ⟦<dyn Carrier as Carrier>⟧ in
+            MakesStep self.old self.new number client (C.seen clock.old) (C.seen clock.new)
+            (shared (K.seen k.old) (seen yard.old) ((way carrier.old.0).seen carrier.old.1))
+            (shared (K.seen k.new) (seen yard.new) ((way carrier.new.0).seen carrier.new.1))
+            journal.old.acts journal.new.acts result }
     {
         let now = self.next_moment(0, 2, clock, journal)?;
+        yard.at(now);
         let step = self.clients[client.number() as usize].step(
-            k,
-            &mut self.files,
-            now,
-            number,
-            journal,
+            k, yard, carrier, now, number, journal,
         );
         self.at = now.seconds();
         Ok(step)
@@ -238,9 +290,9 @@ impl Schedule {
         clock: &mut C,
         journal: &mut Journal,
     ) -> LineEnd
-        ensures goes { (keeper : Store) → LineGoes (Crashes client) number
-            (line_state (C.seen clock.old) keeper journal.old.acts self.old)
-            (line_state (C.seen clock.new) keeper journal.new.acts self.new) result }
+        ensures goes { (devices : Shared) → LineGoes (Crashes client) number
+            (line_state (C.seen clock.old) devices journal.old.acts self.old)
+            (line_state (C.seen clock.new) devices journal.new.acts self.new) result }
     {
         match self.note(client.number(), ActKind::Crashed, 0, number, clock, journal) {
             Ok(_) => {
@@ -259,9 +311,9 @@ impl Schedule {
         clock: &mut C,
         journal: &mut Journal,
     ) -> LineEnd
-        ensures goes { (keeper : Store) → LineGoes (Passing by) number
-            (line_state (C.seen clock.old) keeper journal.old.acts self.old)
-            (line_state (C.seen clock.new) keeper journal.new.acts self.new) result }
+        ensures goes { (devices : Shared) → LineGoes (Passing by) number
+            (line_state (C.seen clock.old) devices journal.old.acts self.old)
+            (line_state (C.seen clock.new) devices journal.new.acts self.new) result }
     {
         match self.note(
             NO_CLIENT,

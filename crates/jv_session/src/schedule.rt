@@ -1,17 +1,19 @@
 //! A session of eight clients over one volume, line by line.
-ghost use Rattle.std.specs.Prelude.{◌≡◌, ◌↔◌, ℕ, ◌≤◌, IsTrue, IfOk};
+ghost use Rattle.std.specs.Prelude.{◌≡◌, ◌↔◌, ℕ, ◌≤◌, IsTrue, IsSomeAnd, IfOk};
 ghost use Rattle.jv_model.specs.declared.limits.TheConstants.{MAX_DATA};
 ghost use Rattle.jv_model.specs.declared.op.Line.TheVariants.{Empty};
 ghost use Rattle.jv_model.specs.script.ReplyText.{printed_line};
-ghost use Rattle.jv_session.specs.Stands.{ScheduleValue, built_here, fresh_schedule};
-ghost use Rattle.jv_session.specs.Lines.{LineRuns, line_state};
+ghost use Rattle.jv_client.specs.Built.{is_built_line};
+ghost use Rattle.jv_client.specs.Shared.{shared};
+ghost use Rattle.jv_session.specs.Stands.{ScheduleValue, IsYardOf, fresh_schedule};
+ghost use Rattle.jv_session.specs.Lines.{AtDoor, LineRuns, line_state};
 
 use crate::line_end::LineEnd;
 use jv_client::Client;
-use jv_files::Files;
 use jv_model::{Bytes, ClientId, Journal, Limits, Line, Reply, Setting};
-use jv_outside::{Clock, Keeper};
+use jv_outside::{Carrier, Clock, Depot, Keeper, Shelf};
 use jv_script::print_reply;
+use jv_yard::{Alone, ObservedYard, Yard, YardDoor};
 use std::alloc::{AllocError, Global};
 use std::marker::Model;
 
@@ -26,7 +28,6 @@ pub struct Schedule {
     pub(crate) ticks: u64,
     pub(crate) clients: [Client; 8],
     pub(crate) setting: Setting,
-    pub(crate) files: Files,
 }
 
 impl Model for Schedule {
@@ -40,14 +41,13 @@ impl Model for Schedule {
       ticks = s.ticks;
       clients = s.clients;
       setting = s.setting;
-      files = s.files;
     } };
 
     ghost invariant = { λ s. IsSchedule s.limits s.at s.ticks s.clients };
 }
 
 impl Schedule {
-    /// A session over a volume of this setting, of which no file has bytes. Takes no memory.
+    /// A session over a volume of this setting. Takes no memory.
     pub fn new(alloc: Global, setting: Setting, limits: Limits) -> Schedule
         requires { MAX_DATA ≤ limits.buffer }
         ensures { result ≡ fresh_schedule setting limits }
@@ -68,32 +68,74 @@ impl Schedule {
                 Client::new(alloc, ClientId(7), limits),
             ],
             setting,
-            files: Files::new(alloc),
         }
     }
 
-    /// Runs a line that is built, and whose number is one above that of the line before, over the rows of the keeper. Asks
-    /// the clock before each step, and not for a line that makes none.
-    pub fn line<K: Keeper, C: Clock>(
+    /// Runs a line that is built, and whose number is one above that of the line before, over the rows of the keeper and the
+    /// blocks of the door's yard, which is in. Asks the clock before each step, and not for a line that makes none.
+    pub fn line<K: Keeper, D: Depot, H: Shelf, C: Clock>(
         &mut self,
         line: Line,
         number: u32,
         k: &mut K,
+        door: &mut Alone<D, H>,
+        carrier: &mut dyn Carrier,
         clock: &mut C,
         journal: &mut Journal,
     ) -> LineEnd
-        requires built { IsTrue (built_here self.old line) }
-        ensures runs { LineRuns line number
-            (line_state (C.seen clock.old) (K.seen k.old) journal.old.acts self.old)
-            (line_state (C.seen clock.new) (K.seen k.new) journal.new.acts self.new) result }
+        requires built { IsTrue (is_built_line self.old.limits line) }
+        requires yard { let given = ⟦<Alone<D, H> as YardDoor<D, H>>⟧.given in
+            IsSomeAnd (given door.old) (IsYardOf self.old) }
+        ensures runs { let given = ⟦<Alone<D, H> as YardDoor<D, H>>⟧.given in
+            let way = ⟦<dyn Carrier as Carrier>⟧ in
+            AtDoor (given door.old) (given door.new) (λ taken left. LineRuns line number
+            (line_state (C.seen clock.old)
+            (shared (K.seen k.old) taken ((way carrier.old.0).seen carrier.old.1)) journal.old.acts self.old)
+            (line_state (C.seen clock.new)
+            (shared (K.seen k.new) left ((way carrier.new.0).seen carrier.new.1)) journal.new.acts self.new)
+            result) }
+        ensures yard { let given = ⟦<Alone<D, H> as YardDoor<D, H>>⟧.given in
+            IsSomeAnd (given door.new) (IsYardOf self.new) }
+        ensures quiet { (result ≡ LineEnd.Quiet) ↔ (line ≡ Empty) }
+    {
+        let mut yard = door.take();
+        let end = self.run_line(line, number, k, &mut yard, carrier, clock, journal);
+        door.give(yard);
+        end
+    }
+
+    /// Runs a line over a yard.
+    fn run_line<K: Keeper, D: Depot, H: Shelf, C: Clock>(
+        &mut self,
+        line: Line,
+        number: u32,
+        k: &mut K,
+        yard: &mut Yard<D, H>,
+        carrier: &mut dyn Carrier,
+        clock: &mut C,
+        journal: &mut Journal,
+    ) -> LineEnd
+        requires built { IsTrue (is_built_line self.old.limits line) }
+        requires yard { let seen = ⟦<Yard<D, H> as ObservedYard>⟧.seen in
+            IsYardOf self.old (seen yard.old) }
+        ensures runs { let seen = ⟦<Yard<D, H> as ObservedYard>⟧.seen in
+            let way = ⟦<dyn Carrier as Carrier>⟧ in LineRuns line number
+            (line_state (C.seen clock.old)
+            (shared (K.seen k.old) (seen yard.old) ((way carrier.old.0).seen carrier.old.1))
+            journal.old.acts self.old)
+            (line_state (C.seen clock.new)
+            (shared (K.seen k.new) (seen yard.new) ((way carrier.new.0).seen carrier.new.1))
+            journal.new.acts self.new) result }
         ensures quiet { (result ≡ LineEnd.Quiet) ↔ (line ≡ Empty) }
     {
         match line {
             Line::Empty => LineEnd::Quiet,
-            Line::Do(client, op) => self.run_whole(client, op, number, k, clock, journal),
-            Line::Begin(client, op) => self.begin(client, op, number, k, clock, journal),
-            Line::Step(client) => self.step(client, number, k, clock, journal),
-            Line::Run(client) => self.run_on(client, number, k, clock, journal),
+            Line::Do(client, op) => {
+                self.run_whole(client, op, number, k, yard, carrier, clock, journal)
+            }
+            Line::Begin(client, op) => self.begin(client, op, number, clock, journal),
+            Line::Step(client) => self.step(client, number, k, yard, carrier, clock, journal),
+            Line::Run(client) => self.run_on(client, number, k, yard, carrier, clock, journal),
             Line::Crash(client) => self.crash(client, number, clock, journal),
             Line::Tick(by) => self.tick(by, number, clock, journal),
             Line::Drain(_) => unreachable!(),
