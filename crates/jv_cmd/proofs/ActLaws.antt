@@ -71,10 +71,3 @@ up_to-none n high k (x ∷ xs) a p =
 pub up_to-front : (n k : ℕ) (journal acts : List Act) → k ≤ n → AreBetween (n + 1) (n + 1) acts → up_to k (journal ++ acts) ≡ up_to k journal
 up_to-front n k journal acts small own =
     filter-append (λ (act : Act). leb act.line k) journal acts ∙ ap (λ (rest : List Act). up_to k journal ++ rest) (up_to-none (n + 1) (n + 1) k acts (omega arith) own) ∙ append-nil (up_to k journal)
-
--- what holds of each line, and of one more
-pub each_push : (P : ℕ → Line → Type 0) (lines : List Line) (line : Line) → ((k : ℕ) → k < length lines → IfSome (slice_get lines k) (P k)) → P (length lines) line → (k : ℕ) → IfSome (slice_get (lines ++ line ∷ []) k) (P k)
-each_push P [] line old new zero = new
-each_push P [] line old new (suc k) = tt
-each_push P (x ∷ xs) line old new zero = old 0 (omega arith)
-each_push P (x ∷ xs) line old new (suc k) = each_push (λ k. P (suc k)) xs line (λ k below. old (suc k) (omega arith)) new k

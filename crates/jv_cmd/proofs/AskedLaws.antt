@@ -1,17 +1,19 @@
 -- What words ask for, by what `clap` makes of them.
-use Rattle.std.proofs.Common.{◌≡◌, ◌≢◌, Bool, true, false, IsTrue, [], ◌∷◌, List, Option, None, Some, Ok, Err, refl, ap, sym, subst, ◌∙◌, codes, bytes_eq}
-use Rattle.std.specs.Prelude.{if◌then◌else◌, IfSome, option_and_then, option_map}
+use Rattle.std.proofs.Common.{◌≡◌, ◌≢◌, ℕ, ◌≤◌, nat_le, Bool, true, false, IsTrue, [], ◌∷◌, List, Option, None, Some, Ok, Err, refl, ap, sym, subst, ◌∙◌, codes, bytes_eq}
+use Rattle.std.specs.Prelude.{◌&&◌, if◌then◌else◌, IfSome, option_and_then, option_map}
 use Rattle.jv_model.specs.declared.setting.Setting.{Setting}
 use Rattle.jv_model.specs.rows.RowGrammar.{is_setting}
-use Rattle.clap.specs.Words.{Row, Text, Kinds, fault_of, subcommand_of, subcommand_rows_of}
+use Rattle.clap.specs.Words.{Row, Text, Kinds, fault_of, first_of, subcommand_of, subcommand_rows_of}
 use Rattle.clap.specs.declared.parser.matches.ArgMatches.{ArgMatches}
 use Rattle.jv_cmd.specs.declared.words.request.Command.{Command}
 use Rattle.jv_cmd.specs.declared.words.request.Command.TheVariants.{Format, Session}
 use Rattle.jv_cmd.specs.declared.words.request.SessionOptions.{SessionOptions}
 use Rattle.jv_cmd.specs.declared.words.request.WordsFault.{WordsFault}
 use Rattle.jv_cmd.specs.declared.words.request.WordsFault.TheVariants.{Refused, Memory}
+use Rattle.std.proofs.lemmas.Bool.{leb-true}
+use Rattle.jv_cmd.specs.Bounds.{AreAllowed}
 use Rattle.jv_cmd.specs.Program.{program_app}
-use Rattle.jv_cmd.specs.Values.{place_of}
+use Rattle.jv_cmd.specs.Values.{number_of_digits, number_within, place_of, within}
 use Rattle.jv_cmd.specs.Words.{Answers, Parses, asked, command_at, command_in, read_by, format_in, session_in, options_in, setting_in, setting_fields_in, stored_setting_in, where_allowed, value_in, is_built_store, IsAllowedCommand, Refuses, HasFeed, SaysRefused}
 
 read_by_a_fault : (kinds : Kinds) (stop : Option (Text × List Row)) → kinds ≢ [] → read_by kinds stop ≡ None
@@ -74,13 +76,45 @@ format_allowed : (rows : List Row) → IfSome (format_in rows) IsAllowedCommand
 unfolding format_in
 format_allowed rows = all_then (value_in place_of (codes "url") rows) (λ place. option_map (Format place) (setting_in rows)) IsAllowedCommand (λ place. all_mapped (setting_in rows) (Format place) IsAllowedCommand (setting_allowed (is_built_store rows) rows))
 
+known_then : {A B : Type 0} (o : Option A) (f : A → Option B) (Q : A → Type 0) (P : B → Type 0) → IfSome o Q
+    → ((a : A) → Q a → IfSome (f a) P) → IfSome (option_and_then f o) P
+known_then None f Q P q h = tt
+known_then (Some a) f Q P q h = h a q
+
+-- a number that is read is in its range
+
+record InRange (least most n : ℕ) : Type 0 where
+  low : least ≤ n
+  high : n ≤ most
+
+within_range : (least most n : ℕ) (low high : Bool) → nat_le least n ≡ low → nat_le n most ≡ high
+    → IfSome (if low && high then Some n else None) (InRange least most)
+within_range least most n true true a b = record { low = leb-true least n a; high = leb-true n most b }
+within_range least most n true false a b = tt
+within_range least most n false high a b = tt
+
+number_in_range : (least most : ℕ) (text : List ℕ) → IfSome (number_within least most text) (InRange least most)
+unfolding number_within
+number_in_range least most text = all_then (number_of_digits text) (within least most) (InRange least most)
+    (λ n. within_range least most n (nat_le least n) (nat_le n most) refl refl)
+
+value_in_range : (least most : ℕ) (id : Text) (rows : List Row) → IfSome (value_in (number_within least most) id rows) (InRange least most)
+value_in_range least most id rows = all_then (first_of id rows) (number_within least most) (InRange least most) (number_in_range least most)
+
+options_allowed : (rows : List Row) → IfSome (options_in rows) AreAllowed
+unfolding options_in
+options_allowed rows =
+    known_then (value_in (number_within 0 256) (codes "cache-size") rows) _ (InRange 0 256) AreAllowed
+    (value_in_range 0 256 (codes "cache-size") rows) (λ cache small.
+    known_then (value_in (number_within 8 256) (codes "buffer-size") rows) _ (InRange 8 256) AreAllowed
+    (value_in_range 8 256 (codes "buffer-size") rows) (λ buffer range.
+    all_then (value_in (number_within 0 64) (codes "max-uploads") rows) _ AreAllowed (λ uploads.
+    all_then (first_of (codes "cache-dir") rows) _ AreAllowed (λ folder.
+    record { cache = small.high; least = range.low; most = range.high }))))
+
 session_allowed : (rows : List Row) → IfSome (session_in rows) IsAllowedCommand
 unfolding session_in
-session_allowed rows = all_then (value_in place_of (codes "url") rows) (λ place. option_map (Session place) (options_in rows)) IsAllowedCommand (λ place. all_mapped (options_in rows) (Session place) IsAllowedCommand (always (options_in rows)))
-  where
-    always : (o : Option SessionOptions) → IfSome o (λ _. Unit {0})
-    always None = tt
-    always (Some options) = tt
+session_allowed rows = all_then (value_in place_of (codes "url") rows) (λ place. option_map (Session place) (options_in rows)) IsAllowedCommand (λ place. all_mapped (options_in rows) (Session place) IsAllowedCommand (options_allowed rows))
 
 by_name : (is_format is_session : Bool) (rows : List Row) → IfSome (if is_format then format_in rows else (if is_session then session_in rows else None)) IsAllowedCommand
 by_name true is_session rows = format_allowed rows

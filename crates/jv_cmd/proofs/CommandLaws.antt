@@ -1,43 +1,59 @@
 -- What the top call comes to, by the function that ran the command.
 use Rattle.std.proofs.Common.{◌≡◌, ℕ, false, List, Option, None, Some, refl, ap, sym, subst, ◌∙◌}
 use Rattle.clap.specs.Words.{Text}
+use Rattle.jv_model.specs.declared.basics.Limits.{Limits}
+use Rattle.jv_model.specs.declared.fault.Device.{Device}
+use Rattle.jv_model.specs.declared.fault.Device.TheVariants.{Keeper, Depot, Shelf, Carrier}
 use Rattle.jv_model.specs.declared.fault.Down.{Down}
 use Rattle.jv_model.specs.declared.fault.Down.TheVariants.{Failed, Memory}
 use Rattle.jv_model.specs.declared.setting.Setting.{Setting}
+use Rattle.jv_outside.specs.Blocks.{StagedMap}
 use Rattle.jv_outside.specs.Causes.{RoseIf, RoseTimes}
+use Rattle.jv_outside.specs.Holding.{Holding}
+use Rattle.jv_outside.specs.Objects.{ObjectMap}
 use Rattle.jv_outside.specs.Store.{Store}
 use Rattle.jv_outside.specs.Stream.{Stream}
 use Rattle.jv_outside.specs.Ticks.{Ticks}
+use Rattle.jv_yard.specs.declared.faults.YardFault.{YardFault}
+use Rattle.jv_yard.specs.declared.faults.YardFault.TheVariants as yard
+use Rattle.jv_yard.specs.Starting.{IsStarted}
+use Rattle.jv_yard.specs.YardValue.{YardValue}
 use Rattle.jv_cmd.specs.declared.ended.Ended.{Ended}
 use Rattle.jv_cmd.specs.declared.ended.Ended.TheVariants.{Whole, OffLine, NoVolume, VolumeExists, NewerVersion, SettingOff, BadRow, SourceFailed, OutFailed, ClockFailed, KeeperFailed, DepotFailed, CarrierFailed, ShelfFailed, OutOfMemory}
 use Rattle.jv_cmd.specs.declared.words.request.Command.{Command}
 use Rattle.jv_cmd.specs.declared.words.request.Command.TheVariants.{Format, Session}
 use Rattle.jv_cmd.specs.declared.words.request.SessionOptions.{SessionOptions}
-use Rattle.jv_cmd.specs.Attaching.{CannotAttach, NoDepot, NoCarrier, NoShelf, ended_at}
-use Rattle.jv_cmd.specs.Commands.{RunsCommand, RunsNone, RunsSession, RunsVolume, LeavesLines, Stopped, Ran, NotOpened, NotAttached, Opened, Refused, NoMemory, RunsAsked}
+use Rattle.jv_cmd.specs.Attaching.{AreAttached, CannotAttach, CannotStart, NoDepot, NoCarrier, NoShelf, UsesBlocks, ended_at, ended_by_yard}
+use Rattle.jv_cmd.specs.Bounds.{limits_of}
+use Rattle.jv_cmd.specs.Commands.{Attached, RunsAttached, RunsCommand, RunsNone, RunsSession, RunsVolume, LeavesLines, Stopped, Ran, Unstarted, NotOpened, NotAttached, NotStarted, Opened, Refused, NoMemory, RunsAsked}
 use Rattle.jv_cmd.specs.Ends.{status_of, message_of}
-use Rattle.jv_cmd.specs.Faults.{CountsFaults, UsesKeeper, Unopened, OpenedThere, source_failed, out_failed, clock_failed}
+use Rattle.jv_cmd.specs.Faults.{CountsFaults, UsesKeeper, Unopened, OpenedThere, in_world, source_failed, out_failed, clock_failed}
 use Rattle.jv_cmd.specs.Formatting.{Formats}
 use Rattle.jv_cmd.specs.Opening.{IsKnown}
 use Rattle.jv_cmd.specs.Saying.{Says}
+use Rattle.jv_cmd.specs.Stages.{StageValue, staged, world_of}
 use Rattle.jv_cmd.specs.Steps.{EndsLines}
 use Rattle.jv_cmd.specs.Words.{IsRefusal}
 use Rattle.jv_cmd.specs.Worlds.{BlockDevices, WorldValue}
 
+-- no device failed at an operation
+abbrev none : Device → ℕ
+none device = 0
+
 pub RunsCommand-session : (command : Command) (place : List ℕ) (options : SessionOptions) (before after : WorldValue)
-    (ended : Ended) → command ≡ Session place options → RunsSession place options.cache_dir before after ended
-    → CountsFaults ended before after → RunsCommand command before after ended
+    (ended : Ended) → command ≡ Session place options → RunsSession place options before after ended
+    → CountsFaults ended (in_world before) (in_world after) → RunsCommand command before after ended
 RunsCommand-session command place options before after ended is runs faults =
     subst (λ (c : Command). RunsCommand c before after ended) (sym is)
     (record { answers = runs.answers; does = runs.ends; faults = faults; keeper = runs.keeper })
 
 pub RunsCommand-format : (command : Command) (place : List ℕ) (setting : Setting) (before after : WorldValue)
     (ended : Ended) → command ≡ Format place setting → Formats setting before after ended
-    → CountsFaults ended before after → UsesKeeper ended 0 place before.keeper after.keeper
+    → CountsFaults ended (in_world before) (in_world after) → UsesKeeper ended 0 place before.keeper after.keeper
     → RunsCommand command before after ended
 RunsCommand-format command place setting before after ended is formats faults keeper =
     subst (λ (c : Command). RunsCommand c before after ended) (sym is)
-    (record { answers = 0; does = (formats, refl); faults = faults; keeper = keeper })
+    (record { answers = none; does = (formats, λ device. refl); faults = faults; keeper = keeper })
 
 -- the words were a command
 pub RunsAsked-ran : (words : List Text) (asked : Option Command) (command : Command) (before after : WorldValue)
@@ -61,9 +77,9 @@ RunsAsked-refused words asked before err text none refusal says =
     (record { refuses = Refused text refusal refl says; others = refl })
 
 -- no line was run, and nothing else was used either
-none_run : (before : WorldValue) → RunsNone 0 before before
+none_run : (before : WorldValue) → RunsNone none before before
 none_run before = record {
-  none = refl;
+  none = λ device. refl;
   lines = record { source = refl; out = refl; clock = refl; journal = refl };
   rows = refl;
 }
@@ -76,8 +92,8 @@ unread words None before err says = record { refuses = NoMemory refl says; other
 unread words (Some (Format place setting)) before err says = record {
   ended = OutOfMemory;
   runs = record {
-    answers = 0;
-    does = (record { ends = (tt, refl, refl); source = refl; blocks = refl; journal = refl }, refl);
+    answers = none;
+    does = (record { ends = (tt, refl, refl); source = refl; blocks = refl; journal = refl }, λ device. refl);
     faults = record { source = refl; out = refl; clock = refl };
     keeper = record { opened = Unopened refl; faults = refl };
   };
@@ -87,7 +103,7 @@ unread words (Some (Format place setting)) before err says = record {
 unread words (Some (Session place options)) before err says = record {
   ended = OutOfMemory;
   runs = record {
-    answers = 0;
+    answers = none;
     does = NotOpened tt (none_run before) refl;
     faults = record { source = refl; out = refl; clock = refl };
     keeper = record { opened = Unopened refl; faults = refl };
@@ -104,32 +120,35 @@ RunsAsked-unread words asked before err status says result = subst
     (unread words asked before err says)
 
 -- the keeper was opened before the lines, and stays so
-module _ (before after : WorldValue) (place : List ℕ) (old : Store) (opened : before.keeper.opened ≡ Some place)
-    (calm : before.keeper.faults ≡ old.faults) where
-  rose : (ended : Ended) (e : EndsLines before after ended) → RoseTimes e.answers old.faults after.keeper.faults
-  rose ended e = subst (λ count. RoseTimes e.answers count after.keeper.faults) calm e.counts
+module _ (before after : StageValue) (place : List ℕ) (old : Store) (opened : before.devices.keeper.opened ≡ Some place)
+    (calm : before.devices.keeper.faults ≡ old.faults) where
+  rose : (ended : Ended) (e : EndsLines before after ended) → RoseTimes (e.answers Keeper) old.faults after.devices.keeper.faults
+  rose ended e = subst (λ count. RoseTimes (e.answers Keeper) count after.devices.keeper.faults) calm (e.counts Keeper)
+
+  place_after : (ended : Ended) → EndsLines before after ended → after.devices.keeper.opened ≡ Some place
+  place_after ended e = e.stays.keeper_at ∙ opened
 
   pub UsesKeeper-lines : (ended : Ended) (e : EndsLines before after ended)
-      → UsesKeeper ended e.answers place old after.keeper
-  UsesKeeper-lines Whole e = record { opened = e.opened_at ∙ opened; faults = rose Whole e }
-  UsesKeeper-lines (OffLine number) e = record { opened = e.opened_at ∙ opened; faults = rose (OffLine number) e }
+      → UsesKeeper ended (e.answers Keeper) place old after.devices.keeper
+  UsesKeeper-lines Whole e = record { opened = place_after Whole e; faults = rose Whole e }
+  UsesKeeper-lines (OffLine number) e = record { opened = place_after (OffLine number) e; faults = rose (OffLine number) e }
   UsesKeeper-lines NoVolume e = absurd e.runs.cause
   UsesKeeper-lines VolumeExists e = absurd e.runs.cause
   UsesKeeper-lines (NewerVersion version) e = absurd e.runs.cause
   UsesKeeper-lines SettingOff e = absurd e.runs.cause
-  UsesKeeper-lines (BadRow key bytes) e = record { opened = e.opened_at ∙ opened; faults = rose (BadRow key bytes) e }
-  UsesKeeper-lines SourceFailed e = record { opened = e.opened_at ∙ opened; faults = rose SourceFailed e }
-  UsesKeeper-lines OutFailed e = record { opened = e.opened_at ∙ opened; faults = rose OutFailed e }
-  UsesKeeper-lines ClockFailed e = record { opened = e.opened_at ∙ opened; faults = rose ClockFailed e }
+  UsesKeeper-lines (BadRow key bytes) e = record { opened = place_after (BadRow key bytes) e; faults = rose (BadRow key bytes) e }
+  UsesKeeper-lines SourceFailed e = record { opened = place_after SourceFailed e; faults = rose SourceFailed e }
+  UsesKeeper-lines OutFailed e = record { opened = place_after OutFailed e; faults = rose OutFailed e }
+  UsesKeeper-lines ClockFailed e = record { opened = place_after ClockFailed e; faults = rose ClockFailed e }
   UsesKeeper-lines KeeperFailed e = absurd e.runs.cause
   UsesKeeper-lines DepotFailed e = absurd e.runs.cause
   UsesKeeper-lines CarrierFailed e = absurd e.runs.cause
   UsesKeeper-lines ShelfFailed e = absurd e.runs.cause
-  UsesKeeper-lines OutOfMemory e = record { opened = OpenedThere (e.opened_at ∙ opened); faults = rose OutOfMemory e }
+  UsesKeeper-lines OutOfMemory e = record { opened = OpenedThere (place_after OutOfMemory e); faults = rose OutOfMemory e }
 
 -- no device that lines use has failed
 calm_lines : (ended : Ended) → source_failed ended ≡ false → out_failed ended ≡ false → clock_failed ended ≡ false
-    → (before after : WorldValue) → LeavesLines before after → CountsFaults ended before after
+    → (before after : WorldValue) → LeavesLines before after → CountsFaults ended (in_world before) (in_world after)
 calm_lines ended a b c before after l = record {
   source = subst (λ failed. RoseIf failed before.source.faults after.source.faults) (sym a)
       (ap (λ (stream : Stream). stream.faults) l.source);
@@ -141,7 +160,7 @@ calm_lines ended a b c before after l = record {
 
 -- how a session ends at a device for blocks, which is opened after the keeper
 record IsLate (ended : Ended) : Type 0 where
-  calm : (before after : WorldValue) → LeavesLines before after → CountsFaults ended before after
+  calm : (before after : WorldValue) → LeavesLines before after → CountsFaults ended (in_world before) (in_world after)
   keeper : (place : List ℕ) (before after : Store) → UsesKeeper Whole 0 place before after
       → UsesKeeper ended 0 place before after
 
@@ -183,35 +202,85 @@ late_ended bucket folder before after ended (NoCarrier down is depot carrier she
 late_ended bucket folder before after ended (NoShelf down is depot carrier shelf) =
     late_at ShelfFailed late_shelf down ended is
 
+late_fault : (fault : YardFault) → IsLate (ended_by_yard fault)
+late_fault yard.Depot = late_depot
+late_fault yard.Shelf = late_shelf
+late_fault yard.Memory = late_memory
+
+late_started : (before after : BlockDevices) (ended : Ended) → CannotStart before after ended → IsLate ended
+late_started before after ended cannot = subst IsLate (sym cannot.ended_is) (late_fault cannot.fault)
+
+-- what the lines did with the devices for blocks, which were in the yard
+UsesBlocks-lines : (setting : Setting) (limits : Limits) (before : WorldValue) (yard : YardValue) (left : StageValue) (ended : Ended)
+    → IsStarted setting before.blocks.depot before.blocks.shelf yard → (e : EndsLines (staged limits yard before) left ended)
+    → UsesBlocks e.answers before.blocks (world_of before.err left).blocks
+UsesBlocks-lines setting limits before yard left ended started e = record {
+  depot_at = e.stays.depot_at ∙ ap (λ (d : Holding ObjectMap). d.opened) started.depot_same;
+  shelf_at = e.stays.shelf_at ∙ ap (λ (h : Holding StagedMap). h.opened) started.shelf_same;
+  carrier_at = e.stays.carrier_at;
+  depot = subst (λ (d : Holding ObjectMap). RoseTimes (e.answers Depot) d.faults left.devices.yard.depot.faults) started.depot_same (e.counts Depot);
+  shelf = subst (λ (h : Holding StagedMap). RoseTimes (e.answers Shelf) h.faults left.devices.yard.shelf.faults) started.shelf_same (e.counts Shelf);
+  carrier = e.counts Carrier;
+}
+
 -- a session after the keeper was opened and the setting read
-module _ (place folder : List ℕ) (before after : WorldValue) (opened : Store) (setting : Setting) (ended : Ended)
+module _ (place : List ℕ) (options : SessionOptions) (before after : WorldValue) (opened : Store) (setting : Setting) (ended : Ended)
     (known : IsKnown before.keeper.rows setting) (rows : opened.rows ≡ before.keeper.rows)
     (keeper : UsesKeeper Whole 0 place before.keeper opened) where
-  pub RunsSession-volume : RunsVolume setting folder (record before { keeper = opened }) after ended
-      → RunsSession place folder before after ended
-  RunsSession-volume (Stopped cannot leaves same) =
-      let late = late_ended setting.bucket folder before.blocks after.blocks ended cannot in
-      record {
-        answers = 0;
-        ends = NotAttached setting known (record {
-          none = refl;
-          lines = record { source = leaves.source; out = leaves.out; clock = leaves.clock; journal = leaves.journal };
-          rows = ap (λ (store : Store). store.rows) same ∙ rows;
-        }) cannot;
-        keeper = subst (λ store. UsesKeeper ended 0 place before.keeper store) (sym same)
-            (late.keeper place before.keeper opened keeper);
-      }
-  RunsSession-volume (Ran attached are e same) = record {
-    answers = e.answers;
-    ends = Opened setting opened attached known rows are e.runs same;
-    keeper = UsesKeeper-lines (record before { keeper = opened; blocks = attached }) after place before.keeper
-        keeper.opened keeper.faults ended e;
+  none_ran : LeavesLines (record before { keeper = opened }) after → after.keeper ≡ opened → RunsNone none before after
+  none_ran leaves same = record {
+    none = λ device. refl;
+    lines = record { source = leaves.source; out = leaves.out; clock = leaves.clock; journal = leaves.journal };
+    rows = ap (λ (store : Store). store.rows) same ∙ rows;
   }
 
-  pub CountsFaults-volume : RunsVolume setting folder (record before { keeper = opened }) after ended
-      → CountsFaults ended before after
-  CountsFaults-volume (Stopped cannot leaves same) =
-      (late_ended setting.bucket folder before.blocks after.blocks ended cannot).calm before after
+  keeper_late : IsLate ended → after.keeper ≡ opened → UsesKeeper ended 0 place before.keeper after.keeper
+  keeper_late late same =
+      subst (λ store. UsesKeeper ended 0 place before.keeper store) (sym same) (late.keeper place before.keeper opened keeper)
+
+  session_attached : (attached : BlockDevices) → AreAttached setting.bucket options.cache_dir before.blocks attached
+      → RunsAttached options setting (record before { keeper = opened; blocks = attached }) after ended
+      → RunsSession place options before after ended
+  session_attached attached are (Unstarted cannot leaves same) = record {
+    answers = none;
+    ends = NotStarted setting attached known (none_ran
+        (record { source = leaves.source; out = leaves.out; clock = leaves.clock; journal = leaves.journal }) same) are cannot;
+    keeper = keeper_late (late_started attached after.blocks ended cannot) same;
+  }
+  session_attached attached are (Ran yard left started e is) =
+      let world = record before { keeper = opened; blocks = attached } in
+      let limits = limits_of options setting.block in
+      record {
+        answers = e.answers;
+        ends = Opened setting opened attached yard left known rows are started e.runs
+            (subst (λ (w : WorldValue). UsesBlocks e.answers attached w.blocks) (sym is)
+            (UsesBlocks-lines setting limits world yard left ended started e)) is;
+        keeper = subst (λ (w : WorldValue). UsesKeeper ended (e.answers Keeper) place before.keeper w.keeper) (sym is)
+            (UsesKeeper-lines (staged limits yard world) left place before.keeper keeper.opened keeper.faults ended e);
+      }
+
+  pub RunsSession-volume : RunsVolume options setting (record before { keeper = opened }) after ended
+      → RunsSession place options before after ended
+  RunsSession-volume (Stopped cannot leaves same) = record {
+    answers = none;
+    ends = NotAttached setting known (none_ran leaves same) cannot;
+    keeper = keeper_late (late_ended setting.bucket options.cache_dir before.blocks after.blocks ended cannot) same;
+  }
+  RunsSession-volume (Attached attached are ran) = session_attached attached are ran
+
+  faults_attached : (attached : BlockDevices)
+      → RunsAttached options setting (record before { keeper = opened; blocks = attached }) after ended
+      → CountsFaults ended (in_world before) (in_world after)
+  faults_attached attached (Unstarted cannot leaves same) =
+      (late_started attached after.blocks ended cannot).calm before after
       (record { source = leaves.source; out = leaves.out; clock = leaves.clock; journal = leaves.journal })
-  CountsFaults-volume (Ran attached are e same) =
-      record { source = e.faults.source; out = e.faults.out; clock = e.faults.clock }
+  faults_attached attached (Ran yard left started e is) =
+      subst (λ (w : WorldValue). CountsFaults ended (in_world before) (in_world w)) (sym is)
+      (record { source = e.faults.source; out = e.faults.out; clock = e.faults.clock })
+
+  pub CountsFaults-volume : RunsVolume options setting (record before { keeper = opened }) after ended
+      → CountsFaults ended (in_world before) (in_world after)
+  CountsFaults-volume (Stopped cannot leaves same) =
+      (late_ended setting.bucket options.cache_dir before.blocks after.blocks ended cannot).calm before after
+      (record { source = leaves.source; out = leaves.out; clock = leaves.clock; journal = leaves.journal })
+  CountsFaults-volume (Attached attached are ran) = faults_attached attached ran

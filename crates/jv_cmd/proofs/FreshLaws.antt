@@ -1,112 +1,89 @@
 -- Where a run starts.
-use Rattle.std.proofs.Common.{◌≡◌, ℕ, zero, suc, ◌==◌, nat_lt, Bool, true, false, cond, List, [], Option, None, Some, ok_or, IfSome, slice_get, refl, sym, ap, subst, ◌∙◌, arith}
-use Rattle.std.specs.Option.{option_map}
+use Rattle.std.proofs.Common.{◌≡◌, ◌≢◌, ℕ, zero, suc, ◌+◌, ◌<◌, ◌≤◌, List, Option, None, Some, IfSome, slice_get, refl, sym, ap, subst, ◌∙◌, arith}
 use Rattle.jv_model.specs.declared.op.Line.{Line}
-use Rattle.jv_model.specs.declared.row.Node.{Node as NodeRow}
-use Rattle.jv_model.specs.declared.row.Row.TheVariants.{OfSetting}
+use Rattle.jv_model.specs.declared.basics.Limits.{Limits}
 use Rattle.jv_model.specs.declared.setting.Setting.{Setting}
-use Rattle.jv_model.specs.FiniteMap.{get}
-use Rattle.jv_model.specs.rows.RowGrammar.{row_of}
 use Rattle.jv_model.specs.rows.RowKeys.{RowMap}
-use Rattle.jv_model.specs.rows.RowPlaces.{setting_key}
-use Rattle.jv_model.specs.tree.Tree.{Content, File, Directory, Symlink, content_of, content_at}
 use Rattle.jv_model.specs.journal.Past.{at_start}
 use Rattle.jv_model.specs.journal.State.{state_at_start}
-use Rattle.jv_outside.specs.Store.{Store}
-use Rattle.jv_volume.specs.TypedRows.{Rows, cell_of, typed}
-use Rattle.jv_volume.specs.Views.{row_in, setting_in, node_row_at}
-use Rattle.jv_volume.specs.TreeOf.{content_of as stored_content, node_of, or_no_setting, tree_of}
-use Rattle.jv_volume.specs.Whole.{no_bytes}
-use Rattle.jv_volume.proofs.TreeOfLaws.{node_at-tree_of}
-use Rattle.jv_volume.proofs.TypedLaws.{get-typed}
-use Rattle.jv_files.specs.Holds.{Keeps}
-use Rattle.jv_client.specs.ClientValue.{fresh_client}
-use Rattle.jv_client.specs.Shared.{HasStore, shared}
-use Rattle.jv_session.specs.Stands.{IsClientAt, Stands, fresh_schedule}
-use Rattle.jv_cmd.specs.Opening.{IsKnown, SettingRow, Spells}
-use Rattle.jv_cmd.specs.Run.{StartsWhole, session_limits, session_run}
+use Rattle.jv_model.specs.tree.Tree.{Tree}
+use Rattle.jv_outside.specs.Objects.{ObjectMap}
+use Rattle.jv_volume.specs.TypedRows.{typed}
+use Rattle.jv_contents.specs.Blocks.{told_by}
+use Rattle.jv_contents.specs.Bytes.{tree_with}
+use Rattle.jv_contents.proofs.BlockLaws.{tree-grows}
+use Rattle.jv_yard.specs.Contents.{blocks_in}
+use Rattle.jv_shared.specs.Fresh.{IsFresh}
+use Rattle.jv_shared.specs.Shared.{HasStore, Known, Shared, rows_in, typed_in}
+use Rattle.jv_shared.proofs.FreshLaws.{fresh_store}
+use Rattle.jv_shared.proofs.RowStepLaws.{setting_stored}
+use Rattle.jv_shared.proofs.SettingLaws.{setting_length}
+use Rattle.jv_requests.specs.Request.{IsWithin}
+use Rattle.jv_client.specs.ClientValue.{ClientValue, fresh_client}
+use Rattle.jv_client.specs.Held.{in_flight}
+use Rattle.jv_session.specs.Stands.{AreApart, IsClientAt, IsState, Stands, fresh_schedule}
+use Rattle.jv_cmd.specs.Run.{Beginning, StartsWhole, session_run, start_of}
+use Rattle.jv_cmd.specs.Stages.{StageValue}
 
--- the setting is the one that the row spells
+some_same : {A : Type 0} (a b : A) → Some a ≡ Some b → a ≡ b
+some_same a b e = cc
 
-setting_spelled : (stored : Option (List ℕ)) (setting : Setting) → Spells setting stored
-    → or_no_setting (setting_in (row_in (option_map (cell_of setting_key) stored))) ≡ setting
-unfolding row_of
-setting_spelled None setting h = absurd h
-setting_spelled (Some bytes) setting h = ap (λ o. or_no_setting
-    (setting_in (row_in (Some (ok_or (option_map OfSetting o) bytes))))) h
+-- The depot's blocks tell what all blocks tell that are known.
+told_same : (v : Shared) (fresh : IsFresh v) (g : Known) (t : Tree) → HasStore t g v
+    → HasStore (tree_with (told_by v.yard.setting.block (blocks_in v.yard.setting fresh.objects)) (typed fresh.rows)) g v
+told_same v fresh g t store =
+    let rows : store.rows ≡ fresh.rows = some_same _ _ (sym store.rows_are ∙ fresh.rows_are) in
+    let objects : store.objects ≡ fresh.objects = some_same _ _ (sym store.objects_are ∙ fresh.objects_are) in
+    let long = setting_length store.rows v.yard.setting store.setting in
+    let some : 0 < v.yard.setting.block = (let least = long.least in omega (arith, least)) in
+    let by_depot : t ≡ tree_with (told_by v.yard.setting.block (blocks_in v.yard.setting store.objects)) (typed store.rows) =
+    store.tree ∙ tree-grows (typed store.rows) store.whole.slices v.yard.setting.block (blocks_in v.yard.setting store.objects) g.blocks
+    some store.there store.copies in
+    subst (λ (m : ObjectMap). HasStore (tree_with (told_by v.yard.setting.block (blocks_in v.yard.setting m)) (typed fresh.rows)) g v) objects
+    (subst (λ (m : RowMap). HasStore (tree_with (told_by v.yard.setting.block (blocks_in v.yard.setting store.objects)) (typed m)) g v) rows
+    (subst (λ (tree : Tree). HasStore tree g v) by_depot store))
 
-setting_start : (start : RowMap) (setting : Setting) → Spells setting (get start setting_key)
-    → (tree_of no_bytes (typed start)).setting ≡ setting
-unfolding tree_of
-setting_start start setting h =
-    ap (λ cell. or_no_setting (setting_in (row_in cell))) (get-typed start setting_key)
-    ∙ setting_spelled (get start setting_key) setting h
+module _ (start : Beginning) (before : StageValue) (w : StartsWhole before start) where
+  abbrev v : Shared
+  v = before.devices
 
--- no file has a byte but 0
+  abbrev first : Tree
+  first = (start_of start).tree
 
-byte_in : Option Content → ℕ → ℕ
-byte_in None position = 0
-byte_in (Some content) position = content.byte position
+  same_rows : w.fresh.rows ≡ start.rows
+  same_rows = some_same _ _ (sym w.fresh.rows_are ∙ w.known)
 
-either_way : (b : Bool) (n : ℕ) → cond b n n ≡ n
-either_way true n = refl
-either_way false n = refl
+  same_objects : w.fresh.objects ≡ start.objects
+  same_objects = some_same _ _ (sym w.fresh.objects_are ∙ w.objects)
 
-zero_of_kind : (is_file is_directory : Bool) (length parent mode uid gid mtime ctime : ℕ) (target : List ℕ)
-    (content : Content)
-    → content_of (Some (record {
-      kind = cond is_file (File (stored_content length (λ position. 0)))
-          (cond is_directory (Directory parent) (Symlink target));
-      mode = mode;
-      uid = uid;
-      gid = gid;
-      mtime = mtime;
-      ctime = ctime;
-    })) ≡ Some content
-    → (position : ℕ) → content.byte position ≡ 0
-unfolding byte_in
-zero_of_kind true is_directory length parent mode uid gid mtime ctime target content is position =
-    ap (λ (o : Option Content). byte_in o position) (sym is) ∙ either_way (nat_lt position length) 0
-zero_of_kind false true length parent mode uid gid mtime ctime target content is position = cc
-zero_of_kind false false length parent mode uid gid mtime ctime target content is position = cc
+  abbrev known_first : Known
+  known_first = (fresh_store v w.fresh).0
 
-zero_of_row : (row : Option NodeRow) (content : Content)
-    → content_of (option_map (node_of (λ position. 0)) row) ≡ Some content → (position : ℕ) → content.byte position ≡ 0
-zero_of_row None content is position = cc
-zero_of_row (Some row) content is position =
-    zero_of_kind (row.kind == 1) (row.kind == 2) row.length row.parent row.mode row.uid row.gid row.mtime row.ctime
-    row.target content is position
+  HasStore-start : HasStore first known_first v
+  HasStore-start =
+      subst (λ (s : Setting). HasStore (tree_with (told_by s.block (blocks_in s start.objects)) (typed start.rows)) known_first v) (sym w.setting)
+      (subst (λ (m : ObjectMap). HasStore (tree_with (told_by v.yard.setting.block (blocks_in v.yard.setting m)) (typed start.rows)) known_first v) same_objects
+      (subst (λ (m : RowMap). HasStore (tree_with (told_by v.yard.setting.block (blocks_in v.yard.setting w.fresh.objects)) (typed m)) known_first v) same_rows
+      (told_same v w.fresh known_first _ (fresh_store v w.fresh).1)))
 
-zero_at : (rows : Rows) (inode : ℕ) (content : Content) → content_at (tree_of no_bytes rows) inode ≡ Some content
-    → (position : ℕ) → content.byte position ≡ 0
-zero_at rows inode content is = zero_of_row (node_row_at rows inode) content
-    (ap content_of (sym (node_at-tree_of no_bytes rows inode)) ∙ is)
+  setting_first : first.setting ≡ v.yard.setting
+  setting_first =
+      let store = HasStore-start in
+      ap (λ (t : Tree). t.setting) store.tree
+      ∙ some_same _ _ (sym (setting_stored (told_by v.yard.setting.block known_first.blocks) (typed store.rows) store.whole) ∙ store.setting)
 
-Keeps-start : (rows : Rows) (inode : ℕ) (content : Content) → content_at (tree_of no_bytes rows) inode ≡ Some content
-    → Keeps [] content
-Keeps-start rows inode content is = record {
-  bytes = zero_at rows inode content is;
-  past = λ position beyond.
-      zero_at rows inode content is position;
-}
+  rows_first : rows_in v ≡ typed start.rows
+  rows_first = ap typed_in w.known
 
-HasStore-start : (start : RowMap) (keeper : Store) → StartsWhole keeper.rows start
-    → HasStore (tree_of no_bytes (typed start)) (shared [] keeper)
-HasStore-start start keeper w = record {
-  known = start;
-  is = w.known;
-  whole = w.whole;
-  bytes = no_bytes;
-  tree = refl;
-  stored = Keeps-start (typed start);
-  fresh = λ inode above. refl;
-}
+  within_first : IsWithin (start_of start) (state_at_start first) (rows_in v)
+  within_first = subst (λ rows. IsWithin (start_of start) (state_at_start first) rows) (sym rows_first)
+      (record { numbers = omega arith; records = omega arith })
 
 -- no client is mounted
 
-IsClientAt-start : (start : RowMap) (keeper : Store) (id k : ℕ)
-    → IsClientAt (state_at_start (tree_of no_bytes (typed start))) (shared [] keeper) k (fresh_client id session_limits)
-IsClientAt-start start keeper id k = record {
+IsClientAt-start : (g : Known) (t : Tree) (v : Shared) (limits : Limits) (id k : ℕ)
+    → IsClientAt g (state_at_start t) v k (fresh_client id limits)
+IsClientAt-start g t v limits id k = record {
   is_client = record {
     held = record {
       session = refl;
@@ -117,38 +94,52 @@ IsClientAt-start start keeper id k = record {
       pending = refl;
     };
     doing = tt;
+    flight = tt;
+    reading = tt;
+    cache = tt;
   };
   holds = record { opened = λ inode is. cc; pending = tt };
 }
 
-clients_are : (start : RowMap) (keeper : Store) (setting : Setting) (k : ℕ)
-    → IfSome (slice_get (fresh_schedule setting session_limits).clients k)
-    (IsClientAt (state_at_start (tree_of no_bytes (typed start))) (shared [] keeper) k)
-clients_are start keeper setting zero = IsClientAt-start start keeper 0 0
-clients_are start keeper setting (suc zero) = IsClientAt-start start keeper 1 1
-clients_are start keeper setting (suc (suc zero)) = IsClientAt-start start keeper 2 2
-clients_are start keeper setting (suc (suc (suc zero))) = IsClientAt-start start keeper 3 3
-clients_are start keeper setting (suc (suc (suc (suc zero)))) = IsClientAt-start start keeper 4 4
-clients_are start keeper setting (suc (suc (suc (suc (suc zero))))) = IsClientAt-start start keeper 5 5
-clients_are start keeper setting (suc (suc (suc (suc (suc (suc zero)))))) = IsClientAt-start start keeper 6 6
-clients_are start keeper setting (suc (suc (suc (suc (suc (suc (suc zero))))))) = IsClientAt-start start keeper 7 7
-clients_are start keeper setting (suc (suc (suc (suc (suc (suc (suc (suc k)))))))) = tt
+-- what holds of each fresh client holds of those of a fresh schedule
+each_fresh : (setting : Setting) (limits : Limits) (P : ℕ → ClientValue → Type 0) → ((id k : ℕ) → P k (fresh_client id limits)) → (k : ℕ)
+    → IfSome (slice_get (fresh_schedule setting limits).clients k) (P k)
+each_fresh setting limits P all zero = all 0 0
+each_fresh setting limits P all (suc zero) = all 1 1
+each_fresh setting limits P all (suc (suc zero)) = all 2 2
+each_fresh setting limits P all (suc (suc (suc zero))) = all 3 3
+each_fresh setting limits P all (suc (suc (suc (suc zero)))) = all 4 4
+each_fresh setting limits P all (suc (suc (suc (suc (suc zero))))) = all 5 5
+each_fresh setting limits P all (suc (suc (suc (suc (suc (suc zero)))))) = all 6 6
+each_fresh setting limits P all (suc (suc (suc (suc (suc (suc (suc zero))))))) = all 7 7
+each_fresh setting limits P all (suc (suc (suc (suc (suc (suc (suc (suc k)))))))) = tt
 
--- the schedule of the setting that was read stands where a run over whole rows starts
-pub Stands-start : (start : RowMap) (keeper : Store) (setting : Setting) (known : Option (ℕ → ℕ)) (lines : List Line)
-    (status : ℕ) → StartsWhole keeper.rows start → IsKnown keeper.rows setting
-    → Stands (at_start (session_run start known lines status)) (fresh_schedule setting session_limits) keeper
-Stands-start start keeper setting known lines status w is = record {
+-- none has a slice in flight
+apart_first : (setting : Setting) (limits : Limits) → AreApart (fresh_schedule setting limits).clients
+apart_first setting limits j k c other apart first second some =
+    let none : in_flight c ≡ 0 = subst (λ (o : Option ClientValue). IfSome o (λ (x : ClientValue). in_flight x ≡ 0)) first
+    (each_fresh setting limits (λ n x. in_flight x ≡ 0) (λ id n. refl) j) in
+    absurd (omega (arith, some, none))
+
+-- the schedule of the setting that was read stands where a run over a whole volume starts
+pub Stands-start : (start : Beginning) (before : StageValue) (setting : Setting) (known : Option (ℕ → ℕ)) (lines : List Line)
+    (status : ℕ) → StartsWhole before start → before.devices.yard.setting ≡ setting
+    → Stands (at_start (session_run start known lines status)) (fresh_schedule setting before.limits) before.devices
+Stands-start start before setting known lines status w is = record {
   complete = refl;
   over = refl;
   at = refl;
   last = omega arith;
   ticks = refl;
   alone = λ entry. refl;
-  limits = refl;
-  setting = setting_start start setting (subst (λ rows. SettingRow rows (Spells setting)) w.known is.stored);
+  limits = w.limits;
+  setting = setting_first start before w ∙ is;
+  known = known_first start before w;
   state = record {
-    has_store = HasStore-start start keeper w;
-    clients_are = clients_are start keeper setting;
+    has_store = HasStore-start start before w;
+    within = within_first start before w;
+    clients_are = each_fresh setting before.limits (IsClientAt (known_first start before w) (state_at_start (start_of start).tree) before.devices)
+        (IsClientAt-start (known_first start before w) (start_of start).tree before.devices before.limits);
+    apart = apart_first setting before.limits;
   };
 }

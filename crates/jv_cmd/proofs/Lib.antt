@@ -6,6 +6,10 @@ pub mod StepLaws
 pub mod FreshLaws
 pub mod FormattedLaws
 pub mod ActLaws
+pub mod ReadingLaws
+pub mod EntryLaws
+pub mod DoneLaws
+pub mod EndLaws
 pub mod GoingLaws
 pub mod SayingLaws
 mod CommandLaws

@@ -8,14 +8,15 @@ use Rattle.jv_model.specs.declared.op.Line.TheVariants.{Empty}
 use Rattle.jv_model.specs.journal.Legal.{Legal, AllAllowed, may_be_cut, may_stop}
 use Rattle.jv_model.specs.journal.Past.{Past, Setup, NoMore, is_over, at_start, begun, turned, begin_from, begin_next, begun_by, begun_to, past, reached, at_end, text_of}
 use Rattle.jv_laws.proofs.JournalGrowthLaws.{begun_to-twice, begun_to-next, past-append, AllAllowed-append, past-begun_to, AllAllowed-begun_to}
-use Rattle.jv_client.specs.Shared.{HasStore, shared}
-use Rattle.jv_outside.specs.Store.{Store}
+use Rattle.jv_model.specs.declared.fault.Device.{Device}
+use Rattle.jv_shared.specs.Shared.{Shared}
 use Rattle.jv_outside.specs.Ticks.{Ticks, Passes}
 use Rattle.jv_outside.proofs.TicksLaws.{Passes-zero}
 use Rattle.jv_session.specs.Lines.{LineState, LeavesAll, SaysLine, Cut}
-use Rattle.jv_session.specs.Stands.{ScheduleValue, Stands}
+use Rattle.jv_client.specs.Makes.{faults_of}
+use Rattle.jv_session.specs.Stands.{InLine, IsYardOf, ScheduleValue, Stands}
 use Rattle.jv_cmd.specs.Steps.{IsAt, Reaches, Goes, Advances, used}
-use Rattle.jv_cmd.specs.Worlds.{WorldValue}
+use Rattle.jv_cmd.specs.Stages.{StageValue}
 
 -- a past that comes to a line wasn't past it
 pub low : (n : ℕ) (p : Past) → (begun_to n p).line ≡ n → p.line ≤ n
@@ -49,8 +50,8 @@ joined n p journal (act ∷ acts) e before allowed =
     )
 
 -- one line more
-pub Reaches-more : (run : Setup) (line : Line) (more : List Line) (n asked asks failed : ℕ) (text printed : List ℕ)
-    (journal journal' : List Act) (s s' : ScheduleValue) (k k' : Store)
+pub Reaches-more : (run : Setup) (line : Line) (more : List Line) (n asked asks : ℕ) (failed : Device → ℕ)
+    (text printed : List ℕ) (journal journal' : List Act) (s s' : ScheduleValue) (k k' : Shared)
     → Reaches run (line ∷ more) n asked text journal s k
     → Goes (begun_to n (reached run journal)) more (n + 1) asks failed journal journal' printed s' k'
     → Reaches run more (n + 1) (asked + asks) (text ++ printed) journal' s' k'
@@ -73,7 +74,7 @@ Reaches-more run line more n asked asks failed text printed journal journal' s s
     }
 
 -- a line that was run
-pub Advances-said : (line : Line) (number : ℕ) (before after : WorldValue) (s s' : ScheduleValue) (text : List ℕ)
+pub Advances-said : (line : Line) (number : ℕ) (before after : StageValue) (s s' : ScheduleValue) (text : List ℕ)
     → SaysLine line number (used before s) (used after s') text → Advances line number before after s s' text
 Advances-said line number before after s s' text says = record {
   asks = says.asks;
@@ -88,7 +89,7 @@ Advances-said line number before after s s' text says = record {
         allowed = a.allowed;
         failures = ran.failures;
         at = subst (λ q. IsAt q p.run more number (p.asked + says.asks) (length after.journal)
-            (p.printed ++ p.said ++ text) s' after.keeper) (sym a.reaches) (record {
+            (p.printed ++ p.said ++ text) s' after.devices) (sym a.reaches) (record {
               line = a.line;
               stands = ran.stands;
               same_run = a.same_run;
@@ -101,7 +102,7 @@ Advances-said line number before after s s' text says = record {
 }
 
 -- where nothing more is due of the present line, the schedule stands too
-pub Stands-settled : (p : Past) (s : ScheduleValue) (k : Store) → Stands p s k → Stands (record p { due = NoMore }) s k
+pub Stands-settled : (p : Past) (s : ScheduleValue) (k : Shared) → Stands p s k → Stands (record p { due = NoMore }) s k
 Stands-settled p s k st = record {
   complete = st.complete;
   over = refl;
@@ -111,11 +112,12 @@ Stands-settled p s k st = record {
   alone = st.alone;
   limits = st.limits;
   setting = st.setting;
+  known = st.known;
   state = st.state;
 }
 
 -- an empty line does nothing
-Stands-turned : (p : Past) (more : List Line) (s : ScheduleValue) (k : Store) → Stands p s k
+Stands-turned : (p : Past) (more : List Line) (s : ScheduleValue) (k : Shared) → Stands p s k
     → Stands (begun (turned p more) Empty) s k
 Stands-turned p more s k st = record {
   complete = and_from p.complete (is_over p) st.complete st.over;
@@ -126,6 +128,7 @@ Stands-turned p more s k st = record {
   alone = st.alone;
   limits = st.limits;
   setting = st.setting;
+  known = st.known;
   state = st.state;
 }
 
@@ -133,16 +136,25 @@ next_is : (p : Past) (more : List Line) → p.rest ≡ Empty ∷ more → begin_
 unfolding begin_next
 next_is p more e = ap (λ rest. begin_from rest p) e
 
-pub Advances-quiet : (line : Line) (number : ℕ) (before after : WorldValue) (s s' : ScheduleValue)
+pub Advances-quiet : (line : Line) (number : ℕ) (before after : StageValue) (s s' : ScheduleValue)
     → line ≡ Empty → LeavesAll (used before s) (used after s') → Advances line number before after s s' []
 Advances-quiet line number before after s s' empty leaves = record {
   asks = 0;
-  failed = 0;
+  failed = λ device. 0;
   uses = record {
     passes = subst (λ (later : Ticks). Passes before.clock.answers later.answers 0) (sym leaves.clock)
         (Passes-zero before.clock.answers);
-    opened_at = ap (λ (k : Store). k.opened) leaves.keeper;
-    counts = ap (λ (k : Store). k.faults) leaves.keeper;
+    stays = record {
+      keeper_at = ap (λ (v : Shared). v.keeper.opened) leaves.devices;
+      carrier_at = ap (λ (v : Shared). v.carrier.opened) leaves.devices;
+      depot_at = ap (λ (v : Shared). v.yard.depot.opened) leaves.devices;
+      shelf_at = ap (λ (v : Shared). v.yard.shelf.opened) leaves.devices;
+      setting = ap (λ (v : Shared). v.yard.setting) leaves.devices;
+    };
+    limits = ap (λ (v : ScheduleValue). v.limits) leaves.schedule;
+    counts = λ device. ap (faults_of device) leaves.devices;
+    yard = λ fits. subst (λ (v : Shared). IsYardOf s' v.yard) (sym leaves.devices)
+        (subst (λ (v : ScheduleValue). IsYardOf v before.devices.yard) (sym leaves.schedule) fits);
   };
   goes = λ p more stands next rest count clock.
       let is : begun (turned p more) Empty ≡ begun_to number p =
@@ -151,13 +163,13 @@ Advances-quiet line number before after s s' empty leaves = record {
         acts = [];
         grows = leaves.journal ∙ sym (append-nil before.journal);
         allowed = tt;
-        failures = refl;
+        failures = λ device. refl;
         at = subst (λ q. IsAt q p.run more number (p.asked + 0) (length after.journal)
-            (p.printed ++ p.said ++ []) s' after.keeper) is (record {
+            (p.printed ++ p.said ++ []) s' after.devices) is (record {
               line = next;
-              stands = subst (λ v. Stands (begun (turned p more) Empty) v after.keeper) (sym leaves.schedule)
-                  (subst (λ k. Stands (begun (turned p more) Empty) s k) (sym leaves.keeper)
-                  (Stands-turned p more s before.keeper stands));
+              stands = subst (λ v. Stands (begun (turned p more) Empty) v after.devices) (sym leaves.schedule)
+                  (subst (λ k. Stands (begun (turned p more) Empty) s k) (sym leaves.devices)
+                  (Stands-turned p more s before.devices stands));
               same_run = refl;
               rest = refl;
               count = count ∙ ap length (sym leaves.journal);
@@ -168,13 +180,13 @@ Advances-quiet line number before after s s' empty leaves = record {
 }
 
 -- the end of a run all of whose lines were run
-at_the_end : (run : Setup) (n asked : ℕ) (text : List ℕ) (journal : List Act) (s : ScheduleValue) (k : Store)
+at_the_end : (run : Setup) (n asked : ℕ) (text : List ℕ) (journal : List Act) (s : ScheduleValue) (k : Shared)
     → length run.script ≡ n → Reaches run [] n asked text journal s k
     → IsAt (at_end run journal) run [] n asked (length journal) text s k
 at_the_end run n asked text journal s k size r = subst
     (λ m. IsAt (begun_to m (reached run journal)) run [] n asked (length journal) text s k) (sym size) r.at
 
-pub Legal-reached : (run : Setup) (n asked : ℕ) (text : List ℕ) (journal : List Act) (s : ScheduleValue) (k : Store)
+pub Legal-reached : (run : Setup) (n asked : ℕ) (text : List ℕ) (journal : List Act) (s : ScheduleValue) (k : Shared)
     → length run.script ≡ n → Reaches run [] n asked text journal s k → Legal run journal
 Legal-reached run n asked text journal s k size r =
     let end = at_the_end run n asked text journal s k size r in
@@ -186,17 +198,17 @@ Legal-reached run n asked text journal s k size r =
           end.stands.over);
     }
 
-pub text_of-reached : (run : Setup) (n asked : ℕ) (text : List ℕ) (journal : List Act) (s : ScheduleValue) (k : Store)
+pub text_of-reached : (run : Setup) (n asked : ℕ) (text : List ℕ) (journal : List Act) (s : ScheduleValue) (k : Shared)
     → length run.script ≡ n → Reaches run [] n asked text journal s k → text_of run journal ≡ text
 text_of-reached run n asked text journal s k size r = (at_the_end run n asked text journal s k size r).text
 
-pub Stands-reached : (run : Setup) (n asked : ℕ) (text : List ℕ) (journal : List Act) (s : ScheduleValue) (k : Store)
+pub Stands-reached : (run : Setup) (n asked : ℕ) (text : List ℕ) (journal : List Act) (s : ScheduleValue) (k : Shared)
     → length run.script ≡ n → Reaches run [] n asked text journal s k → Stands (at_end run journal) s k
 Stands-reached run n asked text journal s k size r = (at_the_end run n asked text journal s k size r).stands
 
 -- the end of a run whose last line was cut off
-module _ (run : Setup) (line : Line) (n asked asks failed : ℕ) (text : List ℕ) (now later : LineState)
-    (size : length run.script ≡ n + 1) (r : Reaches run (line ∷ []) n asked text now.journal now.schedule now.keeper)
+module _ (run : Setup) (line : Line) (n asked asks : ℕ) (failed : Device → ℕ) (text : List ℕ) (now later : LineState)
+    (size : length run.script ≡ n + 1) (r : Reaches run (line ∷ []) n asked text now.journal now.schedule now.devices)
     (c : Cut (begun_to n (reached run now.journal)) [] (n + 1) asks failed now later) where
   both : AllAllowed (at_start run) (now.journal ++ c.acts) ×
       (begun_to (n + 1) (past (begun_to n (reached run now.journal)) c.acts) ≡ begun_to (n + 1)
@@ -218,6 +230,5 @@ module _ (run : Setup) (line : Line) (n asked asks failed : ℕ) (text : List �
   pub printed-cut : (at_end run later.journal).printed ≡ text
   printed-cut = ap (λ (q : Past). q.printed) (sym cut_end) ∙ c.appends.printed ∙ r.at.text
 
-  pub HasStore-cut : HasStore (at_end run later.journal).state.tree (shared later.schedule.files later.keeper)
-  HasStore-cut = subst (λ (q : Past). HasStore q.state.tree (shared later.schedule.files later.keeper)) cut_end
-      c.stands.state.has_store
+  pub InLine-cut : InLine (at_end run later.journal) later.schedule later.devices
+  InLine-cut = subst (λ (q : Past). InLine q later.schedule later.devices) cut_end c.stands

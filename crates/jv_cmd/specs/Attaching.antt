@@ -1,9 +1,15 @@
--- Where a session opens the devices for blocks, and in which order.
+-- Where a session opens the devices for blocks and in which order, and how its yard is started over them.
 use Rattle.std.specs.Prelude.{◌≡◌, ℕ, List, Result, Ok, Err}
+use Rattle.jv_model.specs.declared.fault.Device.{Device}
+use Rattle.jv_model.specs.declared.fault.Device.TheVariants as device
 use Rattle.jv_model.specs.declared.fault.Down.{Down}
 use Rattle.jv_model.specs.declared.fault.Down.TheVariants.{Failed, Memory}
 use Rattle.jv_outside.specs.Carriage.{Moves}
+use Rattle.jv_outside.specs.Causes.{RoseTimes}
 use Rattle.jv_outside.specs.Holding.{Attaches}
+use Rattle.jv_yard.specs.declared.faults.YardFault.{YardFault}
+use Rattle.jv_yard.specs.declared.faults.YardFault.TheVariants as fault
+use Rattle.jv_yard.specs.Starting.{ShelfRefuses}
 use Rattle.jv_cmd.specs.declared.ended.Ended.{Ended}
 use Rattle.jv_cmd.specs.declared.ended.Ended.TheVariants.{DepotFailed, CarrierFailed, ShelfFailed, OutOfMemory}
 use Rattle.jv_cmd.specs.Worlds.{BlockDevices}
@@ -34,3 +40,26 @@ pub data CannotAttach (bucket folder : List ℕ) (before after : BlockDevices) (
 abbrev pub AttachesAll : List ℕ → List ℕ → BlockDevices → BlockDevices → Result (Unit {0}) Ended → Type 0
 AttachesAll bucket folder before after (Ok unit) = AreAttached bucket folder before after
 AttachesAll bucket folder before after (Err ended) = CannotAttach bucket folder before after ended
+
+-- how a command ends where the yard isn't started
+abbrev pub ended_by_yard : YardFault → Ended
+ended_by_yard fault.Depot = DepotFailed
+ended_by_yard fault.Shelf = ShelfFailed
+ended_by_yard fault.Memory = OutOfMemory
+
+-- The blocks on the shelf weren't read, and depot and carrier are as they were.
+pub record CannotStart (before after : BlockDevices) (ended : Ended) : Type 0 where
+  pub fault : YardFault
+  pub ended_is : ended ≡ ended_by_yard fault
+  pub shelf : ShelfRefuses before.shelf after.shelf fault
+  pub depot : after.depot ≡ before.depot
+  pub carrier : after.carrier ≡ before.carrier
+
+-- They are open where they were, and so often each of them failed.
+pub record UsesBlocks (answers : Device → ℕ) (before after : BlockDevices) : Type 0 where
+  pub depot_at : after.depot.opened ≡ before.depot.opened
+  pub shelf_at : after.shelf.opened ≡ before.shelf.opened
+  pub carrier_at : after.carrier.opened ≡ before.carrier.opened
+  pub depot : RoseTimes (answers device.Depot) before.depot.faults after.depot.faults
+  pub shelf : RoseTimes (answers device.Shelf) before.shelf.faults after.shelf.faults
+  pub carrier : RoseTimes (answers device.Carrier) before.carrier.faults after.carrier.faults

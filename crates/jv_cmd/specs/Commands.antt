@@ -1,19 +1,26 @@
 -- What the top call does, by the words that it was given.
 use Rattle.std.specs.Prelude.{◌≡◌, ℕ, List, Option, None, Some}
 use Rattle.clap.specs.Words.{Text}
+use Rattle.jv_model.specs.declared.fault.Device.{Device}
+use Rattle.jv_model.specs.declared.fault.Device.TheVariants.{Keeper}
 use Rattle.jv_model.specs.declared.setting.Setting.{Setting}
 use Rattle.jv_outside.specs.Store.{Store}
+use Rattle.jv_yard.specs.Starting.{IsStarted}
+use Rattle.jv_yard.specs.YardValue.{YardValue}
 use Rattle.jv_cmd.specs.declared.ended.Ended.{Ended}
 use Rattle.jv_cmd.specs.declared.ended.Ended.TheVariants.{OutOfMemory}
 use Rattle.jv_cmd.specs.declared.words.request.Command.{Command}
 use Rattle.jv_cmd.specs.declared.words.request.Command.TheVariants.{Format, Session}
-use Rattle.jv_cmd.specs.Attaching.{AreAttached, CannotAttach}
+use Rattle.jv_cmd.specs.declared.words.request.SessionOptions.{SessionOptions}
+use Rattle.jv_cmd.specs.Attaching.{AreAttached, CannotAttach, CannotStart, UsesBlocks}
+use Rattle.jv_cmd.specs.Bounds.{limits_of}
 use Rattle.jv_cmd.specs.Ends.{status_of, message_of}
-use Rattle.jv_cmd.specs.Faults.{CountsFaults, UsesKeeper}
+use Rattle.jv_cmd.specs.Faults.{CountsFaults, UsesKeeper, in_world}
 use Rattle.jv_cmd.specs.Formatting.{Formats}
 use Rattle.jv_cmd.specs.Opening.{CannotOpen, IsKnown}
 use Rattle.jv_cmd.specs.Run.{RunsLines}
 use Rattle.jv_cmd.specs.Saying.{Says}
+use Rattle.jv_cmd.specs.Stages.{StageValue, staged, world_of}
 use Rattle.jv_cmd.specs.Steps.{EndsLines}
 use Rattle.jv_cmd.specs.Words.{asked, IsRefusal}
 use Rattle.jv_cmd.specs.Worlds.{BlockDevices, WorldValue, emptied}
@@ -26,54 +33,68 @@ pub record LeavesLines (before after : WorldValue) : Type 0 where
   pub journal : after.journal ≡ before.journal
 
 -- no line was run, and the rows are the same
-pub record RunsNone (answers : ℕ) (before after : WorldValue) : Type 0 where
-  pub none : answers ≡ 0
+pub record RunsNone (answers : Device → ℕ) (before after : WorldValue) : Type 0 where
+  pub none : (device : Device) → answers device ≡ 0
   pub lines : LeavesLines before after
   pub rows : after.keeper.rows ≡ before.keeper.rows
 
--- A session, whose staged blocks lie in this folder: there is no volume to run on, and no device for blocks is
--- opened; or one of them isn't opened for the volume of that setting; or the lines run on that volume, once they and the
--- keeper are opened. So many operations were answered that the keeper failed.
-pub data SessionEnds (folder : List ℕ) (answers : ℕ) (before after : WorldValue) (ended : Ended) : Type 0 where
+-- A session with these options: there is no volume to run on, and no device for blocks is opened; or one of them isn't opened for the
+-- volume of that setting; or the shelf's blocks couldn't be read; or the lines run on that volume, with depot and shelf in a yard, which
+-- are back where they were in the end. So often each device failed, and an operation was answered so.
+pub data SessionEnds (options : SessionOptions) (answers : Device → ℕ) (before after : WorldValue) (ended : Ended) : Type 0 where
   NotOpened : CannotOpen before.keeper.rows ended → RunsNone answers before after → after.blocks ≡ before.blocks
-      → SessionEnds folder answers before after ended
+      → SessionEnds options answers before after ended
   NotAttached : (setting : Setting) → IsKnown before.keeper.rows setting → RunsNone answers before after
-      → CannotAttach setting.bucket folder before.blocks after.blocks ended
-      → SessionEnds folder answers before after ended
-  Opened : (setting : Setting) (opened : Store) (attached : BlockDevices) → IsKnown before.keeper.rows setting
-      → opened.rows ≡ before.keeper.rows → AreAttached setting.bucket folder before.blocks attached
-      → RunsLines answers (record before { keeper = opened; blocks = attached }) after ended → after.blocks ≡ attached
-      → SessionEnds folder answers before after ended
+      → CannotAttach setting.bucket options.cache_dir before.blocks after.blocks ended
+      → SessionEnds options answers before after ended
+  NotStarted : (setting : Setting) (attached : BlockDevices) → IsKnown before.keeper.rows setting → RunsNone answers before after
+      → AreAttached setting.bucket options.cache_dir before.blocks attached → CannotStart attached after.blocks ended
+      → SessionEnds options answers before after ended
+  Opened : (setting : Setting) (opened : Store) (attached : BlockDevices) (yard : YardValue) (left : StageValue)
+      → IsKnown before.keeper.rows setting → opened.rows ≡ before.keeper.rows
+      → AreAttached setting.bucket options.cache_dir before.blocks attached
+      → IsStarted setting attached.depot attached.shelf yard
+      → RunsLines answers (staged (limits_of options setting.block) yard (record before { keeper = opened; blocks = attached }))
+          left ended
+      → UsesBlocks answers attached after.blocks → after ≡ world_of before.err left → SessionEnds options answers before after ended
 
-abbrev pub Does : Command → ℕ → WorldValue → WorldValue → Ended → Type 0
-Does (Format place setting) answers before after ended = Formats setting before after ended × (answers ≡ 0)
-Does (Session place options) answers before after ended = SessionEnds options.cache_dir answers before after ended
+abbrev pub Does : Command → (Device → ℕ) → WorldValue → WorldValue → Ended → Type 0
+Does (Format place setting) answers before after ended = Formats setting before after ended × ((device : Device) → answers device ≡ 0)
+Does (Session place options) answers before after ended = SessionEnds options answers before after ended
 
 abbrev pub place_of : Command → List ℕ
 place_of (Format place setting) = place
 place_of (Session place options) = place
 
--- A session over the volume of a setting, where the keeper is opened: a device for blocks isn't opened, and no line was
--- run; or the lines ran, and used no such device.
-pub data RunsVolume (setting : Setting) (folder : List ℕ) (before after : WorldValue) (ended : Ended) : Type 0 where
-  Stopped : CannotAttach setting.bucket folder before.blocks after.blocks ended → LeavesLines before after
-      → after.keeper ≡ before.keeper → RunsVolume setting folder before after ended
-  Ran : (attached : BlockDevices) → AreAttached setting.bucket folder before.blocks attached
-      → EndsLines (record before { blocks = attached }) after ended → after.blocks ≡ attached
-      → RunsVolume setting folder before after ended
+-- A session over the volume of a setting, for which depot, carrier and shelf are opened: the shelf's blocks couldn't be read, and no
+-- line was run; or the lines ran.
+pub data RunsAttached (options : SessionOptions) (setting : Setting) (before after : WorldValue) (ended : Ended) : Type 0 where
+  Unstarted : CannotStart before.blocks after.blocks ended → LeavesLines before after → after.keeper ≡ before.keeper
+      → RunsAttached options setting before after ended
+  Ran : (yard : YardValue) (left : StageValue) → IsStarted setting before.blocks.depot before.blocks.shelf yard
+      → EndsLines (staged (limits_of options setting.block) yard before) left ended → after ≡ world_of before.err left
+      → RunsAttached options setting before after ended
 
--- a session at a place, with its blocks in a folder: how it ended, and what it did with the keeper
-pub record RunsSession (place folder : List ℕ) (before after : WorldValue) (ended : Ended) : Type 0 where
-  pub answers : ℕ
-  pub ends : SessionEnds folder answers before after ended
-  pub keeper : UsesKeeper ended answers place before.keeper after.keeper
+-- the same before they are, where the keeper is opened: one of them isn't opened, or all are
+pub data RunsVolume (options : SessionOptions) (setting : Setting) (before after : WorldValue) (ended : Ended) : Type 0 where
+  Stopped : CannotAttach setting.bucket options.cache_dir before.blocks after.blocks ended → LeavesLines before after
+      → after.keeper ≡ before.keeper → RunsVolume options setting before after ended
+  Attached : (attached : BlockDevices) → AreAttached setting.bucket options.cache_dir before.blocks attached
+      → RunsAttached options setting (record before { blocks = attached }) after ended
+      → RunsVolume options setting before after ended
+
+-- a session at a place: how it ended, and what it did with the keeper
+pub record RunsSession (place : List ℕ) (options : SessionOptions) (before after : WorldValue) (ended : Ended) : Type 0 where
+  pub answers : Device → ℕ
+  pub ends : SessionEnds options answers before after ended
+  pub keeper : UsesKeeper ended (answers Keeper) place before.keeper after.keeper
 
 -- a command: what it did, which device failed, and where the keeper is opened
 pub record RunsCommand (command : Command) (before after : WorldValue) (ended : Ended) : Type 0 where
-  pub answers : ℕ
+  pub answers : Device → ℕ
   pub does : Does command answers before after ended
-  pub faults : CountsFaults ended before after
-  pub keeper : UsesKeeper ended answers (place_of command) before.keeper after.keeper
+  pub faults : CountsFaults ended (in_world before) (in_world after)
+  pub keeper : UsesKeeper ended (answers Keeper) (place_of command) before.keeper after.keeper
 
 -- how the command ended: what it did apart from standard error, its status, and its text there
 pub record EndsCommand (command : Command) (before after : WorldValue) (status : ℕ) : Type 0 where

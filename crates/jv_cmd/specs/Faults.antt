@@ -4,6 +4,7 @@ use Rattle.jv_outside.specs.Causes.{RoseIf, RoseTimes}
 use Rattle.jv_outside.specs.Store.{Store}
 use Rattle.jv_cmd.specs.declared.ended.Ended.{Ended}
 use Rattle.jv_cmd.specs.declared.ended.Ended.TheVariants.{Whole, SourceFailed, OutFailed, ClockFailed, KeeperFailed, OutOfMemory}
+use Rattle.jv_cmd.specs.Stages.{StageValue}
 use Rattle.jv_cmd.specs.Worlds.{WorldValue}
 
 abbrev pub source_failed : Ended → Bool
@@ -22,11 +23,23 @@ abbrev pub keeper_failed : Ended → Bool
 keeper_failed KeeperFailed = true
 keeper_failed _ = false
 
--- of the devices that a script's lines use
-pub record CountsFaults (ended : Ended) (before after : WorldValue) : Type 0 where
-  pub source : RoseIf (source_failed ended) before.source.faults after.source.faults
-  pub out : RoseIf (out_failed ended) before.out.faults after.out.faults
-  pub clock : RoseIf (clock_failed ended) before.clock.faults after.clock.faults
+-- the counts of faults of the streams and of the clock
+pub record Counts : Type 0 where
+  pub source : ℕ
+  pub out : ℕ
+  pub clock : ℕ
+
+abbrev pub in_world : WorldValue → Counts
+in_world world = record { source = world.source.faults; out = world.out.faults; clock = world.clock.faults }
+
+abbrev pub on_stage : StageValue → Counts
+on_stage stage = record { source = stage.source.faults; out = stage.out.faults; clock = stage.clock.faults }
+
+-- the one that ended the command rose, and no other
+pub record CountsFaults (ended : Ended) (before after : Counts) : Type 0 where
+  pub source : RoseIf (source_failed ended) before.source after.source
+  pub out : RoseIf (out_failed ended) before.out after.out
+  pub clock : RoseIf (clock_failed ended) before.clock after.clock
 
 -- the keeper was opened at a place, or it failed or memory ran out before
 pub data MayOpen (place : List ℕ) (before after : Option (List ℕ)) : Type 0 where

@@ -3,9 +3,11 @@ pub mod Texts
 pub mod Cutting
 pub mod Values
 pub mod Program
+pub mod Bounds
 pub mod Words
 pub mod Ends
 pub mod Worlds
+pub mod Stages
 pub mod Faults
 pub mod Saying
 pub mod Run

@@ -73,4 +73,5 @@ pub record OpensVolume (place : List ℕ) (before after : Store) (result : Resul
   pub rows_are : after.rows ≡ before.rows
   pub keeper : UsesKeeper (ended_by result) 0 place before after
   pub ok : IfOk result (IsKnown before.rows)
+  pub allowed : IfOk result (λ setting. IsTrue (is_setting setting))
   pub refused : IfErr result (CannotOpen before.rows)

@@ -1,66 +1,75 @@
 -- What a run of a session is.
-use Rattle.std.specs.Prelude.{◌≡◌, ℕ, ◌+◌, ◌≤◌, ◌<◌, nat_le, true, false, List, [], ◌∷◌, ◌++◌, map, filter, length, take, slice_get, All, Option, None, Some, IfSome, IsSome, IsTrue}
+use Rattle.std.specs.Prelude.{◌≡◌, ℕ, ◌+◌, ◌≤◌, ◌<◌, nat_le, true, false, List, [], ◌∷◌, ◌++◌, map, filter, length, take, All, Option, None, Some, IfSome, IsSome, IsTrue}
 use Rattle.jv_model.specs.declared.act.Act.{Act}
 use Rattle.jv_model.specs.declared.basics.Limits.{Limits}
+use Rattle.jv_model.specs.declared.fault.Device.{Device}
 use Rattle.jv_model.specs.declared.op.Line.{Line}
-use Rattle.jv_client.specs.Built.{is_built}
+use Rattle.jv_model.specs.declared.setting.Setting.{Setting}
 use Rattle.jv_model.specs.script.Grammar.{line_of}
 use Rattle.jv_model.specs.journal.Legal.{Legal}
-use Rattle.jv_model.specs.journal.Past.{Past, Setup, begun_to, reached, at_end, text_of}
+use Rattle.jv_model.specs.journal.Past.{Setup, at_end, text_of}
 use Rattle.jv_model.specs.journal.Steps.{Start}
-use Rattle.jv_model.specs.FiniteMap.{get}
 use Rattle.jv_model.specs.declared.row.RowKey.{RowKey}
 use Rattle.jv_model.specs.rows.RowKeys.{RowMap}
 use Rattle.jv_model.specs.tree.Tree.{Tree}
-use Rattle.jv_rows.specs.Transactions.{IsBad}
-use Rattle.jv_volume.specs.TypedRows.{typed}
-use Rattle.jv_volume.specs.TreeOf.{tree_of, counters_of}
-use Rattle.jv_volume.specs.Whole.{Whole, no_bytes, is_of_slices}
-use Rattle.jv_session.specs.Lines.{keeper_failures}
+use Rattle.jv_outside.specs.Objects.{ObjectMap}
 use Rattle.jv_outside.specs.Stream.{Gains}
 use Rattle.jv_outside.specs.Ticks.{Ticks}
+use Rattle.jv_rows.specs.Transactions.{IsBad}
+use Rattle.jv_volume.specs.Slices.{next_slice}
+use Rattle.jv_volume.specs.TypedRows.{typed}
+use Rattle.jv_contents.specs.Blocks.{told_by}
+use Rattle.jv_contents.specs.Bytes.{tree_with}
+use Rattle.jv_contents.specs.Counts.{record_count}
+use Rattle.jv_yard.specs.Contents.{blocks_in}
+use Rattle.jv_shared.specs.Fresh.{IsFresh}
+use Rattle.jv_shared.specs.Shared.{HasStore, Known, Shared}
+use Rattle.jv_client.specs.Built.{is_built_line}
+use Rattle.jv_session.specs.Lines.{AreFailures}
 use Rattle.jv_cmd.specs.declared.ended.Ended.{Ended}
 use Rattle.jv_cmd.specs.declared.ended.Ended.TheVariants as ended
 use Rattle.jv_cmd.specs.declared.ended.Ended.TheVariants.{OffLine, BadRow, SourceFailed, OutFailed, ClockFailed, OutOfMemory}
 use Rattle.jv_cmd.specs.Ends.{status_of}
-use Rattle.jv_model.specs.declared.limits.TheConstants.{DEFAULT_BUFFER, MAX_LINE, MAX_LINES}
+use Rattle.jv_model.specs.declared.limits.TheConstants.{MAX_LINE, MAX_LINES}
+use Rattle.jv_cmd.specs.Stages.{StageValue}
 use Rattle.jv_cmd.specs.Texts.{texts_of}
-use Rattle.jv_cmd.specs.Worlds.{WorldValue}
 
--- 32 MiB may be pending, and the cache has the blocks of 64 MiB
-abbrev pub session_limits : Limits
-session_limits = record { buffer = DEFAULT_BUFFER; entries = 16; writeback = false }
+-- what a session begins with: its limits, the setting and the rows of the volume, and the objects of its depot
+pub record Beginning : Type 0 where
+  pub limits : Limits
+  pub setting : Setting
+  pub rows : RowMap
+  pub objects : ObjectMap
 
--- The tree of a volume's rows, none of whose files has a byte other than 0, as far as these are without lists; none is on a
--- shelf.
-abbrev pub start_of : RowMap → Start
-start_of rows = record {
-  tree = tree_of no_bytes (typed rows);
+-- The tree of the rows, whose files have the bytes of the depot's blocks. No byte is on a shelf alone.
+abbrev pub start_of : Beginning → Start
+start_of start = record {
+  tree = tree_with (told_by start.setting.block (blocks_in start.setting start.objects)) (typed start.rows);
   shelved = λ inode position. [];
-  next_slice = (counters_of (typed rows)).slice;
-  records = 0;
+  next_slice = next_slice (typed start.rows);
+  records = record_count (typed start.rows);
 }
 
--- The rows are known, whole, and without lists, slices and dead slices: a whole volume whose files have no byte but 0.
-pub record StartsWhole (rows : Option RowMap) (start : RowMap) : Type 0 where
-  pub known : rows ≡ Some start
-  pub whole : Whole (typed start)
-  pub bare : (key : RowKey) → IsTrue (is_of_slices key.tab) → get (typed start) key ≡ None
+-- The rows, the depot and the shelf are known, and a session may begin on them: the rows are whole, the depot has each block of
+-- their slices, copies of one name are alike, and no block is of a slice that is still to get its number.
+pub record StartsWhole (before : StageValue) (start : Beginning) : Type 0 where
+  pub limits : start.limits ≡ before.limits
+  pub setting : start.setting ≡ before.devices.yard.setting
+  pub known : before.devices.keeper.rows ≡ Some start.rows
+  pub objects : before.devices.yard.depot.content ≡ Some start.objects
+  pub fresh : IsFresh before.devices
 
--- The rows are known and whole, and their tree is this one, but for the bytes of files, which the session kept.
-pub record Leaves (rows : Option RowMap) (t : Tree) : Type 0 where
-  pub left : RowMap
-  pub known : rows ≡ Some left
-  pub whole : Whole (typed left)
-  pub bytes : ℕ → ℕ → ℕ
-  pub tree : t ≡ tree_of bytes (typed left)
+-- Rows, depot and shelf are known, and the volume in them is whole, with all blocks of its files, and stands for this tree.
+pub record Leaves (devices : Shared) (t : Tree) : Type 0 where
+  pub known : Known
+  pub store : HasStore t known devices
 
 -- The run of lines over such a volume, with the clock's answers where they are known. No thread uploads.
-abbrev pub session_run : RowMap → Option (ℕ → ℕ) → List Line → ℕ → Setup
+abbrev pub session_run : Beginning → Option (ℕ → ℕ) → List Line → ℕ → Setup
 session_run start known lines status = record {
   start = start_of start;
   script = lines;
-  limits = session_limits;
+  limits = start.limits;
   uploads = 0;
   clock = known;
   by_worker = λ entry. false;
@@ -88,46 +97,33 @@ pub record AreLines (bytes : Option (List ℕ)) (texts : List (List ℕ)) (lines
 abbrev pub up_to : ℕ → List Act → List Act
 up_to number = filter (λ act. nat_le act.line number)
 
--- the line is one of those that are built, where the lines before it came to that past
-pub record IsBuilt (p : Past) (line : Line) : Type 0 where
-  pub holds : is_built p line ≡ true
-
--- each line of the run was built where the lines before it came to
-pub record AreBuilt (run : Setup) (journal : List Act) : Type 0 where
-  pub each : (k : ℕ) → IfSome (slice_get run.script k) (IsBuilt (begun_to k (reached run (up_to k journal))))
-
--- the line isn't one of those that are built
-abbrev pub IsNotBuilt : Past → Line → Type 0
-IsNotBuilt p line = is_built p line ≡ false
-
--- A line isn't built where the lines before it came to, if the volume was whole at the start.
-pub record Unbuilt (before after : WorldValue) (lines : List Line) (line : Line) : Type 0 where
-  pub at : (start : RowMap) (known : Option (ℕ → ℕ)) → StartsWhole before.keeper.rows start → IsKnownClock known before.clock after.clock
-      → IsNotBuilt (at_end (session_run start known lines 3) after.journal) line
+-- the line is one of those that are built
+abbrev pub IsBuilt : Limits → Line → Type 0
+IsBuilt limits line = is_built_line limits line ≡ true
 
 -- why the line of that number isn't run: it is one too many, it is too long, it is malformed, or it isn't built
-pub data IsOff (before after : WorldValue) (lines : List Line) (number : ℕ) (text : List ℕ) : Type 0 where
-  OneTooMany : MAX_LINES < number → IsOff before after lines number text
-  TooLong : MAX_LINE < length text → IsOff before after lines number text
-  OffGrammar : line_of text ≡ None → IsOff before after lines number text
-  NotBuilt : (line : Line) → line_of text ≡ Some line → Unbuilt before after lines line → IsOff before after lines number text
+pub data IsOff (limits : Limits) (number : ℕ) (text : List ℕ) : Type 0 where
+  OneTooMany : MAX_LINES < number → IsOff limits number text
+  TooLong : MAX_LINE < length text → IsOff limits number text
+  OffGrammar : line_of text ≡ None → IsOff limits number text
+  NotBuilt : (line : Line) → line_of text ≡ Some line → is_built_line limits line ≡ false → IsOff limits number text
 
 -- the line after those that were run is off
-pub record StopsAt (before after : WorldValue) (texts : List (List ℕ)) (lines : List Line) (number : ℕ) : Type 0 where
+pub record StopsAt (before : StageValue) (texts : List (List ℕ)) (lines : List Line) (number : ℕ) : Type 0 where
   pub after_lines : number ≡ length lines + 1
   pub text : List ℕ
   pub next : BeginWith before.source.content (texts ++ text ∷ [])
-  pub off : IsOff before after lines number text
+  pub off : IsOff before.limits number text
 
 -- a row is Bad, and the volume wasn't whole at the start
-pub record StopsAtRow (before after : WorldValue) (key : RowKey) (bytes : List ℕ) : Type 0 where
-  pub bad : IfSome after.keeper.rows (λ known. IsBad (typed known) key bytes)
-  pub torn : (start : RowMap) → StartsWhole before.keeper.rows start → ⊥
+pub record StopsAtRow (before after : StageValue) (key : RowKey) (bytes : List ℕ) : Type 0 where
+  pub bad : IfSome after.devices.keeper.rows (λ known. IsBad (typed known) key bytes)
+  pub torn : (start : Beginning) → StartsWhole before start → ⊥
 
 -- the cause of each end, where these lines were run
-abbrev pub EndsBy : Ended → WorldValue → WorldValue → List (List ℕ) → List Line → Type 0
+abbrev pub EndsBy : Ended → StageValue → StageValue → List (List ℕ) → List Line → Type 0
 EndsBy ended.Whole before after texts lines = IfSome before.source.content (λ all. texts_of all ≡ texts)
-EndsBy (OffLine number) before after texts lines = StopsAt before after texts lines number
+EndsBy (OffLine number) before after texts lines = StopsAt before texts lines number
 EndsBy (BadRow key bytes) before after texts lines = StopsAtRow before after key bytes
 EndsBy SourceFailed before after texts lines = Unit {0}
 EndsBy OutFailed before after texts lines = Unit {0}
@@ -136,11 +132,11 @@ EndsBy OutOfMemory before after texts lines = Unit {0}
 EndsBy _ before after texts lines = ⊥
 
 -- what lines print, by their entries of the journal
-abbrev pub printed_by : RowMap → Option (ℕ → ℕ) → List Line → Ended → List Act → List ℕ
+abbrev pub printed_by : Beginning → Option (ℕ → ℕ) → List Line → Ended → List Act → List ℕ
 printed_by start known lines ended journal = text_of (session_run start known lines (status_of ended)) journal
 
 -- The last line's text was cut: out has gained the text of the lines before it, and a proper prefix of its own.
-pub record PrintsPart (start : RowMap) (known : Option (ℕ → ℕ)) (before after : WorldValue) (lines : List Line) : Type 0 where
+pub record PrintsPart (start : Beginning) (known : Option (ℕ → ℕ)) (before after : StageValue) (lines : List Line) : Type 0 where
   pub earlier : List Line
   pub last : Line
   pub said : List ℕ
@@ -151,38 +147,38 @@ pub record PrintsPart (start : RowMap) (known : Option (ℕ → ℕ)) (before af
   pub gains : Gains before.out.content after.out.content (printed_by start known earlier OutFailed (up_to (length earlier) after.journal) ++ take count said)
 
 -- what the lines before the last one print
-abbrev pub printed_before_last : RowMap → Option (ℕ → ℕ) → List Line → Ended → List Act → List ℕ
+abbrev pub printed_before_last : Beginning → Option (ℕ → ℕ) → List Line → Ended → List Act → List ℕ
 printed_before_last start known lines ended journal = (at_end (session_run start known lines (status_of ended)) journal).printed
 
 -- Memory ran out before a line was run, or on the last line, which was cut off and prints nothing.
-pub data PrintsUntil (start : RowMap) (known : Option (ℕ → ℕ)) (before after : WorldValue) (lines : List Line) : Type 0 where
+pub data PrintsUntil (start : Beginning) (known : Option (ℕ → ℕ)) (before after : StageValue) (lines : List Line) : Type 0 where
   AllLines : Gains before.out.content after.out.content (printed_by start known lines OutOfMemory after.journal) → PrintsUntil start known before after lines
   AllButLast : Gains before.out.content after.out.content (printed_before_last start known lines OutOfMemory after.journal) → PrintsUntil start known before after lines
 
 -- Out has gained the text of the lines. Where out failed, it has gained a part of it; where the clock failed, or memory ran
 -- out, on a line, that of the lines before it.
-abbrev pub Prints : Ended → RowMap → Option (ℕ → ℕ) → WorldValue → WorldValue → List Line → Type 0
+abbrev pub Prints : Ended → Beginning → Option (ℕ → ℕ) → StageValue → StageValue → List Line → Type 0
 Prints OutFailed start known before after lines = PrintsPart start known before after lines
 Prints ClockFailed start known before after lines = Gains before.out.content after.out.content (printed_before_last start known lines ClockFailed after.journal)
 Prints OutOfMemory start known before after lines = PrintsUntil start known before after lines
 Prints ended start known before after lines = Gains before.out.content after.out.content (printed_by start known lines ended after.journal)
 
--- What a run over a whole volume comes to: each line was built, the journal is legal for one POSIX tree, the lines' text was
--- printed, the keeper failed as often as operations were answered so, and the volume left is whole and has the tree reached, but
--- for the bytes of files.
-pub record RunsWhole (start : RowMap) (known : Option (ℕ → ℕ)) (answers : ℕ) (before after : WorldValue) (ended : Ended) (lines : List Line) : Type 0 where
-  pub built : AreBuilt (session_run start known lines (status_of ended)) after.journal
+-- What a run over a whole volume comes to: the journal is legal for one POSIX tree, the lines' text was printed, each device failed as
+-- often as operations were answered so, and the volume left is whole and has the tree reached.
+pub record RunsWhole (start : Beginning) (known : Option (ℕ → ℕ)) (answers : Device → ℕ) (before after : StageValue) (ended : Ended)
+    (lines : List Line) : Type 0 where
   pub legal : Legal (session_run start known lines (status_of ended)) after.journal
   pub printed : Prints ended start known before after lines
-  pub counted : keeper_failures after.journal ≡ answers
-  pub leaves : Leaves after.keeper.rows (at_end (session_run start known lines (status_of ended)) after.journal).state.tree
+  pub counted : AreFailures after.journal answers
+  pub leaves : Leaves after.devices (at_end (session_run start known lines (status_of ended)) after.journal).state.tree
 
 -- The lines that were run: those before the end and, where out or the clock failed, a row was Bad, or memory ran out on a line, that
--- line as the last one, which may be cut off then.
-pub record RunsLines (answers : ℕ) (before after : WorldValue) (ended : Ended) : Type 0 where
+-- line as the last one, which may be cut off then. Each is built.
+pub record RunsLines (answers : Device → ℕ) (before after : StageValue) (ended : Ended) : Type 0 where
   pub texts : List (List ℕ)
   pub lines : List Line
   pub read : AreLines before.source.content texts lines
+  pub built : All (IsBuilt before.limits) lines
   pub cause : EndsBy ended before after texts lines
-  pub whole : (start : RowMap) (known : Option (ℕ → ℕ)) → StartsWhole before.keeper.rows start → IsKnownClock known before.clock after.clock
+  pub whole : (start : Beginning) (known : Option (ℕ → ℕ)) → StartsWhole before start → IsKnownClock known before.clock after.clock
       → RunsWhole start known answers before after ended lines

@@ -1,31 +1,34 @@
 -- How a run gets from line to line.
-use Rattle.std.specs.Prelude.{◌≡◌, ℕ, ◌+◌, ◌≤◌, Bool, true, false, IsTrue, List, [], ◌∷◌, ◌++◌, map, length, slice_get, All, Option, None, Some, IfSome, IsSomeAnd, Result, Ok, Err}
+use Rattle.std.specs.Prelude.{◌≡◌, ℕ, ◌+◌, ◌≤◌, Bool, true, false, IsTrue, List, [], ◌∷◌, ◌++◌, map, length, All, Option, None, Some, IfSome, IsSomeAnd, Result, Ok, Err}
 use Rattle.jv_model.specs.declared.act.Act.{Act}
+use Rattle.jv_model.specs.declared.basics.Limits.{Limits}
+use Rattle.jv_model.specs.declared.fault.Device.{Device}
 use Rattle.jv_model.specs.declared.op.Line.{Line}
 use Rattle.jv_model.specs.declared.row.RowKey.{RowKey}
 use Rattle.jv_model.specs.script.Grammar.{line_of}
 use Rattle.jv_model.specs.journal.Legal.{AllAllowed}
 use Rattle.jv_model.specs.journal.Past.{Past, Setup, at_start, begun_to, past, reached}
-use Rattle.jv_model.specs.rows.RowKeys.{RowMap}
 use Rattle.jv_outside.specs.Causes.{Rose, RoseTimes}
-use Rattle.jv_outside.specs.Store.{Store}
 use Rattle.jv_outside.specs.Stream.{Gains, HasAll, IsCut}
 use Rattle.jv_outside.specs.Ticks.{Passes}
-use Rattle.jv_session.specs.Lines.{LineState, LineUses, line_state, keeper_failures, FromThere, CutsLine, BreaksAt}
-use Rattle.jv_session.specs.Stands.{ScheduleValue, Stands, built_here}
+use Rattle.jv_shared.specs.Shared.{Shared}
+use Rattle.jv_client.specs.Built.{is_built_line}
+use Rattle.jv_client.specs.Makes.{faults_of}
+use Rattle.jv_session.specs.Lines.{AreFailures, BreaksAt, CutsLine, FromThere, LineState, LineUses, StaysOpen, line_state}
+use Rattle.jv_session.specs.Stands.{IsYardOf, ScheduleValue, Stands}
 use Rattle.jv_cmd.specs.declared.ended.Ended.{Ended}
 use Rattle.jv_cmd.specs.declared.ended.Ended.TheVariants.{OffLine, BadRow, OutFailed, ClockFailed, OutOfMemory}
 use Rattle.jv_model.specs.declared.limits.TheConstants.{MAX_LINE, MAX_LINES}
 use Rattle.jv_cmd.specs.Texts.{texts_of}
-use Rattle.jv_cmd.specs.Worlds.{WorldValue}
-use Rattle.jv_cmd.specs.Faults.{CountsFaults}
-use Rattle.jv_cmd.specs.Run.{IsKnownClock, IsBuilt, IsNotBuilt, RunsLines, StartsWhole, session_run, up_to}
+use Rattle.jv_cmd.specs.Stages.{StageValue}
+use Rattle.jv_cmd.specs.Faults.{CountsFaults, on_stage}
+use Rattle.jv_cmd.specs.Run.{Beginning, IsKnownClock, IsBuilt, RunsLines, StartsWhole, session_run}
 
 -- a past after `done` lines of a run, with these lines to come: the schedule stands there, and this was printed
 pub record IsAt (p : Past) (run : Setup) (more : List Line) (done asks entries : ℕ) (printed : List ℕ)
-    (s : ScheduleValue) (keeper : Store) : Type 0 where
+    (s : ScheduleValue) (v : Shared) : Type 0 where
   pub line : p.line ≡ done
-  pub stands : Stands p s keeper
+  pub stands : Stands p s v
   pub same_run : p.run ≡ run
   pub rest : p.rest ≡ more
   pub count : p.state.count ≡ entries
@@ -34,167 +37,154 @@ pub record IsAt (p : Past) (run : Setup) (more : List Line) (done asks entries :
 
 -- the journal of a run so far is allowed and reaches such a past
 pub record Reaches (run : Setup) (more : List Line) (done asked : ℕ) (text : List ℕ) (journal : List Act)
-    (s : ScheduleValue) (keeper : Store) : Type 0 where
+    (s : ScheduleValue) (v : Shared) : Type 0 where
   pub allowed : AllAllowed (at_start run) journal
-  pub at : IsAt (begun_to done (reached run journal)) run more done asked (length journal) text s keeper
+  pub at : IsAt (begun_to done (reached run journal)) run more done asked (length journal) text s v
 
 -- the lines of the entries are between two numbers
 abbrev pub AreBetween : ℕ → ℕ → List Act → Type 0
 AreBetween low high [] = Unit {0}
 AreBetween low high (act ∷ acts) = (low ≤ act.line) × (act.line ≤ high) × AreBetween low high acts
 
--- What these lines came to, whatever lines are to come, where the run began on a whole volume: so often the clock was
--- asked, and
--- so many operations were answered that the keeper failed.
-pub record DoneOn (start : RowMap) (before now : WorldValue) (lines : List Line) (done asked failed : ℕ)
+-- What these lines came to, whatever lines are to come, where the run began on a whole volume: so often the clock was asked, and so
+-- often each device failed and an operation was answered so.
+pub record DoneOn (start : Beginning) (before now : StageValue) (lines : List Line) (done asked : ℕ) (failed : Device → ℕ)
     (text : List ℕ) (s : ScheduleValue) : Type 0 where
   pub own : AreBetween 0 done now.journal
-  pub failures : keeper_failures now.journal ≡ failed
-  pub built : (known : Option (ℕ → ℕ)) (more : List Line) (status : ℕ) → IsKnownClock known before.clock now.clock
-      → (k : ℕ) → IfSome (slice_get lines k) (IsBuilt (begun_to k
-      (reached (session_run start known (lines ++ more) status) (up_to k now.journal))))
+  pub failures : AreFailures now.journal failed
   pub reaches : (known : Option (ℕ → ℕ)) (more : List Line) (status : ℕ) → IsKnownClock known before.clock now.clock
-      → Reaches (session_run start known (lines ++ more) status) more done asked text now.journal s now.keeper
+      → Reaches (session_run start known (lines ++ more) status) more done asked text now.journal s now.devices
+
+-- what was done with devices, whatever they hold: so often the clock was asked, and so often each device failed
+pub record HasUsed (before now : StageValue) (asked : ℕ) (failed : Device → ℕ) : Type 0 where
+  pub passes : Passes before.clock.answers now.clock.answers asked
+  pub stays : StaysOpen before.devices now.devices
+  pub counts : (device : Device) → RoseTimes (failed device) (faults_of device before.devices) (faults_of device now.devices)
 
 -- `done` lines were run, and this is their text
-pub record Done (left : Option (List ℕ)) (before now : WorldValue) (done : ℕ) (text : List ℕ)
+pub record Done (left : Option (List ℕ)) (before now : StageValue) (done : ℕ) (text : List ℕ)
     (s : ScheduleValue) : Type 0 where
   pub texts : List (List ℕ)
   pub lines : List Line
   pub asked : ℕ
-  pub failed : ℕ
+  pub failed : Device → ℕ
   pub count : length lines ≡ done
   pub each : map line_of texts ≡ map Some lines
   pub few : done ≤ MAX_LINES
   pub short : All (λ line. length line ≤ MAX_LINE) texts
+  pub built : All (IsBuilt before.limits) lines
   pub first : IfSome before.source.content (λ all. IsSomeAnd left (λ rest. texts_of all ≡ texts ++ texts_of rest))
-  pub passes : Passes before.clock.answers now.clock.answers asked
-  pub opened_at : now.keeper.opened ≡ before.keeper.opened
-  pub counts : RoseTimes failed before.keeper.faults now.keeper.faults
-  pub whole : (start : RowMap) → StartsWhole before.keeper.rows start
-      → DoneOn start before now lines done asked failed text s
+  pub uses : HasUsed before now asked failed
+  pub limits : s.limits ≡ before.limits
+  pub whole : (start : Beginning) → StartsWhole before start → DoneOn start before now lines done asked failed text s
 
 -- no device has failed that lines use, other than the keeper
-pub record AreCalm (before now : WorldValue) : Type 0 where
+pub record AreCalm (before now : StageValue) : Type 0 where
   pub source : now.source.faults ≡ before.source.faults
   pub out : now.out.faults ≡ before.out.faults
   pub clock : now.clock.faults ≡ before.clock.faults
 
 -- `done` lines were run and printed
-pub record Going (left : Option (List ℕ)) (before now : WorldValue) (done : ℕ) (s : ScheduleValue) : Type 0 where
+pub record Going (left : Option (List ℕ)) (before now : StageValue) (done : ℕ) (s : ScheduleValue) : Type 0 where
   pub text : List ℕ
   pub lines_done : Done left before now done text s
   pub gains : Gains before.out.content now.out.content text
   pub calm : AreCalm before now
 
--- the run of lines ended, and so many operations were answered that the keeper failed
-pub record EndsLines (before after : WorldValue) (ended : Ended) : Type 0 where
-  pub answers : ℕ
+-- the run of lines ended, and so often each device failed and an operation was answered so
+pub record EndsLines (before after : StageValue) (ended : Ended) : Type 0 where
+  pub answers : Device → ℕ
   pub runs : RunsLines answers before after ended
-  pub faults : CountsFaults ended before after
-  pub opened_at : after.keeper.opened ≡ before.keeper.opened
-  pub counts : RoseTimes answers before.keeper.faults after.keeper.faults
+  pub faults : CountsFaults ended (on_stage before) (on_stage after)
+  pub stays : StaysOpen before.devices after.devices
+  pub counts : (device : Device) → RoseTimes (answers device) (faults_of device before.devices) (faults_of device after.devices)
 
 -- one line more was run, or the run ended
-abbrev pub Turns : Option (List ℕ) → WorldValue → WorldValue → ℕ → ScheduleValue → Result (Unit {0}) Ended → Type 0
+abbrev pub Turns : Option (List ℕ) → StageValue → StageValue → ℕ → ScheduleValue → Result (Unit {0}) Ended → Type 0
 Turns left before now done s (Ok unit) = Going left before now (done + 1) s
 Turns left before now done s (Err ended) = EndsLines before now ended
 
--- a line's entries after a journal: they are allowed, so many of them answer that the keeper failed, and the line is
--- done and
--- prints the text
-pub record Goes (p : Past) (more : List Line) (number asks failed : ℕ) (before after : List Act) (text : List ℕ)
-    (s : ScheduleValue) (keeper : Store) : Type 0 where
+-- a line's entries after a journal: they are allowed, so many of them answer that a device failed, and the line is done and prints the
+-- text
+pub record Goes (p : Past) (more : List Line) (number asks : ℕ) (failed : Device → ℕ) (before after : List Act) (text : List ℕ)
+    (s : ScheduleValue) (v : Shared) : Type 0 where
   pub acts : List Act
   pub grows : after ≡ before ++ acts
   pub allowed : AllAllowed p acts
-  pub failures : keeper_failures acts ≡ failed
+  pub failures : AreFailures acts failed
   pub at : IsAt (begun_to number (past p acts)) p.run more number (p.asked + asks) (length after)
-      (p.printed ++ p.said ++ text) s keeper
+      (p.printed ++ p.said ++ text) s v
 
 -- what a line uses of the world
-abbrev pub used : WorldValue → ScheduleValue → LineState
-used world s = line_state world.clock world.keeper world.journal s
+abbrev pub used : StageValue → ScheduleValue → LineState
+used world s = line_state world.clock world.devices world.journal s
 
 -- a line was run and prints this, from wherever the schedule stood
-pub record Advances (line : Line) (number : ℕ) (before after : WorldValue) (s s' : ScheduleValue)
+pub record Advances (line : Line) (number : ℕ) (before after : StageValue) (s s' : ScheduleValue)
     (printed : List ℕ) : Type 0 where
   pub asks : ℕ
-  pub failed : ℕ
+  pub failed : Device → ℕ
   pub uses : LineUses (used before s) (used after s') asks failed
   pub goes : FromThere line number (used before s) (used after s')
-      (λ p more. Goes p more number asks failed before.journal after.journal printed s' after.keeper)
-
--- the line may be run where the schedule stands
-pub record IsBuiltHere (s : ScheduleValue) (line : Line) : Type 0 where
-  pub here : IsTrue (built_here s line)
-  pub at : (p : Past) (keeper : Store) → Stands p s keeper → IsBuilt p line
-
--- it may not
-pub record IsUnbuilt (s : ScheduleValue) (line : Line) : Type 0 where
-  pub at : (p : Past) (keeper : Store) → Stands p s keeper → IsNotBuilt p line
-
-abbrev pub TellsBuilt : ScheduleValue → Line → Bool → Type 0
-TellsBuilt s line true = IsBuiltHere s line
-TellsBuilt s line false = IsUnbuilt s line
+      (λ p more. Goes p more number asks failed before.journal after.journal printed s' after.devices)
 
 -- a text that is no line, or a line that isn't built
-pub data IsOffText (text : List ℕ) (s : ScheduleValue) : Type 0 where
-  NoLine : line_of text ≡ None → IsOffText text s
-  LineUnbuilt : (line : Line) → line_of text ≡ Some line → IsUnbuilt s line → IsOffText text s
+pub data IsOffText (text : List ℕ) (limits : Limits) : Type 0 where
+  NoLine : line_of text ≡ None → IsOffText text limits
+  LineUnbuilt : (line : Line) → line_of text ≡ Some line → is_built_line limits line ≡ false → IsOffText text limits
 
 -- the text is a line that may be run
-pub record ReadsBuilt (text : List ℕ) (s : ScheduleValue) (line : Line) : Type 0 where
+pub record ReadsBuilt (text : List ℕ) (limits : Limits) (line : Line) : Type 0 where
   pub read : line_of text ≡ Some line
-  pub built : IsBuiltHere s line
+  pub built : IsBuilt limits line
 
 -- a text was read
-abbrev pub TextReads : ℕ → List ℕ → ScheduleValue → Result Line Ended → Type 0
-TextReads number text s (Ok line) = ReadsBuilt text s line
-TextReads number text s (Err (OffLine at)) = (at ≡ number) × IsOffText text s
-TextReads number text s (Err OutOfMemory) = Unit {0}
-TextReads number text s (Err _) = ⊥
+abbrev pub TextReads : ℕ → List ℕ → Limits → Result Line Ended → Type 0
+TextReads number text limits (Ok line) = ReadsBuilt text limits line
+TextReads number text limits (Err (OffLine at)) = (at ≡ number) × IsOffText text limits
+TextReads number text limits (Err OutOfMemory) = Unit {0}
+TextReads number text limits (Err _) = ⊥
 
 -- nothing has changed that lines use
-pub record IsStill (before after : WorldValue) : Type 0 where
+pub record IsStill (before after : StageValue) : Type 0 where
   pub out : after.out ≡ before.out
-  pub keeper : after.keeper ≡ before.keeper
+  pub devices : after.devices ≡ before.devices
   pub clock : after.clock ≡ before.clock
   pub journal : after.journal ≡ before.journal
 
 -- a line was run and printed
-pub record PrintsLine (line : Line) (number : ℕ) (before after : WorldValue) (s s' : ScheduleValue) : Type 0 where
+pub record PrintsLine (line : Line) (number : ℕ) (before after : StageValue) (s s' : ScheduleValue) : Type 0 where
   pub printed : List ℕ
   pub runs : Advances line number before after s s' printed
   pub writes : HasAll before.out after.out printed
   pub clock : after.clock.faults ≡ before.clock.faults
 
 -- a line was run, and out failed after a proper prefix of what it prints
-pub record PrintsCut (line : Line) (number : ℕ) (before after : WorldValue) (s s' : ScheduleValue) : Type 0 where
+pub record PrintsCut (line : Line) (number : ℕ) (before after : StageValue) (s s' : ScheduleValue) : Type 0 where
   pub printed : List ℕ
   pub runs : Advances line number before after s s' printed
   pub cut : IsCut before.out after.out printed
   pub clock : after.clock.faults ≡ before.clock.faults
 
 -- a line was cut off, and prints nothing
-pub record StopsIn (line : Line) (number : ℕ) (before after : WorldValue) (s s' : ScheduleValue) : Type 0 where
+pub record StopsIn (line : Line) (number : ℕ) (before after : StageValue) (s s' : ScheduleValue) : Type 0 where
   pub cut : CutsLine line number (used before s) (used after s')
   pub out : after.out ≡ before.out
 
 -- a line stopped at a row that is Bad, and prints nothing
-pub record StopsBad (line : Line) (number : ℕ) (before after : WorldValue) (s s' : ScheduleValue) (key : RowKey)
+pub record StopsBad (line : Line) (number : ℕ) (before after : StageValue) (s s' : ScheduleValue) (key : RowKey)
     (bytes : List ℕ) : Type 0 where
   pub breaks : BreaksAt line number (used before s) (used after s') key bytes
   pub out : after.out ≡ before.out
 
 -- memory ran out for a text: before its line was run, or on it
-pub data LacksMemory (number : ℕ) (text : List ℕ) (before after : WorldValue) (s s' : ScheduleValue) : Type 0 where
+pub data LacksMemory (number : ℕ) (text : List ℕ) (before after : StageValue) (s s' : ScheduleValue) : Type 0 where
   BeforeLine : IsStill before after → LacksMemory number text before after s s'
-  OnLine : (line : Line) → ReadsBuilt text s line → StopsIn line number before after s s'
+  OnLine : (line : Line) → ReadsBuilt text s.limits line → StopsIn line number before after s s'
       → after.clock.faults ≡ before.clock.faults → LacksMemory number text before after s s'
 
 -- by how the call for a line ended
-abbrev pub LineEnds : Line → ℕ → WorldValue → WorldValue → ScheduleValue → ScheduleValue → Result (Unit {0}) Ended
+abbrev pub LineEnds : Line → ℕ → StageValue → StageValue → ScheduleValue → ScheduleValue → Result (Unit {0}) Ended
     → Type 0
 LineEnds line number before after s s' (Ok unit) = PrintsLine line number before after s s'
 LineEnds line number before after s s' (Err OutFailed) = PrintsCut line number before after s s'
@@ -206,17 +196,17 @@ LineEnds line number before after s s' (Err OutOfMemory) = StopsIn line number b
 LineEnds line number before after s s' (Err _) = ⊥
 
 -- by how the call for a text ended
-abbrev pub TextEnds : ℕ → List ℕ → WorldValue → WorldValue → ScheduleValue → ScheduleValue → Result (Unit {0}) Ended
+abbrev pub TextEnds : ℕ → List ℕ → StageValue → StageValue → ScheduleValue → ScheduleValue → Result (Unit {0}) Ended
     → Type 0
-TextEnds number text before after s s' (Ok unit) = (line : Line) × ReadsBuilt text s line × PrintsLine line number
+TextEnds number text before after s s' (Ok unit) = (line : Line) × ReadsBuilt text s.limits line × PrintsLine line number
     before after s s'
 TextEnds number text before after s s' (Err OutFailed) =
-    (line : Line) × ReadsBuilt text s line × PrintsCut line number before after s s'
-TextEnds number text before after s s' (Err (OffLine at)) = (at ≡ number) × IsOffText text s × IsStill before after
+    (line : Line) × ReadsBuilt text s.limits line × PrintsCut line number before after s s'
+TextEnds number text before after s s' (Err (OffLine at)) = (at ≡ number) × IsOffText text s.limits × IsStill before after
 TextEnds number text before after s s' (Err ClockFailed) =
-    (line : Line) × ReadsBuilt text s line × StopsIn line number before after s s' × Rose before.clock.faults
+    (line : Line) × ReadsBuilt text s.limits line × StopsIn line number before after s s' × Rose before.clock.faults
     after.clock.faults
 TextEnds number text before after s s' (Err (BadRow key bytes)) =
-    (line : Line) × ReadsBuilt text s line × StopsBad line number before after s s' key bytes
+    (line : Line) × ReadsBuilt text s.limits line × StopsBad line number before after s s' key bytes
 TextEnds number text before after s s' (Err OutOfMemory) = LacksMemory number text before after s s'
 TextEnds number text before after s s' (Err _) = ⊥

@@ -16,6 +16,7 @@ use Rattle.jv_cmd.specs.declared.words.request.WordsFault.TheVariants.{Refused, 
 use Rattle.jv_cmd.specs.declared.words.read.BadValue.{BadValue}
 use Rattle.jv_cmd.specs.declared.words.read.BadValue.TheVariants as bad
 use Rattle.jv_cmd.specs.Values.{block_size_of, number_within, place_of}
+use Rattle.jv_cmd.specs.Bounds.{AreAllowed}
 use Rattle.jv_cmd.specs.Program.{program_app}
 use Rattle.jv_cmd.specs.Saying.{EndsInFeed}
 
@@ -132,7 +133,7 @@ abbrev pub SaysRefused : WordsFault → Type 0
 SaysRefused (Refused text) = string_bytes text ≡ refused_text
 SaysRefused Memory = Unit {0}
 
--- a setting that is to be written is one that rows may have
+-- a setting that is to be written is one that rows may have, and the sizes of a session are in their ranges
 abbrev pub IsAllowedCommand : Command → Type 0
 IsAllowedCommand (Format place setting) = IsTrue (is_setting setting)
-IsAllowedCommand (Session place options) = Unit {0}
+IsAllowedCommand (Session place options) = AreAllowed options

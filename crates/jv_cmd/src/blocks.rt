@@ -1,11 +1,12 @@
 ghost use Rattle.std.specs.Prelude.{◌≡◌};
 ghost use Rattle.jv_outside.specs.Carriage.{Moves};
-ghost use Rattle.jv_cmd.specs.Attaching.{AttachesAll, ended_at};
+ghost use Rattle.jv_cmd.specs.Attaching.{AttachesAll, ended_at, ended_by_yard};
 ghost use Rattle.jv_cmd.specs.Worlds.{block_devices};
 
 use crate::ended::Ended;
 use jv_model::{Down, Text};
 use jv_outside::{Carrier, Depot, Shelf};
+use jv_yard::YardFault;
 
 /// How a command ends at a device's error, where it ends so if the device failed.
 fn ended_at(failed: Ended, down: Down) -> Ended
@@ -51,4 +52,15 @@ pub(crate) fn attach_all<D: Depot, H: Shelf>(
         return Err(ended_at(Ended::ShelfFailed, down));
     }
     Ok(())
+}
+
+/// How a command ends where the yard isn't started.
+pub(crate) fn ended_by_yard(fault: YardFault) -> Ended
+    ensures { result ≡ ended_by_yard fault }
+{
+    match fault {
+        YardFault::Depot => Ended::DepotFailed,
+        YardFault::Shelf => Ended::ShelfFailed,
+        YardFault::Memory => Ended::OutOfMemory,
+    }
 }

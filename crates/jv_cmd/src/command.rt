@@ -1,18 +1,22 @@
 ghost use Rattle.std.specs.Prelude.{◌≡◌, [], map, string_bytes};
-ghost use Rattle.jv_cmd.specs.Commands.{Runs, RunsCommand, RunsSession, RunsVolume};
-ghost use Rattle.jv_cmd.specs.Faults.{CountsFaults, UsesKeeper};
-ghost use Rattle.jv_cmd.specs.Opening.{IsKnown};
+ghost use Rattle.jv_shared.specs.Lengths.{IsLength};
+ghost use Rattle.jv_cmd.specs.Bounds.{AreAllowed};
+ghost use Rattle.jv_cmd.specs.Commands.{Runs, RunsAttached, RunsCommand, RunsSession, RunsVolume};
+ghost use Rattle.jv_cmd.specs.Faults.{CountsFaults, in_world};
 ghost use Rattle.jv_cmd.specs.Words.{IsAllowedCommand};
 
-use crate::blocks::attach_all;
+use crate::blocks::{attach_all, ended_by_yard};
+use crate::bounds::limits_of;
 use crate::ended::{Ended, report, say};
 use crate::format::run_format;
 use crate::lines::run_script;
+use crate::stage::Stage;
 use crate::volume::open_volume;
-use crate::words::{Command, WordsFault, read_words};
+use crate::words::{Command, SessionOptions, WordsFault, read_words};
 use crate::world::{Finish, Observed, World};
 use jv_model::{Setting, Text};
 use jv_outside::{Clock, Depot, Keeper, Shelf, Sink, Source};
+use jv_yard::{Alone, Yard};
 use std::alloc::Global;
 
 /// Runs the command that the words are, over the devices of the world, with an emptied journal.
@@ -45,7 +49,7 @@ pub fn run<S: Source, O: Sink, E: Sink, K: Keeper, D: Depot, H: Shelf, C: Clock>
     world.journal.clear();
     match read_words(alloc, words) {
         Ok(command) => {
-            let ended = run_command(alloc, command, &mut world);
+            let (ended, mut world) = run_command(alloc, command, world);
             report(&ended, &mut world.err);
             let status = ended.status();
             Finish { status, world }
@@ -62,25 +66,25 @@ pub fn run<S: Source, O: Sink, E: Sink, K: Keeper, D: Depot, H: Shelf, C: Clock>
     }
 }
 
+/// Runs a command, and returns how it ended and the world then.
 fn run_command<S: Source, O: Sink, E: Sink, K: Keeper, D: Depot, H: Shelf, C: Clock>(
     alloc: Global,
     command: Command,
-    world: &mut World<S, O, E, K, D, H, C>,
-) -> Ended
+    world: World<S, O, E, K, D, H, C>,
+) -> (Ended, World<S, O, E, K, D, H, C>)
     requires allowed { IsAllowedCommand command }
-    requires empty { world.old.journal.acts ≡ [] }
+    requires empty { world.journal.acts ≡ [] }
     ensures runs { let seen = ⟦<World<S, O, E, K, D, H, C> as Observed>⟧.seen in
-        RunsCommand command (seen world.old) (seen world.new) result }
-    ensures err { world.new.err ≡ world.old.err }
+        RunsCommand command (seen world) (seen result.1) result.0 }
+    ensures err { result.1.err ≡ world.err }
 {
     match command {
-        Command::Format { place, setting } => run_format(alloc, &place, &setting, world),
-        Command::Session { place, options } => run_session(
-            alloc,
-            &place,
-            &options.cache_dir,
-            world,
-        ),
+        Command::Format { place, setting } => {
+            let mut world = world;
+            let ended = run_format(alloc, &place, &setting, &mut world);
+            (ended, world)
+        }
+        Command::Session { place, options } => run_session(alloc, &place, &options, world),
     }
 }
 
@@ -88,19 +92,21 @@ fn run_command<S: Source, O: Sink, E: Sink, K: Keeper, D: Depot, H: Shelf, C: Cl
 fn run_session<S: Source, O: Sink, E: Sink, K: Keeper, D: Depot, H: Shelf, C: Clock>(
     alloc: Global,
     place: &Text,
-    folder: &Text,
-    world: &mut World<S, O, E, K, D, H, C>,
-) -> Ended
-    requires { world.old.journal.acts ≡ [] }
+    options: &SessionOptions,
+    world: World<S, O, E, K, D, H, C>,
+) -> (Ended, World<S, O, E, K, D, H, C>)
+    requires allowed { AreAllowed options.now }
+    requires empty { world.journal.acts ≡ [] }
     ensures runs { let seen = ⟦<World<S, O, E, K, D, H, C> as Observed>⟧.seen in
-        RunsSession place.now folder.now (seen world.old) (seen world.new) result }
+        RunsSession place.now options.now (seen world) (seen result.1) result.0 }
     ensures faults { let seen = ⟦<World<S, O, E, K, D, H, C> as Observed>⟧.seen in
-        CountsFaults result (seen world.old) (seen world.new) }
-    ensures err { world.new.err ≡ world.old.err }
+        CountsFaults result.0 (in_world (seen world)) (in_world (seen result.1)) }
+    ensures err { result.1.err ≡ world.err }
 {
+    let mut world = world;
     match open_volume(alloc, &mut world.keeper, place) {
-        Ok(setting) => run_volume(alloc, setting, folder, world),
-        Err(ended) => ended,
+        Ok(setting) => run_volume(alloc, setting, options, world),
+        Err(ended) => (ended, world),
     }
 }
 
@@ -108,24 +114,84 @@ fn run_session<S: Source, O: Sink, E: Sink, K: Keeper, D: Depot, H: Shelf, C: Cl
 fn run_volume<S: Source, O: Sink, E: Sink, K: Keeper, D: Depot, H: Shelf, C: Clock>(
     alloc: Global,
     setting: Setting,
-    folder: &Text,
-    world: &mut World<S, O, E, K, D, H, C>,
-) -> Ended
-    requires empty { world.old.journal.acts ≡ [] }
-    requires stored { IsKnown (K.seen world.old.keeper).rows setting }
+    options: &SessionOptions,
+    world: World<S, O, E, K, D, H, C>,
+) -> (Ended, World<S, O, E, K, D, H, C>)
+    requires allowed { AreAllowed options.now }
+    requires empty { world.journal.acts ≡ [] }
+    requires block { IsLength setting.block }
     ensures runs { let seen = ⟦<World<S, O, E, K, D, H, C> as Observed>⟧.seen in
-        RunsVolume setting folder.now (seen world.old) (seen world.new) result }
-    ensures err { world.new.err ≡ world.old.err }
+        RunsVolume options.now setting (seen world) (seen result.1) result.0 }
+    ensures err { result.1.err ≡ world.err }
 {
+    let mut world = world;
     let attached = attach_all(
         &setting.bucket,
-        folder,
+        &options.cache_dir,
         &mut world.depot,
         &mut world.carrier,
         &mut world.shelf,
     );
     match attached {
-        Ok(()) => run_script(alloc, setting, world),
-        Err(ended) => ended,
+        Ok(()) => run_attached(alloc, setting, options, world),
+        Err(ended) => (ended, world),
+    }
+}
+
+/// Runs the script of the source over a volume with this setting, the devices for whose blocks are opened.
+fn run_attached<S: Source, O: Sink, E: Sink, K: Keeper, D: Depot, H: Shelf, C: Clock>(
+    alloc: Global,
+    setting: Setting,
+    options: &SessionOptions,
+    world: World<S, O, E, K, D, H, C>,
+) -> (Ended, World<S, O, E, K, D, H, C>)
+    requires allowed { AreAllowed options.now }
+    requires empty { world.journal.acts ≡ [] }
+    requires block { IsLength setting.block }
+    ensures runs { let seen = ⟦<World<S, O, E, K, D, H, C> as Observed>⟧.seen in
+        RunsAttached options.now setting (seen world) (seen result.1) result.0 }
+    ensures err { result.1.err ≡ world.err }
+{
+    let World {
+        source,
+        out,
+        err,
+        keeper,
+        depot,
+        shelf,
+        clock,
+        carrier,
+        journal,
+    } = world;
+    match Yard::start(alloc, depot, shelf, &setting) {
+        Ok(yard) => {
+            let limits = limits_of(options, setting.block);
+            let mut stage = Stage {
+                limits,
+                source,
+                out,
+                keeper,
+                door: Alone::new(yard),
+                clock,
+                carrier,
+                journal,
+            };
+            let ended = run_script(alloc, setting, &mut stage);
+            (ended, stage.into_world(err))
+        }
+        Err((depot, shelf, fault)) => {
+            let world = World {
+                source,
+                out,
+                err,
+                keeper,
+                depot,
+                shelf,
+                clock,
+                carrier,
+                journal,
+            };
+            (ended_by_yard(fault), world)
+        }
     }
 }

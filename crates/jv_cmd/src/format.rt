@@ -1,7 +1,7 @@
 ghost use Rattle.std.specs.Prelude.{◌≡◌, IfOk, IsTrue};
 ghost use Rattle.jv_model.specs.rows.RowGrammar.{is_setting};
 ghost use Rattle.jv_outside.specs.Causes.{RoseIf};
-ghost use Rattle.jv_cmd.specs.Faults.{CountsFaults, UsesKeeper, clock_failed, ended_by};
+ghost use Rattle.jv_cmd.specs.Faults.{CountsFaults, UsesKeeper, clock_failed, ended_by, in_world};
 ghost use Rattle.jv_cmd.specs.Formatting.{formatted_text, Formats, PutsVolume};
 
 use crate::ended::Ended;
@@ -64,7 +64,7 @@ pub(crate) fn run_format<S: Source, O: Sink, E: Sink, K: Keeper, D: Depot, H: Sh
     ensures formats { let seen = ⟦<World<S, O, E, K, D, H, C> as Observed>⟧.seen in
         Formats setting.now (seen world.old) (seen world.new) result }
     ensures faults { let seen = ⟦<World<S, O, E, K, D, H, C> as Observed>⟧.seen in
-        CountsFaults result (seen world.old) (seen world.new) }
+        CountsFaults result (in_world (seen world.old)) (in_world (seen world.new)) }
     ensures keeper { UsesKeeper result 0 place.now (K.seen world.old.keeper) (K.seen world.new.keeper) }
     ensures err { world.new.err ≡ world.old.err }
 {

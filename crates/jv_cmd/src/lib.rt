@@ -2,11 +2,13 @@
 #![tactic(auto)]
 
 mod blocks;
+mod bounds;
 mod command;
 mod ended;
 mod format;
 mod lines;
 mod reader;
+mod stage;
 mod volume;
 mod words;
 mod world;

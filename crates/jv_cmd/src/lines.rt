@@ -1,42 +1,31 @@
-ghost use Rattle.std.specs.Prelude.{◌≡◌, ℕ, ◌≤◌, ◌<◌, [], OnOk};
+ghost use Rattle.std.specs.Prelude.{◌≡◌, ℕ, ◌≤◌, ◌<◌, [], IsSome, IsSomeAnd, IsTrue, OnOk};
 ghost use Rattle.std.specs.Io.KnownBytes.{prepend_known};
-ghost use Rattle.jv_cmd.specs.Opening.{IsKnown};
-ghost use Rattle.jv_cmd.specs.Steps.{IsBuiltHere, TellsBuilt, TextReads, LineEnds, TextEnds, Going, EndsLines, Turns};
-ghost use Rattle.jv_cmd.specs.Worlds.{WorldValue};
+ghost use Rattle.jv_model.specs.declared.limits.TheConstants.{MAX_DATA};
+ghost use Rattle.jv_client.specs.Built.{is_built_line};
+ghost use Rattle.jv_session.specs.Stands.{IsYardOf};
+ghost use Rattle.jv_cmd.specs.Steps.{TextReads, LineEnds, TextEnds, Going, EndsLines, Turns};
+ghost use Rattle.jv_cmd.specs.Stages.{IsFirst, StageValue};
 
 use crate::ended::Ended;
 use crate::reader::{LineReader, Next};
-use crate::world::{Observed, World};
-use jv_model::{DEFAULT_BUFFER, Limits, Line, MAX_LINES, Setting};
+use crate::stage::{ObservedStage, Stage};
+use jv_model::{Line, MAX_LINES, Setting};
 use jv_outside::{Clock, Depot, Keeper, Shelf, Sink, Source, write_whole};
 use jv_script::{BadLine, read_line};
 use jv_session::{LineEnd, Schedule};
+use jv_yard::{Alone, YardDoor};
 use std::alloc::Global;
-
-/// What bounds a session: 32 MiB may be pending, and the cache has the blocks of 64 MiB.
-const LIMITS: Limits = Limits {
-    buffer: DEFAULT_BUFFER,
-    entries: 16,
-    writeback: false,
-};
-
-/// Whether a line is one of those that run today.
-fn is_built(schedule: &Schedule, line: &Line) -> bool
-    ensures { TellsBuilt schedule.now line.now result }
-{
-    schedule.is_built(line)
-}
 
 /// Reads a text as a line that may be run.
 fn read_built(alloc: Global, number: u32, text: &[u8], schedule: &Schedule) -> Result<Line, Ended>
-    ensures { TextReads number text.now schedule.now result }
+    ensures { TextReads number text.now schedule.now.limits result }
 {
     let line = match read_line(alloc, text) {
         Ok(line) => line,
         Err(BadLine::Off) => return Err(Ended::OffLine(number)),
         Err(BadLine::Memory) => return Err(Ended::OutOfMemory),
     };
-    if is_built(schedule, &line) {
+    if schedule.is_built(&line) {
         Ok(line)
     } else {
         discard(line);
@@ -51,28 +40,31 @@ fn discard(line: Line) {
 
 /// Runs a line, and prints its answer where it has one. Where the clock fails or memory runs out, the steps made so far
 /// stand, and nothing is printed.
-fn run_line<S: Source, O: Sink, E: Sink, K: Keeper, D: Depot, H: Shelf, C: Clock>(
+fn run_line<S: Source, O: Sink, K: Keeper, D: Depot, H: Shelf, C: Clock>(
     line: Line,
     number: u32,
     schedule: &mut Schedule,
-    world: &mut World<S, O, E, K, D, H, C>,
+    stage: &mut Stage<S, O, K, D, H, C>,
 ) -> Result<(), Ended>
-    requires { IsBuiltHere schedule.old line }
-    ensures ends { let seen = ⟦<World<S, O, E, K, D, H, C> as Observed>⟧.seen in
-        LineEnds line number (seen world.old) (seen world.new) schedule.old schedule.new result }
-    ensures source { world.new.source ≡ world.old.source }
-    ensures err { world.new.err ≡ world.old.err }
-    ensures attached { let seen = ⟦<World<S, O, E, K, D, H, C> as Observed>⟧.seen in
-        (seen world.new).blocks ≡ (seen world.old).blocks }
+    requires built { IsTrue (is_built_line schedule.old.limits line) }
+    requires yard { let given = ⟦<Alone<D, H> as YardDoor<D, H>>⟧.given in
+        IsSomeAnd (given stage.old.door) (IsYardOf schedule.old) }
+    ensures ends { let seen = ⟦<Stage<S, O, K, D, H, C> as ObservedStage>⟧.seen in
+        LineEnds line number (seen stage.old) (seen stage.new) schedule.old schedule.new result }
+    ensures source { stage.new.source ≡ stage.old.source }
+    ensures yard { let given = ⟦<Alone<D, H> as YardDoor<D, H>>⟧.given in
+        IsSomeAnd (given stage.new.door) (IsYardOf schedule.new) }
 {
     match schedule.line(
         line,
         number,
-        &mut world.keeper,
-        &mut world.clock,
-        &mut world.journal,
+        &mut stage.keeper,
+        &mut stage.door,
+        &mut *stage.carrier,
+        &mut stage.clock,
+        &mut stage.journal,
     ) {
-        LineEnd::Said(answer) => match write_whole(&mut world.out, answer.as_slice()) {
+        LineEnd::Said(answer) => match write_whole(&mut stage.out, answer.as_slice()) {
             Ok(()) => Ok(()),
             Err(_) => Err(Ended::OutFailed),
         },
@@ -84,51 +76,53 @@ fn run_line<S: Source, O: Sink, E: Sink, K: Keeper, D: Depot, H: Shelf, C: Clock
 }
 
 /// Reads a text as a line and runs it.
-fn run_text<S: Source, O: Sink, E: Sink, K: Keeper, D: Depot, H: Shelf, C: Clock>(
+fn run_text<S: Source, O: Sink, K: Keeper, D: Depot, H: Shelf, C: Clock>(
     alloc: Global,
     number: u32,
     text: &[u8],
     schedule: &mut Schedule,
-    world: &mut World<S, O, E, K, D, H, C>,
+    stage: &mut Stage<S, O, K, D, H, C>,
 ) -> Result<(), Ended>
-    ensures ends { let seen = ⟦<World<S, O, E, K, D, H, C> as Observed>⟧.seen in
-        TextEnds number text.now (seen world.old) (seen world.new) schedule.old schedule.new result }
-    ensures source { world.new.source ≡ world.old.source }
-    ensures err { world.new.err ≡ world.old.err }
-    ensures attached { let seen = ⟦<World<S, O, E, K, D, H, C> as Observed>⟧.seen in
-        (seen world.new).blocks ≡ (seen world.old).blocks }
+    requires yard { let given = ⟦<Alone<D, H> as YardDoor<D, H>>⟧.given in
+        IsSomeAnd (given stage.old.door) (IsYardOf schedule.old) }
+    ensures ends { let seen = ⟦<Stage<S, O, K, D, H, C> as ObservedStage>⟧.seen in
+        TextEnds number text.now (seen stage.old) (seen stage.new) schedule.old schedule.new result }
+    ensures source { stage.new.source ≡ stage.old.source }
+    ensures yard { let given = ⟦<Alone<D, H> as YardDoor<D, H>>⟧.given in
+        IsSomeAnd (given stage.new.door) (IsYardOf schedule.new) }
 {
     match read_built(alloc, number, text, schedule) {
-        Ok(line) => run_line(line, number, schedule, world),
+        Ok(line) => run_line(line, number, schedule, stage),
         Err(ended) => Err(ended),
     }
 }
 
 /// Runs the line after `done` others.
-fn turn<S: Source, O: Sink, E: Sink, K: Keeper, D: Depot, H: Shelf, C: Clock>(
+fn turn<S: Source, O: Sink, K: Keeper, D: Depot, H: Shelf, C: Clock>(
     alloc: Global,
     done: u32,
     reader: &mut LineReader,
     schedule: &mut Schedule,
-    world: &mut World<S, O, E, K, D, H, C>,
+    stage: &mut Stage<S, O, K, D, H, C>,
 ) -> Result<(), Ended>
-    requires { done ≤ MAX_LINES }
-    ensures turns { let seen = ⟦<World<S, O, E, K, D, H, C> as Observed>⟧.seen in
-        (before : WorldValue)
-        → Going (prepend_known reader.old (seen world.old).source.content) before (seen world.old) done schedule.old
-        → Turns (prepend_known reader.new (seen world.new).source.content) before (seen world.new) done schedule.new
+    requires few { done ≤ MAX_LINES }
+    requires yard { let given = ⟦<Alone<D, H> as YardDoor<D, H>>⟧.given in
+        IsSomeAnd (given stage.old.door) (IsYardOf schedule.old) }
+    ensures turns { let seen = ⟦<Stage<S, O, K, D, H, C> as ObservedStage>⟧.seen in
+        (before : StageValue)
+        → Going (prepend_known reader.old (seen stage.old).source.content) before (seen stage.old) done schedule.old
+        → Turns (prepend_known reader.new (seen stage.new).source.content) before (seen stage.new) done schedule.new
         result }
     ensures more { OnOk result (done < MAX_LINES) }
-    ensures err { world.new.err ≡ world.old.err }
-    ensures attached { let seen = ⟦<World<S, O, E, K, D, H, C> as Observed>⟧.seen in
-        (seen world.new).blocks ≡ (seen world.old).blocks }
+    ensures yard { let given = ⟦<Alone<D, H> as YardDoor<D, H>>⟧.given in
+        IsSomeAnd (given stage.new.door) (IsYardOf schedule.new) }
 {
-    match reader.next(&mut world.source) {
+    match reader.next(&mut stage.source) {
         Ok(Next::Text(count)) => {
             if done == MAX_LINES {
                 return Err(Ended::OffLine(done + 1));
             }
-            let ran = run_text(alloc, done + 1, reader.front(count), schedule, world);
+            let ran = run_text(alloc, done + 1, reader.front(count), schedule, stage);
             reader.pass(count);
             ran
         }
@@ -139,46 +133,48 @@ fn turn<S: Source, O: Sink, E: Sink, K: Keeper, D: Depot, H: Shelf, C: Clock>(
 }
 
 /// Runs lines until the run ends.
-fn run_lines<S: Source, O: Sink, E: Sink, K: Keeper, D: Depot, H: Shelf, C: Clock>(
+fn run_lines<S: Source, O: Sink, K: Keeper, D: Depot, H: Shelf, C: Clock>(
     alloc: Global,
     reader: &mut LineReader,
     schedule: &mut Schedule,
-    world: &mut World<S, O, E, K, D, H, C>,
+    stage: &mut Stage<S, O, K, D, H, C>,
 ) -> Ended
-    ensures runs { let seen = ⟦<World<S, O, E, K, D, H, C> as Observed>⟧.seen in
-        (before : WorldValue)
-        → Going (prepend_known reader.old (seen world.old).source.content) before (seen world.old) 0 schedule.old
-        → EndsLines before (seen world.new) result }
-    ensures err { world.new.err ≡ world.old.err }
-    ensures attached { let seen = ⟦<World<S, O, E, K, D, H, C> as Observed>⟧.seen in
-        (seen world.new).blocks ≡ (seen world.old).blocks }
+    requires yard { let given = ⟦<Alone<D, H> as YardDoor<D, H>>⟧.given in
+        IsSomeAnd (given stage.old.door) (IsYardOf schedule.old) }
+    ensures runs { let seen = ⟦<Stage<S, O, K, D, H, C> as ObservedStage>⟧.seen in
+        (before : StageValue)
+        → Going (prepend_known reader.old (seen stage.old).source.content) before (seen stage.old) 0 schedule.old
+        → EndsLines before (seen stage.new) result }
+    ensures yard { let given = ⟦<Alone<D, H> as YardDoor<D, H>>⟧.given in
+        IsSomeAnd (given stage.new.door) (IsYardOf schedule.new) }
 {
     let mut done = 0;
     'lines: loop {
-        match turn(alloc, done, reader, schedule, world) {
+        match turn(alloc, done, reader, schedule, stage) {
             Ok(()) => done += 1,
             Err(ended) => return ended,
         }
     }
 }
 
-/// Runs the script of the source over the rows of the keeper, whose setting this is.
-pub(crate) fn run_script<S: Source, O: Sink, E: Sink, K: Keeper, D: Depot, H: Shelf, C: Clock>(
+/// Runs the script of the source over the rows of the keeper and the blocks of a yard that was just started, whose setting
+/// this is.
+pub(crate) fn run_script<S: Source, O: Sink, K: Keeper, D: Depot, H: Shelf, C: Clock>(
     alloc: Global,
     setting: Setting,
-    world: &mut World<S, O, E, K, D, H, C>,
+    stage: &mut Stage<S, O, K, D, H, C>,
 ) -> Ended
-    requires empty { world.old.journal.acts ≡ [] }
-    requires stored { IsKnown (K.seen world.old.keeper).rows setting }
-    ensures runs { let seen = ⟦<World<S, O, E, K, D, H, C> as Observed>⟧.seen in
-        EndsLines (seen world.old) (seen world.new) result }
-    ensures err { world.new.err ≡ world.old.err }
-    ensures attached { let seen = ⟦<World<S, O, E, K, D, H, C> as Observed>⟧.seen in
-        (seen world.new).blocks ≡ (seen world.old).blocks }
+    requires empty { stage.old.journal.acts ≡ [] }
+    requires buffer { MAX_DATA ≤ stage.old.limits.buffer }
+    requires yard { let given = ⟦<Alone<D, H> as YardDoor<D, H>>⟧.given in
+        IsSomeAnd (given stage.old.door) (IsFirst setting) }
+    ensures runs { let seen = ⟦<Stage<S, O, K, D, H, C> as ObservedStage>⟧.seen in
+        EndsLines (seen stage.old) (seen stage.new) result }
+    ensures yard { IsSome (⟦<Alone<D, H> as YardDoor<D, H>>⟧.given stage.new.door) }
 {
     let Ok(mut reader) = LineReader::new(alloc) else {
         return Ended::OutOfMemory;
     };
-    let mut schedule = Schedule::new(alloc, setting, LIMITS);
-    run_lines(alloc, &mut reader, &mut schedule, world)
+    let mut schedule = Schedule::new(alloc, setting, stage.limits);
+    run_lines(alloc, &mut reader, &mut schedule, stage)
 }
