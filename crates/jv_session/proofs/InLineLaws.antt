@@ -126,7 +126,7 @@ module _ (number client : ℕ) (before after : LineState) (step : Step) (m : Ste
 
     pub stepped_uses : LineUses before after 1 failed_in
     stepped_uses = uses_step before after m.now m.steps.made m.moment.answered.passes m.steps.devices
-        (ap (λ (s : ScheduleValue). s.at) m.same)
+        (ap (λ (s : ScheduleValue). s.at) m.same) (ap (λ (s : ScheduleValue). s.limits) m.same)
 
     -- from the past where the line stands
     module _ (due : Due) (q : Past) (at : InLine q before.schedule before.devices)

@@ -212,11 +212,12 @@ module _ (v : Shared) (number : ℕ) (clock ticked : Ticks) (journal more : List
       })
 
   uses_entry : (client by now : ℕ) (kind : ActKind) (noted s' : ScheduleValue) → Noted noted client kind by now
-      → s'.at ≡ noted.at → LineUses before (after s') 1 no_failures
-  uses_entry client by now kind noted s' m at =
+      → s'.at ≡ noted.at → s'.limits ≡ noted.limits → LineUses before (after s') 1 no_failures
+  uses_entry client by now kind noted s' m at limits =
       let is : noted.at ≡ now = ap (λ (x : ScheduleValue). x.at) m.same in
       let later = m.later in
       uses_clock before (after s') 1 m.moment.answered.passes refl (omega (arith, later, at, is))
+      (limits ∙ ap (λ (x : ScheduleValue). x.limits) m.same)
 
   abbrev Noting : ScheduleValue → ℕ → ActKind → ℕ → Result ℕ Stopped → Type 0
   Noting noted client kind by made = Notes s noted number client kind by clock ticked journal more made
@@ -234,7 +235,7 @@ module _ (v : Shared) (number : ℕ) (clock ticked : Ticks) (journal more : List
       let m = subst (Noting s' client (Answered (ToldRefused fault)) 0) is notes in
       let c = the_client client m.eight low in
       says (IsRefused client fault) number 1 no_failures before (after s') (printed_line s'.setting (Refused fault)) printed end
-      (uses_entry client 0 now (Answered (ToldRefused fault)) s' s' m refl) m.moment.answered.calm
+      (uses_entry client 0 now (Answered (ToldRefused fault)) s' s' m refl refl) m.moment.answered.calm
       (refused_finish client now fault c.0 s' c.1 m) text said
 
   pub tick_says : (by : ℕ) (noted s' : ScheduleValue) (ticks now : ℕ) (made : Result ℕ Stopped)
@@ -248,7 +249,8 @@ module _ (v : Shared) (number : ℕ) (clock ticked : Ticks) (journal more : List
       let before_ticks : ticks ≡ min LAST_MOMENT (s.ticks + by) = passed
       ∙ ap (λ (v : ScheduleValue). min LAST_MOMENT (v.ticks + by)) m.same in
       says (Passing by) number 1 no_failures before (after s') (with_feed (codes "now " ++ decimal now)) printed end
-      (uses_entry NO_CLIENT by now (Ticked by) noted s' m (ap (λ (x : ScheduleValue). x.at) same)) m.moment.answered.calm
+      (uses_entry NO_CLIENT by now (Ticked by) noted s' m (ap (λ (x : ScheduleValue). x.at) same)
+      (ap (λ (x : ScheduleValue). x.limits) same)) m.moment.answered.calm
       (tick_finish by now ticks noted s' m same before_ticks) text said
 
   pub crash_says : (client : ℕ) (noted s' : ScheduleValue) (c : ClientValue) (now : ℕ) (made : Result ℕ Stopped)
@@ -262,7 +264,8 @@ module _ (v : Shared) (number : ℕ) (clock ticked : Ticks) (journal more : List
       let here : slice_get s.clients client ≡ Some c = ap (λ (v : ScheduleValue). slice_get v.clients client)
       (sym m.same) ∙ found in
       says (Crashes client) number 1 no_failures before (after s') (with_feed (codes "crashed")) printed end
-      (uses_entry client 0 now Crashed noted s' m (ap (λ (x : ScheduleValue). x.at) same)) m.moment.answered.calm
+      (uses_entry client 0 now Crashed noted s' m (ap (λ (x : ScheduleValue). x.at) same)
+      (ap (λ (x : ScheduleValue). x.limits) same)) m.moment.answered.calm
       (crash_finish client now c noted s' here m same) text said
 
   -- no entry was made

@@ -29,7 +29,7 @@ use Rattle.jv_session.specs.Stands.{ScheduleValue, ClockFor, InLine, IsYardOf, b
 use Rattle.jv_session.specs.Lines.{LineState, LineUses, AreFailures}
 use Rattle.jv_session.specs.InLine.{Goes, Finish, Break, Breaks, FromLine, LineGoes, LineSays, StopsBefore, RunsToEnd, at_moment, end_of}
 use Rattle.jv_session.proofs.MemberLaws.{slice_get-set}
-use Rattle.jv_session.proofs.UsesLaws.{both_failures, failures_then, no_failures, stopped_bad, uses_none, uses_nothing, uses_still, uses_then}
+use Rattle.jv_session.proofs.UsesLaws.{both_failures, failures_both, no_failures, stopped_bad, uses_none, uses_nothing, uses_still, uses_then}
 use Rattle.jv_session.proofs.InLineLaws.{LeavesRest, StepMade, Stepped, Stepping, clock_later, failed_in, goes_none, in_line-left, line_goes_on, says, step_made, stepped_uses}
 
 -- entries one after another
@@ -145,7 +145,7 @@ module _ (client number : ℕ) (start now later : LineState) (h : Reached client
             f.goes made.goes
 
         failures_more : AreFailures (f.acts ++ acts_then) failed_then
-        failures_more = failures_then f.acts acts_then h.failed (failed_in number client now later step m) f.failures
+        failures_more = failures_both f.acts acts_then h.failed (failed_in number client now later step m) f.failures
             made.failures
 
   leads_more_steps : (m : Stepped number client now later More)

@@ -70,7 +70,7 @@ made_failures made device = times (tells_failure device made)
 stays_none : (v : Shared) → StaysOpen v v
 stays_none v = record { keeper_at = refl; carrier_at = refl; depot_at = refl; shelf_at = refl; setting = refl }
 
-stays_then : (first second third : Shared) → StaysOpen first second → StaysOpen second third → StaysOpen first third
+pub stays_then : (first second third : Shared) → StaysOpen first second → StaysOpen second third → StaysOpen first third
 stays_then first second third a b = record {
   keeper_at = b.keeper_at ∙ a.keeper_at;
   carrier_at = b.carrier_at ∙ a.carrier_at;
@@ -85,6 +85,7 @@ uses_none s = record {
   stays = stays_none s.devices;
   counts = λ device. refl;
   yard = λ h. h;
+  limits = refl;
 }
 
 pub uses_then : (start now later : LineState) (m n : ℕ) (f g : Device → ℕ) → LineUses start now m f
@@ -95,17 +96,20 @@ uses_then start now later m n f g a b = record {
   counts = λ device. rose_times-then (f device) (g device) (faults_of device start.devices)
       (faults_of device now.devices) (faults_of device later.devices) (a.counts device) (b.counts device);
   yard = λ h. b.yard (a.yard h);
+  limits = b.limits ∙ a.limits;
 }
 
 -- the clock was asked so often, and no device is used
 pub uses_clock : (before after : LineState) (asks : ℕ) → Passes before.clock.answers after.clock.answers asks
-    → after.devices ≡ before.devices → before.schedule.at ≤ after.schedule.at → LineUses before after asks no_failures
-uses_clock before after asks passes same later = record {
+    → after.devices ≡ before.devices → before.schedule.at ≤ after.schedule.at
+    → after.schedule.limits ≡ before.schedule.limits → LineUses before after asks no_failures
+uses_clock before after asks passes same later limits = record {
   passes = passes;
   stays = subst (StaysOpen before.devices) (sym same) (stays_none before.devices);
   counts = λ device. ap (faults_of device) same;
   yard = λ h. subst (λ (v : Shared). IsYardOf after.schedule v.yard) (sym same)
       (record { block = h.block; last = (let last = h.last in omega (arith, last, later)) });
+  limits = limits;
 }
 
 -- nor was the clock
@@ -115,6 +119,7 @@ uses_nothing before after answers same schedule =
     uses_clock before after 0 (subst (λ (a : Option (ℕ → ℕ)). Passes before.clock.answers a 0) (sym answers)
     (Passes-zero before.clock.answers)) same
     (let at : after.schedule.at ≡ before.schedule.at = ap (λ (s : ScheduleValue). s.at) schedule in omega (arith, at))
+    (ap (λ (s : ScheduleValue). s.limits) schedule)
 
 -- nothing more was used
 pub uses_still : (start now later : LineState) (m : ℕ) (f : Device → ℕ) → LineUses start now m f
@@ -126,6 +131,7 @@ uses_still start now later m f a b = record {
   counts = λ device. subst (RoseTimes (f device) (faults_of device start.devices)) (sym (b.counts device))
       (a.counts device);
   yard = λ h. b.yard (a.yard h);
+  limits = b.limits ∙ a.limits;
 }
 
 -- a device's count is the same once the yard knows of another moment
@@ -139,8 +145,8 @@ faults_at now v Carrier = refl
 pub uses_step : (before after : LineState) (now : ℕ) (made : Made)
     → Passes before.clock.answers after.clock.answers 1
     → UsesDevices made (at_moment now before.devices) after.devices → after.schedule.at ≡ now
-    → LineUses before after 1 (made_failures made)
-uses_step before after now made passes uses at = record {
+    → after.schedule.limits ≡ before.schedule.limits → LineUses before after 1 (made_failures made)
+uses_step before after now made passes uses at limits = record {
   passes = passes;
   stays = record {
     keeper_at = uses.keeper_at;
@@ -157,6 +163,7 @@ uses_step before after now made passes uses at = record {
     block = subst (λ (s : Setting). IsLength s.block) (sym uses.setting) h.block;
     last = (let last = uses.last in omega (arith, last, at));
   };
+  limits = limits;
 }
 
 -- a step that stopped at a row: it is Bad
@@ -172,11 +179,14 @@ stopped_bad (made.Broken at found) before after key bytes is h =
 
 -- what entries say of devices
 
-pub failures_then : (xs ys : List Act) (f g : Device → ℕ) → AreFailures xs f → AreFailures ys g
+pub failures_then : (device : Device) (xs ys : List Act)
+    → device_failures device (xs ++ ys) ≡ device_failures device xs + device_failures device ys
+failures_then device xs ys = sum_by-append (λ (act : Act). cond (is_failure_entry device act.kind) 1 0) xs ys
+
+pub failures_both : (xs ys : List Act) (f g : Device → ℕ) → AreFailures xs f → AreFailures ys g
     → AreFailures (xs ++ ys) (both_failures f g)
-failures_then xs ys f g h k device =
-    sum_by-append (λ (act : Act). cond (is_failure_entry device act.kind) 1 0) xs ys
-    ∙ ap (λ n. n + device_failures device ys) (h device) ∙ ap (λ n. f device + n) (k device)
+failures_both xs ys f g h k device =
+    failures_then device xs ys ∙ ap (λ n. n + device_failures device ys) (h device) ∙ ap (λ n. f device + n) (k device)
 
 failures_one : (line now client : ℕ) (kind : ActKind) (device : Device) (b : Bool)
     → is_failure_entry device kind ≡ b → device_failures device (entry_of line now client kind ∷ []) ≡ times b

@@ -51,6 +51,7 @@ pub record StandsIn (p : Past) (more : List Line) (Where : Past → Type 0) (s :
 pub record Enters (line : Line) (number : ℕ) (s : ScheduleValue) (Where : Past → Type 0) (s1 : ScheduleValue) : Type 0
   where
     pub at : s1.at ≡ s.at
+    pub limits : s1.limits ≡ s.limits
     pub enters : (v : Shared) (p : Past) (more : List Line) → Stands p s v → p.line + 1 ≡ number
         → p.rest ≡ line ∷ more
         → StandsIn p more Where s1 v (begun_to number p)
@@ -175,6 +176,7 @@ module _ (number : ℕ) (s s1 : ScheduleValue) (client : ℕ) where
   pub do_enters : (o : Op) → HasBegun s s1 client o → Enters (Do client o) number s (RunsToEnd client) s1
   do_enters o h = record {
     at = ap (λ (x : ScheduleValue). x.at) h.same;
+    limits = ap (λ (x : ScheduleValue). x.limits) h.same;
     enters = λ v p more st next rest.
         let a = accepted p s s1 v client o st h in
         let b = do_begun p number client o more next (next_of p s v (Do client o) more st rest) a.accepts in
@@ -186,6 +188,7 @@ module _ (number : ℕ) (s s1 : ScheduleValue) (client : ℕ) where
       → Enters (Do client o) number s (IsRefused client fault) s1
   do_refused_enters o fault h = record {
     at = ap (λ (x : ScheduleValue). x.at) h.same;
+    limits = ap (λ (x : ScheduleValue). x.limits) h.same;
     enters = λ v p more st next rest.
         let r = refuses p s s1 v client o fault st h in
         refused_line p (begun_to number p) s s1 v client o fault more [] st h.same r
@@ -196,6 +199,7 @@ module _ (number : ℕ) (s s1 : ScheduleValue) (client : ℕ) where
       → Enters (Begin client o) number s (SaysAlone (with_feed (codes "begun"))) s1
   begin_enters o h = record {
     at = ap (λ (x : ScheduleValue). x.at) h.same;
+    limits = ap (λ (x : ScheduleValue). x.limits) h.same;
     enters = λ v p more st next rest.
         let a = accepted p s s1 v client o st h in
         let q = begun_to number p in
@@ -210,6 +214,7 @@ module _ (number : ℕ) (s s1 : ScheduleValue) (client : ℕ) where
       → Enters (Begin client o) number s (IsRefused client fault) s1
   begin_refused_enters o fault h = record {
     at = ap (λ (x : ScheduleValue). x.at) h.same;
+    limits = ap (λ (x : ScheduleValue). x.limits) h.same;
     enters = λ v p more st next rest.
         let r = refuses p s s1 v client o fault st h in
         refused_line p (begun_to number p) s s1 v client o fault more [] st h.same r
@@ -221,6 +226,7 @@ module _ (number : ℕ) (s : ScheduleValue) (client : ℕ) where
       → Enters (Step client) number s (StepsOnce client) s
   step_enters inside busy = record {
     at = refl;
+    limits = refl;
     enters = λ v p more st next rest.
         let b = step_begun p number client more next (next_of p s v (Step client) more st rest)
         (busy_same p s v client inside st ∙ busy) in
@@ -231,6 +237,7 @@ module _ (number : ℕ) (s : ScheduleValue) (client : ℕ) where
       → Enters (Run client) number s (RunsToEnd client) s
   run_enters inside busy = record {
     at = refl;
+    limits = refl;
     enters = λ v p more st next rest.
         let b = run_begun p number client more next (next_of p s v (Run client) more st rest)
         (busy_same p s v client inside st ∙ busy) in
@@ -241,6 +248,7 @@ module _ (number : ℕ) (s : ScheduleValue) (client : ℕ) where
       → Enters (Step client) number s (SaysAlone idle_text) s
   step_idle_enters inside idle = record {
     at = refl;
+    limits = refl;
     enters = λ v p more st next rest.
         let q = begun_to number p in
         let b = step_idle p number client more next (next_of p s v (Step client) more st rest)
@@ -253,6 +261,7 @@ module _ (number : ℕ) (s : ScheduleValue) (client : ℕ) where
       → Enters (Run client) number s (SaysAlone idle_text) s
   run_idle_enters inside idle = record {
     at = refl;
+    limits = refl;
     enters = λ v p more st next rest.
         let q = begun_to number p in
         let b = run_idle p number client more next (next_of p s v (Run client) more st rest)
@@ -264,6 +273,7 @@ module _ (number : ℕ) (s : ScheduleValue) (client : ℕ) where
   pub crash_enters : Enters (Crash client) number s (Crashes client) s
   crash_enters = record {
     at = refl;
+    limits = refl;
     enters = λ v p more st next rest.
         let b = crash_begun p number client more next (next_of p s v (Crash client) more st rest) in
         same_line p (begun_to number p) s v more (CrashEntry client) [] (Crashes client) st b b.due_is;
@@ -272,6 +282,7 @@ module _ (number : ℕ) (s : ScheduleValue) (client : ℕ) where
 pub tick_enters : (number : ℕ) (s : ScheduleValue) (by : ℕ) → Enters (Tick by) number s (Passing by) s
 tick_enters number s by = record {
   at = refl;
+  limits = refl;
   enters = λ v p more st next rest.
       let b = tick_begun p number by more next (next_of p s v (Tick by) more st rest) in
       same_line p (begun_to number p) s v more (TickEntry by) [] (Passing by) st b b.due_is;
@@ -361,6 +372,7 @@ module _ (line : Line) (number : ℕ) (before after : LineState) (s1 : ScheduleV
     stays = u.stays;
     counts = u.counts;
     yard = λ h. u.yard (record { block = h.block; last = subst (λ n. before.devices.yard.last ≤ n) (sym i.at) h.last });
+    limits = u.limits ∙ i.limits;
   }
 
   finish_entered : (q : Past) (asks : ℕ) (failed : Device → ℕ) (text : List ℕ) → Finish q asks failed entered after text
