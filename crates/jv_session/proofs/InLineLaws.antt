@@ -7,12 +7,16 @@ use Rattle.std.proofs.lemmas.Bool.{or_left}
 use Rattle.jv_model.specs.declared.limits.TheConstants.{LAST_MOMENT}
 use Rattle.jv_model.specs.declared.act.Act.{Act}
 use Rattle.jv_model.specs.declared.act.ActKind.{ActKind}
+use Rattle.jv_model.specs.declared.fault.Device.{Device}
 use Rattle.jv_model.specs.declared.op.Reply.{Reply}
 use Rattle.jv_model.specs.declared.op.Step.{Step}
 use Rattle.jv_model.specs.declared.op.Step.TheVariants.{More, Done, Broken}
 use Rattle.jv_model.specs.declared.row.RowKey.{RowKey}
 use Rattle.jv_model.specs.declared.setting.Setting.{Setting}
+use Rattle.jv_model.specs.client.ModelClient.{ModelClient}
+use Rattle.jv_model.specs.tree.Tree.{Tree}
 use Rattle.jv_model.specs.journal.State.{State}
+use Rattle.jv_model.specs.journal.Steps.{Start}
 use Rattle.jv_model.specs.journal.Past.{Past, Setup, Due, NoMore, OneStep, StepMade as StepTaken, is_over, ends_in_step, more_text}
 use Rattle.jv_model.specs.script.ReplyText.{printed_line}
 use Rattle.jv_model.specs.journal.Legal.{may_stop}
@@ -22,20 +26,21 @@ use Rattle.jv_laws.proofs.EntriesOfLines.{leads_none}
 use Rattle.jv_laws.proofs.EndedLines.{is_over_at, may_be_cut_at}
 use Rattle.jv_laws.proofs.StepsOnLines.{RunsClient, OneStepOnly, StepsOn, step_ran, others_stepped}
 use Rattle.jv_outside.specs.Ticks.{Ticks, Passes}
+use Rattle.jv_shared.specs.Shared.{Known, Shared}
+use Rattle.jv_requests.specs.Request.{Request}
 use Rattle.jv_client.specs.ClientValue.{ClientValue}
-use Rattle.jv_client.specs.Shared.{Shared, shared}
-use Rattle.jv_client.specs.Held.{IsClient, Holds}
-use Rattle.jv_client.specs.Makes.{StepsTo, entries_of, kinds_of, tells_failure}
+use Rattle.jv_client.specs.Held.{IsClient, Holds, in_flight}
+use Rattle.jv_client.specs.Makes.{StepsTo, entries_of, kinds_of}
 use Rattle.jv_session.specs.declared.line_end.LineEnd.{LineEnd}
 use Rattle.jv_session.specs.declared.line_end.LineEnd.TheVariants.{Broken as LineBroken}
 use Rattle.jv_session.specs.declared.line_end.Stopped.{Stopped}
 use Rattle.jv_session.specs.declared.line_end.Stopped.TheVariants as stopped
-use Rattle.jv_session.specs.Stands.{ScheduleValue, IsState, ClockFor, InLine}
-use Rattle.jv_session.specs.Lines.{LineState, LineUses, keeper_failures}
-use Rattle.jv_session.specs.InLine.{Goes, Finish, Break, FromLine, LineGoes, LineSays, IsMomentOf, StopsBefore, HasStepped, MakesStep, StepsOnce, end_of}
+use Rattle.jv_session.specs.Stands.{ScheduleValue, IsState, IsClientAt, ClockFor, InLine}
+use Rattle.jv_session.specs.Lines.{LineState, LineUses, AreFailures}
+use Rattle.jv_session.specs.InLine.{Goes, Finish, Break, FromLine, LineGoes, LineSays, IsMomentOf, StopsBefore, HasStepped, MakesStep, StepsOnce, at_moment, end_of}
 use Rattle.jv_session.proofs.BeginLaws.{not_ending}
-use Rattle.jv_session.proofs.StateLaws.{client_at, state-stepped}
-use Rattle.jv_session.proofs.UsesLaws.{failures_made, stopped-bad, times, uses_nothing, uses_step}
+use Rattle.jv_session.proofs.StateLaws.{client_at, state_moment, state_stepped}
+use Rattle.jv_session.proofs.UsesLaws.{failures_made, made_failures, no_failures, stopped_bad, uses_nothing, uses_step}
 
 -- the clock
 
@@ -77,70 +82,85 @@ is_now q s by now n before mid final at last ticks m passes for =
     m.answered.answer at last ticks m.is
 
 -- no operation waits for its answer alone
-pub goes_on : (q : State) (clients : List ClientValue) (v : Shared) (k : ℕ) (c : ClientValue) → IsState q clients v
-    → slice_get clients k ≡ Some c
-    → ends_in_step (q.clients k) ≡ false
-goes_on q clients v k c h found = not_ending (q.clients k) c.doing (client_at q clients v k c h found).is_client.doing
+pub goes_on : (start : Start) (g : Known) (q : State) (clients : List ClientValue) (v : Shared) (k : ℕ)
+    (c : ClientValue) → IsState start g q clients v → slice_get clients k ≡ Some c → ends_in_step (q.clients k) ≡ false
+goes_on start g q clients v k c h found =
+    not_ending (q.clients k) c.doing (client_at start g q clients v k c h found).is_client.doing
+
+-- in a line
+pub line_goes_on : (q : Past) (s : ScheduleValue) (v : Shared) (k : ℕ) (c : ClientValue) → InLine q s v
+    → slice_get s.clients k ≡ Some c → ends_in_step (q.state.clients k) ≡ false
+line_goes_on q s v k c h found = goes_on q.run.start h.known q.state s.clients v k c h.state found
 
 -- a step of a client of the line
 
 abbrev pub Stepped : ℕ → ℕ → LineState → LineState → Step → Type 0
 Stepped number client before after step =
-    HasStepped before.schedule after.schedule number client before.clock after.clock before.keeper after.keeper
+    HasStepped before.schedule after.schedule number client before.clock after.clock before.devices after.devices
     before.journal after.journal step
 
 -- the call for a step
 abbrev pub Stepping : ℕ → ℕ → LineState → LineState → Result Step Stopped → Type 0
 Stepping number client before after made =
-    MakesStep before.schedule after.schedule number client before.clock after.clock before.keeper after.keeper
+    MakesStep before.schedule after.schedule number client before.clock after.clock before.devices after.devices
     before.journal after.journal made
 
-pub record StepMade (due : Due) (q : Past) (client failed : ℕ) (before after : LineState) (step : Step) : Type 0 where
+pub record StepMade (due : Due) (q : Past) (client : ℕ) (failed : Device → ℕ) (before after : LineState)
+    (step : Step) : Type 0 where
   pub now : ℕ
   pub kinds : List ActKind
   pub end : Past
   pub on : StepsOn due q client now kinds step end
   pub goes : Goes q 1 before.journal after.journal (map (entry_of q.line now client) kinds) end
-  pub failures : keeper_failures (map (entry_of q.line now client) kinds) ≡ failed
-  pub in_line : InLine end after.schedule after.keeper
+  pub failures : AreFailures (map (entry_of q.line now client) kinds) failed
+  pub in_line : InLine end after.schedule after.devices
 
 module _ (number client : ℕ) (before after : LineState) (step : Step) (m : Stepped number client before after step)
   where
-    -- how often the keeper failed in it
-    abbrev pub failed_in : ℕ
-    failed_in = times (tells_failure m.steps.made)
+    -- how often each device failed in it
+    abbrev pub failed_in : Device → ℕ
+    failed_in = made_failures m.steps.made
 
     abbrev kinds_in : List ActKind
     kinds_in = kinds_of m.steps.made
 
     pub stepped_uses : LineUses before after 1 failed_in
-    stepped_uses = uses_step before after m.steps.made m.moment.answered.passes m.steps.keeper
+    stepped_uses = uses_step before after m.now m.steps.made m.moment.answered.passes m.steps.devices
+        (ap (λ (s : ScheduleValue). s.at) m.same) (ap (λ (s : ScheduleValue). s.limits) m.same)
 
     -- from the past where the line stands
-    module _ (due : Due) (q : Past) (at : InLine q before.schedule before.keeper)
+    module _ (due : Due) (q : Past) (at : InLine q before.schedule before.devices)
         (count : q.state.count ≡ length before.journal) where
-      abbrev held : Shared
-      held = shared before.schedule.files before.keeper
-
-      abbrev grown : Shared
-      grown = shared m.grown after.keeper
+      abbrev told : Shared
+      told = at_moment m.now before.devices
 
       abbrev stepped_to : State
       stepped_to = stepped_by q.state client m.now kinds_in
 
-      leads_to : StepsTo q.state client m.now kinds_in step m.new grown
-      leads_to =
-          let own = client_at q.state before.schedule.clients held client m.old at.state m.found in
-          subst (λ k. StepsTo q.state k m.now kinds_in step m.new grown) m.id
-          (m.steps.leads q.state count at.state.has_store
-          (subst (λ k. Holds q.state.tree (q.state.clients k)) (sym m.id) own.holds)
-          (subst (λ k. IsClient (q.state.clients k) q.state.count before.schedule.files m.old) (sym m.id)
-          own.is_client))
+      -- the yard knows of the moment
+      state_told : IsState q.run.start at.known q.state before.schedule.clients told
+      state_told = state_moment q.run.start at.known q.state before.schedule.clients before.devices at.state m.now
 
-      failures_in : keeper_failures (map (entry_of q.line m.now client) kinds_in) ≡ failed_in
+      leads_own : StepsTo q.state at.known told m.old m.now kinds_in step m.new after.devices
+      leads_own =
+          let own = client_at q.run.start at.known q.state before.schedule.clients told client m.old state_told m.found
+          in
+          m.steps.leads q.state at.known count state_told.has_store
+          (subst (λ k. Holds q.state.tree (q.state.clients k)) (sym m.id) own.holds)
+          (subst (λ k. IsClient at.known told (q.state.clients k) q.state.count m.old) (sym m.id) own.is_client)
+
+      abbrev learned : Known
+      learned = leads_own.learned
+
+      leads_to : Request q.state at.known learned told after.devices client m.now (in_flight m.old) (in_flight m.new)
+          kinds_in step leads_own.tree leads_own.model leads_own.copied
+      leads_to = subst (λ k. Request q.state at.known learned told after.devices k m.now (in_flight m.old)
+          (in_flight m.new) kinds_in step leads_own.tree leads_own.model leads_own.copied) m.id leads_own.request
+
+      failures_in : AreFailures (map (entry_of q.line m.now client) kinds_in) failed_in
       failures_in = failures_made q.line m.now client q.run.start true q.state m.steps.made
           (subst (AllowsStep q.run.start true q.state client m.now kinds_in) m.steps.step_is
-          (leads_to.allows q.run.start true)) leads_to.no_failure
+          (leads_to.allows q.run.start true state_told.within)) leads_own.no_failure
 
       appended : q.line ≡ number → after.journal ≡ before.journal ++ map (entry_of q.line m.now client) kinds_in
       appended line =
@@ -156,7 +176,7 @@ module _ (number client : ℕ) (before after : LineState) (step : Step) (m : Ste
           ap length grows ∙ length-append before.journal entries
           ∙ ap (λ k. length before.journal + k) (length-map kinds_in (entry_of q.line m.now client)) in
           let counted : r.state.count ≡ q.state.count + length kinds_in = ap (λ (t : State). t.count) on.state
-          ∙ leads_to.count in
+          ∙ leads_to.leaves.count in
           record {
             grows = grows;
             leads = on.leads;
@@ -165,18 +185,32 @@ module _ (number client : ℕ) (before after : LineState) (step : Step) (m : Ste
             asked = on.asked;
           }
 
-      state_after : IsState stepped_to (slice_set before.schedule.clients client m.new) grown
-      state_after =
-          let counted = leads_to.count in
-          state-stepped q.state stepped_to before.schedule.clients held grown client m.new at.state m.steps.grows
-          leads_to.stays (omega (arith, counted)) leads_to.has_store
-          (λ c apart. others_stepped q.state client m.now kinds_in c apart)
-          (record { is_client = leads_to.is_client; holds = leads_to.holds })
+      -- the client that made the step
+      own_after : IsClientAt learned stepped_to after.devices client m.new
+      own_after =
+          let l = leads_to.leaves in
+          record {
+            is_client = subst (λ (x : ModelClient). IsClient learned after.devices x stepped_to.count m.new) (sym l.own)
+                (subst (λ n. IsClient learned after.devices leads_own.model n m.new) (sym l.count) leads_own.is_client);
+            holds = subst (λ (x : ModelClient). Holds stepped_to.tree x) (sym l.own)
+                (subst (λ (t : Tree). Holds t leads_own.model) (sym l.tree) leads_own.holds);
+          }
 
-      in_line_after : (r : Past) → StepsOn due q client m.now kinds_in step r → InLine r after.schedule after.keeper
+      state_after : IsState q.run.start learned stepped_to (slice_set before.schedule.clients client m.new)
+          after.devices
+      state_after =
+          let counted = leads_to.leaves.count in
+          state_stepped at.known learned told after.devices q.state stepped_to leads_to.own state_told.has_store
+          leads_to.leads.kept leads_to.stays (omega (arith, counted)) q.run.start before.schedule.clients state_told
+          client m.old m.new m.found leads_to.apart leads_to.leads.store
+          (leads_to.within q.run.start state_told.within)
+          (λ c apart. others_stepped q.state client m.now kinds_in c apart) own_after
+
+      in_line_after : (r : Past) → StepsOn due q client m.now kinds_in step r → InLine r after.schedule after.devices
       in_line_after r on =
           let last : m.now ≤ LAST_MOMENT = omega (arith, m.moment.is) in
-          subst (λ v. InLine r v after.keeper) (sym m.same) (record {
+          let clients = slice_set before.schedule.clients client m.new in
+          subst (λ s. InLine r s after.devices) (sym m.same) (record {
             complete = on.same.complete ∙ at.complete;
             at = on.at;
             last = subst (λ k. k ≤ LAST_MOMENT) (sym on.at) last;
@@ -184,8 +218,9 @@ module _ (number client : ℕ) (before after : LineState) (step : Step) (m : Ste
             alone = λ k. ap (λ (run : Setup). run.by_worker k) on.same.run ∙ at.alone k;
             limits = ap (λ (run : Setup). run.limits) on.same.run ∙ at.limits;
             setting = ap (λ (t : State). t.tree.setting) on.state ∙ leads_to.stays.setting ∙ at.setting;
-            state = subst (λ t. IsState t (slice_set before.schedule.clients client m.new) grown) (sym on.state)
-                state_after;
+            known = learned;
+            state = subst (λ (run : Setup). IsState run.start learned r.state clients after.devices) (sym on.same.run)
+                (subst (λ t. IsState q.run.start learned t clients after.devices) (sym on.state) state_after);
           })
 
       pub step_made : (n : ℕ) (final : Option (ℕ → ℕ)) → RunsClient client due → q.due ≡ due → q.line ≡ number
@@ -196,7 +231,7 @@ module _ (number client : ℕ) (before after : LineState) (step : Step) (m : Ste
           passes for in
           let ran = step_ran q client m.now kinds_in step due at.alone at.complete runs is
           (subst (λ t. IsNow q t m.now) (let e : q.ticks + 0 ≡ q.ticks = omega arith in e) now)
-          (leads_to.allows q.run.start _) in
+          (leads_to.allows q.run.start _ state_told.within) in
           record {
             now = m.now;
             kinds = kinds_in;
@@ -209,7 +244,7 @@ module _ (number client : ℕ) (before after : LineState) (step : Step) (m : Ste
 
 -- a line that is done, and whose text there was memory for or not
 
-module _ (q : Past) (asks failed : ℕ) (before after : LineState) (text : List ℕ) where
+module _ (q : Past) (asks : ℕ) (failed : Device → ℕ) (before after : LineState) (text : List ℕ) where
   breaks_after : Finish q asks failed before after text → Break q asks failed before after
   breaks_after f = record {
     acts = f.acts;
@@ -232,8 +267,8 @@ module _ (q : Past) (asks failed : ℕ) (before after : LineState) (text : List 
     said = f.said ∙ sym e;
   }
 
-pub says : (Where : Past → Type 0) (number asks failed : ℕ) (before after : LineState) (text : List ℕ)
-    (printed : Result (List ℕ) AllocError) (end : LineEnd)
+pub says : (Where : Past → Type 0) (number asks : ℕ) (failed : Device → ℕ) (before after : LineState)
+    (text : List ℕ) (printed : Result (List ℕ) AllocError) (end : LineEnd)
     → LineUses before after asks failed → after.clock.faults ≡ before.clock.faults
     → FromLine Where number before after (λ q. Finish q asks failed before after text)
     → IfOk printed (λ t. t ≡ text) → LineSays printed end → LineGoes Where number before after end
@@ -261,7 +296,7 @@ says Where number asks failed before after text (Err e) end uses calm goes is sa
 -- a line that stops before a step
 
 abbrev pub MayBreak : (Past → Type 0) → LineState → Type 0
-MayBreak Where before = (q : Past) → Where q → InLine q before.schedule before.keeper
+MayBreak Where before = (q : Past) → Where q → InLine q before.schedule before.devices
     → (is_over q || may_stop q) ≡ true
 
 pub goes_none : (q : Past) (journal : List Act) → q.state.count ≡ length journal → Goes q 0 journal journal [] q
@@ -277,21 +312,21 @@ goes_none q journal count = record {
 pub record LeavesRest (before after : LineState) : Type 0 where
   pub journal : after.journal ≡ before.journal
   pub schedule : after.schedule ≡ before.schedule
-  pub keeper : after.keeper ≡ before.keeper
+  pub devices : after.devices ≡ before.devices
 
 pub in_line-left : (q : Past) (before after : LineState) → LeavesRest before after
-    → InLine q before.schedule before.keeper → InLine q after.schedule after.keeper
-in_line-left q before after left h = subst (λ keeper. InLine q after.schedule keeper) (sym left.keeper)
-    (subst (λ s. InLine q s before.keeper) (sym left.schedule) h)
+    → InLine q before.schedule before.devices → InLine q after.schedule after.devices
+in_line-left q before after left h = subst (λ v. InLine q after.schedule v) (sym left.devices)
+    (subst (λ s. InLine q s before.devices) (sym left.schedule) h)
 
 breaks_none : (q : Past) (before after : LineState) → q.state.count ≡ length before.journal
-    → InLine q before.schedule before.keeper → (is_over q || may_stop q) ≡ true
-    → LeavesRest before after → Break q 0 0 before after
+    → InLine q before.schedule before.devices → (is_over q || may_stop q) ≡ true
+    → LeavesRest before after → Break q 0 no_failures before after
 breaks_none q before after count line stops left = record {
   acts = [];
   end = q;
   goes = subst (λ more. Goes q 0 before.journal more [] q) (sym left.journal) (goes_none q before.journal count);
-  failures = refl;
+  failures = λ device. refl;
   in_line = in_line-left q before after left line;
   stops = stops;
 }
@@ -302,8 +337,8 @@ pub stops_at : (Where : Past → Type 0) (number : ℕ) (before after : LineStat
 stops_at Where number before after stopped.Clock may h left = (
   record {
     asks = 0;
-    failed = 0;
-    uses = uses_nothing before after h.0 left.keeper;
+    failed = no_failures;
+    uses = uses_nothing before after h.0 left.devices left.schedule;
     goes = λ q there line at count clock. breaks_none q before after count line (may q there line) left;
   },
   h.1,
@@ -311,8 +346,8 @@ stops_at Where number before after stopped.Clock may h left = (
 stops_at Where number before after stopped.Memory may h left = (
   record {
     asks = 0;
-    failed = 0;
-    uses = uses_nothing before after (ap (λ (t : Ticks). t.answers) h) left.keeper;
+    failed = no_failures;
+    uses = uses_nothing before after (ap (λ (t : Ticks). t.answers) h) left.devices left.schedule;
     goes = λ q there line at count clock. breaks_none q before after count line (may q there line) left;
   },
   ap (λ (t : Ticks). t.faults) h,
@@ -322,7 +357,7 @@ stops_at Where number before after stopped.Memory may h left = (
 
 module _ (client number : ℕ) (before after : LineState) where
   once : (step : Step) (m : Stepped number client before after step) (q : Past) → StepsOnce client q
-      → InLine q before.schedule before.keeper → q.line ≡ number
+      → InLine q before.schedule before.devices → q.line ≡ number
       → q.state.count ≡ length before.journal → ClockFor q.run.clock q.asked before.clock.answers after.clock.answers
       → StepMade (OneStep client) q client (failed_in number client before after step m) before after step
   once step m q due h line count clock =
@@ -388,8 +423,8 @@ module _ (client number : ℕ) (before after : LineState) where
           failed = failed_in number client before after (Broken key bytes) m;
           uses = stepped_uses number client before after (Broken key bytes) m;
           calm = m.moment.answered.calm;
-          bad = (stopped-bad m.steps.made before.keeper after.keeper key bytes (sym m.steps.step_is)
-              m.steps.keeper).1;
+          bad = stopped_bad m.steps.made (at_moment m.now before.devices) after.devices key bytes
+              (sym m.steps.step_is) m.steps.devices;
           never = λ q due line at count clock. (once (Broken key bytes) m q due line at count clock).on.after;
         }
 
@@ -399,4 +434,4 @@ module _ (client number : ℕ) (before after : LineState) where
         let m = subst (Stepping number client before after) is h in
         subst (LineGoes (StepsOnce client) number before after) (sym ends)
         (stops_at (StepsOnce client) number before after why (λ q due h. may_be_cut_at q (OneStep client) due tt)
-        m.0.stops (record { journal = m.0.acts; schedule = m.0.same; keeper = m.1 }))
+        m.0.stops (record { journal = m.0.acts; schedule = m.0.same; devices = m.1 }))

@@ -1,18 +1,19 @@
 -- Eight clients, of which one changes.
-use Rattle.std.proofs.Common.{◌≡◌, ℕ, zero, suc, ◌<◌, IsTrue, List, [], ◌∷◌, length, slice_get, slice_set, Some, Result, Ok, Err, refl, sym, ap, subst, ◌∙◌, arith, length-set}
+use Rattle.std.proofs.Common.{◌≡◌, ◌≢◌, ℕ, zero, suc, ◌<◌, IsTrue, List, [], ◌∷◌, length, slice_get, slice_set, Option, None, Some, Result, Ok, Err, refl, sym, ap, subst, ◌∙◌, inl, inr, arith, length-set}
 use Rattle.std.specs.Prelude.{IfSome, IsSome, OnOk, OnErr}
+use Rattle.std.proofs.lemmas.Bool.Decides.{eqb_tells}
 use Rattle.std.proofs.lemmas.Option.{same_Some}
 use Rattle.jv_model.specs.declared.basics.Limits.{Limits}
 use Rattle.jv_model.specs.declared.fault.Fault.{Fault}
 use Rattle.jv_model.specs.declared.op.Op.{Op}
 use Rattle.jv_model.specs.client.ModelClient.{ModelClient}
 use Rattle.jv_model.specs.client.Submission.{submission, submitted}
+use Rattle.jv_shared.specs.Shared.{Known, Shared}
 use Rattle.jv_client.specs.Built.{is_built_op}
-use Rattle.jv_files.specs.Stored.{FilesValue}
 use Rattle.jv_client.specs.ClientValue.{ClientValue}
-use Rattle.jv_client.specs.Held.{IsClient, refused_with}
+use Rattle.jv_client.specs.Held.{IsClient, in_flight, refused_with}
 use Rattle.jv_client.specs.UnderWay.{IsReady}
-use Rattle.jv_session.specs.Stands.{ScheduleValue, IsMember, IsSchedule}
+use Rattle.jv_session.specs.Stands.{ScheduleValue, IsMember, IsSchedule, AreApart}
 use Rattle.jv_session.specs.InLine.{Submits}
 
 module _ {X : Type 0} where
@@ -44,6 +45,57 @@ module _ {X : Type 0} where
   set_found (y ∷ ys) zero x e = ap (λ z. z ∷ ys) (sym (same_Some y x e))
   set_found (y ∷ ys) (suc k) x e = ap (λ zs. y ∷ zs) (set_found ys k x e)
 
+  -- what stands at another place
+  slice_get-other : (xs : List X) (i k : ℕ) (x : X) → (k ≡ i → ⊥) → slice_get (slice_set xs i x) k ≡ slice_get xs k
+  slice_get-other [] i k x apart = refl
+  slice_get-other (y ∷ ys) zero zero x apart = absurd (apart refl)
+  slice_get-other (y ∷ ys) zero (suc k) x apart = refl
+  slice_get-other (y ∷ ys) (suc i) zero x apart = refl
+  slice_get-other (y ∷ ys) (suc i) (suc k) x apart = slice_get-other ys i k x (λ e. apart (ap suc e))
+
+  -- what stands where something was put is that
+  set_own : (xs : List X) (i : ℕ) (x y : X) → slice_get (slice_set xs i x) i ≡ Some y → x ≡ y
+  set_own [] i x y e = absurd (cc e)
+  set_own (z ∷ zs) zero x y e = same_Some x y e
+  set_own (z ∷ zs) (suc i) x y e = set_own zs i x y e
+
+  pub if_some-by : (P : X → Type 0) (o : Option X) → ((x : X) → o ≡ Some x → P x) → IfSome o P
+  if_some-by P None h = tt
+  if_some-by P (Some x) h = h x refl
+
+-- slices in flight still have numbers of their own where the one that changed has another number than the rest
+module _ (clients : List ClientValue) (i : ℕ) (new : ClientValue) (h : AreApart clients)
+    (rest : (k : ℕ) (c : ClientValue) → (k ≡ i → ⊥) → slice_get clients k ≡ Some c → 0 < in_flight c
+    → in_flight c ≢ in_flight new) where
+  -- the one that changed and another one
+  apart_from : (k : ℕ) (c other : ClientValue) → i ≢ k → slice_get (slice_set clients i new) i ≡ Some c
+      → slice_get (slice_set clients i new) k ≡ Some other → 0 < in_flight c → in_flight c ≢ in_flight other
+  apart_from k c other apart own there some same =
+      let is : in_flight new ≡ in_flight c = ap in_flight (set_own clients i new c own) in
+      let elsewhere : k ≡ i → ⊥ = λ e. apart (sym e) in
+      rest k other elsewhere (sym (slice_get-other clients i k new elsewhere) ∙ there)
+      (let e = same in omega (arith, some, e)) (sym same ∙ sym is)
+
+  -- another one and the one that changed
+  apart_to : (j : ℕ) (c other : ClientValue) → (j ≡ i → ⊥) → slice_get (slice_set clients i new) j ≡ Some c
+      → slice_get (slice_set clients i new) i ≡ Some other → 0 < in_flight c → in_flight c ≢ in_flight other
+  apart_to j c other apart there own some same =
+      let is : in_flight new ≡ in_flight other = ap in_flight (set_own clients i new other own) in
+      rest j c apart (sym (slice_get-other clients i j new apart) ∙ there) some (same ∙ sym is)
+
+  pub apart_set : AreApart (slice_set clients i new)
+  apart_set j k c other apart at_j at_k some =
+      elim (eqb_tells j i) [
+        | inl own ↦ apart_from k c other (λ e. apart (own.1 ∙ e))
+            (subst (λ n. slice_get (slice_set clients i new) n ≡ Some c) own.1 at_j) at_k some
+        | inr j_other ↦ elim (eqb_tells k i) [
+          | inl own ↦ apart_to j c other j_other.1 at_j
+              (subst (λ n. slice_get (slice_set clients i new) n ≡ Some other) own.1 at_k) some
+          | inr k_other ↦ h j k c other apart (sym (slice_get-other clients i j new j_other.1) ∙ at_j)
+              (sym (slice_get-other clients i k new k_other.1) ∙ at_k) some
+        ]
+      ]
+
 pub schedule_with : (limits : Limits) (at ticks : ℕ) (clients : List ClientValue) (k : ℕ) (new : ClientValue)
     → IsSchedule limits at ticks clients
     → IsMember limits k new → IsSchedule limits at ticks (slice_set clients k new)
@@ -63,14 +115,13 @@ member_at limits at ticks clients k c h found = subst (λ o. IfSome o (IsMember 
 -- a submission leaves a member
 pub submitted_member : (limits : Limits) (k : ℕ) (old new : ClientValue) (o : Op)
     (result : Result (Unit {0}) (Op × Fault)) → IsMember limits k old
-    → IsTrue (is_built_op limits (length old.pending) o) → new ≡ record old { doing = new.doing }
-    → (IsReady old → IsTrue (is_built_op old.limits (length old.pending) o) → OnOk result (IsReady new))
+    → IsTrue (is_built_op limits o) → new ≡ record old { doing = new.doing }
+    → (IsReady old → IsTrue (is_built_op old.limits o) → OnOk result (IsReady new))
     → OnErr result (new ≡ old) → IsMember limits k new
 submitted_member limits k old new o (Ok unit) m built still ready err = record {
   id = ap (λ (c : ClientValue). c.id) still ∙ m.id;
   limits_are = ap (λ (c : ClientValue). c.limits) still ∙ m.limits_are;
-  ready = ready m.ready (subst (λ (l : Limits). IsTrue (is_built_op l (length old.pending) o)) (sym m.limits_are)
-      built);
+  ready = ready m.ready (subst (λ (l : Limits). IsTrue (is_built_op l o)) (sym m.limits_are) built);
 }
 submitted_member limits k old new o (Err refused) m built still ready err = subst (IsMember limits k) (sym err) m
 
@@ -79,21 +130,23 @@ submitted_member limits k old new o (Err refused) m built still ready err = subs
 pub begins_at : (s s' : ScheduleValue) (k : ℕ) (o : Op) (old new : ClientValue)
     (called : Result (Unit {0}) (Op × Fault)) (unit : Unit {0})
     → slice_get s.clients k ≡ Some old → old.limits ≡ s.limits → called ≡ Ok unit
-    → ((m : ModelClient) (count : ℕ) (files : FilesValue) → IsClient m count files old
+    → ((g : Known) (v : Shared) (m : ModelClient) (count : ℕ) → IsClient g v m count old
     → refused_with called ≡ submission m o)
-    → ((m : ModelClient) (count : ℕ) (files : FilesValue) → IsClient m count files old
-    → OnOk called (IsClient (submitted old.limits o m) count files new))
-    → OnOk called (IsSome new.doing) → s' ≡ record s { clients = slice_set s.clients k new }
+    → ((g : Known) (v : Shared) (m : ModelClient) (count : ℕ) → IsClient g v m count old
+    → OnOk called (IsClient g v (submitted old.limits o m) count new))
+    → OnOk called (in_flight new ≡ 0) → OnOk called (IsSome new.doing)
+    → s' ≡ record s { clients = slice_set s.clients k new }
     → Submits s s' k o (Ok unit)
-begins_at s s' k o old new called unit found limits is refusal begun busy same = record {
+begins_at s s' k o old new called unit found limits is refusal begun none busy same = record {
   old = old;
   found = found;
   new = new;
-  is_new = λ m count h. (
-    sym (refusal m count s.files h) ∙ ap refused_with is,
-    subst (λ (l : Limits). IsClient (submitted l o m) count s.files new) limits
-        (subst (λ r. OnOk r (IsClient (submitted old.limits o m) count s.files new)) is (begun m count s.files h)),
+  is_new = λ g v m count h. (
+    sym (refusal g v m count h) ∙ ap refused_with is,
+    subst (λ (l : Limits). IsClient g v (submitted l o m) count new) limits
+        (subst (λ r. OnOk r (IsClient g v (submitted old.limits o m) count new)) is (begun g v m count h)),
   );
+  no_flight = subst (λ r. OnOk r (in_flight new ≡ 0)) is none;
   same = same;
   busy = subst (λ r. OnOk r (IsSome new.doing)) is busy;
 }
@@ -101,14 +154,14 @@ begins_at s s' k o old new called unit found limits is refusal begun busy same =
 pub refuses_at : (s s' : ScheduleValue) (k : ℕ) (o : Op) (old new : ClientValue)
     (called : Result (Unit {0}) (Op × Fault)) (refused : Op × Fault)
     → slice_get s.clients k ≡ Some old → called ≡ Err refused
-    → ((m : ModelClient) (count : ℕ) (files : FilesValue) → IsClient m count files old
+    → ((g : Known) (v : Shared) (m : ModelClient) (count : ℕ) → IsClient g v m count old
     → refused_with called ≡ submission m o)
     → OnErr called (new ≡ old) → s' ≡ record s { clients = slice_set s.clients k new }
     → Submits s s' k o (Err refused.1)
 refuses_at s s' k o old new called refused found is refusal err same = record {
   old = old;
   found = found;
-  refused = λ m count h. sym (refusal m count s.files h) ∙ ap refused_with is;
+  refused = λ g v m count h. sym (refusal g v m count h) ∙ ap refused_with is;
   same = same ∙ ap (λ (cs : List ClientValue). record s { clients = cs })
       (ap (slice_set s.clients k) (subst (λ r. OnErr r (new ≡ old)) is err) ∙ set_found s.clients k old found);
 }

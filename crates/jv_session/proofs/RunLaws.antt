@@ -1,9 +1,10 @@
 -- A client's operation is run to its end, step by step.
-use Rattle.std.proofs.Common.{◌≡◌, ℕ, ◌+◌, ◌<◌, true, List, [], ◌++◌, length, map, slice_get, slice_set, Option, None, Some, Result, Ok, Err, refl, sym, ap, subst, subst₂, ◌∙◌, arith, add-zero}
+use Rattle.std.proofs.Common.{◌≡◌, ℕ, ◌+◌, ◌<◌, true, List, [], ◌++◌, length, map, slice_get, slice_set, Option, None, Some, Result, Ok, Err, refl, sym, ap, subst, ◌∙◌, arith}
 use Rattle.std.specs.Prelude.{is_some, IfOk}
 use Rattle.std.specs.declared.alloc.AllocError.{AllocError}
 use Rattle.std.proofs.lemmas.List.{append_assoc}
 use Rattle.jv_model.specs.declared.act.Act.{Act}
+use Rattle.jv_model.specs.declared.fault.Device.{Device}
 use Rattle.jv_model.specs.declared.op.Reply.{Reply}
 use Rattle.jv_model.specs.declared.op.Step.{Step}
 use Rattle.jv_model.specs.declared.op.Step.TheVariants.{More, Done, Broken}
@@ -19,18 +20,17 @@ use Rattle.jv_outside.specs.Causes.{Rose}
 use Rattle.jv_outside.specs.Ticks.{Ticks, Passes}
 use Rattle.jv_outside.proofs.TicksLaws.{Passes-trans}
 use Rattle.jv_client.specs.ClientValue.{ClientValue}
-use Rattle.jv_client.specs.Shared.{shared}
 use Rattle.jv_client.specs.UnderWay.{steps_left}
 use Rattle.jv_session.specs.declared.line_end.LineEnd.{LineEnd}
 use Rattle.jv_session.specs.declared.line_end.LineEnd.TheVariants.{Broken as LineBroken}
 use Rattle.jv_session.specs.declared.line_end.Stopped.{Stopped}
 use Rattle.jv_session.specs.declared.line_end.Stopped.TheVariants as stopped
-use Rattle.jv_session.specs.Stands.{ScheduleValue, ClockFor, InLine, busy_in, client_is_busy}
-use Rattle.jv_session.specs.Lines.{LineState, LineUses, keeper_failures}
-use Rattle.jv_session.specs.InLine.{Goes, Finish, Break, Breaks, FromLine, LineGoes, LineSays, StopsBefore, RunsToEnd, end_of}
+use Rattle.jv_session.specs.Stands.{ScheduleValue, ClockFor, InLine, IsYardOf, busy_in, client_is_busy}
+use Rattle.jv_session.specs.Lines.{LineState, LineUses, AreFailures}
+use Rattle.jv_session.specs.InLine.{Goes, Finish, Break, Breaks, FromLine, LineGoes, LineSays, StopsBefore, RunsToEnd, at_moment, end_of}
 use Rattle.jv_session.proofs.MemberLaws.{slice_get-set}
-use Rattle.jv_session.proofs.UsesLaws.{failures_then, stopped-bad, uses_none, uses_nothing, uses_then}
-use Rattle.jv_session.proofs.InLineLaws.{LeavesRest, StepMade, Stepped, Stepping, clock_later, failed_in, goes_none, goes_on, in_line-left, says, step_made, stepped_uses}
+use Rattle.jv_session.proofs.UsesLaws.{both_failures, failures_both, no_failures, stopped_bad, uses_none, uses_nothing, uses_still, uses_then}
+use Rattle.jv_session.proofs.InLineLaws.{LeavesRest, StepMade, Stepped, Stepping, clock_later, failed_in, goes_none, in_line-left, line_goes_on, says, step_made, stepped_uses}
 
 -- entries one after another
 goes_then : (q r t : Past) (m n : ℕ) (before mid after xs ys : List Act) → Goes q m before mid xs r
@@ -45,43 +45,45 @@ goes_then q r t m n before mid after xs ys h g = record {
 
 -- a client's operation that is run to its end, so far
 
-pub record SoFar (q : Past) (client asks failed : ℕ) (start now : LineState) : Type 0 where
+pub record SoFar (q : Past) (client asks : ℕ) (failed : Device → ℕ) (start now : LineState) : Type 0 where
   pub acts : List Act
   pub there : Past
   pub goes : Goes q asks start.journal now.journal acts there
-  pub failures : keeper_failures acts ≡ failed
-  pub in_line : InLine there now.schedule now.keeper
+  pub failures : AreFailures acts failed
+  pub in_line : InLine there now.schedule now.devices
   pub due : there.due ≡ ToAnswer client
 
 -- from each past where the line may stand, when the clock's answers from here on are those of the run's clock
-abbrev pub LeadsSoFar : (client number asks failed : ℕ) → LineState → LineState → Type 0
+abbrev pub LeadsSoFar : (client number asks : ℕ) → (Device → ℕ) → LineState → LineState → Type 0
 LeadsSoFar client number asks failed start now = (final : Option (ℕ → ℕ)) (n : ℕ) (q : Past) → RunsToEnd client q
-    → InLine q start.schedule start.keeper → q.line ≡ number
+    → InLine q start.schedule start.devices → q.line ≡ number
     → q.state.count ≡ length start.journal → ClockFor q.run.clock q.asked start.clock.answers final
     → Passes now.clock.answers final n → SoFar q client asks failed start now
 
 pub record Reached (client number : ℕ) (start now : LineState) : Type 0 where
   pub asks : ℕ
-  pub failed : ℕ
+  pub failed : Device → ℕ
   pub uses : LineUses start now asks failed
   pub calm : now.clock.faults ≡ start.clock.faults
   pub busy : client_is_busy now.schedule client ≡ true
+  pub yard : IsYardOf now.schedule now.devices.yard
   pub leads : LeadsSoFar client number asks failed start now
 
 pub reached_none : (client number : ℕ) (start : LineState) → client_is_busy start.schedule client ≡ true
-    → Reached client number start start
-reached_none client number start busy = record {
+    → IsYardOf start.schedule start.devices.yard → Reached client number start start
+reached_none client number start busy yard = record {
   asks = 0;
-  failed = 0;
+  failed = no_failures;
   uses = uses_none start;
   calm = refl;
   busy = busy;
+  yard = yard;
   leads = λ final n q due h line count clock passes.
       record {
         acts = [];
         there = q;
         goes = goes_none q start.journal count;
-        failures = refl;
+        failures = λ device. refl;
         in_line = h;
         due = due;
       };
@@ -107,8 +109,8 @@ busy_set clients k old new found busy = ap busy_in (slice_get-set clients k new 
 module _ (client number : ℕ) (start now later : LineState) (h : Reached client number start now) where
   -- a step more, of those so far
   module _ (step : Step) (m : Stepped number client now later step) where
-    abbrev failed_then : ℕ
-    failed_then = h.failed + failed_in number client now later step m
+    abbrev failed_then : Device → ℕ
+    failed_then = both_failures h.failed (failed_in number client now later step m)
 
     uses_more : LineUses start later (h.asks + 1) failed_then
     uses_more = uses_then start now later h.asks 1 h.failed (failed_in number client now later step m) h.uses
@@ -142,9 +144,9 @@ module _ (client number : ℕ) (start now later : LineState) (h : Reached client
         goes_more = goes_then q f.there made.end h.asks 1 start.journal now.journal later.journal f.acts acts_then
             f.goes made.goes
 
-        failures_more : keeper_failures (f.acts ++ acts_then) ≡ failed_then
-        failures_more = failures_then f.acts acts_then ∙ ap (λ k. k + keeper_failures acts_then) f.failures
-            ∙ ap (λ k. h.failed + k) made.failures
+        failures_more : AreFailures (f.acts ++ acts_then) failed_then
+        failures_more = failures_both f.acts acts_then h.failed (failed_in number client now later step m) f.failures
+            made.failures
 
   leads_more_steps : (m : Stepped number client now later More)
       → LeadsSoFar client number (h.asks + 1) (failed_then More m) start later
@@ -169,6 +171,7 @@ module _ (client number : ℕ) (start now later : LineState) (h : Reached client
     calm = calm_more More m;
     busy = ap (λ (v : ScheduleValue). client_is_busy v client) m.same
         ∙ busy_set now.schedule.clients client m.old m.new m.found m.steps.falls.1;
+    yard = (stepped_uses number client now later More m).yard h.yard;
     leads = leads_more_steps m;
   }
 
@@ -213,20 +216,18 @@ module _ (client number : ℕ) (start now later : LineState) (h : Reached client
         failures = f.failures;
         in_line = in_line-left f.there now later left f.in_line;
         stops = may_be_cut_at f.there (ToAnswer client) f.due
-            (goes_on f.there.state now.schedule.clients (shared now.schedule.files now.keeper) client c
-            f.in_line.state found);
+            (line_goes_on f.there now.schedule now.devices client c f.in_line found);
       }
 
   breaks_there : (c : ClientValue) → slice_get now.schedule.clients client ≡ Some c
       → later.clock.answers ≡ now.clock.answers → LeavesRest now later
       → Breaks (RunsToEnd client) number start later
   breaks_there c found answers left =
-      let still = uses_nothing now later answers left.keeper in
-      let uses = uses_then start now later h.asks 0 h.failed 0 h.uses still in
+      let still = uses_nothing now later answers left.devices left.schedule in
       record {
         asks = h.asks;
         failed = h.failed;
-        uses = subst₂ (LineUses start later) (add-zero h.asks) (add-zero h.failed) uses;
+        uses = uses_still start now later h.asks h.failed h.uses still;
         goes = break_there c found still.passes left;
       }
 
@@ -264,7 +265,8 @@ module _ (client number : ℕ) (start now later : LineState) (h : Reached client
           failed = failed_then (Broken key bytes) m;
           uses = uses_more (Broken key bytes) m;
           calm = calm_more (Broken key bytes) m;
-          bad = (stopped-bad m.steps.made now.keeper later.keeper key bytes (sym m.steps.step_is) m.steps.keeper).1;
+          bad = stopped_bad m.steps.made (at_moment m.now now.devices) later.devices key bytes
+              (sym m.steps.step_is) m.steps.devices;
           never = never_bad key bytes m;
         }
 
@@ -274,7 +276,7 @@ module _ (client number : ℕ) (start now later : LineState) (h : Reached client
         let m = subst (Stepping number client now later) is call in
         let c = some_busy (slice_get now.schedule.clients client) h.busy in
         subst (LineGoes (RunsToEnd client) number start later) (sym ends)
-        (reached_stops why c.0 c.1 m.0.stops (record { journal = m.0.acts; schedule = m.0.same; keeper = m.1 }))
+        (reached_stops why c.0 c.1 m.0.stops (record { journal = m.0.acts; schedule = m.0.same; devices = m.1 }))
 
 -- fewer steps are left
 

@@ -80,12 +80,13 @@ pub record StaysOpen (before after : Shared) : Type 0 where
   pub setting : after.yard.setting ≡ before.yard.setting
 
 -- What a line does to clock and devices, whatever these hold: how often the clock was asked, and how often each device failed. The
--- schedule may go on with the yard.
+-- schedule has the same limits, and may go on with the yard.
 pub record LineUses (before after : LineState) (asks : ℕ) (failed : Device → ℕ) : Type 0 where
   pub passes : Passes before.clock.answers after.clock.answers asks
   pub stays : StaysOpen before.devices after.devices
   pub counts : (device : Device) → RoseTimes (failed device) (faults_of device before.devices) (faults_of device after.devices)
   pub yard : IsYardOf before.schedule before.devices.yard → IsYardOf after.schedule after.devices.yard
+  pub limits : after.schedule.limits ≡ before.schedule.limits
 
 -- the line was run
 pub record SaysLine (line : Line) (number : ℕ) (before after : LineState) (text : List ℕ) : Type 0 where

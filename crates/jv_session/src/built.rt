@@ -4,7 +4,7 @@ ghost use Rattle.jv_client.specs.Built.{is_built_line, is_built_op};
 
 use crate::schedule::Schedule;
 use jv_metadata::is_spelled;
-use jv_model::{Limits, Line, Op};
+use jv_model::{Limits, Line, MAX_DATA, Op};
 
 impl Schedule {
     /// Whether the line is one that a session runs today.
@@ -27,6 +27,8 @@ fn is_built_op(limits: &Limits, op: &Op) -> bool
     match op {
         Op::Mount { writeback } => !(*writeback || limits.writeback),
         Op::Compact { .. } | Op::Clean | Op::Gc { .. } | Op::Upload => false,
+        Op::Read { len, .. } => u64::from(*len) <= MAX_DATA,
+        Op::Write { bytes, .. } => bytes.len() as u64 <= MAX_DATA,
         _ => is_spelled(op),
     }
 }

@@ -114,6 +114,7 @@ impl Schedule {
         ensures goes { (devices : Shared) → LineGoes (IsRefused client fault) number
             (line_state (C.seen clock.old) devices journal.old.acts self.old)
             (line_state (C.seen clock.new) devices journal.new.acts self.new) result }
+        ensures some { result ≢ LineEnd.Quiet }
     {
         let told = ActKind::Answered {
             told: Told::Refused(fault),
@@ -293,6 +294,7 @@ impl Schedule {
         ensures goes { (devices : Shared) → LineGoes (Crashes client) number
             (line_state (C.seen clock.old) devices journal.old.acts self.old)
             (line_state (C.seen clock.new) devices journal.new.acts self.new) result }
+        ensures some { result ≢ LineEnd.Quiet }
     {
         match self.note(client.number(), ActKind::Crashed, 0, number, clock, journal) {
             Ok(_) => {
@@ -314,6 +316,7 @@ impl Schedule {
         ensures goes { (devices : Shared) → LineGoes (Passing by) number
             (line_state (C.seen clock.old) devices journal.old.acts self.old)
             (line_state (C.seen clock.new) devices journal.new.acts self.new) result }
+        ensures some { result ≢ LineEnd.Quiet }
     {
         match self.note(
             NO_CLIENT,

@@ -30,17 +30,16 @@ returns-in-Ok g c =
       ticks = c.self.inside.ticks;
       clients = slice_set c.self.inside.clients k c.crash.new.self;
       setting = c.self.inside.setting;
-      files = c.self.inside.files;
     } in
     let same : last ≡ record noted { clients = slice_set noted.clients k (crashed old) } =
-    ap (λ (v : ScheduleValue). record v { clients = slice_set v.clients k c.crash.new.self }) c.self.view_is
+    ap (λ (x : ScheduleValue). record x { clients = slice_set x.clients k c.crash.new.self }) c.self.view_is
     ∙ ap (λ (new : ClientValue). record noted { clients = slice_set noted.clients k new }) c.crash.ensures in
     let notes = subst (λ n. Notes s noted c.args.number n Crashed 0 clock ticked journal more c.note.result)
     (c.number.ensures.number ∙ sym c.number-in-Ok.ensures.number) c.note.ensures.notes in
     record {
-      goes = λ keeper. subst (λ n. LineGoes (Crashes n) c.args.number (line_state clock keeper journal s)
-          (line_state ticked keeper more last) c.said.result) c.number-in-Ok.ensures.number
-          (crash_says keeper c.args.number clock ticked journal more s k noted last old c.in-Ok.field-0 c.note.result
+      goes = λ v. subst (λ n. LineGoes (Crashes n) c.args.number (line_state clock v journal s)
+          (line_state ticked v more last) c.said.result) c.number-in-Ok.ensures.number
+          (crash_says v c.args.number clock ticked journal more s k noted last old c.in-Ok.field-0 c.note.result
           c.text.result c.said.result notes c.in-Ok.is found same c.text.ensures c.said.ensures);
     }
 
@@ -50,9 +49,9 @@ returns-in-Err g c =
     let journal = c.args.journal.now.acts in
     let s = c.args.self.now in
     record {
-      goes = λ keeper. stops_noted keeper c.args.number clock (g.C.Clock.seen c.note.new.clock) journal
+      goes = λ v. stops_noted v c.args.number clock (g.C.Clock.seen c.note.new.clock) journal
           c.note.new.journal.acts s (Crashes c.args.client) c.number.result 0 _
           c.note.new.self c.note.result c.in-Err.stopped c.into_end.result
-          (crash_breaks c.args.client (line_state clock keeper journal s)) c.note.ensures.notes c.in-Err.is
+          (crash_breaks c.args.client (line_state clock v journal s)) c.note.ensures.notes c.in-Err.is
           c.into_end.ensures;
     }

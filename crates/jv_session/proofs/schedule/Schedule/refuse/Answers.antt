@@ -13,10 +13,10 @@ returns-in-Ok g c =
     let more = c.note.new.journal.acts in
     let s = c.args.self.now in
     record {
-      goes = λ keeper. subst (λ k. LineGoes (IsRefused k c.args.fault) c.args.number
-          (line_state clock keeper journal s) (line_state ticked keeper more c.note.new.self) c.said.result)
+      goes = λ v. subst (λ k. LineGoes (IsRefused k c.args.fault) c.args.number
+          (line_state clock v journal s) (line_state ticked v more c.note.new.self) c.said.result)
           c.number.ensures.number
-          (refuse_says keeper c.args.number clock ticked journal more s c.number.result c.args.fault c.note.new.self
+          (refuse_says v c.args.number clock ticked journal more s c.number.result c.args.fault c.note.new.self
           c.note.result c.in-Ok.field-0 c.print.result c.said.result
           c.number.ensures.limit c.note.ensures.notes c.in-Ok.is c.print.ensures c.said.ensures);
     }
@@ -27,9 +27,9 @@ returns-in-Err g c =
     let journal = c.args.journal.now.acts in
     let s = c.args.self.now in
     record {
-      goes = λ keeper. stops_noted keeper c.args.number clock (g.C.Clock.seen c.note.new.clock) journal
+      goes = λ v. stops_noted v c.args.number clock (g.C.Clock.seen c.note.new.clock) journal
           c.note.new.journal.acts s (IsRefused c.args.client c.args.fault) c.number.result 0 _
           c.note.new.self c.note.result c.in-Err.stopped c.into_end.result
-          (refusal_breaks c.args.client c.args.fault (line_state clock keeper journal s))
+          (refusal_breaks c.args.client c.args.fault (line_state clock v journal s))
           c.note.ensures.notes c.in-Err.is c.into_end.ensures;
     }

@@ -1,8 +1,8 @@
 -- An operation is begun at its client, or refused.
-use Rattle.std.proofs.Common.{◌≡◌, IsTrue, length, slice_get, slice_set, get_or, Some, sym, ap, subst, ◌∙◌, arith}
+use Rattle.std.proofs.Common.{◌≡◌, IsTrue, slice_get, slice_set, get_or, Some, sym, ap, subst, ◌∙◌, arith}
 use Rattle.jv_client.specs.Built.{is_built_op}
 use Rattle.jv_client.specs.ClientValue.{ClientValue}
-use Rattle.jv_session.specs.Stands.{ScheduleValue, built_op_here, held_in}
+use Rattle.jv_session.specs.Stands.{ScheduleValue}
 use Rattle.jv_session.specs.InLine.{Submits}
 use Rattle.std.proofs.lemmas.Option.{slice_get-get_or}
 use Rattle.jv_session.proofs.MemberLaws.{schedule_with, member_at, submitted_member, begins_at, refuses_at}
@@ -19,13 +19,8 @@ invariant_of-self c =
     let m = member_at c.self.inside.limits c.self.inside.at c.self.inside.ticks c.self.inside.clients k old
     c.self.invariant found in
     let seen = c.self.view_is in
-    let built : IsTrue (built_op_here c.args.self.now c.args.client c.args.op) = c.requires.built in
-    let built_k : IsTrue (built_op_here c.args.self.now k c.args.op) = subst
-    (λ n. IsTrue (built_op_here c.args.self.now n c.args.op)) (sym c.number.ensures.number) built in
-    let here : IsTrue (is_built_op c.self.inside.limits (held_in (slice_get c.self.inside.clients k)) c.args.op) =
-    subst (λ (v : ScheduleValue). IsTrue (built_op_here v k c.args.op)) (sym seen) built_k in
-    let own : IsTrue (is_built_op c.self.inside.limits (length old.pending) c.args.op) = subst
-    (λ o. IsTrue (is_built_op c.self.inside.limits (held_in o) c.args.op)) found here in
+    let own : IsTrue (is_built_op c.self.inside.limits c.args.op) = subst
+    (λ (v : ScheduleValue). IsTrue (is_built_op v.limits c.args.op)) (sym seen) c.requires.built in
     schedule_with c.self.inside.limits c.self.inside.at c.self.inside.ticks c.self.inside.clients k _ c.self.invariant
     (submitted_member c.self.inside.limits k old c.submit.new.self c.args.op c.submit.result m own
     c.submit.ensures.still c.submit.ensures.ready c.submit.ensures.err)
@@ -51,7 +46,6 @@ returns c =
       ticks = c.self.inside.ticks;
       clients = slice_set c.self.inside.clients k new;
       setting = c.self.inside.setting;
-      files = c.self.inside.files;
     } in
     let same : after ≡ record s { clients = slice_set s.clients k new } = ap
     (λ (v : ScheduleValue). record v { clients = slice_set v.clients k new }) seen in
@@ -59,7 +53,7 @@ returns c =
     (elim c.match-submit.branch [
       | in-Ok w ↦ subst (Submits s after k c.args.op) (sym w.result-is)
           (begins_at s after k c.args.op old new c.submit.result _ found limits w.in-Ok.is c.submit.ensures.refusal
-          c.submit.ensures.begun c.submit.ensures.busy same)
+          c.submit.ensures.begun c.submit.ensures.no_flight c.submit.ensures.busy same)
       | in-Err w ↦ subst (Submits s after k c.args.op) (sym w.result-is)
           (refuses_at s after k c.args.op old new c.submit.result _ found w.in-Err.is c.submit.ensures.refusal
           c.submit.ensures.err same)

@@ -18,9 +18,8 @@ returns-in-Ok g c =
       ticks = ticks;
       clients = c.self.inside.clients;
       setting = c.self.inside.setting;
-      files = c.self.inside.files;
     } in
-    let same : last ≡ record noted { ticks = ticks } = ap (λ (v : ScheduleValue). record v { ticks = ticks }) seen in
+    let same : last ≡ record noted { ticks = ticks } = ap (λ (x : ScheduleValue). record x { ticks = ticks }) seen in
     let sum = c.saturating_add.ensures in
     let least = c.min-self-inside.ensures in
     let here : min LAST_MOMENT (c.self.inside.ticks + c.args.by) ≡ min LAST_MOMENT (noted.ticks + c.args.by) = ap
@@ -29,7 +28,7 @@ returns-in-Ok g c =
     (let told : ticks ≡ min LAST_MOMENT (c.self.inside.ticks + c.args.by) = omega (arith, sum, least) in told
     ∙ here) in
     record {
-      goes = λ keeper. tick_says keeper c.args.number (g.C.Clock.seen c.args.clock.now)
+      goes = λ v. tick_says v c.args.number (g.C.Clock.seen c.args.clock.now)
           (g.C.Clock.seen c.note.new.clock) c.args.journal.now.acts c.note.new.journal.acts c.args.self.now
           c.args.by noted last ticks c.in-Ok.now c.note.result c.moment_text.result c.said.result c.note.ensures.notes
           c.in-Ok.is same passed c.moment_text.ensures c.said.ensures;
@@ -41,9 +40,9 @@ returns-in-Err g c =
     let journal = c.args.journal.now.acts in
     let s = c.args.self.now in
     record {
-      goes = λ keeper. stops_noted keeper c.args.number clock (g.C.Clock.seen c.note.new.clock) journal
+      goes = λ v. stops_noted v c.args.number clock (g.C.Clock.seen c.note.new.clock) journal
           c.note.new.journal.acts s (Passing c.args.by) _ c.args.by _
           c.note.new.self c.note.result c.in-Err.stopped c.into_end.result
-          (tick_breaks c.args.by (line_state clock keeper journal s)) c.note.ensures.notes c.in-Err.is
+          (tick_breaks c.args.by (line_state clock v journal s)) c.note.ensures.notes c.in-Err.is
           c.into_end.ensures;
     }
