@@ -20,8 +20,8 @@
 //!   which may be empty or have spaces, and `long N TEXT` one more, whose last letter stands N times. Without these
 //!   there is no first run.
 //! - `clock SECONDS` is what the clock answers, else 1000.
-//! - `fail DEVICE K ..` has these calls of a device fail, counted from 1. DEVICE is `source`, `out`, `err`, `clock`
-//!   or `keeper`.
+//! - `fail DEVICE K ..` has these calls of a device fail, counted from 1. DEVICE is `source`, `out`, `err`, `clock`,
+//!   `keeper`, or one of the three for blocks: `depot`, `carrier` and `shelf`, which hold nothing.
 //! - `in_pieces_of N`: the source returns, and `out` and `err` take, at most N bytes a call, else as many as there
 //!   are.
 //! - `rows none`: the keeper has no rows, else those of a volume `juicefs` that was formatted at moment 0. `row TAB A
@@ -36,12 +36,13 @@
 //! What is done, in this order:
 //! - The first run is made. Printed are its status, the lines that `out` and standard error gained, the number of its
 //!   journal's entries, how often each device was called and failed, and the place where the keeper was opened. The counts
-//!   are those since the world was made.
+//!   are those since the world was made. Of the three devices for blocks that is printed only in a scene with `show
+//!   blocks`.
 //! - Where the scene has a `list`, that run is made by the scene's words over the rows that are left, on a world of its own
 //!   of which no call fails. Printed are the lines that `out` gained, and the status where that isn't 0.
 //! - `for k FIRST..LAST DEVICE` makes the first run again, with call FIRST of the device failing, then with the next
-//!   one, up to LAST; DEVICE may be `each`, for all of them one after the other. Printed is one line for each run
-//!   that breaks the rule below, and a sum.
+//!   one, up to LAST; DEVICE may be `each`, for all of them one after the other, those for blocks only in a scene with
+//!   `show blocks`. Printed is one line for each run that breaks the rule below, and a sum.
 //! - `again` makes a run on the world that the last one left, by the same words, and `again WORD ..` by these. Where the
 //!   scene has a script already, a `script` behind it is that of this run.
 //! - `try WORD ..` makes a run by these words on a world of its own, and `then LINE` one by the scene's words whose
@@ -61,6 +62,7 @@
 #![tactic(auto)]
 
 mod device;
+mod objects;
 mod reader;
 mod report;
 mod rows;
@@ -68,17 +70,15 @@ mod scene;
 mod stage;
 mod sweep;
 
-use jv_model::{Rows, Sequence};
-use jv_outside::Fails;
 use reader::{BadLine, SceneReader};
-use report::{push_list, push_played, push_then, push_try};
+use report::{push_list, push_objects, push_played, push_then, push_try};
 use rows::rows_text;
 use scene::{Again, Further, Scene, Variant, bytes_of};
-use stage::{MemWorld, play, with_rows, with_script, world};
+use stage::Stage;
 use std::alloc::{AllocError, Global};
 use std::io;
 use std::process::ExitCode;
-use sweep::push_sweep;
+use sweep::{Stages, push_sweep};
 
 /// Why there is nothing more to print.
 #[derive(Clone, Copy)]
@@ -114,67 +114,94 @@ fn read_scenes(alloc: Global, text: &str) -> Result<Vec<Scene>, Stop> {
     }
 }
 
+/// The stages of a scene: that of its runs, one for tries and sweeps, and one for the runs that list what is left.
+struct Theatre {
+    own: Stage,
+    tried: Stage,
+    listed: Stage,
+}
+
+impl Theatre {
+    /// The stages of sweeps.
+    fn sweeping(&mut self) -> Stages<'_> {
+        Stages {
+            run: &mut self.tried,
+            list: &mut self.listed,
+        }
+    }
+}
+
 /// Runs a scene, and adds what it came to.
-fn push_scene(alloc: Global, report: &mut String, scene: &Scene) -> Result<(), AllocError> {
+fn push_scene(
+    alloc: Global,
+    report: &mut String,
+    scene: &Scene,
+    theatre: &mut Theatre,
+) -> Result<(), AllocError> {
     let name = scene.name.as_str();
     writeln!(report, "scene {name}")?;
-    let mut left = push_first(alloc, report, scene)?;
+    push_first(alloc, report, scene, theatre)?;
     for further in scene.further.as_slice() {
-        left = push_further(alloc, report, scene, further, left)?;
+        push_further(alloc, report, scene, further, theatre)?;
     }
+    push_objects(alloc, report, scene, &mut theatre.own)?;
     if scene.shows_rows {
-        let (rows, _left) = with_rows(alloc, left)?;
+        let rows = theatre.own.rows(alloc)?;
         report.push_str(rows_text(alloc, &rows)?.as_str())?;
     }
     report.push_str("\n")
 }
 
-/// Makes a scene's first run, where it has words for one, and its sweeps, and adds what they came to. Returns the world
-/// that the run left.
-fn push_first(alloc: Global, report: &mut String, scene: &Scene) -> Result<MemWorld, AllocError> {
-    let world = world(alloc, scene, Variant::Same)?;
+/// Makes a scene's first run, where it has words for one, and its sweeps, and adds what they came to.
+fn push_first(
+    alloc: Global,
+    report: &mut String,
+    scene: &Scene,
+    theatre: &mut Theatre,
+) -> Result<(), AllocError> {
+    theatre.own.set(alloc, scene, Variant::Same)?;
     if scene.words.is_none() {
-        return Ok(world);
+        return Ok(());
     }
-    let played = play(alloc, scene.words(), world)?;
-    push_played(alloc, report, &played)?;
-    let (rows, left) = with_rows(alloc, played.world)?;
-    push_after_first(alloc, report, scene, rows)?;
-    Ok(left)
+    let played = theatre.own.play(alloc, scene.words())?;
+    push_played(alloc, report, scene, &played, &theatre.own)?;
+    push_after_first(alloc, report, scene, theatre)
 }
 
-/// Lists the rows that the first run left, makes the sweeps, and adds what they came to.
+/// Lists what the first run left, makes the sweeps, and adds what they came to.
 fn push_after_first(
     alloc: Global,
     report: &mut String,
     scene: &Scene,
-    rows: Rows,
+    theatre: &mut Theatre,
 ) -> Result<(), AllocError> {
-    push_list(alloc, report, scene, rows)?;
+    let rows = theatre.own.rows(alloc)?;
+    let objects = theatre.own.objects(alloc)?;
+    push_list(alloc, report, scene, rows, objects, &mut theatre.listed)?;
     for sweep in scene.sweeps.as_slice() {
-        push_sweep(alloc, report, scene, *sweep)?;
+        push_sweep(alloc, report, scene, *sweep, &mut theatre.sweeping())?;
     }
     Ok(())
 }
 
-/// Makes a further run, and adds what it came to. Returns the world that the last run left which was no try.
+/// Makes a further run, and adds what it came to.
 fn push_further(
     alloc: Global,
     report: &mut String,
     scene: &Scene,
     further: &Further,
-    left: MemWorld,
-) -> Result<MemWorld, AllocError> {
+    theatre: &mut Theatre,
+) -> Result<(), AllocError> {
     match further {
-        Further::Again(again) => push_again(alloc, report, scene, again, left),
-        Further::Try(words) => {
-            try_words(alloc, report, scene, words.as_slice())?;
-            Ok(left)
-        }
-        Further::TryLine(line) => {
-            try_line(alloc, report, scene, line.as_str())?;
-            Ok(left)
-        }
+        Further::Again(again) => push_again(alloc, report, scene, again, &mut theatre.own),
+        Further::Try(words) => try_words(
+            alloc,
+            report,
+            scene,
+            words.as_slice(),
+            &mut theatre.tried,
+        ),
+        Further::TryLine(line) => try_line(alloc, report, scene, line.as_str(), &mut theatre.tried),
     }
 }
 
@@ -184,9 +211,10 @@ fn try_words(
     report: &mut String,
     scene: &Scene,
     words: &[String],
+    stage: &mut Stage,
 ) -> Result<(), AllocError> {
-    let world = world(alloc, scene, Variant::Same)?;
-    let played = play(alloc, words, world)?;
+    stage.set(alloc, scene, Variant::Same)?;
+    let played = stage.play(alloc, words)?;
     push_try(report, words, &played)
 }
 
@@ -196,9 +224,10 @@ fn try_line(
     report: &mut String,
     scene: &Scene,
     line: &str,
+    stage: &mut Stage,
 ) -> Result<(), AllocError> {
-    let world = world(alloc, scene, Variant::Line(line))?;
-    let played = play(alloc, scene.words(), world)?;
+    stage.set(alloc, scene, Variant::Line(line))?;
+    let played = stage.play(alloc, scene.words())?;
     push_then(report, line, &played)
 }
 
@@ -208,22 +237,18 @@ fn push_again(
     report: &mut String,
     scene: &Scene,
     again: &Again,
-    left: MemWorld,
-) -> Result<MemWorld, AllocError> {
+    stage: &mut Stage,
+) -> Result<(), AllocError> {
     let words = match &again.words {
         Some(words) => words.as_slice(),
         None => scene.words(),
     };
-    let world = if again.script.is_empty() {
-        left
-    } else {
-        let never = Fails::At(Sequence::new(alloc));
-        with_script(left, bytes_of(alloc, again.script.as_slice())?, never)
-    };
-    let played = play(alloc, words, world)?;
+    if !again.script.is_empty() {
+        stage.set_script(alloc, bytes_of(alloc, again.script.as_slice())?);
+    }
+    let played = stage.play(alloc, words)?;
     report.push_str("again\n")?;
-    push_played(alloc, report, &played)?;
-    Ok(played.world)
+    push_played(alloc, report, scene, &played, stage)
 }
 
 /// Runs the scenes of standard input, and prints what each came to.
@@ -233,9 +258,20 @@ fn run_scenes(rt: &HostRuntime) -> Result<(), Stop> {
         return Err(Stop::NotRead);
     };
     let scenes = read_scenes(alloc, text.as_str())?;
-    for scene in scenes.as_slice() {
+    let mut theatre = Theatre {
+        own: Stage::new(),
+        tried: Stage::new(),
+        listed: Stage::new(),
+    };
+    run_all(rt, scenes.as_slice(), &mut theatre)
+}
+
+/// Runs scenes one after the other, and prints what each came to.
+fn run_all(rt: &HostRuntime, scenes: &[Scene], theatre: &mut Theatre) -> Result<(), Stop> {
+    let alloc = rt.alloc();
+    for scene in scenes {
         let mut report = String::new(alloc);
-        push_scene(alloc, &mut report, scene)?;
+        push_scene(alloc, &mut report, scene, theatre)?;
         if print!(rt; "{report}").is_err() {
             return Err(Stop::NotPrinted);
         }

@@ -44,7 +44,7 @@ impl BadLine {
             BadLine::NotFail => "the form is `fail DEVICE K ..`",
             BadLine::NotRows => "the form is `rows fresh` or `rows none`",
             BadLine::NotRow => "the form is `row TAB A B VALUE`",
-            BadLine::NotShow => "the form is `show rows`",
+            BadLine::NotShow => "the form is `show rows` or `show blocks`",
             BadLine::NotSweep => "the form is `for k FIRST..LAST DEVICE`",
             BadLine::OutOfMemory => "out of memory",
         }
@@ -348,6 +348,10 @@ fn show(scene: &mut Scene, rest: &str) -> Result<(), BadLine> {
     match rest {
         "rows" => {
             scene.shows_rows = true;
+            Ok(())
+        }
+        "blocks" => {
+            scene.shows_blocks = true;
             Ok(())
         }
         _ => Err(BadLine::NotShow),

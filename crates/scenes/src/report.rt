@@ -1,8 +1,10 @@
 //! What is printed of runs.
-use crate::device::DEVICES;
+use crate::device::{DEVICES, Device};
+use crate::objects::objects_text;
 use crate::scene::Scene;
-use crate::stage::{Played, play_list};
+use crate::stage::{Played, Stage};
 use jv_model::Rows;
+use jv_outside::ObjectList;
 use std::alloc::{AllocError, Global};
 use std::str;
 
@@ -51,51 +53,99 @@ fn push_gained(
     writeln!(report, "{key}, no line feed")
 }
 
-/// Adds how often each device was called, and failed where it did.
-fn push_counts(report: &mut String, played: &Played) -> Result<(), AllocError> {
+/// Adds how often each device was called, and failed where it did. The carrier doesn't show how often it was called.
+fn push_counts(report: &mut String, scene: &Scene, played: &Played) -> Result<(), AllocError> {
     report.push_str("calls")?;
     for device in DEVICES {
-        let name = device.name();
-        let made = played.made(device);
-        write!(report, " {name} {made}")?;
-        let faults = played.faults(device);
-        if faults > 0 {
-            write!(report, " ({faults} failed)")?;
+        if scene.shows(device) {
+            push_count(report, played, device)?;
         }
     }
     report.push_str("\n")
 }
 
-/// Adds what a run came to.
-pub fn push_played(alloc: Global, report: &mut String, played: &Played) -> Result<(), AllocError> {
+fn push_count(report: &mut String, played: &Played, device: Device) -> Result<(), AllocError> {
+    let name = device.name();
+    if device == Device::Carrier {
+        write!(report, " {name}")?;
+    } else {
+        let made = played.made(device);
+        write!(report, " {name} {made}")?;
+    }
+    match played.faults(device) {
+        0 => Ok(()),
+        faults => write!(report, " ({faults} failed)"),
+    }
+}
+
+/// Adds the places where devices are opened, the keeper's without its name.
+fn push_places(report: &mut String, scene: &Scene, stage: &Stage) -> Result<(), AllocError> {
+    for device in DEVICES {
+        if scene.shows(device) {
+            push_place(report, stage, device)?;
+        }
+    }
+    Ok(())
+}
+
+fn push_place(report: &mut String, stage: &Stage, device: Device) -> Result<(), AllocError> {
+    let Some(place) = stage.opened(device) else {
+        return Ok(());
+    };
+    let place = str::from_utf8(place).unwrap_or("not text");
+    match device {
+        Device::Keeper => push_line(report, "opened", place),
+        _ => writeln!(report, "opened {} {place}", device.name()),
+    }
+}
+
+/// Adds what a run came to, which left this stage.
+pub fn push_played(
+    alloc: Global,
+    report: &mut String,
+    scene: &Scene,
+    played: &Played,
+    stage: &Stage,
+) -> Result<(), AllocError> {
     let status = played.status;
     writeln!(report, "status {status}")?;
     push_gained(alloc, report, "out", played.out.as_slice())?;
     push_gained(alloc, report, "err", played.err.as_slice())?;
-    let entries = played.world.journal.len();
+    let entries = played.entries;
     writeln!(report, "entries {entries}")?;
-    push_counts(report, played)?;
-    match played.world.keeper.opened() {
-        Some(place) => push_line(
-            report,
-            "opened",
-            str::from_utf8(place).unwrap_or("not text"),
-        ),
-        None => Ok(()),
-    }
+    push_counts(report, scene, played)?;
+    push_places(report, scene, stage)
 }
 
-/// Lists what is left in rows, where the scene has a script for that, and adds the answers.
+/// Adds the objects of a depot, where the scene shows them.
+pub fn push_objects(
+    alloc: Global,
+    report: &mut String,
+    scene: &Scene,
+    stage: &mut Stage,
+) -> Result<(), AllocError> {
+    if !scene.shows_blocks {
+        return Ok(());
+    }
+    let objects = stage.objects(alloc)?;
+    report.push_str(objects_text(alloc, &objects)?.as_str())
+}
+
+/// Lists what is left in rows and objects, where the scene has a script for that, and adds the answers. The run is made
+/// on the stage.
 pub fn push_list(
     alloc: Global,
     report: &mut String,
     scene: &Scene,
     rows: Rows,
+    objects: ObjectList,
+    stage: &mut Stage,
 ) -> Result<(), AllocError> {
     if scene.list.is_empty() {
         return Ok(());
     }
-    let played = play_list(alloc, scene, rows)?;
+    stage.set_to_list(alloc, scene, rows, objects)?;
+    let played = stage.play(alloc, scene.words())?;
     push_listed(alloc, report, &played)
 }
 

@@ -28,16 +28,15 @@ fn add_fresh(alloc: Global, rows: &mut Rows) -> Result<(), AllocError> {
     Ok(())
 }
 
-/// All rows of a keeper, and the keeper.
-pub fn rows_of(alloc: Global, keeper: MemKeeper) -> Result<(Rows, MemKeeper), AllocError> {
-    let mut keeper = keeper;
+/// All rows of a keeper.
+pub fn rows_of(alloc: Global, keeper: &mut MemKeeper) -> Result<Rows, AllocError> {
     let mut all = Sequence::new(alloc);
     for tab in 0..=u8::MAX {
         for row in keeper.rows_in(tab)?.into_vec() {
             all.push(row)?;
         }
     }
-    Ok((all, keeper))
+    Ok(all)
 }
 
 /// Rows as text, each in the form in which a scene has it.

@@ -55,16 +55,16 @@ pub struct Sweep {
     pub first: u64,
     /// The last call that fails.
     pub last: u64,
-    /// The device whose calls fail, or each of them in turn.
+    /// The device whose calls fail, or each that the scene prints in turn.
     pub device: Option<Device>,
 }
 
 impl Sweep {
     /// Whether calls of this device fail.
-    pub fn is_of(&self, device: Device) -> bool {
+    pub fn is_of(&self, scene: &Scene, device: Device) -> bool {
         match self.device {
             Some(only) => only == device,
-            None => true,
+            None => scene.shows(device),
         }
     }
 }
@@ -88,6 +88,8 @@ pub struct Scene {
     /// The script of a run that lists what is left; none where nothing is listed.
     pub list: Vec<Piece>,
     pub shows_rows: bool,
+    /// Whether the devices for blocks are printed too.
+    pub shows_blocks: bool,
     pub further: Vec<Further>,
     pub sweeps: Vec<Sweep>,
 }
@@ -106,6 +108,7 @@ impl Scene {
             script: Vec::new(alloc),
             list: Vec::new(alloc),
             shows_rows: false,
+            shows_blocks: false,
             further: Vec::new(alloc),
             sweeps: Vec::new(alloc),
         }
@@ -131,6 +134,11 @@ impl Scene {
             extend(&mut bytes, 1, line, b"\n")?;
         }
         Ok(Sequence::from_vec(bytes))
+    }
+
+    /// Whether what is seen of a device is printed.
+    pub fn shows(&self, device: Device) -> bool {
+        self.shows_blocks || !device.is_for_blocks()
     }
 
     /// Whether each piece of the script is one operation that is run to its end: one line, which has one answer.

@@ -3,15 +3,15 @@ use crate::device::{DEVICES, Device};
 use crate::report::{push_list, push_played};
 use crate::rows::rows_text;
 use crate::scene::{Scene, Sweep, Variant};
-use crate::stage::{MemWorld, Played, play, with_rows, world};
-use jv_model::Rows;
+use crate::stage::{Played, Stage, count_lines};
 use std::alloc::{AllocError, Global};
 use std::str;
 
 /// The status of a run that a device's fault ended.
 const FAILED: u8 = 5;
 
-/// The rows of a keeper, and what the scene lists of them.
+/// What is in rows and objects: the rows, where the numbers in them tell nothing of how often a block was put, and what the
+/// scene lists.
 #[derive(Drop)]
 struct Left {
     rows: String,
@@ -33,15 +33,22 @@ struct Run {
     after: Left,
 }
 
+/// The stages of a sweep: that of its runs, and that of the runs which list what they leave.
+pub struct Stages<'a> {
+    pub run: &'a mut Stage,
+    pub list: &'a mut Stage,
+}
+
 /// Runs a sweep, and adds what it came to: each run that breaks the rule, and a sum for each device.
 pub fn push_sweep(
     alloc: Global,
     report: &mut String,
     scene: &Scene,
     sweep: Sweep,
+    stages: &mut Stages<'_>,
 ) -> Result<(), AllocError> {
-    let base = show(alloc, scene, Variant::Same)?;
-    push_devices(alloc, report, scene, &base, sweep)
+    let base = show(alloc, scene, Variant::Same, stages)?;
+    push_devices(alloc, report, scene, &base, sweep, stages)
 }
 
 fn push_devices(
@@ -50,67 +57,49 @@ fn push_devices(
     scene: &Scene,
     base: &Run,
     sweep: Sweep,
+    stages: &mut Stages<'_>,
 ) -> Result<(), AllocError> {
     for device in DEVICES {
-        if sweep.is_of(device) {
-            push_device(alloc, report, scene, base, sweep, device)?;
+        if sweep.is_of(scene, device) {
+            push_device(alloc, report, scene, base, sweep, device, stages)?;
         }
     }
     Ok(())
 }
 
-fn show(alloc: Global, scene: &Scene, variant: Variant<'_>) -> Result<Run, AllocError> {
-    let (before, world) = with_left(alloc, scene, world(alloc, scene, variant)?)?;
-    let played = play(alloc, scene.words(), world)?;
-    let mut text = String::new(alloc);
-    push_played(alloc, &mut text, &played)?;
-    shown(alloc, scene, played, text, before)
-}
-
-/// What is in a world's keeper, and the world.
-fn with_left(
+fn show(
     alloc: Global,
     scene: &Scene,
-    world: MemWorld,
-) -> Result<(Left, MemWorld), AllocError> {
-    let (rows, world) = with_rows(alloc, world)?;
-    let left = left_in(alloc, scene, rows)?;
-    Ok((left, world))
-}
-
-fn left_in(alloc: Global, scene: &Scene, rows: Rows) -> Result<Left, AllocError> {
-    let text = rows_text(alloc, &rows)?;
-    let mut listed = String::new(alloc);
-    push_list(alloc, &mut listed, scene, rows)?;
-    Ok(Left { rows: text, listed })
-}
-
-fn shown(
-    alloc: Global,
-    scene: &Scene,
-    played: Played,
-    text: String,
-    before: Left,
+    variant: Variant<'_>,
+    stages: &mut Stages<'_>,
 ) -> Result<Run, AllocError> {
-    let Played {
-        status,
-        out,
-        err,
-        world,
-    } = played;
-    let (after, world) = with_left(alloc, scene, world)?;
-    let played = Played {
-        status,
-        out,
-        err,
-        world,
-    };
+    stages.run.set(alloc, scene, variant)?;
+    let before = left_on(alloc, scene, stages)?;
+    let played = stages.run.play(alloc, scene.words())?;
+    let mut text = String::new(alloc);
+    push_played(alloc, &mut text, scene, &played, stages.run)?;
+    let after = left_on(alloc, scene, stages)?;
     Ok(Run {
         played,
         text,
         before,
         after,
     })
+}
+
+/// What is left on the stage of the runs. Where a scene shows blocks its rows aren't compared: they name slices by numbers,
+/// and a flush that fails has used one.
+fn left_on(alloc: Global, scene: &Scene, stages: &mut Stages<'_>) -> Result<Left, AllocError> {
+    let rows = stages.run.rows(alloc)?;
+    let text = if scene.shows_blocks {
+        String::new(alloc)
+    } else {
+        rows_text(alloc, &rows)?
+    };
+    let objects = stages.run.objects(alloc)?;
+    let mut listed = String::new(alloc);
+    push_list(alloc, &mut listed, scene, rows, objects, stages.list)?;
+    Ok(Left { rows: text, listed })
 }
 
 /// What the runs of a sweep came to.
@@ -152,10 +141,11 @@ fn push_device(
     base: &Run,
     sweep: Sweep,
     device: Device,
+    stages: &mut Stages<'_>,
 ) -> Result<(), AllocError> {
     let mut sum = Sum::NONE;
     for number in sweep.first..=sweep.last {
-        sum = push_run(alloc, report, scene, base, (device, number), sum)?;
+        sum = push_run(alloc, report, scene, base, (device, number), sum, stages)?;
     }
     push_sum(report, sweep, device, sum)
 }
@@ -168,9 +158,10 @@ fn push_run(
     base: &Run,
     failing: (Device, u64),
     sum: Sum,
+    stages: &mut Stages<'_>,
 ) -> Result<Sum, AllocError> {
-    let now = show(alloc, scene, Variant::Fails(failing.0, failing.1))?;
-    judge(alloc, report, scene, base, &now, failing, sum)
+    let now = show(alloc, scene, Variant::Fails(failing.0, failing.1), stages)?;
+    judge(alloc, report, scene, base, &now, failing, sum, stages)
 }
 
 /// Adds what of the rule a run breaks. Returns the sum with it.
@@ -182,9 +173,10 @@ fn judge(
     now: &Run,
     failing: (Device, u64),
     sum: Sum,
+    stages: &mut Stages<'_>,
 ) -> Result<Sum, AllocError> {
     let (device, number) = failing;
-    let broken = broken_by(alloc, scene, base, now, device)?;
+    let broken = broken_by(alloc, scene, base, now, device, stages)?;
     push_broken(report, number, device, broken)?;
     Ok(sum.with(&base.played, &now.played, device, broken.is_some()))
 }
@@ -225,57 +217,67 @@ fn rise(base: &Played, now: &Played, device: Device) -> u64 {
     now.faults(device).saturating_sub(base.faults(device))
 }
 
-/// What a line says whose operation met a keeper that failed.
-const KEEPER_FAILED: &str = "err EIO keeper";
-
-/// The number of the first answer, from 0, that the keeper failed, where it isn't one of the run in which no further call
+/// The number of the first answer, from 0, that the device failed, where it isn't one of the run in which no further call
 /// fails.
 fn first_failure(base: &Run, now: &Run, device: Device) -> Option<usize> {
-    if device != Device::Keeper || failures(base) >= failures(now) {
+    let failure = device.failure()?;
+    if failures(base, failure) >= failures(now, failure) {
         return None;
     }
     text_of(&now.played.out)
         .lines()
-        .position(|line| line == KEEPER_FAILED)
+        .position(|line| line == failure)
 }
 
-fn failures(run: &Run) -> usize {
-    text_of(&run.played.out)
-        .lines()
-        .filter(|line| *line == KEEPER_FAILED)
-        .count()
+/// How many answers of a run are this one.
+fn failures(run: &Run, failure: &str) -> u64 {
+    count_lines(run.played.out.as_slice(), failure)
 }
 
-/// What of the rule a run breaks whose operation at a line met a keeper that failed: it has one such answer more for the one
-/// call more that failed; and where each line is an operation that is run to its end, the other answers, the rows and what is
-/// listed of them are those of the run without that line.
+/// What of the rule a run breaks whose operation at a line met a device that failed: it has one such answer more for the one
+/// call more that failed; and where each line is an operation that is run to its end, the other answers, and what is left,
+/// are those of the run without that line.
 fn broken_failure(
     alloc: Global,
     scene: &Scene,
     base: &Run,
     now: &Run,
+    device: Device,
     line: usize,
+    stages: &mut Stages<'_>,
 ) -> Result<Option<&'static str>, AllocError> {
-    if rise(&base.played, &now.played, Device::Keeper) != 1 {
-        return Ok(Some("more than one call failed"));
-    }
-    if failures(now) != failures(base).saturating_add(1) {
-        return Ok(Some("more operations were answered so than calls failed"));
-    }
-    if now.played.status != base.played.status {
-        return Ok(Some("the status is another one"));
+    if let Some(why) = broken_count(base, now, device) {
+        return Ok(Some(why));
     }
     if !scene.is_plain() {
         return Ok(None);
     }
-    let without = show(alloc, scene, Variant::Without(line))?;
-    if !now.after.is_same_as(&without.after) {
-        return Ok(Some("the rows, or what is listed, aren't those of the run without the line"));
-    }
-    if has_answers_besides(&now.played, &without.played, line) {
-        Ok(None)
+    let without = show(alloc, scene, Variant::Without(line), stages)?;
+    Ok(broken_rest(now, &without, line))
+}
+
+/// What of the rule a run breaks by how often a device failed, or by its status.
+fn broken_count(base: &Run, now: &Run, device: Device) -> Option<&'static str> {
+    let failure = device.failure()?;
+    if rise(&base.played, &now.played, device) != 1 {
+        Some("more than one call failed")
+    } else if failures(now, failure) != failures(base, failure).saturating_add(1) {
+        Some("more operations were answered so than calls failed")
+    } else if now.played.status != base.played.status {
+        Some("the status is another one")
     } else {
-        Ok(Some("the answers aren't those of the run without the line"))
+        None
+    }
+}
+
+/// What of the rule a run breaks by how it differs from the run without the line of this number.
+fn broken_rest(now: &Run, without: &Run, line: usize) -> Option<&'static str> {
+    if !now.after.is_same_as(&without.after) {
+        Some("the rows, or what is listed, aren't those of the run without the line")
+    } else if has_answers_besides(&now.played, &without.played, line) {
+        None
+    } else {
+        Some("the answers aren't those of the run without the line")
     }
 }
 
@@ -297,9 +299,10 @@ fn broken_by(
     base: &Run,
     now: &Run,
     device: Device,
+    stages: &mut Stages<'_>,
 ) -> Result<Option<&'static str>, AllocError> {
     match first_failure(base, now, device) {
-        Some(line) => broken_failure(alloc, scene, base, now, line),
+        Some(line) => broken_failure(alloc, scene, base, now, device, line, stages),
         None => Ok(broken_rule(base, now, device)),
     }
 }
@@ -329,7 +332,7 @@ fn has_rows_of(base: &Run, now: &Run) -> bool {
 
 /// Whether a run ended at a failed device after the first step of a script. Its rows are those that its steps left.
 fn was_cut_off(now: &Played) -> bool {
-    now.status == FAILED && now.world.journal.len() > 0
+    now.status == FAILED && now.entries > 0
 }
 
 fn has_other_faults(base: &Played, now: &Played, device: Device) -> bool {
@@ -367,7 +370,7 @@ fn broken_end(
 
 /// Whether a fault of the device ends a run.
 fn is_never_passed_over(device: Device) -> bool {
-    matches!(device, Device::Source | Device::Out | Device::Clock)
+    device != Device::Err && device.failure().is_none()
 }
 
 /// Whether standard error says that the device failed, and nothing else.
