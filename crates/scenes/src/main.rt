@@ -115,6 +115,7 @@ fn read_scenes(alloc: Global, text: &str) -> Result<Vec<Scene>, Stop> {
 }
 
 /// The stages of a scene: that of its runs, one for tries and sweeps, and one for the runs that list what is left.
+#[derive(Drop)]
 struct Theatre {
     own: Stage,
     tried: Stage,

@@ -34,6 +34,7 @@ struct Run {
 }
 
 /// The stages of a sweep: that of its runs, and that of the runs which list what they leave.
+#[derive(Drop)]
 pub struct Stages<'a> {
     pub run: &'a mut Stage,
     pub list: &'a mut Stage,
