@@ -45,7 +45,7 @@ module _ (h : ClientValue) (segment : Segment) where
   between = without_segment segment h
 
   -- what is open stays so, on the same inode
-  still-open : (handle : ℕ) (file : Handle) → file_of h.handles handle ≡ Some file
+  pub still-open : (handle : ℕ) (file : Handle) → file_of h.handles handle ≡ Some file
       → (later : Handle) × (file_of between.handles handle ≡ Some later) × (later.inode ≡ file.inode)
   still-open handle file opened =
       let open_yet = unseen-open segment.inode file in (

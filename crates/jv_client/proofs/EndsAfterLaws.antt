@@ -1,6 +1,6 @@
 -- The answer of an operation after its flush is the model's.
 use Rattle.std.proofs.Common.{◌≡◌, ℕ, ◌≤◌, Bool, true, false, not, IsTrue, List, [], ◌∷◌, length, Option, None, Some, refl}
-use Rattle.std.proofs.Common.{sym, ap, ◌∙◌, arith}
+use Rattle.std.proofs.Common.{sym, ap, subst, ◌∙◌, arith}
 use Rattle.std.specs.Prelude.{if◌then◌else◌, is_some}
 use Rattle.std.proofs.lemmas.Bool.{not-false, not-true}
 use Rattle.jv_model.specs.declared.act.Told.{Told}
@@ -13,9 +13,10 @@ use Rattle.jv_model.specs.declared.profile.Does.{Does}
 use Rattle.jv_model.specs.declared.profile.Does.TheVariants as does
 use Rattle.jv_model.specs.client.Pending.{PendingByte, Segment, first_segment}
 use Rattle.jv_model.specs.client.Profile.{handle_of}
-use Rattle.jv_model.specs.client.ModelClient.{ModelClient, is_last_of_removed}
+use Rattle.jv_model.specs.client.ModelClient.{ModelClient, file_of, is_last_of_removed}
 use Rattle.jv_model.specs.journal.State.{after_told, answer_then, finished}
 use Rattle.jv_model.specs.journal.Steps.{told_of}
+use Rattle.jv_handles.specs.declared.handle.Handle.{Handle}
 use Rattle.jv_client.specs.declared.doing.Doing.{Doing}
 use Rattle.jv_client.specs.declared.doing.Flush.{Flush}
 use Rattle.jv_client.specs.declared.doing.Flush.TheVariants as flush
@@ -24,8 +25,9 @@ use Rattle.jv_client.specs.Held.{is_last_here, segment_left}
 use Rattle.jv_client.specs.UnderWay.{FlushesFor, Closes, Syncs, Describes, ReadsNothing, Reads}
 use Rattle.jv_client.specs.UnderWay.{Truncates as FlushTruncates}
 use Rattle.jv_client.specs.UnderWay.{HasRoom, Beside, Alone, IsForm, Mounts, Transacts, Leaves, Writes, Flushes, Copies}
-use Rattle.jv_client.specs.UnderWay.{TellsStats, answer_here, ends_itself}
-use Rattle.jv_client.specs.Flushing.{written_alone}
+use Rattle.jv_client.specs.UnderWay.{TellsStats, answer_here, ends_itself, is_transaction}
+use Rattle.jv_client.specs.Flushing.{without_segment, written_alone}
+use Rattle.jv_client.proofs.AfterCommitLaws.{still-open}
 use Rattle.jv_client.proofs.EndingLaws.{is_write}
 use Rattle.jv_client.proofs.HeldLaws.{doing_of}
 
@@ -113,3 +115,61 @@ module _ (m : ModelClient) (c : ClientValue) (d : Doing)
       answered-so (Copies source from target to len file other o e first opened there session) =
           never does.Copies e refl
       answered-so (TellsStats o e first session) = no_segment first
+
+-- ---- a write that had to wait for room
+
+-- what it waits for is committed: nothing is pending, and its file is open
+pub record WaitsToWrite (h : ClientValue) (d : Doing) (segment : Segment) (handle offset : ℕ) (bytes : List ℕ) : Type 0 where
+  pub does_is : d.does ≡ does.Answers (answer.Count (length bytes))
+  pub file : Handle
+  pub opened : file_of (without_segment segment h).handles handle ≡ Some file
+  pub none : (without_segment segment h).pending ≡ []
+
+module _ (h : ClientValue) (d : Doing) (segment : Segment) (next : segment_left d.flush h.pending ≡ Some segment)
+    (over : segment_left d.flush (without_segment segment h).pending ≡ None) (handle offset : ℕ) (bytes : List ℕ)
+    (of_op : d.op ≡ op.Write handle offset bytes) where
+  nothing-left : (pending : List PendingByte) → first_segment pending ≡ None → pending ≡ []
+  nothing-left [] none = refl
+  nothing-left (b ∷ pending) none = absurd (cc none)
+
+  committed-all : HasRoom h d.flush (length bytes) → (without_segment segment h).pending ≡ []
+  committed-all (Beside first few) =
+      absurd (let none = ap (λ f. segment_left f h.pending) first in cc (sym next ∙ none))
+  committed-all (Alone first few) =
+      nothing-left (without_segment segment h).pending
+      (sym (ap (λ f. segment_left f (without_segment segment h).pending) first) ∙ over)
+
+  other-op : {A : Type 0} (o : Op) → d.op ≡ o → is_write o ≡ false → A
+  other-op o e none = absurd (let write = ap is_write (sym of_op ∙ e) in cc (write ∙ none))
+
+  no-metadata : (o : Op) → is_transaction o ≡ true → is_write o ≡ false
+  no-metadata (op.Write handle offset bytes) e = absurd (cc e)
+  no-metadata _ e = refl
+
+  not-flushing : {A : Type 0} (other : ℕ) → FlushesFor d other → A
+  not-flushing other (Closes o e) = other-op (op.Close other) o refl
+  not-flushing other (Syncs o e) = other-op (op.Flush other) o refl
+  not-flushing other (Describes o e) = other-op (op.Fstat other) o refl
+  not-flushing other (ReadsNothing from len o e) = other-op (op.Read other from len) o refl
+  not-flushing other (Reads from len o e some short inside) = other-op (op.Read other from len) o refl
+  not-flushing other (FlushTruncates len o e) = other-op (op.Truncate other len) o refl
+
+  pub waits-to_write : IsForm h d → WaitsToWrite h d segment handle offset bytes
+  waits-to_write (Mounts o e first) = other-op (op.Mount false) o refl
+  waits-to_write (Transacts one spelled e first session) = other-op d.op refl (no-metadata d.op one)
+  waits-to_write (Leaves o e first session) = other-op op.Umount o refl
+  waits-to_write (Writes named from given file o e opened inside room session) =
+      let same : op.Write named from given ≡ op.Write handle offset bytes = sym o ∙ of_op in
+      let at : named ≡ handle = cc same in
+      let are : given ≡ bytes = cc same in
+      let open_yet = still-open h segment named file opened in
+      record {
+        does_is = e ∙ ap (λ (bytes : List ℕ). does.Answers (answer.Count (length bytes))) are;
+        file = open_yet.0;
+        opened = ap (file_of (without_segment segment h).handles) (sym at) ∙ open_yet.1;
+        none = committed-all (subst (λ (bytes : List ℕ). HasRoom h d.flush (length bytes)) are room);
+      }
+  waits-to_write (Flushes other file for first opened session) = not-flushing other for
+  waits-to_write (Copies source from target to len file other o e first opened there session) =
+      other-op (op.Copy source from target to len) o refl
+  waits-to_write (TellsStats o e first session) = other-op op.Stats o refl

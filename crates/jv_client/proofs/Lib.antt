@@ -3,6 +3,7 @@ pub mod HeldLaws
 pub mod LastLaws
 pub mod EndingLaws
 pub mod KeptLaws
+pub mod AnswerLaws
 pub mod NextSegmentLaws
 pub mod AloneLaws
 pub mod AfterFlushLaws
@@ -11,3 +12,4 @@ pub mod AfterCommitLaws
 pub mod EndsAfterLaws
 pub mod PendingWriteLaws
 pub mod CommitLaws
+pub mod CommittedLaws
