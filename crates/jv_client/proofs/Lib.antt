@@ -13,3 +13,10 @@ pub mod EndsAfterLaws
 pub mod PendingWriteLaws
 pub mod CommitLaws
 pub mod CommittedLaws
+pub mod GoesOnLaws
+pub mod LeftLaws
+pub mod UnmadeLaws
+pub mod FlushLaws
+pub mod PutBlockLaws
+pub mod RefusedCommitLaws
+pub mod CommitCallLaws
