@@ -28,17 +28,10 @@ use Rattle.jv_client.specs.UnderWay.{HasRoom, Beside, Alone, IsForm, Mounts, Tra
 use Rattle.jv_client.specs.UnderWay.{TellsStats, IsWorking, IsUnderWay, IsReady, ClosesOpen, asks_more, ends_itself}
 use Rattle.jv_client.specs.UnderWay.{has_not_seen, has_segment, left, left_of, moved_to, reading_steps, steps_in, steps_left}
 use Rattle.jv_client.specs.Flushing.{without_segment}
+use Rattle.jv_client.proofs.GoesOnLaws.{Continues, form-on}
 use Rattle.jv_client.proofs.NextSegmentLaws.{own_file}
 
--- ---- the form
-
-pub moved-for : (d : Doing) (handle : ℕ) (p : Progress) → FlushesFor d handle → FlushesFor (moved_to p d) handle
-moved-for d handle p (Closes o does) = Closes o does
-moved-for d handle p (Syncs o does) = Syncs o does
-moved-for d handle p (Describes o does) = Describes o does
-moved-for d handle p (ReadsNothing offset len o does) = ReadsNothing offset len o does
-moved-for d handle p (Reads offset len o does some short inside) = Reads offset len o does some short inside
-moved-for d handle p (FlushTruncates len o does) = FlushTruncates len o does
+-- ---- what is open
 
 module _ (h : ClientValue) (segment : Segment) where
   abbrev pub between : ClientValue
@@ -58,31 +51,10 @@ module _ (h : ClientValue) (segment : Segment) where
   closes-without (op.Close handle) opened = some-unseen segment.inode h.handles handle ∙ opened
   closes-without _ opened = tt
 
-  module _ (fewer : length between.pending ≤ length h.pending) (doing : Option Doing) where
-    abbrev after : ClientValue
-    after = record between { doing = doing }
-
-    room-without : (first : Flush) (len : ℕ) → HasRoom h first len → HasRoom after first len
-    room-without first len (Beside none few) = Beside none (omega (arith, fewer, few))
-    room-without first len (Alone all few) = Alone all few
-
-    pub form-without : (d : Doing) (p : Progress) → IsForm h d → IsForm after (moved_to p d)
-    form-without d p (Mounts o does first) = Mounts o does first
-    form-without d p (Transacts one spelled does first session) = Transacts one spelled does first session
-    form-without d p (Leaves o does first session) = Leaves o does first session
-    form-without d p (Writes handle offset bytes file o does opened inside room session) =
-        let later = still-open handle file opened in
-        Writes handle offset bytes later.0 o does later.1 inside (room-without d.flush (length bytes) room) session
-    form-without d p (Flushes handle file for first opened session) =
-        let later = still-open handle file opened in
-        Flushes handle later.0 (moved-for d handle p for) (first ∙ ap flush.File (sym later.2)) later.1 session
-    form-without d p (Copies source from target to len file other o does first opened there session) =
-        let later = still-open source file opened in
-        let beside = still-open target other there in
-        Copies source from target to len later.0 beside.0 o does
-        (first ∙ ap (λ n. flush.Files n other.inode) (sym later.2) ∙ ap (flush.Files later.0.inode) (sym beside.2))
-        later.1 beside.1 session
-    form-without d p (TellsStats o does first session) = TellsStats o does first session
+  -- it has what it had, and no more bytes pending
+  continues : length between.pending ≤ length h.pending → (doing : Option Doing)
+      → Continues h (record between { doing = doing })
+  continues fewer doing = record { session = refl; limits = refl; pending = fewer; handles = still-open }
 
 -- ---- what the operation asks for after its last segment
 
@@ -184,7 +156,8 @@ module _ (h : ClientValue) (d : Doing) (segment : Segment) (form : IsForm h d)
 
     pub way-without : IsUnderWay after_request asking
     way-without = record {
-      form = form-without h segment (omega (arith, fewer)) (Some asking) d (progress.Working 0 0 0) form;
+      form = form-on h after_request (continues h segment (omega (arith, fewer)) (Some asking)) d
+          (progress.Working 0 0 0) form;
       at = record {
         few = few-here (segment_left d.flush without_it.pending);
         segment = λ less. absurd (omega (arith, less));

@@ -8,6 +8,7 @@ pub mod NextSegmentLaws
 pub mod AloneLaws
 pub mod AfterFlushLaws
 pub mod WithoutLaws
+pub mod WaitingLaws
 pub mod AfterCommitLaws
 pub mod EndsAfterLaws
 pub mod PendingWriteLaws
