@@ -21,3 +21,9 @@ pub mod FlushLaws
 pub mod PutBlockLaws
 pub mod RefusedCommitLaws
 pub mod CommitCallLaws
+pub mod FormLaws
+pub mod WrittenLaws
+pub mod AtOnceLaws
+pub mod WriteLaws
+pub mod SubmissionLaws
+pub mod ReadyLaws
