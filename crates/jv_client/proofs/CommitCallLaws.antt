@@ -24,9 +24,11 @@ use Rattle.jv_client.specs.Shared.{shared}
 use Rattle.jv_client.specs.Transacting.{EndsUnmade, Fails}
 use Rattle.jv_client.specs.UnderWay.{ClosesOpen, IsAt, IsReady, IsUnderWay, IsWorking, left, left_of, progress_of}
 use Rattle.jv_client.specs.Flushing.{Follows, bytes_of, without_segment}
+use Rattle.jv_client.proofs.AfterCommitLaws.{closes-without}
 use Rattle.jv_client.proofs.AnswerLaws.{no_memory-makes}
 use Rattle.jv_client.proofs.CommitLaws.{IsCommit, record_for}
 use Rattle.jv_client.proofs.CommittedLaws.{follows}
+use Rattle.jv_client.proofs.FormLaws.{closes-open}
 use Rattle.jv_client.proofs.GoesOnLaws.{in_progress, under_way}
 use Rattle.jv_client.proofs.RefusedCommitLaws.{refuses-commit}
 
@@ -101,3 +103,14 @@ pub unasked-call : (now entry : ℕ) (h after : ClientValue) (v : Shared) (at : 
 unasked-call now entry h after v at outcome ready busy failed =
     let here = in_progress h.doing at busy in
     no_memory-makes now entry h after here.0 v outcome here.1 ready failed
+
+-- a handle that its operation closes is still open
+pub closes-still : (h between : ClientValue) (segment : Segment) → IsReady h → between ≡ without_segment segment h
+    → IfSome between.doing (λ d. ClosesOpen d.op between.handles)
+closes-still h between segment ready same =
+    subst (λ (c : ClientValue). IfSome c.doing (λ d. ClosesOpen d.op c.handles)) (sym same) (by_doing h.doing ready.doing)
+  where
+    by_doing : (o : Option Doing) → IfSome o (IsUnderWay h)
+        → IfSome o (λ d. ClosesOpen d.op (without_segment segment h).handles)
+    by_doing None way = tt
+    by_doing (Some d) way = closes-without h segment d.op (closes-open h d way.form)

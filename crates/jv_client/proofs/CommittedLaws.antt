@@ -52,10 +52,10 @@ use Rattle.jv_client.proofs.CommitLaws.{number-is, record_for, rest, segment, us
 use Rattle.jv_client.proofs.EndingLaws.{holds-told, is_write, keeps_bytes}
 use Rattle.jv_client.proofs.EndsAfterLaws.{IsAnswer, WaitsToWrite, answered-so, goes-on, told-same, waits-to_write}
 use Rattle.jv_client.proofs.HeldLaws.{doing_of, holds-doing}
-use Rattle.jv_client.proofs.KeptLaws.{client-idle, moved-client, told-client}
+use Rattle.jv_client.proofs.KeptLaws.{moved-client, told-client}
 use Rattle.jv_client.proofs.LastLaws.{is_last-same}
-use Rattle.jv_client.proofs.PendingWriteLaws.{held-write, holds-write}
 use Rattle.jv_client.proofs.WithoutLaws.{held-without, holds-without}
+use Rattle.jv_client.proofs.WrittenLaws.{wrote-client, wrote-holds}
 
 -- ---- what an answer after a flush is
 
@@ -258,14 +258,12 @@ module _ (h : ClientValue) (d : Doing) (v : Shared) (keeper : Store) (at : Segme
             (record (finished o left_model) { doing = None })) of_op
             (request-over (reply.Count (length bytes))
             (ap (λ what. answer_then model (doing_of (record d { does = what }))) w.does_is)))
-            (λ later held. client-idle g used_here later done after_write refl refl
-            (subst (λ (pending : List PendingByte). IsHeld g used_here done later (record between {
+            (λ later held. subst (λ (pending : List PendingByte). IsClient g used_here done later (record between {
               pending = written (inode_here between.handles handle) offset bytes pending;
               doing = None;
-            })) w.none (held-write g used_here left_model later between held handle w.file w.opened offset bytes))
-            is.cache)
+            })) w.none (wrote-client left_model between handle offset bytes g used_here later held is.cache))
             (λ failed. refl)
-            (holds-write g v left_model s.count between held-here handle w.file w.opened offset bytes tree_then holds-here)
+            (wrote-holds left_model between handle offset bytes tree_then g v s.count w.file held-here w.opened holds-here)
 
   -- ---- what it makes
 

@@ -11,7 +11,6 @@ pub mod WithoutLaws
 pub mod WaitingLaws
 pub mod AfterCommitLaws
 pub mod EndsAfterLaws
-pub mod PendingWriteLaws
 pub mod CommitLaws
 pub mod CommittedLaws
 pub mod GoesOnLaws
