@@ -8,3 +8,10 @@ pub mod LeftLaws
 pub mod UnmadeLaws
 pub mod FlushLaws
 pub mod PutBlockLaws
+pub mod AnswerLaws
+pub mod FormLaws
+pub mod WrittenLaws
+pub mod AtOnceLaws
+pub mod WriteLaws
+pub mod SubmissionLaws
+pub mod ReadyLaws
