@@ -42,9 +42,10 @@ use Rattle.jv_client.specs.Transacting.{EndsUnmade}
 use Rattle.jv_handles.proofs.TableLaws.{the_some}
 use Rattle.jv_client.proofs.HeldLaws.{client-doing, doing_of, holds-doing}
 use Rattle.jv_client.proofs.KeptLaws.{client-asks}
-use Rattle.jv_client.proofs.GoesOnLaws.{goes-on, in_progress, under_way}
+use Rattle.jv_client.proofs.GoesOnLaws.{goes-on, in_progress}
 use Rattle.jv_client.proofs.LeftLaws.{flight-flying, flight-is, left-is, segment-short}
-use Rattle.jv_client.proofs.UnmadeLaws.{UnmadeLeads, InState, makes-as, not_taken, unmade, uses-keeper}
+use Rattle.jv_client.proofs.UnmadeLaws.{UnmadeLeads, InState, not_taken, unmade, uses-keeper}
+use Rattle.jv_client.proofs.AnswerLaws.{makes-as}
 
 -- ---- a further request of the segment that is committed next
 
@@ -217,9 +218,9 @@ module _ (now entry : ℕ) (h after : ClientValue) (before : Shared) (keeper : S
       let d = in_progress h.doing (Working 0 started id) at in
       let segment = the_some (left h) next in
       makes-as now entry h after (record h { doing = Some (moved_to (Working 1 0 given) d.0) }) before
-      (record before { keeper = keeper }) done (AsksFor Quiet)
+      (record before { keeper = keeper }) (record before { keeper = keeper }) done (AsksFor Quiet)
       (after_is
-      ∙ ap (λ (o : Option Doing). record h { doing = option_map (moved_to (Working 1 0 given)) o }) d.1) done_is
+      ∙ ap (λ (o : Option Doing). record h { doing = option_map (moved_to (Working 1 0 given)) o }) d.1) refl done_is
       (asks_number now entry h d.0 before keeper segment.0 sid started id d.1 ready segment.1 d.2 own given takes low)
 
   pub number-unmade : (fault : TxFault) → TakesNumber sid before.keeper keeper (Err fault)
