@@ -2,6 +2,7 @@
 use Rattle.std.proofs.Common.{◌≡◌, ℕ, ◌+◌, ◌≤◌, Bool, List, [], ◌∷◌, not, map, length, refl, ap, ◌∙◌}
 use Rattle.std.specs.List.{AllByRecursion, filter}
 use Rattle.std.proofs.lemmas.List.Filters.{length-filter_both}
+use Rattle.std.proofs.lemmas.List.{length-map}
 use Rattle.jv_model.specs.tree.Tree.{Tree}
 use Rattle.jv_model.specs.client.Pending.{PendingByte, Segment, is_in_range, without_range}
 use Rattle.jv_model.specs.client.ModelClient.{ModelClient, views_without}
@@ -24,7 +25,7 @@ pub length-parted : (segment : Segment) (pending : List PendingByte)
     ≡ length pending
 length-parted segment pending =
     let own : PendingByte → Bool = is_in_range segment.inode segment.from segment.len in
-    ap (λ n. n + length (filter (λ b. not (own b)) pending)) (length-map (λ (b : PendingByte). b.byte) (filter own pending))
+    ap (λ n. n + length (filter (λ b. not (own b)) pending)) (length-map (filter own pending) (λ (b : PendingByte). b.byte))
     ∙ length-filter_both own (λ b. not (own b)) (λ b. refl) pending
 
 module _ (segment : Segment) where
