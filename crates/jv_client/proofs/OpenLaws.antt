@@ -1,98 +1,67 @@
--- Whether a file is open by another handle than one, place by place.
-use Rattle.std.proofs.Common.{◌≡◌, ℕ, zero, suc, ◌+◌, ◌-◌, ◌≤◌, ◌<◌, Bool, true, false, ◌&&◌, ◌||◌, not, inl, inr, List, [], ◌∷◌, ◌++◌, length, drop, get_or, slice_set, Option, None, Some, refl, sym, ap, ◌∙◌, arith, add-one, drop-cons}
+-- What is open once a handle was given a file, or none.
+use Rattle.std.proofs.Common.{◌≡◌, ℕ, zero, suc, ◌-◌, Bool, true, false, ◌⊎◌, inl, inr, List, [], ◌∷◌, ◌++◌, length}
+use Rattle.std.proofs.Common.{slice_set, Option, None, Some}
 use Rattle.std.specs.Prelude.{◌==◌, nat_le, if◌then◌else◌}
-use Rattle.std.proofs.lemmas.List.{drop_all}
-use Rattle.std.proofs.lemmas.Bool.{eq-eqb, ne_eqb, leb-false}
-use Rattle.jv_model.specs.client.ModelClient.{is_among, with_file}
-use Rattle.jv_client.specs.declared.handles.Handle.{Handle}
-use Rattle.jv_client.specs.Held.{held_here}
+use Rattle.std.proofs.lemmas.Bool.{or_cases, or_left, or_right}
+use Rattle.jv_model.specs.client.ModelClient.{OpenFile, with_file, held_inodes, is_among}
 
-abbrev pub is_on : ℕ → Option Handle → Bool
-is_on inode slot = is_among inode (held_here (slot ∷ []))
+abbrev pub is_open : ℕ → List (Option OpenFile) → Bool
+is_open inode files = is_among inode (held_inodes files)
 
--- from a place on, whose number is given
-abbrev pub is_on_other : ℕ → ℕ → ℕ → List (Option Handle) → Bool
-is_on_other place inode n [] = false
-is_on_other place inode n (x ∷ xs) = (not (n == place) && is_on inode x) || is_on_other place inode (n + 1) xs
+open-cons : (inode : ℕ) (file : Option OpenFile) (files : List (Option OpenFile)) → is_open inode (file ∷ files) ≡ true
+    → (is_open inode (file ∷ []) ≡ true) ⊎ (is_open inode files ≡ true)
+open-cons inode None files e = inr e
+open-cons inode (Some file) files e = elim (or_cases (file.inode == inode) (is_open inode files) e) [
+  | inl own ↦ inl (or_left (file.inode == inode) false own)
+  | inr other ↦ inr other
+]
 
--- one place more
-on_other-next : (place inode n : ℕ) (xs : List (Option Handle)) → n < length xs
-    → is_on_other place inode n (drop n xs) ≡ ((not (n == place) && is_on inode (get_or xs n None)) || is_on_other place inode (n + 1) (drop (n + 1) xs))
-on_other-next place inode n xs inside =
-    ap (is_on_other place inode n) (drop-cons xs n None inside)
-    ∙ ap (λ k. (not (n == place) && is_on inode (get_or xs n None)) || is_on_other place inode (n + 1) (drop k xs)) (sym (add-one n))
+open-first : (inode : ℕ) (file : Option OpenFile) (files : List (Option OpenFile))
+    → is_open inode (file ∷ []) ≡ true
+    → is_open inode (file ∷ files) ≡ true
+open-first inode None files e = absurd (cc)
+open-first inode (Some file) files e = elim (or_cases (file.inode == inode) false e) [
+  | inl own ↦ or_left (file.inode == inode) (is_open inode files) own
+  | inr none ↦ absurd (cc)
+]
 
-among-cons : (inode : ℕ) (x : Option Handle) (xs : List (Option Handle)) → (is_on inode x || is_among inode (held_here xs)) ≡ is_among inode (held_here (x ∷ xs))
-among-cons inode None xs = refl
-among-cons inode (Some handle) xs = ap (λ b. b || is_among inode (held_here xs)) (or_none (handle.inode == inode))
-  where
-    or_none : (b : Bool) → (b || false) ≡ b
-    or_none true = refl
-    or_none false = refl
+open-rest : (inode : ℕ) (file : Option OpenFile) (files : List (Option OpenFile)) → is_open inode files ≡ true
+    → is_open inode (file ∷ files) ≡ true
+open-rest inode None files e = e
+open-rest inode (Some file) files e = or_right (file.inode == inode) (is_open inode files) e
 
--- behind that place
-after_it : (place inode n : ℕ) (xs : List (Option Handle)) → place < n → is_on_other place inode n xs ≡ is_among inode (held_here xs)
-after_it place inode n [] behind = refl
-after_it place inode n (x ∷ xs) behind =
-    ap (λ b. (not b && is_on inode x) || is_on_other place inode (n + 1) xs) (ne_eqb n place (λ e. omega (arith, e, behind)))
-    ∙ ap (λ b. is_on inode x || b) (after_it place inode (n + 1) xs (omega (arith, behind))) ∙ among-cons inode x xs
+-- what a handle is given is open, and what was open before
+module _ (inode : ℕ) (new : Option OpenFile) where
+  abbrev IsOld : List (Option OpenFile) → Type 0
+  IsOld files = (is_open inode (new ∷ []) ≡ true) ⊎ (is_open inode files ≡ true)
 
--- up to it
-up_to_it : (place inode n k : ℕ) (xs : List (Option Handle)) → place ≡ n + k
-    → is_on_other place inode n xs ≡ is_among inode (held_here (slice_set xs k None))
-up_to_it place inode n k [] e = refl
-up_to_it place inode n zero (x ∷ xs) e =
-    ap (λ b. (not b && is_on inode x) || is_on_other place inode (n + 1) xs) (eq-eqb n place (omega (arith, e)))
-    ∙ after_it place inode (n + 1) xs (omega (arith, e))
-up_to_it place inode n (suc k) (x ∷ xs) e =
-    ap (λ b. (not b && is_on inode x) || is_on_other place inode (n + 1) xs) (ne_eqb n place (λ same. omega (arith, e, same)))
-    ∙ ap (λ b. is_on inode x || b) (up_to_it place inode (n + 1) k xs (omega (arith, e))) ∙ among-cons inode x (slice_set xs k None)
+  old-rest : (file : Option OpenFile) (files : List (Option OpenFile)) → IsOld files → IsOld (file ∷ files)
+  old-rest file files old = elim old [ inl e ↦ inl e | inr e ↦ inr (open-rest inode file files e) ]
 
--- a handle that the table doesn't have
-set_past : (k : ℕ) (xs : List (Option Handle)) → length xs ≤ k → slice_set xs k None ≡ xs
-set_past k [] past = refl
-set_past zero (x ∷ xs) past = absurd (omega (arith, past))
-set_past (suc k) (x ∷ xs) past = ap (λ ys. x ∷ ys) (set_past k xs (omega (arith, past)))
+  open-set : (place : ℕ) (files : List (Option OpenFile)) → is_open inode (slice_set files place new) ≡ true
+      → IsOld files
+  open-set place [] e = inr e
+  open-set zero (file ∷ files) e = elim (open-cons inode new files e) [
+    | inl own ↦ inl own
+    | inr other ↦ inr (open-rest inode file files other)
+  ]
+  open-set (suc place) (file ∷ files) e = elim (open-cons inode file (slice_set files place new) e) [
+    | inl first ↦ inr (open-first inode file files first)
+    | inr other ↦ old-rest file files (open-set place files other)
+  ]
 
-held-longer : (xs : List (Option Handle)) → held_here (xs ++ None ∷ []) ≡ held_here xs
-held-longer [] = refl
-held-longer (None ∷ xs) = held-longer xs
-held-longer (Some handle ∷ xs) = ap (λ inodes. handle.inode ∷ inodes) (held-longer xs)
+  open-longer : (files : List (Option OpenFile)) → is_open inode (files ++ new ∷ []) ≡ true → IsOld files
+  open-longer [] e = inl e
+  open-longer (file ∷ files) e = elim (open-cons inode file (files ++ new ∷ []) e) [
+    | inl first ↦ inr (open-first inode file files first)
+    | inr other ↦ old-rest file files (open-longer files other)
+  ]
 
-held-without : (handle : ℕ) (xs : List (Option Handle)) → held_here (with_file handle None xs) ≡ held_here (slice_set xs (handle - 1) None)
-held-without handle xs = by_place (nat_le handle (length xs)) refl
-  where
-    by_place : (b : Bool) → nat_le handle (length xs) ≡ b
-        → held_here (if b then slice_set xs (handle - 1) None else xs ++ None ∷ []) ≡ held_here (slice_set xs (handle - 1) None)
-    by_place true e = refl
-    by_place false e =
-        held-longer xs ∙ ap held_here (sym (set_past (handle - 1) xs (let past = leb-false handle (length xs) e in omega (arith, past))))
+  open-by : (b : Bool) (place : ℕ) (files : List (Option OpenFile))
+      → is_open inode (if b then slice_set files place new else files ++ new ∷ []) ≡ true → IsOld files
+  open-by true place files e = open-set place files e
+  open-by false place files e = open-longer files e
 
-on_other-same : (handle inode : ℕ) (xs : List (Option Handle))
-    → is_on_other (handle - 1) inode 0 xs ≡ is_among inode (held_here (with_file handle None xs))
-on_other-same handle inode xs =
-    up_to_it (handle - 1) inode 0 (handle - 1) xs (omega arith) ∙ ap (is_among inode) (sym (held-without handle xs))
-
--- while the places so far are looked at: none of them is on the inode but the handle's own
-module _ (handle inode place n : ℕ) (xs : List (Option Handle)) where
-  abbrev pub NoneSoFar : Type 0
-  NoneSoFar = is_on_other place inode n (drop n xs) ≡ is_on_other place inode 0 xs
-
-  abbrev here : Bool
-  here = not (n == place) && is_on inode (get_or xs n None)
-
-  pub found_other : place ≡ handle - 1 → n < length xs → here ≡ true → NoneSoFar
-      → true ≡ is_among inode (held_here (with_file handle None xs))
-  found_other e inside found none =
-      ap (λ b. b || is_on_other place inode (n + 1) (drop (n + 1) xs)) (sym found) ∙ sym (on_other-next place inode n xs inside) ∙ none
-      ∙ ap (λ p. is_on_other p inode 0 xs) e ∙ on_other-same handle inode xs
-
-  pub none_other : place ≡ handle - 1 → length xs ≤ n → NoneSoFar → false ≡ is_among inode (held_here (with_file handle None xs))
-  none_other e past none =
-      ap (is_on_other place inode n) (sym (drop_all n xs past)) ∙ none ∙ ap (λ p. is_on_other p inode 0 xs) e ∙ on_other-same handle inode xs
-
-pub none_here : (place inode n : ℕ) (xs : List (Option Handle)) → n < length xs → (not (n == place) && is_on inode (get_or xs n None)) ≡ false
-    → is_on_other place inode n (drop n xs) ≡ is_on_other place inode 0 xs
-    → is_on_other place inode (n + 1) (drop (n + 1) xs) ≡ is_on_other place inode 0 xs
-none_here place inode n xs inside off none =
-    ap (λ b. b || is_on_other place inode (n + 1) (drop (n + 1) xs)) (sym off) ∙ sym (on_other-next place inode n xs inside) ∙ none
+  pub open-with_file : (handle : ℕ) (files : List (Option OpenFile)) → is_open inode (with_file handle new files) ≡ true
+      → IsOld files
+  open-with_file handle files e = open-by (nat_le handle (length files)) (handle - 1) files e
