@@ -58,8 +58,8 @@ module _ (h : ClientValue) (d : Doing) where
       let read = at.read in absurd (other read.0 read.1 read.2)
 
   -- an operation in progress goes on well
-  pub under_way : h.doing ≡ Some d → IsReady h → IsUnderWay h d
-  under_way busy ready = subst (λ o. IfSome o (IsUnderWay h)) busy ready.doing
+  goes_well : h.doing ≡ Some d → IsReady h → IsUnderWay h d
+  goes_well busy ready = subst (λ o. IfSome o (IsUnderWay h)) busy ready.doing
 
   none_left : h.doing ≡ Some d → left h ≡ None → has_segment h d ≡ false
   none_left busy flushed = ap is_some (sym (ap (left_of h.pending) busy) ∙ flushed)
@@ -67,7 +67,7 @@ module _ (h : ClientValue) (d : Doing) where
   first_by : ((offset len : ℕ) → d.does ≡ does.Reads offset len → ⊥) → h.doing ≡ Some d → IsReady h → left h ≡ None
       → IsFirst h d
   first_by other busy ready flushed =
-      first_at other (none_left busy flushed) d.progress refl (under_way busy ready).at
+      first_at other (none_left busy flushed) d.progress refl (goes_well busy ready).at
 
   pub transaction-first : IsTrue (makes_transaction d.does) → h.doing ≡ Some d → IsReady h → left h ≡ None
       → IsFirst h d
@@ -136,7 +136,7 @@ module _ (d : Doing) (makes : IsTrue (makes_transaction d.does)) where
   one_by h (TellsStats o e first session) = absurd (not_of (does.Answers answer.CacheStats) e refl)
 
   pub makes-one : (h : ClientValue) → h.doing ≡ Some d → IsReady h → MakesOne d × IsDirect d.does
-  makes-one h busy ready = one_by h (under_way h d busy ready).form
+  makes-one h busy ready = one_by h (goes_well h d busy ready).form
 
 -- it may be tried
 tried-metadata : (o : Op) → is_metadata o ≡ true → is_spelled o ≡ true → is_tried o ≡ true
@@ -199,4 +199,4 @@ module _ (h : ClientValue) (d : Doing) (changes : IsTrue (changes_files d.does))
   change_by (TellsStats o e first session) = absurd (changes_not (does.Answers answer.CacheStats) e refl)
 
   pub changes-one : h.doing ≡ Some d → IsReady h → ChangesOne h d
-  changes-one busy ready = change_by (under_way h d busy ready).form
+  changes-one busy ready = change_by (goes_well h d busy ready).form

@@ -20,7 +20,7 @@ use Rattle.jv_steps.proofs.GiftLaws.{IsDirect, direct-given}
 use Rattle.jv_client.specs.ClientValue.{ClientValue}
 use Rattle.jv_client.specs.Held.{IsHeld, Holds}
 use Rattle.jv_client.specs.Transacting.{handles_given, session_given, sustained_with}
-use Rattle.jv_client.proofs.OpenLaws.{open-with_file}
+use Rattle.jv_client.proofs.EndingLaws.{open-with_file}
 
 -- a handle is the client's free one, and on a file
 abbrev pub IsGift : Tree → ℕ → Gift → Type 0

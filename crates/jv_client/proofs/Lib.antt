@@ -3,3 +3,8 @@ pub mod HeldLaws
 pub mod LastLaws
 pub mod EndingLaws
 pub mod KeptLaws
+pub mod ClosingLaws
+pub mod TriedLaws
+pub mod GiftLaws
+pub mod DueLaws
+pub mod TransactionLaws

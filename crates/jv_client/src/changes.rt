@@ -5,6 +5,7 @@ ghost use Rattle.jv_yard.specs.YardValue.{YardValue};
 ghost use Rattle.jv_client.specs.Shared.{shared};
 ghost use Rattle.jv_client.specs.UnderWay.{IsReady, changes_files, left};
 ghost use Rattle.jv_client.specs.Makes.{Makes};
+ghost use Rattle.jv_client.specs.Changing.{TriesChange, is_change};
 
 use crate::client::Client;
 use crate::made::Made;
@@ -57,7 +58,10 @@ fn try_change<K: Keeper>(
     who: &Who,
     handles: &[Option<Handle>],
     op: &Op,
-) -> Result<Changed, TxFault> {
+) -> Result<Changed, TxFault>
+    requires { IsTrue (is_change op.now) }
+    ensures { TriesChange handles.now op.now who.entry.now (K.seen k.old) (K.seen k.new) result }
+{
     match op {
         Op::Truncate { handle, len } => {
             let inode = inode_at(handles, *handle);
