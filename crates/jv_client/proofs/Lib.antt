@@ -8,3 +8,8 @@ pub mod TriedLaws
 pub mod GiftLaws
 pub mod DueLaws
 pub mod TransactionLaws
+pub mod GoesOnLaws
+pub mod LeftLaws
+pub mod UnmadeLaws
+pub mod FlushLaws
+pub mod PutBlockLaws
