@@ -3,18 +3,20 @@ use Rattle.std.proofs.Common.{◌≡◌, ℕ, ◌+◌, IsTrue, List, [], ◌∷�
 use Rattle.std.proofs.Common.{◌∙◌, arith}
 use Rattle.std.specs.Prelude.{Result, unwrap_or}
 use Rattle.jv_model.specs.declared.act.ActKind.{ActKind}
-use Rattle.jv_model.specs.declared.act.ActKind.TheVariants.{Answered, Copied, Truncated}
+use Rattle.jv_model.specs.declared.act.ActKind.TheVariants.{Answered, Copied, Quiet, Truncated}
 use Rattle.jv_model.specs.declared.act.Told.{Told}
-use Rattle.jv_model.specs.declared.act.Told.TheVariants.{Fine}
+use Rattle.jv_model.specs.declared.act.Told.TheVariants.{Fine, Refused as ToldRefused}
 use Rattle.jv_model.specs.declared.basics.Who.{Who}
-use Rattle.jv_model.specs.declared.fault.Fault.{Fault}
+use Rattle.jv_model.specs.declared.fault.RowFault.TheVariants.{Bad, Failed, Memory}
 use Rattle.jv_model.specs.declared.fault.TxFault.{TxFault}
+use Rattle.jv_model.specs.declared.fault.TxFault.TheVariants.{Refused as RefusedBy, Moved, Rows as OfRows}
 use Rattle.jv_model.specs.declared.limits.TheConstants.{FILE_END}
 use Rattle.jv_model.specs.declared.op.Op.{Op}
 use Rattle.jv_model.specs.declared.op.Op.TheVariants as op
 use Rattle.jv_model.specs.declared.op.Reply.{Reply}
 use Rattle.jv_model.specs.declared.op.Reply.TheVariants as reply
 use Rattle.jv_model.specs.declared.op.Step.TheVariants.{Done}
+use Rattle.jv_model.specs.declared.profile.Does.TheVariants as does
 use Rattle.jv_model.specs.declared.setting.Setting.{Setting}
 use Rattle.jv_model.specs.tree.Tree.{Tree}
 use Rattle.jv_model.specs.tree.Caller.{Caller, Outcome}
@@ -22,7 +24,7 @@ use Rattle.jv_model.specs.tree.FileBytes.{copy, truncate}
 use Rattle.jv_model.specs.client.ModelClient.{ModelClient, inode_at}
 use Rattle.jv_model.specs.client.Profile.{handle_of}
 use Rattle.jv_model.specs.client.Submission.{is_flushed}
-use Rattle.jv_model.specs.journal.State.{State, caller}
+use Rattle.jv_model.specs.journal.State.{State, after_told, caller}
 use Rattle.jv_model.specs.journal.Steps.{is_failure}
 use Rattle.jv_outside.specs.Store.{Store}
 use Rattle.jv_rows.specs.Transactions.{IsFor}
@@ -36,20 +38,24 @@ use Rattle.jv_handles.proofs.HandleLaws.{handles-forgotten}
 use Rattle.jv_handles.proofs.SeenLaws.{views-left}
 use Rattle.jv_steps.specs.Stages.{without_views}
 use Rattle.jv_requests.specs.Request.{Request}
-use Rattle.jv_requests.proofs.ChangeLaws.{copy-request, truncate-request}
+use Rattle.jv_requests.proofs.ChangeLaws.{change-never_bad, change-never_moved, copy-not_made, copy-not_made_calm}
+use Rattle.jv_requests.proofs.ChangeLaws.{copy-request, truncate-not_made, truncate-not_made_calm, truncate-request}
 use Rattle.jv_client.specs.declared.doing.Doing.{Doing}
+use Rattle.jv_client.specs.declared.made.Made.{Made}
 use Rattle.jv_client.specs.declared.made.Made.TheVariants.{Both}
 use Rattle.jv_client.specs.ClientValue.{ClientValue, session_here}
-use Rattle.jv_client.specs.Changing.{TriesCopy, TriesTruncate}
 use Rattle.jv_client.specs.Ending.{ended}
 use Rattle.jv_client.specs.Held.{IsClient, IsHeld, Holds, in_flight}
 use Rattle.jv_client.specs.UnderWay.{IsReady, changes_files, left}
 use Rattle.jv_client.specs.Makes.{Makes, StepsTo}
+use Rattle.jv_client.specs.Transacting.{EndsUnmade}
+use Rattle.jv_client.proofs.AnswerLaws.{request-lands}
 use Rattle.jv_client.proofs.HeldLaws.{client-doing, doing_of, holds-doing, holds-later}
 use Rattle.jv_client.proofs.LastLaws.{inode-same}
 use Rattle.jv_client.proofs.KeptLaws.{cache-goes, ended-client, held-goes}
-use Rattle.jv_client.proofs.DueLaws.{IsFirst, change-first, first-flushed, first-number, first-stage}
+use Rattle.jv_client.proofs.DueLaws.{IsFirst, change-first, first-flushed, first-stage}
 use Rattle.jv_client.proofs.TransactionLaws.{answered-makes, calm-device}
+use Rattle.jv_client.proofs.UnmadeLaws.{UnmadeLeads, unmade}
 
 -- ---- what the model makes of it, whatever files its caller has open
 
@@ -90,6 +96,10 @@ module _ (now : ℕ) (h : ClientValue) (d : Doing) (busy : h.doing ≡ Some d) (
   abbrev used : Shared
   used = record v { keeper = keeper }
 
+  -- in whose name it is tried
+  abbrev pub who_is : Who
+  who_is = record { sid = session_here h; held = []; now = now }
+
   pub first : IsFirst h d
   first = change-first h d changes busy ready flushed
 
@@ -111,7 +121,7 @@ module _ (now : ℕ) (h : ClientValue) (d : Doing) (busy : h.doing ≡ Some d) (
     abbrev pub alone : Caller
     alone = record who { held = [] }
 
-    pub alone-is : IsFor (record { sid = session_here h; held = []; now = now }) alone
+    pub alone-is : IsFor who_is alone
     alone-is = record { sid = ap (λ session. unwrap_or session 0) is.held.session; now = refl; held = refl }
 
     -- it leads to the client without its views of the file
@@ -133,8 +143,8 @@ module _ (now : ℕ) (h : ClientValue) (d : Doing) (busy : h.doing ≡ Some d) (
           tree = t;
           model = model;
           copied = copied;
-          request = subst (λ n. Request s g g v used h.id now (in_flight h) n (kind ∷ Answered told ∷ [])
-              (Done answer) t model copied) (first-number h d first busy) request;
+          request = request-lands s g g v used h.id now (in_flight h) (in_flight h) (kind ∷ Answered told ∷ [])
+              (Done answer) t model copied request;
           is_client = ended-client g used (s.count + 2) (without_views inode mine) blinded
               (held-goes s.tree g v has request.own g used goes (without_views inode mine) s.count (s.count + 2)
               blinded (omega arith) (held-blind g v s.count inode mine h is.held))
@@ -148,7 +158,7 @@ module _ (now : ℕ) (h : ClientValue) (d : Doing) (busy : h.doing ≡ Some d) (
     module _ (handle len : ℕ) (of_op : d.op ≡ op.Truncate handle len) (due : Setting → ℕ) where
       -- what was tried is what the model tries
       pub model-truncates : (made : Result (Unit {0}) TxFault)
-          → ((who : Caller) → IsFor (record { sid = session_here h; held = []; now = now }) who
+          → ((who : Caller) → IsFor who_is who
           → who.inode ≡ inode_here h.handles handle
           → Changes {A = Unit {0}} (record { own = 0; size = 0; more = 1; due = due }) AnyTold Never v.keeper keeper made
           (λ unit. reply.Done) (λ t. truncate t who len))
@@ -177,7 +187,7 @@ module _ (now : ℕ) (h : ClientValue) (d : Doing) (busy : h.doing ≡ Some d) (
     module _ (source from target to len : ℕ) (of_op : d.op ≡ op.Copy source from target to len) (due : Setting → ℕ)
       where
         pub model-copies : (made : Result ℕ TxFault)
-            → ((who : Caller) → IsFor (record { sid = session_here h; held = []; now = now }) who
+            → ((who : Caller) → IsFor who_is who
             → who.inode ≡ inode_here h.handles source → who.other ≡ inode_here h.handles target
             → Changes {A = ℕ} (record { own = 0; size = 0; more = count_in made; due = due }) AnyTold
             (IsCrowded FILE_END) v.keeper keeper made (λ n. reply.Count n) (λ t. copy t who from to len))
@@ -222,13 +232,13 @@ module _ (now : ℕ) (h : ClientValue) (d : Doing) (busy : h.doing ≡ Some d) (
     other = other;
   }
 
-  asker-is : (inode other : ℕ) → IsFor (record { sid = session_here h; held = []; now = now }) (asker inode other)
+  asker-is : (inode other : ℕ) → IsFor who_is (asker inode other)
   asker-is inode other = record { sid = refl; now = refl; held = refl }
 
   module _ (entry : ℕ) where
     -- it was made
     pub truncated-makes : (handle len : ℕ) → d.op ≡ op.Truncate handle len
-        → ((caller : Caller) → IsFor (record { sid = session_here h; held = []; now = now }) caller
+        → ((caller : Caller) → IsFor who_is caller
         → caller.inode ≡ inode_here h.handles handle
         → Changes {A = Unit {0}} (record { own = 0; size = 0; more = 1; due = due_after now }) AnyTold Never v.keeper
         keeper (Ok tt) (λ unit. reply.Done) (λ t. truncate t caller len))
@@ -243,7 +253,7 @@ module _ (now : ℕ) (h : ClientValue) (d : Doing) (busy : h.doing ≡ Some d) (
         (model-truncates s g has holds is handle len of_op (due_after now) (Ok tt) tried))
 
     pub copied-makes : (source from target to len : ℕ) → d.op ≡ op.Copy source from target to len → (count : ℕ)
-        → ((caller : Caller) → IsFor (record { sid = session_here h; held = []; now = now }) caller
+        → ((caller : Caller) → IsFor who_is caller
         → caller.inode ≡ inode_here h.handles source → caller.other ≡ inode_here h.handles target
         → Changes {A = ℕ} (record { own = 0; size = 0; more = count; due = due_after now }) AnyTold
         (IsCrowded FILE_END) v.keeper keeper (Ok count) (λ n. reply.Count n) (λ t. copy t caller from to len))
@@ -258,3 +268,101 @@ module _ (now : ℕ) (h : ClientValue) (d : Doing) (busy : h.doing ≡ Some d) (
         (reply.Count count) v keeper (record { id = refl; limits = refl; idle = refl }) ready tx.opened_at tx.counts
         (λ s g number has holds is. copy-leads s g has holds is source from target to len of_op (due_after now) count
         (model-copies s g has holds is source from target to len of_op (due_after now) (Ok count) tried))
+
+  -- it wasn't
+
+  -- what is left to show of the model where a truncate wasn't made
+  truncate-unmade_leads : (handle len : ℕ) → d.op ≡ op.Truncate handle len → d.does ≡ does.Truncates
+      → (s : State) (g : Known) → HasStore s.tree g v → Holds s.tree (s.clients h.id)
+      → IsClient g v (s.clients h.id) s.count h → (fault : TxFault)
+      → ((caller : Caller) → IsFor who_is caller → caller.inode ≡ inode_here h.handles handle
+      → Changes {A = Unit {0}} (record { own = 0; size = 0; more = 1; due = due_after now }) AnyTold Never v.keeper
+      keeper (Err fault) (λ unit. reply.Done) (λ t. truncate t caller len))
+      → UnmadeLeads now h d v used Quiet fault s g
+  truncate-unmade_leads handle len of_op of_does s g has holds is (RefusedBy fault) tried =
+      let changes = model-truncates s g has holds is handle len of_op (due_after now) (Err (RefusedBy fault)) tried in
+      record {
+        request = request-lands s g g v used h.id now (in_flight h) (in_flight h)
+            (Quiet ∷ Answered (ToldRefused fault) ∷ []) (Done (reply.Refused fault)) s.tree
+            (after_told d.op (ToldRefused fault) (s.clients h.id)) s.copied
+            (truncate-not_made s h.id now (doing_of d) (model-busy s g has holds is) first.started
+            (first-stage h d first) (model-flushed s g has holds is) g v has (in_flight h) keeper (due_after now) handle
+            len of_op of_does fault changes);
+        calm = truncate-not_made_calm s h.id now (doing_of d) (model-busy s g has holds is) first.started
+            (first-stage h d first) (model-flushed s g has holds is) g v has (in_flight h) keeper (due_after now) handle
+            len of_op fault changes;
+      }
+  truncate-unmade_leads handle len of_op of_does s g has holds is (Moved list) tried =
+      change-never_moved (record { own = 0; size = 0; more = 1; due = due_after now }) Never s.tree g v has keeper
+      (λ unit. reply.Done) (λ t. truncate t (who s g has holds is) len) list
+      (model-truncates s g has holds is handle len of_op (due_after now) (Err (Moved list)) tried)
+  truncate-unmade_leads handle len of_op of_does s g has holds is (OfRows (Bad at bytes)) tried =
+      change-never_bad (record { own = 0; size = 0; more = 1; due = due_after now }) Never s.tree g v has keeper
+      (λ unit. reply.Done) (λ t. truncate t (who s g has holds is) len) at bytes
+      (model-truncates s g has holds is handle len of_op (due_after now) (Err (OfRows (Bad at bytes))) tried)
+  truncate-unmade_leads handle len of_op of_does s g has holds is (OfRows Failed) tried = tt
+  truncate-unmade_leads handle len of_op of_does s g has holds is (OfRows Memory) tried = tt
+
+  -- and where a copy wasn't
+  copy-unmade_leads : (source from target to len : ℕ) → d.op ≡ op.Copy source from target to len
+      → d.does ≡ does.Copies → (s : State) (g : Known) → HasStore s.tree g v → Holds s.tree (s.clients h.id)
+      → IsClient g v (s.clients h.id) s.count h → (fault : TxFault)
+      → ((caller : Caller) → IsFor who_is caller → caller.inode ≡ inode_here h.handles source
+      → caller.other ≡ inode_here h.handles target
+      → Changes {A = ℕ} (record { own = 0; size = 0; more = 0; due = due_after now }) AnyTold (IsCrowded FILE_END)
+      v.keeper keeper (Err fault) (λ n. reply.Count n) (λ t. copy t caller from to len))
+      → UnmadeLeads now h d v used Quiet fault s g
+  copy-unmade_leads source from target to len of_op of_does s g has holds is (RefusedBy fault) tried =
+      let changes = model-copies s g has holds is source from target to len of_op (due_after now)
+      (Err (RefusedBy fault)) tried in
+      record {
+        request = request-lands s g g v used h.id now (in_flight h) (in_flight h)
+            (Quiet ∷ Answered (ToldRefused fault) ∷ []) (Done (reply.Refused fault)) s.tree
+            (after_told d.op (ToldRefused fault) (s.clients h.id)) s.copied
+            (copy-not_made s h.id now (doing_of d) (model-busy s g has holds is) first.started
+            (first-stage h d first) (model-flushed s g has holds is) g v has (in_flight h) keeper (due_after now) source
+            from target to len of_op of_does 0 fault changes);
+        calm = copy-not_made_calm s h.id now (doing_of d) (model-busy s g has holds is) first.started
+            (first-stage h d first) (model-flushed s g has holds is) g v has (in_flight h) keeper (due_after now) source
+            from target to len of_op 0 fault changes;
+      }
+  copy-unmade_leads source from target to len of_op of_does s g has holds is (Moved list) tried =
+      change-never_moved (record { own = 0; size = 0; more = 0; due = due_after now }) (IsCrowded FILE_END) s.tree g v
+      has keeper (λ n. reply.Count n) (λ t. copy t (who s g has holds is) from to len) list
+      (model-copies s g has holds is source from target to len of_op (due_after now) (Err (Moved list)) tried)
+  copy-unmade_leads source from target to len of_op of_does s g has holds is (OfRows (Bad at bytes)) tried =
+      change-never_bad (record { own = 0; size = 0; more = 0; due = due_after now }) (IsCrowded FILE_END) s.tree g v
+      has keeper (λ n. reply.Count n) (λ t. copy t (who s g has holds is) from to len) at bytes
+      (model-copies s g has holds is source from target to len of_op (due_after now) (Err (OfRows (Bad at bytes))) tried)
+  copy-unmade_leads source from target to len of_op of_does s g has holds is (OfRows Failed) tried = tt
+  copy-unmade_leads source from target to len of_op of_does s g has holds is (OfRows Memory) tried = tt
+
+  module _ (entry : ℕ) (after : ClientValue) (done : Made) where
+    pub truncate-unmade : (handle len : ℕ) → d.op ≡ op.Truncate handle len → d.does ≡ does.Truncates
+        → (fault : TxFault)
+        → ((caller : Caller) → IsFor who_is caller → caller.inode ≡ inode_here h.handles handle
+        → Changes {A = Unit {0}} (record { own = 0; size = 0; more = 1; due = due_after now }) AnyTold Never v.keeper
+        keeper (Err fault) (λ unit. reply.Done) (λ t. truncate t caller len))
+        → EndsUnmade Quiet fault h after done → Makes now entry h after v used done
+    truncate-unmade handle len of_op of_does fault tried ends =
+        let inode = inode_here h.handles handle in
+        let tx = tried (asker inode 0) (asker-is inode 0) refl in
+        unmade now entry h after d v keeper busy ready Quiet fault done
+        (record { rows_are = tx.undone; opened_at = tx.opened_at; counts = tx.counts; bad = tx.bad }) ends
+        (λ s g number has holds is. truncate-unmade_leads handle len of_op of_does s g has holds is fault tried)
+
+    pub copy-unmade : (source from target to len : ℕ) → d.op ≡ op.Copy source from target to len
+        → d.does ≡ does.Copies → (fault : TxFault)
+        → ((caller : Caller) → IsFor who_is caller → caller.inode ≡ inode_here h.handles source
+        → caller.other ≡ inode_here h.handles target
+        → Changes {A = ℕ} (record { own = 0; size = 0; more = 0; due = due_after now }) AnyTold (IsCrowded FILE_END)
+        v.keeper keeper (Err fault) (λ n. reply.Count n) (λ t. copy t caller from to len))
+        → EndsUnmade Quiet fault h after done → Makes now entry h after v used done
+    copy-unmade source from target to len of_op of_does fault tried ends =
+        let first_inode = inode_here h.handles source in
+        let inode = inode_here h.handles target in
+        let tx = tried (asker first_inode inode) (asker-is first_inode inode) refl refl in
+        unmade now entry h after d v keeper busy ready Quiet fault done
+        (record { rows_are = tx.undone; opened_at = tx.opened_at; counts = tx.counts; bad = tx.bad }) ends
+        (λ s g number has holds is. copy-unmade_leads source from target to len of_op of_does s g has holds is fault
+        tried)

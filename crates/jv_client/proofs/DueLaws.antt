@@ -22,8 +22,7 @@ use Rattle.jv_client.specs.declared.doing.Doing.{Doing}
 use Rattle.jv_client.specs.declared.doing.Progress.{Progress}
 use Rattle.jv_client.specs.declared.doing.Progress.TheVariants as progress
 use Rattle.jv_client.specs.ClientValue.{ClientValue}
-use Rattle.jv_client.specs.Held.{flight_by, flight_in, flight_of, flush_of_code, in_flight, is_last_here, number_of}
-use Rattle.jv_client.specs.Held.{stage_of}
+use Rattle.jv_client.specs.Held.{flush_of_code, is_last_here, stage_of}
 use Rattle.jv_client.specs.UnderWay.{FlushesFor, Closes, Syncs, Describes, ReadsNothing, Reads, Truncates, IsForm}
 use Rattle.jv_client.specs.UnderWay.{Mounts, Transacts, Leaves, Writes, Flushes, Copies, TellsStats, IsAt, IsWorking}
 use Rattle.jv_client.specs.UnderWay.{IsReady, IsUnderWay, asks_more, changes_files, has_segment, is_transaction, left}
@@ -58,7 +57,7 @@ module _ (h : ClientValue) (d : Doing) where
       let read = at.read in absurd (other read.0 read.1 read.2)
 
   -- an operation in progress goes on well
-  goes_well : h.doing ≡ Some d → IsReady h → IsUnderWay h d
+  pub goes_well : h.doing ≡ Some d → IsReady h → IsUnderWay h d
   goes_well busy ready = subst (λ o. IfSome o (IsUnderWay h)) busy ready.doing
 
   none_left : h.doing ≡ Some d → left h ≡ None → has_segment h d ≡ false
@@ -85,13 +84,6 @@ module _ (h : ClientValue) (d : Doing) where
     pub first-flushed : (pending : List PendingByte) → pending ≡ h.pending
         → is_flushed (flush_of_code d.flush) pending ≡ true
     first-flushed pending same = ap (is_flushed (flush_of_code d.flush)) same ∙ ap not first.none
-
-    -- it has no slice in flight
-    pub first-flight : h.doing ≡ Some d → flight_of h ≡ None
-    first-flight busy = ap (flight_in h.pending) busy ∙ ap (flight_by h.pending d.flush) first.progress
-
-    pub first-number : h.doing ≡ Some d → in_flight h ≡ 0
-    first-number busy = ap number_of (first-flight busy)
 
 -- ---- operations that make a transaction on metadata
 

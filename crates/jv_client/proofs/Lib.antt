@@ -3,6 +3,7 @@ pub mod HeldLaws
 pub mod LastLaws
 pub mod EndingLaws
 pub mod KeptLaws
+pub mod AnswerLaws
 pub mod ClosingLaws
 pub mod TriedLaws
 pub mod GiftLaws
@@ -13,3 +14,5 @@ pub mod LeftLaws
 pub mod UnmadeLaws
 pub mod FlushLaws
 pub mod PutBlockLaws
+pub mod ChangingLaws
+pub mod ChangedLaws

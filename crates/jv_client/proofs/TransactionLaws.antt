@@ -1,17 +1,17 @@
 -- A step that is one metadata transaction with its answer: what it makes of the client and of what clients share.
 use Rattle.std.proofs.Common.{◌≡◌, ℕ, ◌+◌, Bool, true, false, ◌&&◌, not, IsTrue, List, [], ◌∷◌, ◌++◌, Option, None, Some}
-use Rattle.std.proofs.Common.{Ok, refl, sym, ap, subst, ◌∙◌, arith}
+use Rattle.std.proofs.Common.{Ok, Err, refl, sym, ap, subst, ◌∙◌, arith}
 use Rattle.std.specs.Prelude.{IfSome, MatchBool, unwrap_or}
 use Rattle.jv_model.specs.declared.act.ActKind.{ActKind}
-use Rattle.jv_model.specs.declared.act.ActKind.TheVariants.{Answered}
+use Rattle.jv_model.specs.declared.act.ActKind.TheVariants.{Answered, Meta}
 use Rattle.jv_model.specs.declared.act.Told.{Told}
 use Rattle.jv_model.specs.declared.act.Told.TheVariants.{Fine, Looks, Refused as ToldRefused}
-use Rattle.jv_model.specs.declared.basics.Limits.{Limits}
 use Rattle.jv_model.specs.declared.fault.Device.{Device}
-use Rattle.jv_model.specs.declared.fault.Device.TheVariants.{Keeper, Depot, Shelf, Carrier}
 use Rattle.jv_model.specs.declared.fault.Fault.{Fault}
-use Rattle.jv_model.specs.declared.fault.Fault.TheVariants.{DeviceFailed, Stale}
-use Rattle.jv_model.specs.declared.fault.Gone.TheVariants.{Session, Node}
+use Rattle.jv_model.specs.declared.fault.Fault.TheVariants.{DeviceFailed}
+use Rattle.jv_model.specs.declared.fault.RowFault.TheVariants.{Bad, Failed, Memory}
+use Rattle.jv_model.specs.declared.fault.TxFault.{TxFault}
+use Rattle.jv_model.specs.declared.fault.TxFault.TheVariants.{Refused as RefusedBy, Moved, Rows as OfRows}
 use Rattle.jv_model.specs.declared.op.Op.{Op}
 use Rattle.jv_model.specs.declared.op.Op.TheVariants as op
 use Rattle.jv_model.specs.declared.op.Reply.{Reply}
@@ -26,14 +26,13 @@ use Rattle.jv_model.specs.client.Submission.{is_flushed}
 use Rattle.jv_model.specs.journal.State.{State, Gift, NewSession, NewHandle, Nothing, after_told, caller, gift_of}
 use Rattle.jv_model.specs.journal.State.{newly_sustained, transacted}
 use Rattle.jv_model.specs.journal.Steps.{entry_of_gift, told_of, is_failure, transacts}
-use Rattle.jv_outside.specs.Causes.{RoseIf}
 use Rattle.jv_outside.specs.Store.{Store}
 use Rattle.jv_volume.specs.Holding.{IsHoldable, takes_entries}
 use Rattle.jv_volume.proofs.HoldingLaws.{sustains_none, sustains_held}
 use Rattle.jv_volume.proofs.OpeningLaws.{opened_file}
 use Rattle.jv_links.specs.Removals.{HoldsFiles}
 use Rattle.jv_metadata.specs.declared.answers.Answer.{Answer}
-use Rattle.jv_metadata.specs.Attempts.{KeepsOne, TellsKept, is_inode, is_metadata}
+use Rattle.jv_metadata.specs.Attempts.{KeepsOne, TellsKept, attempt, is_inode, is_metadata}
 use Rattle.jv_shared.specs.Keeping.{KeepsShared}
 use Rattle.jv_shared.specs.Shared.{HasStore, Known, Shared}
 use Rattle.jv_handles.specs.Handles.{held_here, inode_here}
@@ -42,46 +41,30 @@ use Rattle.jv_steps.specs.Stages.{handed}
 use Rattle.jv_steps.proofs.GiftLaws.{among-sustained}
 use Rattle.jv_requests.specs.Request.{Request}
 use Rattle.jv_requests.proofs.LandedLaws.{acted-stays, store-shape}
-use Rattle.jv_requests.proofs.MetadataLaws.{keeps-told, transaction-calm, transaction-request}
+use Rattle.jv_requests.proofs.MetadataLaws.{keeps-told, transaction-calm, transaction-never_bad}
+use Rattle.jv_requests.proofs.MetadataLaws.{transaction-never_moved, transaction-not_made, transaction-not_made_calm}
+use Rattle.jv_requests.proofs.MetadataLaws.{transaction-request}
 use Rattle.jv_client.specs.declared.doing.Doing.{Doing}
 use Rattle.jv_client.specs.declared.made.Made.{Made}
 use Rattle.jv_client.specs.declared.made.Made.TheVariants.{Both}
 use Rattle.jv_client.specs.ClientValue.{ClientValue, session_here}
-use Rattle.jv_client.specs.Held.{IsClient, IsHeld, Holds, flight_in, in_flight, number_of}
-use Rattle.jv_client.specs.Ending.{finished_here, refused_here, told_here}
-use Rattle.jv_client.specs.UnderWay.{IsReady, IsUnderWay, asks_more, left, makes_transaction}
-use Rattle.jv_client.specs.Makes.{Makes, StepsTo, UsesDevices, faults_of, is_failure_of, kinds_of}
-use Rattle.jv_client.specs.Transacting.{IsCaller, Attempts, answered_here, given_here, sustained_with}
+use Rattle.jv_client.specs.Held.{IsClient, IsHeld, Holds, in_flight}
+use Rattle.jv_client.specs.UnderWay.{ClosesOpen, IsReady, asks_more, left, makes_transaction}
+use Rattle.jv_client.specs.Makes.{Makes, StepsTo, is_failure_of, kinds_of}
+use Rattle.jv_client.specs.Transacting.{IsCaller, Attempts, EndsUnmade, NotMade, answered_here, given_here}
+use Rattle.jv_client.specs.Transacting.{handles_given, sustained_with}
+use Rattle.jv_client.proofs.AnswerLaws.{Rests, makes-ended, request-lands, rests-flight, told-rests}
 use Rattle.jv_client.proofs.HeldLaws.{client-doing, doing_of, holds-later}
 use Rattle.jv_client.proofs.LastLaws.{is_last-same}
 use Rattle.jv_client.proofs.EndingLaws.{holds-told, is_write, keeps_bytes}
 use Rattle.jv_client.proofs.KeptLaws.{cache-goes, held-goes, told-client}
-use Rattle.jv_client.proofs.DueLaws.{IsFirst, MakesOne, OfMount, OfMetadata, first-flushed, first-number, first-stage}
-use Rattle.jv_client.proofs.DueLaws.{makes-one, one-transacts, transaction-first}
+use Rattle.jv_client.proofs.ClosingLaws.{closes-given, closes-open}
+use Rattle.jv_client.proofs.DueLaws.{IsFirst, MakesOne, OfMount, OfMetadata, first-flushed, first-stage}
+use Rattle.jv_client.proofs.DueLaws.{goes_well, makes-one, one-transacts, transaction-first}
+use Rattle.jv_client.proofs.UnmadeLaws.{UnmadeLeads, unmade, uses-keeper}
 use Rattle.jv_client.proofs.GiftLaws.{IsGift, among-kept, held-given, holds-given}
 
 -- ---- an operation that was answered
-
--- a client whose operation ended is itself, and does nothing
-pub record Rests (h after : ClientValue) : Type 0 where
-  pub id : after.id ≡ h.id
-  pub limits : after.limits ≡ h.limits
-  pub idle : after.doing ≡ None
-
-finished-rests : (o : Op) (h : ClientValue) → Rests h (finished_here o h)
-finished-rests op.Umount h = record { id = refl; limits = refl; idle = refl }
-finished-rests (op.Close handle) h = record { id = refl; limits = refl; idle = refl }
-finished-rests _ h = record { id = refl; limits = refl; idle = refl }
-
-refused-rests : (fault : Fault) (h : ClientValue) → Rests h (refused_here fault h)
-refused-rests (Stale (Session sid)) h = record { id = refl; limits = refl; idle = refl }
-refused-rests (Stale (Node inode)) h = record { id = refl; limits = refl; idle = refl }
-refused-rests _ h = record { id = refl; limits = refl; idle = refl }
-
-pub told-rests : (o : Op) (told : Told) (h : ClientValue) → Rests h (told_here o told h)
-told-rests o (Fine a b c d) h = finished-rests o h
-told-rests o (Looks first second len) h = finished-rests o h
-told-rests o (ToldRefused fault) h = refused-rests fault h
 
 -- an answer that is no failure says of no device that it failed
 pub calm-device : (told : Told) → is_failure told ≡ false → (device : Device) → is_failure_of device told ≡ false
@@ -91,50 +74,15 @@ calm-device _ e device = refl
 -- A step with a request of the keeper, which went well, and the answer.
 module _ (now entry : ℕ) (h after : ClientValue) (kind : ActKind) (told : Told) (answer : Reply) (v : Shared)
     (keeper : Store) where
-  uses-well : keeper.opened ≡ v.keeper.opened → keeper.faults ≡ v.keeper.faults
-      → UsesDevices (Both kind told answer) v (record v { keeper = keeper })
-  uses-well opened counts = record {
-    keeper_at = opened;
-    carrier_at = refl;
-    depot_at = refl;
-    shelf_at = refl;
-    setting = refl;
-    last = refl;
-    counts = by_device;
-    rows = λ asks. absurd (cc asks);
-    objects = λ asks. refl;
-    blocks = refl;
-    bad = tt;
-  }
-    where
-      by_device : (device : Device) → RoseIf false (faults_of device v) (faults_of device (record v { keeper = keeper }))
-      by_device Keeper = counts
-      by_device Depot = refl
-      by_device Shelf = refl
-      by_device Carrier = refl
-
   pub answered-makes : Rests h after → IsReady h → keeper.opened ≡ v.keeper.opened
       → keeper.faults ≡ v.keeper.faults
       → ((s : State) (g : Known) → s.count + 1 ≡ entry → HasStore s.tree g v → Holds s.tree (s.clients h.id)
       → IsClient g v (s.clients h.id) s.count h
       → StepsTo s g v h now (kind ∷ Answered told ∷ []) (Done answer) after (record v { keeper = keeper }))
       → Makes now entry h after v (record v { keeper = keeper }) (Both kind told answer)
-  answered-makes rests ready opened counts leads = record {
-    id = rests.id;
-    limits = rests.limits;
-    ready = record {
-      buffer = (let large = ready.buffer in
-          let same = ap (λ (l : Limits). l.buffer) rests.limits in omega (arith, large, same));
-      doing = subst (λ (o : Option Doing). IfSome o (IsUnderWay after)) (sym rests.idle) tt;
-    };
-    devices = uses-well opened counts;
-    falls = rests.idle;
-    leads = leads;
-  }
-
--- it has no slice in flight then
-pub rests-number : (h after : ClientValue) → Rests h after → in_flight after ≡ 0
-rests-number h after rests = ap (λ o. number_of (flight_in after.pending o)) rests.idle
+  answered-makes rests ready opened counts leads =
+      makes-ended now entry h after v (record v { keeper = keeper }) (Both kind told answer) answer refl ready rests
+      (uses-keeper v keeper (Both kind told answer) opened counts (refl, refl, refl) (λ asks. absurd (cc asks)) tt) leads
 
 -- ---- which answers those are
 
@@ -290,17 +238,16 @@ module _ (now : ℕ) (h : ClientValue) (d : Doing) (busy : h.doing ≡ Some d) (
           let model = after_told d.op told (handed s (doing_of d) out mine) in
           let plain : keeps_bytes d.op told ≡ false = one-plain d one told in
           let goes : KeepsShared request.own g g v used = request.leads.kept in
-          let number : in_flight h ≡ in_flight after =
-          first-number h d first busy
-          ∙ sym (rests-number (given_here (s.count + 1) answer h) after
-          (told-rests d.op told (given_here (s.count + 1) answer h))) in
+          let rests = told-rests d.op told (given_here (s.count + 1) answer h) in
+          let landed = request-lands s g g v used h.id now (in_flight h) (in_flight h) kinds (Done answer.reply) t model
+          s.copied request in
           record {
             learned = g;
             tree = t;
             model = model;
             copied = s.copied;
             request = subst (λ n. Request s g g v used h.id now (in_flight h) n kinds (Done answer.reply) t model
-                s.copied) number request;
+                s.copied) (sym (rests-flight (given_here (s.count + 1) answer h) after rests)) landed;
             is_client = told-client g used (s.count + 2) d.op told (handed s (doing_of d) out mine)
                 (given_here (s.count + 1) answer h) plain
                 (held-goes s.tree g v has request.own g used goes (handed s (doing_of d) out mine) (s.count + 1)
@@ -343,3 +290,56 @@ module _ (now : ℕ) (h : ClientValue) (d : Doing) (busy : h.doing ≡ Some d) (
         (λ s g number has holds is.
         subst (λ n. StepsTo s g v h now (kinds_of made) (Done answer.reply) (answered_here n d.op answer h) used) number
         (made-leads s g has holds is))
+
+  -- it wasn't
+  module _ (fault : TxFault) (tried : Attempts h d.op now v.keeper keeper (Err fault)) where
+    not_made : NotMade fault v.keeper keeper
+    not_made =
+        let tx = tried.does (caller_of h d.op now) (is_caller_of h d.op now) in
+        record { rows_are = tx.undone; opened_at = tx.opened_at; counts = tx.counts; bad = tx.bad }
+
+  module _ (s : State) (g : Known) (has : HasStore s.tree g v) (holds : Holds s.tree (s.clients h.id))
+      (is : IsClient g v (s.clients h.id) s.count h) where
+    unmade-leads : (fault : TxFault) → Attempts h d.op now v.keeper keeper (Err fault)
+        → UnmadeLeads now h d v used Meta fault s g
+    unmade-leads (RefusedBy fault) tried =
+        let who = caller (s.clients h.id) h.id now d.op in
+        let tx = tried.does who (caller-is s g has holds is) in
+        let refused = transaction-not_made s h.id now (doing_of d) (model-busy s g has holds is) first.started
+        (first-stage h d first) (model-flushed s g has holds is) (model-transacts s g has holds is) g v has
+        (in_flight h) keeper (HoldsFiles who.held) (holds-files s g has holds is)
+        (λ (answer : Answer). answer.reply) fault tx in
+        record {
+          request = request-lands s g g v used h.id now (in_flight h) (in_flight h)
+              (Meta ∷ Answered (ToldRefused fault) ∷ []) (Done (reply.Refused fault)) s.tree
+              (after_told d.op (ToldRefused fault) (s.clients h.id)) s.copied refused;
+          calm = transaction-not_made_calm s h.id now (doing_of d) (model-busy s g has holds is) first.started
+              (first-stage h d first) (model-flushed s g has holds is) (model-transacts s g has holds is) g v has
+              (in_flight h) keeper (HoldsFiles who.held) (holds-files s g has holds is)
+              (λ (answer : Answer). answer.reply) fault tx;
+        }
+    unmade-leads (Moved list) tried =
+        let who = caller (s.clients h.id) h.id now d.op in
+        transaction-never_moved s.tree g v has keeper (HoldsFiles who.held) (λ (answer : Answer). answer.reply)
+        (λ t. attempt t who d.op) (holds-files s g has holds is) list
+        (tried.does who (caller-is s g has holds is))
+    unmade-leads (OfRows (Bad at bytes)) tried =
+        let who = caller (s.clients h.id) h.id now d.op in
+        transaction-never_bad s.tree g v has keeper (HoldsFiles who.held) (λ (answer : Answer). answer.reply)
+        (λ t. attempt t who d.op) (holds-files s g has holds is) at bytes
+        (tried.does who (caller-is s g has holds is))
+    unmade-leads (OfRows Failed) tried = tt
+    unmade-leads (OfRows Memory) tried = tt
+
+  pub transaction-unmade : (entry : ℕ) (fault : TxFault) (after : ClientValue) (done : Made)
+      → Attempts h d.op now v.keeper keeper (Err fault) → EndsUnmade Meta fault h after done
+      → Makes now entry h after v used done
+  transaction-unmade entry fault after done tried ends =
+      unmade now entry h after d v keeper busy ready Meta fault done (not_made fault tried) ends
+      (λ s g number has holds is. unmade-leads s g has holds is fault tried)
+
+-- the handle of a close is open while a reply hands another one to the client
+pub given-open : (h : ClientValue) (d : Doing) (entry : ℕ) (gift : Gift) → h.doing ≡ Some d → IsReady h
+    → ClosesOpen d.op (handles_given entry gift h.handles)
+given-open h d entry gift busy ready =
+    closes-given d.op entry gift h.handles (closes-open h d (goes_well h d busy ready).form)
