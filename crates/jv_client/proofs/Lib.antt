@@ -16,3 +16,9 @@ pub mod FlushLaws
 pub mod PutBlockLaws
 pub mod ChangingLaws
 pub mod ChangedLaws
+pub mod FormLaws
+pub mod WrittenLaws
+pub mod AtOnceLaws
+pub mod WriteLaws
+pub mod SubmissionLaws
+pub mod ReadyLaws
