@@ -42,9 +42,10 @@ use Rattle.jv_client.specs.Transacting.{EndsUnmade}
 use Rattle.jv_handles.proofs.TableLaws.{the_some}
 use Rattle.jv_client.proofs.HeldLaws.{client-doing, doing_of, holds-doing}
 use Rattle.jv_client.proofs.KeptLaws.{client-asks}
-use Rattle.jv_client.proofs.GoesOnLaws.{goes-on, in_progress, under_way}
+use Rattle.jv_client.proofs.GoesOnLaws.{goes-on, in_progress}
 use Rattle.jv_client.proofs.LeftLaws.{flight-flying, flight-is, left-is, segment-short}
-use Rattle.jv_client.proofs.UnmadeLaws.{UnmadeLeads, InState, makes-as, not_taken, unmade, uses-keeper}
+use Rattle.jv_client.proofs.UnmadeLaws.{UnmadeLeads, InState, not_taken, unmade, uses-keeper}
+use Rattle.jv_client.proofs.AnswerLaws.{makes-as}
 
 -- ---- a further request of the segment that is committed next
 
@@ -136,71 +137,71 @@ module _ (now entry : ℕ) (h : ClientValue) (d : Doing) (before used : Shared) 
 module _ (now entry : ℕ) (h : ClientValue) (d : Doing) (before : Shared) (keeper : Store) (segment : Segment)
     (sid started id : ℕ) (busy : h.doing ≡ Some d) (ready : IsReady h) (next : left h ≡ Some segment)
     (at : d.progress ≡ Working 0 started id) (own : sid ≡ session_here h) where
-  abbrev used : Shared
-  used = record before { keeper = keeper }
+  abbrev numbered : Shared
+  numbered = record before { keeper = keeper }
 
   abbrev bytes : List ℕ
   bytes = bytes_of segment h.pending
 
-  unflown : in_flight h ≡ 0
-  unflown = ap number_of (flight-is h d busy (Working 0 started id) at)
+  none_yet : in_flight h ≡ 0
+  none_yet = ap number_of (flight-is h d busy (Working 0 started id) at)
 
   module _ (s : State) (g : Known) (store : HasStore s.tree g before)
       (is : IsClient g before (s.clients h.id) s.count h) where
-    there : (s.clients h.id).doing ≡ Some (doing_of d)
-    there = client-doing g before (s.clients h.id) s.count h d busy is
+    busy_in : (s.clients h.id).doing ≡ Some (doing_of d)
+    busy_in = client-doing g before (s.clients h.id) s.count h d busy is
 
-    next_is : next_segment (flush_of_code d.flush) (s.clients h.id).pending ≡ Some segment
-    next_is =
+    next_in : next_segment (flush_of_code d.flush) (s.clients h.id).pending ≡ Some segment
+    next_in =
         ap (next_segment (flush_of_code d.flush)) is.held.pending ∙ left-is h d busy (Some segment) next
 
-    own_is : sid ≡ session_of (s.clients h.id)
-    own_is = own ∙ sym (ap (λ (o : Option ℕ). unwrap_or o 0) is.held.session)
+    own_in : sid ≡ session_of (s.clients h.id)
+    own_in = own ∙ sym (ap (λ (o : Option ℕ). unwrap_or o 0) is.held.session)
 
     takes_in : (given : ℕ) → TakesNumber sid before.keeper keeper (Ok given)
-        → Asked now h d before used bytes 0 0 given s g
+        → Asked now h d before numbered bytes 0 0 given s g
     takes_in given takes = record {
       learned = with_size given (length bytes) g;
-      request = subst (λ (n : ℕ). Request s g (with_size given (length bytes) g) before used h.id now n given
-          (Quiet ∷ []) More s.tree (at_stage (InModel 1 0) (doing_of d) (s.clients h.id)) s.copied) (sym unflown)
-          (number-taken s g before store h.id now (doing_of d) there segment next_is started (ap stage_of at) keeper sid
-          own_is given takes bytes);
-      flies = number-taken_flies s g before store h.id now (doing_of d) there segment next_is started (ap stage_of at)
-          keeper sid own_is given takes bytes;
+      request = subst (λ (n : ℕ). Request s g (with_size given (length bytes) g) before numbered h.id now n given
+          (Quiet ∷ []) More s.tree (at_stage (InModel 1 0) (doing_of d) (s.clients h.id)) s.copied) (sym none_yet)
+          (number-taken s g before store h.id now (doing_of d) busy_in segment next_in started (ap stage_of at) keeper sid
+          own_in given takes bytes);
+      flies = number-taken_flies s g before store h.id now (doing_of d) busy_in segment next_in started (ap stage_of at)
+          keeper sid own_in given takes bytes;
       put = omega arith;
     }
 
     refused_in : (fault : TxFault) → TakesNumber sid before.keeper keeper (Err fault)
-        → UnmadeLeads now h d before used Quiet fault s g
+        → UnmadeLeads now h d before numbered Quiet fault s g
     refused_in (Refused fault) takes = record {
-      request = subst (λ (n : ℕ). Request s g g before used h.id now n 0 (Quiet ∷ Answered (ToldRefused fault) ∷ [])
+      request = subst (λ (n : ℕ). Request s g g before numbered h.id now n 0 (Quiet ∷ Answered (ToldRefused fault) ∷ [])
           (Done (RefusedReply fault)) s.tree (after_told d.op (ToldRefused fault) (s.clients h.id)) s.copied)
-          (sym unflown)
-          (number-refused s g before store h.id now (doing_of d) there segment next_is started (ap stage_of at) keeper
-          sid own_is fault takes);
-      calm = number-calm s g before store h.id now (doing_of d) there segment next_is started (ap stage_of at) keeper
-          sid own_is fault takes;
+          (sym none_yet)
+          (number-refused s g before store h.id now (doing_of d) busy_in segment next_in started (ap stage_of at) keeper
+          sid own_in fault takes);
+      calm = number-calm s g before store h.id now (doing_of d) busy_in segment next_in started (ap stage_of at) keeper
+          sid own_in fault takes;
     }
     refused_in (Moved list) takes =
-        number-never_moved s g before store h.id now (doing_of d) there segment next_is started (ap stage_of at) keeper
-        sid own_is list takes
+        number-never_moved s g before store h.id now (doing_of d) busy_in segment next_in started (ap stage_of at) keeper
+        sid own_in list takes
     refused_in (OfRows (Bad row bad)) takes =
-        number-never_bad s g before store h.id now (doing_of d) there segment next_is started (ap stage_of at) keeper
-        sid own_is row bad takes
+        number-never_bad s g before store h.id now (doing_of d) busy_in segment next_in started (ap stage_of at) keeper
+        sid own_in row bad takes
     refused_in (OfRows Failed) takes = tt
     refused_in (OfRows Memory) takes = tt
 
   asks_number : (given : ℕ) → TakesNumber sid before.keeper keeper (Ok given) → 0 < given
-      → Makes now entry h (record h { doing = Some (moved_to (Working 1 0 given) d) }) before used (AsksFor Quiet)
+      → Makes now entry h (record h { doing = Some (moved_to (Working 1 0 given) d) }) before numbered (AsksFor Quiet)
   asks_number given takes low =
-      asks now entry h d before used segment 0 started id 0 given busy ready next at (omega arith) low
+      asks now entry h d before numbered segment 0 started id 0 given busy ready next at (omega arith) low
       (uses-keeper before keeper (AsksFor Quiet) takes.opened_at takes.counts (refl, refl, refl) (λ asks. absurd (cc asks))
       tt)
       (λ s g count store holds is. takes_in s g store is given takes)
 
   refuses_number : (after : ClientValue) (fault : TxFault) (done : Made)
       → TakesNumber sid before.keeper keeper (Err fault) → EndsUnmade Quiet fault h after done
-      → Makes now entry h after before used done
+      → Makes now entry h after before numbered done
   refuses_number after fault done takes ends =
       unmade now entry h after d before keeper busy ready Quiet fault done
       (not_taken sid before.keeper keeper fault takes) ends
@@ -217,9 +218,9 @@ module _ (now entry : ℕ) (h after : ClientValue) (before : Shared) (keeper : S
       let d = in_progress h.doing (Working 0 started id) at in
       let segment = the_some (left h) next in
       makes-as now entry h after (record h { doing = Some (moved_to (Working 1 0 given) d.0) }) before
-      (record before { keeper = keeper }) done (AsksFor Quiet)
+      (record before { keeper = keeper }) (record before { keeper = keeper }) done (AsksFor Quiet)
       (after_is
-      ∙ ap (λ (o : Option Doing). record h { doing = option_map (moved_to (Working 1 0 given)) o }) d.1) done_is
+      ∙ ap (λ (o : Option Doing). record h { doing = option_map (moved_to (Working 1 0 given)) o }) d.1) refl done_is
       (asks_number now entry h d.0 before keeper segment.0 sid started id d.1 ready segment.1 d.2 own given takes low)
 
   pub number-unmade : (fault : TxFault) → TakesNumber sid before.keeper keeper (Err fault)

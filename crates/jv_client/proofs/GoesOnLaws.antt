@@ -22,6 +22,7 @@ use Rattle.jv_client.specs.UnderWay.{Truncates as TruncatesIt, HasRoom, Alone, B
 use Rattle.jv_client.specs.UnderWay.{Mounts, TellsStats, Transacts, Writes, IsAt, IsReady, IsUnderWay, has_more, moved_to}
 use Rattle.jv_client.specs.UnderWay.{progress_of, steps_in, steps_left, steps_of}
 use Rattle.jv_client.specs.Makes.{Makes, StepsTo, UsesDevices}
+use Rattle.jv_client.proofs.FormLaws.{under_way}
 
 -- ---- the operation in progress
 
@@ -29,10 +30,6 @@ pub in_progress : (o : Option Doing) (at : Progress) → progress_of o ≡ Some 
     → (d : Doing) × (o ≡ Some d) × (d.progress ≡ at)
 in_progress None at e = absurd (let f : ◌≡◌ {A = Option Progress} None (Some at) = e in cc)
 in_progress (Some d) at e = (d, refl, (let f : ◌≡◌ {A = Option Progress} (Some d.progress) (Some at) = e in cc))
-
--- it goes on well
-pub under_way : (h : ClientValue) (d : Doing) → h.doing ≡ Some d → IsReady h → IsUnderWay h d
-under_way h d busy ready = subst (λ (o : Option Doing). IfSome o (IsUnderWay h)) busy ready.doing
 
 -- ---- it stays one that is built
 

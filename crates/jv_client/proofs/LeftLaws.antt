@@ -20,11 +20,12 @@ use Rattle.jv_client.specs.UnderWay.{left, left_of}
 
 fewer : (keep : PendingByte → Bool) (bytes : List PendingByte) → length (filter keep bytes) ≤ length bytes
 fewer keep [] = omega arith
-fewer keep (b ∷ bytes) = by_test (keep b)
+fewer keep (b ∷ bytes) = by_test (keep b) (fewer keep bytes)
   where
-    by_test : (kept : Bool) → length (if kept then b ∷ filter keep bytes else filter keep bytes) ≤ length (b ∷ bytes)
-    by_test true = let less = fewer keep bytes in omega (arith, less)
-    by_test false = let less = fewer keep bytes in omega (arith, less)
+    by_test : (kept : Bool) → length (filter keep bytes) ≤ length bytes
+        → length (if kept then b ∷ filter keep bytes else filter keep bytes) ≤ length (b ∷ bytes)
+    by_test true less = omega (arith, less)
+    by_test false less = omega (arith, less)
 
 run-short : (inode position : ℕ) (bytes : List PendingByte) → run_length inode position bytes ≤ length bytes
 run-short inode position [] = omega arith
@@ -54,10 +55,10 @@ of_file : (inode : ℕ) (bytes : List PendingByte) (segment : Segment)
     → first_segment (pending_of inode bytes) ≡ Some segment → IsOf segment bytes
 of_file inode bytes segment e =
     let own = first-of (pending_of inode bytes) segment e in
-    let fewer : length (pending_of inode bytes) ≤ length bytes = fewer (λ b. b.inode == inode) bytes in
+    let less : length (pending_of inode bytes) ≤ length bytes = fewer (λ b. b.inode == inode) bytes in
     let short = own.0 in
     let some = own.1 in
-    (omega (arith, short, fewer), omega (arith, some, fewer))
+    (omega (arith, short, less), omega (arith, some, less))
 
 of_files : (inodes : List ℕ) (bytes : List PendingByte) (segment : Segment)
     → segment_of_files inodes bytes ≡ Some segment → IsOf segment bytes

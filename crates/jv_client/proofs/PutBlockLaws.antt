@@ -38,16 +38,16 @@ use Rattle.jv_client.specs.declared.doing.Progress.TheVariants.{Working}
 use Rattle.jv_client.specs.declared.made.Made.{Made}
 use Rattle.jv_client.specs.declared.made.Made.TheVariants.{Answer, Request as AsksFor}
 use Rattle.jv_client.specs.ClientValue.{ClientValue}
-use Rattle.jv_client.specs.Ending.{ended}
 use Rattle.jv_client.specs.Flushing.{bytes_of}
 use Rattle.jv_client.specs.Held.{IsClient, IsOnWay, flight_of, flush_of_code, in_flight, number_of, stage_of}
 use Rattle.jv_client.specs.UnderWay.{IsAt, IsReady, left, moved_to, progress_of}
 use Rattle.jv_client.specs.Makes.{Makes, UsesDevices, faults_of, tells_failure}
 use Rattle.jv_client.specs.Transacting.{Fails}
 use Rattle.jv_client.proofs.HeldLaws.{client-doing, doing_of}
-use Rattle.jv_client.proofs.GoesOnLaws.{in_progress, under_way}
+use Rattle.jv_client.proofs.GoesOnLaws.{in_progress}
+use Rattle.jv_client.proofs.FormLaws.{under_way}
 use Rattle.jv_client.proofs.LeftLaws.{flight-flying, flight-is, left-is}
-use Rattle.jv_client.proofs.UnmadeLaws.{InState, fails, makes-as}
+use Rattle.jv_client.proofs.AnswerLaws.{fails-makes, makes-as}
 use Rattle.jv_client.proofs.FlushLaws.{Asked, asks}
 
 -- ---- what is done to devices
@@ -195,13 +195,14 @@ module _ (now entry : ℕ) (h : ClientValue) (d : Doing) (before : Shared) (yard
         uses_devices (λ s g count store holds is. put_in s g store is)
 
   -- It wasn't, and the operation ends.
-  fails_block : (fault : PutFault) → PutsFlight h.id now flight before.yard yard before.carrier carrier (Err fault)
-      → Makes now entry h (ended h) before (record before { yard = yard; carrier = carrier }) (not_put fault)
-  fails_block fault puts =
+  fails_block : (after : ClientValue) (done : Made) (fault : PutFault)
+      → PutsFlight h.id now flight before.yard yard before.carrier carrier (Err fault) → Fails (fault_of fault) h after done
+      → Makes now entry h after before (record before { yard = yard; carrier = carrier }) done
+  fails_block after done fault puts ends =
       let uses = put-uses h.id now flight before.yard yard before.carrier carrier (Err fault) puts in
       let same = unput-same before flight h.id now yard carrier fault puts in
-      fails now entry h d before then_shared busy ready (fault_of fault) (put-fails fault) same
-      (record {
+      fails-makes now entry h d before then_shared (fault_of fault) after done busy ready (put-fails fault) ends same
+      (subst (λ (x : Made). UsesDevices x before then_shared) (sym ends.made_is) (record {
         keeper_at = refl;
         carrier_at = uses.carrier_at;
         depot_at = uses.depot_at;
@@ -213,7 +214,7 @@ module _ (now entry : ℕ) (h : ClientValue) (d : Doing) (before : Shared) (yard
         objects = λ asks. same.objects;
         blocks = ap (λ shelf. shelf.content) uses.shelf;
         bad = tt;
-      })
+      }))
 
 -- The same, as the code has it.
 module _ (now entry : ℕ) (h after : ClientValue) (before : Shared) (yard : YardValue) (carrier : Carriage)
@@ -253,12 +254,13 @@ module _ (now entry : ℕ) (h after : ClientValue) (before : Shared) (yard : Yar
         let progress : ℕ → Progress = λ moment. Working (quiets + 1) moment id in
         makes-as now entry h after
         (record h { doing = Some (moved_to (progress (if quiets == 1 then now else started)) d.0) }) before
-        (record before { yard = yard; carrier = carrier }) done (AsksFor Quiet)
+        (record before { yard = yard; carrier = carrier }) (record before { yard = yard; carrier = carrier }) done
+        (AsksFor Quiet)
         (after_is
         ∙ ap (λ moment. record h { doing = option_map (moved_to (progress moment)) h.doing }) moment_is
         ∙ ap (λ (o : Option Doing). record h { doing = option_map (moved_to (progress
         (if quiets == 1 then now else started))) o }) d.1)
-        done_is
+        refl done_is
         (puts_block now entry h d.0 before yard carrier segment quiets (quiets - 1) started id d.1 ready next d.2 one_less
         (ap length (sym bytes_are) ∙ long) short block there (puts_same (Ok tt) puts))
 
@@ -269,7 +271,5 @@ module _ (now entry : ℕ) (h after : ClientValue) (before : Shared) (yard : Yar
         → Makes now entry h after before (record before { yard = yard; carrier = carrier }) done
     block-unput fault puts ends =
         let d = in_progress h.doing (Working quiets started id) at in
-        makes-as now entry h after (ended h) before (record before { yard = yard; carrier = carrier }) done
-        (not_put fault) ends.after_is ends.made_is
-        (fails_block now entry h d.0 before yard carrier segment quiets (quiets - 1) started id d.1 ready next d.2
-        one_less fault (puts_same (Err fault) puts))
+        fails_block now entry h d.0 before yard carrier segment quiets (quiets - 1) started id d.1 ready next d.2
+        one_less after done fault (puts_same (Err fault) puts) ends

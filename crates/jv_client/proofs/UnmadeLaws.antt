@@ -3,7 +3,6 @@
 use Rattle.std.proofs.Common.{◌≡◌, ℕ, ◌+◌, Bool, true, false, IsTrue, [], ◌∷◌, Option, None, Some, Result, Ok, Err}
 use Rattle.std.proofs.Common.{refl, sym, ap, subst, ◌∙◌, arith}
 use Rattle.std.specs.Prelude.{IfSome, List}
-use Rattle.jv_model.specs.declared.basics.Limits.{Limits}
 use Rattle.jv_model.specs.declared.act.ActKind.{ActKind}
 use Rattle.jv_model.specs.declared.act.ActKind.TheVariants.{Answered}
 use Rattle.jv_model.specs.declared.act.Told.TheVariants.{Refused as ToldRefused}
@@ -11,8 +10,7 @@ use Rattle.jv_model.specs.declared.fault.Device.{Device}
 use Rattle.jv_model.specs.declared.fault.Device.TheVariants.{Keeper, Depot, Shelf, Carrier}
 use Rattle.jv_model.specs.declared.fault.Busy.TheVariants.{Lists}
 use Rattle.jv_model.specs.declared.fault.Fault.{Fault}
-use Rattle.jv_model.specs.declared.fault.Fault.TheVariants.{Contended, DeviceFailed, NoMemory, Stale}
-use Rattle.jv_model.specs.declared.fault.Gone.TheVariants.{Node, Session}
+use Rattle.jv_model.specs.declared.fault.Fault.TheVariants.{Contended, DeviceFailed, NoMemory}
 use Rattle.jv_model.specs.declared.fault.RowFault.TheVariants.{Bad, Failed, Memory}
 use Rattle.jv_model.specs.declared.fault.TxFault.{TxFault}
 use Rattle.jv_model.specs.declared.fault.TxFault.TheVariants.{Refused, Moved, Rows as OfRows}
@@ -20,33 +18,27 @@ use Rattle.jv_model.specs.declared.op.Reply.TheVariants.{Refused as RefusedReply
 use Rattle.jv_model.specs.declared.op.Step.TheVariants.{Done}
 use Rattle.jv_model.specs.tree.Tree.{Tree}
 use Rattle.jv_model.specs.journal.State.{State, after_told}
-use Rattle.jv_model.specs.journal.Steps.{is_failure, must_answer}
-use Rattle.jv_model.specs.client.ModelClient.{ModelClient}
+use Rattle.jv_model.specs.journal.Steps.{is_failure}
 use Rattle.jv_outside.specs.Causes.{RoseIf}
 use Rattle.jv_outside.specs.Store.{Store}
 use Rattle.jv_rows.specs.Transactions.{Looks}
 use Rattle.jv_data.specs.Records.{TakesNumber}
 use Rattle.jv_shared.specs.Shared.{HasStore, Known, Shared}
-use Rattle.jv_shared.specs.Keeping.{HoldsSame}
 use Rattle.jv_shared.proofs.SameLaws.{same-rows}
 use Rattle.jv_requests.specs.Request.{Request}
-use Rattle.jv_requests.proofs.FlightLaws.{flight-over}
-use Rattle.jv_requests.proofs.StillLaws.{failure-request}
 use Rattle.jv_client.specs.declared.doing.Doing.{Doing}
-use Rattle.jv_client.specs.declared.doing.Progress.{Progress}
-use Rattle.jv_client.specs.declared.doing.Progress.TheVariants.{Reading, Working}
 use Rattle.jv_client.specs.declared.made.Made.{Made}
 use Rattle.jv_client.specs.declared.made.Made.TheVariants as made
 use Rattle.jv_client.specs.ClientValue.{ClientValue}
-use Rattle.jv_client.specs.Held.{IsClient, Holds, in_flight, stage_of}
-use Rattle.jv_client.specs.Ending.{ended, refused_here}
-use Rattle.jv_client.specs.UnderWay.{IsReady, IsUnderWay}
-use Rattle.jv_client.specs.Makes.{Makes, StepsTo, TellsBad, UsesDevices, asks_nothing, faults_of, is_failure_of, step_of}
+use Rattle.jv_client.specs.Held.{IsClient, Holds, in_flight}
+use Rattle.jv_client.specs.Ending.{refused_here}
+use Rattle.jv_client.specs.UnderWay.{IsReady}
+use Rattle.jv_client.specs.Makes.{Makes, TellsBad, UsesDevices, asks_nothing, faults_of, is_failure_of, step_of}
 use Rattle.jv_client.specs.Makes.{tells_failure}
 use Rattle.jv_client.specs.Transacting.{EndsUnmade, Fails, NotMade, Refuses}
 use Rattle.jv_client.proofs.EndingLaws.{holds-told}
-use Rattle.jv_client.proofs.HeldLaws.{client-doing, doing_of, holds-doing}
-use Rattle.jv_client.proofs.KeptLaws.{client-ended, client-told}
+use Rattle.jv_client.proofs.KeptLaws.{client-told}
+use Rattle.jv_client.proofs.AnswerLaws.{fails-makes, makes-as, makes-ended, refused-rests, rests-flight}
 
 -- ---- devices: nothing was asked but of the keeper
 
@@ -88,14 +80,6 @@ module _ (before : Shared) (keeper : Store) (done : Made) where
       by_device Shelf = calm (tells_failure Shelf done) before.yard.shelf.faults only.1
       by_device Carrier = calm (tells_failure Carrier done) before.carrier.faults only.2
 
--- ---- a step under other names
-
-pub makes-as : (now entry : ℕ) (h after end : ClientValue) (before used : Shared) (done is : Made) → after ≡ end
-    → done ≡ is → Makes now entry h end before used is → Makes now entry h after before used done
-makes-as now entry h after end before used done is same_end same_made makes =
-    subst (λ (x : Made). Makes now entry h after before used x) (sym same_made)
-    (subst (λ (x : ClientValue). Makes now entry h x before used is) (sym same_end) makes)
-
 -- ---- which transactions weren't made
 
 -- a part that reads
@@ -110,28 +94,6 @@ pub not_taken : (sid : ℕ) (before after : Store) (fault : TxFault) → TakesNu
 not_taken sid before after fault h =
     record { rows_are = h.undone; opened_at = h.opened_at; counts = h.counts; bad = h.bad }
 
--- ---- what is left of a client
-
--- a client whose operation ended is itself, does nothing, and has no slice in flight
-pub record Rests (h after : ClientValue) : Type 0 where
-  pub id : after.id ≡ h.id
-  pub limits : after.limits ≡ h.limits
-  pub idle : after.doing ≡ None
-  pub landed : in_flight after ≡ 0
-
-pub refused-rests : (fault : Fault) (h : ClientValue) → Rests h (refused_here fault h)
-refused-rests (Stale (Session sid)) h = record { id = refl; limits = refl; idle = refl; landed = refl }
-refused-rests (Stale (Node inode)) h = record { id = refl; limits = refl; idle = refl; landed = refl }
-refused-rests _ h = record { id = refl; limits = refl; idle = refl; landed = refl }
-
--- it is ready for another operation
-pub rests-ready : (h after : ClientValue) → Rests h after → IsReady h → IsReady after
-rests-ready h after rests ready = record {
-  buffer = (let large = ready.buffer in
-      let same = ap (λ (l : Limits). l.buffer) rests.limits in omega (arith, large, same));
-  doing = subst (λ (o : Option Doing). IfSome o (IsUnderWay after)) (sym rests.idle) tt;
-}
-
 -- ---- what the model makes of it
 
 -- an answer that is no failure says of no device that it failed
@@ -139,11 +101,6 @@ pub calm-told : (fault : Fault) → is_failure (ToldRefused fault) ≡ false →
     → is_failure_of device (ToldRefused fault) ≡ false
 calm-told (DeviceFailed failed) e device = absurd (cc e)
 calm-told _ e device = refl
-
--- an operation of a client in memory need not be answered before its next request
-not_ending : (d : Doing) (p : Progress) → must_answer (record (doing_of d) { stage = stage_of p }) ≡ false
-not_ending d (Working quiets started id) = refl
-not_ending d (Reading fetch need) = refl
 
 -- the model refuses a request of this kind likewise, and that is no failure of a device
 pub record RefusedAs (now : ℕ) (h : ClientValue) (d : Doing) (before used : Shared) (kind : ActKind) (fault : Fault)
@@ -171,37 +128,6 @@ InState entry h before P = (s : State) (g : Known) → s.count + 1 ≡ entry →
 
 module _ (now entry : ℕ) (h : ClientValue) (d : Doing) (before used : Shared) (busy : h.doing ≡ Some d)
     (ready : IsReady h) where
-  -- An operation that fails: a device did, or memory ran out. Devices hold what they held.
-  pub fails : (fault : Fault) → is_failure (ToldRefused fault) ≡ true → HoldsSame before used
-      → UsesDevices (made.Answer (ToldRefused fault) (RefusedReply fault)) before used
-      → Makes now entry h (ended h) before used (made.Answer (ToldRefused fault) (RefusedReply fault))
-  fails fault fail same uses = record {
-    id = refl;
-    limits = refl;
-    ready = record { buffer = ready.buffer; doing = tt };
-    devices = uses;
-    falls = refl;
-    leads = λ s g number store holds is.
-        let m = s.clients h.id in
-        let over : ModelClient = record m { doing = None } in
-        let kinds : List ActKind = Answered (ToldRefused fault) ∷ [] in
-        let request = flight-over g before (in_flight h) s g used h.id now (in_flight h) kinds
-        (Done (RefusedReply fault)) s.tree over s.copied
-        (failure-request s g before used store same h.id now (in_flight h) (doing_of d)
-        (client-doing g before m s.count h d busy is) (not_ending d d.progress) fault fail) in
-        record {
-          learned = g;
-          tree = s.tree;
-          model = over;
-          copied = s.copied;
-          request = request;
-          is_client = client-ended s.tree g before store request.own g used request.leads.kept m s.count (s.count + 1) h
-              (omega arith) is;
-          no_failure = tt;
-          holds = holds-doing s.tree m None holds;
-        };
-  }
-
   -- A request that is refused.
   pub refuses : (kind : ActKind) (fault : Fault)
       → UsesDevices (made.Both kind (ToldRefused fault) (RefusedReply fault)) before used
@@ -209,30 +135,26 @@ module _ (now entry : ℕ) (h : ClientValue) (d : Doing) (before used : Shared) 
       → Makes now entry h (refused_here fault h) before used (made.Both kind (ToldRefused fault) (RefusedReply fault))
   refuses kind fault uses leads =
       let rests = refused-rests fault h in
+      makes-ended now entry h (refused_here fault h) before used
+      (made.Both kind (ToldRefused fault) (RefusedReply fault)) (RefusedReply fault) refl ready rests uses
+      (λ s g count store holds is.
+      let m = s.clients h.id in
+      let after = after_told d.op (ToldRefused fault) m in
+      let kinds : List ActKind = kind ∷ Answered (ToldRefused fault) ∷ [] in
+      let refused = leads s g count store holds is in
       record {
-        id = rests.id;
-        limits = rests.limits;
-        ready = rests-ready h (refused_here fault h) rests ready;
-        devices = uses;
-        falls = rests.idle;
-        leads = λ s g number store holds is.
-            let m = s.clients h.id in
-            let after = after_told d.op (ToldRefused fault) m in
-            let kinds : List ActKind = kind ∷ Answered (ToldRefused fault) ∷ [] in
-            let refused = leads s g number store holds is in
-            record {
-              learned = g;
-              tree = s.tree;
-              model = after;
-              copied = s.copied;
-              request = subst (λ (n : ℕ). Request s g g before used h.id now (in_flight h) n kinds
-                  (Done (RefusedReply fault)) s.tree after s.copied) (sym rests.landed) refused.request;
-              is_client = client-told s.tree g before store refused.request.own g used refused.request.leads.kept m
-                  s.count (s.count + 2) h (omega arith) is d.op (ToldRefused fault) refl;
-              no_failure = calm-told fault refused.calm;
-              holds = holds-told d.op (ToldRefused fault) s.tree m refl holds;
-            };
-      }
+        learned = g;
+        tree = s.tree;
+        model = after;
+        copied = s.copied;
+        request = subst (λ (n : ℕ). Request s g g before used h.id now (in_flight h) n kinds
+            (Done (RefusedReply fault)) s.tree after s.copied)
+            (sym (rests-flight h (refused_here fault h) rests)) refused.request;
+        is_client = client-told s.tree g before store refused.request.own g used refused.request.leads.kept m
+            s.count (s.count + 2) h (omega arith) is d.op (ToldRefused fault) refl;
+        no_failure = calm-told fault refused.calm;
+        holds = holds-told d.op (ToldRefused fault) s.tree m refl holds;
+      })
 
 -- A transaction that wasn't made, by how the step ends.
 module _ (now entry : ℕ) (h after : ClientValue) (d : Doing) (before : Shared) (keeper : Store)
@@ -250,9 +172,9 @@ module _ (now entry : ℕ) (h after : ClientValue) (d : Doing) (before : Shared)
       → keeper.rows ≡ before.keeper.rows → keeper.opened ≡ before.keeper.opened → Fails fault h after done
       → IsMade done
   failed fault done fail cause only rows opened ends =
-      makes-as now entry h after (ended h) before left done (made.Answer (ToldRefused fault) (RefusedReply fault))
-      ends.after_is ends.made_is
-      (fails now entry h d before left busy ready fault fail (same-rows before keeper before.carrier rows)
+      fails-makes now entry h d before left fault after done busy ready fail ends
+      (same-rows before keeper before.carrier rows)
+      (subst (λ (x : Made). UsesDevices x before left) (sym ends.made_is)
       (uses-keeper before keeper (made.Answer (ToldRefused fault) (RefusedReply fault)) opened cause only (λ asks. rows)
       tt))
 
@@ -261,8 +183,8 @@ module _ (now entry : ℕ) (h after : ClientValue) (d : Doing) (before : Shared)
       → InState entry h before (RefusedAs now h d before left kind fault)
       → IsMade done
   refused kind fault done rows opened faults ends leads =
-      makes-as now entry h after (refused_here fault h) before left done
-      (made.Both kind (ToldRefused fault) (RefusedReply fault)) ends.after_is ends.made_is
+      makes-as now entry h after (refused_here fault h) before left left done
+      (made.Both kind (ToldRefused fault) (RefusedReply fault)) ends.after_is refl ends.made_is
       (refuses now entry h d before left busy ready kind fault
       (uses-keeper before keeper (made.Both kind (ToldRefused fault) (RefusedReply fault)) opened faults
       (refl, refl, refl) (λ asks. rows) tt) leads)
@@ -277,7 +199,7 @@ module _ (now entry : ℕ) (h after : ClientValue) (d : Doing) (before : Shared)
       refused kind (Contended (Lists ends.0 ends.0)) done none.rows_are none.opened_at none.counts ends.1
       (λ s g number store holds is. absurd (leads s g number store holds is))
   unmade kind (OfRows (Bad at bytes)) done none ends leads =
-      makes-as now entry h after h before left done (made.Broken at bytes) ends.0 ends.1
+      makes-as now entry h after h before left left done (made.Broken at bytes) ends.0 refl ends.1
       (record {
         id = refl;
         limits = refl;
