@@ -2,6 +2,7 @@
 use Rattle.std.proofs.Common.{◌≡◌, ◌≢◌, ℕ, ◌+◌, ◌-◌, ◌*◌, ◌/◌, ◌≤◌, ◌<◌, Bool, true, false, List, [], ◌∷◌, length}
 use Rattle.std.proofs.Common.{suc, Option, None, Some, refl, sym, ap, subst, ◌∙◌, arith}
 use Rattle.std.specs.Prelude.{is_some, not, IfSome, IsSomeAnd, IsTrue}
+use Rattle.std.specs.Option.{option_map}
 use Rattle.jv_model.specs.declared.limits.TheConstants.{FILE_END, WINDOW}
 use Rattle.jv_model.specs.declared.op.Op.TheVariants as op
 use Rattle.jv_model.specs.declared.profile.Does.{Does}
@@ -25,13 +26,14 @@ use Rattle.jv_fetching.specs.Fetching.{Fetching, begins, fetch_left}
 use Rattle.jv_fetching.specs.Going.{CanFetch, IsFetching}
 use Rattle.jv_fetching.specs.Calls.{AreSizedBy, HasCached, IsCacheOf, LooksUp, Wants, first_seen}
 use Rattle.jv_fetching.specs.Shows.{IsReadBy, One, Two}
-use Rattle.jv_fetching.proofs.CacheLaws.{cache_of-has, cache_of-looks}
+use Rattle.jv_fetching.proofs.CacheLaws.{cache_of-empty, cache_of-has, cache_of-looks}
 use Rattle.jv_fetching.proofs.FetchLaws.{by_parts, fetches_go_on}
 use Rattle.jv_fetching.proofs.SameLaws.{fetches_show}
 use Rattle.jv_client.specs.declared.doing.Doing.{Doing}
 use Rattle.jv_client.specs.declared.doing.Flush.TheVariants as flush
 use Rattle.jv_client.specs.declared.doing.Progress.{Progress}
 use Rattle.jv_client.specs.declared.doing.Progress.TheVariants.{Working, Reading}
+use Rattle.jv_client.specs.declared.reading.Ahead.{Ahead}
 use Rattle.jv_client.specs.declared.reading.Ahead.TheVariants as ahead
 use Rattle.jv_client.specs.declared.reading.Found.{Found}
 use Rattle.jv_client.specs.ClientValue.{ClientValue}
@@ -40,7 +42,8 @@ use Rattle.jv_client.specs.UnderWay.{FlushesFor, Closes, Syncs, Describes, Reads
 use Rattle.jv_client.specs.UnderWay.{IsForm, Mounts, Transacts, Leaves, Writes, Flushes, Copies, TellsStats}
 use Rattle.jv_client.specs.UnderWay.{IsAt, IsReading, IsReady, IsUnderWay, asks_more, does_of, has_segment, left}
 use Rattle.jv_client.specs.UnderWay.{left_of, names_open, reading_steps, steps_in, steps_left, steps_of}
-use Rattle.jv_client.specs.Reading.{Begins, ComesTo, GoesAhead, IsAhead, IsCachedAs, ReadsAtOnce, need_at, need_in}
+use Rattle.jv_client.specs.Reading.{Begins, ClientComesTo, ComesTo, GoesAhead, IsAhead, IsCachedAs, IsMade}
+use Rattle.jv_client.specs.Reading.{OnlyLooksUp, ReadsAtOnce, need_at, need_in}
 use Rattle.jv_client.specs.Reading.{put_at, read_of}
 
 -- ---- an operation that reads
@@ -104,7 +107,7 @@ that_reads : (o : Option Doing) (offset len : ℕ) → does_of o ≡ Some (does.
 that_reads None offset len e = absurd (cc e)
 that_reads (Some d) offset len e = (d, refl, cc e)
 
-under : (h : ClientValue) (d : Doing) → h.doing ≡ Some d → IsReady h → IsUnderWay h d
+pub under : (h : ClientValue) (d : Doing) → h.doing ≡ Some d → IsReady h → IsUnderWay h d
 under h d busy ready = subst (λ (o : Option Doing). IfSome o (IsUnderWay h)) busy ready.doing
 
 pub reads-here : (h : ClientValue) (offset len : ℕ) → does_of h.doing ≡ Some (does.Reads offset len) → IsReady h
@@ -346,3 +349,78 @@ module _ (offset len block : ℕ) (h : ClientValue) (d : Doing) (busy : h.doing 
           (reads-on sizes blocks (subst (λ (file : Handle). AreSizedBy sizes file.views) (sym file_is) sized) known)
           (begins-well blocks));
     }
+
+-- ---- with the cache that is there, or a new one
+
+made_cache : (before after : Option Cached) (cache : Cached) → IsMade before after → after ≡ Some cache
+    → (sizes : ℕ → ℕ) (block : ℕ) (blocks : Blocks) → IfSome before (IsCacheOf sizes block blocks)
+    → IsCacheOf sizes block blocks cache
+made_cache (Some old) after cache made is sizes block blocks known =
+    let both : Some old ≡ Some cache = sym made ∙ is in
+    let same : old ≡ cache = cc both in
+    subst (IsCacheOf sizes block blocks) same known
+made_cache None after cache made is sizes block blocks known =
+    let empty : IsSomeAnd (Some cache) (λ (cache : Cached). cache.blocks ≡ []) =
+    subst (λ (o : Option Cached). IsSomeAnd o (λ (cache : Cached). cache.blocks ≡ [])) is made in
+    cache_of-empty sizes block blocks cache empty
+
+module _ (h middle after : ClientValue) (made : Option Cached) (is_made : IsMade h.cache made)
+    (middle_is : middle ≡ record h { cache = made }) (looks : OnlyLooksUp middle after) where
+  was : made ≡ Some looks.cache
+  was = sym (ap (λ (h : ClientValue). h.cache) middle_is) ∙ looks.was
+
+  has_cache : HasCache h looks.cache
+  has_cache = record { knows = made_cache h.cache made looks.cache is_made was }
+
+  after_went : after ≡ record h { cache = Some looks.later }
+  after_went = looks.after_is ∙ ap (λ (h : ClientValue). record h { cache = Some looks.later }) middle_is
+
+  pub ahead-cached : IsCachedAs h after
+  ahead-cached = record {
+    cache = Some looks.later;
+    after_is = after_went;
+    knows = λ sizes block blocks known.
+        cache_of-looks sizes block blocks looks.cache looks.later looks.looks
+        (has_cache.knows sizes block blocks known);
+  }
+
+  module _ (offset len block : ℕ) (does : does_of h.doing ≡ Some (does.Reads offset len)) (ready : IsReady h)
+      (none : left h ≡ None) (first : need_in h.doing ≡ None) where
+    abbrev here : ReadsHere h offset len
+    here = reads-here h offset len does ready
+
+    comes-here : (ahead : Ahead) → ClientComesTo (begins block (asked_parts offset len)) middle ahead
+        → ComesTo here.file.file.views looks.cache (begins block (asked_parts offset len)) ahead
+    comes-here ahead comes =
+        comes here.d here.file.file looks.cache (ap (λ (h : ClientValue). h.doing) middle_is ∙ here.busy)
+        (ap (λ (h : ClientValue). file_of h.handles (handle_of here.d.op)) middle_is ∙ here.opened) looks.was
+
+    pub begins-none : (fetch : Fetching) (next : Need)
+        → ClientComesTo (begins block (asked_parts offset len)) middle (ahead.Needs fetch next) → (end : ClientValue)
+        → end ≡ record after { doing = option_map (put_at (Reading fetch next)) after.doing }
+        → Begins offset len block h end None
+    begins-none fetch next comes end end_is =
+        let d = here.d in
+        let began : ClientValue = record h { cache = Some looks.later; doing = Some (put_at (Reading fetch next) d) } in
+        let is : end ≡ began =
+        end_is
+        ∙ ap (λ (h : ClientValue). record h { doing = option_map (put_at (Reading fetch next)) h.doing }) after_went
+        ∙ ap (λ (o : Option Doing). record h {
+          cache = Some looks.later;
+          doing = option_map (put_at (Reading fetch next)) o;
+        }) here.busy in
+        subst (λ (c : ClientValue). IsAhead block h c × IsReady c) (sym is)
+        (
+          begins-ahead offset len block h d here.busy here.does_is ready none first looks.cache looks.later has_cache
+              looks.looks fetch next (comes-here (ahead.Needs fetch next) comes),
+          begins-ready offset len block h d here.busy here.does_is ready none first looks.cache looks.later has_cache
+              looks.looks fetch next (comes-here (ahead.Needs fetch next) comes),
+        )
+
+    pub begins-some : (found : Found)
+        → ClientComesTo (begins block (asked_parts offset len)) middle (ahead.Read found)
+        → Begins offset len block h after (Some found)
+    begins-some found comes =
+        subst (λ (c : ClientValue). ReadsAtOnce offset len block h c found) (sym after_went)
+        (begins-read offset len block h here.d here.busy here.does_is ready none first looks.cache looks.later
+        has_cache looks.looks found (comes-here (ahead.Read found) comes))
