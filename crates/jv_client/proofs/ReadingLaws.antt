@@ -1,5 +1,5 @@
 -- Readings: how one begins, goes ahead without a request, and what it returns.
-use Rattle.std.proofs.Common.{◌≡◌, ◌≢◌, ℕ, ◌+◌, ◌-◌, ◌*◌, ◌/◌, ◌≤◌, ◌<◌, Bool, true, false, List, [], ◌∷◌, length}
+use Rattle.std.proofs.Common.{◌≡◌, ◌≢◌, ℕ, zero, ◌+◌, ◌-◌, ◌*◌, ◌/◌, ◌≤◌, ◌<◌, Bool, true, false, List, [], ◌∷◌, length}
 use Rattle.std.proofs.Common.{suc, Option, None, Some, refl, sym, ap, subst, ◌∙◌, arith}
 use Rattle.std.specs.Prelude.{is_some, not, IfSome, IsSomeAnd, IsTrue}
 use Rattle.std.specs.Option.{option_map}
@@ -147,7 +147,7 @@ pub not-begun : (h : ClientValue) (d : Doing) → IsUnderWay h d → segment_lef
 not-begun h d under none first = by_progress d.progress refl under.at first
   where
     by_progress : (p : Progress) → d.progress ≡ p → IsAt h d p → need_at p ≡ None → NotBegun d
-    by_progress (Working 0 started id) e at first = record { started = started; id = id; progress = e }
+    by_progress (Working zero started id) e at first = record { started = started; id = id; progress = e }
     by_progress (Working (suc quiets) started id) e at first =
         let some : 0 < suc quiets = omega arith in
         let segment : has_segment h d ≡ true = at.segment some in
