@@ -6,3 +6,9 @@ pub mod KeptLaws
 pub mod AnswerLaws
 pub mod ReadingLaws
 pub mod ShowLaws
+pub mod FormLaws
+pub mod WrittenLaws
+pub mod AtOnceLaws
+pub mod WriteLaws
+pub mod SubmissionLaws
+pub mod ReadyLaws
