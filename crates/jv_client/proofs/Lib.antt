@@ -16,6 +16,8 @@ pub mod FlushLaws
 pub mod PutBlockLaws
 pub mod ChangingLaws
 pub mod ChangedLaws
+pub mod ReadingLaws
+pub mod ShowLaws
 pub mod FormLaws
 pub mod WrittenLaws
 pub mod AtOnceLaws
