@@ -5,6 +5,7 @@ pub mod Built
 pub mod Held
 pub mod Ending
 pub mod UnderWay
+pub mod Reading
 pub mod Flushing
 pub mod Transacting
 pub mod Changing
