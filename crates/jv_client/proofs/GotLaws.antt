@@ -56,7 +56,7 @@ use Rattle.jv_client.specs.declared.made.Made.{Made}
 use Rattle.jv_client.specs.declared.made.Made.TheVariants as made
 use Rattle.jv_client.specs.declared.reading.Found.{Found}
 use Rattle.jv_client.specs.ClientValue.{ClientValue}
-use Rattle.jv_client.specs.Getting.{IsNone, Missing, ReadsBlock, Refused, Unread, yard_fault}
+use Rattle.jv_client.specs.Getting.{Fills, IsNone, Missing, ReadsBlock, Refused, Unread, yard_fault}
 use Rattle.jv_client.specs.Held.{Holds, IsClient, IsHeld, in_flight}
 use Rattle.jv_client.specs.Makes.{Makes, StepsTo, TellsBad, UsesDevices, faults_of, is_failure_of, step_of, tells_failure}
 use Rattle.jv_client.specs.Reading.{GoesAhead, read_of, told_read}
@@ -147,16 +147,7 @@ fails-unread Depot = refl
 fails-unread Shelf = refl
 fails-unread Memory = refl
 
--- ---- a block is filled in
-
--- the block that is needed came, and is kept or not
-pub record Fills (b : BlockId) (bytes : List ℕ) (before after : Fetching) (cache kept : Cached) : Type 0 where
-  pub block : after.block ≡ before.block
-  pub can : (views : SeenViews) → CanFetch views before → CanFetch views after
-  pub falls : fetch_left after < fetch_left before
-  pub cache_is : Keeps b bytes cache kept
-  pub reads : (blocks : Blocks) (views : SeenViews) (all : List Asked) → blocks b ≡ Some bytes
-      → IsFetching blocks views all before → IsFetching blocks views all after
+-- ---- the model asks for the block
 
 -- whether the model's reading has a view of its first window
 sees_same : (g : Known) (v : Shared) (m : ModelClient) (md : ModelDoing) (count : ℕ) (file : OpenFile) (handle : Handle)

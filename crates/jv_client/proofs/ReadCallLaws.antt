@@ -32,6 +32,7 @@ use Rattle.jv_client.specs.declared.reading.Ahead.{Ahead}
 use Rattle.jv_client.specs.declared.reading.Ahead.TheVariants.{Needs, Read}
 use Rattle.jv_client.specs.ClientValue.{ClientValue, session_here}
 use Rattle.jv_client.specs.Ending.{ended}
+use Rattle.jv_client.specs.Getting.{Fills}
 use Rattle.jv_client.specs.Makes.{Makes}
 use Rattle.jv_client.specs.Reading.{ClientComesTo, GoesOnAfter, OnlyLooksUp, put_at}
 use Rattle.jv_client.specs.UnderWay.{moved_to}
@@ -39,7 +40,7 @@ use Rattle.jv_client.proofs.ReaderLaws.{IsAsking}
 use Rattle.jv_client.proofs.GoneOnLaws.{going_on, over}
 use Rattle.jv_client.proofs.LookLaws.{look-on, look-over, not_seen, seen_handle, seen_handles, seen_opened, view_of}
 use Rattle.jv_client.proofs.UnlookedLaws.{cached-here, look-out}
-use Rattle.jv_client.proofs.GotLaws.{Fills, get-on, get-out, get-over}
+use Rattle.jv_client.proofs.GotLaws.{get-on, get-out, get-over}
 use Rattle.jv_fetching.proofs.CacheLaws.{cache_of-looks}
 
 -- the client whose reading was taken out, with these handles and this cache
@@ -51,7 +52,7 @@ taken_out handles cache d h = record h {
 }
 
 -- a step under other names of the client after it and of its result
-made_as : (now entry : ℕ) (h after end : ClientValue) (before used : Shared) (done is : Made) → after ≡ end → done ≡ is
+pub made_as : (now entry : ℕ) (h after end : ClientValue) (before used : Shared) (done is : Made) → after ≡ end → done ≡ is
     → Makes now entry h end before used is → Makes now entry h after before used done
 made_as now entry h after end before used done is same_end same makes =
     subst (λ x. Makes now entry h after before used x) (sym same)

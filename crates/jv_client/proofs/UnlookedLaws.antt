@@ -57,7 +57,7 @@ use Rattle.jv_client.specs.UnderWay.{IsReady, IsUnderWay}
 use Rattle.jv_client.proofs.EndingLaws.{holds-told}
 use Rattle.jv_client.proofs.HeldLaws.{doing_of}
 use Rattle.jv_client.proofs.KeptLaws.{cache-goes, held-goes, told-client}
-use Rattle.jv_client.proofs.PendingWriteLaws.{names-held}
+use Rattle.jv_client.proofs.WrittenLaws.{names-held}
 use Rattle.jv_client.proofs.ReaderLaws.{IsAsking, asking, busy_in, file_by, handle_in, may_read, none_flying, opened_in}
 use Rattle.jv_client.proofs.GoneOnLaws.{over}
 use Rattle.jv_client.proofs.ReadFailedLaws.{failed, held-cache}
@@ -181,7 +181,7 @@ module _ (now entry block : ℕ) (h : ClientValue) (d : Doing) (offset len : ℕ
         let inode : inode_at m handle ≡ file.inode = ap inode_in in_use in
         subst (IsHoldable s.tree) inode
         (holds.opened (inode_at m handle)
-        (names-held g before m s.count h client.held handle file asks.reads.opened))
+        (names-held g before m s.count h handle file client.held asks.reads.opened))
 
     why : SeesNone (session_of m) file.inode s.tree fault
     why = sees_none (session_of m) file.inode s.tree fault
