@@ -27,6 +27,8 @@ pub mod FlushLaws
 pub mod PutBlockLaws
 pub mod RefusedCommitLaws
 pub mod CommitCallLaws
+pub mod ReadingLaws
+pub mod ShowLaws
 pub mod FormLaws
 pub mod WrittenLaws
 pub mod AtOnceLaws

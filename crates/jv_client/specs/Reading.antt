@@ -1,5 +1,5 @@
 -- A reading within a step: how far it goes without a request, and what it leaves of the client.
-use Rattle.std.specs.Prelude.{◌≡◌, ◌≢◌, ℕ, ◌≤◌, ◌<◌, List, length, Option, None, Some, IfSome}
+use Rattle.std.specs.Prelude.{◌≡◌, ◌≢◌, ℕ, ◌≤◌, ◌<◌, List, [], length, Option, None, Some, IfSome, IsSomeAnd}
 use Rattle.std.specs.Option.{option_map}
 use Rattle.jv_model.specs.declared.act.ActKind.{ActKind}
 use Rattle.jv_model.specs.declared.act.Told.{Told}
@@ -91,6 +91,11 @@ ClientComesTo fetch h ahead = (d : Doing) (file : Handle) (cache : Cached) → h
     → file_of h.handles (handle_of d.op) ≡ Some file → h.cache ≡ Some cache → ComesTo file.views cache fetch ahead
 
 -- ---- a reading begins
+
+-- a cache that is there, or an empty one
+abbrev pub IsMade : Option Cached → Option Cached → Type 0
+IsMade (Some cache) after = after ≡ Some cache
+IsMade None after = IsSomeAnd after (λ (cache : Cached). cache.blocks ≡ [])
 
 -- a client with another cache, in which nothing stands that isn't known
 pub record IsCachedAs (h after : ClientValue) : Type 0 where

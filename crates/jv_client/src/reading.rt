@@ -1,5 +1,5 @@
 //! Reading: looks at windows that the handle didn't see, then blocks that the cache doesn't have, one a step.
-ghost use Rattle.std.specs.Prelude.{◌≡◌, ◌≢◌, ◌≤◌, ℕ, length, IfOk, IfSome, IsSome, OnErr, None, Some};
+ghost use Rattle.std.specs.Prelude.{◌≡◌, ◌≢◌, ◌≤◌, ℕ, length, IfOk, IfSome, IsSome, OnErr, OnOk, None, Some};
 ghost use Rattle.std.specs.Option.{option_map};
 ghost use Rattle.jv_model.specs.declared.profile.Does.TheVariants.{Reads};
 ghost use Rattle.jv_outside.specs.Carriage.{Carriage};
@@ -14,7 +14,7 @@ ghost use Rattle.jv_client.specs.Shared.{shared};
 ghost use Rattle.jv_client.specs.UnderWay.{IsReady, does_of, left, names_open};
 ghost use Rattle.jv_client.specs.Makes.{Makes};
 ghost use Rattle.jv_client.specs.Getting.{HasFilled, IsBlockIn, ReadsBlock, yard_fault};
-ghost use Rattle.jv_client.specs.Reading.{Begins, ClientComesTo, ComesTo, GoesOnAfter, IsAhead, IsCachedAs, OnlyLooksUp, Shows, fetch_in, need_at, need_in, put_at};
+ghost use Rattle.jv_client.specs.Reading.{Begins, ClientComesTo, ComesTo, GoesOnAfter, IsAhead, IsCachedAs, IsMade, OnlyLooksUp, Shows, fetch_in, need_at, need_in, put_at};
 
 use crate::answers::looks;
 use crate::client::{Client, forget};
@@ -132,9 +132,7 @@ impl Client {
         ensures ok { IfOk result (Begins offset len block self.old self.new) }
         ensures err { OnErr result (IsCachedAs self.old self.new) }
     {
-        if self.cache.is_none() {
-            self.cache = Some(BlockCache::new(self.alloc, self.limits.entries)?);
-        }
+        make_cache(self.alloc, self.limits.entries, &mut self.cache)?;
         match self.ahead(Fetch::new(self.alloc, offset, len, block))? {
             Ahead::Read(found) => Ok(Some(found)),
             Ahead::Needs(fetch, need) => {
@@ -247,6 +245,21 @@ impl Client {
             None => Made::Answer(told, Reply::Data(bytes)),
         }
     }
+}
+
+/// Makes a cache for this many blocks, where there is none. On error nothing has changed.
+fn make_cache(
+    alloc: Global,
+    entries: usize,
+    cache: &mut Option<BlockCache>,
+) -> Result<(), AllocError>
+    ensures made { OnOk result (IsMade cache.old cache.new) }
+    ensures err { OnErr result (cache.new ≡ cache.old) }
+{
+    if cache.is_none() {
+        *cache = Some(BlockCache::new(alloc, entries)?);
+    }
+    Ok(())
 }
 
 /// What a reading needs next, where it has begun.
