@@ -9,6 +9,22 @@ pub mod TriedLaws
 pub mod GiftLaws
 pub mod DueLaws
 pub mod TransactionLaws
+pub mod ReaderLaws
+pub mod GoneOnLaws
+pub mod ReadFailedLaws
+pub mod LookLaws
+pub mod UnlookedLaws
+pub mod GotLaws
+pub mod ReadCallLaws
+pub mod NextSegmentLaws
+pub mod AloneLaws
+pub mod AfterFlushLaws
+pub mod WithoutLaws
+pub mod WaitingLaws
+pub mod AfterCommitLaws
+pub mod EndsAfterLaws
+pub mod CommitLaws
+pub mod CommittedLaws
 pub mod GoesOnLaws
 pub mod LeftLaws
 pub mod UnmadeLaws
@@ -16,6 +32,8 @@ pub mod FlushLaws
 pub mod PutBlockLaws
 pub mod ChangingLaws
 pub mod ChangedLaws
+pub mod RefusedCommitLaws
+pub mod CommitCallLaws
 pub mod ReadingLaws
 pub mod ShowLaws
 pub mod FormLaws
@@ -24,3 +42,4 @@ pub mod AtOnceLaws
 pub mod WriteLaws
 pub mod SubmissionLaws
 pub mod ReadyLaws
+pub mod AskCallLaws

@@ -10,4 +10,5 @@ pub mod Flushing
 pub mod Transacting
 pub mod Changing
 pub mod Stats
+pub mod Getting
 pub mod Makes

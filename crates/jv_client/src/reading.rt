@@ -1,5 +1,5 @@
 //! Reading: looks at windows that the handle didn't see, then blocks that the cache doesn't have, one a step.
-ghost use Rattle.std.specs.Prelude.{◌≡◌, ◌≢◌, ℕ, IfOk, IfSome, IsSome, OnErr, OnOk, None, Some};
+ghost use Rattle.std.specs.Prelude.{◌≡◌, ◌≢◌, ◌≤◌, ℕ, length, IfOk, IfSome, IsSome, OnErr, OnOk, None, Some};
 ghost use Rattle.std.specs.Option.{option_map};
 ghost use Rattle.jv_model.specs.declared.profile.Does.TheVariants.{Reads};
 ghost use Rattle.jv_outside.specs.Carriage.{Carriage};
@@ -7,11 +7,13 @@ ghost use Rattle.jv_outside.specs.Store.{Store};
 ghost use Rattle.jv_yard.specs.YardValue.{YardValue};
 ghost use Rattle.jv_shared.specs.Lengths.{IsLength};
 ghost use Rattle.jv_fetching.specs.Calls.{LooksUp};
+ghost use Rattle.jv_fetching.specs.Fetching.{block_needed};
 ghost use Rattle.jv_client.specs.declared.doing.Progress.TheVariants.{Reading, Working};
 ghost use Rattle.jv_client.specs.ClientValue.{ClientValue};
 ghost use Rattle.jv_client.specs.Shared.{shared};
 ghost use Rattle.jv_client.specs.UnderWay.{IsReady, does_of, left, names_open};
 ghost use Rattle.jv_client.specs.Makes.{Makes};
+ghost use Rattle.jv_client.specs.Getting.{HasFilled, IsBlockIn, ReadsBlock, yard_fault};
 ghost use Rattle.jv_client.specs.Reading.{Begins, ClientComesTo, ComesTo, GoesOnAfter, IsAhead, IsCachedAs, IsMade, OnlyLooksUp, Shows, fetch_in, need_at, need_in, put_at};
 
 use crate::answers::looks;
@@ -207,10 +209,7 @@ impl Client {
             Err(fault) => return self.fail(fault),
         };
         let mut fetch = take_fetch(&mut self.doing);
-        match &mut self.cache {
-            Some(cache) => fetch.fill(cache, block, bytes),
-            None => unreachable!(),
-        }
+        fill(&mut fetch, &mut self.cache, block, bytes);
         match self.ahead(fetch) {
             Ok(ahead) => self.go_on_reading(ActKind::Quiet, ahead),
             Err(AllocError) => self.fail(Fault::NoMemory),
@@ -321,17 +320,51 @@ fn read_block<D: Depot, H: Shelf>(
     yard: &mut Yard<D, H>,
     client: ClientId,
     block: BlockId,
-) -> Result<Bytes, Fault> {
+) -> Result<Bytes, Fault>
+    ensures low { client ≤ 7 }
+    ensures read { let seen = ⟦<Yard<D, H> as ObservedYard>⟧.seen in
+        ReadsBlock client block (seen yard.old) (seen yard.new) result }
+{
     let BlockId { id, index, size } = block;
-    let name = match block_name(alloc, yard.setting(), id, index, size) {
-        Ok(name) => name,
-        Err(AllocError) => return Err(Fault::NoMemory),
+    let Ok(name) = block_name(alloc, yard.setting(), id, index, size) else {
+        return Err(Fault::NoMemory);
     };
     match yard.get_block(client, &name) {
-        Ok(Some(bytes)) if bytes.len() == size as usize => Ok(bytes),
-        Ok(_) => Err(Fault::Contended(Busy::Misses(1))),
-        Err(YardFault::Depot) => Err(Fault::DeviceFailed(Device::Depot)),
-        Err(YardFault::Shelf) => Err(Fault::DeviceFailed(Device::Shelf)),
-        Err(YardFault::Memory) => Err(Fault::NoMemory),
+        Ok(value) => block_in(value, size),
+        Err(fault) => Err(fault_of(fault)),
+    }
+}
+
+/// The bytes of a block of this size, by what was read at its name.
+fn block_in(value: Option<Bytes>, size: u32) -> Result<Bytes, Fault>
+    ensures { IsBlockIn size value result }
+{
+    match value {
+        Some(bytes) if bytes.len() == size as usize => Ok(bytes),
+        _ => Err(Fault::Contended(Busy::Misses(1))),
+    }
+}
+
+/// What a yard's fault is to a client.
+fn fault_of(fault: YardFault) -> Fault
+    ensures { result ≡ yard_fault fault }
+{
+    match fault {
+        YardFault::Depot => Fault::DeviceFailed(Device::Depot),
+        YardFault::Shelf => Fault::DeviceFailed(Device::Shelf),
+        YardFault::Memory => Fault::NoMemory,
+    }
+}
+
+/// Fills in the block that a reading needs, and keeps it where memory allows.
+fn fill(fetch: &mut Fetch, cache: &mut Option<BlockCache>, block: BlockId, bytes: Bytes)
+    requires there { IsSome cache.old }
+    requires needed { block_needed fetch.old ≡ Some block }
+    requires long { length bytes ≡ block.size }
+    ensures { HasFilled block bytes fetch.old fetch.new cache.old cache.new }
+{
+    match cache {
+        Some(cache) => fetch.fill(cache, block, bytes),
+        None => unreachable!(),
     }
 }
