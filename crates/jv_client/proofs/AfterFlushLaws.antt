@@ -69,12 +69,12 @@ by-alone d kind h after pending none (Write bytes some same) after_is =
     (let f : ◌≡◌ {A = Option PendingValue} (Some pending) (Some (record { bytes = bytes; limit = h.limits.buffer })) = same
     in cc) in
     let by = alone-write d.op h.handles bytes some in
-    let given : List ℕ = by.2.2.0 in
-    let bytes_are : pending.bytes ≡ written (inode_here h.handles by.0) by.2.0 given [] =
-    ap (λ (p : PendingValue). p.bytes) is ∙ by.2.2.2.1 in
+    let given : List ℕ = by.2 in
+    let bytes_are : pending.bytes ≡ written (inode_here h.handles by.0) by.1 given [] =
+    ap (λ (p : PendingValue). p.bytes) is ∙ by.4 in
     let long : length pending.bytes ≡ length given =
-    ap length bytes_are ∙ length-alone (inode_here h.handles by.0) by.2.0 given in
-    Writes by.0 by.2.0 given none by.2.2.2.0
+    ap length bytes_are ∙ length-alone (inode_here h.handles by.0) by.1 given in
+    Writes by.0 by.1 given none by.3
     (after_is ∙ ap (λ (bytes : List PendingByte). record h { pending = bytes; doing = None }) bytes_are)
     (ap (λ n. made.Both kind (Fine n 0 0 0) (Count n)) long)
 

@@ -20,7 +20,7 @@ use Rattle.jv_client.specs.UnderWay.{HasRoom, Beside, Alone, IsForm, Mounts, Tra
 use Rattle.jv_client.specs.UnderWay.{TellsStats, IsReady, is_transaction}
 use Rattle.jv_client.specs.Flushing.{IfWrite, IsWrittenAlone, Other, Write, NextOf, Last, NotLast, without_segment}
 use Rattle.jv_client.specs.Flushing.{written_alone}
-use Rattle.jv_client.proofs.GoesOnLaws.{under_way}
+use Rattle.jv_client.proofs.FormLaws.{under_way}
 
 -- ---- its bytes fit
 
@@ -87,8 +87,8 @@ alone-of o handles handle offset bytes limit inode before after of_op own none s
 -- ---- what is pending after the last commit
 
 -- before its last segment is committed
-pub next-of_last : (h : ClientValue) (d : Doing) (len : ℕ) (handles : List (Option Handle)) (limit : ℕ)
-    (result : Result (Option PendingValue) (Unit {0})) → h.doing ≡ Some d → length h.pending ≤ len → handles ≡ h.handles
+pub next-of_last : {E : Type 0} (h : ClientValue) (d : Doing) (len : ℕ) (handles : List (Option Handle)) (limit : ℕ)
+    (result : Result (Option PendingValue) E) → h.doing ≡ Some d → length h.pending ≤ len → handles ≡ h.handles
     → limit ≡ h.limits.buffer → IfOk result (λ next. IsWrittenAlone d.op handles limit next)
     → IfOk result (λ next. IfSome h.doing (λ d. NextOf d len h next))
 next-of_last h d len handles limit (Err e) busy few same_handles same_limit alone = tt
