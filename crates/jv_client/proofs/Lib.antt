@@ -10,3 +10,4 @@ pub mod AtOnceLaws
 pub mod WriteLaws
 pub mod SubmissionLaws
 pub mod ReadyLaws
+pub mod StepOfLaws
