@@ -11,11 +11,9 @@ use Rattle.jv_model.specs.declared.op.Op.{Op}
 use Rattle.jv_model.specs.declared.op.Op.TheVariants as op
 use Rattle.jv_model.specs.declared.op.Reply.TheVariants as reply
 use Rattle.jv_model.specs.declared.profile.Does.TheVariants as does
-use Rattle.jv_model.specs.tree.Caller.{Caller}
 use Rattle.jv_model.specs.tree.FileBytes.{copy, truncate}
 use Rattle.jv_model.specs.journal.Steps.{told_of}
 use Rattle.jv_outside.specs.Store.{Store}
-use Rattle.jv_rows.specs.Transactions.{IsFor}
 use Rattle.jv_data.specs.Changing.{AnyTold, Changes, IsCrowded, Never, count_in}
 use Rattle.jv_data.specs.Truncating.{due_after}
 use Rattle.jv_metadata.specs.Attempts.{mapped}
@@ -28,7 +26,7 @@ use Rattle.jv_client.specs.declared.made.Made.{Made}
 use Rattle.jv_client.specs.declared.made.Made.TheVariants.{Both}
 use Rattle.jv_client.specs.ClientValue.{ClientValue, session_here}
 use Rattle.jv_client.specs.Changing.{TriesChange, TriesCopy, TriesTruncate, copied_to, cut_to, is_change}
-use Rattle.jv_client.specs.Ending.{ended, finished_here, told_here}
+use Rattle.jv_client.specs.Ending.{ended, told_here}
 use Rattle.jv_client.specs.UnderWay.{ClosesOpen, IsReady, changes_files, left}
 use Rattle.jv_client.specs.Makes.{Makes}
 use Rattle.jv_client.specs.Transacting.{EndsUnmade}

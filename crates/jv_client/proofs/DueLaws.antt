@@ -1,5 +1,5 @@
 -- An operation that has flushed, and makes its first request after that: it is a transaction on metadata, or it changes a file.
-use Rattle.std.proofs.Common.{◌≡◌, ℕ, zero, suc, ◌<◌, Bool, true, false, not, IsTrue, List, length, Option, None, Some}
+use Rattle.std.proofs.Common.{◌≡◌, ℕ, zero, suc, ◌<◌, true, false, not, IsTrue, List, length, None, Some}
 use Rattle.std.proofs.Common.{refl, sym, ap, subst, ◌∙◌, arith, rules}
 use Rattle.std.specs.Prelude.{is_some, IfSome, if◌then◌else◌}
 use Rattle.jv_model.specs.declared.op.Op.{Op}
@@ -9,7 +9,7 @@ use Rattle.jv_model.specs.declared.profile.Answer.TheVariants as answer
 use Rattle.jv_model.specs.declared.profile.Does.{Does}
 use Rattle.jv_model.specs.declared.profile.Does.TheVariants as does
 use Rattle.jv_model.specs.script.Spelled.{is_spelled}
-use Rattle.jv_model.specs.client.ModelClient.{ModelClient, Doing as ModelDoing, Stage, Working, file_of}
+use Rattle.jv_model.specs.client.ModelClient.{ModelClient, Doing as ModelDoing, Working, file_of}
 use Rattle.jv_model.specs.client.ModelClient.{is_last_of_removed}
 use Rattle.jv_model.specs.client.Pending.{PendingByte}
 use Rattle.jv_model.specs.client.Profile.{handle_of}

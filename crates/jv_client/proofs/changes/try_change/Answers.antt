@@ -1,5 +1,5 @@
 -- A truncate or a copy of the files of the operation's handles is tried.
-use Rattle.std.proofs.Common.{◌≡◌, sym, ap, subst, ◌∙◌}
+use Rattle.std.proofs.Common.{sym, ap, subst, ◌∙◌}
 use Rattle.jv_data.specs.Truncating.{due_after}
 use Rattle.jv_metadata.specs.Attempts.{mapped}
 use Rattle.jv_handles.specs.Handles.{inode_here}

@@ -1,17 +1,14 @@
 -- A truncate or a copy is made in one step.
-use Rattle.std.proofs.Common.{◌≡◌, IsTrue, Some, Ok, Err, refl, sym, ap, subst, ◌∙◌}
+use Rattle.std.proofs.Common.{◌≡◌, IsTrue, Some, Ok, Err, sym, ap, subst, ◌∙◌}
 use Rattle.std.specs.Prelude.{IfSome}
-use Rattle.jv_model.specs.declared.act.ActKind.TheVariants.{Quiet}
 use Rattle.jv_client.specs.declared.doing.Doing.{Doing}
 use Rattle.jv_client.specs.ClientValue.{ClientValue}
 use Rattle.jv_client.specs.Changing.{TriesChange}
 use Rattle.jv_client.specs.Shared.{shared}
 use Rattle.jv_client.specs.Ending.{told_here}
 use Rattle.jv_client.specs.UnderWay.{ClosesOpen, changes_files}
-use Rattle.jv_client.specs.Transacting.{EndsUnmade}
-use Rattle.jv_client.specs.contracts.client.Client.{the_view}
 use Rattle.jv_client.proofs.ChangingLaws.{blind}
-use Rattle.jv_client.proofs.ChangedLaws.{asks_as, change-made, change-unmade, closes-blind, may-try}
+use Rattle.jv_client.proofs.ChangedLaws.{change-made, change-unmade, closes-blind, may-try}
 use Rattle.jv_client.proofs.client.Client.change.Goals as goal
 
 pub try_change-tried-requires : goal.try_change-tried-requires

@@ -14,7 +14,7 @@ use Rattle.jv_client.specs.ClientValue.{ClientValue}
 use Rattle.jv_client.specs.Shared.{shared}
 use Rattle.jv_client.specs.Ending.{ended, told_here}
 use Rattle.jv_client.specs.UnderWay.{ClosesOpen, asks_more, makes_transaction}
-use Rattle.jv_client.specs.Transacting.{EndsUnmade, answered_here, given_here, handles_given, is_tried, session_given}
+use Rattle.jv_client.specs.Transacting.{EndsUnmade, answered_here, given_here, handles_given, session_given}
 use Rattle.jv_client.specs.Transacting.{sustained_with}
 use Rattle.jv_client.specs.contracts.client.Client.{the_view}
 use Rattle.jv_client.proofs.AnswerLaws.{makes-as, no_memory-makes}
