@@ -31,8 +31,9 @@ use Rattle.jv_client.specs.UnderWay.{ClosesOpen, IsReady, changes_files, left}
 use Rattle.jv_client.specs.Makes.{Makes}
 use Rattle.jv_client.specs.Transacting.{EndsUnmade}
 use Rattle.jv_client.proofs.AnswerLaws.{makes-as}
-use Rattle.jv_client.proofs.ClosingLaws.{closes-open, closes-unseen}
-use Rattle.jv_client.proofs.DueLaws.{ChangesOne, OfCopy, OfTruncate, changes-one, goes_well}
+use Rattle.jv_client.proofs.ClosingLaws.{closes-unseen}
+use Rattle.jv_client.proofs.DueLaws.{ChangesOne, OfCopy, OfTruncate, changes-one}
+use Rattle.jv_client.proofs.FormLaws.{ready-closes}
 use Rattle.jv_client.proofs.ChangingLaws.{blind, copied-makes, copy-unmade, truncate-unmade, truncated-makes}
 
 -- ---- a result that is another one's with its value changed
@@ -45,7 +46,7 @@ mapped-ok f (Err fault) y e = absurd (cc e)
 mapped-err : {A B : Type 0} (f : A → B) (made : Result A TxFault) (fault : TxFault)
     → ◌≡◌ {A = Result B TxFault} (Err fault) (mapped f made) → made ≡ Err fault
 mapped-err f (Ok x) fault e = absurd (cc e)
-mapped-err {A} f (Err other) fault e = 
+mapped-err {A} f (Err other) fault e =
     let same : other ≡ fault = cc e in ap (λ (fault : TxFault). let result : Result A TxFault = Err fault in result) same
 
 -- ---- what is wanted before it
@@ -66,7 +67,7 @@ closes-blind h inode busy ready =
     let doing = the_some h.doing busy in
     let d = doing.0 in
     subst (λ (o : Option Doing). IfSome o (λ (d : Doing). ClosesOpen d.op (blind inode h).handles)) (sym doing.1)
-    (closes-unseen d.op inode h.handles (closes-open h d (goes_well h d doing.1 ready).form))
+    (closes-unseen d.op inode h.handles (ready-closes h d doing.1 ready))
 
 -- ---- the steps
 

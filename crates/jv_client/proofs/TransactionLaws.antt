@@ -57,9 +57,10 @@ use Rattle.jv_client.proofs.HeldLaws.{client-doing, doing_of, holds-later}
 use Rattle.jv_client.proofs.LastLaws.{is_last-same}
 use Rattle.jv_client.proofs.EndingLaws.{holds-told, is_write, keeps_bytes}
 use Rattle.jv_client.proofs.KeptLaws.{cache-goes, held-goes, told-client}
-use Rattle.jv_client.proofs.ClosingLaws.{closes-given, closes-open}
+use Rattle.jv_client.proofs.ClosingLaws.{closes-given}
 use Rattle.jv_client.proofs.DueLaws.{IsFirst, MakesOne, OfMount, OfMetadata, first-flushed, first-stage}
-use Rattle.jv_client.proofs.DueLaws.{goes_well, makes-one, one-transacts, transaction-first}
+use Rattle.jv_client.proofs.DueLaws.{makes-one, one-transacts, transaction-first}
+use Rattle.jv_client.proofs.FormLaws.{ready-closes}
 use Rattle.jv_client.proofs.UnmadeLaws.{UnmadeLeads, unmade, uses-keeper}
 use Rattle.jv_client.proofs.GiftLaws.{IsGift, among-kept, held-given, holds-given}
 
@@ -341,4 +342,4 @@ module _ (now : ℕ) (h : ClientValue) (d : Doing) (busy : h.doing ≡ Some d) (
 pub given-open : (h : ClientValue) (d : Doing) (entry : ℕ) (gift : Gift) → h.doing ≡ Some d → IsReady h
     → ClosesOpen d.op (handles_given entry gift h.handles)
 given-open h d entry gift busy ready =
-    closes-given d.op entry gift h.handles (closes-open h d (goes_well h d busy ready).form)
+    closes-given d.op entry gift h.handles (ready-closes h d busy ready)
