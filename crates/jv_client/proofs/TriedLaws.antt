@@ -20,7 +20,7 @@ use Rattle.jv_metadata.specs.declared.answers.Answer.{Answer}
 use Rattle.jv_metadata.specs.Attempts.{Asks, TellsKept, attempt, mapped, plain}
 use Rattle.jv_metadata.proofs.AttemptLaws.{transacts-always}
 use Rattle.jv_client.specs.ClientValue.{ClientValue, session_here}
-use Rattle.jv_client.specs.Held.{held_here, inode_here}
+use Rattle.jv_handles.specs.Handles.{held_here, inode_here}
 use Rattle.jv_client.specs.Transacting.{IsCaller, Attempts}
 
 -- the answer of a mount
