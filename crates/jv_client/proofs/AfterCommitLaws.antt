@@ -44,7 +44,7 @@ module _ (h : ClientValue) (segment : Segment) where
       let open_yet = unseen-open segment.inode file in (
         open_yet.0,
         file_of-unseen segment.inode h.handles handle ∙ ap (unseen segment.inode) opened ∙ open_yet.1,
-        open_yet.2.0,
+        open_yet.2,
       )
 
   pub closes-without : (o : Op) → ClosesOpen o h.handles → ClosesOpen o between.handles

@@ -62,19 +62,19 @@ by-alone : (d : Doing) (kind : ActKind) (h after : ClientValue) (pending : Pendi
     → IsWrittenAlone d.op h.handles h.limits.buffer (Some pending)
     → after ≡ record h { pending = pending.bytes; doing = None }
     → Follows d kind h after (made.Both kind (Fine (length pending.bytes) 0 0 0) (Count (length pending.bytes)))
-by-alone d kind h after pending none (Other no same) after_is =
+by-alone d kind h after pending none (Other other same) after_is =
     absurd (let f : ◌≡◌ {A = Option PendingValue} (Some pending) None = same in cc)
 by-alone d kind h after pending none (Write bytes some same) after_is =
     let is : pending ≡ record { bytes = bytes; limit = h.limits.buffer } =
     (let f : ◌≡◌ {A = Option PendingValue} (Some pending) (Some (record { bytes = bytes; limit = h.limits.buffer })) = same
     in cc) in
     let by = alone-write d.op h.handles bytes some in
-    let given : List ℕ = by.2.2.0 in
-    let bytes_are : pending.bytes ≡ written (inode_here h.handles by.0) by.2.0 given [] =
-    ap (λ (p : PendingValue). p.bytes) is ∙ by.2.2.2.1 in
+    let given : List ℕ = by.2 in
+    let bytes_are : pending.bytes ≡ written (inode_here h.handles by.0) by.1 given [] =
+    ap (λ (p : PendingValue). p.bytes) is ∙ by.4 in
     let long : length pending.bytes ≡ length given =
-    ap length bytes_are ∙ length-alone (inode_here h.handles by.0) by.2.0 given in
-    Writes by.0 by.2.0 given none by.2.2.2.0
+    ap length bytes_are ∙ length-alone (inode_here h.handles by.0) by.1 given in
+    Writes by.0 by.1 given none by.3
     (after_is ∙ ap (λ (bytes : List PendingByte). record h { pending = bytes; doing = None }) bytes_are)
     (ap (λ n. made.Both kind (Fine n 0 0 0) (Count n)) long)
 
@@ -85,13 +85,13 @@ by-next d kind h after pending none (Last few alone) after_is = by-alone d kind 
 by-next d kind h after pending none (NotLast some same) after_is =
     absurd (let f : ◌≡◌ {A = Option PendingValue} (Some pending) None = same in cc)
 
-pub follows-write : (o : Option Doing) (kind : ActKind) (h after : ClientValue) (pending : PendingValue) (told : Told)
-    (said : Reply) → left h ≡ None → IfSome o (λ d. NextOf d 0 h (Some pending))
+pub follows-write : (o : Option Doing) (kind : ActKind) (h after : ClientValue) (pending : PendingValue)
+    (answer : Told × Reply) → left h ≡ None → IfSome o (λ d. NextOf d 0 h (Some pending))
     → after ≡ record h { pending = pending.bytes; doing = None }
-    → (told, said) ≡ (Fine (length pending.bytes) 0 0 0, Count (length pending.bytes))
-    → IfSome o (λ d. Follows d kind h after (made.Both kind told said))
-follows-write None kind h after pending told said none next after_is same = tt
-follows-write (Some d) kind h after pending told said none next after_is same =
+    → ◌≡◌ {A = Told × Reply} answer (Fine (length pending.bytes) 0 0 0, Count (length pending.bytes))
+    → IfSome o (λ d. Follows d kind h after (made.Both kind answer.0 answer.1))
+follows-write None kind h after pending answer none next after_is same = tt
+follows-write (Some d) kind h after pending answer none next after_is same =
     subst (λ (pair : Told × Reply). Follows d kind h after (made.Both kind pair.0 pair.1)) (sym same)
     (by-next d kind h after pending none next after_is)
 

@@ -4,6 +4,7 @@ use Rattle.std.specs.Prelude.{IfSome, IsSome}
 use Rattle.jv_model.specs.declared.act.ActKind.TheVariants.{Commit, Quiet}
 use Rattle.jv_model.specs.declared.fault.Fault.TheVariants.{NoMemory}
 use Rattle.jv_model.specs.declared.fault.TxFault.{TxFault}
+use Rattle.jv_model.specs.declared.slice.Rec.{Rec}
 use Rattle.jv_model.specs.blocks.Slices.{block_count}
 use Rattle.jv_model.specs.client.Pending.{Segment}
 use Rattle.jv_outside.specs.Carriage.{Carriage}
@@ -28,8 +29,8 @@ use Rattle.jv_client.proofs.AfterCommitLaws.{closes-without}
 use Rattle.jv_client.proofs.AnswerLaws.{no_memory-makes}
 use Rattle.jv_client.proofs.CommitLaws.{IsCommit, record_for}
 use Rattle.jv_client.proofs.CommittedLaws.{follows}
-use Rattle.jv_client.proofs.FormLaws.{closes-open}
-use Rattle.jv_client.proofs.GoesOnLaws.{in_progress, under_way}
+use Rattle.jv_client.proofs.FormLaws.{closes-open, under_way}
+use Rattle.jv_client.proofs.GoesOnLaws.{in_progress}
 use Rattle.jv_client.proofs.RefusedCommitLaws.{refuses-commit}
 
 module _ (h : ClientValue) (at : SegmentAt) (quiets started id block : ℕ) (ready : IsReady h)
@@ -96,6 +97,15 @@ module _ (h after : ClientValue) (keeper later : Store) (yard : YardValue) (carr
       refuses-commit h here.0 (shared keeper yard carrier) later at now quiets started id
       (commit-here h at quiets started id yard.setting.block ready busy asked next some long put here.0 here.1 here.2) ready
       sid own entry after fault outcome commits ends
+
+-- the same call under other names
+pub commits-as : (sid now at_moment inode window : ℕ) (rec whole : Rec) (started : ℕ) (before after : Store)
+    (result : Result (Unit {0}) TxFault) → at_moment ≡ now → rec ≡ whole
+    → CommitsRecord sid at_moment inode window rec started before after result
+    → CommitsRecord sid now inode window whole started before after result
+commits-as sid now at_moment inode window rec whole started before after result same_now same commits =
+    subst (λ n. CommitsRecord sid n inode window whole started before after result) same_now
+    (subst (λ (r : Rec). CommitsRecord sid at_moment inode window r started before after result) same commits)
 
 -- out of memory before it
 pub unasked-call : (now entry : ℕ) (h after : ClientValue) (v : Shared) (at : Progress) (outcome : Made) → IsReady h

@@ -30,10 +30,10 @@ pub mod LeftLaws
 pub mod UnmadeLaws
 pub mod FlushLaws
 pub mod PutBlockLaws
-pub mod ChangingLaws
-pub mod ChangedLaws
 pub mod RefusedCommitLaws
 pub mod CommitCallLaws
+pub mod ChangingLaws
+pub mod ChangedLaws
 pub mod ReadingLaws
 pub mod ShowLaws
 pub mod FormLaws

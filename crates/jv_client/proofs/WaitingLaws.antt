@@ -1,7 +1,8 @@
 -- A write that waits for room: its bytes fit into a buffer of their own, and what is pending after the last commit is known before it.
 use Rattle.std.proofs.Common.{◌≡◌, ℕ, ◌+◌, ◌≤◌, ◌<◌, true, false, List, [], length, map, Option, None, Some, refl, sym, ap}
+use Rattle.std.proofs.Common.{Result, Ok, Err}
 use Rattle.std.proofs.Common.{subst, ◌∙◌, arith}
-use Rattle.std.specs.Prelude.{IfSome, IsTrue}
+use Rattle.std.specs.Prelude.{IfOk, IfSome, IsTrue}
 use Rattle.jv_model.specs.declared.limits.TheConstants.{FILE_END}
 use Rattle.jv_model.specs.declared.op.Op.{Op}
 use Rattle.jv_model.specs.declared.op.Op.TheVariants as op
@@ -19,7 +20,7 @@ use Rattle.jv_client.specs.UnderWay.{HasRoom, Beside, Alone, IsForm, Mounts, Tra
 use Rattle.jv_client.specs.UnderWay.{TellsStats, IsReady, is_transaction}
 use Rattle.jv_client.specs.Flushing.{IfWrite, IsWrittenAlone, Other, Write, NextOf, Last, NotLast, without_segment}
 use Rattle.jv_client.specs.Flushing.{written_alone}
-use Rattle.jv_client.proofs.GoesOnLaws.{under_way}
+use Rattle.jv_client.proofs.FormLaws.{under_way}
 
 -- ---- its bytes fit
 
@@ -62,17 +63,39 @@ pub fits-here : (h : ClientValue) (d : Doing) → h.doing ≡ Some d → IsReady
     → IfWrite d.op (λ handle offset bytes. (offset + length bytes ≤ FILE_END) × (length bytes ≤ h.limits.buffer))
 fits-here h d busy ready = form-fits h d (under_way h d busy ready).form
 
+-- ---- its bytes as all that is pending
+
+written-op : (o : Op) (handles : List (Option Handle)) (handle offset : ℕ) (bytes : List ℕ)
+    → o ≡ op.Write handle offset bytes
+    → written_alone o handles ≡ Some (written (inode_here handles handle) offset bytes [])
+written-op o handles handle offset bytes e = ap (λ o. written_alone o handles) e
+
+pub alone-of : (o : Op) (handles : List (Option Handle)) (handle offset : ℕ) (bytes : List ℕ) (limit inode : ℕ)
+    (before after : PendingValue) → o ≡ op.Write handle offset bytes → inode ≡ inode_here handles handle
+    → before.bytes ≡ [] → before.limit ≡ limit → after ≡ record before { bytes = written inode offset bytes before.bytes }
+    → IsWrittenAlone o handles limit (Some after)
+alone-of o handles handle offset bytes limit inode before after of_op own none same wrote =
+    Write (written (inode_here handles handle) offset bytes []) (written-op o handles handle offset bytes of_op)
+    (ap Some wrote ∙ ap (λ n. Some (let p : PendingValue = record before { bytes = written n offset bytes before.bytes } in p)) own
+    ∙ ap (λ pending. Some (let p : PendingValue =
+    record before { bytes = written (inode_here handles handle) offset bytes pending } in p)) none
+    ∙ ap (λ n. Some (let p : PendingValue = record {
+      bytes = written (inode_here handles handle) offset bytes [];
+      limit = n;
+    } in p)) same)
+
 -- ---- what is pending after the last commit
 
-pub next-last : (o : Option Doing) (d : Doing) (h : ClientValue) (len : ℕ) (next : Option PendingValue) → o ≡ Some d
-    → length h.pending ≤ len → IsWrittenAlone d.op h.handles h.limits.buffer next → IfSome o (λ d. NextOf d len h next)
-next-last o d h len next is few alone =
-    subst (λ (o : Option Doing). IfSome o (λ d. NextOf d len h next)) (sym is) (Last few alone)
-
-pub next-not_last : (o : Option Doing) (h : ClientValue) (len : ℕ) → len < length h.pending
-    → IfSome o (λ d. NextOf d len h None)
-next-not_last None h len more = tt
-next-not_last (Some d) h len more = NotLast more refl
+-- before its last segment is committed
+pub next-of_last : {E : Type 0} (h : ClientValue) (d : Doing) (len : ℕ) (handles : List (Option Handle)) (limit : ℕ)
+    (result : Result (Option PendingValue) E) → h.doing ≡ Some d → length h.pending ≤ len → handles ≡ h.handles
+    → limit ≡ h.limits.buffer → IfOk result (λ next. IsWrittenAlone d.op handles limit next)
+    → IfOk result (λ next. IfSome h.doing (λ d. NextOf d len h next))
+next-of_last h d len handles limit (Err e) busy few same_handles same_limit alone = tt
+next-of_last h d len handles limit (Ok next) busy few same_handles same_limit alone =
+    subst (λ (o : Option Doing). IfSome o (λ d. NextOf d len h next)) (sym busy)
+    (Last few (subst (λ n. IsWrittenAlone d.op h.handles n next) same_limit
+    (subst (λ (handles : List (Option Handle)). IsWrittenAlone d.op handles limit next) same_handles alone)))
 
 module _ (h : ClientValue) (segment : Segment) where
   abbrev between : ClientValue

@@ -1,6 +1,8 @@
 -- A client without a segment that it committed stands for the model's without it.
-use Rattle.std.proofs.Common.{◌≡◌, ℕ, ◌≤◌, List, [], ◌∷◌, not, map, ap}
-use Rattle.std.specs.List.{AllByRecursion}
+use Rattle.std.proofs.Common.{◌≡◌, ℕ, ◌+◌, ◌≤◌, Bool, List, [], ◌∷◌, not, map, length, refl, ap, ◌∙◌}
+use Rattle.std.specs.List.{AllByRecursion, filter}
+use Rattle.std.proofs.lemmas.List.Filters.{length-filter_both}
+use Rattle.std.proofs.lemmas.List.{length-map}
 use Rattle.jv_model.specs.tree.Tree.{Tree}
 use Rattle.jv_model.specs.client.Pending.{PendingByte, Segment, is_in_range, without_range}
 use Rattle.jv_model.specs.client.ModelClient.{ModelClient, views_without}
@@ -13,9 +15,18 @@ use Rattle.jv_handles.proofs.SeenLaws.{views-later, views-left}
 use Rattle.jv_steps.specs.WithoutCommitted.{without_committed}
 use Rattle.jv_client.specs.ClientValue.{ClientValue}
 use Rattle.jv_client.specs.Held.{IsHeld, Holds}
-use Rattle.jv_client.specs.Flushing.{without_segment}
+use Rattle.jv_client.specs.Flushing.{bytes_of, without_segment}
 use Rattle.jv_client.proofs.HeldLaws.{holds-later}
 use Rattle.jv_client.proofs.NextSegmentLaws.{kept-some}
+
+-- The segment's bytes and the others are all that was pending.
+pub length-parted : (segment : Segment) (pending : List PendingByte)
+    → length (bytes_of segment pending) + length (without_range segment.inode segment.from segment.len pending)
+    ≡ length pending
+length-parted segment pending =
+    let own : PendingByte → Bool = is_in_range segment.inode segment.from segment.len in
+    ap (λ n. n + length (filter (λ b. not (own b)) pending)) (length-map (filter own pending) (λ (b : PendingByte). b.byte))
+    ∙ length-filter_both own (λ b. not (own b)) (λ b. refl) pending
 
 module _ (segment : Segment) where
   -- the model's client without it

@@ -14,4 +14,9 @@ returns-in-Ok g c entry yard carrier =
     c.request.ensures.asked c.request.ensures.made
 
 pub returns : goal.returns
-returns g c entry yard carrier = ?
+returns g c entry yard carrier =
+    let at = c.requires.busy in
+    number-unmade c.args.now entry c.args.self.now c.unmade.new.self (shared (g.K.Keeper.seen c.args.k.now) yard carrier)
+    (g.K.Keeper.seen c.next_id.new.k) c.who-who.result.sid at.0 at.1 c.unmade.result c.requires.ready at.2
+    c.requires.next (ap (λ (who : Who). who.sid) c.who-who.ensures) c.in-Err.fault c.in-Err.ensures.taken
+    c.unmade.ensures
