@@ -1,6 +1,6 @@
 -- What a commit leaves of its client where the operation goes on: it goes on well, and fewer requests are left.
-use Rattle.std.proofs.Common.{◌≡◌, ℕ, ◌+◌, ◌*◌, ◌-◌, ◌≤◌, ◌<◌, Bool, true, false, ◌||◌, not, IsTrue, List, length, map}
-use Rattle.std.proofs.Common.{Option, None, Some, refl, sym, ap, subst, ◌∙◌, arith}
+use Rattle.std.proofs.Common.{◌≡◌, ℕ, ◌+◌, ◌*◌, ◌-◌, ◌≤◌, ◌<◌, true, false, ◌||◌, length}
+use Rattle.std.proofs.Common.{Option, None, Some, refl, sym, ap, ◌∙◌, arith}
 use Rattle.std.specs.Prelude.{is_some, IfSome}
 use Rattle.std.proofs.lemmas.Bool.{not-false}
 use Rattle.jv_model.specs.declared.op.Op.{Op}
@@ -13,20 +13,17 @@ use Rattle.jv_model.specs.client.Profile.{handle_of}
 use Rattle.jv_model.specs.client.ModelClient.{file_of}
 use Rattle.jv_handles.specs.declared.handle.Handle.{Handle}
 use Rattle.jv_handles.specs.Handles.{unseen}
-use Rattle.jv_handles.specs.Views.{no_views}
 use Rattle.jv_handles.proofs.UnseenLaws.{file_of-unseen, some-unseen, unseen-open, unseen-own}
 use Rattle.jv_client.specs.declared.doing.Doing.{Doing}
-use Rattle.jv_client.specs.declared.doing.Flush.{Flush}
 use Rattle.jv_client.specs.declared.doing.Flush.TheVariants as flush
-use Rattle.jv_client.specs.declared.doing.Progress.{Progress}
 use Rattle.jv_client.specs.declared.doing.Progress.TheVariants as progress
 use Rattle.jv_client.specs.ClientValue.{ClientValue}
 use Rattle.jv_client.specs.Held.{is_last_here, segment_left}
 use Rattle.jv_client.specs.UnderWay.{FlushesFor, Closes, Syncs, Describes, ReadsNothing, Reads}
 use Rattle.jv_client.specs.UnderWay.{Truncates as FlushTruncates}
-use Rattle.jv_client.specs.UnderWay.{HasRoom, Beside, Alone, IsForm, Mounts, Transacts, Leaves, Writes, Flushes, Copies}
-use Rattle.jv_client.specs.UnderWay.{TellsStats, IsWorking, IsUnderWay, IsReady, ClosesOpen, asks_more, ends_itself}
-use Rattle.jv_client.specs.UnderWay.{has_not_seen, has_segment, left, left_of, moved_to, reading_steps, steps_in, steps_left}
+use Rattle.jv_client.specs.UnderWay.{IsForm, Mounts, Transacts, Leaves, Writes, Flushes, Copies}
+use Rattle.jv_client.specs.UnderWay.{TellsStats, IsUnderWay, ClosesOpen, asks_more, ends_itself}
+use Rattle.jv_client.specs.UnderWay.{has_not_seen, has_segment, moved_to, reading_steps, steps_in, steps_left}
 use Rattle.jv_client.specs.Flushing.{without_segment}
 use Rattle.jv_client.proofs.GoesOnLaws.{Continues, form-on}
 use Rattle.jv_client.proofs.NextSegmentLaws.{own_file}
@@ -58,7 +55,7 @@ module _ (h : ClientValue) (segment : Segment) where
 
 -- ---- what the operation asks for after its last segment
 
-pub names_it : (d : Doing) (handle : ℕ) → FlushesFor d handle → handle_of d.op ≡ handle
+names_it : (d : Doing) (handle : ℕ) → FlushesFor d handle → handle_of d.op ≡ handle
 names_it d handle (Closes o e) = ap handle_of o
 names_it d handle (Syncs o e) = ap handle_of o
 names_it d handle (Describes o e) = ap handle_of o
@@ -68,7 +65,7 @@ names_it d handle (FlushTruncates len o e) = ap handle_of o
 
 module _ (h : ClientValue) (d : Doing) where
   -- what an operation that goes on asks for, where a reading has no view of its first window
-  pub asks-then : IsForm h d → (c : ClientValue) → ends_itself c d ≡ false
+  asks-then : IsForm h d → (c : ClientValue) → ends_itself c d ≡ false
       → ((offset len : ℕ) → d.does ≡ does.Reads offset len
       → has_not_seen offset (file_of c.handles (handle_of d.op)) ≡ true)
       → asks_more c d ≡ true

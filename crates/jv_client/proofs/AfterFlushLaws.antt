@@ -1,5 +1,5 @@
 -- What comes after a commit: another segment, the answer, or the operation's own requests.
-use Rattle.std.proofs.Common.{◌≡◌, ℕ, ◌≤◌, ◌<◌, false, true, List, [], length, Option, None, Some, refl, sym, ap, subst, ◌∙◌}
+use Rattle.std.proofs.Common.{◌≡◌, ℕ, ◌≤◌, false, true, List, [], length, Option, None, Some, refl, sym, ap, subst, ◌∙◌}
 use Rattle.std.proofs.Common.{arith}
 use Rattle.std.specs.Prelude.{is_some, IfSome}
 use Rattle.std.specs.Option.{option_map}
@@ -21,7 +21,7 @@ use Rattle.jv_client.specs.declared.doing.Progress.TheVariants.{Working}
 use Rattle.jv_client.specs.declared.made.Made.{Made}
 use Rattle.jv_client.specs.declared.made.Made.TheVariants as made
 use Rattle.jv_client.specs.ClientValue.{ClientValue}
-use Rattle.jv_client.specs.UnderWay.{Ends, Answered as EndsAnswered, GoesOn as EndsNot, answer_here, ends_itself, left}
+use Rattle.jv_client.specs.UnderWay.{Ends, Answered as EndsAnswered, GoesOn as EndsNot, answer_here, left}
 use Rattle.jv_client.specs.UnderWay.{moved_to}
 use Rattle.jv_client.specs.Flushing.{Follows, Answers, Writes, GoesOn, IsWrittenAlone, Other, Write, NextOf, Last, NotLast}
 use Rattle.jv_client.specs.Flushing.{written_alone}

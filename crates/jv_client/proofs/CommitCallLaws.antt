@@ -1,6 +1,6 @@
 -- A commit as the code makes it: of the segment that the operation in progress commits next.
-use Rattle.std.proofs.Common.{◌≡◌, ℕ, ◌+◌, ◌≤◌, ◌<◌, length, Option, None, Some, Result, Ok, Err, refl, sym, ap, subst, ◌∙◌}
-use Rattle.std.specs.Prelude.{IfSome, IsSome}
+use Rattle.std.proofs.Common.{◌≡◌, ℕ, ◌+◌, ◌≤◌, ◌<◌, length, Option, None, Some, Result, Ok, Err, sym, ap, subst, ◌∙◌}
+use Rattle.std.specs.Prelude.{IfSome}
 use Rattle.jv_model.specs.declared.act.ActKind.TheVariants.{Commit, Quiet}
 use Rattle.jv_model.specs.declared.fault.Fault.TheVariants.{NoMemory}
 use Rattle.jv_model.specs.declared.fault.TxFault.{TxFault}
@@ -41,7 +41,7 @@ module _ (h : ClientValue) (at : SegmentAt) (quiets started id block : ℕ) (rea
       → quiets ≤ 1 + at.len
   few-of o e few = subst (λ (o : Option Segment). IfSome o (λ segment. quiets ≤ 1 + segment.len)) e few
 
-  pub commit-here : (d : Doing) → h.doing ≡ Some d → d.progress ≡ progress.Working quiets started id
+  commit-here : (d : Doing) → h.doing ≡ Some d → d.progress ≡ progress.Working quiets started id
       → IsCommit h d block at quiets started id
   commit-here d doing at_is =
       let way = under_way h d doing ready in

@@ -1,41 +1,27 @@
 -- A commit that was made: where its step leads, and what it leaves of its client.
-use Rattle.std.proofs.Common.{◌≡◌, ℕ, zero, suc, ◌+◌, ◌-◌, ◌≤◌, ◌<◌, true, false, List, [], ◌∷◌, length, map}
+use Rattle.std.proofs.Common.{◌≡◌, ℕ, zero, suc, ◌+◌, ◌-◌, ◌≤◌, ◌<◌, List, [], ◌∷◌, length}
 use Rattle.std.proofs.Common.{Option, None, Some, Ok, refl, sym, ap, subst, ◌∙◌, arith}
-use Rattle.std.specs.Prelude.{IfSome, unwrap_or}
+use Rattle.std.specs.Prelude.{unwrap_or}
 use Rattle.jv_model.specs.declared.act.ActKind.{ActKind}
 use Rattle.jv_model.specs.declared.act.ActKind.TheVariants.{Answered, Commit}
-use Rattle.jv_model.specs.declared.act.Told.{Told}
-use Rattle.jv_model.specs.declared.act.Told.TheVariants.{Fine}
-use Rattle.jv_model.specs.declared.fault.Device.{Device}
-use Rattle.jv_model.specs.declared.fault.Device.TheVariants as device
-use Rattle.jv_model.specs.declared.op.Op.{Op}
-use Rattle.jv_model.specs.declared.op.Op.TheVariants as op
 use Rattle.jv_model.specs.declared.op.Reply.{Reply}
-use Rattle.jv_model.specs.declared.op.Reply.TheVariants as reply
 use Rattle.jv_model.specs.declared.op.Step.{Step}
 use Rattle.jv_model.specs.declared.op.Step.TheVariants.{More, Done}
-use Rattle.jv_model.specs.declared.profile.Answer.TheVariants as answer
-use Rattle.jv_model.specs.declared.profile.Does.{Does}
-use Rattle.jv_model.specs.declared.profile.Does.TheVariants as does
 use Rattle.jv_model.specs.declared.slice.Rec.{Rec}
 use Rattle.jv_model.specs.blocks.Slices.{block_count}
 use Rattle.jv_model.specs.tree.Tree.{Tree}
 use Rattle.jv_model.specs.tree.FileBytes.{committed}
-use Rattle.jv_model.specs.client.Pending.{PendingByte, Segment, bytes_in_range, without_range, written}
-use Rattle.jv_model.specs.client.Profile.{handle_of}
+use Rattle.jv_model.specs.client.Pending.{PendingByte, Segment, bytes_in_range, without_range}
 use Rattle.jv_model.specs.client.Submission.{next_segment}
-use Rattle.jv_model.specs.client.ModelClient.{ModelClient, Doing as ModelDoing, Working, file_of, session_of}
+use Rattle.jv_model.specs.client.ModelClient.{ModelClient, Working, session_of}
 use Rattle.jv_model.specs.journal.State.{State, answer_then, finished}
 use Rattle.jv_model.specs.journal.Steps.{told_of}
-use Rattle.jv_outside.specs.Causes.{RoseIf}
 use Rattle.jv_outside.specs.Store.{Store}
 use Rattle.jv_pending.specs.declared.segment.SegmentAt.{SegmentAt}
 use Rattle.jv_pending.specs.At.{segment_at}
 use Rattle.jv_contents.specs.Flights.{Flight, IsComplete}
 use Rattle.jv_data.specs.Records.{CommitsRecord}
 use Rattle.jv_slices.proofs.BlockLaws.{index_below}
-use Rattle.jv_handles.specs.declared.handle.Handle.{Handle}
-use Rattle.jv_handles.specs.Handles.{inode_here}
 use Rattle.jv_shared.specs.Flying.{Flies}
 use Rattle.jv_shared.specs.Shared.{HasStore, Known, Shared}
 use Rattle.jv_shared.proofs.StoreLaws.{block_some}
@@ -44,21 +30,14 @@ use Rattle.jv_requests.specs.Request.{Request}
 use Rattle.jv_requests.proofs.CommitLaws.{committed-answered, committed-left, committed-then}
 use Rattle.jv_client.specs.declared.doing.Doing.{Doing}
 use Rattle.jv_client.specs.declared.doing.Flush.{Flush}
-use Rattle.jv_client.specs.declared.doing.Progress.{Progress}
 use Rattle.jv_client.specs.declared.doing.Progress.TheVariants as progress
-use Rattle.jv_client.specs.declared.made.Made.{Made}
-use Rattle.jv_client.specs.declared.made.Made.TheVariants as made
 use Rattle.jv_client.specs.ClientValue.{ClientValue, session_here}
-use Rattle.jv_client.specs.Ending.{told_here}
-use Rattle.jv_client.specs.Held.{IsHeld, IsClient, IsOnWay, Holds, flight_by, flight_from, flight_in, flight_of, flush_of_code}
+use Rattle.jv_client.specs.Held.{IsClient, IsOnWay, flight_by, flight_from, flight_in, flight_of, flush_of_code}
 use Rattle.jv_client.specs.Held.{in_flight, number_of, segment_left, stage_of}
-use Rattle.jv_client.specs.UnderWay.{IsForm, IsReady, IsUnderWay, answer_here, ends_itself, moved_to}
-use Rattle.jv_client.specs.Makes.{HasNoFailure, Makes, StepsTo, TellsBad, UsesDevices, asks_nothing, faults_of}
-use Rattle.jv_client.specs.Makes.{is_failure_of, step_of, tells_failure}
+use Rattle.jv_client.specs.UnderWay.{IsUnderWay}
 use Rattle.jv_client.specs.Flushing.{bytes_of, without_segment}
-use Rattle.jv_client.proofs.HeldLaws.{client-doing, doing_of, held-doing, holds-doing}
-use Rattle.jv_client.proofs.KeptLaws.{IsCached, moved-client}
-use Rattle.jv_client.proofs.WithoutLaws.{held-without, holds-without, left_of_model}
+use Rattle.jv_client.proofs.HeldLaws.{client-doing, doing_of}
+use Rattle.jv_client.proofs.WithoutLaws.{left_of_model}
 
 -- ---- the slice in flight
 

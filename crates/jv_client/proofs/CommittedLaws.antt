@@ -1,7 +1,6 @@
 -- A commit that was made, and what follows it: another request, the answer, or the end of a write that had to wait for room.
-use Rattle.std.proofs.Common.{◌≡◌, ℕ, ◌+◌, ◌≤◌, ◌<◌, true, false, List, [], ◌∷◌, length}
+use Rattle.std.proofs.Common.{◌≡◌, ℕ, ◌+◌, ◌≤◌, true, false, List, [], ◌∷◌, length}
 use Rattle.std.proofs.Common.{Option, None, Some, Ok, refl, sym, ap, subst, ◌∙◌, arith}
-use Rattle.std.specs.Prelude.{IfSome, IsTrue}
 use Rattle.jv_model.specs.declared.act.ActKind.{ActKind}
 use Rattle.jv_model.specs.declared.act.ActKind.TheVariants.{Answered, Commit}
 use Rattle.jv_model.specs.declared.act.Told.{Told}
@@ -19,16 +18,14 @@ use Rattle.jv_model.specs.declared.profile.Does.TheVariants as does
 use Rattle.jv_model.specs.tree.Tree.{Tree}
 use Rattle.jv_model.specs.client.Pending.{PendingByte, Segment, written}
 use Rattle.jv_model.specs.client.Profile.{handle_of}
-use Rattle.jv_model.specs.client.ModelClient.{ModelClient, Doing as ModelDoing, Working, is_last_of_removed}
+use Rattle.jv_model.specs.client.ModelClient.{ModelClient, Working, is_last_of_removed}
 use Rattle.jv_model.specs.journal.State.{State, after_told, answer_then, finished}
 use Rattle.jv_model.specs.journal.Steps.{told_of}
 use Rattle.jv_outside.specs.Causes.{RoseIf}
 use Rattle.jv_outside.specs.Store.{Store}
-use Rattle.jv_volume.specs.Holding.{Stays}
 use Rattle.jv_volume.proofs.HoldingLaws.{stays-committed}
 use Rattle.jv_pending.specs.declared.segment.SegmentAt.{SegmentAt}
 use Rattle.jv_data.specs.Records.{CommitsRecord}
-use Rattle.jv_handles.specs.declared.handle.Handle.{Handle}
 use Rattle.jv_handles.specs.Handles.{inode_here}
 use Rattle.jv_shared.specs.Shared.{HasStore, Known, Shared}
 use Rattle.jv_shared.proofs.KeepingLaws.{stays-none}
@@ -41,16 +38,16 @@ use Rattle.jv_client.specs.declared.made.Made.TheVariants as made
 use Rattle.jv_client.specs.ClientValue.{ClientValue, session_here}
 use Rattle.jv_client.specs.Ending.{told_here}
 use Rattle.jv_client.specs.Held.{IsHeld, IsClient, Holds, in_flight, is_last_here, segment_left}
-use Rattle.jv_client.specs.UnderWay.{IsReady, IsUnderWay, answer_here, ends_itself, left, left_of, moved_to}
-use Rattle.jv_client.specs.Makes.{HasNoFailure, Makes, StepsTo, TellsBad, UsesDevices, asks_nothing, faults_of}
+use Rattle.jv_client.specs.UnderWay.{IsReady, answer_here, ends_itself, left, left_of, moved_to}
+use Rattle.jv_client.specs.Makes.{Makes, StepsTo, TellsBad, UsesDevices, asks_nothing, faults_of}
 use Rattle.jv_client.specs.Makes.{is_failure_of, step_of, tells_failure}
 use Rattle.jv_client.specs.Flushing.{Follows, Answers, Writes, GoesOn, written_alone}
 use Rattle.jv_client.proofs.AfterCommitLaws.{falls-without, way-without}
 use Rattle.jv_client.proofs.AnswerLaws.{Rests, makes-as, makes-ended, rests-flight, told-rests}
-use Rattle.jv_client.proofs.CommitLaws.{IsCommit, grown, kind, leads-answered, leads-left, leads-then, mine}
+use Rattle.jv_client.proofs.CommitLaws.{IsCommit, grown, leads-answered, leads-left, leads-then}
 use Rattle.jv_client.proofs.CommitLaws.{number-is, record_for, rest, segment, used, without}
 use Rattle.jv_client.proofs.EndingLaws.{holds-told, is_write, keeps_bytes}
-use Rattle.jv_client.proofs.EndsAfterLaws.{IsAnswer, WaitsToWrite, answered-so, goes-on, told-same, waits-to_write}
+use Rattle.jv_client.proofs.EndsAfterLaws.{answered-so, goes-on, told-same, waits-to_write}
 use Rattle.jv_client.proofs.HeldLaws.{doing_of, holds-doing}
 use Rattle.jv_client.proofs.KeptLaws.{moved-client, told-client}
 use Rattle.jv_client.proofs.LastLaws.{is_last-same}

@@ -1,12 +1,10 @@
 -- The answer of an operation after its flush is the model's.
-use Rattle.std.proofs.Common.{◌≡◌, ℕ, ◌≤◌, Bool, true, false, not, IsTrue, List, [], ◌∷◌, length, Option, None, Some, refl}
+use Rattle.std.proofs.Common.{◌≡◌, ℕ, ◌≤◌, true, false, List, [], ◌∷◌, length, None, Some, refl}
 use Rattle.std.proofs.Common.{sym, ap, subst, ◌∙◌, arith}
 use Rattle.std.specs.Prelude.{if◌then◌else◌, is_some}
 use Rattle.std.proofs.lemmas.Bool.{not-false, not-true}
-use Rattle.jv_model.specs.declared.act.Told.{Told}
 use Rattle.jv_model.specs.declared.op.Op.{Op}
 use Rattle.jv_model.specs.declared.op.Op.TheVariants as op
-use Rattle.jv_model.specs.declared.op.Reply.{Reply}
 use Rattle.jv_model.specs.declared.op.Reply.TheVariants as reply
 use Rattle.jv_model.specs.declared.profile.Answer.TheVariants as answer
 use Rattle.jv_model.specs.declared.profile.Does.{Does}
@@ -14,11 +12,10 @@ use Rattle.jv_model.specs.declared.profile.Does.TheVariants as does
 use Rattle.jv_model.specs.client.Pending.{PendingByte, Segment, first_segment}
 use Rattle.jv_model.specs.client.Profile.{handle_of}
 use Rattle.jv_model.specs.client.ModelClient.{ModelClient, file_of, is_last_of_removed}
-use Rattle.jv_model.specs.journal.State.{after_told, answer_then, finished}
+use Rattle.jv_model.specs.journal.State.{answer_then}
 use Rattle.jv_model.specs.journal.Steps.{told_of}
 use Rattle.jv_handles.specs.declared.handle.Handle.{Handle}
 use Rattle.jv_client.specs.declared.doing.Doing.{Doing}
-use Rattle.jv_client.specs.declared.doing.Flush.{Flush}
 use Rattle.jv_client.specs.declared.doing.Flush.TheVariants as flush
 use Rattle.jv_client.specs.ClientValue.{ClientValue}
 use Rattle.jv_client.specs.Held.{is_last_here, segment_left}

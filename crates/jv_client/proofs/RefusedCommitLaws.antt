@@ -1,6 +1,6 @@
 -- A commit that wasn't made: its session or its file is gone, it comes too late, or the volume has no room; or the keeper failed, or
 -- memory ran out.
-use Rattle.std.proofs.Common.{◌≡◌, ℕ, ◌+◌, List, [], ◌∷◌, length, Some, Err, refl, sym, subst}
+use Rattle.std.proofs.Common.{◌≡◌, ℕ, [], ◌∷◌, Err, refl, sym, subst}
 use Rattle.jv_model.specs.declared.act.ActKind.TheVariants.{Answered, Quiet}
 use Rattle.jv_model.specs.declared.act.Told.TheVariants.{Refused as ToldRefused}
 use Rattle.jv_model.specs.declared.fault.Fault.{Fault}
@@ -21,12 +21,12 @@ use Rattle.jv_requests.proofs.CommitLaws.{commit-calm, commit-never_bad, commit-
 use Rattle.jv_client.specs.declared.doing.Doing.{Doing}
 use Rattle.jv_client.specs.declared.made.Made.{Made}
 use Rattle.jv_client.specs.ClientValue.{ClientValue, session_here}
-use Rattle.jv_client.specs.Held.{IsClient, Holds, flush_of_code, in_flight}
+use Rattle.jv_client.specs.Held.{IsClient, Holds, flush_of_code}
 use Rattle.jv_client.specs.Makes.{Makes}
 use Rattle.jv_client.specs.Transacting.{EndsUnmade, NotMade}
 use Rattle.jv_client.specs.UnderWay.{IsReady}
 use Rattle.jv_client.proofs.CommitLaws.{IsCommit, asked-model, at-model, busy-model, bytes-model, flies-here, flight}
-use Rattle.jv_client.proofs.CommitLaws.{is-complete, next-model, number-is, own-model, record_for, segment, used}
+use Rattle.jv_client.proofs.CommitLaws.{is-complete, next-model, number-is, own-model, record_for, segment}
 use Rattle.jv_client.proofs.HeldLaws.{doing_of}
 use Rattle.jv_client.proofs.NextSegmentLaws.{segment-of}
 use Rattle.jv_client.proofs.UnmadeLaws.{RefusedAs, UnmadeLeads, unmade}

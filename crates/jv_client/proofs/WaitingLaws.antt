@@ -1,67 +1,18 @@
--- A write that waits for room: its bytes fit into a buffer of their own, and what is pending after the last commit is known before it.
-use Rattle.std.proofs.Common.{◌≡◌, ℕ, ◌+◌, ◌≤◌, ◌<◌, true, false, List, [], length, map, Option, None, Some, refl, sym, ap}
-use Rattle.std.proofs.Common.{Result, Ok, Err}
+-- A write that waits for room: its bytes alone are pending after the last commit, which is known before it.
+use Rattle.std.proofs.Common.{◌≡◌, ℕ, ◌+◌, ◌≤◌, List, [], length, Option, None, Some, Result, Ok, Err, refl, sym, ap}
 use Rattle.std.proofs.Common.{subst, ◌∙◌, arith}
-use Rattle.std.specs.Prelude.{IfOk, IfSome, IsTrue}
-use Rattle.jv_model.specs.declared.limits.TheConstants.{FILE_END}
+use Rattle.std.specs.Prelude.{IfOk, IfSome}
 use Rattle.jv_model.specs.declared.op.Op.{Op}
 use Rattle.jv_model.specs.declared.op.Op.TheVariants as op
-use Rattle.jv_model.specs.client.Pending.{PendingByte, Segment, written}
+use Rattle.jv_model.specs.client.Pending.{Segment, written}
 use Rattle.jv_pending.specs.Held.{PendingValue}
 use Rattle.jv_handles.specs.declared.handle.Handle.{Handle}
-use Rattle.jv_handles.specs.Handles.{inode_here, unseen}
+use Rattle.jv_handles.specs.Handles.{inode_here}
 use Rattle.jv_handles.proofs.UnseenLaws.{inode_here-unseen}
 use Rattle.jv_client.specs.declared.doing.Doing.{Doing}
-use Rattle.jv_client.specs.declared.doing.Flush.{Flush}
 use Rattle.jv_client.specs.ClientValue.{ClientValue}
-use Rattle.jv_client.specs.UnderWay.{FlushesFor, Closes, Syncs, Describes, ReadsNothing, Reads}
-use Rattle.jv_client.specs.UnderWay.{Truncates as FlushTruncates}
-use Rattle.jv_client.specs.UnderWay.{HasRoom, Beside, Alone, IsForm, Mounts, Transacts, Leaves, Writes, Flushes, Copies}
-use Rattle.jv_client.specs.UnderWay.{TellsStats, IsReady, is_transaction}
-use Rattle.jv_client.specs.Flushing.{IfWrite, IsWrittenAlone, Other, Write, NextOf, Last, NotLast, without_segment}
+use Rattle.jv_client.specs.Flushing.{IsWrittenAlone, Other, Write, NextOf, Last, NotLast, without_segment}
 use Rattle.jv_client.specs.Flushing.{written_alone}
-use Rattle.jv_client.proofs.FormLaws.{under_way}
-
--- ---- its bytes fit
-
-abbrev Fits : ℕ → ℕ → ℕ → List ℕ → Type 0
-Fits limit handle offset bytes = (offset + length bytes ≤ FILE_END) × (length bytes ≤ limit)
-
-room-fits : (h : ClientValue) (first : Flush) (len : ℕ) → HasRoom h first len → len ≤ h.limits.buffer
-room-fits h first len (Beside is few) = omega (arith, few)
-room-fits h first len (Alone is few) = few
-
-transaction-fits : (o : Op) (limit : ℕ) → is_transaction o ≡ true → IfWrite o (Fits limit)
-transaction-fits (op.Write handle offset bytes) limit e = absurd (cc e)
-transaction-fits _ limit e = tt
-
-module _ (h : ClientValue) (d : Doing) where
-  as-op : (o : Op) → d.op ≡ o → IfWrite o (Fits h.limits.buffer) → IfWrite d.op (Fits h.limits.buffer)
-  as-op o e fits = subst (λ o. IfWrite o (Fits h.limits.buffer)) (sym e) fits
-
-  flushing-fits : (handle : ℕ) → FlushesFor d handle → IfWrite d.op (Fits h.limits.buffer)
-  flushing-fits handle (Closes o e) = as-op (op.Close handle) o tt
-  flushing-fits handle (Syncs o e) = as-op (op.Flush handle) o tt
-  flushing-fits handle (Describes o e) = as-op (op.Fstat handle) o tt
-  flushing-fits handle (ReadsNothing offset len o e) = as-op (op.Read handle offset len) o tt
-  flushing-fits handle (Reads offset len o e some short inside) = as-op (op.Read handle offset len) o tt
-  flushing-fits handle (FlushTruncates len o e) = as-op (op.Truncate handle len) o tt
-
-  pub form-fits : IsForm h d → IfWrite d.op (Fits h.limits.buffer)
-  form-fits (Mounts o e first) = as-op (op.Mount false) o tt
-  form-fits (Transacts one spelled e first session) = transaction-fits d.op h.limits.buffer one
-  form-fits (Leaves o e first session) = as-op op.Umount o tt
-  form-fits (Writes handle offset bytes file o e opened inside room session) =
-      as-op (op.Write handle offset bytes) o (inside, room-fits h d.flush (length bytes) room)
-  form-fits (Flushes handle file for first opened session) = flushing-fits handle for
-  form-fits (Copies source from target to len file other o e first opened there session) =
-      as-op (op.Copy source from target to len) o tt
-  form-fits (TellsStats o e first session) = as-op op.Stats o tt
-
--- of the operation in progress
-pub fits-here : (h : ClientValue) (d : Doing) → h.doing ≡ Some d → IsReady h
-    → IfWrite d.op (λ handle offset bytes. (offset + length bytes ≤ FILE_END) × (length bytes ≤ h.limits.buffer))
-fits-here h d busy ready = form-fits h d (under_way h d busy ready).form
 
 -- ---- its bytes as all that is pending
 

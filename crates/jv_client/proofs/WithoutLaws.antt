@@ -1,6 +1,6 @@
 -- A client without a segment that it committed stands for the model's without it.
-use Rattle.std.proofs.Common.{◌≡◌, ℕ, ◌+◌, ◌≤◌, Bool, List, [], ◌∷◌, not, map, length, refl, ap, ◌∙◌}
-use Rattle.std.specs.List.{AllByRecursion, filter}
+use Rattle.std.proofs.Common.{◌≡◌, ℕ, ◌+◌, ◌≤◌, Bool, List, not, map, length, refl, ap, ◌∙◌}
+use Rattle.std.specs.List.{filter}
 use Rattle.std.proofs.lemmas.List.Filters.{length-filter_both}
 use Rattle.std.proofs.lemmas.List.{length-map}
 use Rattle.jv_model.specs.tree.Tree.{Tree}

@@ -206,13 +206,7 @@ impl Client {
 
     /// Commits a segment's slice, of which all blocks were put. Refused with `Stale` where its session or its file is gone,
     /// with `TimedOut` where its first block is as old as uploads live, and with `NoSpace` where the volume has no room.
-    fn commit<K: Keeper>(
-        &mut self,
-        at: SegmentAt,
-        upload: Upload,
-        k: &mut K,
-        now: Moment,
-    ) -> Made
+    fn commit<K: Keeper>(&mut self, at: SegmentAt, upload: Upload, k: &mut K, now: Moment) -> Made
         requires busy { progress_of self.old.doing
             ≡ Some (Working upload.quiets upload.started upload.id) }
         requires asked { 0 < upload.quiets }

@@ -1,8 +1,4 @@
 -- The bytes of the write are all that is pending.
-use Rattle.std.proofs.Common.{◌≡◌, ℕ, List, [], Some, sym, ap, subst, ◌∙◌}
-use Rattle.jv_model.specs.client.Pending.{PendingByte, written}
-use Rattle.jv_pending.specs.Held.{PendingValue}
-use Rattle.jv_client.specs.Flushing.{IsWrittenAlone, written_alone}
 use Rattle.jv_client.proofs.WaitingLaws.{alone-of}
 use Rattle.jv_client.proofs.flush.written_alone.Goals as goal
 

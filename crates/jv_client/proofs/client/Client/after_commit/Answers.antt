@@ -1,5 +1,5 @@
 -- Another segment is asked for; a write that had to wait is done; or the operation is answered with its last commit, or goes on.
-use Rattle.std.proofs.Common.{sym, subst, ◌∙◌}
+use Rattle.std.proofs.Common.{subst}
 use Rattle.std.specs.Prelude.{IfSome}
 use Rattle.jv_client.specs.Flushing.{NextOf}
 use Rattle.jv_client.proofs.AfterFlushLaws.{follows-answer, follows-request, follows-segment, follows-write, none_left}

@@ -1,5 +1,5 @@
 -- A commit is allowed, and where it leads; what refuses it; and out of memory nothing has changed.
-use Rattle.std.proofs.Common.{ℕ, [], List, Ok, Err, ap, subst, ◌∙◌, sym}
+use Rattle.std.proofs.Common.{Ok, Err, ap, subst}
 use Rattle.std.specs.Prelude.{IfSome}
 use Rattle.jv_pending.specs.At.{segment_at}
 use Rattle.jv_client.specs.declared.doing.Progress.TheVariants.{Working}

@@ -1,9 +1,6 @@
 -- The segment's bytes and the others are all that was pending.
-use Rattle.std.proofs.Common.{◌≡◌, ◌+◌, not, length, refl, sym, ap, ◌∙◌, arith}
-use Rattle.std.specs.List.{filter}
-use Rattle.std.proofs.lemmas.List.Filters.{length-filter_both}
-use Rattle.std.proofs.lemmas.List.{length-map}
-use Rattle.jv_model.specs.client.Pending.{PendingByte, bytes_in_range, is_in_range, without_range}
+use Rattle.std.proofs.Common.{length, ap, arith}
+use Rattle.jv_model.specs.client.Pending.{without_range}
 use Rattle.jv_pending.specs.At.{segment_at}
 use Rattle.jv_pending.specs.Held.{PendingValue}
 use Rattle.jv_client.specs.ClientValue.{ClientValue}
