@@ -43,3 +43,4 @@ pub mod WriteLaws
 pub mod SubmissionLaws
 pub mod ReadyLaws
 pub mod AskCallLaws
+pub mod GettingLaws
