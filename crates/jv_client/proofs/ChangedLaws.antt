@@ -1,5 +1,6 @@
 -- A truncate or a copy, as it was tried, is a step: made, or not.
 use Rattle.std.proofs.Common.{◌≡◌, ℕ, IsTrue, [], Option, None, Some, Result, Ok, Err, refl, sym, ap, subst, ◌∙◌}
+use Rattle.std.specs.Prelude.{IfSome, is_some}
 use Rattle.jv_model.specs.declared.act.ActKind.TheVariants.{Quiet}
 use Rattle.jv_model.specs.declared.act.Told.{Told}
 use Rattle.jv_model.specs.declared.act.Told.TheVariants.{Fine}
@@ -10,28 +11,29 @@ use Rattle.jv_model.specs.declared.op.Op.{Op}
 use Rattle.jv_model.specs.declared.op.Op.TheVariants as op
 use Rattle.jv_model.specs.declared.op.Reply.TheVariants as reply
 use Rattle.jv_model.specs.declared.profile.Does.TheVariants as does
-use Rattle.jv_model.specs.tree.Caller.{Caller}
 use Rattle.jv_model.specs.tree.FileBytes.{copy, truncate}
 use Rattle.jv_model.specs.journal.Steps.{told_of}
 use Rattle.jv_outside.specs.Store.{Store}
-use Rattle.jv_rows.specs.Transactions.{IsFor}
 use Rattle.jv_data.specs.Changing.{AnyTold, Changes, IsCrowded, Never, count_in}
 use Rattle.jv_data.specs.Truncating.{due_after}
 use Rattle.jv_metadata.specs.Attempts.{mapped}
 use Rattle.jv_shared.specs.Shared.{Shared}
 use Rattle.jv_handles.specs.Handles.{inode_here}
+use Rattle.jv_handles.proofs.TableLaws.{the_some}
 use Rattle.jv_client.specs.declared.changes.Changed.{Changed}
 use Rattle.jv_client.specs.declared.doing.Doing.{Doing}
 use Rattle.jv_client.specs.declared.made.Made.{Made}
 use Rattle.jv_client.specs.declared.made.Made.TheVariants.{Both}
 use Rattle.jv_client.specs.ClientValue.{ClientValue, session_here}
 use Rattle.jv_client.specs.Changing.{TriesChange, TriesCopy, TriesTruncate, copied_to, cut_to, is_change}
-use Rattle.jv_client.specs.Ending.{ended, finished_here, told_here}
-use Rattle.jv_client.specs.UnderWay.{IsReady, changes_files, left}
+use Rattle.jv_client.specs.Ending.{ended, told_here}
+use Rattle.jv_client.specs.UnderWay.{ClosesOpen, IsReady, changes_files, left}
 use Rattle.jv_client.specs.Makes.{Makes}
 use Rattle.jv_client.specs.Transacting.{EndsUnmade}
 use Rattle.jv_client.proofs.AnswerLaws.{makes-as}
+use Rattle.jv_client.proofs.ClosingLaws.{closes-unseen}
 use Rattle.jv_client.proofs.DueLaws.{ChangesOne, OfCopy, OfTruncate, changes-one}
+use Rattle.jv_client.proofs.FormLaws.{ready-closes}
 use Rattle.jv_client.proofs.ChangingLaws.{blind, copied-makes, copy-unmade, truncate-unmade, truncated-makes}
 
 -- ---- a result that is another one's with its value changed
@@ -44,7 +46,28 @@ mapped-ok f (Err fault) y e = absurd (cc e)
 mapped-err : {A B : Type 0} (f : A → B) (made : Result A TxFault) (fault : TxFault)
     → ◌≡◌ {A = Result B TxFault} (Err fault) (mapped f made) → made ≡ Err fault
 mapped-err f (Ok x) fault e = absurd (cc e)
-mapped-err {A} f (Err other) fault e = let same : other ≡ fault = cc e in ap (λ (fault : TxFault). Err {A = A} fault) same
+mapped-err {A} f (Err other) fault e =
+    let same : other ≡ fault = cc e in ap (λ (fault : TxFault). let result : Result A TxFault = Err fault in result) same
+
+-- ---- what is wanted before it
+
+-- it may be tried
+pub may-try : (h : ClientValue) (d : Doing) → h.doing ≡ Some d → IsReady h → IsTrue (changes_files d.does)
+    → IsTrue (is_change d.op)
+may-try h d busy ready changes = by_form (changes-one h d changes busy ready)
+  where
+    by_form : ChangesOne h d → IsTrue (is_change d.op)
+    by_form (OfTruncate handle len file of_op of_does opened) = ap is_change of_op
+    by_form (OfCopy source from target to len file other of_op of_does opened there) = ap is_change of_op
+
+-- the handle of a close is open once views of a file are dropped
+pub closes-blind : (h : ClientValue) (inode : ℕ) → IsTrue (is_some h.doing) → IsReady h
+    → IfSome (blind inode h).doing (λ (d : Doing). ClosesOpen d.op (blind inode h).handles)
+closes-blind h inode busy ready =
+    let doing = the_some h.doing busy in
+    let d = doing.0 in
+    subst (λ (o : Option Doing). IfSome o (λ (d : Doing). ClosesOpen d.op (blind inode h).handles)) (sym doing.1)
+    (closes-unseen d.op inode h.handles (ready-closes h d doing.1 ready))
 
 -- ---- the steps
 
@@ -56,13 +79,6 @@ module _ (now entry : ℕ) (h : ClientValue) (d : Doing) (busy : h.doing ≡ Som
   -- in whose name it is tried
   abbrev pub asks_as : Who
   asks_as = record { sid = session_here h; held = []; now = now }
-
-  pub may-try : IsTrue (is_change d.op)
-  may-try = by_form (changes-one h d changes busy ready)
-    where
-      by_form : ChangesOne h d → IsTrue (is_change d.op)
-      by_form (OfTruncate handle len file of_op of_does opened) = ap is_change of_op
-      by_form (OfCopy source from target to len file other of_op of_does opened there) = ap is_change of_op
 
   -- the client and the answer of a change that was made
   module _ (changed : Changed) (after : ClientValue) (told : Told)

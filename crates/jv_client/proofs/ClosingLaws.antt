@@ -1,6 +1,6 @@
--- The handle of a close is open, and stays so until its operation ends.
+-- The handle of a close stays open until its operation ends.
 use Rattle.std.proofs.Common.{◌≡◌, ℕ, zero, suc, ◌-◌, Bool, true, false, List, [], ◌∷◌, ◌++◌, length, map, slice_get}
-use Rattle.std.proofs.Common.{slice_set, Option, None, Some, refl, sym, ap, subst, ◌∙◌}
+use Rattle.std.proofs.Common.{slice_set, Option, None, Some, refl, ◌∙◌}
 use Rattle.std.specs.Prelude.{◌==◌, is_some, if◌then◌else◌, nat_le}
 use Rattle.jv_model.specs.declared.op.Op.{Op}
 use Rattle.jv_model.specs.declared.op.Op.TheVariants as op
@@ -9,44 +9,8 @@ use Rattle.jv_model.specs.journal.State.{Gift, NewSession, NewHandle, Nothing}
 use Rattle.jv_handles.specs.declared.handle.Handle.{Handle}
 use Rattle.jv_handles.specs.Handles.{new_handle, unseen}
 use Rattle.jv_handles.proofs.UnseenLaws.{some-unseen}
-use Rattle.jv_client.specs.declared.doing.Doing.{Doing}
-use Rattle.jv_client.specs.ClientValue.{ClientValue}
-use Rattle.jv_client.specs.UnderWay.{FlushesFor, Closes, Syncs, Describes, ReadsNothing, Reads, Truncates, IsForm}
-use Rattle.jv_client.specs.UnderWay.{Mounts, Transacts, Leaves, Writes, Flushes, Copies, TellsStats, ClosesOpen}
-use Rattle.jv_client.specs.UnderWay.{is_transaction}
+use Rattle.jv_client.specs.UnderWay.{ClosesOpen}
 use Rattle.jv_client.specs.Transacting.{handles_given}
-
--- an operation that goes on well closes a handle that is open
-
-closes-none : (o : Op) (handles : List (Option Handle)) → is_transaction o ≡ true → ClosesOpen o handles
-closes-none (op.Close handle) handles e = absurd (cc e)
-closes-none _ handles e = tt
-
-module _ (h : ClientValue) (d : Doing) where
-  open-as : (o : Op) → d.op ≡ o → ClosesOpen o h.handles → ClosesOpen d.op h.handles
-  open-as o of_op closes = subst (λ o. ClosesOpen o h.handles) (sym of_op) closes
-
-  flushed-open : (handle : ℕ) (file : Handle) → file_of h.handles handle ≡ Some file → FlushesFor d handle
-      → ClosesOpen d.op h.handles
-  flushed-open handle file opened (Closes of_op of_does) = open-as (op.Close handle) of_op (ap is_some opened)
-  flushed-open handle file opened (Syncs of_op of_does) = open-as (op.Flush handle) of_op tt
-  flushed-open handle file opened (Describes of_op of_does) = open-as (op.Fstat handle) of_op tt
-  flushed-open handle file opened (ReadsNothing offset len of_op of_does) =
-      open-as (op.Read handle offset len) of_op tt
-  flushed-open handle file opened (Reads offset len of_op of_does some short low) =
-      open-as (op.Read handle offset len) of_op tt
-  flushed-open handle file opened (Truncates len of_op of_does) = open-as (op.Truncate handle len) of_op tt
-
-  pub closes-open : IsForm h d → ClosesOpen d.op h.handles
-  closes-open (Mounts of_op of_does first) = open-as (op.Mount false) of_op tt
-  closes-open (Transacts one spelled of_does first session) = closes-none d.op h.handles one
-  closes-open (Leaves of_op of_does first session) = open-as op.Umount of_op tt
-  closes-open (Writes handle offset bytes file of_op of_does opened short room session) =
-      open-as (op.Write handle offset bytes) of_op tt
-  closes-open (Flushes handle file for first opened session) = flushed-open handle file opened for
-  closes-open (Copies source from target to len file other of_op of_does first opened there session) =
-      open-as (op.Copy source from target to len) of_op tt
-  closes-open (TellsStats of_op of_does first session) = open-as op.Stats of_op tt
 
 -- other handles that have all of the first ones open
 

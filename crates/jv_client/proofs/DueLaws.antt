@@ -1,7 +1,7 @@
 -- An operation that has flushed, and makes its first request after that: it is a transaction on metadata, or it changes a file.
-use Rattle.std.proofs.Common.{◌≡◌, ℕ, zero, suc, ◌<◌, Bool, true, false, not, IsTrue, List, length, Option, None, Some}
-use Rattle.std.proofs.Common.{refl, sym, ap, subst, ◌∙◌, arith}
-use Rattle.std.specs.Prelude.{is_some, IfSome, if◌then◌else◌}
+use Rattle.std.proofs.Common.{◌≡◌, ℕ, true, false, not, IsTrue, List, length, None, Some}
+use Rattle.std.proofs.Common.{refl, sym, ap, subst, ◌∙◌, rules}
+use Rattle.std.specs.Prelude.{is_some, if◌then◌else◌}
 use Rattle.jv_model.specs.declared.op.Op.{Op}
 use Rattle.jv_model.specs.declared.op.Op.TheVariants as op
 use Rattle.jv_model.specs.declared.op.Reply.TheVariants as reply
@@ -9,7 +9,7 @@ use Rattle.jv_model.specs.declared.profile.Answer.TheVariants as answer
 use Rattle.jv_model.specs.declared.profile.Does.{Does}
 use Rattle.jv_model.specs.declared.profile.Does.TheVariants as does
 use Rattle.jv_model.specs.script.Spelled.{is_spelled}
-use Rattle.jv_model.specs.client.ModelClient.{ModelClient, Doing as ModelDoing, Stage, Working, file_of}
+use Rattle.jv_model.specs.client.ModelClient.{ModelClient, Doing as ModelDoing, Working, file_of}
 use Rattle.jv_model.specs.client.ModelClient.{is_last_of_removed}
 use Rattle.jv_model.specs.client.Pending.{PendingByte}
 use Rattle.jv_model.specs.client.Profile.{handle_of}
@@ -24,10 +24,11 @@ use Rattle.jv_client.specs.declared.doing.Progress.TheVariants as progress
 use Rattle.jv_client.specs.ClientValue.{ClientValue}
 use Rattle.jv_client.specs.Held.{flush_of_code, is_last_here, stage_of}
 use Rattle.jv_client.specs.UnderWay.{FlushesFor, Closes, Syncs, Describes, ReadsNothing, Reads, Truncates, IsForm}
-use Rattle.jv_client.specs.UnderWay.{Mounts, Transacts, Leaves, Writes, Flushes, Copies, TellsStats, IsAt, IsWorking}
-use Rattle.jv_client.specs.UnderWay.{IsReady, IsUnderWay, asks_more, changes_files, has_segment, is_transaction, left}
+use Rattle.jv_client.specs.UnderWay.{Mounts, Transacts, Leaves, Writes, Flushes, Copies, TellsStats, IsAt}
+use Rattle.jv_client.specs.UnderWay.{IsReady, asks_more, changes_files, has_segment, is_transaction, left}
 use Rattle.jv_client.specs.UnderWay.{left_of, makes_transaction}
 use Rattle.jv_client.specs.Transacting.{is_tried}
+use Rattle.jv_client.proofs.FormLaws.{no_quiets, under_way}
 
 -- ---- it made no request yet
 
@@ -39,11 +40,6 @@ pub record IsFirst (h : ClientValue) (d : Doing) : Type 0 where
   pub progress : d.progress ≡ progress.Working 0 started id
 
 module _ (h : ClientValue) (d : Doing) where
-  no_quiets : (quiets id : ℕ) → IsWorking h d quiets id → has_segment h d ≡ false → quiets ≡ 0
-  no_quiets zero id at none = refl
-  no_quiets (suc quiets) id at none =
-      absurd (let some : 0 < suc quiets = omega arith in let segment = at.segment some in cc (sym segment ∙ none))
-
   -- an operation that doesn't read is at its first request once it has flushed
   first_at : ((offset len : ℕ) → d.does ≡ does.Reads offset len → ⊥) → has_segment h d ≡ false → (p : Progress)
       → d.progress ≡ p → IsAt h d p → IsFirst h d
@@ -51,14 +47,10 @@ module _ (h : ClientValue) (d : Doing) where
     none = none;
     started = started;
     id = id;
-    progress = is ∙ ap (λ n. progress.Working n started id) (no_quiets quiets id at none);
+    progress = is ∙ ap (λ n. progress.Working n started id) (no_quiets h d quiets id at none);
   }
   first_at other none (progress.Reading fetch next) is at =
       let read = at.read in absurd (other read.0 read.1 read.2)
-
-  -- an operation in progress goes on well
-  pub goes_well : h.doing ≡ Some d → IsReady h → IsUnderWay h d
-  goes_well busy ready = subst (λ o. IfSome o (IsUnderWay h)) busy ready.doing
 
   none_left : h.doing ≡ Some d → left h ≡ None → has_segment h d ≡ false
   none_left busy flushed = ap is_some (sym (ap (left_of h.pending) busy) ∙ flushed)
@@ -66,7 +58,7 @@ module _ (h : ClientValue) (d : Doing) where
   first_by : ((offset len : ℕ) → d.does ≡ does.Reads offset len → ⊥) → h.doing ≡ Some d → IsReady h → left h ≡ None
       → IsFirst h d
   first_by other busy ready flushed =
-      first_at other (none_left busy flushed) d.progress refl (goes_well busy ready).at
+      first_at other (none_left busy flushed) d.progress refl (under_way h d busy ready).at
 
   pub transaction-first : IsTrue (makes_transaction d.does) → h.doing ≡ Some d → IsReady h → left h ≡ None
       → IsFirst h d
@@ -128,7 +120,7 @@ module _ (d : Doing) (makes : IsTrue (makes_transaction d.does)) where
   one_by h (TellsStats o e first session) = absurd (not_of (does.Answers answer.CacheStats) e refl)
 
   pub makes-one : (h : ClientValue) → h.doing ≡ Some d → IsReady h → MakesOne d × IsDirect d.does
-  makes-one h busy ready = one_by h (goes_well h d busy ready).form
+  makes-one h busy ready = one_by h (under_way h d busy ready).form
 
 -- it may be tried
 tried-metadata : (o : Op) → is_metadata o ≡ true → is_spelled o ≡ true → is_tried o ≡ true
@@ -191,4 +183,4 @@ module _ (h : ClientValue) (d : Doing) (changes : IsTrue (changes_files d.does))
   change_by (TellsStats o e first session) = absurd (changes_not (does.Answers answer.CacheStats) e refl)
 
   pub changes-one : h.doing ≡ Some d → IsReady h → ChangesOne h d
-  changes-one busy ready = change_by (goes_well h d busy ready).form
+  changes-one busy ready = change_by (under_way h d busy ready).form

@@ -1,6 +1,6 @@
 -- The requests of a flush before its commit, for the number of a segment's slice and for each of its blocks, and what refuses
 -- them.
-use Rattle.std.proofs.Common.{◌≡◌, ℕ, suc, ◌+◌, ◌-◌, ◌*◌, ◌≤◌, ◌<◌, Bool, true, false, ◌==◌, IsTrue, [], ◌∷◌, length, Option, None}
+use Rattle.std.proofs.Common.{◌≡◌, ℕ, suc, ◌+◌, ◌-◌, ◌*◌, ◌≤◌, ◌<◌, Bool, true, false, ◌||◌, ◌==◌, IsTrue, [], ◌∷◌, length, Option, None}
 use Rattle.std.proofs.Common.{Some, Result, Ok, Err, refl, sym, ap, subst, ◌∙◌, arith}
 use Rattle.std.specs.Prelude.{IfSome, IsSome, List, if◌then◌else◌, is_some, unwrap_or}
 use Rattle.std.specs.Option.{option_map}

@@ -1,5 +1,5 @@
 -- What a reply hands to a client stands for what the model gives its own, and is of files.
-use Rattle.std.proofs.Common.{◌≡◌, ℕ, ◌+◌, ◌≤◌, Bool, true, false, ◌||◌, List, [], ◌∷◌, ◌++◌, Option, None, Some}
+use Rattle.std.proofs.Common.{◌≡◌, ℕ, ◌+◌, Bool, true, false, ◌||◌, List, [], ◌∷◌, ◌++◌, Option, None, Some}
 use Rattle.std.proofs.Common.{inl, inr, refl, sym, ap, subst, ◌∙◌, arith}
 use Rattle.std.specs.Prelude.{◌==◌}
 use Rattle.std.proofs.lemmas.Bool.{eqb-true, or_cases}
@@ -11,7 +11,6 @@ use Rattle.jv_model.specs.journal.State.{Gift, NewSession, NewHandle, Nothing, g
 use Rattle.jv_volume.specs.Holding.{IsHoldable}
 use Rattle.jv_metadata.specs.Attempts.{is_inode}
 use Rattle.jv_shared.specs.Shared.{Known, Shared}
-use Rattle.jv_handles.specs.declared.handle.Handle.{Handle}
 use Rattle.jv_handles.specs.Handles.{new_handle}
 use Rattle.jv_handles.specs.Held.{AreHandles}
 use Rattle.jv_handles.proofs.HandleLaws.{handles-later, handles-opened}

@@ -47,8 +47,10 @@ IsOf segment bytes = (segment.len ≤ length bytes) × (0 < length bytes)
 first-of : (bytes : List PendingByte) (segment : Segment) → first_segment bytes ≡ Some segment → IsOf segment bytes
 first-of [] segment e = absurd (cc e)
 first-of (b ∷ bytes) segment e =
-    subst (λ (segment : Segment). IsOf segment (b ∷ bytes))
-    (let same : ◌≡◌ {A = Option Segment} (first_segment (b ∷ bytes)) (Some segment) = e in cc)
+    let here : Segment =
+    record { inode = b.inode; from = b.position; len = run_length b.inode b.position (b ∷ bytes) } in
+    let same : here ≡ segment = (let f : ◌≡◌ {A = Option Segment} (Some here) (Some segment) = e in cc) in
+    subst (λ (segment : Segment). IsOf segment (b ∷ bytes)) same
     (run-short b.inode b.position (b ∷ bytes), omega arith)
 
 of_file : (inode : ℕ) (bytes : List PendingByte) (segment : Segment)

@@ -42,4 +42,6 @@ pub mod AtOnceLaws
 pub mod WriteLaws
 pub mod SubmissionLaws
 pub mod ReadyLaws
+pub mod StepOfLaws
 pub mod AskCallLaws
+pub mod GettingLaws

@@ -106,6 +106,18 @@ module _ (before : Shared) (yard : YardValue) (carrier : Carriage) (result : Res
 
 -- ---- the request
 
+-- a slice of which a request was made has its number
+numbered : (h : ClientValue) (d : Doing) (quiets started id : ℕ) → h.doing ≡ Some d → IsReady h
+    → d.progress ≡ Working quiets started id → 0 < quiets → 0 < id
+numbered h d quiets started id busy ready at asked =
+    (subst (IsAt h d) at (under_way h d busy ready).at).numbered asked
+
+pub put-numbered : (h : ClientValue) (quiets started id : ℕ) → IsReady h
+    → progress_of h.doing ≡ Some (Working quiets started id) → 0 < quiets → 0 < id
+put-numbered h quiets started id ready at asked =
+    let d = in_progress h.doing (Working quiets started id) at in
+    numbered h d.0 quiets started id d.1 ready d.2 asked
+
 module _ (now entry : ℕ) (h : ClientValue) (d : Doing) (before : Shared) (yard : YardValue) (carrier : Carriage)
     (segment : Segment) (quiets put started id : ℕ) (busy : h.doing ≡ Some d) (ready : IsReady h)
     (next : left h ≡ Some segment) (at : d.progress ≡ Working quiets started id) (some : quiets ≡ suc put) where
@@ -118,18 +130,16 @@ module _ (now entry : ℕ) (h : ClientValue) (d : Doing) (before : Shared) (yard
   abbrev then_shared : Shared
   then_shared = record before { yard = yard; carrier = carrier }
 
-  abbrev moment : ℕ
-  moment = if quiets == 1 then now else started
+  abbrev first_moment : ℕ
+  first_moment = if quiets == 1 then now else started
 
   flying : flight_of h ≡ Some flight
   flying =
       flight-is h d busy (Working quiets started id) at
       ∙ flight-flying h.pending d.flush quiets put started id segment some (left-is h d busy (Some segment) next)
 
-  -- the slice has its number
-  numbered : 0 < id
-  numbered =
-      (subst (IsAt h d) at (under_way h d busy ready).at).numbered (omega (arith, some))
+  id_some : 0 < id
+  id_some = numbered h d quiets started id busy ready at (omega (arith, some))
 
   module _ (long : length bytes ≡ segment.len) (short : segment.len ≤ WINDOW) (block : 0 < before.yard.setting.block)
       (there : quiets ≤ block_count segment.len before.yard.setting.block)
@@ -163,7 +173,7 @@ module _ (now entry : ℕ) (h : ClientValue) (d : Doing) (before : Shared) (yard
         omega (arith, begins, rises, some)
 
     put_in : (s : State) (g : Known) → HasStore s.tree g before → IsClient g before (s.clients h.id) s.count h
-        → Asked now h d before then_shared bytes quiets moment id s g
+        → Asked now h d before then_shared bytes quiets first_moment id s g
     put_in s g store is =
         let f : Flies g before flight = (subst (IsOnWay g before) flying is.flight).0 in
         let small : length bytes ≤ WINDOW = omega (arith, long, short) in
@@ -175,7 +185,7 @@ module _ (now entry : ℕ) (h : ClientValue) (d : Doing) (before : Shared) (yard
         record {
           learned = learned;
           request = subst (λ (n : ℕ). Request s g learned before then_shared h.id now n id (Quiet ∷ []) More s.tree
-              (at_stage (InModel (quiets + 1) moment) (doing_of d) (s.clients h.id)) s.copied)
+              (at_stage (InModel (quiets + 1) first_moment) (doing_of d) (s.clients h.id)) s.copied)
               (sym (ap number_of flying))
               (put-request s g before store h.id now (doing_of d)
               (client-doing g before (s.clients h.id) s.count h d busy is) quiets started (ap stage_of at) flight yard
@@ -191,7 +201,7 @@ module _ (now entry : ℕ) (h : ClientValue) (d : Doing) (before : Shared) (yard
         (record h { doing = Some (moved_to (Working (quiets + 1) (if quiets == 1 then now else started) id) d) }) before
         (record before { yard = yard; carrier = carrier }) (AsksFor Quiet)
     puts_block =
-        asks now entry h d before then_shared segment quiets started id moment id busy ready next at few numbered
+        asks now entry h d before then_shared segment quiets started id first_moment id busy ready next at few id_some
         uses_devices (λ s g count store holds is. put_in s g store is)
 
   -- It wasn't, and the operation ends.
@@ -224,26 +234,22 @@ module _ (now entry : ℕ) (h after : ClientValue) (before : Shared) (yard : Yar
   one_less : quiets ≡ suc (quiets - 1)
   one_less = omega (arith, asked)
 
-  pub put-numbered : 0 < id
-  put-numbered =
-      let d = in_progress h.doing (Working quiets started id) at in
-      numbered now entry h d.0 before yard carrier segment quiets (quiets - 1) started id d.1 ready next d.2 one_less
-
-  module _ (bytes : List ℕ) (bytes_are : bytes ≡ bytes_of segment h.pending) where
+  module _ (client : ℕ) (own : client ≡ h.id) (bytes : List ℕ) (bytes_are : bytes ≡ bytes_of segment h.pending) where
     abbrev put_flight : Flight
     put_flight = record { id = id; bytes = bytes; put = quiets - 1 }
 
     puts_same : (result : Result (Unit {0}) PutFault)
-        → PutsFlight h.id now put_flight before.yard yard before.carrier carrier result
+        → PutsFlight client now put_flight before.yard yard before.carrier carrier result
         → PutsFlight h.id now (record { id = id; bytes = bytes_of segment h.pending; put = quiets - 1 }) before.yard yard
         before.carrier carrier result
     puts_same result puts =
         subst (λ (bytes : List ℕ). PutsFlight h.id now (record { id = id; bytes = bytes; put = quiets - 1 }) before.yard
-        yard before.carrier carrier result) bytes_are puts
+        yard before.carrier carrier result) bytes_are
+        (subst (λ (client : ℕ). PutsFlight client now put_flight before.yard yard before.carrier carrier result) own puts)
 
     pub block-put : length bytes ≡ segment.len → segment.len ≤ WINDOW → 0 < before.yard.setting.block
         → quiets ≤ block_count segment.len before.yard.setting.block
-        → PutsFlight h.id now (record { id = id; bytes = bytes; put = quiets - 1 }) before.yard yard before.carrier
+        → PutsFlight client now (record { id = id; bytes = bytes; put = quiets - 1 }) before.yard yard before.carrier
         carrier (Ok tt)
         → (moment : ℕ) → moment ≡ (if quiets == 1 then now else started)
         → after ≡ record h { doing = option_map (moved_to (Working (quiets + 1) moment id)) h.doing }
@@ -265,7 +271,7 @@ module _ (now entry : ℕ) (h after : ClientValue) (before : Shared) (yard : Yar
         (ap length (sym bytes_are) ∙ long) short block there (puts_same (Ok tt) puts))
 
     pub block-unput : (fault : PutFault)
-        → PutsFlight h.id now (record { id = id; bytes = bytes; put = quiets - 1 }) before.yard yard before.carrier
+        → PutsFlight client now (record { id = id; bytes = bytes; put = quiets - 1 }) before.yard yard before.carrier
         carrier (Err fault)
         → Fails (fault_of fault) h after done
         → Makes now entry h after before (record before { yard = yard; carrier = carrier }) done

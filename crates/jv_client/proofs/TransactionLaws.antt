@@ -1,13 +1,12 @@
 -- A step that is one metadata transaction with its answer: what it makes of the client and of what clients share.
-use Rattle.std.proofs.Common.{◌≡◌, ℕ, ◌+◌, Bool, true, false, ◌&&◌, not, IsTrue, List, [], ◌∷◌, ◌++◌, Option, None, Some}
+use Rattle.std.proofs.Common.{◌≡◌, ℕ, ◌+◌, Bool, true, false, ◌&&◌, not, IsTrue, List, [], ◌∷◌, ◌++◌, None, Some}
 use Rattle.std.proofs.Common.{Ok, Err, refl, sym, ap, subst, ◌∙◌, arith}
-use Rattle.std.specs.Prelude.{IfSome, MatchBool, unwrap_or}
+use Rattle.std.specs.Prelude.{MatchBool, unwrap_or}
 use Rattle.jv_model.specs.declared.act.ActKind.{ActKind}
 use Rattle.jv_model.specs.declared.act.ActKind.TheVariants.{Answered, Meta}
 use Rattle.jv_model.specs.declared.act.Told.{Told}
 use Rattle.jv_model.specs.declared.act.Told.TheVariants.{Fine, Looks, Refused as ToldRefused}
 use Rattle.jv_model.specs.declared.fault.Device.{Device}
-use Rattle.jv_model.specs.declared.fault.Fault.{Fault}
 use Rattle.jv_model.specs.declared.fault.Fault.TheVariants.{DeviceFailed}
 use Rattle.jv_model.specs.declared.fault.RowFault.TheVariants.{Bad, Failed, Memory}
 use Rattle.jv_model.specs.declared.fault.TxFault.{TxFault}
@@ -20,14 +19,14 @@ use Rattle.jv_model.specs.declared.op.Step.TheVariants.{Done}
 use Rattle.jv_model.specs.tree.Tree.{Tree, is_sustained}
 use Rattle.jv_model.specs.tree.Caller.{Caller, Outcome}
 use Rattle.jv_model.specs.tree.TreeAct.{tree_act}
-use Rattle.jv_model.specs.client.ModelClient.{ModelClient, Doing as ModelDoing, free_handle, held_inodes, is_among}
+use Rattle.jv_model.specs.client.ModelClient.{ModelClient, free_handle, is_among}
 use Rattle.jv_model.specs.client.Profile.{handle_of}
 use Rattle.jv_model.specs.client.Submission.{is_flushed}
-use Rattle.jv_model.specs.journal.State.{State, Gift, NewSession, NewHandle, Nothing, after_told, caller, gift_of}
+use Rattle.jv_model.specs.journal.State.{State, Gift, after_told, caller, gift_of}
 use Rattle.jv_model.specs.journal.State.{newly_sustained, transacted}
 use Rattle.jv_model.specs.journal.Steps.{entry_of_gift, told_of, is_failure, transacts}
 use Rattle.jv_outside.specs.Store.{Store}
-use Rattle.jv_volume.specs.Holding.{IsHoldable, takes_entries}
+use Rattle.jv_volume.specs.Holding.{takes_entries}
 use Rattle.jv_volume.proofs.HoldingLaws.{sustains_none, sustains_held}
 use Rattle.jv_volume.proofs.OpeningLaws.{opened_file}
 use Rattle.jv_links.specs.Removals.{HoldsFiles}
@@ -58,9 +57,10 @@ use Rattle.jv_client.proofs.HeldLaws.{client-doing, doing_of, holds-later}
 use Rattle.jv_client.proofs.LastLaws.{is_last-same}
 use Rattle.jv_client.proofs.EndingLaws.{holds-told, is_write, keeps_bytes}
 use Rattle.jv_client.proofs.KeptLaws.{cache-goes, held-goes, told-client}
-use Rattle.jv_client.proofs.ClosingLaws.{closes-given, closes-open}
+use Rattle.jv_client.proofs.ClosingLaws.{closes-given}
 use Rattle.jv_client.proofs.DueLaws.{IsFirst, MakesOne, OfMount, OfMetadata, first-flushed, first-stage}
-use Rattle.jv_client.proofs.DueLaws.{goes_well, makes-one, one-transacts, transaction-first}
+use Rattle.jv_client.proofs.DueLaws.{makes-one, one-transacts, transaction-first}
+use Rattle.jv_client.proofs.FormLaws.{ready-closes}
 use Rattle.jv_client.proofs.UnmadeLaws.{UnmadeLeads, unmade, uses-keeper}
 use Rattle.jv_client.proofs.GiftLaws.{IsGift, among-kept, held-given, holds-given}
 
@@ -342,4 +342,4 @@ module _ (now : ℕ) (h : ClientValue) (d : Doing) (busy : h.doing ≡ Some d) (
 pub given-open : (h : ClientValue) (d : Doing) (entry : ℕ) (gift : Gift) → h.doing ≡ Some d → IsReady h
     → ClosesOpen d.op (handles_given entry gift h.handles)
 given-open h d entry gift busy ready =
-    closes-given d.op entry gift h.handles (closes-open h d (goes_well h d busy ready).form)
+    closes-given d.op entry gift h.handles (ready-closes h d busy ready)

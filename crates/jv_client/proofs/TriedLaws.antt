@@ -1,5 +1,5 @@
 -- What was tried of an operation's transaction: by a mount, out of memory before it, and by a transaction on metadata.
-use Rattle.std.proofs.Common.{◌≡◌, ℕ, Bool, true, false, IsTrue, Option, None, Some, Result, Ok, Err, refl, sym, ap, subst, ◌∙◌}
+use Rattle.std.proofs.Common.{◌≡◌, ℕ, Bool, Option, None, Some, Result, Ok, Err, refl, sym, ap, subst, ◌∙◌}
 use Rattle.std.specs.Prelude.{IfSome}
 use Rattle.jv_model.specs.declared.basics.Who.{Who}
 use Rattle.jv_model.specs.declared.fault.RowFault.TheVariants.{Memory}

@@ -111,13 +111,13 @@ pub record RefusedAs (now : ℕ) (h : ClientValue) (d : Doing) (before used : Sh
 
 -- What is left to show of the model where a transaction wasn't made: it is refused likewise; no list has moved, and no
 -- row is Bad.
-abbrev pub UnmadeLeads : (now : ℕ) → ClientValue → Doing → (before used : Shared) → ActKind → TxFault → State → Known
+abbrev pub UnmadeLeads : (now : ℕ) → ClientValue → Doing → (before left : Shared) → ActKind → TxFault → State → Known
     → Type 0
-UnmadeLeads now h d before used kind (Refused fault) s g = RefusedAs now h d before used kind fault s g
-UnmadeLeads now h d before used kind (Moved list) s g = ⊥
-UnmadeLeads now h d before used kind (OfRows (Bad at bytes)) s g = ⊥
-UnmadeLeads now h d before used kind (OfRows Failed) s g = Unit {0}
-UnmadeLeads now h d before used kind (OfRows Memory) s g = Unit {0}
+UnmadeLeads now h d before left kind (Refused fault) s g = RefusedAs now h d before left kind fault s g
+UnmadeLeads now h d before left kind (Moved list) s g = ⊥
+UnmadeLeads now h d before left kind (OfRows (Bad at bytes)) s g = ⊥
+UnmadeLeads now h d before left kind (OfRows Failed) s g = Unit {0}
+UnmadeLeads now h d before left kind (OfRows Memory) s g = Unit {0}
 
 -- over any state that client and devices stand for
 abbrev pub InState : (entry : ℕ) → ClientValue → Shared → (State → Known → Type 0) → Type 0
@@ -159,8 +159,8 @@ module _ (now entry : ℕ) (h : ClientValue) (d : Doing) (before used : Shared) 
 -- A transaction that wasn't made, by how the step ends.
 module _ (now entry : ℕ) (h after : ClientValue) (d : Doing) (before : Shared) (keeper : Store)
     (busy : h.doing ≡ Some d) (ready : IsReady h) where
-  abbrev left : Shared
-  left = record before { keeper = keeper }
+  abbrev then_shared : Shared
+  then_shared = record before { keeper = keeper }
 
   abbrev IsMade : Made → Type 0
   IsMade done = Makes now entry h after before (record before { keeper = keeper }) done
@@ -172,20 +172,20 @@ module _ (now entry : ℕ) (h after : ClientValue) (d : Doing) (before : Shared)
       → keeper.rows ≡ before.keeper.rows → keeper.opened ≡ before.keeper.opened → Fails fault h after done
       → IsMade done
   failed fault done fail cause only rows opened ends =
-      fails-makes now entry h d before left fault after done busy ready fail ends
+      fails-makes now entry h d before then_shared fault after done busy ready fail ends
       (same-rows before keeper before.carrier rows)
-      (subst (λ (x : Made). UsesDevices x before left) (sym ends.made_is)
+      (subst (λ (x : Made). UsesDevices x before then_shared) (sym ends.made_is)
       (uses-keeper before keeper (made.Answer (ToldRefused fault) (RefusedReply fault)) opened cause only (λ asks. rows)
       tt))
 
   refused : (kind : ActKind) (fault : Fault) (done : Made) → keeper.rows ≡ before.keeper.rows
       → keeper.opened ≡ before.keeper.opened → keeper.faults ≡ before.keeper.faults → Refuses kind fault h after done
-      → InState entry h before (RefusedAs now h d before left kind fault)
+      → InState entry h before (RefusedAs now h d before then_shared kind fault)
       → IsMade done
   refused kind fault done rows opened faults ends leads =
-      makes-as now entry h after (refused_here fault h) before left left done
+      makes-as now entry h after (refused_here fault h) before then_shared then_shared done
       (made.Both kind (ToldRefused fault) (RefusedReply fault)) ends.after_is refl ends.made_is
-      (refuses now entry h d before left busy ready kind fault
+      (refuses now entry h d before then_shared busy ready kind fault
       (uses-keeper before keeper (made.Both kind (ToldRefused fault) (RefusedReply fault)) opened faults
       (refl, refl, refl) (λ asks. rows) tt) leads)
 
@@ -199,7 +199,7 @@ module _ (now entry : ℕ) (h after : ClientValue) (d : Doing) (before : Shared)
       refused kind (Contended (Lists ends.0 ends.0)) done none.rows_are none.opened_at none.counts ends.1
       (λ s g number store holds is. absurd (leads s g number store holds is))
   unmade kind (OfRows (Bad at bytes)) done none ends leads =
-      makes-as now entry h after h before left left done (made.Broken at bytes) ends.0 refl ends.1
+      makes-as now entry h after h before then_shared then_shared done (made.Broken at bytes) ends.0 refl ends.1
       (record {
         id = refl;
         limits = refl;

@@ -1,7 +1,8 @@
 //! Operations that change the bytes of files in one transaction: truncates and copies.
-ghost use Rattle.std.specs.Prelude.{◌≡◌, ℕ, IfSome, IsSome, IsTrue, None};
+ghost use Rattle.std.specs.Prelude.{◌≡◌, ℕ, IfSome, IsSome, IsTrue, None, map};
 ghost use Rattle.jv_outside.specs.Carriage.{Carriage};
 ghost use Rattle.jv_yard.specs.YardValue.{YardValue};
+ghost use Rattle.jv_handles.specs.Handles.{unseen};
 ghost use Rattle.jv_client.specs.Shared.{shared};
 ghost use Rattle.jv_client.specs.UnderWay.{IsReady, changes_files, left};
 ghost use Rattle.jv_client.specs.Makes.{Makes};
@@ -42,13 +43,20 @@ impl Client {
         };
         match tried {
             Ok(Changed { kind, reply, inode }) => {
-                forget_views(&mut self.handles, inode);
+                self.drop_views(inode);
                 let told = told_of(&reply);
                 self.end_as(told);
                 Made::Both(kind, told, reply)
             }
             Err(fault) => self.unmade(ActKind::Quiet, fault),
         }
+    }
+
+    /// Drops what the client saw of a file that it changed.
+    fn drop_views(&mut self, inode: u64)
+        ensures { self.new ≡ record self.old { handles = map (unseen inode) self.old.handles } }
+    {
+        forget_views(&mut self.handles, inode);
     }
 }
 

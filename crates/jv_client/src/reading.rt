@@ -14,7 +14,7 @@ ghost use Rattle.jv_client.specs.Shared.{shared};
 ghost use Rattle.jv_client.specs.UnderWay.{IsReady, does_of, left, names_open};
 ghost use Rattle.jv_client.specs.Makes.{Makes};
 ghost use Rattle.jv_client.specs.Getting.{HasFilled, IsBlockIn, ReadsBlock, yard_fault};
-ghost use Rattle.jv_client.specs.Reading.{Begins, ClientComesTo, ComesTo, GoesOnAfter, IsAhead, IsCachedAs, IsMade, OnlyLooksUp, Shows, fetch_in, need_at, need_in, put_at};
+ghost use Rattle.jv_client.specs.Reading.{Begins, ClientComesTo, ComesTo, GoesOnAfter, IsAhead, IsCachedAs, IsMade, OnlyLooksUp, Shows, fetch_at, fetch_in, need_at, need_in, put_at};
 
 use crate::answers::looks;
 use crate::client::{Client, forget};
@@ -287,10 +287,19 @@ fn take_fetch(doing: &mut Option<Doing>) -> Fetch
     ensures taken { fetch_in doing.old ≡ Some result }
     ensures left { doing.new ≡ option_map (put_at (Working 0 0 0)) doing.old }
 {
-    let Some(doing) = doing else {
-        unreachable!();
-    };
-    match replace(&mut doing.progress, Progress::FIRST) {
+    match doing {
+        Some(doing) => take_from(&mut doing.progress),
+        None => unreachable!(),
+    }
+}
+
+/// Takes the reading out of the progress of an operation that reads.
+fn take_from(progress: &mut Progress) -> Fetch
+    requires { IsSome (fetch_at progress.old) }
+    ensures taken { fetch_at progress.old ≡ Some result }
+    ensures left { progress.new ≡ Working 0 0 0 }
+{
+    match replace(progress, Progress::FIRST) {
         Progress::Reading { fetch, .. } => fetch,
         Progress::Working { .. } => unreachable!(),
     }

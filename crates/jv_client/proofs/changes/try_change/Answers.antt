@@ -1,6 +1,8 @@
 -- A truncate or a copy of the files of the operation's handles is tried.
-use Rattle.std.proofs.Common.{◌≡◌, sym, ap, subst, ◌∙◌}
+use Rattle.std.proofs.Common.{sym, ap, subst, ◌∙◌}
+use Rattle.jv_data.specs.Truncating.{due_after}
 use Rattle.jv_metadata.specs.Attempts.{mapped}
+use Rattle.jv_handles.specs.Handles.{inode_here}
 use Rattle.jv_client.specs.Changing.{TriesChange, copied_to, cut_to}
 use Rattle.jv_client.proofs.changes.try_change.Goals as goal
 
@@ -28,6 +30,6 @@ returns-in-Copy g c =
       made = c.copy_range-made.result;
       result_is = c.copied.ensures
           ∙ ap (λ inode. mapped (copied_to inode i.from c.inode_at-target.result i.to) c.copy_range-made.result) source
-          ∙ ap (λ inode. mapped (copied_to c.source.. i.from inode i.to) c.copy_range-made.result) target;
-      changes = λ caller for own other. c.copy_range-made.ensures caller _ for (own ∙ sym source) (other ∙ sym target);
+          ∙ ap (λ inode. mapped (copied_to (inode_here a.handles.now i.source) i.from inode i.to) c.copy_range-made.result) target;
+      changes = λ caller for own other. c.copy_range-made.ensures caller (due_after a.who.now.now) for (own ∙ sym source) (other ∙ sym target);
     })

@@ -14,7 +14,7 @@ use Rattle.jv_client.specs.ClientValue.{ClientValue}
 use Rattle.jv_client.specs.Shared.{shared}
 use Rattle.jv_client.specs.Ending.{ended, told_here}
 use Rattle.jv_client.specs.UnderWay.{ClosesOpen, asks_more, makes_transaction}
-use Rattle.jv_client.specs.Transacting.{EndsUnmade, answered_here, given_here, handles_given, is_tried, session_given}
+use Rattle.jv_client.specs.Transacting.{EndsUnmade, answered_here, given_here, handles_given, session_given}
 use Rattle.jv_client.specs.Transacting.{sustained_with}
 use Rattle.jv_client.specs.contracts.client.Client.{the_view}
 use Rattle.jv_client.proofs.AnswerLaws.{makes-as, no_memory-makes}
@@ -39,8 +39,8 @@ returns-then-is_err g c yard carrier =
     no_memory-makes c.args.now c.args.entry h c.fail.new.self doing.0 both c.fail.result doing.1 c.requires.ready
     (record { after_is = c.fail.ensures.after_is ∙ ap ended same; made_is = c.fail.ensures.made_is })
 
-pub attempt-requires : goal.attempt-requires
-attempt-requires g c =
+pub attempt-tried-requires : goal.attempt-tried-requires
+attempt-tried-requires g c =
     let h = c.args.self.now in
     let d = c.in-Some.doing in
     let busy : h.doing ≡ Some d = ap (λ (v : ClientValue). v.doing) (sym c.self.view_is) ∙ c.in-Some.is in
