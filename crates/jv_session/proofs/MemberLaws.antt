@@ -1,5 +1,5 @@
 -- Eight clients, of which one changes.
-use Rattle.std.proofs.Common.{◌≡◌, ◌≢◌, ℕ, zero, suc, ◌<◌, IsTrue, List, [], ◌∷◌, length, slice_get, slice_set, Option, None, Some, Result, Ok, Err, refl, sym, ap, subst, ◌∙◌, inl, inr, arith, length-set}
+use Rattle.std.proofs.Common.{◌≡◌, ◌≢◌, ℕ, zero, suc, ◌<◌, ◌≤◌, IsTrue, List, [], ◌∷◌, length, slice_get, slice_set, Option, None, Some, Result, Ok, Err, refl, sym, ap, subst, ◌∙◌, inl, inr, arith, length-set}
 use Rattle.std.specs.Prelude.{IfSome, IsSome, OnOk, OnErr}
 use Rattle.std.proofs.lemmas.Bool.Decides.{eqb_tells}
 use Rattle.std.proofs.lemmas.Option.{same_Some}
@@ -8,13 +8,14 @@ use Rattle.jv_model.specs.declared.fault.Fault.{Fault}
 use Rattle.jv_model.specs.declared.op.Op.{Op}
 use Rattle.jv_model.specs.client.ModelClient.{ModelClient}
 use Rattle.jv_model.specs.client.Submission.{submission, submitted}
+use Rattle.jv_yard.specs.YardValue.{YardValue}
 use Rattle.jv_shared.specs.Shared.{Known, Shared}
 use Rattle.jv_client.specs.Built.{is_built_op}
 use Rattle.jv_client.specs.ClientValue.{ClientValue}
 use Rattle.jv_client.specs.Held.{IsClient, in_flight, refused_with}
 use Rattle.jv_client.specs.UnderWay.{IsReady}
-use Rattle.jv_session.specs.Stands.{ScheduleValue, IsMember, IsSchedule, AreApart}
-use Rattle.jv_session.specs.InLine.{Submits}
+use Rattle.jv_session.specs.Stands.{ScheduleValue, IsMember, IsSchedule, IsYardOf, AreApart}
+use Rattle.jv_session.specs.InLine.{HasBegun, Submits}
 
 module _ {X : Type 0} where
   -- what holds of each element at its place holds after a change
@@ -164,4 +165,12 @@ refuses_at s s' k o old new called refused found is refusal err same = record {
   refused = λ g v m count h. sym (refusal g v m count h) ∙ ap refused_with is;
   same = same ∙ ap (λ (cs : List ClientValue). record s { clients = cs })
       (ap (slice_set s.clients k) (subst (λ r. OnErr r (new ≡ old)) is err) ∙ set_found s.clients k old found);
+}
+
+-- the schedule may still go on with a yard
+pub yard_begun : (s s' : ScheduleValue) (k : ℕ) (o : Op) (yard : YardValue) → HasBegun s s' k o → IsYardOf s yard
+    → IsYardOf s' yard
+yard_begun s s' k o yard h y = record {
+  block = y.block;
+  last = subst (λ (x : ScheduleValue). yard.last ≤ x.at) (sym h.same) y.last;
 }
