@@ -8,9 +8,25 @@ use Rattle.jv_client.specs.Shared.{shared}
 use Rattle.jv_client.specs.Makes.{Steps}
 use Rattle.jv_session.specs.Stands.{ScheduleValue}
 use Rattle.jv_session.specs.InLine.{HasStepped}
-use Rattle.jv_session.proofs.MemberLaws.{member_at}
+use Rattle.jv_session.proofs.MemberLaws.{member_at, stepped_schedule}
 use Rattle.jv_session.proofs.SeenLaws.{seen_yard}
 use Rattle.jv_session.proofs.schedule.Schedule.make_step.Goals as goal
+
+-- the clients are members still
+pub invariant_of-self : goal.invariant_of-self
+invariant_of-self g c =
+    let low = c.number.ensures.limit in
+    let eight = c.self.invariant.eight in
+    let k = c.number.result in
+    let clients = c.self.inside.clients in
+    let old : ClientValue = get_or clients k c.index-self-number.result in
+    let inside = slice_get-get_or clients k c.index-self-number.result (omega (arith, low, eight)) in
+    let m = member_at c.self.inside.limits c.self.inside.at c.self.inside.ticks clients k old c.self.invariant inside in
+    let seconds = c.seconds-self-inside.ensures.seconds in
+    let is = c.in_ok-now.ensures.moment.is in
+    let steps = c.step-step.ensures in
+    stepped_schedule c.self.inside.limits c.self.inside.at c.self.inside.ticks c.seconds-self-inside.result clients k
+    old c.step-step.new.self c.self.invariant (omega (arith, seconds, is)) m steps.id steps.limits steps.ready
 
 pub returns : goal.returns
 returns g c =
