@@ -18,6 +18,8 @@ use Rattle.jv_yard.specs.declared.faults.YardFault.{YardFault}
 use Rattle.jv_yard.specs.declared.faults.YardFault.TheVariants as yard
 use Rattle.jv_yard.specs.Starting.{IsStarted}
 use Rattle.jv_yard.specs.YardValue.{YardValue}
+use Rattle.jv_client.specs.Shared.{shared}
+use Rattle.jv_session.proofs.UsesLaws.{no_failures}
 use Rattle.jv_cmd.specs.declared.ended.Ended.{Ended}
 use Rattle.jv_cmd.specs.declared.ended.Ended.TheVariants.{Whole, OffLine, NoVolume, VolumeExists, NewerVersion, SettingOff, BadRow, SourceFailed, OutFailed, ClockFailed, KeeperFailed, DepotFailed, CarrierFailed, ShelfFailed, OutOfMemory}
 use Rattle.jv_cmd.specs.declared.words.request.Command.{Command}
@@ -31,14 +33,10 @@ use Rattle.jv_cmd.specs.Faults.{CountsFaults, UsesKeeper, Unopened, OpenedThere,
 use Rattle.jv_cmd.specs.Formatting.{Formats}
 use Rattle.jv_cmd.specs.Opening.{IsKnown}
 use Rattle.jv_cmd.specs.Saying.{Says}
-use Rattle.jv_cmd.specs.Stages.{StageValue, staged, world_of}
+use Rattle.jv_cmd.specs.Stages.{StageValue, stage_value, staged, world_of, yard_at}
 use Rattle.jv_cmd.specs.Steps.{EndsLines}
 use Rattle.jv_cmd.specs.Words.{IsRefusal}
 use Rattle.jv_cmd.specs.Worlds.{BlockDevices, WorldValue}
-
--- no device failed at an operation
-abbrev none : Device → ℕ
-none device = 0
 
 pub RunsCommand-session : (command : Command) (place : List ℕ) (options : SessionOptions) (before after : WorldValue)
     (ended : Ended) → command ≡ Session place options → RunsSession place options before after ended
@@ -53,7 +51,7 @@ pub RunsCommand-format : (command : Command) (place : List ℕ) (setting : Setti
     → RunsCommand command before after ended
 RunsCommand-format command place setting before after ended is formats faults keeper =
     subst (λ (c : Command). RunsCommand c before after ended) (sym is)
-    (record { answers = none; does = (formats, λ device. refl); faults = faults; keeper = keeper })
+    (record { answers = no_failures; does = (formats, λ device. refl); faults = faults; keeper = keeper })
 
 -- the words were a command
 pub RunsAsked-ran : (words : List Text) (asked : Option Command) (command : Command) (before after : WorldValue)
@@ -77,7 +75,7 @@ RunsAsked-refused words asked before err text none refusal says =
     (record { refuses = Refused text refusal refl says; others = refl })
 
 -- no line was run, and nothing else was used either
-none_run : (before : WorldValue) → RunsNone none before before
+none_run : (before : WorldValue) → RunsNone no_failures before before
 none_run before = record {
   none = λ device. refl;
   lines = record { source = refl; out = refl; clock = refl; journal = refl };
@@ -92,7 +90,7 @@ unread words None before err says = record { refuses = NoMemory refl says; other
 unread words (Some (Format place setting)) before err says = record {
   ended = OutOfMemory;
   runs = record {
-    answers = none;
+    answers = no_failures;
     does = (record { ends = (tt, refl, refl); source = refl; blocks = refl; journal = refl }, λ device. refl);
     faults = record { source = refl; out = refl; clock = refl };
     keeper = record { opened = Unopened refl; faults = refl };
@@ -103,7 +101,7 @@ unread words (Some (Format place setting)) before err says = record {
 unread words (Some (Session place options)) before err says = record {
   ended = OutOfMemory;
   runs = record {
-    answers = none;
+    answers = no_failures;
     does = NotOpened tt (none_run before) refl;
     faults = record { source = refl; out = refl; clock = refl };
     keeper = record { opened = Unopened refl; faults = refl };
@@ -210,6 +208,17 @@ late_fault yard.Memory = late_memory
 late_started : (before after : BlockDevices) (ended : Ended) → CannotStart before after ended → IsLate ended
 late_started before after ended cannot = subst IsLate (sym cannot.ended_is) (late_fault cannot.fault)
 
+-- lines that ran over a stage whose yard was just started
+pub RunsAttached-ran : (options : SessionOptions) (setting : Setting) (before after : WorldValue) (limits : Limits) (given : Option YardValue)
+    (yard : YardValue) (left : StageValue) (ended : Ended) → IsStarted setting before.blocks.depot before.blocks.shelf yard
+    → limits ≡ limits_of options setting.block → given ≡ Some yard
+    → EndsLines (stage_value limits before.source before.out (shared before.keeper (yard_at given) before.blocks.carrier) before.clock before.journal)
+    left ended → after ≡ world_of before.err left → RunsAttached options setting before after ended
+RunsAttached-ran options setting before after limits given yard left ended started bounds is ends world =
+    Ran yard left started
+    (subst (λ (l : Limits). EndsLines (staged l yard before) left ended) bounds
+    (subst (λ (y : YardValue). EndsLines (staged limits y before) left ended) (ap yard_at is) ends)) world
+
 -- what the lines did with the devices for blocks, which were in the yard
 UsesBlocks-lines : (setting : Setting) (limits : Limits) (before : WorldValue) (yard : YardValue) (left : StageValue) (ended : Ended)
     → IsStarted setting before.blocks.depot before.blocks.shelf yard → (e : EndsLines (staged limits yard before) left ended)
@@ -227,7 +236,7 @@ UsesBlocks-lines setting limits before yard left ended started e = record {
 module _ (place : List ℕ) (options : SessionOptions) (before after : WorldValue) (opened : Store) (setting : Setting) (ended : Ended)
     (known : IsKnown before.keeper.rows setting) (rows : opened.rows ≡ before.keeper.rows)
     (keeper : UsesKeeper Whole 0 place before.keeper opened) where
-  none_ran : LeavesLines (record before { keeper = opened }) after → after.keeper ≡ opened → RunsNone none before after
+  none_ran : LeavesLines (record before { keeper = opened }) after → after.keeper ≡ opened → RunsNone no_failures before after
   none_ran leaves same = record {
     none = λ device. refl;
     lines = record { source = leaves.source; out = leaves.out; clock = leaves.clock; journal = leaves.journal };
@@ -242,7 +251,7 @@ module _ (place : List ℕ) (options : SessionOptions) (before after : WorldValu
       → RunsAttached options setting (record before { keeper = opened; blocks = attached }) after ended
       → RunsSession place options before after ended
   session_attached attached are (Unstarted cannot leaves same) = record {
-    answers = none;
+    answers = no_failures;
     ends = NotStarted setting attached known (none_ran
         (record { source = leaves.source; out = leaves.out; clock = leaves.clock; journal = leaves.journal }) same) are cannot;
     keeper = keeper_late (late_started attached after.blocks ended cannot) same;
@@ -262,7 +271,7 @@ module _ (place : List ℕ) (options : SessionOptions) (before after : WorldValu
   pub RunsSession-volume : RunsVolume options setting (record before { keeper = opened }) after ended
       → RunsSession place options before after ended
   RunsSession-volume (Stopped cannot leaves same) = record {
-    answers = none;
+    answers = no_failures;
     ends = NotAttached setting known (none_ran leaves same) cannot;
     keeper = keeper_late (late_ended setting.bucket options.cache_dir before.blocks after.blocks ended cannot) same;
   }

@@ -16,41 +16,33 @@ use Rattle.jv_shared.specs.Shared.{Shared}
 use Rattle.jv_client.specs.Makes.{faults_of}
 use Rattle.jv_session.specs.Lines.{AreFailures, LineUses, StaysOpen, device_failures}
 use Rattle.jv_session.specs.Stands.{ScheduleValue, fresh_schedule}
-use Rattle.jv_session.proofs.UsesLaws.{rose_times-then}
+use Rattle.jv_session.proofs.UsesLaws.{both_failures, no_failures, rose_times-then, stays_then}
 use Rattle.jv_cmd.specs.Run.{Beginning, IsBuilt, IsKnownClock, StartsWhole, session_run, up_to}
 use Rattle.jv_cmd.specs.Stages.{StageValue}
 use Rattle.jv_cmd.specs.Steps.{Advances, AreBetween, Done, DoneOn, Going, Goes, HasUsed, IsAt, ReadsBuilt, Reaches, used}
 use Rattle.jv_cmd.specs.Texts.{texts_of}
 use Rattle.jv_cmd.proofs.ActLaws.{AreBetween-append, AreBetween-wider}
-use Rattle.jv_cmd.proofs.EntryLaws.{Enters, Enters-goes, OfNext, OfNext-settled, both, comes, comes_settled, failures_more, there, up_to-now}
+use Rattle.jv_cmd.proofs.EntryLaws.{Enters, Enters-goes, OfNext, OfNext-settled, comes, comes_settled, failures_more, there, up_to-now}
 use Rattle.jv_cmd.proofs.FreshLaws.{Stands-start}
 use Rattle.jv_cmd.proofs.ReadingLaws.{IsKnownClock-earlier, each_more, first_more, none_read, prepend_none, short_more}
 use Rattle.jv_cmd.proofs.StepLaws.{Reaches-more}
 
 -- what is used of devices
 
-pub StaysOpen-same : (a : Shared) → StaysOpen a a
-StaysOpen-same a = record { keeper_at = refl; carrier_at = refl; depot_at = refl; shelf_at = refl; setting = refl }
-
-pub StaysOpen-then : (a b c : Shared) → StaysOpen a b → StaysOpen b c → StaysOpen a c
-StaysOpen-then a b c first second = record {
-  keeper_at = second.keeper_at ∙ first.keeper_at;
-  carrier_at = second.carrier_at ∙ first.carrier_at;
-  depot_at = second.depot_at ∙ first.depot_at;
-  shelf_at = second.shelf_at ∙ first.shelf_at;
-  setting = second.setting ∙ first.setting;
-}
-
-HasUsed-none : (before : StageValue) → HasUsed before before 0 (λ device. 0)
+HasUsed-none : (before : StageValue) → HasUsed before before 0 no_failures
 HasUsed-none before =
-    record { passes = Passes-zero before.clock.answers; stays = StaysOpen-same before.devices; counts = λ device. refl }
+    record {
+      passes = Passes-zero before.clock.answers;
+      stays = record { keeper_at = refl; carrier_at = refl; depot_at = refl; shelf_at = refl; setting = refl };
+      counts = λ device. refl;
+    }
 
 pub HasUsed-line : (before now after : StageValue) (s s' : ScheduleValue) (asked asks : ℕ) (failed more : Device → ℕ)
     → HasUsed before now asked failed → LineUses (used now s) (used after s') asks more
-    → HasUsed before after (asked + asks) (both failed more)
+    → HasUsed before after (asked + asks) (both_failures failed more)
 HasUsed-line before now after s s' asked asks failed more done uses = record {
   passes = Passes-trans before.clock.answers now.clock.answers after.clock.answers asked asks done.passes uses.passes;
-  stays = StaysOpen-then before.devices now.devices after.devices done.stays uses.stays;
+  stays = stays_then before.devices now.devices after.devices done.stays uses.stays;
   counts = λ device. rose_times-then (failed device) (more device) (faults_of device before.devices) (faults_of device now.devices)
       (faults_of device after.devices) (done.counts device) (uses.counts device);
 }
@@ -80,7 +72,7 @@ module _ (left : Option (List ℕ)) (before now after : StageValue) (n : ℕ) (t
       (λ p rest. Goes p rest (n + 1) a.asks a.failed now.journal after.journal printed s' after.devices) a.goes
       known more status t
 
-  DoneOn-more : DoneOn start before after (d.lines ++ line ∷ []) (n + 1) (d.asked + a.asks) (both d.failed a.failed)
+  DoneOn-more : DoneOn start before after (d.lines ++ line ∷ []) (n + 1) (d.asked + a.asks) (both_failures d.failed a.failed)
       (text ++ printed) s'
   DoneOn-more =
       let o = OfNext-done in
@@ -126,7 +118,7 @@ Done-more left left' before now after n text printed bytes_of_line line s s' d r
       texts = d.texts ++ bytes_of_line ∷ [];
       lines = d.lines ++ line ∷ [];
       asked = d.asked + a.asks;
-      failed = both d.failed a.failed;
+      failed = both_failures d.failed a.failed;
       count = length_push d.lines line ∙ ap (λ k. k + 1) d.count;
       each = each_more d.texts d.lines bytes_of_line line d.each read.read;
       few = omega (arith, room);
@@ -148,7 +140,7 @@ Done-more left left' before now after n text printed bytes_of_line line s s' d r
 
 DoneOn-start : (start : Beginning) (before : StageValue) (setting : Setting) → before.journal ≡ []
     → before.devices.yard.setting ≡ setting → StartsWhole before start
-    → DoneOn start before before [] 0 0 (λ device. 0) [] (fresh_schedule setting before.limits)
+    → DoneOn start before before [] 0 0 no_failures [] (fresh_schedule setting before.limits)
 DoneOn-start start before setting empty is w = record {
   own = subst (λ journal. AreBetween 0 0 journal) (sym empty) tt;
   failures = λ device. ap (device_failures device) empty;
@@ -176,7 +168,7 @@ Done-start before setting empty is = record {
   texts = [];
   lines = [];
   asked = 0;
-  failed = λ device. 0;
+  failed = no_failures;
   count = refl;
   each = refl;
   few = omega arith;

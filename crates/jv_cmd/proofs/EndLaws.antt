@@ -14,6 +14,7 @@ use Rattle.jv_client.specs.Built.{is_built_line}
 use Rattle.jv_client.specs.Makes.{faults_of}
 use Rattle.jv_session.specs.Lines.{BreaksAt, Cut, CutsLine, LineUses, StaysOpen, device_failures}
 use Rattle.jv_session.specs.Stands.{InLine, ScheduleValue, Stands}
+use Rattle.jv_session.proofs.UsesLaws.{both_failures}
 use Rattle.jv_cmd.specs.declared.ended.Ended.{Ended}
 use Rattle.jv_cmd.specs.declared.ended.Ended.TheVariants.{BadRow}
 use Rattle.jv_cmd.specs.Cutting.{BeginsWith}
@@ -24,7 +25,7 @@ use Rattle.jv_cmd.specs.Stages.{StageValue}
 use Rattle.jv_cmd.specs.Steps.{Done, EndsLines, HasUsed, IsOffText, LineUnbuilt, NoLine, ReadsBuilt, Reaches, used}
 use Rattle.jv_cmd.specs.Texts.{texts_of}
 use Rattle.jv_cmd.proofs.DoneLaws.{HasUsed-line, built_more}
-use Rattle.jv_cmd.proofs.EntryLaws.{Enters, Enters-cut, OfNext, OfNext-settled, both, comes, comes_settled, failures_more, there}
+use Rattle.jv_cmd.proofs.EntryLaws.{Enters, Enters-cut, OfNext, OfNext-settled, comes, comes_settled, failures_more, there}
 use Rattle.jv_cmd.proofs.ReadingLaws.{IsKnownClock-earlier, each_more, first_is, first_more, known_then, next_is, short_more}
 use Rattle.jv_cmd.proofs.StepLaws.{InLine-cut, Legal-cut, Legal-reached, Stands-reached, printed-cut, text_of-reached}
 
@@ -136,10 +137,10 @@ module _ (left left' : Option (List ℕ)) (before now after : StageValue) (n : �
       → EndsBy ended before after (d.texts ++ bytes_of_line ∷ []) (d.lines ++ line ∷ [])
       → ((start : Beginning) (known : Option (ℕ → ℕ)) → StartsWhole before start
       → IsKnownClock known before.clock after.clock
-      → RunsWhole start known (both d.failed failed) before after ended (d.lines ++ line ∷ []))
+      → RunsWhole start known (both_failures d.failed failed) before after ended (d.lines ++ line ∷ []))
       → CountsFaults ended (on_stage before) (on_stage after) → EndsLines before after ended
   EndsLines-next ended asks failed uses cause whole faults = record {
-    answers = both d.failed failed;
+    answers = both_failures d.failed failed;
     runs = record {
       texts = d.texts ++ bytes_of_line ∷ [];
       lines = d.lines ++ line ∷ [];
@@ -153,7 +154,7 @@ module _ (left left' : Option (List ℕ)) (before now after : StageValue) (n : �
     counts = used_now.counts;
   }
     where
-      used_now : HasUsed before after (d.asked + asks) (both d.failed failed)
+      used_now : HasUsed before after (d.asked + asks) (both_failures d.failed failed)
       used_now = HasUsed-line before now after s s' d.asked asks d.failed failed d.uses uses
 
   -- which is cut off
@@ -198,7 +199,7 @@ module _ (left left' : Option (List ℕ)) (before now after : StageValue) (n : �
     pub RunsWhole-cut : (ended : Ended) → may_be_cut (status_of ended) ≡ true → (known : Option (ℕ → ℕ))
         → IsKnownClock known before.clock after.clock
         → Prints ended start known before after (d.lines ++ line ∷ [])
-        → RunsWhole start known (both d.failed c.failed) before after ended (d.lines ++ line ∷ [])
+        → RunsWhole start known (both_failures d.failed c.failed) before after ended (d.lines ++ line ∷ [])
     RunsWhole-cut ended cuts known t prints =
         let run = session_run start known (d.lines ++ line ∷ []) (status_of ended) in
         let cut = cut_there known (status_of ended) t in

@@ -7,9 +7,9 @@ use Rattle.jv_model.specs.journal.Legal.{AllAllowed}
 use Rattle.jv_model.specs.journal.Past.{Past, Setup, NoMore, begun_to, past, reached}
 use Rattle.jv_outside.specs.Ticks.{Passes}
 use Rattle.jv_shared.specs.Shared.{Shared}
-use Rattle.jv_session.specs.Lines.{AreFailures, Cut, FromThere, device_failures}
+use Rattle.jv_session.specs.Lines.{AreFailures, Cut, FromThere}
 use Rattle.jv_session.specs.Stands.{ClockFor, ScheduleValue, Stands}
-use Rattle.jv_session.proofs.UsesLaws.{failures_then}
+use Rattle.jv_session.proofs.UsesLaws.{both_failures, failures_both}
 use Rattle.jv_cmd.specs.Run.{Beginning, IsKnownClock, StartsWhole, session_run, up_to}
 use Rattle.jv_cmd.specs.Stages.{StageValue}
 use Rattle.jv_cmd.specs.Steps.{AreBetween, Done, Goes, used}
@@ -114,13 +114,8 @@ pub up_to-now : (n : ℕ) (before after : List Act) → OfNext n before after �
 up_to-now n before after o own = sym (up_to-all 0 n n before (omega arith) own)
     ∙ up_to-before n n before after o (omega arith)
 
--- the sums of two lists of counts, by device
-abbrev pub both : (Device → ℕ) → (Device → ℕ) → Device → ℕ
-both first second device = first device + second device
-
 -- entries that were appended answer so often that a device failed
 pub failures_more : (journal acts after : List Act) (failed more : Device → ℕ) → after ≡ journal ++ acts
-    → AreFailures journal failed → AreFailures acts more → AreFailures after (both failed more)
-failures_more journal acts after failed more grows first last device =
-    ap (device_failures device) grows ∙ failures_then device journal acts ∙ ap (λ count. count + device_failures device acts) (first device)
-    ∙ ap (λ count. failed device + count) (last device)
+    → AreFailures journal failed → AreFailures acts more → AreFailures after (both_failures failed more)
+failures_more journal acts after failed more grows first last =
+    subst (λ entries. AreFailures entries (both_failures failed more)) (sym grows) (failures_both journal acts failed more first last)

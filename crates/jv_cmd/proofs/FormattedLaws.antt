@@ -1,18 +1,23 @@
 -- A volume that was just formatted, over a keeper without rows, is one that a session may start on.
-use Rattle.std.proofs.Common.{◌≡◌, ℕ, ◌^◌, ◌<◌, ◌==◌, Bool, true, false, List, [], ◌∷◌, None, Some, Ok, refl, sym, ap, subst, ◌∙◌, arith, eqb-true}
-use Rattle.std.specs.Prelude.{◌||◌, IsTrue}
+use Rattle.std.proofs.Common.{◌≡◌, ℕ, ◌^◌, ◌<◌, Bool, true, false, List, [], ◌∷◌, None, Some, Ok, inl, inr, refl, sym, ap, subst, ◌∙◌, arith}
+use Rattle.std.specs.Prelude.{◌&&◌, if◌then◌else◌, is_some, IsTrue}
 use Rattle.std.specs.Option.{option_map}
 use Rattle.jv_model.specs.declared.limits.TheConstants.{ROOT, TRASH_ROOT}
 use Rattle.jv_model.specs.declared.row.RowKey.{RowKey}
 use Rattle.jv_model.specs.declared.row.Row.TheVariants.{OfSetting, OfCounters, OfNode}
 use Rattle.jv_model.specs.declared.setting.Setting.{Setting}
-use Rattle.jv_model.specs.FiniteMap.{empty_map, get, insert, map_of}
+use Rattle.jv_model.specs.declared.slice.BlockId.{BlockId}
+use Rattle.jv_model.specs.FiniteMap.{empty_map, get, insert, map_of, text_key}
 use Rattle.jv_model.specs.rows.RowGrammar.{is_node, is_setting, setting_bytes, counters_bytes, node_bytes, row_of}
 use Rattle.jv_model.specs.rows.RowKeys.{row_key, RowMap}
-use Rattle.jv_model.specs.rows.RowPlaces.{setting_key, counters_key, node_key}
-use Rattle.jv_model.proofs.FiniteMapLaws.{same_maps}
+use Rattle.jv_model.specs.rows.RowPlaces.{setting_key, counters_key, node_key, slice_key}
+use Rattle.jv_model.proofs.FiniteMapLaws.{get-empty_map, same_maps}
+use Rattle.jv_outside.specs.Blocks.{StagedMap, staged_at, staged_key}
+use Rattle.jv_outside.specs.Holding.{Holding}
+use Rattle.jv_outside.specs.Objects.{ObjectMap, bytes_at}
 use Rattle.jv_outside.specs.Rows.{applied}
 use Rattle.jv_volume.specs.TypedRows.{Cell, Rows, typed}
+use Rattle.jv_volume.specs.Views.{row_in, setting_at, slice_in, slice_row_at}
 use Rattle.jv_volume.specs.Whole.{Whole}
 use Rattle.jv_volume.proofs.FreshWholeLaws.{first_rows, whole-first_rows}
 use Rattle.jv_volume.proofs.TypedLaws.{typed-insert-row}
@@ -20,11 +25,23 @@ use Rattle.jv_volume.proofs.WrittenRowsLaws.{none_at}
 use Rattle.jv_rows.specs.FreshRows.{fresh_counters, fresh_directory, fresh_rows, root_mode, trash_mode}
 use Rattle.jv_rows.specs.RoundTrips.{SettingWidths}
 use Rattle.jv_rows.proofs.ExactRows.{setting_exact, counters_exact, node_exact}
-use Rattle.jv_cmd.specs.Run.{StartsWhole}
+use Rattle.jv_yard.specs.Contents.{blocks_in, is_block, name_in}
+use Rattle.jv_yard.specs.Later.{IsCopy, contents_of}
+use Rattle.jv_yard.specs.Staging.{staged_since}
+use Rattle.jv_yard.specs.Starting.{IsStarted}
+use Rattle.jv_yard.proofs.CallLaws.{IsKept-started}
+use Rattle.jv_shared.specs.Fresh.{IsFresh}
+use Rattle.jv_shared.specs.Shared.{Shared, staged_in}
 
 -- the rows that `format` puts, over none
 abbrev pub formatted : Setting → ℕ → RowMap
 formatted setting at = applied (fresh_rows setting at) empty_map
+
+none_object : (name : List ℕ) → bytes_at name empty_map ≡ None
+none_object name = ap (λ object. option_map (λ (o : List ℕ × ℕ). o.0) object) (get-empty_map text_key name)
+
+none_staged : (client : ℕ) (name : List ℕ) → staged_at client name empty_map ≡ None
+none_staged client name = get-empty_map staged_key (client, name)
 
 -- four rows, the first put first
 abbrev four : Cell → Cell → Cell → Cell → Rows
@@ -115,17 +132,49 @@ module _ (setting : Setting) (at : ℕ) (widths : SettingWidths setting) (allowe
       ∙ four_rows (Ok (OfSetting setting)) (Ok (OfCounters fresh_counters))
       (Ok (OfNode (fresh_directory root_mode at))) (Ok (OfNode (fresh_directory trash_mode at)))
 
-  bare : (key : RowKey) (a b c : Bool) → (key.tab == 4) ≡ a → (key.tab == 5) ≡ b → (key.tab == 9) ≡ c
-      → (a || b || c) ≡ true → get (first_rows setting at) key ≡ None
-  bare key true b c four five nine is = none_at 4 key entries (eqb-true key.tab 4 four) tt
-  bare key false true c four five nine is = none_at 5 key entries (eqb-true key.tab 5 five) tt
-  bare key false false true four five nine is = none_at 9 key entries (eqb-true key.tab 9 nine) tt
-  bare key false false false four five nine is = cc
+  setting_formatted : setting_at (typed (formatted setting at)) ≡ Some setting
+  setting_formatted = ap setting_at typed_formatted
 
-  pub StartsWhole-formatted : StartsWhole (Some (formatted setting at)) (formatted setting at)
-  StartsWhole-formatted = record {
-    known = refl;
-    whole = subst Whole (sym typed_formatted) (whole-first_rows setting at);
-    bare = λ key is. ap (λ rows. get rows key) typed_formatted
-        ∙ bare key (key.tab == 4) (key.tab == 5) (key.tab == 9) refl refl refl is;
-  }
+  -- no slice has a row
+  no_slices : (id : ℕ) → slice_row_at (typed (formatted setting at)) id ≡ None
+  no_slices id = ap (λ (rows : Rows). slice_row_at rows id) typed_formatted
+      ∙ ap (λ cell. slice_in (row_in cell)) (none_at 5 (slice_key id) entries refl tt)
+
+  -- over an object store and a local disk without content
+  module _ (v : Shared) (depot : Holding ObjectMap) (shelf : Holding StagedMap) (started : IsStarted setting depot shelf v.yard)
+      (rows : v.keeper.rows ≡ Some (formatted setting at)) (objects : depot.content ≡ Some empty_map)
+      (staged : shelf.content ≡ Some empty_map) where
+    no_copy : (name bytes : List ℕ) → IsCopy (contents_of empty_map empty_map v.yard) name bytes → ⊥
+    no_copy name bytes (inl object) = absurd (let none = none_object name in cc)
+    no_copy name bytes (inr copy) = absurd (let none = none_staged copy.client name in let is = copy.bytes_are in cc)
+
+    no_block : (block : Setting) (b : BlockId) (bytes : List ℕ) → blocks_in block empty_map b ≡ Some bytes → ⊥
+    no_block block b bytes is = by_test (is_block block.block b) is
+      where
+        by_test : (test : Bool) → (if test then bytes_at (name_in block b) empty_map else None) ≡ Some bytes → ⊥
+        by_test true e = absurd (let none = none_object (name_in block b) in cc)
+        by_test false e = absurd (cc)
+
+    no_staged : (client : ℕ) (b : BlockId) (bytes : List ℕ) → staged_in v.yard empty_map client b ≡ Some bytes → ⊥
+    no_staged client b bytes is = by_test (is_block v.yard.setting.block b && is_some (staged_since client (name_in v.yard.setting b) v.yard.staged)) is
+      where
+        by_test : (test : Bool) → (if test then staged_at client (name_in v.yard.setting b) empty_map else None) ≡ Some bytes → ⊥
+        by_test true e = absurd (let none = none_staged client (name_in v.yard.setting b) in cc)
+        by_test false e = absurd (cc)
+
+    pub IsFresh-formatted : IsFresh v
+    IsFresh-formatted = record {
+      rows = formatted setting at;
+      rows_are = rows;
+      whole = subst Whole (sym typed_formatted) (whole-first_rows setting at);
+      setting = setting_formatted ∙ ap Some (sym started.setting_is);
+      objects = empty_map;
+      objects_are = ap (λ (d : Holding ObjectMap). d.content) started.depot_same ∙ objects;
+      staged = empty_map;
+      staged_are = ap (λ (h : Holding StagedMap). h.content) started.shelf_same ∙ staged;
+      there = λ id slice is index low. absurd (let none = no_slices id in cc);
+      kept = IsKept-started setting depot shelf v.yard started;
+      alike = λ name one other first second. absurd (no_copy name one first);
+      below = λ b bytes is. absurd (no_block v.yard.setting b bytes is);
+      staged_below = λ client b bytes is. absurd (no_staged client b bytes is);
+    }

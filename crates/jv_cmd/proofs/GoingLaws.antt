@@ -194,7 +194,7 @@ module _ (left left0 : Option (List ℕ)) (before now after : StageValue) (n cou
       faults
 
   -- a text was run, or the run ended there
-  pub Turns-text : (ran : Result (Unit {0}) Ended) → TextEnds (n + 1) (take count held) now after s s' ran
+  Turns-text : (ran : Result (Unit {0}) Ended) → TextEnds (n + 1) (take count held) now after s s' ran
       → Turns (prepend_known (drop (count + 1) held) left0) before after n s' ran
   Turns-text (Ok unit) ends =
       record {
@@ -273,6 +273,15 @@ module _ (left left0 : Option (List ℕ)) (before now after : StageValue) (n cou
   Turns-text (Err DepotFailed) ends = absurd ends
   Turns-text (Err CarrierFailed) ends = absurd ends
   Turns-text (Err ShelfFailed) ends = absurd ends
+
+  -- the same, where the text, what is held then and what is left are known by equations
+  pub Turns-front : (text rest : List ℕ) (last : Option (List ℕ)) (ran : Result (Unit {0}) Ended) → text ≡ take count held
+      → rest ≡ drop (count + 1) held → last ≡ left0 → TextEnds (n + 1) text now after s s' ran
+      → Turns (prepend_known rest last) before after n s' ran
+  Turns-front text rest last ran is passed same ends =
+      subst (λ l. Turns (prepend_known rest l) before after n s' ran) (sym same)
+      (subst (λ r. Turns (prepend_known r left0) before after n s' ran) (sym passed)
+      (Turns-text ran (subst (λ t. TextEnds (n + 1) t now after s s' ran) is ends)))
 
 -- the run ended before a line, by what was read of the source
 module _ (left : Option (List ℕ)) (before now : StageValue) (source : Stream) (n : ℕ) (s : ScheduleValue)

@@ -2,6 +2,7 @@
 pub mod TextLaws
 pub mod Buffers
 pub mod CuttingLaws
+pub mod StageLaws
 pub mod StepLaws
 pub mod FreshLaws
 pub mod FormattedLaws

@@ -10,11 +10,10 @@ use Rattle.jv_model.specs.journal.Past.{Past, Setup, NoMore, is_over, at_start, 
 use Rattle.jv_laws.proofs.JournalGrowthLaws.{begun_to-twice, begun_to-next, past-append, AllAllowed-append, past-begun_to, AllAllowed-begun_to}
 use Rattle.jv_model.specs.declared.fault.Device.{Device}
 use Rattle.jv_shared.specs.Shared.{Shared}
-use Rattle.jv_outside.specs.Ticks.{Ticks, Passes}
-use Rattle.jv_outside.proofs.TicksLaws.{Passes-zero}
+use Rattle.jv_outside.specs.Ticks.{Ticks}
 use Rattle.jv_session.specs.Lines.{LineState, LeavesAll, SaysLine, Cut}
-use Rattle.jv_client.specs.Makes.{faults_of}
-use Rattle.jv_session.specs.Stands.{InLine, IsYardOf, ScheduleValue, Stands}
+use Rattle.jv_session.specs.Stands.{InLine, ScheduleValue, Stands}
+use Rattle.jv_session.proofs.UsesLaws.{no_failures, uses_nothing}
 use Rattle.jv_cmd.specs.Steps.{IsAt, Reaches, Goes, Advances, used}
 use Rattle.jv_cmd.specs.Stages.{StageValue}
 
@@ -140,22 +139,8 @@ pub Advances-quiet : (line : Line) (number : ℕ) (before after : StageValue) (s
     → line ≡ Empty → LeavesAll (used before s) (used after s') → Advances line number before after s s' []
 Advances-quiet line number before after s s' empty leaves = record {
   asks = 0;
-  failed = λ device. 0;
-  uses = record {
-    passes = subst (λ (later : Ticks). Passes before.clock.answers later.answers 0) (sym leaves.clock)
-        (Passes-zero before.clock.answers);
-    stays = record {
-      keeper_at = ap (λ (v : Shared). v.keeper.opened) leaves.devices;
-      carrier_at = ap (λ (v : Shared). v.carrier.opened) leaves.devices;
-      depot_at = ap (λ (v : Shared). v.yard.depot.opened) leaves.devices;
-      shelf_at = ap (λ (v : Shared). v.yard.shelf.opened) leaves.devices;
-      setting = ap (λ (v : Shared). v.yard.setting) leaves.devices;
-    };
-    limits = ap (λ (v : ScheduleValue). v.limits) leaves.schedule;
-    counts = λ device. ap (faults_of device) leaves.devices;
-    yard = λ fits. subst (λ (v : Shared). IsYardOf s' v.yard) (sym leaves.devices)
-        (subst (λ (v : ScheduleValue). IsYardOf v before.devices.yard) (sym leaves.schedule) fits);
-  };
+  failed = no_failures;
+  uses = uses_nothing (used before s) (used after s') (ap (λ (ticks : Ticks). ticks.answers) leaves.clock) leaves.devices leaves.schedule;
   goes = λ p more stands next rest count clock.
       let is : begun (turned p more) Empty ≡ begun_to number p =
       sym (begun_to-next number p next ∙ next_is p more (rest ∙ ap (λ (l : Line). l ∷ more) empty)) in

@@ -1,5 +1,6 @@
 -- What is seen of what the lines of a script use.
 use Rattle.std.specs.Prelude.{◌≡◌, ℕ, List, [], Option, None, Some}
+use Rattle.std.specs.Option.{option_map}
 use Rattle.jv_model.specs.declared.act.Act.{Act}
 use Rattle.jv_model.specs.declared.basics.Limits.{Limits}
 use Rattle.jv_model.specs.declared.setting.Setting.{Setting}
@@ -39,6 +40,10 @@ unseen = record { content = None; opened = None; faults = 0 }
 abbrev pub yard_at : Option YardValue → YardValue
 yard_at None = yard_value unseen unseen no_setting (λ client. empty_map) 0 []
 yard_at (Some yard) = yard
+
+-- what a door has, seen by a function on yards
+abbrev pub given_by : {T : Type 0} → Option T → (T → YardValue) → Option YardValue
+given_by found see = option_map see found
 
 -- a world whose depot and shelf are in this yard
 abbrev pub staged : Limits → YardValue → WorldValue → StageValue

@@ -1,9 +1,11 @@
-ghost use Rattle.std.specs.Prelude.{◌≡◌, ℕ, ◌≤◌, ◌<◌, [], IsSome, IsSomeAnd, IsTrue, OnOk};
+ghost use Rattle.std.specs.Prelude.{◌≡◌, ◌↔◌, ◌≤◌, ◌<◌, [], IsSome, IsSomeAnd, IsTrue, OnOk};
 ghost use Rattle.std.specs.Io.KnownBytes.{prepend_known};
 ghost use Rattle.jv_model.specs.declared.limits.TheConstants.{MAX_DATA};
+ghost use Rattle.jv_model.specs.declared.op.Line.TheVariants.{Empty};
 ghost use Rattle.jv_client.specs.Built.{is_built_line};
+ghost use Rattle.jv_session.specs.Lines.{LineRuns};
 ghost use Rattle.jv_session.specs.Stands.{IsYardOf};
-ghost use Rattle.jv_cmd.specs.Steps.{TextReads, LineEnds, TextEnds, Going, EndsLines, Turns};
+ghost use Rattle.jv_cmd.specs.Steps.{TextReads, LineEnds, TextEnds, Going, EndsLines, Turns, used};
 ghost use Rattle.jv_cmd.specs.Stages.{IsFirst, StageValue};
 
 use crate::ended::Ended;
@@ -38,6 +40,36 @@ fn discard(line: Line) {
     drop(line);
 }
 
+/// Runs a line over what lines use.
+fn make_line<S: Source, O: Sink, K: Keeper, D: Depot, H: Shelf, C: Clock>(
+    line: Line,
+    number: u32,
+    schedule: &mut Schedule,
+    stage: &mut Stage<S, O, K, D, H, C>,
+) -> LineEnd
+    requires built { IsTrue (is_built_line schedule.old.limits line) }
+    requires yard { let given = ⟦<Alone<D, H> as YardDoor<D, H>>⟧.given in
+        IsSomeAnd (given stage.old.door) (IsYardOf schedule.old) }
+    ensures runs { let seen = ⟦<Stage<S, O, K, D, H, C> as ObservedStage>⟧.seen in
+        LineRuns line number (used (seen stage.old) schedule.old) (used (seen stage.new) schedule.new)
+        result }
+    ensures source { stage.new.source ≡ stage.old.source }
+    ensures out { stage.new.out ≡ stage.old.out }
+    ensures yard { let given = ⟦<Alone<D, H> as YardDoor<D, H>>⟧.given in
+        IsSomeAnd (given stage.new.door) (IsYardOf schedule.new) }
+    ensures quiet { (result ≡ LineEnd.Quiet) ↔ (line ≡ Empty) }
+{
+    schedule.line(
+        line,
+        number,
+        &mut stage.keeper,
+        &mut stage.door,
+        &mut *stage.carrier,
+        &mut stage.clock,
+        &mut stage.journal,
+    )
+}
+
 /// Runs a line, and prints its answer where it has one. Where the clock fails or memory runs out, the steps made so far
 /// stand, and nothing is printed.
 fn run_line<S: Source, O: Sink, K: Keeper, D: Depot, H: Shelf, C: Clock>(
@@ -55,15 +87,7 @@ fn run_line<S: Source, O: Sink, K: Keeper, D: Depot, H: Shelf, C: Clock>(
     ensures yard { let given = ⟦<Alone<D, H> as YardDoor<D, H>>⟧.given in
         IsSomeAnd (given stage.new.door) (IsYardOf schedule.new) }
 {
-    match schedule.line(
-        line,
-        number,
-        &mut stage.keeper,
-        &mut stage.door,
-        &mut *stage.carrier,
-        &mut stage.clock,
-        &mut stage.journal,
-    ) {
+    match make_line(line, number, schedule, stage) {
         LineEnd::Said(answer) => match write_whole(&mut stage.out, answer.as_slice()) {
             Ok(()) => Ok(()),
             Err(_) => Err(Ended::OutFailed),

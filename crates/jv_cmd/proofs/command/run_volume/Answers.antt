@@ -1,9 +1,9 @@
 use Rattle.std.proofs.Common.{refl}
-use Rattle.jv_cmd.specs.Commands.{Stopped, Ran}
+use Rattle.jv_cmd.specs.Commands.{Attached, Stopped}
 use Rattle.jv_cmd.proofs.command.run_volume.Goals as goal
 
 pub returns-in-Ok-clause-runs : goal.returns-in-Ok-clause-runs
-returns-in-Ok-clause-runs g c = Ran _ c.in-Ok.ensures c.run_script.ensures.runs c.run_script.ensures.attached
+returns-in-Ok-clause-runs g c = Attached _ c.in-Ok.ensures c.run_attached.ensures.runs
 
 pub returns-in-Err-clause-runs : goal.returns-in-Err-clause-runs
 returns-in-Err-clause-runs g c = Stopped c.in-Err.ensures
