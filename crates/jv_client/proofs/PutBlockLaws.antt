@@ -1,8 +1,8 @@
 -- The request of a flush for one block of its segment's slice: the block is put, and the slice goes on being in flight; or the
 -- carrier or the depot fails, and the operation ends.
-use Rattle.std.proofs.Common.{◌≡◌, ℕ, suc, ◌+◌, ◌-◌, ◌*◌, ◌≤◌, ◌<◌, Bool, true, false, ◌==◌, List, [], ◌∷◌, length, Option}
-use Rattle.std.proofs.Common.{None, Some, Result, Ok, Err, refl, sym, ap, subst, ◌∙◌, arith}
-use Rattle.std.specs.Prelude.{IsTrue, if◌then◌else◌}
+use Rattle.std.proofs.Common.{◌≡◌, ℕ, suc, ◌+◌, ◌-◌, ◌≤◌, ◌<◌, ◌==◌, List, [], ◌∷◌, length, Option}
+use Rattle.std.proofs.Common.{Some, Result, Ok, Err, refl, sym, ap, subst, ◌∙◌, arith}
+use Rattle.std.specs.Prelude.{if◌then◌else◌}
 use Rattle.std.specs.Option.{option_map}
 use Rattle.std.proofs.lemmas.Nat.{mul-le}
 use Rattle.jv_model.specs.declared.limits.TheConstants.{WINDOW}
@@ -39,7 +39,7 @@ use Rattle.jv_client.specs.declared.made.Made.{Made}
 use Rattle.jv_client.specs.declared.made.Made.TheVariants.{Answer, Request as AsksFor}
 use Rattle.jv_client.specs.ClientValue.{ClientValue}
 use Rattle.jv_client.specs.Flushing.{bytes_of}
-use Rattle.jv_client.specs.Held.{IsClient, IsOnWay, flight_of, flush_of_code, in_flight, number_of, stage_of}
+use Rattle.jv_client.specs.Held.{IsClient, IsOnWay, flight_of, flush_of_code, number_of, stage_of}
 use Rattle.jv_client.specs.UnderWay.{IsAt, IsReady, left, moved_to, progress_of}
 use Rattle.jv_client.specs.Makes.{Makes, UsesDevices, faults_of, tells_failure}
 use Rattle.jv_client.specs.Transacting.{Fails}
