@@ -1,6 +1,6 @@
 -- An operation is answered that has nothing to ask for: a close, a flush, a read of no bytes, a look at the cache's numbers, and a
 -- write that there is room for.
-use Rattle.std.proofs.Common.{◌≡◌, ℕ, ◌+◌, ◌≤◌, true, false, not, List, [], ◌∷◌, length, Option, None, Some, refl, sym, ap, subst, ◌∙◌, arith}
+use Rattle.std.proofs.Common.{◌≡◌, ℕ, ◌+◌, ◌≤◌, Bool, true, false, not, List, [], ◌∷◌, length, Option, None, Some, refl, sym, ap, subst, ◌∙◌, arith}
 use Rattle.std.specs.Prelude.{◌==◌, ◌||◌, IfSome, if◌then◌else◌, filter, is_some}
 use Rattle.std.proofs.lemmas.Bool.{not-true}
 use Rattle.jv_model.specs.declared.act.ActKind.TheVariants.{Answered as IsAnswered}

@@ -13,17 +13,17 @@ use Rattle.jv_client.proofs.SubmissionLaws.{refusal-by, begun-stands}
 use Rattle.jv_client.proofs.client.Client.submit.Goals as goal
 
 pub returns-in-Some-clause-refusal : goal.returns-in-Some-clause-refusal
-returns-in-Some-clause-refusal c g v m count h = sym c.in-Some.is
-    ∙ refusal-by g v m count c.args.self.now c.args.op c.profile-row.result c.refusal.result h c.profile-row.ensures
+returns-in-Some-clause-refusal c g all m count h = sym c.in-Some.is
+    ∙ refusal-by g all m count c.args.self.now c.args.op c.profile-row.result c.refusal.result h c.profile-row.ensures
     c.refusal.ensures
 
 pub returns-clause-refusal : goal.returns-clause-refusal
-returns-clause-refusal c g v m count h = sym c.in_default.is
-    ∙ refusal-by g v m count c.args.self.now c.args.op c.profile-row.result c.refusal.result h c.profile-row.ensures
+returns-clause-refusal c g all m count h = sym c.in_default.is
+    ∙ refusal-by g all m count c.args.self.now c.args.op c.profile-row.result c.refusal.result h c.profile-row.ensures
     c.refusal.ensures
 
 pub returns-clause-begun : goal.returns-clause-begun
-returns-clause-begun c g v m count h =
+returns-clause-begun c g all m count h =
     let value : ClientValue = c.args.self.now in
     let o = c.args.op in
     let row : c.profile-row.result ≡ profile o = c.profile-row.ensures in
@@ -33,11 +33,11 @@ returns-clause-begun c g v m count h =
     let flush = c.flush_of-flush.ensures ∙ ap (λ (r : Profile). flush_here value r) row in
     let doing = c.begun.ensures ∙ ap (λ does. begun o does c.flush_of-flush.result) does
     ∙ ap (begun o (by_limits value.limits (profile o).does)) flush in
-    let stands = subst (λ (d : Doing). IsClient g v (submitted value.limits o m) count
-    (record value { doing = Some d })) (sym doing) (begun-stands g v m count value o h) in
-    let placed = subst (λ (d : Option Doing). IsClient g v (submitted value.limits o m) count
+    let stands = subst (λ (d : Doing). IsClient g all (submitted value.limits o m) count
+    (record value { doing = Some d })) (sym doing) (begun-stands g all m count value o h) in
+    let placed = subst (λ (d : Option Doing). IsClient g all (submitted value.limits o m) count
     (record value { doing = d })) (sym c.begin.ensures) stands in
-    subst (λ (v : ClientValue). IsClient g v (submitted value.limits o m) count
+    subst (λ (v : ClientValue). IsClient g all (submitted value.limits o m) count
     (record v { doing = c.begin.new.doing })) (sym seen) placed
 
 pub returns-clause-ready : goal.returns-clause-ready
