@@ -257,15 +257,12 @@ module _ (now entry : ℕ) (h after : ClientValue) (before : Shared) (yard : Yar
         → Makes now entry h after before (record before { yard = yard; carrier = carrier }) done
     block-put long short block there puts moment moment_is after_is done_is =
         let d = in_progress h.doing (Working quiets started id) at in
-        let progress : ℕ → Progress = λ moment. Working (quiets + 1) moment id in
-        makes-as now entry h after
-        (record h { doing = Some (moved_to (progress (if quiets == 1 then now else started)) d.0) }) before
-        (record before { yard = yard; carrier = carrier }) (record before { yard = yard; carrier = carrier }) done
-        (AsksFor Quiet)
-        (after_is
-        ∙ ap (λ moment. record h { doing = option_map (moved_to (progress moment)) h.doing }) moment_is
-        ∙ ap (λ (o : Option Doing). record h { doing = option_map (moved_to (progress
-        (if quiets == 1 then now else started))) o }) d.1)
+        let first : ℕ = if quiets == 1 then now else started in
+        let moved : ℕ → Option Doing → ClientValue =
+        λ moment o. record h { doing = option_map (moved_to (Working (quiets + 1) moment id)) o } in
+        makes-as now entry h after (moved first (Some d.0)) before (record before { yard = yard; carrier = carrier })
+        (record before { yard = yard; carrier = carrier }) done (AsksFor Quiet)
+        (after_is ∙ ap (λ moment. moved moment h.doing) moment_is ∙ ap (moved first) d.1)
         refl done_is
         (puts_block now entry h d.0 before yard carrier segment quiets (quiets - 1) started id d.1 ready next d.2 one_less
         (ap length (sym bytes_are) ∙ long) short block there (puts_same (Ok tt) puts))
