@@ -1,5 +1,5 @@
 -- The yard is taken, the line runs over it, and it is in its door again.
-use Rattle.std.proofs.Common.{◌≡◌, Option, Some, sym, subst}
+use Rattle.std.proofs.Common.{Option, sym, subst}
 use Rattle.std.specs.Prelude.{IsSomeAnd}
 use Rattle.jv_yard.specs.YardValue.{YardValue}
 use Rattle.jv_client.specs.Shared.{shared}

@@ -1,5 +1,4 @@
 -- An operation is submitted, and run to its end or refused.
-use Rattle.std.proofs.Common.{subst}
 use Rattle.jv_model.specs.declared.op.Line.TheVariants as line
 use Rattle.jv_client.specs.Shared.{shared}
 use Rattle.jv_session.specs.Lines.{line_state}
