@@ -112,7 +112,7 @@ seen_opened handle window view handles file opened =
 pub not_seen : (views : SeenViews) (parts : List Asked) (window : ℕ) → first_unseen views parts window
     → view_at views window ≡ None
 not_seen views [] window h = absurd h
-not_seen views (asked ∷ others) window h = ap (view_at views) (sym h.0) ∙ h.1
+not_seen views (asked ∷ others) window h = h.1
 
 -- and is seen then
 then_seen : (views : SeenViews) (parts : List Asked) (window : ℕ) (view : View) → first_unseen views parts window
