@@ -1,7 +1,7 @@
 -- Readings: how one begins, goes ahead without a request, and what it returns.
 use Rattle.std.proofs.Common.{◌≡◌, ◌≢◌, ℕ, zero, ◌+◌, ◌-◌, ◌*◌, ◌/◌, ◌≤◌, ◌<◌, Bool, true, false, List, [], ◌∷◌, length}
 use Rattle.std.proofs.Common.{suc, Option, None, Some, refl, sym, ap, subst, ◌∙◌, arith}
-use Rattle.std.specs.Prelude.{is_some, not, IfSome, IsSomeAnd, IsTrue}
+use Rattle.std.specs.Prelude.{is_some, not, IfSome, IsSomeAnd, IsTrue, OnErr, Result, Ok, Err}
 use Rattle.std.specs.Option.{option_map}
 use Rattle.jv_model.specs.declared.limits.TheConstants.{FILE_END, WINDOW}
 use Rattle.jv_model.specs.declared.op.Op.TheVariants as op
@@ -22,7 +22,8 @@ use Rattle.jv_handles.specs.Held.{IsHandle}
 use Rattle.jv_handles.specs.Views.{SeenViews, view_at}
 use Rattle.jv_handles.proofs.HandleLaws.{handles-there}
 use Rattle.jv_fetching.specs.declared.need.Need.{Need}
-use Rattle.jv_fetching.specs.Fetching.{Fetching, begins, fetch_left}
+use Rattle.jv_fetching.specs.declared.need.Need.TheVariants.{Nothing}
+use Rattle.jv_fetching.specs.Fetching.{Fetching, begins, fetch_left, fetched_of}
 use Rattle.jv_fetching.specs.Going.{CanFetch, IsFetching}
 use Rattle.jv_fetching.specs.Calls.{AreSizedBy, HasCached, IsCacheOf, LooksUp, Wants, first_seen}
 use Rattle.jv_fetching.specs.Shows.{IsReadBy, One, Two}
@@ -230,12 +231,9 @@ pub record HasCache (h : ClientValue) (cache : Cached) : Type 0 where
 
 module _ (offset len block : ℕ) (h : ClientValue) (d : Doing) (busy : h.doing ≡ Some d)
     (is : d.does ≡ does.Reads offset len) (ready : IsReady h) (none : left h ≡ None) (first : need_in h.doing ≡ None)
-    where
+    (on : ReadsFile h d offset len) where
   abbrev start : Fetching
   start = begins block (asked_parts offset len)
-
-  abbrev on : ReadsFile h d offset len
-  on = reads-file h d offset len is (under h d busy ready).form
 
   opened : file_of h.handles (handle_of d.op) ≡ Some on.file
   opened = ap (λ o. file_of h.handles (handle_of o)) on.op_is ∙ on.opened
@@ -350,6 +348,20 @@ module _ (offset len block : ℕ) (h : ClientValue) (d : Doing) (busy : h.doing 
           (begins-well blocks));
     }
 
+-- ---- it has read all
+
+pub reads-all : (views : SeenViews) (cache : Cached) (fetch next : Fetching) (need : Need) (found : Found)
+    → next.block ≡ fetch.block → need ≡ Nothing → Wants views next need
+    → ((blocks : Blocks) (all : List Asked) → HasCached blocks views fetch.block cache
+    → IsFetching blocks views all fetch → IsFetching blocks views all next)
+    → read_of found ≡ fetched_of next → ComesTo views cache fetch (ahead.Read found)
+reads-all views cache fetch next need found block none wants reads is = λ blocks all cached fetching.
+    let over : Wants views next Nothing = subst (Wants views next) none wants in
+    let by : IsReadBy (told_by next.block blocks) views all (fetched_of next) =
+    fetches_show.done blocks views all next over.1 (reads blocks all cached fetching) in
+    subst (λ n. IsReadBy (told_by n blocks) views all (read_of found)) block
+    (subst (IsReadBy (told_by next.block blocks) views all) (sym is) by)
+
 -- ---- with the cache that is there, or a new one
 
 made_cache : (before after : Option Cached) (cache : Cached) → IsMade before after → after ≡ Some cache
@@ -389,18 +401,24 @@ module _ (h middle after : ClientValue) (made : Option Cached) (is_made : IsMade
     abbrev here : ReadsHere h offset len
     here = reads-here h offset len does ready
 
-    comes-here : (ahead : Ahead) → ClientComesTo (begins block (asked_parts offset len)) middle ahead
+    comes-here : (fetch : Fetching) (came ahead : Ahead) → fetch ≡ begins block (asked_parts offset len)
+        → came ≡ ahead → ClientComesTo fetch middle came
         → ComesTo here.file.file.views looks.cache (begins block (asked_parts offset len)) ahead
-    comes-here ahead comes =
-        comes here.d here.file.file looks.cache (ap (λ (h : ClientValue). h.doing) middle_is ∙ here.busy)
-        (ap (λ (h : ClientValue). file_of h.handles (handle_of here.d.op)) middle_is ∙ here.opened) looks.was
+    comes-here fetch came ahead of_fetch of_ahead comes =
+        subst (ComesTo here.file.file.views looks.cache (begins block (asked_parts offset len))) of_ahead
+        (subst (λ (fetch : Fetching). ComesTo here.file.file.views looks.cache fetch came) of_fetch (comes here.d here.file.file looks.cache (ap (λ (h : ClientValue). h.doing) middle_is ∙ here.busy)
+        (ap (λ (h : ClientValue). file_of h.handles (handle_of here.d.op)) middle_is ∙ here.opened) looks.was))
 
-    pub begins-none : (fetch : Fetching) (next : Need)
-        → ClientComesTo (begins block (asked_parts offset len)) middle (ahead.Needs fetch next) → (end : ClientValue)
-        → end ≡ record after { doing = option_map (put_at (Reading fetch next)) after.doing }
+    pub begins-none : (start : Fetching) (came : Ahead) (fetch : Fetching) (next : Need)
+        → start ≡ begins block (asked_parts offset len) → came ≡ ahead.Needs fetch next
+        → ClientComesTo start middle came → (doing : Option Doing) (end : ClientValue)
+        → doing ≡ option_map (put_at (Reading fetch next)) after.doing → end ≡ record after { doing = doing }
         → Begins offset len block h end None
-    begins-none fetch next comes end end_is =
+    begins-none start came fetch next of_start of_ahead comes doing end doing_is put_is =
         let d = here.d in
+        let to = comes-here start came (ahead.Needs fetch next) of_start of_ahead comes in
+        let end_is : end ≡ record after { doing = option_map (put_at (Reading fetch next)) after.doing } =
+        put_is ∙ ap (λ (o : Option Doing). record after { doing = o }) doing_is in
         let began : ClientValue = record h { cache = Some looks.later; doing = Some (put_at (Reading fetch next) d) } in
         let is : end ≡ began =
         end_is
@@ -411,16 +429,24 @@ module _ (h middle after : ClientValue) (made : Option Cached) (is_made : IsMade
         }) here.busy in
         subst (λ (c : ClientValue). IsAhead block h c × IsReady c) (sym is)
         (
-          begins-ahead offset len block h d here.busy here.does_is ready none first looks.cache looks.later has_cache
-              looks.looks fetch next (comes-here (ahead.Needs fetch next) comes),
-          begins-ready offset len block h d here.busy here.does_is ready none first looks.cache looks.later has_cache
-              looks.looks fetch next (comes-here (ahead.Needs fetch next) comes),
+          begins-ahead offset len block h d here.busy here.does_is ready none first here.file looks.cache looks.later has_cache
+              looks.looks fetch next to,
+          begins-ready offset len block h d here.busy here.does_is ready none first here.file looks.cache looks.later has_cache
+              looks.looks fetch next to,
         )
 
-    pub begins-some : (found : Found)
-        → ClientComesTo (begins block (asked_parts offset len)) middle (ahead.Read found)
-        → Begins offset len block h after (Some found)
-    begins-some found comes =
+    pub begins-some : (start : Fetching) (came : Ahead) (found : Found) → start ≡ begins block (asked_parts offset len)
+        → came ≡ ahead.Read found → ClientComesTo start middle came → Begins offset len block h after (Some found)
+    begins-some start came found of_start of_ahead comes =
         subst (λ (c : ClientValue). ReadsAtOnce offset len block h c found) (sym after_went)
-        (begins-read offset len block h here.d here.busy here.does_is ready none first looks.cache looks.later
-        has_cache looks.looks found (comes-here (ahead.Read found) comes))
+        (begins-read offset len block h here.d here.busy here.does_is ready none first here.file looks.cache looks.later
+        has_cache looks.looks found (comes-here start came (ahead.Read found) of_start of_ahead comes))
+
+-- what holds anyway holds on an error
+pub on_err : {A E : Type 0} (result : Result A E) (P : Type 0) → P → OnErr result P
+on_err (Ok value) P p = tt
+on_err (Err fault) P p = p
+
+-- a client that only kept its cache
+pub same-cached : (h : ClientValue) → IsCachedAs h h
+same-cached h = record { cache = h.cache; after_is = refl; knows = λ sizes block blocks known. known }

@@ -67,7 +67,7 @@ module _ (h : ClientValue) where
   -- the file of a handle that isn't closed
   opened_file : (handle : ℕ) → is_closed h.handles handle ≡ false
       → (file : Handle) × (file_of h.handles handle ≡ Some file)
-  opened_file handle open = the_some (file_of h.handles handle) (not-false _ open)
+  opened_file handle there = the_some (file_of h.handles handle) (not-false _ there)
 
   -- the file of a handle that is flushed first
   flushes_form : (o : Op) (handle : ℕ) → flush_here h (profile o) ≡ flush.File (inode_here h.handles handle)

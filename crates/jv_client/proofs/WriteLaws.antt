@@ -105,7 +105,7 @@ module _ (h : ClientValue) (d : Doing) (busy : h.doing ≡ Some d) (ready : IsRe
       short, omega (arith, room, few, limit))
 
   write_alone : (now entry : ℕ) (v : Shared)
-      → Makes now entry h (wrote h the_write.handle the_write.offset the_write.bytes) v v
+      → Makes now entry h (wrote the_write.handle the_write.offset the_write.bytes h) v v
       (made.Answer (Fine (length the_write.bytes) 0 0 0) (Count (length the_write.bytes)))
   write_alone now entry v =
       let w = the_write in
@@ -113,12 +113,12 @@ module _ (h : ClientValue) (d : Doing) (busy : h.doing ≡ Some d) (ready : IsRe
       let ends = ap (λ does. ends_itself h (record d { does = does })) w.does_is in
       let done = is_done h d (under_way h d busy ready) none ends in
       let count = length w.bytes in
-      answers-makes now entry h (wrote h w.handle w.offset w.bytes) v (Fine count 0 0 0) (Count count) ready
+      answers-makes now entry h (wrote w.handle w.offset w.bytes h) v (Fine count 0 0 0) (Count count) ready
       (record { id = refl; limits = refl; idle = refl }) (λ device. refl)
       (λ s g store holds is.
           let c = s.clients h.id in
           record {
-            model = model_wrote c w.handle w.offset w.bytes;
+            model = model_wrote w.handle w.offset w.bytes c;
             steps = λ start alone.
                 written-at_once start alone s h.id now (doing_of d) (client-doing g v c s.count h d busy is) done.started
                 done.stage (flushed-same h d c.pending none is.held.pending) done.first w.handle w.offset w.bytes w.op_is
@@ -137,7 +137,7 @@ module _ (h : ClientValue) (d : Doing) (busy : h.doing ≡ Some d) (ready : IsRe
       let w = the_write in
       let kept : HasKept (op.Write w.handle w.offset w.bytes) handles before pending count =
       subst (λ (o : Op). HasKept o handles before pending count) w.op_is has in
-      let end : after ≡ wrote h w.handle w.offset w.bytes =
+      let end : after ≡ wrote w.handle w.offset w.bytes h =
       of_after ∙ ap (λ (v : PendingValue). record h { pending = v.bytes; doing = None }) kept.1
       ∙ ap (λ handles. record h {
         pending = written (inode_here handles w.handle) w.offset w.bytes before.bytes;
@@ -145,6 +145,6 @@ module _ (h : ClientValue) (d : Doing) (busy : h.doing ≡ Some d) (ready : IsRe
       }) same_handles
       ∙ ap (λ old. record h { pending = written (inode_here h.handles w.handle) w.offset w.bytes old; doing = None })
       same_bytes in
-      makes-as now entry h after (wrote h w.handle w.offset w.bytes) v v v (made.Answer (Fine count 0 0 0) (Count count))
+      makes-as now entry h after (wrote w.handle w.offset w.bytes h) v v v (made.Answer (Fine count 0 0 0) (Count count))
       (made.Answer (Fine (length w.bytes) 0 0 0) (Count (length w.bytes))) end refl
       (ap (λ n. made.Answer (Fine n 0 0 0) (Count n)) kept.0) (write_alone now entry v)

@@ -75,18 +75,20 @@ names-held g v m count h handle file held opened =
 
 -- ---- once its bytes are pending, beside what was pending of a client
 
+-- the model's client then, and the one in memory
+abbrev pub model_wrote : ℕ → ℕ → List ℕ → ModelClient → ModelClient
+model_wrote handle offset bytes m =
+    record m { pending = written (inode_at m handle) offset bytes m.pending; doing = None }
+
+abbrev pub wrote : ℕ → ℕ → List ℕ → ClientValue → ClientValue
+wrote handle offset bytes h =
+    record h { pending = written (inode_here h.handles handle) offset bytes h.pending; doing = None }
+
 module _ (m : ModelClient) (h : ClientValue) (handle offset : ℕ) (bytes : List ℕ) where
-  -- the model's client then, and the one in memory
-  abbrev pub model_wrote : ModelClient
-  model_wrote = record m { pending = written (inode_at m handle) offset bytes m.pending; doing = None }
-
-  abbrev pub wrote : ClientValue
-  wrote = record h { pending = written (inode_here h.handles handle) offset bytes h.pending; doing = None }
-
   pub wrote-client : (g : Known) (v : Shared) (count : ℕ) → IsHeld g v m count h → IsCached g v h.cache
-      → IsClient g v model_wrote count wrote
+      → IsClient g v (model_wrote handle offset bytes m) count (wrote handle offset bytes h)
   wrote-client g v count held cached =
-      client-idle g v count model_wrote wrote refl refl
+      client-idle g v count (model_wrote handle offset bytes m) (wrote handle offset bytes h) refl refl
       (record {
         session = held.session;
         direct = held.direct;
@@ -100,7 +102,8 @@ module _ (m : ModelClient) (h : ClientValue) (handle offset : ℕ) (bytes : List
       cached
 
   pub wrote-holds : (t : Tree) (g : Known) (v : Shared) (count : ℕ) (file : Handle) → IsHeld g v m count h
-      → file_of h.handles handle ≡ Some file → Holds t m → Holds t model_wrote
+      → file_of h.handles handle ≡ Some file → Holds t m
+      → Holds t (model_wrote handle offset bytes m)
   wrote-holds t g v count file held opened holds = record {
     opened = holds.opened;
     pending = all-written (IsHoldable t) (inode_at m handle) offset bytes m.pending

@@ -12,8 +12,8 @@ use Rattle.jv_client.proofs.AnswerLaws.{no_memory-makes}
 use Rattle.jv_client.proofs.WriteLaws.{may_keep, write_kept}
 use Rattle.jv_client.proofs.client.Client.write.Goals as goal
 
-pub keep-requires : goal.keep-requires
-keep-requires c =
+pub keep-kept-requires : goal.keep-kept-requires
+keep-kept-requires c =
     let h = c.args.self.now in
     let seen = c.self.view_is in
     let d = c.in-Some.doing in
@@ -21,7 +21,8 @@ keep-requires c =
     may_keep h d busy c.requires.ready (subst (λ o. IfSome o (λ (d : Doing). IsTrue (keeps d.does))) busy c.requires.writes)
     (subst (λ o. IfSome o (λ (d : Doing). d.flush ≡ Nothing)) busy c.requires.first) c.deref.result.now
     c.self.inside.pending (c.deref.ensures.value ∙ ap (λ (v : ClientValue). v.handles) seen)
-    (ap (λ (v : ClientValue). v.pending) seen) ?
+    (ap (λ (v : ClientValue). v.pending) seen)
+    (c.self.invariant ∙ ap (λ (v : ClientValue). v.limits.buffer) seen)
 
 pub returns-in_default : goal.returns-in_default
 returns-in_default c now entry v =
