@@ -18,9 +18,11 @@ module _ (client : ℕ) (b : BlockId) (before after : YardValue) (name : List �
     pub reads-value : (value : Option (List ℕ)) (result : Result (List ℕ) Fault)
         → GetsBlock client name before after (Ok value) → IsBlockIn b.size value result
         → ReadsBlock client b before after result
-    reads-value value (Ok bytes) gets is =
-        (subst (λ value. GetsBlock client (name_in before.setting b) before after (Ok value)) is.0
-        (here (Ok value) gets), is.1)
+    reads-value value (Ok bytes) gets is = (
+      subst (λ value. GetsBlock client (name_in before.setting b) before after (Ok value)) is.0
+          (here (Ok value) gets),
+      is.1,
+    )
     reads-value value (Err fault) gets is = Missing value (here (Ok value) gets) is.0 is.1
 
     -- a device failed, or memory ran out

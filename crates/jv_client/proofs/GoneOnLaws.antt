@@ -137,10 +137,11 @@ module _ (block : ℕ) (h : ClientValue) (d : Doing) (offset len : ℕ) (cache :
           moved-client g v count m (record h { handles = handles; cache = Some later }) d (Reading f need) held-cached
           cached-later tt
           (subst (λ o. IsSomeAnd o (λ (handle : Handle). (f.block ≡ v.yard.setting.block)
-          × IsFetching g.blocks handle.views (asked_of d.does) f)) (sym opened)
-          (goes.block ∙ own_block,
-          subst (λ does. IsFetching g.blocks file.views (asked_of does) f) (sym asks.does)
-          (goes.reads g.blocks (asked_parts offset len) has_own fetching)))
+          × IsFetching g.blocks handle.views (asked_of d.does) f)) (sym opened) (
+            goes.block ∙ own_block,
+            subst (λ does. IsFetching g.blocks file.views (asked_of does) f) (sym asks.does)
+                (goes.reads g.blocks (asked_parts offset len) has_own fetching),
+          ))
 
       -- ---- it is answered
 

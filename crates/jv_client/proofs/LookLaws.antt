@@ -112,7 +112,7 @@ seen_opened handle window view handles file opened =
 pub not_seen : (views : SeenViews) (parts : List Asked) (window : ℕ) → first_unseen views parts window
     → view_at views window ≡ None
 not_seen views [] window h = absurd h
-not_seen views (asked ∷ others) window h = ap (view_at views) (sym h.0) ∙ h.1
+not_seen views (asked ∷ others) window h = h.1
 
 -- and is seen then
 then_seen : (views : SeenViews) (parts : List Asked) (window : ℕ) (view : View) → first_unseen views parts window
@@ -308,8 +308,11 @@ module _ (now entry block : ℕ) (h : ClientValue) (d : Doing) (offset len : ℕ
         (goes.can can-seen) wants more;
     devices = uses-look (made.Request (Look file.inode window)) before keeper (λ device. refl) looks.looks.rows_are
         looks.looks.opened_at looks.looks.counts tt;
-    falls = (falls-on block h d offset len cache fetch (NeedsLook window) asks handles seen opened refl later f need
-        (goes.can can-seen) wants more (fewer-seen f goes), refl);
+    falls = (
+      falls-on block h d offset len cache fetch (NeedsLook window) asks handles seen opened refl later f need
+          (goes.can can-seen) wants more (fewer-seen f goes),
+      refl,
+    );
     leads = λ s g number has holds client. leads-on s g number has holds client later looks_up f need goes;
   }
 

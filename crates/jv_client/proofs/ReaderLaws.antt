@@ -141,9 +141,10 @@ module _ (h : ClientValue) (d : Doing) (busy : h.doing ≡ Some d) (at : IsAt h 
       reads.opened in
       let same : own.0 ≡ file_by reads.file =
       ap (λ n. record own.0 { inode = n }) own.2.inode
-      ∙ ap (λ n. record (file_by reads.file) { opened = n }) own.2.opened in
-      (own.1 ∙ ap Some same,
-      subst (λ (file : OpenFile). IsHandle g v m.views count (handle_of d.op) file reads.file) same own.2)
+      ∙ ap (λ n. record (file_by reads.file) { opened = n }) own.2.opened in (
+        own.1 ∙ ap Some same,
+        subst (λ (file : OpenFile). IsHandle g v m.views count (handle_of d.op) file reads.file) same own.2,
+      )
 
   pub opened_in : file_in_use m (doing_of d) ≡ Some (file_by reads.file)
   opened_in = file_there.0
@@ -279,9 +280,10 @@ is_asking block h c next a ready after none need = by_cache (cache_there c.cache
             let both = a.goes g v m count length client in
             let own = some_is (λ (handle : Handle). (a.fetch.block ≡ v.yard.setting.block)
             × IsFetching g.blocks handle.views (asked_of a.d.does) a.fetch)
-            (file_of c.handles (handle_of a.d.op)) reads.file opened both.0 in
-            (own.0,
-            subst (λ does. IsFetching g.blocks reads.file.views (asked_of does) a.fetch) a.reads.2 own.1,
-            subst (λ o. IfSome o (IsCacheOf g.sizes v.yard.setting.block g.blocks)) is both.1);
+            (file_of c.handles (handle_of a.d.op)) reads.file opened both.0 in (
+              own.0,
+              subst (λ does. IsFetching g.blocks reads.file.views (asked_of does) a.fetch) a.reads.2 own.1,
+              subst (λ o. IfSome o (IsCacheOf g.sizes v.yard.setting.block g.blocks)) is both.1,
+            );
       };
     }
