@@ -1,4 +1,5 @@
 -- Laws about the definitions.
+pub mod SeenLaws
 pub mod MemberLaws
 pub mod StateLaws
 pub mod BeginLaws

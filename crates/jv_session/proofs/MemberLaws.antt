@@ -1,20 +1,22 @@
 -- Eight clients, of which one changes.
-use Rattle.std.proofs.Common.{◌≡◌, ◌≢◌, ℕ, zero, suc, ◌<◌, IsTrue, List, [], ◌∷◌, length, slice_get, slice_set, Option, None, Some, Result, Ok, Err, refl, sym, ap, subst, ◌∙◌, inl, inr, arith, length-set}
+use Rattle.std.proofs.Common.{◌≡◌, ◌≢◌, ℕ, zero, suc, ◌<◌, ◌≤◌, IsTrue, List, [], ◌∷◌, length, slice_get, slice_set, Option, None, Some, Result, Ok, Err, refl, sym, ap, subst, ◌∙◌, inl, inr, arith, length-set}
 use Rattle.std.specs.Prelude.{IfSome, IsSome, OnOk, OnErr}
 use Rattle.std.proofs.lemmas.Bool.Decides.{eqb_tells}
 use Rattle.std.proofs.lemmas.Option.{same_Some}
+use Rattle.jv_model.specs.declared.limits.TheConstants.{LAST_MOMENT}
 use Rattle.jv_model.specs.declared.basics.Limits.{Limits}
 use Rattle.jv_model.specs.declared.fault.Fault.{Fault}
 use Rattle.jv_model.specs.declared.op.Op.{Op}
 use Rattle.jv_model.specs.client.ModelClient.{ModelClient}
 use Rattle.jv_model.specs.client.Submission.{submission, submitted}
+use Rattle.jv_yard.specs.YardValue.{YardValue}
 use Rattle.jv_shared.specs.Shared.{Known, Shared}
 use Rattle.jv_client.specs.Built.{is_built_op}
-use Rattle.jv_client.specs.ClientValue.{ClientValue}
+use Rattle.jv_client.specs.ClientValue.{ClientValue, crashed}
 use Rattle.jv_client.specs.Held.{IsClient, in_flight, refused_with}
 use Rattle.jv_client.specs.UnderWay.{IsReady}
-use Rattle.jv_session.specs.Stands.{ScheduleValue, IsMember, IsSchedule, AreApart}
-use Rattle.jv_session.specs.InLine.{Submits}
+use Rattle.jv_session.specs.Stands.{ScheduleValue, IsMember, IsSchedule, IsYardOf, AreApart}
+use Rattle.jv_session.specs.InLine.{HasBegun, Submits}
 
 module _ {X : Type 0} where
   -- what holds of each element at its place holds after a change
@@ -112,6 +114,25 @@ pub member_at : (limits : Limits) (at ticks : ℕ) (clients : List ClientValue) 
     → slice_get clients k ≡ Some c → IsMember limits k c
 member_at limits at ticks clients k c h found = subst (λ o. IfSome o (IsMember limits k)) found (h.members k)
 
+-- a member that made a step, at a moment
+pub stepped_schedule : (limits : Limits) (at ticks now : ℕ) (clients : List ClientValue) (k : ℕ)
+    (old new : ClientValue) → IsSchedule limits at ticks clients → now ≤ LAST_MOMENT → IsMember limits k old
+    → new.id ≡ old.id → new.limits ≡ old.limits → IsReady new
+    → IsSchedule limits now ticks (slice_set clients k new)
+stepped_schedule limits at ticks now clients k old new h last m id same ready =
+    schedule_with limits now ticks clients k new
+    (record { last = last; passed = h.passed; eight = h.eight; members = h.members })
+    (record { id = id ∙ m.id; limits_are = same ∙ m.limits_are; ready = ready })
+
+-- a member that crashed
+pub crashed_schedule : (limits : Limits) (at ticks : ℕ) (clients : List ClientValue) (k : ℕ) (old new : ClientValue)
+    → IsSchedule limits at ticks clients → IsMember limits k old → new ≡ crashed old
+    → IsSchedule limits at ticks (slice_set clients k new)
+crashed_schedule limits at ticks clients k old new h m is =
+    schedule_with limits at ticks clients k new h
+    (subst (IsMember limits k) (sym is)
+    (record { id = m.id; limits_are = m.limits_are; ready = record { buffer = m.ready.buffer; doing = tt } }))
+
 -- a submission leaves a member
 pub submitted_member : (limits : Limits) (k : ℕ) (old new : ClientValue) (o : Op)
     (result : Result (Unit {0}) (Op × Fault)) → IsMember limits k old
@@ -164,4 +185,12 @@ refuses_at s s' k o old new called refused found is refusal err same = record {
   refused = λ g v m count h. sym (refusal g v m count h) ∙ ap refused_with is;
   same = same ∙ ap (λ (cs : List ClientValue). record s { clients = cs })
       (ap (slice_set s.clients k) (subst (λ r. OnErr r (new ≡ old)) is err) ∙ set_found s.clients k old found);
+}
+
+-- the schedule may still go on with a yard
+pub yard_begun : (s s' : ScheduleValue) (k : ℕ) (o : Op) (yard : YardValue) → HasBegun s s' k o → IsYardOf s yard
+    → IsYardOf s' yard
+yard_begun s s' k o yard h y = record {
+  block = y.block;
+  last = subst (λ (x : ScheduleValue). yard.last ≤ x.at) (sym h.same) y.last;
 }

@@ -444,6 +444,18 @@ module _ (line : Line) (number : ℕ) (before after : LineState) (s1 : ScheduleV
   whole_line (Broken key bytes) h = finds_bad key bytes h
   whole_line Memory h = (cuts h.0, h.1)
 
+-- the schedule may go on with the yard that a line leaves
+pub yard_after : (line : Line) (number : ℕ) (before after : LineState) (end : LineEnd)
+    → LineRuns line number before after end → IsYardOf before.schedule before.devices.yard
+    → IsYardOf after.schedule after.devices.yard
+yard_after line number before after (Said text) h yard = h.uses.yard yard
+yard_after line number before after Quiet h yard =
+    subst (λ (s : ScheduleValue). IsYardOf s after.devices.yard) (sym h.schedule)
+    (subst (λ (v : Shared). IsYardOf before.schedule v.yard) (sym h.devices) yard)
+yard_after line number before after ClockFailed h yard = h.0.uses.yard yard
+yard_after line number before after (Broken key bytes) h yard = h.uses.yard yard
+yard_after line number before after Memory h yard = h.0.uses.yard yard
+
 -- a line without an entry, which says a text
 module _ (text : List ℕ) (number : ℕ) (clock : Ticks) (v : Shared) (journal : List Act) (s : ScheduleValue) where
   abbrev at_line : LineState

@@ -1,5 +1,5 @@
 //! The lines of a script, one method a form.
-ghost use Rattle.std.specs.Prelude.{◌≡◌, ◌≢◌, ℕ, ◌+◌, ◌<◌, ◌≤◌, ◌^◌, IsTrue, IsSome, IsSomeAnd, OnOk, OnErr, false, length, slice_get};
+ghost use Rattle.std.specs.Prelude.{◌≡◌, ◌≢◌, ◌<◌, ◌≤◌, IsTrue, OnOk, length};
 ghost use Rattle.jv_model.specs.declared.op.Line.TheVariants as line;
 ghost use Rattle.jv_model.specs.declared.act.ActKind.TheVariants.{Crashed};
 ghost use Rattle.jv_shared.specs.Shared.{Shared};

@@ -1,5 +1,5 @@
 //! A session of eight clients over one volume, line by line.
-ghost use Rattle.std.specs.Prelude.{◌≡◌, ◌↔◌, ℕ, ◌≤◌, IsTrue, IsSomeAnd, IfOk};
+ghost use Rattle.std.specs.Prelude.{◌≡◌, ◌↔◌, ◌≤◌, IsTrue, IsSomeAnd, IfOk};
 ghost use Rattle.jv_model.specs.declared.limits.TheConstants.{MAX_DATA};
 ghost use Rattle.jv_model.specs.declared.op.Line.TheVariants.{Empty};
 ghost use Rattle.jv_model.specs.script.ReplyText.{printed_line};
@@ -90,10 +90,11 @@ impl Schedule {
             let way = ⟦<dyn Carrier as Carrier>⟧ in
             AtDoor (given door.old) (given door.new) (λ taken left. LineRuns line number
             (line_state (C.seen clock.old)
-            (shared (K.seen k.old) taken ((way carrier.old.0).seen carrier.old.1)) journal.old.acts self.old)
+            (shared (K.seen k.old) taken ((way carrier.old.0).seen carrier.old.1))
+            journal.old.acts self.old)
             (line_state (C.seen clock.new)
-            (shared (K.seen k.new) left ((way carrier.new.0).seen carrier.new.1)) journal.new.acts self.new)
-            result) }
+            (shared (K.seen k.new) left ((way carrier.new.0).seen carrier.new.1))
+            journal.new.acts self.new) result) }
         ensures yard { let given = ⟦<Alone<D, H> as YardDoor<D, H>>⟧.given in
             IsSomeAnd (given door.new) (IsYardOf self.new) }
         ensures quiet { (result ≡ LineEnd.Quiet) ↔ (line ≡ Empty) }

@@ -1,5 +1,4 @@
 -- An operation is submitted, or refused.
-use Rattle.std.proofs.Common.{subst}
 use Rattle.std.specs.Prelude.{codes}
 use Rattle.jv_model.specs.declared.op.Line.TheVariants as line
 use Rattle.jv_model.specs.journal.Past.{with_feed}

@@ -6,11 +6,25 @@ use Rattle.jv_model.specs.declared.act.ActKind.TheVariants.{Crashed}
 use Rattle.jv_client.specs.ClientValue.{ClientValue, crashed}
 use Rattle.jv_session.specs.InLine.{Crashes, LineGoes, Notes}
 use Rattle.std.proofs.lemmas.Option.{slice_get-get_or}
+use Rattle.jv_session.proofs.MemberLaws.{crashed_schedule, member_at}
 use Rattle.jv_session.proofs.NoteLaws.{crash_says, stops_noted, crash_breaks}
 use Rattle.jv_session.proofs.schedule.Schedule.crash.Goals as goal
 
-pub returns-in-Ok : goal.returns-in-Ok
-returns-in-Ok g c =
+-- the clients are members still
+pub invariant_of-self : goal.invariant_of-self
+invariant_of-self g c =
+    let low = c.number-in-Ok.ensures.limit in
+    let eight = c.self.invariant.eight in
+    let k = c.number-in-Ok.result in
+    let clients = c.self.inside.clients in
+    let old : ClientValue = get_or clients k c.index-self-number.result in
+    let inside = slice_get-get_or clients k c.index-self-number.result (omega (arith, low, eight)) in
+    let m = member_at c.self.inside.limits c.self.inside.at c.self.inside.ticks clients k old c.self.invariant inside in
+    crashed_schedule c.self.inside.limits c.self.inside.at c.self.inside.ticks clients k old c.crash.new.self
+    c.self.invariant m c.crash.ensures
+
+pub returns-in-Ok-clause-goes : goal.returns-in-Ok-clause-goes
+returns-in-Ok-clause-goes g c v =
     let clock = g.C.Clock.seen c.args.clock.now in
     let ticked = g.C.Clock.seen c.note.new.clock in
     let journal = c.args.journal.now.acts in
@@ -36,22 +50,18 @@ returns-in-Ok g c =
     ∙ ap (λ (new : ClientValue). record noted { clients = slice_set noted.clients k new }) c.crash.ensures in
     let notes = subst (λ n. Notes s noted c.args.number n Crashed 0 clock ticked journal more c.note.result)
     (c.number.ensures.number ∙ sym c.number-in-Ok.ensures.number) c.note.ensures.notes in
-    record {
-      goes = λ v. subst (λ n. LineGoes (Crashes n) c.args.number (line_state clock v journal s)
-          (line_state ticked v more last) c.said.result) c.number-in-Ok.ensures.number
-          (crash_says v c.args.number clock ticked journal more s k noted last old c.in-Ok.field-0 c.note.result
-          c.text.result c.said.result notes c.in-Ok.is found same c.text.ensures c.said.ensures);
-    }
+    subst (λ n. LineGoes (Crashes n) c.args.number (line_state clock v journal s)
+    (line_state ticked v more last) c.said.result) c.number-in-Ok.ensures.number
+    (crash_says v c.args.number clock ticked journal more s k noted last old c.in-Ok.field-0 c.note.result
+    c.text.result c.said.result notes c.in-Ok.is found same c.text.ensures c.said.ensures)
 
-pub returns-in-Err : goal.returns-in-Err
-returns-in-Err g c =
+pub returns-in-Err-clause-goes : goal.returns-in-Err-clause-goes
+returns-in-Err-clause-goes g c v =
     let clock = g.C.Clock.seen c.args.clock.now in
     let journal = c.args.journal.now.acts in
     let s = c.args.self.now in
-    record {
-      goes = λ v. stops_noted v c.args.number clock (g.C.Clock.seen c.note.new.clock) journal
-          c.note.new.journal.acts s (Crashes c.args.client) c.number.result 0 _
-          c.note.new.self c.note.result c.in-Err.stopped c.into_end.result
-          (crash_breaks c.args.client (line_state clock v journal s)) c.note.ensures.notes c.in-Err.is
-          c.into_end.ensures;
-    }
+    stops_noted v c.args.number clock (g.C.Clock.seen c.note.new.clock) journal
+    c.note.new.journal.acts s (Crashes c.args.client) c.number.result 0 _
+    c.note.new.self c.note.result c.in-Err.stopped c.into_end.result
+    (crash_breaks c.args.client (line_state clock v journal s)) c.note.ensures.notes c.in-Err.is
+    c.into_end.ensures

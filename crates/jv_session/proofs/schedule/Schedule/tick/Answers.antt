@@ -7,8 +7,8 @@ use Rattle.jv_session.specs.InLine.{Passing}
 use Rattle.jv_session.proofs.NoteLaws.{tick_says, stops_noted, tick_breaks}
 use Rattle.jv_session.proofs.schedule.Schedule.tick.Goals as goal
 
-pub returns-in-Ok : goal.returns-in-Ok
-returns-in-Ok g c =
+pub returns-in-Ok-clause-goes : goal.returns-in-Ok-clause-goes
+returns-in-Ok-clause-goes g c v =
     let noted : ScheduleValue = c.note.new.self in
     let ticks = c.min-self-inside.result in
     let seen = c.self.view_is in
@@ -27,22 +27,18 @@ returns-in-Ok g c =
     let passed : ticks ≡ min LAST_MOMENT (noted.ticks + c.args.by) =
     (let told : ticks ≡ min LAST_MOMENT (c.self.inside.ticks + c.args.by) = omega (arith, sum, least) in told
     ∙ here) in
-    record {
-      goes = λ v. tick_says v c.args.number (g.C.Clock.seen c.args.clock.now)
-          (g.C.Clock.seen c.note.new.clock) c.args.journal.now.acts c.note.new.journal.acts c.args.self.now
-          c.args.by noted last ticks c.in-Ok.now c.note.result c.moment_text.result c.said.result c.note.ensures.notes
-          c.in-Ok.is same passed c.moment_text.ensures c.said.ensures;
-    }
+    tick_says v c.args.number (g.C.Clock.seen c.args.clock.now)
+    (g.C.Clock.seen c.note.new.clock) c.args.journal.now.acts c.note.new.journal.acts c.args.self.now
+    c.args.by noted last ticks c.in-Ok.now c.note.result c.moment_text.result c.said.result c.note.ensures.notes
+    c.in-Ok.is same passed c.moment_text.ensures c.said.ensures
 
-pub returns-in-Err : goal.returns-in-Err
-returns-in-Err g c =
+pub returns-in-Err-clause-goes : goal.returns-in-Err-clause-goes
+returns-in-Err-clause-goes g c v =
     let clock = g.C.Clock.seen c.args.clock.now in
     let journal = c.args.journal.now.acts in
     let s = c.args.self.now in
-    record {
-      goes = λ v. stops_noted v c.args.number clock (g.C.Clock.seen c.note.new.clock) journal
-          c.note.new.journal.acts s (Passing c.args.by) _ c.args.by _
-          c.note.new.self c.note.result c.in-Err.stopped c.into_end.result
-          (tick_breaks c.args.by (line_state clock v journal s)) c.note.ensures.notes c.in-Err.is
-          c.into_end.ensures;
-    }
+    stops_noted v c.args.number clock (g.C.Clock.seen c.note.new.clock) journal
+    c.note.new.journal.acts s (Passing c.args.by) _ c.args.by _
+    c.note.new.self c.note.result c.in-Err.stopped c.into_end.result
+    (tick_breaks c.args.by (line_state clock v journal s)) c.note.ensures.notes c.in-Err.is
+    c.into_end.ensures
