@@ -42,13 +42,13 @@ use Rattle.jv_client.specs.Ending.{ended}
 use Rattle.jv_client.specs.Held.{GoesOn, Holds, IsClient, IsHeld, in_flight, stage_of}
 use Rattle.jv_client.specs.Makes.{Makes, tells_failure}
 use Rattle.jv_client.specs.Transacting.{Fails}
-use Rattle.jv_client.specs.UnderWay.{IsReady, IsUnderWay, asks_more, has_more, has_not_seen, has_segment, left}
-use Rattle.jv_client.specs.Reading.{IsCachedAs, ReadsAtOnce, Shows, need_in, read_of, shown, told_read}
+use Rattle.jv_client.specs.UnderWay.{IsReady, asks_more, does_of, has_more, has_not_seen, has_segment, left}
+use Rattle.jv_client.specs.Reading.{Begins, IsAhead, IsCachedAs, ReadsAtOnce, Shows, need_in, read_of, told_read}
 use Rattle.jv_client.proofs.HeldLaws.{client-doing, doing_of, holds-doing}
 use Rattle.jv_client.proofs.KeptLaws.{client-ended}
 use Rattle.jv_client.proofs.AnswerLaws.{makes-as, makes-ended, not_ending, request-lands, uses-none}
 use Rattle.jv_client.proofs.ReadingLaws.{NotBegun, ReadsFile, flushed-here, flushed-model, not-begun, reads-as, reads-file}
-use Rattle.jv_client.proofs.ReadingLaws.{seen_first, seen_window, sized-here, there, under}
+use Rattle.jv_client.proofs.ReadingLaws.{reads-here, seen_first, seen_window, sized-here, there, under}
 
 -- ---- a client with another cache
 
@@ -199,3 +199,32 @@ module _ (now entry offset len : ℕ) (h middle : ClientValue) (d : Doing) (busy
       (shows.after_is ∙ ap ended reads.same.after_is) refl shows.made_is
       (answered-alone now entry h ready v reads.same.cache reads.same.knows (told_read found) (Data found.bytes)
       (λ device. refl) (λ s g store is. read-request s g store is))
+
+-- ---- from what a reading that begins comes to
+
+module _ (offset len block : ℕ) (h middle : ClientValue) (result : Option Found)
+    (begins : Begins offset len block h middle result) where
+  -- it needs something
+  pub begun-ahead : (other : ℕ) → block ≡ other → result ≡ None → IsAhead other h middle
+  begun-ahead other same is =
+      let to : Begins offset len block h middle None = subst (Begins offset len block h middle) is begins in
+      subst (λ n. IsAhead n h middle) same to.0
+
+  -- or it is answered
+  pub begun-shows : (now entry : ℕ) (after : ClientValue) (v : Shared) (done : Made) (found : Found)
+      → does_of h.doing ≡ Some (does.Reads offset len) → IsReady h → left h ≡ None → need_in h.doing ≡ None
+      → block ≡ v.yard.setting.block → result ≡ Some found → Shows None found middle after done
+      → Makes now entry h after v v done
+  begun-shows now entry after v done found does ready none first same is shows =
+      let here = reads-here h offset len does ready in
+      let to : ReadsAtOnce offset len block h middle found = subst (Begins offset len block h middle) is begins in
+      shows-reading now entry offset len h middle here.d here.busy here.does_is ready none first v found
+      (subst (λ n. ReadsAtOnce offset len n h middle found) same to) after done shows
+
+-- or memory ran out
+pub begun-fails : (now entry offset len : ℕ) (h middle after : ClientValue) (v : Shared) (done : Made)
+    → does_of h.doing ≡ Some (does.Reads offset len) → IsReady h → IsCachedAs h middle
+    → Fails NoMemory middle after done → Makes now entry h after v v done
+begun-fails now entry offset len h middle after v done does ready same fails =
+    let here = reads-here h offset len does ready in
+    fails-reading now entry h middle after here.d here.busy ready v done same fails
