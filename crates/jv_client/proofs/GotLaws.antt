@@ -60,6 +60,7 @@ use Rattle.jv_client.specs.Getting.{Fills, IsNone, Missing, ReadsBlock, Refused,
 use Rattle.jv_client.specs.Held.{Holds, IsClient, IsHeld, in_flight}
 use Rattle.jv_client.specs.Makes.{Makes, StepsTo, TellsBad, UsesDevices, faults_of, is_failure_of, step_of, tells_failure}
 use Rattle.jv_client.specs.Reading.{GoesAhead, read_of, told_read}
+use Rattle.jv_client.proofs.AnswerLaws.{uses-none}
 use Rattle.jv_client.proofs.EndingLaws.{holds-told}
 use Rattle.jv_client.proofs.HeldLaws.{doing_of}
 use Rattle.jv_client.proofs.KeptLaws.{cache-goes, held-goes}
@@ -74,20 +75,7 @@ uses-got : (done : Made) (before : Shared) (yard : YardValue) → ((device : Dev
     → yard ≡ before.yard → TellsBad before (step_of done) → UsesDevices done before (record before { yard = yard })
 uses-got done before yard fine same bad =
     subst (λ (yard : YardValue). UsesDevices done before (record before { yard = yard })) (sym same)
-    (record {
-      keeper_at = refl;
-      carrier_at = refl;
-      depot_at = refl;
-      shelf_at = refl;
-      setting = refl;
-      last = refl;
-      counts = λ device. subst (λ b. RoseIf b (faults_of device before) (faults_of device before)) (sym (fine device))
-          refl;
-      rows = λ asks. refl;
-      objects = λ asks. refl;
-      blocks = refl;
-      bad = bad;
-    })
+    (uses-none done before fine bad)
 
 -- the answer that a device of the yard failed, or that memory ran out
 abbrev unread_as : YardFault → Made

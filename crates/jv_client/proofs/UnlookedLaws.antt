@@ -3,8 +3,6 @@
 use Rattle.std.proofs.Common.{◌≡◌, ℕ, ◌+◌, ◌≤◌, false, true, List, [], ◌∷◌, Option, None, Some, Err, refl, sym, ap, subst}
 use Rattle.std.proofs.Common.{◌∙◌, arith}
 use Rattle.std.specs.Prelude.{IfSome, IsTrue, unwrap_or}
-use Rattle.jv_model.specs.declared.basics.Limits.{Limits}
-use Rattle.jv_model.specs.declared.limits.TheConstants.{MAX_DATA}
 use Rattle.jv_model.specs.declared.act.ActKind.TheVariants.{Answered, Quiet}
 use Rattle.jv_model.specs.declared.act.Told.TheVariants.{Refused as ToldRefused}
 use Rattle.jv_model.specs.declared.fault.Busy.TheVariants.{Lists}
@@ -12,8 +10,7 @@ use Rattle.jv_model.specs.declared.fault.Device.{Device}
 use Rattle.jv_model.specs.declared.fault.Device.TheVariants.{Keeper, Depot, Shelf, Carrier}
 use Rattle.jv_model.specs.declared.fault.Down.{Down}
 use Rattle.jv_model.specs.declared.fault.Fault.{Fault}
-use Rattle.jv_model.specs.declared.fault.Fault.TheVariants.{Contended, DeviceFailed, NoMemory, Stale}
-use Rattle.jv_model.specs.declared.fault.Gone.TheVariants.{Session, Node}
+use Rattle.jv_model.specs.declared.fault.Fault.TheVariants.{Contended, DeviceFailed, NoMemory}
 use Rattle.jv_model.specs.declared.fault.RowFault.TheVariants.{Bad, Failed, Memory}
 use Rattle.jv_model.specs.declared.fault.TxFault.{TxFault}
 use Rattle.jv_model.specs.declared.fault.TxFault.TheVariants.{Refused as RefusedBy, Moved, Rows as OfRows}
@@ -50,10 +47,11 @@ use Rattle.jv_client.specs.declared.made.Made.{Made}
 use Rattle.jv_client.specs.declared.made.Made.TheVariants as made
 use Rattle.jv_client.specs.ClientValue.{ClientValue, session_here}
 use Rattle.jv_client.specs.Ending.{ended, refused_here}
-use Rattle.jv_client.specs.Held.{Holds, IsClient, flight_in, in_flight, number_of}
+use Rattle.jv_client.specs.Held.{Holds, IsClient, in_flight}
 use Rattle.jv_client.specs.Makes.{Makes, StepsTo, UsesDevices, faults_of, is_failure_of, is_same_device}
 use Rattle.jv_client.specs.Transacting.{EndsUnmade}
-use Rattle.jv_client.specs.UnderWay.{IsReady, IsUnderWay}
+use Rattle.jv_client.specs.UnderWay.{IsReady}
+use Rattle.jv_client.proofs.AnswerLaws.{refused-rests, rests-flight, rests-ready}
 use Rattle.jv_client.proofs.EndingLaws.{holds-told}
 use Rattle.jv_client.proofs.HeldLaws.{doing_of}
 use Rattle.jv_client.proofs.KeptLaws.{cache-goes, held-goes, told-client}
@@ -62,17 +60,6 @@ use Rattle.jv_client.proofs.ReaderLaws.{IsAsking, asking, busy_in, file_by, hand
 use Rattle.jv_client.proofs.GoneOnLaws.{over}
 use Rattle.jv_client.proofs.ReadFailedLaws.{failed, held-cache}
 use Rattle.jv_client.proofs.LookLaws.{uses-look}
-
--- a refusal leaves the client without an operation, and its name and limits
-record Rests (h after : ClientValue) : Type 0 where
-  id : after.id ≡ h.id
-  limits : after.limits ≡ h.limits
-  idle : after.doing ≡ None
-
-refused-rests : (fault : Fault) (h : ClientValue) → Rests h (refused_here fault h)
-refused-rests (Stale (Session sid)) h = record { id = refl; limits = refl; idle = refl }
-refused-rests (Stale (Node inode)) h = record { id = refl; limits = refl; idle = refl }
-refused-rests _ h = record { id = refl; limits = refl; idle = refl }
 
 -- the keeper failed
 uses-failed : (before : Shared) (keeper : Store) → keeper.rows ≡ before.keeper.rows
@@ -191,7 +178,7 @@ module _ (now entry block : ℕ) (h : ClientValue) (d : Doing) (offset len : ℕ
     stays = same-stays 0 g before used (same-rows before keeper before.carrier looks.looks.rows_are)
 
     none_flies : in_flight (refused_here fault c) ≡ 0
-    none_flies = ap (λ o. number_of (flight_in (refused_here fault c).pending o)) (refused-rests fault c).idle
+    none_flies = rests-flight c (refused_here fault c) (refused-rests fault c)
 
     refused-leads : StepsTo s g before h now (Quiet ∷ Answered (ToldRefused fault) ∷ []) (Done (Refused fault))
         (refused_here fault c) used
@@ -227,10 +214,7 @@ module _ (now entry block : ℕ) (h : ClientValue) (d : Doing) (offset len : ℕ
       (record {
         id = rests.id;
         limits = rests.limits;
-        ready = record {
-          buffer = subst (λ (limits : Limits). MAX_DATA ≤ limits.buffer) (sym rests.limits) asks.buffer;
-          doing = subst (λ (o : Option Doing). IfSome o (IsUnderWay (refused_here fault c))) (sym rests.idle) tt;
-        };
+        ready = rests-ready c (refused_here fault c) rests ready;
         devices = uses-look (made.Both Quiet (ToldRefused fault) (Refused fault)) before keeper (λ device. refl)
             looks.looks.rows_are looks.looks.opened_at looks.looks.counts tt;
         falls = rests.idle;
