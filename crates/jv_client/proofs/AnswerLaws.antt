@@ -1,37 +1,51 @@
--- An operation ends with an answer: what that leaves of the client, and the answer that memory ran out or a device failed.
-use Rattle.std.proofs.Common.{◌≡◌, ℕ, ◌+◌, true, false, not, None, Some, refl, sym, ap, subst, arith}
-use Rattle.std.proofs.lemmas.Bool.{or_right}
+-- An operation ends with an answer: what that leaves of the client, what it does to devices, and the answer that memory ran out or a
+-- device failed.
+use Rattle.std.proofs.Common.{◌≡◌, ◌≢◌, ℕ, ◌+◌, ◌≤◌, true, false, List, [], ◌∷◌, length, Option, None, Some, refl, sym, ap, subst, ◌∙◌, arith}
+use Rattle.std.specs.Prelude.{IfSome}
+use Rattle.jv_model.specs.declared.limits.TheConstants.{MAX_DATA}
+use Rattle.jv_model.specs.declared.basics.Limits.{Limits}
+use Rattle.jv_model.specs.declared.act.ActKind.{ActKind}
+use Rattle.jv_model.specs.declared.act.ActKind.TheVariants.{Answered as IsAnswered}
 use Rattle.jv_model.specs.declared.act.Told.{Told}
 use Rattle.jv_model.specs.declared.act.Told.TheVariants.{Fine, Looks, Refused as ToldRefused}
+use Rattle.jv_model.specs.declared.fault.Device.{Device}
 use Rattle.jv_model.specs.declared.fault.Fault.{Fault}
-use Rattle.jv_model.specs.declared.fault.Fault.TheVariants.{InProgress, Stale}
+use Rattle.jv_model.specs.declared.fault.Fault.TheVariants.{NoMemory, Stale}
 use Rattle.jv_model.specs.declared.fault.Gone.TheVariants.{Session, Node}
 use Rattle.jv_model.specs.declared.op.Op.{Op}
 use Rattle.jv_model.specs.declared.op.Op.TheVariants as op
 use Rattle.jv_model.specs.declared.op.Reply.{Reply}
-use Rattle.jv_model.specs.declared.op.Reply.TheVariants.{Refused}
+use Rattle.jv_model.specs.declared.op.Reply.TheVariants.{Refused as RefusedReply}
+use Rattle.jv_model.specs.declared.op.Step.{Step}
+use Rattle.jv_model.specs.declared.op.Step.TheVariants.{Done}
+use Rattle.jv_model.specs.tree.Tree.{Tree}
 use Rattle.jv_model.specs.client.ModelClient.{ModelClient, Doing as ModelDoing}
-use Rattle.jv_model.specs.journal.State.{after_told, is_of_another, refused_as}
-use Rattle.jv_model.specs.journal.Steps.{Fails, must_answer, is_failure}
-use Rattle.jv_model.specs.journal.Past.{reply_of, told_reply}
-use Rattle.jv_files.specs.Stored.{SameSegments}
-use Rattle.jv_files.proofs.GrowthLaws.{grows-by}
+use Rattle.jv_model.specs.journal.State.{State, after_told}
+use Rattle.jv_model.specs.journal.Steps.{is_failure, must_answer}
+use Rattle.jv_outside.specs.Causes.{RoseIf}
+use Rattle.jv_shared.specs.Keeping.{HoldsSame, KeepsShared}
+use Rattle.jv_shared.specs.Shared.{HasStore, Known, Shared}
+use Rattle.jv_shared.proofs.SameLaws.{same-none, same-stays}
+use Rattle.jv_steps.proofs.RefusalStepLaws.{goes-reading, goes-working}
+use Rattle.jv_requests.specs.Request.{IsApart, Request}
+use Rattle.jv_requests.proofs.StillLaws.{failure-request}
 use Rattle.jv_client.specs.declared.doing.Doing.{Doing}
 use Rattle.jv_client.specs.declared.doing.Progress.{Progress}
-use Rattle.jv_client.specs.declared.doing.Progress.TheVariants.{Working, Reading}
+use Rattle.jv_client.specs.declared.doing.Progress.TheVariants.{Reading, Working}
 use Rattle.jv_client.specs.declared.made.Made.{Made}
-use Rattle.jv_client.specs.declared.made.Made.TheVariants.{Answer}
+use Rattle.jv_client.specs.declared.made.Made.TheVariants as made
 use Rattle.jv_client.specs.ClientValue.{ClientValue}
-use Rattle.jv_client.specs.Shared.{Shared}
-use Rattle.jv_client.specs.Held.{IsClient, Holds, stage_of}
 use Rattle.jv_client.specs.Ending.{ended, finished_here, refused_here, told_here}
-use Rattle.jv_client.specs.UnderWay.{IsReady}
-use Rattle.jv_client.specs.Makes.{Makes, UsesKeeper}
-use Rattle.jv_client.proofs.HeldLaws.{held-later, held-doing, holds-doing}
-use Rattle.jv_client.proofs.StepLaws.{doing_of, client-doing, steps_alone}
-use Rattle.jv_client.proofs.SharedLaws.{has_store-same}
+use Rattle.jv_client.specs.Held.{Holds, IsClient, flight_in, in_flight, number_of, stage_of}
+use Rattle.jv_client.specs.Makes.{Falls, HasNoFailure, Makes, StepsTo, TellsBad, UsesDevices, asks_nothing, faults_of, is_failure_of, kinds_of, step_of, tells_failure}
+use Rattle.jv_client.specs.Transacting.{Fails}
+use Rattle.jv_client.specs.UnderWay.{IsReady, IsUnderWay}
+use Rattle.jv_client.proofs.HeldLaws.{client-doing, doing_of, holds-doing}
+use Rattle.jv_client.proofs.KeptLaws.{client-ended}
 
--- a client whose operation ended is itself, and does nothing
+-- ---- a client whose operation ended
+
+-- it is itself, and does nothing
 pub record Rests (h after : ClientValue) : Type 0 where
   pub id : after.id ≡ h.id
   pub limits : after.limits ≡ h.limits
@@ -52,74 +66,135 @@ told-rests o (Fine a b c d) h = finished-rests o h
 told-rests o (Looks first second len) h = finished-rests o h
 told-rests o (ToldRefused fault) h = refused-rests fault h
 
--- an operation whose answer isn't settled
+pub ended-rests : (h : ClientValue) → Rests h (ended h)
+ended-rests h = record { id = refl; limits = refl; idle = refl }
 
-pub reply-unsettled : (c : ModelClient) (d : Doing) (told : Told)
-    → reply_of c (doing_of d) told ≡ told_reply c (doing_of d) told
-reply-unsettled c d told = by_progress d.progress
+pub rests-ready : (h after : ClientValue) → Rests h after → IsReady h → IsReady after
+rests-ready h after rests ready = record {
+  buffer = subst (λ (l : Limits). MAX_DATA ≤ l.buffer) (sym rests.limits) ready.buffer;
+  doing = subst (λ (o : Option Doing). IfSome o (IsUnderWay after)) (sym rests.idle) tt;
+}
+
+-- it has no slice in flight
+pub rests-flight : (h after : ClientValue) → Rests h after → in_flight after ≡ 0
+rests-flight h after rests = ap (λ (o : Option Doing). number_of (flight_in after.pending o)) rests.idle
+
+-- ---- the model's client, whose operation can always be refused for a failure
+
+pub not_ending : (d : Doing) → must_answer (doing_of d) ≡ false
+not_ending d = by_progress d.progress refl
   where
-    by_progress : (p : Progress) → reply_of c (doing_of (record d { progress = p })) told ≡ told_reply c
-        (doing_of (record d { progress = p })) told
-    by_progress (Working quiets started) = refl
-    by_progress Reading = refl
+    by_progress : (p : Progress) → d.progress ≡ p → must_answer (doing_of d) ≡ false
+    by_progress (Working quiets started id) e = goes-working (doing_of d) quiets started (ap stage_of e)
+    by_progress (Reading fetch need) e = goes-reading (doing_of d) 0 (ap stage_of e)
 
-pub not_ending : (d : ModelDoing) (p : Progress) → d.stage ≡ stage_of p → must_answer d ≡ false
-not_ending d (Working quiets started) e = ap (λ stage. must_answer (record d { stage = stage })) e
-not_ending d Reading e = ap (λ stage. must_answer (record d { stage = stage })) e
+-- ---- a request
 
--- an answer that says what was done is of the operation itself
-
-pub own-fine : (p : Progress) (a b c d : ℕ) → is_of_another (stage_of p) (Fine a b c d) ≡ false
-own-fine (Working quiets started) a b c d = refl
-own-fine Reading a b c d = refl
-
-pub own-looks : (p : Progress) (first second len : ℕ) → is_of_another (stage_of p) (Looks first second len) ≡ false
-own-looks (Working quiets started) first second len = refl
-own-looks Reading first second len = refl
-
--- a failure: the operation itself is refused, and its end is all that it comes to
-
-own-failure : (p : Progress) (fault : Fault) → is_failure (ToldRefused fault) ≡ true
-    → is_of_another (stage_of p) (ToldRefused fault) ≡ false
-own-failure p InProgress e = absurd (cc e)
-own-failure (Working quiets started) _ e = refl
-own-failure Reading _ e = refl
-
-spared : (fault : Fault) (c : ModelClient) → is_failure (ToldRefused fault) ≡ true → refused_as fault c ≡ c
-spared (Stale gone) c e = absurd (cc e)
-spared _ c e = refl
-
-module _ (now entry : ℕ) (h : ClientValue) (d : Doing) (before grown : Shared) (fault : Fault) where
-  abbrev failed : Made
-  failed = Answer (ToldRefused fault) (Refused fault)
-
-  pub fails : h.doing ≡ Some d → IsReady h → is_failure (ToldRefused fault) ≡ true
-      → SameSegments before.files grown.files
-      → UsesKeeper failed before.keeper grown.keeper → Makes now entry h (ended h) before grown failed
-  fails busy ready fail files keeper = record {
-    id = refl;
-    limits = refl;
-    ready = tt;
-    grows = grows-by before.files grown.files files;
-    keeper = keeper;
-    falls = refl;
-    leads = λ s number has_store holds client.
-        let c = s.clients h.id in
-        let same : after_told d.op (ToldRefused fault) c ≡ record c { doing = None } = ap
-        (λ (c : ModelClient). record c { doing = None }) (spared fault c fail) in
-        let held = held-later (grows-by before.files grown.files files) (omega arith)
-        (held-doing None None client.held) in
-        let is : IsClient (record c { doing = None }) (s.count + 1) grown.files (ended h) = record
-        { held = held; doing = tt } in
-        steps_alone s h.id now (doing_of d) (ToldRefused fault) (Refused fault) (ended h) grown
-        (client-doing d busy client)
-        (or_right (not d.has_moved) (is_failure (ToldRefused fault)) fail)
-        (record {
-          may = λ start alone. Fails (not_ending (doing_of d) d.progress refl) fail;
-          own = own-failure d.progress fault fail;
-          says = reply-unsettled c d (ToldRefused fault);
-        })
-        (has_store-same has_store (keeper.still refl) files)
-        (subst (Holds s.tree) (sym same) (holds-doing c None holds))
-        (subst (λ c. IsClient c (s.count + 1) grown.files (ended h)) (sym same) is);
+module _ (s : State) (g learned : Known) (before v : Shared) (client now mine after : ℕ) (kinds : List ActKind)
+    (step : Step) (t : Tree) (c : ModelClient) (copied : ℕ) where
+  -- the client has no slice in flight after it
+  pub request-lands : Request s g learned before v client now mine after kinds step t c copied
+      → Request s g learned before v client now mine 0 kinds step t c copied
+  request-lands r = record {
+    own = r.own;
+    allows = r.allows;
+    within = r.within;
+    leaves = r.leaves;
+    leads = r.leads;
+    apart = record {
+      own_apart = r.apart.own_apart;
+      new_apart = λ f flies other none. (let some = flies.ever.some in absurd (omega (arith, some, none)));
+    };
+    stays = r.stays;
   }
+
+-- ---- devices
+
+-- a step that used none: they are as they were
+pub uses-none : (done : Made) (v : Shared) → ((device : Device) → tells_failure device done ≡ false)
+    → TellsBad v (step_of done) → UsesDevices done v v
+uses-none done v calm bad = record {
+  keeper_at = refl;
+  carrier_at = refl;
+  depot_at = refl;
+  shelf_at = refl;
+  setting = refl;
+  last = refl;
+  counts = λ device.
+      subst (λ b. RoseIf b (faults_of device v) (faults_of device v)) (sym (calm device)) refl;
+  rows = λ none. refl;
+  objects = λ none. refl;
+  blocks = refl;
+  bad = bad;
+}
+
+-- ---- an operation ends, whatever it is told
+
+module _ (now entry : ℕ) (h after : ClientValue) (before used : Shared) (done : Made) (reply : Reply) where
+  pub makes-ended : step_of done ≡ Done reply → IsReady h → Rests h after → UsesDevices done before used
+      → ((s : State) (g : Known) → s.count + 1 ≡ entry → HasStore s.tree g before → Holds s.tree (s.clients h.id)
+      → IsClient g before (s.clients h.id) s.count h
+      → StepsTo s g before h now (kinds_of done) (step_of done) after used)
+      → Makes now entry h after before used done
+  makes-ended is ready rests devices leads = record {
+    id = rests.id;
+    limits = rests.limits;
+    ready = rests-ready h after rests ready;
+    devices = devices;
+    falls = subst (λ (step : Step). Falls step h after) (sym is) rests.idle;
+    leads = leads;
+  }
+
+-- a step under other names
+pub makes-as : (now entry : ℕ) (h after end : ClientValue) (v used other : Shared) (done is : Made) → after ≡ end
+    → used ≡ other → done ≡ is → Makes now entry h end v other is → Makes now entry h after v used done
+makes-as now entry h after end v used other done is same_end same_used same_made makes =
+    subst (λ (x : Made). Makes now entry h after v used x) (sym same_made)
+    (subst (λ (x : Shared). Makes now entry h after v x is) (sym same_used)
+    (subst (λ (x : ClientValue). Makes now entry h x v other is) (sym same_end) makes))
+
+-- ---- a device failed, or memory ran out: the operation's end is all that it comes to
+
+module _ (now entry : ℕ) (h : ClientValue) (d : Doing) (before used : Shared) (fault : Fault) where
+  abbrev failed : Made
+  failed = made.Answer (ToldRefused fault) (RefusedReply fault)
+
+  fails-leads : h.doing ≡ Some d → is_failure (ToldRefused fault) ≡ true → HoldsSame before used
+      → (s : State) (g : Known) → HasStore s.tree g before → Holds s.tree (s.clients h.id)
+      → IsClient g before (s.clients h.id) s.count h
+      → StepsTo s g before h now (kinds_of failed) (step_of failed) (ended h) used
+  fails-leads busy fail same s g store holds is =
+      let c = s.clients h.id in
+      let mine = in_flight h in
+      let ends = Done (RefusedReply fault) in
+      let left : ModelClient = record c { doing = None } in
+      record {
+        learned = g;
+        tree = s.tree;
+        model = left;
+        copied = s.copied;
+        request = request-lands s g g before used h.id now mine mine (kinds_of failed) ends s.tree left s.copied
+            (failure-request s g before used store same h.id now mine (doing_of d)
+            (client-doing g before c s.count h d busy is) (not_ending d) fault fail);
+        is_client = client-ended s.tree g before store 0 g used (same-stays 0 g before used same) c s.count (s.count + 1) h
+            (omega arith) is;
+        no_failure = tt;
+        holds = holds-doing s.tree c None holds;
+      }
+
+  pub fails-makes : (after : ClientValue) (done : Made) → h.doing ≡ Some d → IsReady h
+      → is_failure (ToldRefused fault) ≡ true → Fails fault h after done → HoldsSame before used
+      → UsesDevices done before used → Makes now entry h after before used done
+  fails-makes after done busy ready fail fails same devices =
+      makes-as now entry h after (ended h) before used used done failed fails.after_is refl fails.made_is
+      (makes-ended now entry h (ended h) before used failed (RefusedReply fault) refl ready (ended-rests h)
+      (subst (λ (x : Made). UsesDevices x before used) fails.made_is devices)
+      (λ s g count store holds is. fails-leads busy fail same s g store holds is))
+
+-- memory ran out, and no device was used
+pub no_memory-makes : (now entry : ℕ) (h after : ClientValue) (d : Doing) (v : Shared) (done : Made) → h.doing ≡ Some d
+    → IsReady h → Fails NoMemory h after done → Makes now entry h after v v done
+no_memory-makes now entry h after d v done busy ready fails =
+    fails-makes now entry h d v v NoMemory after done busy ready refl fails (same-none v)
+    (subst (λ (x : Made). UsesDevices x v v) (sym fails.made_is)
+    (uses-none (made.Answer (ToldRefused NoMemory) (RefusedReply NoMemory)) v (λ device. refl) tt))

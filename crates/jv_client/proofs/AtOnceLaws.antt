@@ -1,228 +1,306 @@
--- An operation is answered that has nothing to ask for: a close, a flush, and a read of no bytes.
-use Rattle.std.proofs.Common.{◌≡◌, ℕ, ◌+◌, true, false, not, IfSome, List, [], Option, None, Some, refl, sym, ap, subst, ◌∙◌, arith}
-use Rattle.std.specs.Prelude.{is_some, if◌then◌else◌, ◌==◌, ◌&&◌, ◌||◌}
-use Rattle.std.specs.Option.{option_map}
+-- An operation is answered that has nothing to ask for: a close, a flush, a read of no bytes, a look at the cache's numbers, and a
+-- write that there is room for.
+use Rattle.std.proofs.Common.{◌≡◌, ℕ, ◌+◌, ◌≤◌, Bool, true, false, not, List, [], ◌∷◌, length, Option, None, Some, refl, sym, ap, subst, ◌∙◌, arith}
+use Rattle.std.specs.Prelude.{◌==◌, ◌||◌, IfSome, if◌then◌else◌, filter, is_some}
 use Rattle.std.proofs.lemmas.Bool.{not-true}
+use Rattle.jv_model.specs.declared.act.ActKind.TheVariants.{Answered as IsAnswered}
 use Rattle.jv_model.specs.declared.act.Told.{Told}
 use Rattle.jv_model.specs.declared.act.Told.TheVariants.{Fine, Looks}
+use Rattle.jv_model.specs.declared.fault.Device.{Device}
 use Rattle.jv_model.specs.declared.op.Op.{Op}
 use Rattle.jv_model.specs.declared.op.Op.TheVariants as op
+use Rattle.jv_model.specs.declared.op.Reply.{Reply}
+use Rattle.jv_model.specs.declared.op.Reply.TheVariants as reply
+use Rattle.jv_model.specs.declared.op.Step.TheVariants.{Done}
 use Rattle.jv_model.specs.declared.profile.Answer.TheVariants as answer
 use Rattle.jv_model.specs.declared.profile.Does.{Does}
 use Rattle.jv_model.specs.declared.profile.Does.TheVariants as does
-use Rattle.jv_model.specs.declared.op.Reply.{Reply}
-use Rattle.jv_model.specs.declared.op.Reply.TheVariants as reply
+use Rattle.jv_model.specs.client.Pending.{written}
 use Rattle.jv_model.specs.client.Profile.{handle_of}
 use Rattle.jv_model.specs.client.Submission.{is_flushed}
-use Rattle.jv_model.specs.client.ModelClient.{ModelClient, OpenFile, View, file_of}
-use Rattle.jv_model.specs.journal.State.{after_told, answer_then, is_of_another}
-use Rattle.jv_model.specs.journal.Steps.{AtOnce, is_failure, is_ready, is_working, quiets_in, told_of}
-use Rattle.jv_model.specs.journal.Past.{fine_reply, or_no_bytes, told_reply}
-use Rattle.jv_model.specs.journal.Reading.{reading}
-use Rattle.jv_outside.specs.Causes.{RoseIf}
-use Rattle.jv_files.specs.Stored.{FilesValue}
-use Rattle.jv_files.proofs.GrowthLaws.{grows-same}
+use Rattle.jv_model.specs.client.ModelClient.{ModelClient, Working as AtWork, inode_at, is_last_of_removed, with_file}
+use Rattle.jv_model.specs.journal.State.{State, after_told}
+use Rattle.jv_model.specs.journal.Steps.{Start}
+use Rattle.jv_steps.specs.IsStep.{IsStep}
+use Rattle.jv_steps.proofs.AnswerStepLaws.{closed-at_once, flushed-at_once, read-at_once, stats-answered, written-at_once}
+use Rattle.jv_handles.specs.declared.handle.Handle.{Handle}
+use Rattle.jv_handles.specs.Handles.{inode_here}
+use Rattle.jv_shared.specs.Shared.{HasStore, Known, Shared}
+use Rattle.jv_shared.proofs.KeepingLaws.{stays-none}
+use Rattle.jv_shared.proofs.SameLaws.{same-none}
+use Rattle.jv_requests.specs.Request.{Request}
+use Rattle.jv_requests.proofs.StillLaws.{still-request}
 use Rattle.jv_client.specs.declared.doing.Doing.{Doing}
-use Rattle.jv_client.specs.declared.doing.Progress.TheVariants.{Working}
-use Rattle.jv_client.specs.declared.made.Made.TheVariants.{Answer}
+use Rattle.jv_client.specs.declared.doing.Flush.TheVariants as flush
+use Rattle.jv_client.specs.declared.doing.Progress.{Progress}
+use Rattle.jv_client.specs.declared.made.Made.TheVariants as made
 use Rattle.jv_client.specs.ClientValue.{ClientValue}
-use Rattle.jv_client.specs.Shared.{Shared}
-use Rattle.jv_client.specs.Held.{SamePlace, IsHeld, IsClient, IsDoing, flush_of_code, is_last_here, stage_of}
-use Rattle.jv_client.specs.Ending.{told_here}
-use Rattle.jv_client.specs.UnderWay.{FlushesFor, Closes, Syncs, Describes, ReadsNothing, Reads, IsForm, Mounts, Transacts, Leaves, Writes, Flushes, IsUnderWay, Ends, Answered, GoesOn, answer_here, asks_more, ends_itself, has_segment, keeps, left_of}
-use Rattle.jv_client.specs.Makes.{Makes, UsesKeeper, is_keeper_failure}
-use Rattle.jv_client.proofs.HeldLaws.{held-later}
+use Rattle.jv_client.specs.Ending.{ended, told_here}
+use Rattle.jv_client.specs.Held.{Holds, IsClient, in_flight, is_last_here, stage_of}
+use Rattle.jv_client.specs.Makes.{Makes, StepsTo, is_failure_of}
+use Rattle.jv_client.specs.UnderWay.{Answered, Closes, Copies, Describes, Ends, Flushes, FlushesFor, GoesOn, IsForm, IsReady, IsUnderWay, Leaves, Mounts, Reads, ReadsNothing, Syncs, TellsStats, Transacts, Truncates, Writes, answer_here, ends_itself, has_segment, keeps, left, tells_stats}
+use Rattle.jv_client.proofs.HeldLaws.{client-doing, doing_of, holds-doing}
 use Rattle.jv_client.proofs.LastLaws.{is_last-same}
-use Rattle.jv_client.proofs.EndingLaws.{held-told, holds-told, keeps_bytes}
-use Rattle.jv_client.proofs.StepLaws.{doing_of, client-doing, steps_alone, makes_as}
-use Rattle.jv_client.proofs.AnswerLaws.{reply-unsettled, own-fine, own-looks, told-rests}
-use Rattle.jv_client.proofs.FormLaws.{nothing_asked}
+use Rattle.jv_client.proofs.EndingLaws.{holds-told, keeps_bytes}
+use Rattle.jv_client.proofs.KeptLaws.{client-ended, client-told}
+use Rattle.jv_client.proofs.AnswerLaws.{Rests, ended-rests, makes-as, makes-ended, request-lands, rests-flight, told-rests, uses-none}
+use Rattle.jv_client.proofs.FormLaws.{flushed-same, none_left, nothing_asked, under_way}
 
--- after its answer neither client does anything
+-- ---- an answer alone, while devices are as they were
 
-none_same : {X Y : Type 0} (P : X → Y → Type 0) (x : Option X) (y : Option Y) → x ≡ None → y ≡ None → SamePlace P x y
-none_same P x y e f = subst (λ x. SamePlace P x y) (sym e) (subst (SamePlace P None) (sym f) tt)
+-- the model allows it, and it leaves a client of the model that the one in memory stands for
+pub record AnswersWell (s : State) (g : Known) (v : Shared) (now : ℕ) (h after : ClientValue) (told : Told)
+    (said : Reply) : Type 0 where
+  pub model : ModelClient
+  pub steps : (start : Start) (alone : Bool)
+      → IsStep start alone s h.id now (IsAnswered told ∷ []) (Done said) s.tree model s.copied
+  pub is_client : IsClient g v model (s.count + 1) after
+  pub holds : Holds s.tree model
 
-model-idle : (o : Op) (told : Told) (c : ModelClient) → (after_told o told c).doing ≡ None
-model-idle o (Fine a b d e) c = refl
-model-idle o (Looks first second len) c = refl
-model-idle o _ c = refl
+module _ (now entry : ℕ) (h after : ClientValue) (v : Shared) (told : Told) (said : Reply) where
+  pub answers-makes : IsReady h → Rests h after → ((device : Device) → is_failure_of device told ≡ false)
+      → ((s : State) (g : Known) → HasStore s.tree g v → Holds s.tree (s.clients h.id)
+      → IsClient g v (s.clients h.id) s.count h → AnswersWell s g v now h after told said)
+      → Makes now entry h after v v (made.Answer told said)
+  answers-makes ready rests calm well =
+      makes-ended now entry h after v v (made.Answer told said) said refl ready rests
+      (uses-none (made.Answer told said) v calm tt)
+      (λ s g count store holds is.
+          let w = well s g store holds is in
+          let mine = in_flight h in
+          let kinds = IsAnswered told ∷ [] in
+          record {
+            learned = g;
+            tree = s.tree;
+            model = w.model;
+            copied = s.copied;
+            request = subst (λ n. Request s g g v v h.id now mine n kinds (Done said) s.tree w.model s.copied)
+                (sym (rests-flight h after rests))
+                (request-lands s g g v v h.id now mine mine kinds (Done said) s.tree w.model s.copied
+                (still-request s g v v store (same-none v) h.id now mine kinds (Done said) w.model w.steps));
+            is_client = w.is_client;
+            no_failure = tt;
+            holds = w.holds;
+          })
 
-pub client-told : (o : Op) (told : Told) (c : ModelClient) (count : ℕ) (files : FilesValue) (h : ClientValue)
-    → keeps_bytes o told ≡ false → IsHeld c count files h
-    → IsClient (after_told o told c) count files (told_here o told h)
-client-told o told c count files h other held = record {
-  held = held-told o told c count files h other held;
-  doing = none_same IsDoing (after_told o told c).doing (told_here o told h).doing (model-idle o told c)
-      (told-rests o told h).idle;
-}
+-- ---- of an operation that is at its first step after its flush
 
--- nothing was asked of the keeper, and it didn't fail
-pub uses_none : (told : Told) (said : Reply) (v : Shared) → is_keeper_failure told ≡ false
-    → UsesKeeper (Answer told said) v.keeper v.keeper
-uses_none told said v calm = record {
-  opened_at = refl;
-  counts = subst (λ b. RoseIf b v.keeper.faults v.keeper.faults) (sym calm) refl;
-  still = λ asks. refl;
-  bad = tt;
-}
+-- where it is, as the model has it
+pub record IsDone (h : ClientValue) (d : Doing) : Type 0 where
+  pub started : ℕ
+  pub stage : stage_of d.progress ≡ AtWork 0 started
+  pub first : d.has_moved ≡ false
+  pub none : has_segment h d ≡ false
 
--- an operation with no segment to commit, which made no request, is ready to be answered
-pub idle-ready : (c : ModelClient) (h : ClientValue) (d : Doing) (started : ℕ) → d.progress ≡ Working 0 started
-    → has_segment h d ≡ false → c.pending ≡ h.pending
-    → is_ready c (doing_of d) ≡ true
-idle-ready c h d started at none same =
-    ap (λ p. is_working (stage_of p) && (quiets_in (stage_of p) == 0) && is_flushed (flush_of_code d.flush) c.pending)
-    at
-    ∙ ap (is_flushed (flush_of_code d.flush)) same ∙ ap not none
+pub is_done : (h : ClientValue) (d : Doing) → IsUnderWay h d → has_segment h d ≡ false → ends_itself h d ≡ true
+    → IsDone h d
+is_done h d under none ends =
+    let asked = nothing_asked h d under none ends in
+    record { started = asked.started; stage = ap stage_of asked.progress; first = asked.first; none = none }
 
--- what an answer of an operation that makes no request has to be
-pub record Fits (h : ClientValue) (files : FilesValue) (d : Doing) (told : Told) (said : Reply) : Type 0 where
-  pub asks : asks_more h d ≡ false
-  pub other : keeps_bytes d.op told ≡ false
-  pub calm : is_keeper_failure told ≡ false
-  pub own : is_of_another (stage_of d.progress) told ≡ false
-  pub same : (c : ModelClient) (count : ℕ) → IsHeld c count files h
-      → option_map told_of (answer_then c (doing_of d)) ≡ Some told
-  pub says : (c : ModelClient) → told_reply c (doing_of d) told ≡ said
+-- its answer leaves what it leaves of the client
+module _ (h : ClientValue) (d : Doing) (v : Shared) (told : Told) (said : Reply) (other : keeps_bytes d.op told ≡ false)
+    (s : State) (g : Known) (store : HasStore s.tree g v) (holds : Holds s.tree (s.clients h.id))
+    (is : IsClient g v (s.clients h.id) s.count h) (now : ℕ) where
+  told-well : (c : ModelClient) → after_told d.op told (s.clients h.id) ≡ c
+      → ((start : Start) (alone : Bool)
+      → IsStep start alone s h.id now (IsAnswered told ∷ []) (Done said) s.tree c s.copied)
+      → AnswersWell s g v now h (told_here d.op told h) told said
+  told-well c same steps = record {
+    model = after_told d.op told (s.clients h.id);
+    steps = λ start alone.
+        subst (λ (c : ModelClient). IsStep start alone s h.id now (IsAnswered told ∷ []) (Done said) s.tree c s.copied)
+        (sym same) (steps start alone);
+    is_client = client-told s.tree g v store 0 g v (stays-none 0 g v) (s.clients h.id) s.count (s.count + 1) h
+        (omega arith) is d.op told other;
+    holds = holds-told d.op told s.tree (s.clients h.id) other holds;
+  }
 
-module _ (now entry : ℕ) (h : ClientValue) (v : Shared) (d : Doing) (told : Told) (said : Reply) where
-  answers_alone : h.doing ≡ Some d → IsUnderWay h d → has_segment h d ≡ false → Fits h v.files d told said
-      → Makes now entry h (told_here d.op told h) v v (Answer told said)
-  answers_alone busy under none fits =
-      let rests = told-rests d.op told h in
-      let asked = nothing_asked h d under none fits.asks in
-      record {
-        id = rests.id;
-        limits = rests.limits;
-        ready = subst (λ (o : Option Doing). IfSome o (IsUnderWay (told_here d.op told h))) (sym rests.idle) tt;
-        grows = grows-same v.files;
-        keeper = uses_none told said v fits.calm;
-        falls = rests.idle;
-        leads = λ s number has_store holds client.
-            let c = s.clients h.id in
-            let held = held-later (grows-same v.files) (omega arith) client.held in
-            steps_alone s h.id now (doing_of d) told said (told_here d.op told h) v (client-doing d busy client)
-            (ap (λ b. not b || is_failure told) asked.first)
-            (record {
-              may = λ start alone. AtOnce (record {
-                ready = idle-ready c h d asked.started asked.progress none client.held.pending;
-                first = asked.first;
-                same = fits.same c s.count client.held;
-              });
-              own = fits.own;
-              says = reply-unsettled c d told ∙ fits.says c;
-            })
-            has_store (holds-told d.op told s.tree c fits.other holds)
-            (client-told d.op told c (s.count + 1) v.files h fits.other held);
-      }
+-- the answers of those that flush the file of their handle
+module _ (now entry : ℕ) (h : ClientValue) (v : Shared) (d : Doing) (busy : h.doing ≡ Some d) (ready : IsReady h)
+    (done : IsDone h d) where
+  abbrev IsAnsweredBy : Told → Reply → Type 0
+  IsAnsweredBy told said = Makes now entry h (told_here d.op told h) v v (made.Answer told said)
 
--- a close of a handle that isn't the last one on a file that this client removed
-closes-fits : (h : ClientValue) (files : FilesValue) (d : Doing) (handle : ℕ) → d.op ≡ op.Close handle
-    → d.does ≡ does.Releases → ends_itself h d ≡ true
-    → Fits h files d (Fine 0 0 0 0) reply.Done
-closes-fits h files d handle of_op of_does ends =
-    let last : is_last_here h (handle_of d.op) ≡ false = not-true _
-    (sym (ap (λ does. ends_itself h (record d { does = does })) of_does) ∙ ends) in
-    record {
-      asks = ap (λ does. asks_more h (record d { does = does })) of_does ∙ last;
-      other = ap (λ o. keeps_bytes o (Fine 0 0 0 0)) of_op;
-      calm = refl;
-      own = own-fine d.progress 0 0 0 0;
-      same = λ c count held.
-          ap (λ does. option_map told_of (answer_then c (doing_of (record d { does = does })))) of_does
-          ∙ ap (λ b. option_map told_of (if b then None else Some reply.Done))
-          (is_last-same held (handle_of d.op) ∙ last);
-      says = λ c. ap (λ does. fine_reply does 0 0 0 0) of_does;
-    }
+  -- the model has all committed that it flushes
+  flushed : (s : State) (g : Known) → IsClient g v (s.clients h.id) s.count h
+      → is_flushed (doing_of d).flush (s.clients h.id).pending ≡ true
+  flushed s g is = flushed-same h d (s.clients h.id).pending done.none is.held.pending
 
-syncs-fits : (h : ClientValue) (files : FilesValue) (d : Doing) (handle : ℕ) → d.op ≡ op.Flush handle
-    → d.does ≡ does.Answers answer.Done
-    → Fits h files d (Fine 0 0 0 0) reply.Done
-syncs-fits h files d handle of_op of_does = record {
-  asks = ap (λ does. asks_more h (record d { does = does })) of_does;
-  other = ap (λ o. keeps_bytes o (Fine 0 0 0 0)) of_op;
-  calm = refl;
-  own = own-fine d.progress 0 0 0 0;
-  same = λ c count held. ap (λ does. option_map told_of (answer_then c (doing_of (record d { does = does }))))
-      of_does;
-  says = λ c. ap (λ does. fine_reply does 0 0 0 0) of_does;
-}
+  -- a close of a handle that isn't the last one on a file that this client removed
+  closed_by-handle : (handle : ℕ) → d.op ≡ op.Close handle → d.does ≡ does.Releases → is_last_here h handle ≡ false
+      → IsAnsweredBy (Fine 0 0 0 0) reply.Done
+  closed_by-handle handle of_op of_does last =
+      let told = Fine 0 0 0 0 in
+      answers-makes now entry h (told_here d.op told h) v told reply.Done ready (told-rests d.op told h) (λ device. refl)
+      (λ s g store holds is.
+          let c = s.clients h.id in
+          let last_too = is_last-same g v c s.count h is.held handle ∙ last in
+          let left : ModelClient = record c { handles = with_file handle None c.handles; doing = None } in
+          told-well h d v told reply.Done (ap (λ o. keeps_bytes o told) of_op) s g store holds is now left
+          (ap (λ o. after_told o told c) of_op
+          ∙ ap (λ b. record c {
+            handles = with_file handle None c.handles;
+            sustained = (if b then filter (λ inode. not (inode == inode_at c handle)) c.sustained else c.sustained);
+            doing = None;
+          }) last_too)
+          (λ start alone. closed-at_once start alone s h.id now (doing_of d)
+          (client-doing g v c s.count h d busy is) done.started done.stage (flushed s g is) done.first handle of_op
+          of_does last_too))
 
-none_read : (o : Option OpenFile) (views : List View) (handle : ℕ)
-    → elim o as (λ _. List ℕ) [ None ↦ [] | Some file ↦ or_no_bytes (reading views handle file [] 0 0) ] ≡ []
-none_read None views handle = refl
-none_read (Some file) views handle = refl
+  -- a flush with nothing to commit
+  flushed_by-handle : (handle : ℕ) → d.op ≡ op.Flush handle → d.does ≡ does.Answers answer.Done
+      → IsAnsweredBy (Fine 0 0 0 0) reply.Done
+  flushed_by-handle handle of_op of_does =
+      let told = Fine 0 0 0 0 in
+      answers-makes now entry h (told_here d.op told h) v told reply.Done ready (told-rests d.op told h) (λ device. refl)
+      (λ s g store holds is.
+          let c = s.clients h.id in
+          told-well h d v told reply.Done (ap (λ o. keeps_bytes o told) of_op) s g store holds is now
+          (record c { doing = None }) (ap (λ o. after_told o told c) of_op)
+          (λ start alone. flushed-at_once start alone s h.id now (doing_of d)
+          (client-doing g v c s.count h d busy is) done.started done.stage (flushed s g is) done.first handle of_op
+          of_does))
 
-reads_none-fits : (h : ClientValue) (files : FilesValue) (d : Doing) (handle offset len : ℕ)
-    → d.op ≡ op.Read handle offset len → d.does ≡ does.Answers answer.NoData
-    → Fits h files d (Looks 0 0 0) (reply.Data [])
-reads_none-fits h files d handle offset len of_op of_does = record {
-  asks = ap (λ does. asks_more h (record d { does = does })) of_does;
-  other = ap (λ o. keeps_bytes o (Looks 0 0 0)) of_op;
-  calm = refl;
-  own = own-looks d.progress 0 0 0;
-  same = λ c count held. ap (λ does. option_map told_of (answer_then c (doing_of (record d { does = does }))))
-      of_does;
-  says = λ c. ap (λ does. told_reply c (doing_of (record d { does = does })) (Looks 0 0 0)) of_does
-      ∙ ap reply.Data (none_read (file_of c.handles (handle_of d.op)) c.views (handle_of d.op));
-}
+  -- a read of no byte
+  nothing-read : (handle offset len : ℕ) → d.op ≡ op.Read handle offset len → d.does ≡ does.Answers answer.NoData
+      → IsAnsweredBy (Looks 0 0 0) (reply.Data [])
+  nothing-read handle offset len of_op of_does =
+      let told = Looks 0 0 0 in
+      answers-makes now entry h (told_here d.op told h) v told (reply.Data []) ready (told-rests d.op told h)
+      (λ device. refl)
+      (λ s g store holds is.
+          let c = s.clients h.id in
+          told-well h d v told (reply.Data []) (ap (λ o. keeps_bytes o told) of_op) s g store holds is now
+          (record c { doing = None }) (ap (λ o. after_told o told c) of_op)
+          (λ start alone. read-at_once start alone s h.id now (doing_of d)
+          (client-doing g v c s.count h d busy is) done.started done.stage (flushed s g is) done.first handle offset len
+          of_op of_does))
 
--- these are all
+  -- the numbers of the cache
+  pub stats-told : d.op ≡ op.Stats → d.does ≡ does.Answers answer.CacheStats → (hits misses cached : ℕ)
+      → Makes now entry h (ended h) v v (made.Answer (Fine hits misses cached (length h.pending))
+      (reply.CacheStats hits misses cached (length h.pending)))
+  stats-told of_op of_does hits misses cached =
+      let told = Fine hits misses cached (length h.pending) in
+      let said = reply.CacheStats hits misses cached (length h.pending) in
+      answers-makes now entry h (ended h) v told said ready (ended-rests h) (λ device. refl)
+      (λ s g store holds is.
+          let c = s.clients h.id in
+          let long : length c.pending ≡ length h.pending = ap length is.held.pending in
+          record {
+            model = record c { doing = None };
+            steps = λ start alone.
+                subst (λ n. IsStep start alone s h.id now (IsAnswered (Fine hits misses cached n) ∷ [])
+                (Done (reply.CacheStats hits misses cached n)) s.tree (record c { doing = None }) s.copied) long
+                (stats-answered start alone s h.id now (doing_of d) (client-doing g v c s.count h d busy is)
+                done.started done.stage (flushed s g is) done.first of_op of_does hits misses cached);
+            is_client = client-ended s.tree g v store 0 g v (stays-none 0 g v) c s.count (s.count + 1) h (omega arith) is;
+            holds = holds-doing s.tree c None holds;
+          })
 
-module _ (h : ClientValue) (files : FilesValue) (d : Doing) where
-  abbrev FitsHere : Type 0
-  FitsHere = Fits h files d (answer_here d.does).0 (answer_here d.does).1
+  -- these are all that have nothing to ask for, but writes
 
-  fits-as : (does : Does) (told : Told) (said : Reply) → d.does ≡ does → answer_here does ≡ (told, said)
-      → Fits h files d told said → FitsHere
-  fits-as does told said of_does same fits = subst (λ (p : Told × Reply). Fits h files d p.0 p.1)
-      (sym (ap answer_here of_does ∙ same)) fits
+  abbrev IsAnsweredHere : Type 0
+  IsAnsweredHere = IsAnsweredBy (answer_here d.does).0 (answer_here d.does).1
 
-  none_ends : (does : Does) → d.does ≡ does → ends_itself h (record d { does = does }) ≡ false
-      → ends_itself h d ≡ true → FitsHere
-  none_ends does of_does goes_on ends = absurd (let same = ap (λ does. ends_itself h (record d { does = does }))
-      of_does in cc (sym ends ∙ same ∙ goes_on))
+  answered-as : (does : Does) (told : Told) (said : Reply) → d.does ≡ does → answer_here does ≡ (told, said)
+      → IsAnsweredBy told said → IsAnsweredHere
+  answered-as does told said of_does same makes =
+      subst (λ (p : Told × Reply). IsAnsweredBy p.0 p.1) (sym (ap answer_here of_does ∙ same)) makes
 
-  flushed-fits : (handle : ℕ) → FlushesFor d handle → ends_itself h d ≡ true → FitsHere
-  flushed-fits handle (Closes of_op of_does) ends = fits-as does.Releases (Fine 0 0 0 0) reply.Done of_does refl
-      (closes-fits h files d handle of_op of_does ends)
-  flushed-fits handle (Syncs of_op of_does) ends = fits-as (does.Answers answer.Done) (Fine 0 0 0 0) reply.Done
-      of_does refl (syncs-fits h files d handle of_op of_does)
-  flushed-fits handle (Describes of_op of_does) ends = none_ends does.Transacts of_does refl ends
-  flushed-fits handle (ReadsNothing offset len of_op of_does) ends =
-      fits-as (does.Answers answer.NoData) (Looks 0 0 0) (reply.Data []) of_does refl
-      (reads_none-fits h files d handle offset len of_op of_does)
-  flushed-fits handle (Reads offset len of_op of_does some short) ends = none_ends (does.Reads offset len) of_does
-      refl ends
+  not_ends : (does : Does) → d.does ≡ does → ends_itself h (record d { does = does }) ≡ false
+      → ends_itself h d ≡ true → IsAnsweredHere
+  not_ends does of_does goes ends =
+      absurd (let same = ap (λ does. ends_itself h (record d { does = does })) of_does in cc (sym ends ∙ same ∙ goes))
 
-  form-fits : IsForm h d → ends_itself h d ≡ true → keeps d.does ≡ false → FitsHere
-  form-fits (Mounts of_op of_does first) ends other = none_ends (does.Mounts false) of_does refl ends
-  form-fits (Transacts is_metadata spelled of_does first session) ends other = none_ends does.Transacts of_does refl
-      ends
-  form-fits (Leaves of_op of_does first session) ends other = none_ends does.Transacts of_does refl ends
-  form-fits (Writes handle offset bytes file of_op of_does first opened short few) ends other = absurd
-      (let same = ap keeps of_does in cc (sym same ∙ other))
-  form-fits (Flushes handle file for first opened session) ends other = flushed-fits handle for ends
+  flushed-answered : (handle : ℕ) → FlushesFor d handle → ends_itself h d ≡ true → IsAnsweredHere
+  flushed-answered handle (Closes of_op of_does) ends =
+      answered-as does.Releases (Fine 0 0 0 0) reply.Done of_does refl
+      (closed_by-handle handle of_op of_does
+      (sym (ap (λ o. is_last_here h (handle_of o)) of_op)
+      ∙ not-true _ (sym (ap (λ does. ends_itself h (record d { does = does })) of_does) ∙ ends)))
+  flushed-answered handle (Syncs of_op of_does) ends =
+      answered-as (does.Answers answer.Done) (Fine 0 0 0 0) reply.Done of_does refl
+      (flushed_by-handle handle of_op of_does)
+  flushed-answered handle (Describes of_op of_does) ends = not_ends does.Transacts of_does refl ends
+  flushed-answered handle (ReadsNothing offset len of_op of_does) ends =
+      answered-as (does.Answers answer.NoData) (Looks 0 0 0) (reply.Data []) of_does refl
+      (nothing-read handle offset len of_op of_does)
+  flushed-answered handle (Reads offset len of_op of_does some few low) ends =
+      not_ends (does.Reads offset len) of_does refl ends
+  flushed-answered handle (Truncates len of_op of_does) ends = not_ends does.Truncates of_does refl ends
 
-ends_alone : (now entry : ℕ) (h after : ClientValue) (v : Shared) (d : Doing) (told : Told) (said : Reply)
-    → h.doing ≡ Some d → IsUnderWay h d
-    → has_segment h d ≡ false → keeps d.does ≡ false → ends_itself h d ≡ true → Ends d h after (Some (told, said))
-    → Makes now entry h after v v (Answer told said)
-ends_alone now entry h after v d told said busy under none other itself (Answered ends of_answer of_after) =
-    let same : ◌≡◌ {A = Told × Reply} (told, said) (answer_here d.does) = cc of_answer in
-    makes_as of_after refl (ap (λ (p : Told × Reply). Answer p.0 p.1) same)
-    (answers_alone now entry h v d (answer_here d.does).0 (answer_here d.does).1 busy under none
-    (form-fits h v.files d under.form itself other))
-ends_alone now entry h after v d told said busy under none other itself (GoesOn more of_answer of_after) = absurd
-    (cc (sym itself ∙ more))
+  form-answered : IsForm h d → ends_itself h d ≡ true → keeps d.does ≡ false → tells_stats d.does ≡ false
+      → IsAnsweredHere
+  form-answered (Mounts of_op of_does first) ends kept told = not_ends (does.Mounts false) of_does refl ends
+  form-answered (Transacts one spelled of_does first session) ends kept told = not_ends does.Transacts of_does refl ends
+  form-answered (Leaves of_op of_does first session) ends kept told = not_ends does.Transacts of_does refl ends
+  form-answered (Writes handle offset bytes file of_op of_does opened short room session) ends kept told =
+      absurd (let same = ap keeps of_does in cc (sym same ∙ kept))
+  form-answered (Flushes handle file for first opened session) ends kept told = flushed-answered handle for ends
+  form-answered (Copies source from target to len file other of_op of_does first opened there session) ends kept told =
+      not_ends does.Copies of_does refl ends
+  form-answered (TellsStats of_op of_does first session) ends kept told =
+      absurd (let same = ap tells_stats of_does in cc (sym same ∙ told))
 
+  pub ends_alone : IsForm h d → ends_itself h d ≡ true → keeps d.does ≡ false → tells_stats d.does ≡ false
+      → (after : ClientValue) (told : Told) (said : Reply) → Ends d h after (Some (told, said))
+      → Makes now entry h after v v (made.Answer told said)
+  ends_alone form ends kept stats after told said (Answered itself of_answer of_after) =
+      let same : ◌≡◌ {A = Told × Reply} (told, said) (answer_here d.does) = cc of_answer in
+      makes-as now entry h after (told_here d.op (answer_here d.does).0 h) v v v (made.Answer told said)
+      (made.Answer (answer_here d.does).0 (answer_here d.does).1) of_after refl
+      (ap (λ (p : Told × Reply). made.Answer p.0 p.1) same) (form-answered form ends kept stats)
+  ends_alone form ends kept stats after told said (GoesOn more of_answer of_after) = absurd (cc (sym ends ∙ more))
+
+-- as the function has it
 pub end_at_once : (now entry : ℕ) (h after : ClientValue) (v : Shared) (told : Told) (said : Reply) (o : Option Doing)
-    → h.doing ≡ o → is_some o ≡ true
-    → IfSome o (IsUnderWay h) → left_of h.pending o ≡ None → IfSome o (λ d. keeps d.does ≡ false)
-    → IfSome o (λ d. ends_itself h d ≡ true)
+    → h.doing ≡ o → is_some o ≡ true → IsReady h → left h ≡ None → IfSome o (λ d. keeps d.does ≡ false)
+    → IfSome o (λ d. tells_stats d.does ≡ false) → IfSome o (λ d. ends_itself h d ≡ true)
     → IfSome o (λ d. Ends d h after (Some (told, said)))
-    → Makes now entry h after v v (Answer told said)
-end_at_once now entry h after v told said None busy some under none other itself ends = absurd (cc some)
-end_at_once now entry h after v told said (Some d) busy some under none other itself ends = ends_alone now entry h
-    after v d told said busy under (ap is_some none) other itself ends
+    → Makes now entry h after v v (made.Answer told said)
+end_at_once now entry h after v told said None busy some ready none kept stats itself ends = absurd (cc some)
+end_at_once now entry h after v told said (Some d) busy some ready none kept stats itself ends =
+    let under = under_way h d busy ready in
+    ends_alone now entry h v d busy ready (is_done h d under (none_left h d busy none) itself) under.form itself kept
+    stats after told said ends
+
+pub stats_told : (now entry : ℕ) (h : ClientValue) (v : Shared) (d : Doing) → h.doing ≡ Some d → IsReady h
+    → left h ≡ None → tells_stats d.does ≡ true → (hits misses cached : ℕ)
+    → Makes now entry h (ended h) v v (made.Answer (Fine hits misses cached (length h.pending))
+    (reply.CacheStats hits misses cached (length h.pending)))
+stats_told now entry h v d busy ready none tells hits misses cached = by_form under.form
+  where
+    under : IsUnderWay h d
+    under = under_way h d busy ready
+
+    other : (does : Does) → d.does ≡ does → tells_stats does ≡ false
+        → Makes now entry h (ended h) v v (made.Answer (Fine hits misses cached (length h.pending))
+        (reply.CacheStats hits misses cached (length h.pending)))
+    other does of_does not = absurd (cc (sym tells ∙ ap tells_stats of_does ∙ not))
+
+    by_flush : (handle : ℕ) → FlushesFor d handle
+        → Makes now entry h (ended h) v v (made.Answer (Fine hits misses cached (length h.pending))
+        (reply.CacheStats hits misses cached (length h.pending)))
+    by_flush handle (Closes of_op of_does) = other does.Releases of_does refl
+    by_flush handle (Syncs of_op of_does) = other (does.Answers answer.Done) of_does refl
+    by_flush handle (Describes of_op of_does) = other does.Transacts of_does refl
+    by_flush handle (ReadsNothing offset len of_op of_does) = other (does.Answers answer.NoData) of_does refl
+    by_flush handle (Reads offset len of_op of_does some few low) = other (does.Reads offset len) of_does refl
+    by_flush handle (Truncates len of_op of_does) = other does.Truncates of_does refl
+
+    by_form : IsForm h d → Makes now entry h (ended h) v v (made.Answer (Fine hits misses cached (length h.pending))
+        (reply.CacheStats hits misses cached (length h.pending)))
+    by_form (Mounts of_op of_does first) = other (does.Mounts false) of_does refl
+    by_form (Transacts one spelled of_does first session) = other does.Transacts of_does refl
+    by_form (Leaves of_op of_does first session) = other does.Transacts of_does refl
+    by_form (Writes handle offset bytes file of_op of_does opened short room session) =
+        other (does.Answers (answer.Count (length bytes))) of_does refl
+    by_form (Flushes handle file for first opened session) = by_flush handle for
+    by_form (Copies source from target to len file there of_op of_does first opened open_too session) =
+        other does.Copies of_does refl
+    by_form (TellsStats of_op of_does first session) =
+        stats-told now entry h v d busy ready
+        (is_done h d under (none_left h d busy none) (ap (λ does. ends_itself h (record d { does = does })) of_does))
+        of_op of_does hits misses cached

@@ -1,49 +1,16 @@
--- The handle of a close is open, and stays so until its operation ends.
-use Rattle.std.proofs.Common.{◌≡◌, ℕ, zero, suc, ◌-◌, Bool, true, false, List, [], ◌∷◌, ◌++◌, length, slice_get, slice_set, Option, None, Some, refl, sym, ap, subst, ◌∙◌}
-use Rattle.std.specs.Prelude.{◌==◌, is_some, if◌then◌else◌, nat_le, map}
+-- The handle of a close stays open until its operation ends.
+use Rattle.std.proofs.Common.{◌≡◌, ℕ, zero, suc, ◌-◌, Bool, true, false, List, [], ◌∷◌, ◌++◌, length, map, slice_get}
+use Rattle.std.proofs.Common.{slice_set, Option, None, Some, refl, ◌∙◌}
+use Rattle.std.specs.Prelude.{◌==◌, is_some, if◌then◌else◌, nat_le}
 use Rattle.jv_model.specs.declared.op.Op.{Op}
 use Rattle.jv_model.specs.declared.op.Op.TheVariants as op
 use Rattle.jv_model.specs.client.ModelClient.{file_in, file_of, free_handle, with_file}
 use Rattle.jv_model.specs.journal.State.{Gift, NewSession, NewHandle, Nothing}
-use Rattle.jv_metadata.specs.Attempts.{is_metadata}
-use Rattle.jv_client.specs.declared.doing.Doing.{Doing}
-use Rattle.jv_client.specs.declared.handles.Handle.{Handle}
-use Rattle.jv_client.specs.ClientValue.{ClientValue}
-use Rattle.jv_client.specs.UnderWay.{FlushesFor, Closes, Syncs, Describes, ReadsNothing, Reads, IsForm, Mounts, Transacts, Leaves, Writes, Flushes, ClosesOpen, is_transaction, unseen}
+use Rattle.jv_handles.specs.declared.handle.Handle.{Handle}
+use Rattle.jv_handles.specs.Handles.{new_handle, unseen}
+use Rattle.jv_handles.proofs.UnseenLaws.{some-unseen}
+use Rattle.jv_client.specs.UnderWay.{ClosesOpen}
 use Rattle.jv_client.specs.Transacting.{handles_given}
-use Rattle.jv_client.proofs.TableLaws.{file_of-changed}
-
-pub transaction-metadata : (o : Op) → is_transaction o ≡ true → is_metadata o ≡ true
-transaction-metadata (op.Close handle) e = absurd (cc e)
-transaction-metadata _ e = e
-
--- an operation that goes on well closes a handle that is open
-
-closes-none : (o : Op) (handles : List (Option Handle)) → is_transaction o ≡ true → ClosesOpen o handles
-closes-none (op.Close handle) handles e = absurd (cc e)
-closes-none _ handles e = tt
-
-module _ (h : ClientValue) (d : Doing) where
-  open-as : (o : Op) → d.op ≡ o → ClosesOpen o h.handles → ClosesOpen d.op h.handles
-  open-as o of_op closes = subst (λ o. ClosesOpen o h.handles) (sym of_op) closes
-
-  flushed-open : (handle : ℕ) (file : Handle) → file_of h.handles handle ≡ Some file → FlushesFor d handle
-      → ClosesOpen d.op h.handles
-  flushed-open handle file opened (Closes of_op of_does) = open-as (op.Close handle) of_op (ap is_some opened)
-  flushed-open handle file opened (Syncs of_op of_does) = open-as (op.Flush handle) of_op tt
-  flushed-open handle file opened (Describes of_op of_does) = open-as (op.Fstat handle) of_op tt
-  flushed-open handle file opened (ReadsNothing offset len of_op of_does) = open-as (op.Read handle offset len) of_op
-      tt
-  flushed-open handle file opened (Reads offset len of_op of_does some short) = open-as (op.Read handle offset len)
-      of_op tt
-
-  pub closes-open : IsForm h d → ClosesOpen d.op h.handles
-  closes-open (Mounts of_op of_does first) = open-as (op.Mount false) of_op tt
-  closes-open (Transacts one spelled of_does first session) = closes-none d.op h.handles one
-  closes-open (Leaves of_op of_does first session) = open-as op.Umount of_op tt
-  closes-open (Writes handle offset bytes file of_op of_does first opened short few) = open-as
-      (op.Write handle offset bytes) of_op tt
-  closes-open (Flushes handle file for first opened session) = flushed-open handle file opened for
 
 -- other handles that have all of the first ones open
 
@@ -54,22 +21,10 @@ closes-later (op.Close handle) handles later keeps closes = keeps handle closes
 closes-later _ handles later keeps closes = tt
 
 -- once views of a file are forgotten
-
-some-unseen : (inode : ℕ) (b : Bool) (handle new : Handle) → is_some (if b then Some new else Some handle) ≡ true
-some-unseen inode true handle new = refl
-some-unseen inode false handle new = refl
-
-open-unseen : (inode : ℕ) (slot : Option Handle) → is_some slot ≡ true → is_some (unseen inode slot) ≡ true
-open-unseen inode None e = absurd (cc e)
-open-unseen inode (Some handle) e = some-unseen inode (handle.inode == inode) handle (record handle { view = None })
-
 pub closes-unseen : (o : Op) (inode : ℕ) (handles : List (Option Handle)) → ClosesOpen o handles
     → ClosesOpen o (map (unseen inode) handles)
 closes-unseen o inode handles closes =
-    closes-later o handles (map (unseen inode) handles)
-    (λ handle e. ap is_some (file_of-changed (unseen inode) refl handles handle)
-    ∙ open-unseen inode (file_of handles handle) e)
-    closes
+    closes-later o handles (map (unseen inode) handles) (λ handle e. some-unseen inode handles handle ∙ e) closes
 
 -- once another handle was given
 
@@ -110,6 +65,5 @@ pub closes-given : (o : Op) (entry : ℕ) (gift : Gift) (handles : List (Option 
 closes-given o entry (NewSession sid) handles closes = closes
 closes-given o entry Nothing handles closes = closes
 closes-given o entry (NewHandle handle inode) handles closes =
-    let new : Handle = record { inode = inode; opened = entry; view = None } in
-    closes-later o handles (with_file (free_handle handles) (Some new) handles)
-    (λ at e. open-given new (free_handle handles) at handles e) closes
+    closes-later o handles (with_file (free_handle handles) (Some (new_handle inode entry)) handles)
+    (λ at e. open-given (new_handle inode entry) (free_handle handles) at handles e) closes

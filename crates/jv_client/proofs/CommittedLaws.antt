@@ -1,258 +1,328 @@
--- A commit of bytes to a file: when the model makes it, why it refuses it, and that what clients share stands for its
--- tree afterwards.
-use Rattle.std.proofs.Common.{◌≡◌, ◌≢◌, ℕ, ◌+◌, ◌≤◌, ◌<◌, Bool, true, false, inl, inr, List, [], ◌∷◌, ◌++◌, length}
-use Rattle.std.proofs.Common.{Option, None, Some, Result, Ok, Err, refl, sym, ap, subst, ◌∙◌, arith, ne_eqb}
-use Rattle.std.specs.Prelude.{◌==◌, is_some, nat_lt, if◌then◌else◌}
-use Rattle.std.specs.Option.{option_map}
-use Rattle.std.proofs.lemmas.Bool.{cases_eq}
-use Rattle.std.proofs.lemmas.Bool.Decides.{eqb_tells}
-use Rattle.jv_model.specs.declared.fault.Fault.{Fault}
-use Rattle.jv_model.specs.declared.fault.Fault.TheVariants.{NoSpace, Stale, TimedOut}
-use Rattle.jv_model.specs.declared.fault.Gone.TheVariants.{Session, Node as GoneNode}
-use Rattle.jv_model.specs.declared.fault.RowFault.TheVariants.{Bad, Failed, Memory}
-use Rattle.jv_model.specs.declared.fault.TxFault.{TxFault}
-use Rattle.jv_model.specs.declared.fault.TxFault.TheVariants.{Refused, Moved, Rows as OfRows}
-use Rattle.jv_model.specs.declared.lifetimes.TheConstants.{UPLOAD_LIFE}
-use Rattle.jv_model.specs.FiniteMap.{number_key, get}
-use Rattle.jv_model.specs.rows.RowKeys.{RowMap}
-use Rattle.jv_model.specs.tree.Attempt.{◌>>=◌, require, some_or}
-use Rattle.jv_model.specs.tree.Changes.{touched, set_node, overwritten, with_content}
-use Rattle.jv_model.specs.tree.FileBytes.{committed}
-use Rattle.jv_model.specs.tree.Tree.{Tree, Node, File, Content, content_at, content_of, fits, node_at}
-use Rattle.jv_volume.specs.Shape.{Shape}
-use Rattle.jv_volume.specs.TypedRows.{typed}
-use Rattle.jv_volume.specs.TreeOf.{tree_of}
-use Rattle.jv_volume.proofs.SameShapeLaws.{shape-committed}
-use Rattle.jv_volume.proofs.ShapeMapLaws.{get-inserted, get-insert_apart}
-use Rattle.jv_data.specs.Committing.{CommitsLength, Committed, IsPatched, LandsAs, commit_of}
-use Rattle.jv_files.specs.Stored.{AddsSegment, segments_at}
-use Rattle.jv_files.specs.Holds.{Keeps}
-use Rattle.jv_files.proofs.FileLaws.{overwritten-keeps}
-use Rattle.jv_client.specs.Shared.{Shared, HasStore}
-use Rattle.jv_client.specs.Transacting.{IsPlain}
+-- A commit that was made, and what follows it: another request, the answer, or the end of a write that had to wait for room.
+use Rattle.std.proofs.Common.{◌≡◌, ℕ, ◌+◌, ◌≤◌, true, false, List, [], ◌∷◌, length}
+use Rattle.std.proofs.Common.{Option, None, Some, Ok, refl, sym, ap, subst, ◌∙◌, arith}
+use Rattle.jv_model.specs.declared.act.ActKind.{ActKind}
+use Rattle.jv_model.specs.declared.act.ActKind.TheVariants.{Answered, Commit}
+use Rattle.jv_model.specs.declared.act.Told.{Told}
+use Rattle.jv_model.specs.declared.act.Told.TheVariants.{Fine}
+use Rattle.jv_model.specs.declared.fault.Device.{Device}
+use Rattle.jv_model.specs.declared.fault.Device.TheVariants as device
+use Rattle.jv_model.specs.declared.op.Op.{Op}
+use Rattle.jv_model.specs.declared.op.Op.TheVariants as op
+use Rattle.jv_model.specs.declared.op.Reply.{Reply}
+use Rattle.jv_model.specs.declared.op.Reply.TheVariants as reply
+use Rattle.jv_model.specs.declared.op.Step.TheVariants.{More, Done}
+use Rattle.jv_model.specs.declared.profile.Answer.TheVariants as answer
+use Rattle.jv_model.specs.declared.profile.Does.{Does}
+use Rattle.jv_model.specs.declared.profile.Does.TheVariants as does
+use Rattle.jv_model.specs.tree.Tree.{Tree}
+use Rattle.jv_model.specs.client.Pending.{PendingByte, Segment, written}
+use Rattle.jv_model.specs.client.Profile.{handle_of}
+use Rattle.jv_model.specs.client.ModelClient.{ModelClient, Working, is_last_of_removed}
+use Rattle.jv_model.specs.journal.State.{State, after_told, answer_then, finished}
+use Rattle.jv_model.specs.journal.Steps.{told_of}
+use Rattle.jv_outside.specs.Causes.{RoseIf}
+use Rattle.jv_outside.specs.Store.{Store}
+use Rattle.jv_volume.proofs.HoldingLaws.{stays-committed}
+use Rattle.jv_pending.specs.declared.segment.SegmentAt.{SegmentAt}
+use Rattle.jv_data.specs.Records.{CommitsRecord}
+use Rattle.jv_handles.specs.Handles.{inode_here}
+use Rattle.jv_shared.specs.Shared.{HasStore, Known, Shared}
+use Rattle.jv_shared.proofs.KeepingLaws.{stays-none}
+use Rattle.jv_steps.specs.IsStep.{at_stage}
+use Rattle.jv_requests.specs.Request.{Request}
+use Rattle.jv_client.specs.declared.doing.Doing.{Doing}
+use Rattle.jv_client.specs.declared.doing.Progress.TheVariants as progress
+use Rattle.jv_client.specs.declared.made.Made.{Made}
+use Rattle.jv_client.specs.declared.made.Made.TheVariants as made
+use Rattle.jv_client.specs.ClientValue.{ClientValue, session_here}
+use Rattle.jv_client.specs.Ending.{told_here}
+use Rattle.jv_client.specs.Held.{IsHeld, IsClient, Holds, in_flight, is_last_here, segment_left}
+use Rattle.jv_client.specs.UnderWay.{IsReady, answer_here, ends_itself, left, left_of, moved_to}
+use Rattle.jv_client.specs.Makes.{Makes, StepsTo, TellsBad, UsesDevices, asks_nothing, faults_of}
+use Rattle.jv_client.specs.Makes.{is_failure_of, step_of, tells_failure}
+use Rattle.jv_client.specs.Flushing.{Follows, Answers, Writes, GoesOn, written_alone}
+use Rattle.jv_client.proofs.AfterCommitLaws.{falls-without, way-without}
+use Rattle.jv_client.proofs.AnswerLaws.{Rests, makes-as, makes-ended, rests-flight, told-rests}
+use Rattle.jv_client.proofs.CommitLaws.{IsCommit, grown, leads-answered, leads-left, leads-then}
+use Rattle.jv_client.proofs.CommitLaws.{number-is, record_for, rest, segment, used, without}
+use Rattle.jv_client.proofs.EndingLaws.{holds-told, is_write, keeps_bytes}
+use Rattle.jv_client.proofs.EndsAfterLaws.{answered-so, goes-on, told-same, waits-to_write}
+use Rattle.jv_client.proofs.HeldLaws.{doing_of, holds-doing}
+use Rattle.jv_client.proofs.KeptLaws.{moved-client, told-client}
+use Rattle.jv_client.proofs.LastLaws.{is_last-same}
+use Rattle.jv_client.proofs.WithoutLaws.{held-without, holds-without}
+use Rattle.jv_client.proofs.WrittenLaws.{wrote-client, wrote-holds}
 
--- what the model's commit wants
+-- ---- what an answer after a flush is
 
--- its session and its file are there, it comes in time, and the volume has room
-pub record Allowed (sid inode from : ℕ) (patch : List ℕ) (started now : ℕ) (t : Tree) : Type 0 where
-  pub session : is_some (get t.sessions sid) ≡ true
-  pub content : Content
-  pub there : content_at t inode ≡ Some content
-  pub in_time : nat_lt now (started + UPLOAD_LIFE) ≡ true
-  pub room : fits t (committed t now inode from patch) ≡ true
+keeps-none : (what : Does) (o : Op) → is_write o ≡ false → keeps_bytes o (answer_here what).0 ≡ false
+keeps-none (does.Answers answer.NoData) o e = e
+keeps-none _ o e = e
 
--- the first of these that isn't so refuses it
-pub data RefusedBy (sid inode from : ℕ) (patch : List ℕ) (started now : ℕ) (t : Tree) (fault : Fault) : Type 0 where
-  NoSession : is_some (get t.sessions sid) ≡ false → fault ≡ Stale (Session sid)
-      → RefusedBy sid inode from patch started now t fault
-  NoFile : is_some (get t.sessions sid) ≡ true → content_at t inode ≡ None → fault ≡ Stale (GoneNode inode)
-      → RefusedBy sid inode from patch started now t fault
-  TooLate : is_some (get t.sessions sid) ≡ true → is_some (content_at t inode) ≡ true
-      → nat_lt now (started + UPLOAD_LIFE) ≡ false → fault ≡ TimedOut started now
-      → RefusedBy sid inode from patch started now t fault
-  TooLarge : is_some (get t.sessions sid) ≡ true → is_some (content_at t inode) ≡ true
-      → nat_lt now (started + UPLOAD_LIFE) ≡ true
-      → fits t (committed t now inode from patch) ≡ false → fault ≡ NoSpace
-      → RefusedBy sid inode from patch started now t fault
+calm-answer : (what : Does) (failed : Device) → is_failure_of failed (answer_here what).0 ≡ false
+calm-answer (does.Answers answer.NoData) failed = refl
+calm-answer _ failed = refl
 
-module _ (sid inode from : ℕ) (patch : List ℕ) (started now : ℕ) (t : Tree) where
-  abbrev after : Tree
-  after = committed t now inode from patch
+after-answer : (what : Does) (o : Op) (c : ModelClient)
+    → record (finished o c) { doing = None } ≡ after_told o (answer_here what).0 c
+after-answer (does.Answers answer.NoData) o c = refl
+after-answer _ o c = refl
 
-  abbrev by_tests : Bool → Option Content → Bool → Bool → Result Tree Fault
-  by_tests session content in_time room =
-      (require session (Stale (Session sid)) >>=
-      (λ _. some_or content (Stale (GoneNode inode)) >>= (λ content. Ok content.length)))
-      >>= (λ _. require in_time (TimedOut started now) >>= (λ _. require room NoSpace >>= (λ _. Ok after)))
+module _ (h : ClientValue) (d : Doing) (v : Shared) (keeper : Store) (at : SegmentAt) (now quiets started id : ℕ)
+    (is_commit : IsCommit h d v.yard.setting.block at quiets started id) (ready : IsReady h) (sid : ℕ)
+    (own : sid ≡ session_here h)
+    (commits : CommitsRecord sid now at.inode at.window (record_for at id) started v.keeper keeper (Ok tt)) where
+  abbrev segment_here : Segment
+  segment_here = segment h d v keeper at now quiets started id is_commit
 
-  allowed_by : (session : Bool) (content : Option Content) (in_time room : Bool) (left : Tree)
-      → is_some (get t.sessions sid) ≡ session → content_at t inode ≡ content
-      → nat_lt now (started + UPLOAD_LIFE) ≡ in_time → fits t after ≡ room
-      → by_tests session content in_time room ≡ Ok left
-      → Allowed sid inode from patch started now t × (left ≡ after)
-  allowed_by false content in_time room left a b c d e = absurd (cc e)
-  allowed_by true None in_time room left a b c d e = absurd (cc e)
-  allowed_by true (Some content) false room left a b c d e = absurd (cc e)
-  allowed_by true (Some content) true false left a b c d e = absurd (cc e)
-  allowed_by true (Some content) true true left a b c d e =
-      let same : ◌≡◌ {A = Result Tree Fault} (Ok after) (Ok left) = e in (
-        record { session = a; content = content; there = b; in_time = c; room = d },
-        (let is : after ≡ left = cc same in sym is),
-      )
+  abbrev between : ClientValue
+  between = without h d v keeper at now quiets started id is_commit
 
-  pub commit-allowed : (left : Tree) → commit_of sid inode from patch started now t ≡ Ok left
-      → Allowed sid inode from patch started now t × (left ≡ after)
-  commit-allowed left e =
-      allowed_by (is_some (get t.sessions sid)) (content_at t inode) (nat_lt now (started + UPLOAD_LIFE))
-      (fits t after) left refl refl refl refl e
+  abbrev used_here : Shared
+  used_here = used h d v keeper at now quiets started id is_commit
 
-  refused_by : (session : Bool) (content : Option Content) (in_time room : Bool) (fault : Fault)
-      → is_some (get t.sessions sid) ≡ session → content_at t inode ≡ content
-      → nat_lt now (started + UPLOAD_LIFE) ≡ in_time → fits t after ≡ room
-      → by_tests session content in_time room ≡ Err fault
-      → RefusedBy sid inode from patch started now t fault
-  refused_by false content in_time room fault a b c d e =
-      NoSession a (let same : ◌≡◌ {A = Result Tree Fault} (Err (Stale (Session sid))) (Err fault) = e in cc)
-  refused_by true None in_time room fault a b c d e =
-      NoFile a b (let same : ◌≡◌ {A = Result Tree Fault} (Err (Stale (GoneNode inode))) (Err fault) = e in cc)
-  refused_by true (Some content) false room fault a b c d e =
-      TooLate a (ap is_some b) c (let same : ◌≡◌ {A = Result Tree Fault} (Err (TimedOut started now)) (Err fault) = e in
-      cc)
-  refused_by true (Some content) true false fault a b c d e =
-      TooLarge a (ap is_some b) c d (let same : ◌≡◌ {A = Result Tree Fault} (Err NoSpace) (Err fault) = e in cc)
-  refused_by true (Some content) true true fault a b c d e = absurd (cc e)
+  abbrev commit : ActKind
+  commit = Commit at.inode segment_here.from at.len 0
 
-  pub commit-refused : (fault : Fault) → commit_of sid inode from patch started now t ≡ Err fault
-      → RefusedBy sid inode from patch started now t fault
-  commit-refused fault e =
-      refused_by (is_some (get t.sessions sid)) (content_at t inode) (nat_lt now (started + UPLOAD_LIFE))
-      (fits t after) fault refl refl refl refl e
+  left-between : (o : Option Segment) → left between ≡ o → segment_left d.flush between.pending ≡ o
+  left-between o e = sym (ap (left_of between.pending) is_commit.busy) ∙ e
 
--- the bytes of files in the tree after it
-
-node_there : (o : Option Node) (content : Content) → content_of o ≡ Some content → (node : Node) × (o ≡ Some node)
-node_there None content e = absurd (cc e)
-node_there (Some node) content e = (node, refl)
-
-module _ (t : Tree) (now inode from : ℕ) (patch : List ℕ) where
-  abbrev by_content : Option Content → Tree
-  by_content o =
-      elim o as (λ _. Tree) [ None ↦ t | Some content ↦ with_content t now inode (overwritten content from patch) ]
-
-  abbrev with_file : Content → Node → Node
-  with_file content node = record (touched now node) { kind = File content }
-
-  abbrev by_node : Content → Option Node → Tree
-  by_node content o = set_node t inode (option_map (with_file content) o)
-
-  content-own : (content : Content) → content_at t inode ≡ Some content
-      → content_at (committed t now inode from patch) inode ≡ Some (overwritten content from patch)
-  content-own content there =
-      let node = node_there (node_at t inode) content there in
-      let new = overwritten content from patch in
-      ap (λ o. content_at (by_content o) inode) there
-      ∙ ap (λ o. content_at (by_node new o) inode) node.1
-      ∙ ap content_of (get-inserted number_key t.nodes inode (with_file new node.0))
-
-  content-by_node : (other : ℕ) → other ≢ inode → (content : Content) (o : Option Node)
-      → content_at (by_node content o) other ≡ content_at t other
-  content-by_node other apart content None = refl
-  content-by_node other apart content (Some node) =
-      ap content_of (get-insert_apart number_key t.nodes inode (with_file content node) other apart)
-
-  content-by : (other : ℕ) → other ≢ inode → (o : Option Content) → content_at (by_content o) other ≡ content_at t other
-  content-by other apart None = refl
-  content-by other apart (Some content) = content-by_node other apart (overwritten content from patch) (node_at t inode)
-
-  content-other : (other : ℕ) → other ≢ inode → content_at (committed t now inode from patch) other ≡ content_at t other
-  content-other other apart = content-by other apart (content_at t inode)
-
--- the bytes of all files with these put into one
-module _ (t : Tree) (bytes : ℕ → ℕ → ℕ) (inode from : ℕ) (patch : List ℕ) where
-  abbrev byte_after : Option Content → ℕ → ℕ
-  byte_after None position = 0
-  byte_after (Some content) position = (overwritten content from patch).byte position
-
-  abbrev patched_bytes : ℕ → ℕ → ℕ
-  patched_bytes other =
-      λ position. if other == inode then byte_after (content_at t inode) position else bytes other position
-
-  is_patched : IsPatched t bytes patched_bytes inode from patch
-  is_patched = record {
-    others =
-        λ other apart. ap (λ b. λ position. if b then byte_after (content_at t inode) position
-        else bytes other position) (ne_eqb other inode apart);
-    own =
-        λ content there position. ap (λ b. if b then byte_after (content_at t inode) position else bytes inode position)
-        (own_test inode) ∙ ap (λ o. byte_after o position) there;
+  -- what a step with a commit does to devices
+  uses : (outcome : Made) → ((failed : Device) → tells_failure failed outcome ≡ false) → asks_nothing outcome ≡ false
+      → TellsBad v (step_of outcome) → UsesDevices outcome v used_here
+  uses outcome calm asks bad = record {
+    keeper_at = (commits [] (λ setting. 0)).opened_at;
+    carrier_at = refl;
+    depot_at = refl;
+    shelf_at = refl;
+    setting = refl;
+    last = refl;
+    counts = λ failed.
+        subst (λ b. RoseIf b (faults_of failed v) (faults_of failed used_here)) (sym (calm failed)) (same_count failed);
+    rows = λ none. absurd (cc (sym asks ∙ none));
+    objects = λ none. absurd (cc (sym asks ∙ none));
+    blocks = refl;
+    bad = bad;
   }
     where
-      own_test : (n : ℕ) → (n == n) ≡ true
-      own_test n = elim (eqb_tells n n) [ inl same ↦ same.0 | inr other ↦ absurd (other.1 refl) ]
+      same_count : (failed : Device) → faults_of failed used_here ≡ faults_of failed v
+      same_count device.Keeper = (commits [] (λ setting. 0)).counts
+      same_count device.Depot = refl
+      same_count device.Shelf = refl
+      same_count device.Carrier = refl
 
-plain-lands : (fault : TxFault) (known : RowMap) (left : Option RowMap) (changed : ℕ → ℕ → ℕ)
-    (model : Result Tree Fault) → LandsAs known left changed (Err fault) model
-    → IsPlain fault
-plain-lands (Refused fault) known left changed model h = tt
-plain-lands (Moved list) known left changed model h = absurd h
-plain-lands (OfRows (Bad at bytes)) known left changed model h = absurd h
-plain-lands (OfRows Failed) known left changed model h = tt
-plain-lands (OfRows Memory) known left changed model h = tt
+  -- ---- where it leads
 
--- a commit to rows that are a tree's
-module _ (sid now inode end started from : ℕ) (patch : List ℕ) (reaches : from + length patch ≡ end) (t : Tree)
-    (v grown : Shared) (has : HasStore t v) where
-  abbrev changed : ℕ → ℕ → ℕ
-  changed = patched_bytes t has.bytes inode from patch
+  module _ (s : State) (g : Known) (store : HasStore s.tree g v) (holds : Holds s.tree (s.clients h.id))
+      (is : IsClient g v (s.clients h.id) s.count h) where
+    abbrev model : ModelClient
+    model = s.clients h.id
 
-  lands-here : (result : Result (Unit {0}) TxFault)
-      → CommitsLength sid now inode end started v.keeper grown.keeper result
-      → LandsAs has.known grown.keeper.rows changed result (commit_of sid inode from patch started now t)
-  lands-here result commits =
-      subst (λ t. LandsAs has.known grown.keeper.rows changed result (commit_of sid inode from patch started now t))
-      (sym has.tree)
-      (commits.lands has.known has.is has.whole has.bytes changed from patch reaches
-      (subst (λ t. IsPatched t has.bytes changed inode from patch) has.tree (is_patched t has.bytes inode from patch)))
+    abbrev left_model : ModelClient
+    left_model = rest h d v keeper at now quiets started id is_commit s g store is
 
-  -- a refusal is the model's, and no row is Bad
-  pub refused-here : (fault : Fault) → CommitsLength sid now inode end started v.keeper grown.keeper
-      (Err (Refused fault)) → RefusedBy sid inode from patch started now t fault
-  refused-here fault commits =
-      commit-refused sid inode from patch started now t fault (lands-here (Err (Refused fault)) commits)
+    abbrev tree_then : Tree
+    tree_then = grown h d v keeper at now quiets started id is_commit s g store is
 
-  pub plain-here : (fault : TxFault) → CommitsLength sid now inode end started v.keeper grown.keeper (Err fault)
-      → IsPlain fault
-  plain-here fault commits =
-      plain-lands fault has.known grown.keeper.rows changed (commit_of sid inode from patch started now t)
-      (lands-here (Err fault) commits)
+    abbrev Leads : List ActKind → (step : Reply) → ModelClient → Type 0
+    Leads kinds said c = Request s g g v used_here h.id now id 0 kinds (Done said) tree_then c s.copied
 
-  -- one that was made is the model's
-  module _ (commits : CommitsLength sid now inode end started v.keeper grown.keeper (Ok tt)) where
-    landed : Committed has.known grown.keeper.rows changed (commit_of sid inode from patch started now t)
-    landed = lands-here (Ok tt) commits
+    held-here : IsHeld g v left_model s.count between
+    held-here =
+        held-without segment_here s.tree g v store 0 g v (stays-none 0 g v) model s.count s.count h (omega arith) is.held
 
-    pub allowed-here : Allowed sid inode from patch started now t
-    allowed-here =
-        (commit-allowed sid inode from patch started now t (tree_of changed (typed landed.left)) landed.model).0
+    last : is_last_of_removed model (handle_of d.op) ≡ is_last_here between (handle_of d.op)
+    last = is_last-same g v left_model s.count between held-here (handle_of d.op)
 
-    module _ (adds : AddsSegment v.files grown.files inode (record { from = from; bytes = patch }))
-        (below : inode < t.next_inode) where
-      keeps-own : (content : Content) → content_at (committed t now inode from patch) inode ≡ Some content
-          → Keeps (segments_at grown.files inode) content
-      keeps-own content is =
-          let old = allowed-here in
-          let both = sym (content-own t now inode from patch old.content old.there) ∙ is in
-          let same : overwritten old.content from patch ≡ content = cc both in
-          subst (λ segments. Keeps segments content) (sym adds.own)
-          (subst (Keeps (segments_at v.files inode ++ record { from = from; bytes = patch } ∷ [])) same
-          (overwritten-keeps old.content (segments_at v.files inode) from patch
-          (has.stored inode old.content old.there)))
+    holds-here : Holds tree_then left_model
+    holds-here =
+        holds-without segment_here s.tree tree_then model
+        (stays-committed s.tree now at.inode segment_here.from _) holds
 
-      keeps-after : (other : ℕ) (content : Content) → content_at (committed t now inode from patch) other ≡ Some content
-          → Keeps (segments_at grown.files other) content
-      keeps-after other content is = elim (cases_eq other inode) [
-        | inl e ↦ subst (λ n. Keeps (segments_at grown.files n) content) (sym e)
-            (keeps-own content (sym (ap (content_at (committed t now inode from patch)) e) ∙ is))
-        | inr apart ↦ subst (λ segments. Keeps segments content) (sym (adds.others other apart))
-            (has.stored other content (sym (content-other t now inode from patch other apart) ∙ is))
-      ]
+    -- the operation goes on
 
-      fresh-after : (other : ℕ) → (committed t now inode from patch).next_inode ≤ other
-          → segments_at grown.files other ≡ []
-      fresh-after other high =
-          let same = ap (λ (s : Shape). s.next_inode) (shape-committed t now inode from patch) in
-          let past : t.next_inode ≤ other = omega (arith, high, same) in
-          adds.others other (λ e. omega (arith, past, below, e)) ∙ has.fresh other past
+    abbrev then_model : ModelClient
+    then_model = at_stage (Working 0 0) (doing_of d) left_model
 
-      pub stored-here : HasStore (committed t now inode from patch) grown
-      stored-here = record {
-        known = landed.left;
-        is = landed.is;
-        whole = landed.whole;
-        bytes = changed;
-        tree =
-            sym (commit-allowed sid inode from patch started now t
-            (tree_of changed (typed landed.left)) landed.model).1;
-        stored = keeps-after;
-        fresh = fresh-after;
+    module _ (goes : segment_left d.flush between.pending ≡ None → ends_itself between d ≡ false) where
+      request-on : Request s g g v used_here h.id now id 0 (commit ∷ []) More tree_then then_model s.copied
+      request-on = by_left (segment_left d.flush between.pending) refl
+        where
+          by_left : (o : Option Segment) → segment_left d.flush between.pending ≡ o
+              → Request s g g v used_here h.id now id 0 (commit ∷ []) More tree_then then_model s.copied
+          by_left (Some other) e =
+              leads-left h d v keeper at now quiets started id is_commit s g store is sid own commits other e
+          by_left None e =
+              leads-then h d v keeper at now quiets started id is_commit s g store is sid own commits e
+              (goes-on model between d last (goes e))
+
+      abbrev asking : ClientValue
+      asking = record between { doing = Some (moved_to (progress.Working 0 0 0) d) }
+
+      leads-on : StepsTo s g v h now (commit ∷ []) More asking used_here
+      leads-on = record {
+        learned = g;
+        tree = tree_then;
+        model = then_model;
+        copied = s.copied;
+        request = subst (λ n. Request s g g v used_here h.id now n 0 (commit ∷ []) More tree_then then_model s.copied)
+            (sym (number-is h d v keeper at now quiets started id is_commit)) request-on;
+        is_client =
+            moved-client g used_here (s.count + 1) left_model between d (progress.Working 0 0 0)
+            (held-without segment_here s.tree g v store request-on.own g used_here request-on.leads.kept model s.count
+            (s.count + 1) h (omega arith) is.held)
+            is.cache tt tt;
+        no_failure = tt;
+        holds = holds-doing tree_then left_model then_model.doing holds-here;
       }
+
+    -- or is over
+
+    module _ (over : segment_left d.flush between.pending ≡ None) where
+      -- a step that ends the operation, from its request
+      ends-so : (told : Told) (said : Reply) (c : ModelClient) (after : ClientValue) → Rests between after
+          → Leads (commit ∷ Answered told ∷ []) said c
+          → ((later : ℕ) → IsHeld g used_here left_model later between → IsClient g used_here c later after)
+          → ((failed : Device) → is_failure_of failed told ≡ false) → Holds tree_then c
+          → StepsTo s g v h now (commit ∷ Answered told ∷ []) (Done said) after used_here
+      ends-so told said c after rests request client calm held = record {
+        learned = g;
+        tree = tree_then;
+        model = c;
+        copied = s.copied;
+        request =
+            subst (λ n. Request s g g v used_here h.id now n (in_flight after) (commit ∷ Answered told ∷ []) (Done said)
+            tree_then c s.copied) (sym (number-is h d v keeper at now quiets started id is_commit))
+            (subst (λ n. Request s g g v used_here h.id now id n (commit ∷ Answered told ∷ []) (Done said) tree_then c
+            s.copied) (sym (rests-flight between after rests)) request);
+        is_client =
+            client (s.count + 2)
+            (held-without segment_here s.tree g v store request.own g used_here request.leads.kept model s.count
+            (s.count + 2) h (omega arith) is.held);
+        no_failure = calm;
+        holds = held;
+      }
+
+      request-over : (said : Reply) → answer_then model (doing_of d) ≡ Some said
+          → Leads (commit ∷ Answered (told_of said) ∷ []) said (record (finished d.op left_model) { doing = None })
+      request-over said same =
+          leads-answered h d v keeper at now quiets started id is_commit s g store is sid own commits over said same
+
+      -- it is answered
+      module _ (ends : ends_itself between d ≡ true)
+          (alone : length between.pending ≤ 0 → written_alone d.op between.handles ≡ None) where
+        abbrev told : Told
+        told = (answer_here d.does).0
+
+        abbrev said : Reply
+        said = (answer_here d.does).1
+
+        leads-over : StepsTo s g v h now (commit ∷ Answered told ∷ []) (Done said) (told_here d.op told between) used_here
+        leads-over =
+            let answer =
+            answered-so model between d last ends h segment_here is_commit.next over alone is_commit.way.form in
+            let other = keeps-none d.does d.op answer.other in
+            ends-so told said (after_told d.op told left_model) (told_here d.op told between)
+            (told-rests d.op told between)
+            (subst (λ told. Leads (commit ∷ Answered told ∷ []) said (after_told d.op (answer_here d.does).0 left_model))
+            (sym (told-same d.does))
+            (subst (λ c. Leads (commit ∷ Answered (told_of said) ∷ []) said c) (after-answer d.does d.op left_model)
+            (request-over said answer.same)))
+            (λ later held. told-client g used_here later d.op told left_model between other held is.cache)
+            (calm-answer d.does)
+            (holds-told d.op told tree_then left_model other holds-here)
+
+      -- a write had to wait, and is pending now
+      module _ (handle offset : ℕ) (bytes : List ℕ) (of_op : d.op ≡ op.Write handle offset bytes) where
+        abbrev after_write : ClientValue
+        after_write = record between {
+          pending = written (inode_here between.handles handle) offset bytes [];
+          doing = None;
+        }
+
+        abbrev told_write : Told
+        told_write = Fine (length bytes) 0 0 0
+
+        leads-write : StepsTo s g v h now (commit ∷ Answered told_write ∷ []) (Done (reply.Count (length bytes)))
+            after_write used_here
+        leads-write =
+            let w = waits-to_write h d segment_here is_commit.next over handle offset bytes of_op is_commit.way.form in
+            let done : ModelClient = record (finished (op.Write handle offset bytes) left_model) { doing = None } in
+            ends-so told_write (reply.Count (length bytes)) done after_write
+            (record { id = refl; limits = refl; idle = refl })
+            (subst (λ o. Leads (commit ∷ Answered told_write ∷ []) (reply.Count (length bytes))
+            (record (finished o left_model) { doing = None })) of_op
+            (request-over (reply.Count (length bytes))
+            (ap (λ what. answer_then model (doing_of (record d { does = what }))) w.does_is)))
+            (λ later held. subst (λ (pending : List PendingByte). IsClient g used_here done later (record between {
+              pending = written (inode_here between.handles handle) offset bytes pending;
+              doing = None;
+            })) w.none (wrote-client left_model between handle offset bytes g used_here later held is.cache))
+            (λ failed. refl)
+            (wrote-holds left_model between handle offset bytes tree_then g v s.count w.file held-here w.opened holds-here)
+
+  -- ---- what it makes
+
+  module _ (fewer : length between.pending + at.len ≡ length h.pending) (entry : ℕ) where
+    makes-on : (goes : segment_left d.flush between.pending ≡ None → ends_itself between d ≡ false)
+        → Makes now entry h (record between { doing = Some (moved_to (progress.Working 0 0 0) d) }) v used_here
+        (made.Request commit)
+    makes-on goes = record {
+      id = refl;
+      limits = refl;
+      ready = record {
+        buffer = ready.buffer;
+        doing = way-without h d segment_here is_commit.way.form is_commit.next fewer goes;
+      };
+      devices = uses (made.Request commit) (λ failed. refl) refl tt;
+      falls = (
+        falls-without h d segment_here is_commit.way.form is_commit.next fewer goes quiets started id is_commit.at_is
+            is_commit.few is_commit.some is_commit.busy,
+        refl,
+      );
+      leads = λ s g count store holds is. leads-on s g store holds is goes;
+    }
+
+    makes-over : (over : segment_left d.flush between.pending ≡ None) (ends : ends_itself between d ≡ true)
+        (alone : length between.pending ≤ 0 → written_alone d.op between.handles ≡ None)
+        → Makes now entry h (told_here d.op (answer_here d.does).0 between) v used_here
+        (made.Both commit (answer_here d.does).0 (answer_here d.does).1)
+    makes-over over ends alone =
+        let told = (answer_here d.does).0 in
+        let said = (answer_here d.does).1 in
+        let rests = told-rests d.op told between in
+        makes-ended now entry h (told_here d.op told between) v used_here (made.Both commit told said) said refl ready
+        (record { id = rests.id; limits = rests.limits; idle = rests.idle })
+        (uses (made.Both commit told said) (λ failed. refl) refl tt)
+        (λ s g count store holds is. leads-over s g store holds is over ends alone)
+
+    makes-write : (over : segment_left d.flush between.pending ≡ None) (handle offset : ℕ) (bytes : List ℕ)
+        (of_op : d.op ≡ op.Write handle offset bytes)
+        → Makes now entry h (record between {
+          pending = written (inode_here between.handles handle) offset bytes [];
+          doing = None;
+        }) v used_here (made.Both commit (Fine (length bytes) 0 0 0) (reply.Count (length bytes)))
+    makes-write over handle offset bytes of_op =
+        let told = Fine (length bytes) 0 0 0 in
+        let said = reply.Count (length bytes) in
+        makes-ended now entry h (record between {
+          pending = written (inode_here between.handles handle) offset bytes [];
+          doing = None;
+        }) v used_here (made.Both commit told said) said refl ready
+        (record { id = refl; limits = refl; idle = refl })
+        (uses (made.Both commit told said) (λ failed. refl) refl tt)
+        (λ s g count store holds is. leads-write s g store holds is over handle offset bytes of_op)
+
+    -- a commit, and what follows it
+    pub follows : (after : ClientValue) (outcome : Made) → Follows d commit between after outcome
+        → Makes now entry h after v used_here outcome
+    follows after outcome (Answers none ends alone after_is same) =
+        makes-as now entry h after _ v used_here used_here outcome _ after_is refl same
+        (makes-over (left-between None none) ends alone)
+    follows after outcome (Writes handle offset bytes none of_op after_is same) =
+        makes-as now entry h after _ v used_here used_here outcome _ after_is refl same
+        (makes-write (left-between None none) handle offset bytes of_op)
+    follows after outcome (GoesOn goes after_is same) =
+        makes-as now entry h after _ v used_here used_here outcome _ after_is refl same
+        (makes-on (λ none. goes (ap (left_of between.pending) is_commit.busy ∙ none)))

@@ -1,117 +1,186 @@
--- Which operations make a transaction, and that they are at their first step after the flush then.
-use Rattle.std.proofs.Common.{◌≡◌, ℕ, true, false, not, IsTrue, length, None, Some, refl, sym, ap, subst, ◌∙◌}
+-- An operation that has flushed, and makes its first request after that: it is a transaction on metadata, or it changes a file.
+use Rattle.std.proofs.Common.{◌≡◌, ℕ, true, false, not, IsTrue, List, length, None, Some}
+use Rattle.std.proofs.Common.{refl, sym, ap, subst, ◌∙◌, rules}
 use Rattle.std.specs.Prelude.{is_some, if◌then◌else◌}
 use Rattle.jv_model.specs.declared.op.Op.{Op}
 use Rattle.jv_model.specs.declared.op.Op.TheVariants as op
 use Rattle.jv_model.specs.declared.op.Reply.TheVariants as reply
-use Rattle.jv_model.specs.declared.op.Step.TheVariants.{Done}
 use Rattle.jv_model.specs.declared.profile.Answer.TheVariants as answer
 use Rattle.jv_model.specs.declared.profile.Does.{Does}
 use Rattle.jv_model.specs.declared.profile.Does.TheVariants as does
 use Rattle.jv_model.specs.script.Spelled.{is_spelled}
-use Rattle.jv_model.specs.client.ModelClient.{ModelClient, is_last_of_removed}
+use Rattle.jv_model.specs.client.ModelClient.{ModelClient, Doing as ModelDoing, Working, file_of}
+use Rattle.jv_model.specs.client.ModelClient.{is_last_of_removed}
+use Rattle.jv_model.specs.client.Pending.{PendingByte}
 use Rattle.jv_model.specs.client.Profile.{handle_of}
+use Rattle.jv_model.specs.client.Submission.{is_flushed}
 use Rattle.jv_model.specs.journal.Steps.{transacts}
-use Rattle.jv_volume.specs.Holding.{changes_bytes}
 use Rattle.jv_metadata.specs.Attempts.{is_metadata}
+use Rattle.jv_steps.proofs.GiftLaws.{IsDirect}
+use Rattle.jv_handles.specs.declared.handle.Handle.{Handle}
 use Rattle.jv_client.specs.declared.doing.Doing.{Doing}
 use Rattle.jv_client.specs.declared.doing.Progress.{Progress}
 use Rattle.jv_client.specs.declared.doing.Progress.TheVariants as progress
 use Rattle.jv_client.specs.ClientValue.{ClientValue}
-use Rattle.jv_client.specs.Held.{is_last_here}
-use Rattle.jv_client.specs.UnderWay.{IsForm, Mounts, Transacts, Leaves, Writes, Flushes, FlushesFor, Closes, Syncs, Describes, ReadsNothing, Reads, IsAt, IsReady, asks_more, has_segment, left, left_of, makes_transaction}
-use Rattle.jv_client.proofs.EndingLaws.{is_write}
+use Rattle.jv_client.specs.Held.{flush_of_code, is_last_here, stage_of}
+use Rattle.jv_client.specs.UnderWay.{FlushesFor, Closes, Syncs, Describes, ReadsNothing, Reads, Truncates, IsForm}
+use Rattle.jv_client.specs.UnderWay.{Mounts, Transacts, Leaves, Writes, Flushes, Copies, TellsStats, IsAt}
+use Rattle.jv_client.specs.UnderWay.{IsReady, asks_more, changes_files, has_segment, is_transaction, left}
+use Rattle.jv_client.specs.UnderWay.{left_of, makes_transaction}
+use Rattle.jv_client.specs.Transacting.{is_tried}
 use Rattle.jv_client.proofs.FormLaws.{no_quiets, under_way}
-use Rattle.jv_client.proofs.ClosingLaws.{transaction-metadata}
-use Rattle.jv_client.proofs.StepLaws.{doing_of}
+
+-- ---- it made no request yet
+
+-- nothing is left to commit, and nothing was asked for since
+pub record IsFirst (h : ClientValue) (d : Doing) : Type 0 where
+  pub none : has_segment h d ≡ false
+  pub started : ℕ
+  pub id : ℕ
+  pub progress : d.progress ≡ progress.Working 0 started id
+
+module _ (h : ClientValue) (d : Doing) where
+  -- an operation that doesn't read is at its first request once it has flushed
+  first_at : ((offset len : ℕ) → d.does ≡ does.Reads offset len → ⊥) → has_segment h d ≡ false → (p : Progress)
+      → d.progress ≡ p → IsAt h d p → IsFirst h d
+  first_at other none (progress.Working quiets started id) is at = record {
+    none = none;
+    started = started;
+    id = id;
+    progress = is ∙ ap (λ n. progress.Working n started id) (no_quiets h d quiets id at none);
+  }
+  first_at other none (progress.Reading fetch next) is at =
+      let read = at.read in absurd (other read.0 read.1 read.2)
+
+  none_left : h.doing ≡ Some d → left h ≡ None → has_segment h d ≡ false
+  none_left busy flushed = ap is_some (sym (ap (left_of h.pending) busy) ∙ flushed)
+
+  first_by : ((offset len : ℕ) → d.does ≡ does.Reads offset len → ⊥) → h.doing ≡ Some d → IsReady h → left h ≡ None
+      → IsFirst h d
+  first_by other busy ready flushed =
+      first_at other (none_left busy flushed) d.progress refl (under_way h d busy ready).at
+
+  pub transaction-first : IsTrue (makes_transaction d.does) → h.doing ≡ Some d → IsReady h → left h ≡ None
+      → IsFirst h d
+  transaction-first makes =
+      first_by (λ offset len reads. absurd (cc (sym makes ∙ ap makes_transaction reads)))
+
+  pub change-first : IsTrue (changes_files d.does) → h.doing ≡ Some d → IsReady h → left h ≡ None → IsFirst h d
+  change-first changes = first_by (λ offset len reads. absurd (cc (sym changes ∙ ap changes_files reads)))
+
+  -- what follows
+  module _ (first : IsFirst h d) where
+    pub first-stage : stage_of d.progress ≡ Working 0 first.started
+    first-stage = ap stage_of first.progress
+
+    pub first-flushed : (pending : List PendingByte) → pending ≡ h.pending
+        → is_flushed (flush_of_code d.flush) pending ≡ true
+    first-flushed pending same = ap (is_flushed (flush_of_code d.flush)) same ∙ ap not first.none
+
+-- ---- operations that make a transaction on metadata
 
 -- a mount that isn't in writeback mode, or an operation on metadata
-abbrev pub IsDirect : Does → Type 0
-IsDirect (does.Mounts writeback) = writeback ≡ false
-IsDirect _ = Unit {0}
-
--- such an operation
 pub data MakesOne (d : Doing) : Type 0 where
   OfMount : d.op ≡ op.Mount false → MakesOne d
   OfMetadata : IsTrue (is_metadata d.op) → IsTrue (is_spelled d.op) → MakesOne d
 
--- it flushed, and made no request yet
-pub record IsDue (h : ClientValue) (d : Doing) : Type 0 where
-  pub one : MakesOne d
-  pub direct : IsDirect d.does
-  pub none : has_segment h d ≡ false
-  pub started : ℕ
-  pub progress : d.progress ≡ progress.Working 0 started
+transaction-metadata : (o : Op) → is_transaction o ≡ true → is_metadata o ≡ true
+transaction-metadata (op.Close handle) e = absurd (cc e)
+transaction-metadata _ e = e
 
--- which operation makes a transaction
 module _ (d : Doing) (makes : IsTrue (makes_transaction d.does)) where
   not_of : (what : Does) → d.does ≡ what → makes_transaction what ≡ false → ⊥
   not_of what is none = absurd (cc (sym makes ∙ ap makes_transaction is ∙ none))
 
-  abbrev Known : Type 0
-  Known = MakesOne d × IsDirect d.does
+  abbrev IsOne : Type 0
+  IsOne = MakesOne d × IsDirect d.does
 
-  metadata : (what : Op) → d.op ≡ what → is_metadata what ≡ true → is_spelled what ≡ true → IsDirect d.does → Known
-  metadata what is of_rows spelled direct = (OfMetadata (ap is_metadata is ∙ of_rows) (ap is_spelled is ∙ spelled), direct)
+  metadata : (what : Op) → d.op ≡ what → is_metadata what ≡ true → is_spelled what ≡ true → IsDirect d.does → IsOne
+  metadata what is of_rows spelled direct =
+      (OfMetadata (ap is_metadata is ∙ of_rows) (ap is_spelled is ∙ spelled), direct)
 
-  known_for : (handle : ℕ) → FlushesFor d handle → Known
-  known_for handle (Closes o e) = metadata (op.Close handle) o refl refl (subst IsDirect (sym e) tt)
-  known_for handle (Syncs o e) = absurd (not_of (does.Answers answer.Done) e refl)
-  known_for handle (Describes o e) = metadata (op.Fstat handle) o refl refl (subst IsDirect (sym e) tt)
-  known_for handle (ReadsNothing offset len o e) = absurd (not_of (does.Answers answer.NoData) e refl)
-  known_for handle (Reads offset len o e some short) = absurd (not_of (does.Reads offset len) e refl)
+  one_for : (handle : ℕ) → FlushesFor d handle → IsOne
+  one_for handle (Closes o e) = metadata (op.Close handle) o refl refl (subst IsDirect (sym e) tt)
+  one_for handle (Syncs o e) = absurd (not_of (does.Answers answer.Done) e refl)
+  one_for handle (Describes o e) = metadata (op.Fstat handle) o refl refl (subst IsDirect (sym e) tt)
+  one_for handle (ReadsNothing offset len o e) = absurd (not_of (does.Answers answer.NoData) e refl)
+  one_for handle (Reads offset len o e some short low) = absurd (not_of (does.Reads offset len) e refl)
+  one_for handle (Truncates len o e) = absurd (not_of does.Truncates e refl)
 
-  known_by : (h : ClientValue) → IsForm h d → Known
-  known_by h (Mounts o e first) = (OfMount o, subst IsDirect (sym e) refl)
-  known_by h (Transacts o spelled e first session) = (OfMetadata (transaction-metadata d.op o) spelled, subst IsDirect (sym e) tt)
-  known_by h (Leaves o e first session) = metadata op.Umount o refl refl (subst IsDirect (sym e) tt)
-  known_by h (Writes handle offset bytes file o e first opened short few) =
+  one_by : (h : ClientValue) → IsForm h d → IsOne
+  one_by h (Mounts o e first) = (OfMount o, subst IsDirect (sym e) refl)
+  one_by h (Transacts o spelled e first session) =
+      (OfMetadata (transaction-metadata d.op o) spelled, subst IsDirect (sym e) tt)
+  one_by h (Leaves o e first session) = metadata op.Umount o refl refl (subst IsDirect (sym e) tt)
+  one_by h (Writes handle offset bytes file o e opened short room session) =
       absurd (not_of (does.Answers (answer.Count (length bytes))) e refl)
-  known_by h (Flushes handle file for first opened session) = known_for handle for
+  one_by h (Flushes handle file for first opened session) = one_for handle for
+  one_by h (Copies source from target to len file other o e first opened there session) =
+      absurd (not_of does.Copies e refl)
+  one_by h (TellsStats o e first session) = absurd (not_of (does.Answers answer.CacheStats) e refl)
 
-  first_stage : (h : ClientValue) (p : Progress) → IsAt h d p → has_segment h d ≡ false
-      → (started : ℕ) × (p ≡ progress.Working 0 started)
-  first_stage h (progress.Working quiets started) at none =
-      (started, ap (λ n. progress.Working n started) (no_quiets h d quiets at none))
-  first_stage h progress.Reading at none =
-      let read = at.read in absurd (not_of (does.Reads read.0 read.1) read.2 refl)
+  pub makes-one : (h : ClientValue) → h.doing ≡ Some d → IsReady h → MakesOne d × IsDirect d.does
+  makes-one h busy ready = one_by h (under_way h d busy ready).form
 
-pub makes_one : (h : ClientValue) (d : Doing) → h.doing ≡ Some d → IsReady h → IsTrue (makes_transaction d.does)
-    → MakesOne d
-makes_one h d busy ready makes = (known_by d makes h (under_way h d busy ready).form).0
+-- it may be tried
+tried-metadata : (o : Op) → is_metadata o ≡ true → is_spelled o ≡ true → is_tried o ≡ true
+tried-metadata (op.Mount writeback) is spelled = refl
+tried-metadata o is spelled = search rules
 
-none_left : (h : ClientValue) (d : Doing) → h.doing ≡ Some d → left h ≡ None → has_segment h d ≡ false
-none_left h d busy flushed = ap is_some (sym (ap (left_of h.pending) busy) ∙ flushed)
-
-pub is_due : (h : ClientValue) (d : Doing) → h.doing ≡ Some d → IsReady h → left h ≡ None
-    → IsTrue (makes_transaction d.does) → IsDue h d
-is_due h d busy ready flushed makes =
-    let way = under_way h d busy ready in
-    let known = known_by d makes h way.form in
-    let none = none_left h d busy flushed in
-    let first = first_stage d makes h d.progress way.at none in
-    record { one = known.0; direct = known.1; none = none; started = first.0; progress = first.1 }
-
--- such an operation changes no bytes
-metadata-plain : (o : Op) → is_metadata o ≡ true → (is_write o ≡ false) × (changes_bytes o ≡ false)
-metadata-plain (op.Write handle offset bytes) e = absurd (cc)
-metadata-plain (op.Truncate handle len) e = absurd (cc)
-metadata-plain (op.Copy source from target to len) e = absurd (cc)
-metadata-plain o e = (refl, refl)
-
-pub due-plain : (d : Doing) → MakesOne d → (is_write d.op ≡ false) × (changes_bytes d.op ≡ false)
-due-plain d (OfMount o) = (ap is_write o, ap changes_bytes o)
-due-plain d (OfMetadata o spelled) = metadata-plain d.op o
+pub one-tried : (d : Doing) → MakesOne d → IsTrue (is_tried d.op)
+one-tried d (OfMount o) = ap is_tried o
+one-tried d (OfMetadata is spelled) = tried-metadata d.op is spelled
 
 -- the model has it make one, too
-pub transacts-due : (c : ModelClient) (h : ClientValue) (d : Doing)
+pub one-transacts : (c : ModelClient) (m : ModelDoing) (h : ClientValue) (d : Doing) → m.does ≡ d.does → m.op ≡ d.op
     → is_last_of_removed c (handle_of d.op) ≡ is_last_here h (handle_of d.op)
-    → IsTrue (makes_transaction d.does) → IsTrue (asks_more h d) → IsTrue (transacts c (doing_of d))
-transacts-due c h d same makes asks = by_does d.does makes asks
+    → IsTrue (makes_transaction d.does) → IsTrue (asks_more h d) → transacts c m ≡ true
+one-transacts c m h d does_is op_is same makes asks =
+    ap (λ what. transacts c (record m { does = what })) does_is
+    ∙ ap (λ o. transacts c (record m { does = d.does; op = o })) op_is ∙ by_does d.does makes asks
   where
     by_does : (what : Does) → makes_transaction what ≡ true → asks_more h (record d { does = what }) ≡ true
-        → transacts c (doing_of (record d { does = what })) ≡ true
+        → transacts c (record m { does = what; op = d.op }) ≡ true
     by_does (does.Mounts writeback) e asks = refl
     by_does does.Transacts e asks = refl
     by_does does.Releases e asks = ap (λ b. not (is_some (if b then None else Some reply.Done))) (same ∙ asks)
     by_does _ e asks = absurd (cc)
+
+-- ---- operations that change a file
+
+-- a truncate or a copy, each with its files
+pub data ChangesOne (h : ClientValue) (d : Doing) : Type 0 where
+  OfTruncate : (handle len : ℕ) (file : Handle) → d.op ≡ op.Truncate handle len → d.does ≡ does.Truncates
+      → file_of h.handles handle ≡ Some file → ChangesOne h d
+  OfCopy : (source from target to len : ℕ) (file other : Handle) → d.op ≡ op.Copy source from target to len
+      → d.does ≡ does.Copies → file_of h.handles source ≡ Some file → file_of h.handles target ≡ Some other
+      → ChangesOne h d
+
+module _ (h : ClientValue) (d : Doing) (changes : IsTrue (changes_files d.does)) where
+  changes_not : (what : Does) → d.does ≡ what → changes_files what ≡ false → ⊥
+  changes_not what is none = absurd (cc (sym changes ∙ ap changes_files is ∙ none))
+
+  change_for : (handle : ℕ) (file : Handle) → file_of h.handles handle ≡ Some file → FlushesFor d handle
+      → ChangesOne h d
+  change_for handle file opened (Closes o e) = absurd (changes_not does.Releases e refl)
+  change_for handle file opened (Syncs o e) = absurd (changes_not (does.Answers answer.Done) e refl)
+  change_for handle file opened (Describes o e) = absurd (changes_not does.Transacts e refl)
+  change_for handle file opened (ReadsNothing offset len o e) =
+      absurd (changes_not (does.Answers answer.NoData) e refl)
+  change_for handle file opened (Reads offset len o e some short low) =
+      absurd (changes_not (does.Reads offset len) e refl)
+  change_for handle file opened (Truncates len o e) = OfTruncate handle len file o e opened
+
+  change_by : IsForm h d → ChangesOne h d
+  change_by (Mounts o e first) = absurd (changes_not (does.Mounts false) e refl)
+  change_by (Transacts o spelled e first session) = absurd (changes_not does.Transacts e refl)
+  change_by (Leaves o e first session) = absurd (changes_not does.Transacts e refl)
+  change_by (Writes handle offset bytes file o e opened short room session) =
+      absurd (changes_not (does.Answers (answer.Count (length bytes))) e refl)
+  change_by (Flushes handle file for first opened session) = change_for handle file opened for
+  change_by (Copies source from target to len file other o e first opened there session) =
+      OfCopy source from target to len file other o e opened there
+  change_by (TellsStats o e first session) = absurd (changes_not (does.Answers answer.CacheStats) e refl)
+
+  pub changes-one : h.doing ≡ Some d → IsReady h → ChangesOne h d
+  changes-one busy ready = change_by (under_way h d busy ready).form

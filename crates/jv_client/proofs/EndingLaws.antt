@@ -16,11 +16,13 @@ use Rattle.jv_model.specs.client.Pending.{PendingByte, pending_of_others}
 use Rattle.jv_model.specs.client.ModelClient.{ModelClient, OpenFile, unmounted, with_file, inode_at, held_inodes, is_among}
 use Rattle.jv_model.specs.journal.State.{after_told, finished, refused_as}
 use Rattle.jv_volume.specs.Holding.{IsHoldable}
-use Rattle.jv_files.specs.Stored.{FilesValue}
+use Rattle.jv_shared.specs.Shared.{Known, Shared}
+use Rattle.jv_handles.specs.Handles.{inode_here}
+use Rattle.jv_handles.proofs.HandleLaws.{handles-close}
 use Rattle.jv_client.specs.ClientValue.{ClientValue, crashed}
-use Rattle.jv_client.specs.Held.{IsHeld, Holds, inode_here, is_last_here}
+use Rattle.jv_client.specs.Held.{IsHeld, Holds, is_last_here}
 use Rattle.jv_client.specs.Ending.{closed, ended, finished_here, refused_here, told_here}
-use Rattle.jv_client.proofs.LastLaws.{inode-same, is_last-same, without-same}
+use Rattle.jv_client.proofs.LastLaws.{inode-same, is_last-same}
 use Rattle.jv_client.proofs.HeldLaws.{held-doing, holds-doing, holds-unmounted}
 
 -- a write that is done keeps its bytes
@@ -48,87 +50,88 @@ among-unless true gone inode xs ys same =
     among-others gone inode xs ∙ ap (λ b. not (inode == gone) && b) same ∙ sym (among-others gone inode ys)
 among-unless false gone inode xs ys same = same
 
-module _ {m : ModelClient} {count : ℕ} {files : FilesValue} {h : ClientValue} (held : IsHeld m count files h) where
-  held-ended : IsHeld (record m { doing = None }) count files (ended h)
-  held-ended = held-doing None None held
+module _ (g : Known) (v : Shared) (count : ℕ) where
+  module _ (m : ModelClient) (h : ClientValue) (held : IsHeld g v m count h) where
+    held-ended : IsHeld g v (record m { doing = None }) count (ended h)
+    held-ended = held-doing g v m count h None None held
 
-  held-closed : (handle : ℕ) → IsHeld (record (finished (op.Close handle) m) { doing = None }) count files (closed handle h)
-  held-closed handle = record {
+    held-closed : (handle : ℕ) → IsHeld g v (record (finished (op.Close handle) m) { doing = None }) count (closed handle h)
+    held-closed handle = record {
+      session = held.session;
+      direct = held.direct;
+      removed = λ inode.
+          ap (λ b. is_among inode (if b then others_of (inode_at m handle) m.sustained else m.sustained)) (is_last-same g v m count h held handle)
+          ∙ ap (λ gone. is_among inode (if is_last_here h handle then others_of gone m.sustained else m.sustained)) (inode-same g v m count h held handle)
+          ∙ among-unless (is_last_here h handle) (inode_here h.handles handle) inode m.sustained h.sustained (held.removed inode);
+      handles = handles-close g v m.views count handle m.handles h.handles held.handles;
+      views = held.views;
+      pending = held.pending;
+    }
+
+  pub held-unmounted : (h : ClientValue) → IsHeld g v unmounted count (crashed h)
+  held-unmounted h = record { session = refl; direct = refl; removed = λ inode. refl; handles = tt; views = tt; pending = refl }
+
+  held-finished : (o : Op) (m : ModelClient) (h : ClientValue) → is_write o ≡ false → IsHeld g v m count h
+      → IsHeld g v (record (finished o m) { doing = None }) count (finished_here o h)
+  held-finished (op.Mount writeback) m h e held = held-ended m h held
+  held-finished op.Umount m h e held = held-unmounted h
+  held-finished op.Beat m h e held = held-ended m h held
+  held-finished (op.Lookup path) m h e held = held-ended m h held
+  held-finished (op.Stat path) m h e held = held-ended m h held
+  held-finished (op.Lstat path) m h e held = held-ended m h held
+  held-finished (op.Fstat handle) m h e held = held-ended m h held
+  held-finished (op.Mkdir path mode) m h e held = held-ended m h held
+  held-finished (op.Create path mode) m h e held = held-ended m h held
+  held-finished (op.Open path) m h e held = held-ended m h held
+  held-finished (op.Close handle) m h e held = held-closed m h held handle
+  held-finished (op.Flush handle) m h e held = held-ended m h held
+  held-finished (op.Read handle offset len) m h e held = held-ended m h held
+  held-finished (op.Write handle offset bytes) m h e held = absurd (cc)
+  held-finished (op.Truncate handle len) m h e held = held-ended m h held
+  held-finished (op.Copy source from target to len) m h e held = held-ended m h held
+  held-finished (op.Readdir path) m h e held = held-ended m h held
+  held-finished (op.Chmod path mode) m h e held = held-ended m h held
+  held-finished (op.Chown path uid gid) m h e held = held-ended m h held
+  held-finished (op.Utimes path mtime) m h e held = held-ended m h held
+  held-finished op.Statfs m h e held = held-ended m h held
+  held-finished (op.Symlink target path) m h e held = held-ended m h held
+  held-finished (op.Readlink path) m h e held = held-ended m h held
+  held-finished (op.Unlink path) m h e held = held-ended m h held
+  held-finished (op.Rmdir path) m h e held = held-ended m h held
+  held-finished (op.Link path to) m h e held = held-ended m h held
+  held-finished (op.Rename path to how) m h e held = held-ended m h held
+  held-finished (op.Compact path window) m h e held = held-ended m h held
+  held-finished op.Clean m h e held = held-ended m h held
+  held-finished (op.Gc delete) m h e held = held-ended m h held
+  held-finished op.Upload m h e held = held-ended m h held
+  held-finished op.Stats m h e held = held-ended m h held
+
+  -- a refusal
+
+  held-others : (inode : ℕ) (m : ModelClient) (h : ClientValue) → IsHeld g v m count h
+      → IsHeld g v (record m { pending = pending_of_others inode m.pending; doing = None }) count
+      (record h { pending = pending_of_others inode h.pending; doing = None })
+  held-others inode m h held = record {
     session = held.session;
     direct = held.direct;
-    removed = λ inode.
-        ap (λ b. is_among inode (if b then others_of (inode_at m handle) m.sustained else m.sustained)) (is_last-same held handle)
-        ∙ ap (λ gone. is_among inode (if is_last_here h handle then others_of gone m.sustained else m.sustained)) (inode-same held handle)
-        ∙ among-unless (is_last_here h handle) (inode_here h.handles handle) inode m.sustained h.sustained (held.removed inode);
-    handles = without-same m.views count files handle m.handles h.handles held.handles;
+    removed = held.removed;
+    handles = held.handles;
     views = held.views;
-    pending = held.pending;
+    pending = ap (pending_of_others inode) held.pending;
   }
 
-held-unmounted : (count : ℕ) (files : FilesValue) (h : ClientValue) → IsHeld unmounted count files (crashed h)
-held-unmounted count files h = record { session = refl; direct = refl; removed = λ inode. refl; handles = tt; views = tt; pending = refl }
+  held-refused : (fault : Fault) (m : ModelClient) (h : ClientValue) → IsHeld g v m count h
+      → IsHeld g v (record (refused_as fault m) { doing = None }) count (refused_here fault h)
+  held-refused (Stale (Session sid)) m h held = held-unmounted h
+  held-refused (Stale (Node inode)) m h held = held-others inode m h held
+  held-refused fault m h held = held-ended m h held
 
-held-finished : (o : Op) (m : ModelClient) (count : ℕ) (files : FilesValue) (h : ClientValue) → is_write o ≡ false → IsHeld m count files h
-    → IsHeld (record (finished o m) { doing = None }) count files (finished_here o h)
-held-finished (op.Mount writeback) m count files h e held = held-ended held
-held-finished op.Umount m count files h e held = held-unmounted count files h
-held-finished op.Beat m count files h e held = held-ended held
-held-finished (op.Lookup path) m count files h e held = held-ended held
-held-finished (op.Stat path) m count files h e held = held-ended held
-held-finished (op.Lstat path) m count files h e held = held-ended held
-held-finished (op.Fstat handle) m count files h e held = held-ended held
-held-finished (op.Mkdir path mode) m count files h e held = held-ended held
-held-finished (op.Create path mode) m count files h e held = held-ended held
-held-finished (op.Open path) m count files h e held = held-ended held
-held-finished (op.Close handle) m count files h e held = held-closed held handle
-held-finished (op.Flush handle) m count files h e held = held-ended held
-held-finished (op.Read handle offset len) m count files h e held = held-ended held
-held-finished (op.Write handle offset bytes) m count files h e held = absurd (cc)
-held-finished (op.Truncate handle len) m count files h e held = held-ended held
-held-finished (op.Copy source from target to len) m count files h e held = held-ended held
-held-finished (op.Readdir path) m count files h e held = held-ended held
-held-finished (op.Chmod path mode) m count files h e held = held-ended held
-held-finished (op.Chown path uid gid) m count files h e held = held-ended held
-held-finished (op.Utimes path mtime) m count files h e held = held-ended held
-held-finished op.Statfs m count files h e held = held-ended held
-held-finished (op.Symlink target path) m count files h e held = held-ended held
-held-finished (op.Readlink path) m count files h e held = held-ended held
-held-finished (op.Unlink path) m count files h e held = held-ended held
-held-finished (op.Rmdir path) m count files h e held = held-ended held
-held-finished (op.Link path to) m count files h e held = held-ended held
-held-finished (op.Rename path to how) m count files h e held = held-ended held
-held-finished (op.Compact path window) m count files h e held = held-ended held
-held-finished op.Clean m count files h e held = held-ended held
-held-finished (op.Gc delete) m count files h e held = held-ended held
-held-finished op.Upload m count files h e held = held-ended held
-held-finished op.Stats m count files h e held = held-ended held
-
--- a refusal
-
-held-others : (inode : ℕ) {m : ModelClient} {count : ℕ} {files : FilesValue} {h : ClientValue} → IsHeld m count files h
-    → IsHeld (record m { pending = pending_of_others inode m.pending; doing = None }) count files
-    (record h { pending = pending_of_others inode h.pending; doing = None })
-held-others inode held = record {
-  session = held.session;
-  direct = held.direct;
-  removed = held.removed;
-  handles = held.handles;
-  views = held.views;
-  pending = ap (pending_of_others inode) held.pending;
-}
-
-held-refused : (fault : Fault) (m : ModelClient) (count : ℕ) (files : FilesValue) (h : ClientValue) → IsHeld m count files h
-    → IsHeld (record (refused_as fault m) { doing = None }) count files (refused_here fault h)
-held-refused (Stale (Session sid)) m count files h held = held-unmounted count files h
-held-refused (Stale (Node inode)) m count files h held = held-others inode held
-held-refused fault m count files h held = held-ended held
-
--- an answer; that of a write keeps its bytes
-pub held-told : (o : Op) (told : Told) (m : ModelClient) (count : ℕ) (files : FilesValue) (h : ClientValue) → keeps_bytes o told ≡ false
-    → IsHeld m count files h → IsHeld (after_told o told m) count files (told_here o told h)
-held-told o (Fine a b c d) m count files h none held = held-finished o m count files h none held
-held-told o (Looks first second len) m count files h none held = held-finished o m count files h none held
-held-told o (ToldRefused fault) m count files h none held = held-refused fault m count files h held
+  -- an answer, but that of a write that is done
+  pub held-told : (o : Op) (told : Told) (m : ModelClient) (h : ClientValue) → keeps_bytes o told ≡ false
+      → IsHeld g v m count h → IsHeld g v (after_told o told m) count (told_here o told h)
+  held-told o (Fine a b c d) m h none held = held-finished o m h none held
+  held-told o (Looks first second len) m h none held = held-finished o m h none held
+  held-told o (ToldRefused fault) m h none held = held-refused fault m h held
 
 -- what is held is of files
 
@@ -180,7 +183,7 @@ module _ (inode : ℕ) (new : Option OpenFile) where
   pub open-with_file : (handle : ℕ) (files : List (Option OpenFile)) → is_open inode (with_file handle new files) ≡ true → IsOld files
   open-with_file handle files e = open-by (nat_le handle (length files)) (handle - 1) files e
 
-module _ {t : Tree} (m : ModelClient) (holds : Holds t m) where
+module _ (t : Tree) (m : ModelClient) (holds : Holds t m) where
   holds-closed : (handle : ℕ) → Holds t (record (finished (op.Close handle) m) { doing = None })
   holds-closed handle = record {
     opened = λ inode among. elim (open-with_file inode None handle m.handles among) [ inl none ↦ absurd (cc) | inr old ↦ holds.opened inode old ];
@@ -199,18 +202,18 @@ module _ {t : Tree} (m : ModelClient) (holds : Holds t m) where
   others-held inode [] h = tt
   others-held inode (b ∷ bytes) h = kept-if (not (b.inode == inode)) b (pending_of_others inode bytes) h.0 (others-held inode bytes h.1)
 
-holds-finished : (o : Op) {t : Tree} (m : ModelClient) → is_write o ≡ false → Holds t m → Holds t (record (finished o m) { doing = None })
-holds-finished op.Umount {t} m e holds = holds-unmounted t
-holds-finished (op.Close handle) m e holds = holds-closed m holds handle
-holds-finished (op.Write handle offset bytes) m e holds = absurd (cc)
-holds-finished o m e holds = holds-doing m None holds
+holds-finished : (o : Op) (t : Tree) (m : ModelClient) → is_write o ≡ false → Holds t m → Holds t (record (finished o m) { doing = None })
+holds-finished op.Umount t m e holds = holds-unmounted t
+holds-finished (op.Close handle) t m e holds = holds-closed t m holds handle
+holds-finished (op.Write handle offset bytes) t m e holds = absurd (cc)
+holds-finished o t m e holds = holds-doing t m None holds
 
-holds-refused : (fault : Fault) {t : Tree} (m : ModelClient) → Holds t m → Holds t (record (refused_as fault m) { doing = None })
-holds-refused (Stale (Session sid)) {t} m holds = holds-unmounted t
-holds-refused (Stale (Node inode)) m holds = record { opened = holds.opened; pending = others-held m holds inode m.pending holds.pending }
-holds-refused fault m holds = holds-doing m None holds
+holds-refused : (fault : Fault) (t : Tree) (m : ModelClient) → Holds t m → Holds t (record (refused_as fault m) { doing = None })
+holds-refused (Stale (Session sid)) t m holds = holds-unmounted t
+holds-refused (Stale (Node inode)) t m holds = record { opened = holds.opened; pending = others-held t m holds inode m.pending holds.pending }
+holds-refused fault t m holds = holds-doing t m None holds
 
 pub holds-told : (o : Op) (told : Told) (t : Tree) (m : ModelClient) → keeps_bytes o told ≡ false → Holds t m → Holds t (after_told o told m)
-holds-told o (Fine a b c d) t m none holds = holds-finished o m none holds
-holds-told o (Looks first second len) t m none holds = holds-finished o m none holds
-holds-told o (ToldRefused fault) t m none holds = holds-refused fault m holds
+holds-told o (Fine a b c d) t m none holds = holds-finished o t m none holds
+holds-told o (Looks first second len) t m none holds = holds-finished o t m none holds
+holds-told o (ToldRefused fault) t m none holds = holds-refused fault t m holds

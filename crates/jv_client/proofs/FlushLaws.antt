@@ -1,345 +1,233 @@
--- The requests of a flush before its commit, and what refuses them.
-use Rattle.std.proofs.Common.{◌≡◌, ℕ, ◌+◌, ◌≤◌, ◌<◌, Bool, true, false, ◌||◌, not, [], ◌∷◌, length, Option, Some}
-use Rattle.std.proofs.Common.{Result, Ok, Err, refl, sym, ap, subst, ◌∙◌, arith, lit≤}
-use Rattle.std.specs.Prelude.{if◌then◌else◌, is_some, IsSome, unwrap_or}
+-- The requests of a flush before its commit, for the number of a segment's slice and for each of its blocks, and what refuses
+-- them.
+use Rattle.std.proofs.Common.{◌≡◌, ℕ, suc, ◌+◌, ◌-◌, ◌*◌, ◌≤◌, ◌<◌, Bool, true, false, ◌||◌, ◌==◌, IsTrue, [], ◌∷◌, length, Option, None}
+use Rattle.std.proofs.Common.{Some, Result, Ok, Err, refl, sym, ap, subst, ◌∙◌, arith}
+use Rattle.std.specs.Prelude.{IfSome, IsSome, List, if◌then◌else◌, is_some, unwrap_or}
 use Rattle.std.specs.Option.{option_map}
-use Rattle.jv_model.specs.declared.act.ActKind.TheVariants.{Quiet, Answered}
+use Rattle.jv_model.specs.declared.limits.TheConstants.{WINDOW}
+use Rattle.jv_model.specs.declared.act.ActKind.TheVariants.{Answered, Quiet}
 use Rattle.jv_model.specs.declared.act.Told.TheVariants.{Refused as ToldRefused}
-use Rattle.jv_model.specs.declared.fault.Fault.{Fault}
-use Rattle.jv_model.specs.declared.fault.Fault.TheVariants.{Stale}
-use Rattle.jv_model.specs.declared.fault.Gone.TheVariants.{Session}
+use Rattle.jv_model.specs.declared.fault.RowFault.TheVariants.{Bad, Failed, Memory}
 use Rattle.jv_model.specs.declared.fault.TxFault.{TxFault}
-use Rattle.jv_model.specs.declared.fault.TxFault.TheVariants.{Refused as TxRefused}
-use Rattle.jv_model.specs.declared.op.Reply.TheVariants.{Refused}
-use Rattle.jv_model.specs.declared.op.Step.TheVariants.{More, Done}
-use Rattle.jv_model.specs.FiniteMap.{get}
-use Rattle.jv_model.specs.tree.Attempt.{require}
-use Rattle.jv_model.specs.tree.Tree.{Tree}
+use Rattle.jv_model.specs.declared.fault.TxFault.TheVariants.{Refused, Moved, Rows as OfRows}
+use Rattle.jv_model.specs.declared.op.Reply.TheVariants.{Refused as RefusedReply}
+use Rattle.jv_model.specs.declared.op.Step.TheVariants.{Done, More}
+use Rattle.jv_model.specs.blocks.Slices.{block_count}
 use Rattle.jv_model.specs.client.Pending.{Segment}
 use Rattle.jv_model.specs.client.Submission.{next_segment}
-use Rattle.jv_model.specs.client.ModelClient.{ModelClient, Doing as ModelDoing, Stage, Working, Replying, session_of}
-use Rattle.jv_model.specs.journal.State.{State, has_session, session_gone, flushing_on, begun_quietly, quieted}
-use Rattle.jv_model.specs.journal.State.{is_of_another, after_told}
-use Rattle.jv_model.specs.journal.Steps.{Start, MayAnswer, Settles, is_failure, may_be_quiet}
-use Rattle.jv_model.specs.journal.Past.{reply_of}
-use Rattle.jv_model.specs.journal.Stepping.{stepped}
+use Rattle.jv_model.specs.client.ModelClient.{ModelClient, Working as InModel, session_of}
+use Rattle.jv_model.specs.journal.State.{State, after_told}
 use Rattle.jv_outside.specs.Store.{Store}
-use Rattle.jv_rows.specs.Transactions.{Looks}
-use Rattle.jv_volume.specs.Holding.{Stays}
-use Rattle.jv_files.specs.Stored.{FilesValue}
-use Rattle.jv_files.specs.Holds.{Grows}
-use Rattle.jv_files.proofs.GrowthLaws.{grows-same}
-use Rattle.jv_volume.proofs.WalkShapeLaws.{required}
+use Rattle.jv_contents.specs.Flights.{Flight}
+use Rattle.jv_data.specs.Records.{TakesNumber}
+use Rattle.jv_shared.specs.Flying.{Flies}
+use Rattle.jv_shared.specs.Shared.{HasStore, Known, Shared, with_size}
+use Rattle.jv_steps.specs.IsStep.{at_stage}
+use Rattle.jv_requests.specs.Request.{Request}
+use Rattle.jv_requests.proofs.NumberLaws.{number-calm, number-never_bad, number-never_moved, number-refused, number-taken}
+use Rattle.jv_requests.proofs.NumberLaws.{number-taken_flies}
 use Rattle.jv_client.specs.declared.doing.Doing.{Doing}
 use Rattle.jv_client.specs.declared.doing.Progress.{Progress}
-use Rattle.jv_client.specs.declared.doing.Progress.TheVariants as progress
+use Rattle.jv_client.specs.declared.doing.Progress.TheVariants.{Working}
 use Rattle.jv_client.specs.declared.made.Made.{Made}
-use Rattle.jv_client.specs.declared.made.Made.TheVariants as made
+use Rattle.jv_client.specs.declared.made.Made.TheVariants.{Request as AsksFor}
 use Rattle.jv_client.specs.ClientValue.{ClientValue, session_here}
-use Rattle.jv_client.specs.Shared.{Shared, HasStore, shared}
-use Rattle.jv_client.specs.Held.{IsHeld, IsClient, Holds, flush_of_code, stage_of}
-use Rattle.jv_client.specs.Ending.{refused_here}
-use Rattle.jv_client.specs.UnderWay.{IsUnderWay, IsReady, segment_left, asks_more, steps_in, steps_of, steps_left}
-use Rattle.jv_client.specs.UnderWay.{moved_to, left, left_of, progress_of}
-use Rattle.jv_client.specs.Makes.{Makes, StepsTo, is_keeper_failure}
+use Rattle.jv_client.specs.Flushing.{bytes_of}
+use Rattle.jv_client.specs.Held.{IsClient, IsHeld, IsOnWay, Holds, flight_by, flight_from, flight_of, flush_of_code}
+use Rattle.jv_client.specs.Held.{in_flight, number_of, segment_left, stage_of}
+use Rattle.jv_client.specs.UnderWay.{IsReady, IsWorking, has_segment, asks_more, left, moved_to, progress_of, reading_steps}
+use Rattle.jv_client.specs.UnderWay.{steps_in}
+use Rattle.jv_client.specs.Makes.{Makes, StepsTo, UsesDevices}
 use Rattle.jv_client.specs.Transacting.{EndsUnmade}
-use Rattle.jv_client.proofs.TableLaws.{the_some}
-use Rattle.jv_client.proofs.HeldLaws.{held-later, held-doing, holds-doing, stays-same}
-use Rattle.jv_client.proofs.StepLaws.{doing_of, is_doing_of, client-doing, tree-quiet, client-quiet, steps_after}
-use Rattle.jv_client.proofs.StepLaws.{steps_on, makes_as}
-use Rattle.jv_client.proofs.EndingLaws.{holds-told}
-use Rattle.jv_client.proofs.AtOnceLaws.{client-told}
-use Rattle.jv_client.proofs.SharedLaws.{has_store-same}
-use Rattle.jv_client.proofs.FormLaws.{FlushesSome, flushes_some, form-moved, under_way, in_progress}
-use Rattle.jv_client.proofs.UnmadeLaws.{RefusedLeads, not_looked, plain-looked, unmade}
+use Rattle.jv_handles.proofs.TableLaws.{the_some}
+use Rattle.jv_client.proofs.HeldLaws.{client-doing, doing_of, holds-doing}
+use Rattle.jv_client.proofs.KeptLaws.{client-asks}
+use Rattle.jv_client.proofs.GoesOnLaws.{goes-on, in_progress}
+use Rattle.jv_client.proofs.LeftLaws.{flight-flying, flight-is, left-is, segment-short}
+use Rattle.jv_client.proofs.UnmadeLaws.{UnmadeLeads, InState, not_taken, unmade, uses-keeper}
+use Rattle.jv_client.proofs.AnswerLaws.{makes-as}
 
--- the next request of a segment
+-- ---- a further request of the segment that is committed next
 
--- a request for the next segment
-pub flush-quiet : (s : State) (client now : ℕ) (d : ModelDoing) (quiets started : ℕ) (segment : Segment)
-    → d.stage ≡ Working quiets started
-    → next_segment d.flush (s.clients client).pending ≡ Some segment
-    → quieted s client (s.clients client) now d d.stage ≡ flushing_on s (s.clients client) now quiets started
-flush-quiet s client now d quiets started segment at left =
-    ap (quieted s client (s.clients client) now d) at
-    ∙ ap (λ (o : Option Segment). if not (is_some o) then begun_quietly s client (s.clients client) now d d.does
-    else flushing_on s (s.clients client) now quiets started) left
+-- the model makes the request likewise, and its slice is in flight
+pub record Asked (now : ℕ) (h : ClientValue) (d : Doing) (before used : Shared) (bytes : List ℕ)
+    (quiets moment number : ℕ) (s : State) (g : Known) : Type 0 where
+  pub learned : Known
+  pub request : Request s g learned before used h.id now (in_flight h) number (Quiet ∷ []) More s.tree
+      (at_stage (InModel (quiets + 1) moment) (doing_of d) (s.clients h.id)) s.copied
+  pub flies : Flies learned used (record { id = number; bytes = bytes; put = quiets })
+  pub put : quiets ≤ block_count (length bytes) used.yard.setting.block
 
-flushing-first : (s : State) (m : ModelClient) (now started : ℕ) → has_session s.tree m ≡ true
-    → flushing_on s m now 0 started ≡ Working 1 0
-flushing-first s m now started there = ap (λ b. if b then Working 1 0 else Replying (session_gone m)) there
+module _ (now entry : ℕ) (h : ClientValue) (d : Doing) (before used : Shared) (segment : Segment)
+    (quiets started id moment number : ℕ) (busy : h.doing ≡ Some d) (ready : IsReady h)
+    (next : left h ≡ Some segment) (at : d.progress ≡ Working quiets started id) (few : quiets ≤ segment.len)
+    (some : 0 < number) where
+  abbrev stage : Progress
+  stage = Working (quiets + 1) moment number
 
-flushing-gone : (s : State) (m : ModelClient) (now started : ℕ) → has_session s.tree m ≡ false
-    → flushing_on s m now 0 started ≡ Replying (session_gone m)
-flushing-gone s m now started gone = ap (λ b. if b then Working 1 0 else Replying (session_gone m)) gone
-
--- the operation in progress
-module _ (h : ClientValue) (d : Doing) (busy : h.doing ≡ Some d) where
-  pub left-is : (segment : Option Segment) → left h ≡ segment → segment_left d.flush h.pending ≡ segment
-  left-is segment e = sym (ap (left_of h.pending) busy) ∙ e
-
-  pub steps-are : (at : Progress) → d.progress ≡ at → steps_left h ≡ steps_in (length h.pending) at
-  steps-are at e = ap (steps_of (length h.pending)) busy ∙ ap (steps_in (length h.pending)) e
-
-  -- it flushes a file, or all
-  pub flushes-left : (segment : Segment) → IsReady h → left h ≡ Some segment → FlushesSome h d
-  flushes-left segment ready next =
-      flushes_some h d (under_way h d busy ready).form (ap is_some (left-is (Some segment) next))
-
--- what is committed next is the same
-pub next-same : (m : ModelClient) (count : ℕ) (files : FilesValue) (h : ClientValue) (d : Doing)
-    (segment : Option Segment) → IsHeld m count files h
-    → segment_left d.flush h.pending ≡ segment
-    → next_segment (flush_of_code d.flush) m.pending ≡ segment
-next-same m count files h d segment held e = ap (next_segment (flush_of_code d.flush)) held.pending ∙ e
-
-unflushed : (o : Option Segment) (segment : Segment) (b : Bool) → o ≡ Some segment
-    → (if not (is_some o) then b else true) ≡ true
-unflushed o segment b e = ap (λ (o : Option Segment). if not (is_some o) then b else true) e
-
--- a request for the next segment may stand
-pub asks-quietly : (s : State) (client now : ℕ) (d : ModelDoing) (quiets started : ℕ) (segment : Segment)
-    → d.stage ≡ Working quiets started
-    → next_segment d.flush (s.clients client).pending ≡ Some segment → (start : Start)
-    → may_be_quiet start s client now (s.clients client) d d.stage ≡ true
-asks-quietly s client now d quiets started segment at next start =
-    ap (may_be_quiet start s client now (s.clients client) d) at
-    ∙ unflushed (next_segment d.flush (s.clients client).pending) segment _ next
-
--- a client that has asked for the number or the block of its next segment
-module _ (h : ClientValue) (d : Doing) (v : Shared) (segment : Segment) (quiets started asked moment now : ℕ)
-    (busy : h.doing ≡ Some d) (ready : IsReady h)
-    (next : left h ≡ Some segment) (at : d.progress ≡ progress.Working quiets started) (more : asked ≡ quiets + 1)
-    (few : asked ≤ 2)
-    (flushing : (s : State) → HasStore s.tree v → IsClient (s.clients h.id) s.count v.files h
-    → flushing_on s (s.clients h.id) now quiets started ≡ Working asked moment) where
   abbrev asking : Doing
-  asking = moved_to (progress.Working asked moment) d
+  asking = moved_to stage d
 
   abbrev after : ClientValue
   after = record h { doing = Some asking }
 
-  has_left : is_some (segment_left d.flush h.pending) ≡ true
-  has_left = ap is_some (left-is h d busy (Some segment) next)
+  abbrev flight : Flight
+  flight = record { id = number; bytes = bytes_of segment h.pending; put = quiets }
 
-  asks-ready : IsUnderWay after asking
-  asks-ready = record {
-    form =
-        form-moved h after d (progress.Working asked moment)
-        (flushes-left h d busy segment ready next) refl (λ handle file opened. (file, opened, refl));
-    at = record { few = few; segment = λ some. has_left };
-    asks = λ moved. ap (λ b. b || asks_more after asking) has_left;
+  next_is : segment_left d.flush h.pending ≡ Some segment
+  next_is = left-is h d busy (Some segment) next
+
+  there : IsTrue (has_segment after asking)
+  there = ap is_some next_is
+
+  flying : flight_by h.pending d.flush stage ≡ Some flight
+  flying = flight-flying h.pending d.flush (quiets + 1) quiets moment number segment (omega arith) next_is
+
+  fewer : steps_in (length h.pending) asking < steps_in (length h.pending) d
+  fewer =
+      let was : steps_in (length h.pending) d ≡ 3 * length h.pending + reading_steps d.does - quiets =
+      ap (λ (p : Progress). steps_in (length h.pending) (record d { progress = p })) at in
+      let short = segment-short d.flush h.pending segment next_is in
+      let low = short.0 in
+      let pending = short.1 in
+      omega (arith, was, few, low, pending)
+
+  works : IsWorking after asking (quiets + 1) number
+  works = record {
+    few = subst (λ (o : Option Segment). IfSome o (λ (segment : Segment). quiets + 1 ≤ 1 + segment.len)) (sym next_is)
+        (omega (arith, few));
+    segment = λ asked. there;
+    numbered = λ asked. some;
   }
 
-  asks-falls : steps_left after < steps_left h
-  asks-falls = let before = steps-are h d busy (progress.Working quiets started) at in omega (arith, before, more, few)
+  -- The operation goes on.
+  pub asks : UsesDevices (AsksFor Quiet) before used
+      → InState entry h before (Asked now h d before used (bytes_of segment h.pending) quiets moment number)
+      → Makes now entry h (record h { doing = Some (moved_to (Working (quiets + 1) moment number) d) }) before used
+      (AsksFor Quiet)
+  asks uses leads =
+      goes-on now entry h after d stage Quiet before used busy ready refl
+      (record {
+        session = refl;
+        limits = refl;
+        pending = omega arith;
+        handles = λ handle file opened. (file, opened, refl);
+      })
+      refl works (ap (λ b. b || asks_more after asking) there) fewer uses
+      (λ s g count store holds is.
+      let m = s.clients h.id in
+      let model : ModelClient = at_stage (InModel (quiets + 1) moment) (doing_of d) m in
+      let asked = leads s g count store holds is in
+      record {
+        learned = asked.learned;
+        tree = s.tree;
+        model = model;
+        copied = s.copied;
+        request = subst (λ (n : ℕ). Request s g asked.learned before used h.id now (in_flight h) n (Quiet ∷ []) More
+            s.tree model s.copied) (sym (ap number_of flying)) asked.request;
+        is_client = client-asks s.tree g before store asked.request.own asked.learned used asked.request.leads.kept m
+            s.count (s.count + 1) h (omega arith) is d stage
+            (subst (IsOnWay asked.learned used) (sym flying) (asked.flies, asked.put)) tt;
+        no_failure = tt;
+        holds = holds-doing s.tree m model.doing holds;
+      })
 
-  module _ (s : State) (has : HasStore s.tree v) (holds : Holds s.tree (s.clients h.id))
-      (is : IsClient (s.clients h.id) s.count v.files h) where
-    next-is : next_segment (flush_of_code d.flush) (s.clients h.id).pending ≡ Some segment
-    next-is =
-        next-same (s.clients h.id) s.count v.files h d (Some segment) is.held (left-is h d busy (Some segment) next)
+-- ---- the number of the segment's slice
 
-    asks-leads : StepsTo s h.id now (Quiet ∷ []) More after v
-    asks-leads =
-        let c = s.clients h.id in
-        let there = client-doing d busy is in
-        let same = tree-quiet s h.id now (doing_of d) there in
-        let stage = flush-quiet s h.id now (doing_of d) quiets started segment (ap stage_of at) next-is
-        ∙ flushing s has is in
-        steps_on s h.id now Quiet (record c { doing = Some (doing_of asking) }) after v
-        (λ start alone. record {
-          doing = doing_of d;
-          busy = there;
-          begins_is = refl;
-          may = asks-quietly s h.id now (doing_of d) quiets started segment (ap stage_of at) next-is start;
-        })
-        refl (client-quiet s h.id now (doing_of d) there (Working asked moment) stage) refl
-        (subst (λ t. HasStore t v) (sym same) has)
-        (subst (Stays s.tree) (sym same) (stays-same s.tree))
-        (subst (λ t. Holds t (record c { doing = Some (doing_of asking) })) (sym same)
-        (holds-doing c (Some (doing_of asking)) holds))
-        (record {
-          held = held-doing (Some (doing_of asking)) (Some asking)
-              (held-later (grows-same v.files) (omega arith) is.held);
-          doing = is_doing_of asking;
-        })
+module _ (now entry : ℕ) (h : ClientValue) (d : Doing) (before : Shared) (keeper : Store) (segment : Segment)
+    (sid started id : ℕ) (busy : h.doing ≡ Some d) (ready : IsReady h) (next : left h ≡ Some segment)
+    (at : d.progress ≡ Working 0 started id) (own : sid ≡ session_here h) where
+  abbrev numbered : Shared
+  numbered = record before { keeper = keeper }
 
-  -- its next request is made
-  pub asks : (entry : ℕ) → Makes now entry h after v v (made.Request Quiet)
-  asks entry = record {
-    id = refl;
-    limits = refl;
-    ready = asks-ready;
-    grows = grows-same v.files;
-    keeper = record { opened_at = refl; counts = refl; still = λ asks. refl; bad = tt };
-    falls = (asks-falls, refl);
-    leads = λ s count has holds is. asks-leads s has holds is;
-  }
+  abbrev bytes : List ℕ
+  bytes = bytes_of segment h.pending
 
--- a request that is refused
+  none_yet : in_flight h ≡ 0
+  none_yet = ap number_of (flight-is h d busy (Working 0 started id) at)
 
--- A request of an operation that is then refused, by an answer that may stand.
-module _ (s : State) (h : ClientValue) (d : Doing) (v grown : Shared) (now : ℕ) (fault : Fault) (stage : Stage)
-    (busy : h.doing ≡ Some d)
-    (is : IsClient (s.clients h.id) s.count v.files h) (has : HasStore s.tree grown)
-    (holds : Holds s.tree (s.clients h.id)) (grows : Grows v.files grown.files)
-    (quiet : (start : Start) → may_be_quiet start s h.id now (s.clients h.id) (doing_of d) (stage_of d.progress) ≡ true)
-    (leads : quieted s h.id (s.clients h.id) now (doing_of d) (stage_of d.progress) ≡ stage) where
-  abbrev asked : ModelDoing
-  asked = record (doing_of d) { stage = stage; moved = true }
+  module _ (s : State) (g : Known) (store : HasStore s.tree g before)
+      (is : IsClient g before (s.clients h.id) s.count h) where
+    busy_in : (s.clients h.id).doing ≡ Some (doing_of d)
+    busy_in = client-doing g before (s.clients h.id) s.count h d busy is
 
-  abbrev client_asked : ModelClient
-  client_asked = record (s.clients h.id) { doing = Some asked }
+    next_in : next_segment (flush_of_code d.flush) (s.clients h.id).pending ≡ Some segment
+    next_in =
+        ap (next_segment (flush_of_code d.flush)) is.held.pending ∙ left-is h d busy (Some segment) next
 
-  pub refused-leads : is_failure (ToldRefused fault) ≡ false → is_keeper_failure (ToldRefused fault) ≡ false
-      → is_of_another stage (ToldRefused fault) ≡ false
-      → reply_of client_asked asked (ToldRefused fault) ≡ Refused fault
-      → ((start : Start) (alone : Bool) → MayAnswer start alone (stepped s h.id now Quiet) h.id now client_asked asked
-      (ToldRefused fault))
-      → StepsTo s h.id now (Quiet ∷ Answered (ToldRefused fault) ∷ []) (Done (Refused fault))
-      (refused_here fault h) grown
-  refused-leads fails fine own says may =
-      let there = client-doing d busy is in
-      let same = tree-quiet s h.id now (doing_of d) there in
-      let held = held-doing (Some asked) h.doing (held-later grows (omega arith) is.held) in
-      steps_after s h.id now Quiet client_asked asked (ToldRefused fault) (Refused fault) (refused_here fault h) grown
-      (λ start alone. record { doing = doing_of d; busy = there; begins_is = refl; may = quiet start })
-      refl (client-quiet s h.id now (doing_of d) there stage leads) refl fails
-      (record { may = may; own = own; says = says })
-      fine
-      (subst (λ t. HasStore t grown) (sym same) has)
-      (subst (Stays s.tree) (sym same) (stays-same s.tree))
-      (subst (λ t. Holds t (after_told d.op (ToldRefused fault) client_asked)) (sym same)
-      (holds-told d.op (ToldRefused fault) s.tree client_asked refl (holds-doing (s.clients h.id) (Some asked) holds)))
-      (client-told d.op (ToldRefused fault) client_asked (s.count + 1 + 1) grown.files h refl held)
+    own_in : sid ≡ session_of (s.clients h.id)
+    own_in = own ∙ sym (ap (λ (o : Option ℕ). unwrap_or o 0) is.held.session)
 
--- the session, as a reading of its row sees it
+    takes_in : (given : ℕ) → TakesNumber sid before.keeper keeper (Ok given)
+        → Asked now h d before numbered bytes 0 0 given s g
+    takes_in given takes = record {
+      learned = with_size given (length bytes) g;
+      request = subst (λ (n : ℕ). Request s g (with_size given (length bytes) g) before numbered h.id now n given
+          (Quiet ∷ []) More s.tree (at_stage (InModel 1 0) (doing_of d) (s.clients h.id)) s.copied) (sym none_yet)
+          (number-taken s g before store h.id now (doing_of d) busy_in segment next_in started (ap stage_of at) keeper sid
+          own_in given takes bytes);
+      flies = number-taken_flies s g before store h.id now (doing_of d) busy_in segment next_in started (ap stage_of at)
+          keeper sid own_in given takes bytes;
+      put = omega arith;
+    }
 
-refused_require : (b : Bool) (fault said : Fault) → require b fault ≡ Err said → (b ≡ false) × (fault ≡ said)
-refused_require true fault said e = absurd (cc e)
-refused_require false fault said e =
-    (refl, (let same : ◌≡◌ {A = Result (Unit {0}) Fault} (Err fault) (Err said) = e in cc))
+    refused_in : (fault : TxFault) → TakesNumber sid before.keeper keeper (Err fault)
+        → UnmadeLeads now h d before numbered Quiet fault s g
+    refused_in (Refused fault) takes = record {
+      request = subst (λ (n : ℕ). Request s g g before numbered h.id now n 0 (Quiet ∷ Answered (ToldRefused fault) ∷ [])
+          (Done (RefusedReply fault)) s.tree (after_told d.op (ToldRefused fault) (s.clients h.id)) s.copied)
+          (sym none_yet)
+          (number-refused s g before store h.id now (doing_of d) busy_in segment next_in started (ap stage_of at) keeper
+          sid own_in fault takes);
+      calm = number-calm s g before store h.id now (doing_of d) busy_in segment next_in started (ap stage_of at) keeper
+          sid own_in fault takes;
+    }
+    refused_in (Moved list) takes =
+        number-never_moved s g before store h.id now (doing_of d) busy_in segment next_in started (ap stage_of at) keeper
+        sid own_in list takes
+    refused_in (OfRows (Bad row bad)) takes =
+        number-never_bad s g before store h.id now (doing_of d) busy_in segment next_in started (ap stage_of at) keeper
+        sid own_in row bad takes
+    refused_in (OfRows Failed) takes = tt
+    refused_in (OfRows Memory) takes = tt
 
-abbrev pub session_is : ℕ → Tree → Result (Unit {0}) Fault
-session_is sid t = require (is_some (get t.sessions sid)) (Stale (Session sid))
+  asks_number : (given : ℕ) → TakesNumber sid before.keeper keeper (Ok given) → 0 < given
+      → Makes now entry h (record h { doing = Some (moved_to (Working 1 0 given) d) }) before numbered (AsksFor Quiet)
+  asks_number given takes low =
+      asks now entry h d before numbered segment 0 started id 0 given busy ready next at (omega arith) low
+      (uses-keeper before keeper (AsksFor Quiet) takes.opened_at takes.counts (refl, refl, refl) (λ asks. absurd (cc asks))
+      tt)
+      (λ s g count store holds is. takes_in s g store is given takes)
 
--- the model's client has the session of the one in memory
-pub session-same : {m : ModelClient} {count : ℕ} {files : FilesValue} {h : ClientValue} → IsHeld m count files h
-    → session_of m ≡ session_here h
-session-same held = ap (λ (o : Option ℕ). unwrap_or o 0) held.session
+  refuses_number : (after : ClientValue) (fault : TxFault) (done : Made)
+      → TakesNumber sid before.keeper keeper (Err fault) → EndsUnmade Quiet fault h after done
+      → Makes now entry h after before numbered done
+  refuses_number after fault done takes ends =
+      unmade now entry h after d before keeper busy ready Quiet fault done
+      (not_taken sid before.keeper keeper fault takes) ends
+      (λ s g count store holds is. refused_in s g store is fault takes)
 
-pub session-by : {m : ModelClient} {count : ℕ} {files : FilesValue} {h : ClientValue} → IsHeld m count files h
-    → (t : Tree) (b : Bool) → is_some (get t.sessions (session_here h)) ≡ b → has_session t m ≡ b
-session-by held t b e = ap (λ sid. is_some (get t.sessions sid)) (session-same held) ∙ e
-
-module _ (h : ClientValue) (files : FilesValue) (keeper later : Store) (s : State)
-    (has : HasStore s.tree (shared files keeper))
-    (is : IsClient (s.clients h.id) s.count files h) where
-  session-there : Looks keeper later (Ok tt) (session_is (session_here h)) → has_session s.tree (s.clients h.id) ≡ true
-  session-there looks =
-      let agrees = subst (λ t. session_is (session_here h) t ≡ Ok tt) (sym has.tree)
-      (looks.agrees has.known has.is has.whole has.bytes) in
-      session-by is.held s.tree true (required (is_some (get (s.tree).sessions (session_here h)))
-      (Stale (Session (session_here h))) tt agrees)
-
-  session-refused : (said : Fault) → Looks keeper later (Err (TxRefused said)) (session_is (session_here h))
-      → (has_session s.tree (s.clients h.id) ≡ false) × (said ≡ Stale (Session (session_here h)))
-  session-refused said looks =
-      let agrees = subst (λ t. session_is (session_here h) t ≡ Err said) (sym has.tree)
-      (looks.agrees has.known has.is has.whole has.bytes) in
-      let refused = refused_require (is_some (get (s.tree).sessions (session_here h)))
-      (Stale (Session (session_here h))) said agrees in
-      (session-by is.held s.tree false refused.0, sym refused.1)
-
--- the keeper as it was
-store-same : (before later : Store) → later.rows ≡ before.rows → later.opened ≡ before.opened
-    → later.faults ≡ before.faults → later ≡ before
-store-same before later rows opened faults = λ i. record { rows = rows i; opened = opened i; faults = faults i }
-
--- a client that asks for the number of its next segment
-module _ (h : ClientValue) (d : Doing) (files : FilesValue) (keeper later : Store) (segment : Segment)
-    (started now entry : ℕ) (busy : h.doing ≡ Some d) (ready : IsReady h)
-    (next : left h ≡ Some segment) (at : d.progress ≡ progress.Working 0 started) where
-  abbrev v : Shared
-  v = shared files keeper
-
-  abbrev grown : Shared
-  grown = shared files later
-
-  asks_number : Looks keeper later (Ok tt) (session_is (session_here h))
-      → Makes now entry h (record h { doing = Some (moved_to (progress.Working 1 0) d) }) v grown (made.Request Quiet)
-  asks_number looks =
-      makes_as refl (ap (shared files) (store-same keeper later looks.rows_are looks.opened_at looks.counts)) refl
-      (asks h d v segment 0 started 1 0 now busy ready next at refl (lit≤ tt)
-      (λ s has is. flushing-first s (s.clients h.id) now started (session-there h files keeper later s has is looks))
-      entry)
-
-  module _ (fault : TxFault) (looks : Looks keeper later (Err fault) (session_is (session_here h))) where
-    refusal-leads : RefusedLeads now entry h v grown Quiet fault
-    refusal-leads said same s number has holds is =
-        let m = s.clients h.id in
-        let none = not_looked keeper later fault (session_is (session_here h)) looks in
-        let refused = session-refused h files keeper later s has is said
-        (subst (λ f. Looks keeper later (Err f) (session_is (session_here h))) same looks) in
-        let gone : said ≡ Stale (Session (session_of m)) = refused.1
-        ∙ ap (λ sid. Stale (Session sid)) (sym (session-same is.held)) in
-        let first = next-same m s.count files h d (Some segment) is.held (left-is h d busy (Some segment) next) in
-        let stage = flush-quiet s h.id now (doing_of d) 0 started segment (ap stage_of at) first
-        ∙ flushing-gone s m now started refused.0 in
-        let leads : (said : Fault) → said ≡ Stale (Session (session_of m))
-        → StepsTo s h.id now (Quiet ∷ Answered (ToldRefused said) ∷ []) (Done (Refused said))
-        (refused_here said h) grown =
-        λ said same. subst (λ f. StepsTo s h.id now (Quiet ∷ Answered (ToldRefused f) ∷ []) (Done (Refused f))
-        (refused_here f h) grown) (sym same)
-        (refused-leads s h d v grown now (Stale (Session (session_of m))) (Replying (session_gone m)) busy is
-        (has_store-same has none.rows_are (λ inode. refl)) holds (grows-same files)
-        (λ start. asks-quietly s h.id now (doing_of d) 0 started segment (ap stage_of at) first start) stage
-        refl refl refl refl (λ start alone. Settles (session_gone m) refl refl)) in
-        leads said gone
-
-    refuses_number : (after : ClientValue) (outcome : Made) → EndsUnmade Quiet fault h after outcome
-        → Makes now entry h after v grown outcome
-    refuses_number after outcome ends =
-        unmade now entry h after d v grown Quiet fault outcome busy ready (λ inode. refl)
-        (not_looked keeper later fault (session_is (session_here h)) looks) ends
-        (λ s number has holds is. plain-looked keeper later fault
-        (session_is (session_here h)) looks has.known has.is has.whole) refusal-leads
-
--- the same, as the code has it
-
-module _ (h after : ClientValue) (files : FilesValue) (keeper later : Store) (sid started now entry : ℕ)
-    (outcome : Made) (ready : IsReady h)
-    (at : progress_of h.doing ≡ Some (progress.Working 0 started)) (next : IsSome (left h))
+-- The request for it, by what the transaction came to.
+module _ (now entry : ℕ) (h after : ClientValue) (before : Shared) (keeper : Store) (sid started id : ℕ) (done : Made)
+    (ready : IsReady h) (at : progress_of h.doing ≡ Some (Working 0 started id)) (next : IsSome (left h))
     (own : sid ≡ session_here h) where
-  pub number_asked : Looks keeper later (Ok tt) (session_is sid)
-      → after ≡ record h { doing = option_map (moved_to (progress.Working 1 0)) h.doing } → outcome ≡ made.Request Quiet
-      → Makes now entry h after (shared files keeper) (shared files later) outcome
-  number_asked looks then_is made_is =
-      let d = in_progress h.doing (progress.Working 0 started) at in
+  pub number-asked : (given : ℕ) → TakesNumber sid before.keeper keeper (Ok given) → 0 < given
+      → after ≡ record h { doing = option_map (moved_to (Working 1 0 given)) h.doing } → done ≡ AsksFor Quiet
+      → Makes now entry h after before (record before { keeper = keeper }) done
+  number-asked given takes low after_is done_is =
+      let d = in_progress h.doing (Working 0 started id) at in
       let segment = the_some (left h) next in
-      makes_as (then_is ∙ ap (λ o. record h { doing = option_map (moved_to (progress.Working 1 0)) o }) d.1)
-      refl made_is
-      (asks_number h d.0 files keeper later segment.0 started now entry d.1 ready segment.1 d.2
-      (subst (λ sid. Looks keeper later (Ok tt) (session_is sid)) own looks))
+      makes-as now entry h after (record h { doing = Some (moved_to (Working 1 0 given) d.0) }) before
+      (record before { keeper = keeper }) (record before { keeper = keeper }) done (AsksFor Quiet)
+      (after_is
+      ∙ ap (λ (o : Option Doing). record h { doing = option_map (moved_to (Working 1 0 given)) o }) d.1) refl done_is
+      (asks_number now entry h d.0 before keeper segment.0 sid started id d.1 ready segment.1 d.2 own given takes low)
 
-  pub number_refused : (fault : TxFault) → Looks keeper later (Err fault) (session_is sid)
-      → EndsUnmade Quiet fault h after outcome
-      → Makes now entry h after (shared files keeper) (shared files later) outcome
-  number_refused fault looks ends =
-      let d = in_progress h.doing (progress.Working 0 started) at in
+  pub number-unmade : (fault : TxFault) → TakesNumber sid before.keeper keeper (Err fault)
+      → EndsUnmade Quiet fault h after done
+      → Makes now entry h after before (record before { keeper = keeper }) done
+  number-unmade fault takes ends =
+      let d = in_progress h.doing (Working 0 started id) at in
       let segment = the_some (left h) next in
-      refuses_number h d.0 files keeper later segment.0 started now entry d.1 ready segment.1 d.2 fault
-      (subst (λ sid. Looks keeper later (Err fault) (session_is sid)) own looks) after outcome ends
-
--- asks for a segment's block
-pub block_asked : (h end : ClientValue) (v : Shared) (segment : Segment) (started now entry : ℕ) (outcome : Made)
-    → IsReady h → left h ≡ Some segment
-    → progress_of h.doing ≡ Some (progress.Working 1 started)
-    → end ≡ record h { doing = option_map (moved_to (progress.Working 2 now)) h.doing } → outcome ≡ made.Request Quiet
-    → Makes now entry h end v v outcome
-block_asked h end v segment started now entry outcome ready next at then_is made_is =
-    let d = in_progress h.doing (progress.Working 1 started) at in
-    makes_as (then_is ∙ ap (λ o. record h { doing = option_map (moved_to (progress.Working 2 now)) o }) d.1)
-    refl made_is
-    (asks h d.0 v segment 1 started 2 now now d.1 ready next d.2 refl (lit≤ tt) (λ s has is. refl) entry)
+      refuses_number now entry h d.0 before keeper segment.0 sid started id d.1 ready segment.1 d.2 own after fault done
+      takes ends

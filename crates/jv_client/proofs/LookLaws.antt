@@ -1,436 +1,330 @@
--- A reading looks at its file: it goes on where it sees a byte that it asks for, and else is answered. Where its
--- session or its file is gone, the look is refused.
-use Rattle.std.proofs.Common.{◌≡◌, ℕ, ◌+◌, ◌*◌, ◌≤◌, ◌<◌, Bool, true, false, ◌||◌, not, List, [], ◌∷◌, length}
-use Rattle.std.proofs.Common.{Option, None, Some, Result, Err, refl, sym, ap, subst, ◌∙◌, arith, lt-ltb}
-use Rattle.std.specs.Prelude.{is_some, nat_lt, if◌then◌else◌, IfSome, IsTrue, unwrap_or}
+-- A reading looks at a window: it goes on with the view, it is answered, it is refused since the session or the file is gone, or the look
+-- failed.
+use Rattle.std.proofs.Common.{◌≡◌, ◌≢◌, ℕ, ◌+◌, ◌≤◌, ◌<◌, false, true, List, [], ◌∷◌, length, Option, None, Some, Ok, Err, refl, sym, ap}
+use Rattle.std.proofs.Common.{subst, ◌∙◌, arith, eq-eqb}
+use Rattle.std.specs.Prelude.{is_some, unwrap_or, IsTrue, if◌then◌else◌}
+use Rattle.std.specs.List.{AllByRecursion}
 use Rattle.std.specs.Option.{option_map}
-use Rattle.std.proofs.lemmas.Bool.{or_right}
-use Rattle.jv_model.specs.declared.act.ActKind.TheVariants.{Look, Quiet, Answered}
-use Rattle.jv_model.specs.declared.act.Told.{Told}
-use Rattle.jv_model.specs.declared.act.Told.TheVariants.{Looks, Refused as ToldRefused}
-use Rattle.jv_model.specs.declared.fault.Fault.{Fault}
-use Rattle.jv_model.specs.declared.fault.Fault.TheVariants.{Stale}
-use Rattle.jv_model.specs.declared.fault.Gone.TheVariants.{Session, Node as GoneNode}
-use Rattle.jv_model.specs.declared.fault.TxFault.{TxFault}
-use Rattle.jv_model.specs.declared.fault.TxFault.TheVariants.{Refused as RefusedBy}
-use Rattle.jv_model.specs.declared.op.Reply.{Reply}
-use Rattle.jv_model.specs.declared.op.Reply.TheVariants.{Data, Refused}
-use Rattle.jv_model.specs.declared.op.Step.TheVariants.{Done}
-use Rattle.jv_model.specs.declared.profile.Does.TheVariants as does
-use Rattle.jv_model.specs.FiniteMap.{get}
-use Rattle.jv_model.specs.tree.Tree.{Tree, Node, File, Directory, Symlink, Content, content_at, content_of, node_at}
+use Rattle.jv_model.specs.declared.act.ActKind.TheVariants.{Answered, Look}
+use Rattle.jv_model.specs.declared.fault.Device.{Device}
+use Rattle.jv_model.specs.declared.fault.Device.TheVariants.{Keeper, Depot, Shelf, Carrier}
+use Rattle.jv_model.specs.declared.op.Reply.TheVariants.{Data}
+use Rattle.jv_model.specs.declared.op.Step.TheVariants.{More, Done}
+use Rattle.jv_model.specs.client.ModelClient.{ModelClient, OpenFile, Doing as ModelDoing, View as ModelView, Reading as ModelReading, file_of, session_of, with_file}
 use Rattle.jv_model.specs.client.Profile.{handle_of}
-use Rattle.jv_model.specs.client.ModelClient.{ModelClient, OpenFile, Doing as ModelDoing, Stage}
-use Rattle.jv_model.specs.client.ModelClient.{Reading as ModelReading, Replying, OfFiles, file_of, with_file}
-use Rattle.jv_model.specs.client.ModelClient.{inode_in, inode_at, session_of}
-use Rattle.jv_model.specs.client.Submission.{is_flushed}
-use Rattle.jv_model.specs.journal.Reading.{asked_parts, fresh_view, reading}
-use Rattle.jv_model.specs.journal.State.{State, after_told, flushing_on, has_session, look_refusal, quieted}
-use Rattle.jv_model.specs.journal.State.{refused_look, sees_first, session_gone, view_now}
-use Rattle.jv_model.specs.journal.Steps.{Start, ReadsViews, Settles, is_failure, may_be_quiet}
-use Rattle.jv_model.specs.journal.Stepping.{stepped}
-use Rattle.jv_model.specs.journal.Past.{or_no_bytes}
+use Rattle.jv_model.specs.journal.Reading.{Asked, asked_parts, part_to_look}
+use Rattle.jv_model.specs.journal.State.{State, after_told, view_now}
+use Rattle.jv_model.specs.journal.Steps.{file_in_use, window_to_look}
+use Rattle.jv_model.specs.tree.Tree.{Content, Tree}
 use Rattle.jv_outside.specs.Causes.{RoseIf}
 use Rattle.jv_outside.specs.Store.{Store}
-use Rattle.jv_rows.specs.Transactions.{Looks as LooksAtRows}
-use Rattle.jv_data.specs.Committing.{length_seen}
-use Rattle.jv_volume.specs.Shape.{Regular, form_of, is_there}
-use Rattle.jv_volume.specs.Holding.{IsHoldable, Stays}
-use Rattle.jv_files.specs.declared.files.Seen.{Seen}
-use Rattle.jv_files.specs.Stored.{FilesValue, segments_at}
-use Rattle.jv_files.proofs.GrowthLaws.{grows-same}
+use Rattle.jv_cache.specs.Cached.{Cached}
+use Rattle.jv_contents.specs.Blocks.{Blocks, told_by}
+use Rattle.jv_data.specs.declared.looking.View.{View as Looked}
+use Rattle.jv_data.specs.Records.{LooksAt}
+use Rattle.jv_shared.specs.Keeping.{HoldsSame, KeepsShared}
+use Rattle.jv_shared.specs.Seen.{IsView}
+use Rattle.jv_shared.specs.Shared.{HasStore, Known, Shared}
+use Rattle.jv_shared.proofs.SameLaws.{same-stays}
+use Rattle.jv_handles.specs.declared.handle.Handle.{Handle}
+use Rattle.jv_handles.specs.declared.views.View.{View}
+use Rattle.jv_handles.specs.Handles.{seen_by}
+use Rattle.jv_handles.specs.Held.{IsHandle}
+use Rattle.jv_handles.specs.Views.{SeenViews, view_at, with_view}
+use Rattle.jv_handles.proofs.TableLaws.{file_of-with_file}
+use Rattle.jv_handles.proofs.HandleLaws.{handle-looked, handle-stays, handles-looked}
+use Rattle.jv_handles.proofs.SeenLaws.{view_at-own, views-later}
+use Rattle.jv_fetching.specs.declared.need.Need.{Need}
+use Rattle.jv_fetching.specs.declared.need.Need.TheVariants.{Look as NeedsLook, Nothing}
+use Rattle.jv_fetching.specs.Calls.{HasCached, IsCacheOf, LooksUp, Wants, first_seen, first_unseen}
+use Rattle.jv_fetching.specs.Fetching.{Fetching, fetch_left}
+use Rattle.jv_fetching.specs.Going.{CanFetch, IsFetching}
+use Rattle.jv_fetching.specs.Shows.{IsReadBy, window_needed}
+use Rattle.jv_fetching.proofs.FetchLaws.{fetches_go_on}
+use Rattle.jv_fetching.proofs.SameLaws.{fetches_show}
+use Rattle.jv_steps.specs.Stages.{MayRead}
+use Rattle.jv_steps.specs.IsStep.{at_stage}
+use Rattle.jv_steps.proofs.LookStepLaws.{window-needed}
+use Rattle.jv_requests.specs.Request.{Request}
+use Rattle.jv_requests.proofs.LookLaws.{look-answered, look-request, look-shows, looked-content, looked-still}
 use Rattle.jv_client.specs.declared.doing.Doing.{Doing}
-use Rattle.jv_client.specs.declared.doing.Progress.{Progress}
-use Rattle.jv_client.specs.declared.doing.Progress.TheVariants.{Working, Reading}
-use Rattle.jv_client.specs.declared.handles.Handle.{Handle}
-use Rattle.jv_client.specs.declared.handles.View.{View}
 use Rattle.jv_client.specs.declared.made.Made.{Made}
-use Rattle.jv_client.specs.declared.made.Made.TheVariants.{Request, Both}
+use Rattle.jv_client.specs.declared.made.Made.TheVariants as made
+use Rattle.jv_client.specs.declared.reading.Found.{Found}
 use Rattle.jv_client.specs.ClientValue.{ClientValue, session_here}
-use Rattle.jv_client.specs.Shared.{HasStore, shared}
-use Rattle.jv_client.specs.Held.{SamePlace, IsView, IsHandle, IsClient, IsDoing, Holds, stage_of}
-use Rattle.jv_client.specs.Ending.{refused_here}
-use Rattle.jv_client.specs.UnderWay.{IsAt, IsReady, Reads, Flushes, asks_more, does_of, has_segment, left, moved_to}
-use Rattle.jv_client.specs.UnderWay.{seen_by, shows_from, steps_of, view_here, view_of}
-use Rattle.jv_client.specs.Transacting.{EndsUnmade}
-use Rattle.jv_client.specs.Makes.{Makes, StepsTo, UsesKeeper, TellsBad, is_keeper_failure, step_of, tells_failure}
-use Rattle.jv_client.proofs.TableLaws.{file_of-with_file, none_in}
-use Rattle.jv_client.proofs.HeldLaws.{held-doing, held-later, holds-doing, stays-same}
-use Rattle.jv_client.proofs.SharedLaws.{has_store-same}
-use Rattle.jv_client.proofs.EndingLaws.{held-told, holds-told}
-use Rattle.jv_client.proofs.StepLaws.{doing_of, is_doing_of, client-doing, client-quiet, tree-quiet, steps_on}
-use Rattle.jv_client.proofs.StepLaws.{steps_after, makes_as}
-use Rattle.jv_client.proofs.FormLaws.{no_quiets, that_does}
-use Rattle.jv_client.proofs.AnswerLaws.{refused-rests}
-use Rattle.jv_client.proofs.WriteLaws.{names-held}
-use Rattle.jv_client.proofs.UnmadeLaws.{not_looked, plain-looked, unmade}
-use Rattle.jv_client.proofs.ReadingLaws.{IsAtFile, HasSeen, HasLooked, NotSeen, SessionGone, FileGone, agrees_in}
-use Rattle.jv_client.proofs.ReadingLaws.{at_file, flushed_in, has_looked, looked_client, looking, no_bytes, not_seen}
-use Rattle.jv_client.proofs.ReadingLaws.{opened_in, reader, reading-cited, reading_on, sees-window, with_view}
+use Rattle.jv_client.specs.Held.{Holds, IsClient, IsHeld, in_flight}
+use Rattle.jv_client.specs.Makes.{Makes, StepsTo, TellsBad, UsesDevices, faults_of, step_of, tells_failure}
+use Rattle.jv_client.specs.Reading.{GoesAhead, read_of, told_read}
+use Rattle.jv_client.proofs.EndingLaws.{holds-told, keeps_bytes}
+use Rattle.jv_client.proofs.HeldLaws.{doing_of}
+use Rattle.jv_client.proofs.KeptLaws.{cache-goes, held-goes}
+use Rattle.jv_client.proofs.ReaderLaws.{IsAsking, busy_in, file_by, handle_in, may_read, none_flying, opened_in}
+use Rattle.jv_client.proofs.GoneOnLaws.{client-on, client-over, falls-on, going_on, none-kept, over, reading-is, ready-on}
 
--- a look that went well
+-- ---- devices
 
-module _ (now handle offset len started : ℕ) (moved : Bool) (h : ClientValue) (files : FilesValue)
-    (before after : Store) (file : Handle) (view : View)
-    (at : IsAtFile h handle offset len file (Working 0 started) moved) (none : file.view ≡ None)
-    (seen : HasSeen (session_here h) files before after file.inode view) where
-  -- the operation of the model before it
-  abbrev first : ModelDoing
-  first = doing_of (reader handle offset len file.inode (Working 0 started) moved)
+-- the keeper was read, and nothing was asked of others
+pub uses-look : (done : Made) (before : Shared) (keeper : Store) → ((device : Device) → tells_failure device done ≡ false)
+    → keeper.rows ≡ before.keeper.rows → keeper.opened ≡ before.keeper.opened → keeper.faults ≡ before.keeper.faults
+    → TellsBad before (step_of done) → UsesDevices done before (record before { keeper = keeper })
+uses-look done before keeper fine rows opened faults bad = record {
+  keeper_at = opened;
+  carrier_at = refl;
+  depot_at = refl;
+  shelf_at = refl;
+  setting = refl;
+  last = refl;
+  counts = λ device. subst (λ b. RoseIf b (faults_of device before) (faults_of device (record before { keeper = keeper })))
+      (sym (fine device)) (by_device device);
+  rows = λ asks. rows;
+  objects = λ asks. refl;
+  blocks = refl;
+  bad = bad;
+}
+  where
+    by_device : (device : Device) → faults_of device (record before { keeper = keeper }) ≡ faults_of device before
+    by_device Keeper = faults
+    by_device Depot = refl
+    by_device Shelf = refl
+    by_device Carrier = refl
 
-  -- the model's client after it
-  abbrev looked : State → ModelClient
-  looked s = looked_client s handle file.inode first (s.clients h.id)
+-- ---- a window is seen
 
-  -- the keeper and the tree are as before
-  uses-look : (done : Made) → tells_failure done ≡ false → TellsBad before (step_of done) → UsesKeeper done before after
-  uses-look done fine bad = record {
-    opened_at = seen.looks.opened_at;
-    counts = subst (λ b. RoseIf b before.faults after.faults) (sym fine) seen.looks.counts;
-    still = λ asks. seen.looks.rows_are;
-    bad = bad;
+-- the view that the handle is given
+abbrev pub view_of : ℕ → Looked → View
+view_of entry view = record { entry = entry; length = view.length; list = view.list }
+
+-- the handle with it, and the table
+abbrev pub seen_handle : ℕ → View → Handle → Handle
+seen_handle window view file = record file { views = with_view window view file.views }
+
+abbrev pub seen_handles : ℕ → ℕ → View → List (Option Handle) → List (Option Handle)
+seen_handles handle window view handles = with_file handle (seen_by window view (file_of handles handle)) handles
+
+pub seen_opened : (handle window : ℕ) (view : View) (handles : List (Option Handle)) (file : Handle)
+    → file_of handles handle ≡ Some file
+    → file_of (seen_handles handle window view handles) handle ≡ Some (seen_handle window view file)
+seen_opened handle window view handles file opened =
+    ap (λ o. file_of (with_file handle (seen_by window view o) handles) handle) opened
+    ∙ file_of-with_file handles handle file (Some (seen_handle window view file)) opened
+
+-- the window that is looked at wasn't seen
+pub not_seen : (views : SeenViews) (parts : List Asked) (window : ℕ) → first_unseen views parts window
+    → view_at views window ≡ None
+not_seen views [] window h = absurd h
+not_seen views (asked ∷ others) window h = ap (view_at views) (sym h.0) ∙ h.1
+
+-- and is seen then
+then_seen : (views : SeenViews) (parts : List Asked) (window : ℕ) (view : View) → first_unseen views parts window
+    → first_seen (with_view window view views) parts
+then_seen views [] window view h = absurd h
+then_seen views (asked ∷ others) window view h =
+    ap is_some (ap (view_at (with_view window view views)) h.0 ∙ view_at-own window view views)
+
+-- ---- a look that went well
+
+module _ (now entry block : ℕ) (h : ClientValue) (d : Doing) (offset len : ℕ) (cache : Cached) (fetch : Fetching)
+    (window : ℕ) (asks : IsAsking block h d offset len cache fetch (NeedsLook window)) (before : Shared)
+    (length_is : before.yard.setting.block ≡ block) (keeper : Store) (looked : Looked)
+    (looks : LooksAt (session_here h) asks.reads.file.inode window before.keeper keeper (Ok looked)) where
+  abbrev handle : ℕ
+  handle = handle_of d.op
+
+  abbrev file : Handle
+  file = asks.reads.file
+
+  abbrev view : View
+  view = view_of entry looked
+
+  abbrev handles : List (Option Handle)
+  handles = seen_handles handle window view h.handles
+
+  abbrev seen : Handle
+  seen = seen_handle window view file
+
+  abbrev used : Shared
+  used = record before { keeper = keeper }
+
+  opened : file_of handles handle ≡ Some seen
+  opened = seen_opened handle window view h.handles file asks.reads.opened
+
+  unseen : view_at file.views window ≡ None
+  unseen = not_seen file.views fetch.parts window asks.wants.1
+
+  pub can-seen : CanFetch seen.views fetch
+  can-seen = fetches_go_on.can_seen file.views fetch window view unseen asks.can
+
+  -- it makes fewer requests than before
+  fewer-seen : (f : Fetching) (goes : GoesAhead seen.views cache fetch f) → fetch_left f < fetch_left fetch
+  fewer-seen f goes = goes.fewer asks.wants.0 (then_seen file.views fetch.parts window view asks.wants.1)
+
+  module _ (s : State) (g : Known) (number : s.count + 1 ≡ entry) (has : HasStore s.tree g before)
+      (holds : Holds s.tree (s.clients h.id)) (client : IsClient g before (s.clients h.id) s.count h) where
+    abbrev m : ModelClient
+    m = s.clients h.id
+
+    abbrev md : ModelDoing
+    md = doing_of d
+
+    abbrev taken : ModelView
+    taken = view_now s handle file.inode window
+
+    busy : m.doing ≡ Some md
+    busy = busy_in h d asks.busy asks.at asks.none offset len asks.reads g before m s.count client
+
+    may : MayRead m md 0
+    may = may_read h d asks.busy asks.at asks.none offset len asks.reads g before m s.count client
+
+    in_use : file_in_use m md ≡ Some (file_by file)
+    in_use = opened_in h d asks.busy asks.at asks.none offset len asks.reads g before m s.count client
+
+    named : IsHandle g before m.views s.count handle (file_by file) file
+    named = handle_in h d asks.busy asks.at asks.none offset len asks.reads g before m s.count client
+
+    fetching : IsFetching g.blocks file.views (asked_parts offset len) fetch
+    fetching = (asks.goes g before m s.count length_is client).1
+
+    in_rows : LooksAt (session_of m) file.inode window before.keeper keeper (Ok looked)
+    in_rows = subst (λ (o : Option ℕ). LooksAt (unwrap_or o 0) file.inode window before.keeper keeper (Ok looked))
+        (sym client.held.session) looks
+
+    -- the model looks at the same window
+    to_look : window_to_look m md (file_by file) ≡ Some window
+    to_look =
+        window-needed m md 0 offset len asks.does may (file_by file)
+        ∙ sym (fetches_show.same_look g before m.views s.count handle (file_by file) file (asked_parts offset len) named)
+        ∙ fetches_show.look g.blocks file.views (asked_parts offset len) fetch window asks.wants fetching
+
+    still : HoldsSame before used
+    still = looked-still s h.id now md busy offset len asks.does 0 may (file_by file) in_use window to_look g before has
+        keeper 0 (Ok looked) in_rows
+
+    stays : KeepsShared 0 g g before used
+    stays = same-stays 0 g before used still
+
+    shown : IsView g used window looked.length looked.list taken.content
+    shown =
+        subst (IsView g used window looked.length looked.list)
+        (sym (looked-content s h.id now md busy offset len asks.does 0 may (file_by file) in_use window to_look g before
+        has keeper 0 looked in_rows))
+        (look-shows s h.id now md busy offset len asks.does 0 may (file_by file) in_use window to_look g before has
+        keeper 0 looked in_rows)
+
+    -- ---- the client in memory stands for the model's then
+
+    views_old : AllByRecursion (λ (view : ModelView). view.entry ≤ s.count + 1) (taken ∷ m.views)
+    views_old = (omega arith, views-later s.count (s.count + 1) m.views (omega arith) client.held.views)
+
+    held : IsHeld g used (record m { views = taken ∷ m.views }) (s.count + 1) (record h { handles = handles })
+    held =
+        let goes = held-goes s.tree g before has 0 g used stays m s.count s.count h (omega arith) client.held in
+        record {
+          session = goes.session;
+          direct = goes.direct;
+          removed = goes.removed;
+          handles = handles-looked g used m.views s.count taken view number (sym number) shown m.handles h.handles
+              (file_by file) in_use refl goes.handles;
+          views = views_old;
+          pending = goes.pending;
+        }
+
+    named_then : IsHandle g used (taken ∷ m.views) (s.count + 1) handle (file_by file) seen
+    named_then =
+        handle-looked g used m.views s.count taken view number (sym number) shown handle (file_by file) file refl refl
+        (handle-stays s.tree g before has 0 g used stays m.views s.count s.count (omega arith) handle (file_by file) file
+        named)
+
+    cached : IsCacheOf g.sizes used.yard.setting.block g.blocks cache
+    cached = (asks.goes g before m s.count length_is client).2
+
+    fetching_then : IsFetching g.blocks seen.views (asked_parts offset len) fetch
+    fetching_then = fetches_go_on.seen g.blocks file.views (asked_parts offset len) fetch window view unseen fetching
+
+    own_block : fetch.block ≡ used.yard.setting.block
+    own_block = (asks.goes g before m s.count length_is client).0
+
+    holds_then : Holds s.tree (record m { views = taken ∷ m.views })
+    holds_then = record { opened = holds.opened; pending = holds.pending }
+
+    idle : in_flight h ≡ 0
+    idle = none_flying h d asks.busy asks.at asks.none
+
+    module _ (later : Cached) (looks_up : LooksUp cache later) where
+      leads-on : (f : Fetching) (need : Need) → GoesAhead seen.views cache fetch f
+          → StepsTo s g before h now (Look file.inode window ∷ []) More (going_on handles later f need d h) used
+      leads-on f need goes = record {
+        learned = g;
+        tree = s.tree;
+        model = at_stage (ModelReading 0) md (record m { views = taken ∷ m.views });
+        copied = s.copied;
+        request = subst
+            (λ n. Request s g g before used h.id now (in_flight h) n (Look file.inode window ∷ []) More s.tree
+            (at_stage (ModelReading 0) md (record m { views = taken ∷ m.views })) s.copied) idle
+            (look-request s h.id now md busy offset len asks.does 0 may (file_by file) in_use window to_look g before has
+            keeper (in_flight h) looked in_rows);
+        is_client = client-on block h d offset len cache fetch (NeedsLook window) asks handles seen opened refl g used
+            (record m { views = taken ∷ m.views }) (s.count + 1) held named_then cache cached later looks_up fetch
+            own_block fetching_then f need goes;
+        no_failure = tt;
+        holds = record { opened = holds.opened; pending = holds.pending };
+      }
+
+      leads-over : (found : Found)
+          → ((blocks : Blocks) (all : List Asked) → HasCached blocks seen.views fetch.block cache
+          → IsFetching blocks seen.views all fetch
+          → IsReadBy (told_by fetch.block blocks) seen.views all (read_of found))
+          → StepsTo s g before h now (Look file.inode window ∷ Answered (told_read found) ∷ []) (Done (Data found.bytes))
+          (over handles later h) used
+      leads-over found read = record {
+        learned = g;
+        tree = s.tree;
+        model = after_told d.op (told_read found) (record m { views = taken ∷ m.views });
+        copied = s.copied;
+        request = subst
+            (λ n. Request s g g before used h.id now (in_flight h) n
+            (Look file.inode window ∷ Answered (told_read found) ∷ []) (Done (Data found.bytes)) s.tree
+            (after_told d.op (told_read found) (record m { views = taken ∷ m.views })) s.copied) idle
+            (look-answered s h.id now md busy offset len asks.does 0 may (file_by file) in_use window to_look g before
+            has keeper (in_flight h) looked in_rows found.first found.second found.bytes
+            (reading-is block h d offset len cache fetch (NeedsLook window) asks handles seen opened refl g used
+            (record m { views = taken ∷ m.views }) (s.count + 1) held named_then cache cached later looks_up fetch
+            own_block fetching_then found read));
+        is_client = client-over block h d offset len cache fetch (NeedsLook window) asks handles seen opened refl g used
+            (record m { views = taken ∷ m.views }) (s.count + 1) held named_then cache cached later looks_up
+            (s.count + 2) (omega arith) found;
+        no_failure = λ device. refl;
+        holds = holds-told d.op (told_read found) s.tree (record m { views = taken ∷ m.views })
+            (none-kept d.op handle offset len asks.reads.op_is found.first found.second (length found.bytes)) holds_then;
+      }
+
+  -- it goes on
+  pub look-on : (later : Cached) → LooksUp cache later → (f : Fetching) (need : Need)
+      → GoesAhead seen.views cache fetch f → Wants seen.views f need → need ≢ Nothing
+      → Makes now entry h (going_on handles later f need d h) before used (made.Request (Look file.inode window))
+  look-on later looks_up f need goes wants more = record {
+    id = refl;
+    limits = refl;
+    ready = ready-on block h d offset len cache fetch (NeedsLook window) asks handles seen opened refl later f need
+        (goes.can can-seen) wants more;
+    devices = uses-look (made.Request (Look file.inode window)) before keeper (λ device. refl) looks.looks.rows_are
+        looks.looks.opened_at looks.looks.counts tt;
+    falls = (falls-on block h d offset len cache fetch (NeedsLook window) asks handles seen opened refl later f need
+        (goes.can can-seen) wants more (fewer-seen f goes), refl);
+    leads = λ s g number has holds client. leads-on s g number has holds client later looks_up f need goes;
   }
 
-  module _ (s : State) (entry : s.count + 1 ≡ view.entry) (has : HasStore s.tree (shared files before))
-      (holds : Holds s.tree (s.clients h.id)) (client : IsClient (s.clients h.id) s.count files h) where
-    seen-in : HasLooked s h files now handle offset len started moved file view
-    seen-in =
-        has_looked s h files before after now handle offset len started moved file view at none seen entry has client
-
-    look-store : HasStore (stepped s h.id now (Look file.inode 0)).tree (shared files after)
-    look-store = subst (λ t. HasStore t (shared files after)) (sym seen-in.tree)
-        (has_store-same has seen.looks.rows_are (λ inode. refl))
-
-    look-stays : Stays s.tree (stepped s h.id now (Look file.inode 0)).tree
-    look-stays = subst (Stays s.tree) (sym seen-in.tree) (stays-same s.tree)
-
-    look-holds : (doing : Option ModelDoing)
-        → Holds (stepped s h.id now (Look file.inode 0)).tree (record (looked s) { doing = doing })
-    look-holds doing = subst (λ t. Holds t (record (looked s) { doing = doing })) (sym seen-in.tree)
-        (record { opened = holds.opened; pending = holds.pending })
-
-  -- its file has a byte that is asked for
-  pub look_more : nat_lt offset view.seen.length ≡ true
-      → Makes now view.entry h (with_view handle file view (Some (reader handle offset len file.inode Reading true)) h)
-      (shared files before) (shared files after) (Request (Look file.inode 0))
-  look_more some =
-      let d = reader handle offset len file.inode Reading true in
-      let end = with_view handle file view (Some d) h in
-      let given = file_of-with_file h.handles handle file (Some (record file { view = Some view })) at.opened in
-      let asks : asks_more end d ≡ true = ap (λ o. shows_from offset (view_of o)) given ∙ some in
-      record {
-        id = refl;
-        limits = refl;
-        ready = record {
-          form = Flushes handle (record file { view = Some view }) (Reads offset len refl refl at.some at.short) refl
-              given at.mounted;
-          at = record {
-            read = (offset, len, refl);
-            flushed = at.flushed;
-            reads = asks;
-            seen = ap (λ o. is_some (view_of o)) given;
-          };
-          asks = λ _. or_right (has_segment end d) (asks_more end d) asks;
-        };
-        grows = grows-same files;
-        keeper = uses-look (Request (Look file.inode 0)) refl tt;
-        falls = (
-          (let pending = length h.pending in
-              subst (λ o. 3 * pending + 1 < steps_of pending o) (sym at.busy) (omega arith)),
-          refl,
-        );
-        leads = λ s entry has holds client.
-            let l = seen-in s entry has holds client in
-            steps_on s h.id now (Look file.inode 0) (looked s) end (shared files after) l.allowed refl l.leads refl
-            (look-store s entry has holds client) (look-stays s entry has holds client)
-            (look-holds s entry has holds client (Some (looking first)))
-            (record { held = l.held (Some (looking first)) (Some d); doing = is_doing_of d });
-      }
-
-  -- it has none
-  pub look_none : view.seen.length ≤ offset
-      → Makes now view.entry h (with_view handle file view None h) (shared files before) (shared files after)
-      (Both (Look file.inode 0) (Looks view.entry 0 0) (Data []))
-  look_none past =
-      let end = with_view handle file view None h in
-      record {
-        id = refl;
-        limits = refl;
-        ready = tt;
-        grows = grows-same files;
-        keeper = uses-look (Both (Look file.inode 0) (Looks view.entry 0 0) (Data [])) refl tt;
-        falls = refl;
-        leads = λ s entry has holds client.
-            let c = s.clients h.id in
-            let l = seen-in s entry has holds client in
-            let taken = view_now s handle file.inode 0 in
-            let nothing : reading (taken ∷ c.views) handle l.m (asked_parts offset len) view.entry 0 ≡ Some [] =
-            ap (λ n. reading (taken ∷ c.views) handle l.m (asked_parts offset len) n 0) (sym entry)
-            ∙ reading-cited (taken ∷ c.views) handle l.m offset len taken at.some at.short l.fresh
-            ∙ ap Some (no_bytes view taken (segments_at files file.inode) offset (offset + len) l.taken.shows past) in
-            steps_after s h.id now (Look file.inode 0) (looked s) (looking first) (Looks view.entry 0 0) (Data []) end
-            (shared files after) l.allowed refl l.leads refl refl
-            (record {
-              may = λ start alone. ReadsViews (record {
-                goes_on = refl;
-                file = l.m;
-                opened = l.is;
-                first = view.entry;
-                second = 0;
-                bytes = [];
-                reads = nothing;
-                same = refl;
-              });
-              own = refl;
-              says = ap (λ o. Data (elim o as (λ _. List ℕ) [
-                | None ↦ []
-                | Some file ↦ or_no_bytes (reading (taken ∷ c.views) handle file (asked_parts offset len) view.entry 0)
-              ])) l.is ∙ ap (λ bytes. Data (or_no_bytes bytes)) nothing;
-            })
-            refl
-            (look-store s entry has holds client) (look-stays s entry has holds client)
-            (look-holds s entry has holds client None)
-            (record { held = held-later (grows-same files) (omega arith) (l.held None None); doing = tt });
-      }
-
--- from what is known before the look
-
-unseen_working : (h : ClientValue) (d : Doing) (progress : Progress)
-    → IsAt h d progress → has_segment h d ≡ false → view_here h d ≡ None
-    → (started : ℕ) × (progress ≡ Working 0 started)
-unseen_working h d (Working quiets started) at none unseen =
-    (started, ap (λ n. Working n started) (no_quiets h d quiets at none))
-unseen_working h d Reading at none unseen =
-    absurd (let seen : is_some (view_here h d) ≡ true = at.seen in let no = ap is_some unseen in cc (sym seen ∙ no))
-
-record BeforeLook (h : ClientValue) (handle offset : ℕ) (file : Handle) : Type 0 where
-  len : ℕ
-  started : ℕ
-  moved : Bool
-  at : IsAtFile h handle offset len file (Working 0 started) moved
-
--- a reading by a handle without a view, whose file has nothing pending
-module _ (h : ClientValue) (handle offset : ℕ) (file : Handle)
-    (reads : (len : ℕ) × (does_of h.doing ≡ Some (does.Reads offset len)))
-    (names : IfSome h.doing (λ d. handle ≡ handle_of d.op)) (opened : file_of h.handles handle ≡ Some file)
-    (none : file.view ≡ None) (ready : IsReady h) (flushed : left h ≡ None) where
-  before_look : BeforeLook h handle offset file
-  before_look =
-      let len = reads.0 in
-      let doing = that_does h.doing (does.Reads offset len) reads.1 in
-      let d = doing.0 in
-      let named : handle ≡ handle_of d.op = subst (λ o. IfSome o (λ d. handle ≡ handle_of d.op)) doing.1 names in
-      let at = at_file h handle offset len file d doing.1 doing.2 ready flushed named opened in
-      let unseen = ap view_of at.opened ∙ none in
-      let working = unseen_working h (reader handle offset len file.inode d.progress d.has_moved) d.progress
-      (reading_on at).at at.flushed unseen in
-      record {
-        len = len;
-        started = working.0;
-        moved = d.has_moved;
-        at = subst (λ progress. IsAtFile h handle offset len file progress d.has_moved) working.1 at;
-      }
-
-  -- the table with the view
-  viewed : (old new : List (Option Handle)) (view : View) → old ≡ h.handles
-      → new ≡ with_file handle (seen_by view (file_of old handle)) old
-      → new ≡ with_file handle (Some (record file { view = Some view })) h.handles
-  viewed old new view same is =
-      is ∙ ap (λ handles. with_file handle (seen_by view (file_of handles handle)) handles) same
-      ∙ ap (λ o. with_file handle (seen_by view o) h.handles) opened
-
-  module _ (now entry : ℕ) (v : ClientValue) (files : FilesValue) (before after : Store) (seen : Seen)
-      (old stored new : List (Option Handle)) (doing : Option Doing)
-      (has_seen : HasSeen (session_here h) files before after file.inode (record { entry = entry; seen = seen }))
-      (same : v ≡ h) (same_old : old ≡ v.handles) (same_new : new ≡ stored)
-      (is_stored : stored
-      ≡ with_file handle (seen_by (record { entry = entry; seen = seen }) (file_of old handle)) old) where
-    abbrev view : View
-    view = record { entry = entry; seen = seen }
-
-    end-is : (last : Option Doing) → doing ≡ last
-        → record v { handles = new; doing = doing } ≡ with_view handle file view last h
-    end-is last goes =
-        let handles = viewed old new view (same_old ∙ ap (λ (v : ClientValue). v.handles) same)
-        (same_new ∙ is_stored) in
-        ap (λ (v : ClientValue). record v { handles = new; doing = doing }) same
-        ∙ ap (λ handles. record h { handles = handles; doing = doing }) handles
-        ∙ ap (λ doing. with_view handle file view doing h) goes
-
-    pub look_goes_on : offset < seen.length → doing ≡ option_map (moved_to Reading) v.doing
-        → Makes now entry h (record v { handles = new; doing = doing }) (shared files before) (shared files after)
-        (Request (Look file.inode 0))
-    look_goes_on some of_doing =
-        let b = before_look in
-        let goes = of_doing ∙ ap (λ (v : ClientValue). option_map (moved_to Reading) v.doing) same
-        ∙ ap (option_map (moved_to Reading)) b.at.busy in
-        makes_as (end-is (Some (reader handle offset b.len file.inode Reading true)) goes) refl refl
-        (look_more now handle offset b.len b.started b.moved h files before after file view b.at none has_seen
-        (lt-ltb offset seen.length some))
-
-    pub look_ends : (told : Told) (bytes : List ℕ)
-        → seen.length ≤ offset → doing ≡ None → told ≡ Looks entry 0 0 → bytes ≡ []
-        → Makes now entry h (record v { handles = new; doing = doing }) (shared files before) (shared files after)
-        (Both (Look file.inode 0) told (Data bytes))
-    look_ends told bytes past of_doing of_told of_bytes =
-        let b = before_look in
-        let made = ap (λ told. Both (Look file.inode 0) told (Data bytes)) of_told
-        ∙ ap (λ bytes. Both (Look file.inode 0) (Looks entry 0 0) (Data bytes)) of_bytes in
-        makes_as (end-is None of_doing) refl made
-        (look_none now handle offset b.len b.started b.moved h files before after file view b.at none has_seen past)
-
--- a look that was refused
-
--- where an inode that was given to a file has no bytes, it is gone
-file-gone : (o : Option Node) → (IsTrue (is_there (form_of o)) → form_of o ≡ Regular) → content_of o ≡ None
-    → is_some o ≡ false
-file-gone None file none = refl
-file-gone (Some node) file none =
-    elim node.kind as (λ kind. (is_there (form_of (Some (record node { kind = kind }))) ≡ true
-    → form_of (Some (record node { kind = kind })) ≡ Regular)
-    → content_of (Some (record node { kind = kind })) ≡ None → true ≡ false) [
-      | File content ↦ λ file none. absurd (cc)
-      | Directory parent ↦ λ file none. absurd (let e = file refl in cc)
-      | Symlink target ↦ λ file none. absurd (let e = file refl in cc)
-    ] file none
-
--- the model refuses for the same cause
-
-abbrev node_refusal : ℕ → Bool → Option Reply
-node_refusal inode there = (if there then None else Some (Refused (Stale (GoneNode inode))))
-
-refusal-is : (t : Tree) (c : ModelClient) (sid inode : ℕ) (fault : Fault) → session_of c ≡ sid → IsHoldable t inode
-    → NotSeen sid inode (is_some (get t.sessions sid)) (content_at t inode) fault
-    → look_refusal t c inode ≡ Some (Refused fault)
-refusal-is t c sid inode fault same holdable (SessionGone gone is) =
-    let none : has_session t c ≡ false = ap (λ sid. is_some (get t.sessions sid)) same ∙ gone in
-    ap (λ b. if not b then Some (session_gone c) else node_refusal inode (is_some (node_at t inode))) none
-    ∙ ap (λ sid. Some (Refused (Stale (Session sid)))) same ∙ ap (λ fault. Some (Refused fault)) (sym is)
-refusal-is t c sid inode fault same holdable (FileGone there none is) =
-    let session : has_session t c ≡ true = ap (λ sid. is_some (get t.sessions sid)) same ∙ there in
-    ap (λ b. if not b then Some (session_gone c) else node_refusal inode (is_some (node_at t inode))) session
-    ∙ ap (node_refusal inode) (file-gone (node_at t inode) holdable.file none)
-    ∙ ap (λ fault. Some (Refused fault)) (sym is)
-
--- and that is no failure
-is_stale : (sid inode : ℕ) (there : Bool) (o : Option Content) (fault : Fault) → NotSeen sid inode there o fault
-    → (is_failure (ToldRefused fault) ≡ false) × (is_keeper_failure (ToldRefused fault) ≡ false)
-is_stale sid inode there o fault (SessionGone gone is) =
-    (ap (λ fault. is_failure (ToldRefused fault)) is, ap (λ fault. is_keeper_failure (ToldRefused fault)) is)
-is_stale sid inode there o fault (FileGone session none is) =
-    (ap (λ fault. is_failure (ToldRefused fault)) is, ap (λ fault. is_keeper_failure (ToldRefused fault)) is)
-
--- the first request of a reading that has no view and is refused
-quiet_when : (flushed sees gone : Bool) → flushed ≡ true → gone ≡ true → (if flushed then sees || gone else true) ≡ true
-quiet_when flushed sees gone e f = ap (λ b. if b then sees || gone else true) e ∙ or_right sees gone f
-
-settles_when : (flushed sees : Bool) (shown unseen flushing : Stage) → flushed ≡ true → sees ≡ false
-    → (if flushed then (if sees then shown else unseen) else flushing) ≡ unseen
-settles_when flushed sees shown unseen flushing e f =
-    ap (λ b. if b then (if sees then shown else unseen) else flushing) e ∙ ap (λ b. if b then shown else unseen) f
-
-module _ (now handle offset len started : ℕ) (moved : Bool) (h : ClientValue) (files : FilesValue)
-    (before after : Store) (file : Handle) (at : IsAtFile h handle offset len file (Working 0 started) moved)
-    (none : file.view ≡ None) where
-  abbrev mine : Doing
-  mine = reader handle offset len file.inode (Working 0 started) moved
-
-  abbrev seen_by_rows : Tree → Result ℕ Fault
-  seen_by_rows = length_seen (session_here h) file.inode
-
-  module _ (fault : Fault) (looks : LooksAtRows {A = ℕ} before after (Err (RefusedBy fault)) seen_by_rows) (s : State)
-      (has : HasStore s.tree (shared files before)) (holds : Holds s.tree (s.clients h.id))
-      (client : IsClient (s.clients h.id) s.count files h) where
-    abbrev c : ModelClient
-    c = s.clients h.id
-
-    in_model : (m : OpenFile) × (file_of c.handles handle ≡ Some m) × IsHandle c.views s.count files handle m file
-    in_model = opened_in h files c s.count client.held handle file at.opened
-
-    abbrev session_there : Bool
-    session_there = is_some (get s.tree.sessions (session_here h))
-
-    why : NotSeen (session_here h) file.inode session_there (content_at s.tree file.inode) fault
-    why = not_seen (session_here h) file.inode session_there (content_at s.tree file.inode) fault
-        (agrees_in files before after (Err (RefusedBy fault)) seen_by_rows s.tree looks has)
-
-    refusal : look_refusal s.tree c (inode_at c handle) ≡ Some (Refused fault)
-    refusal =
-        let inode : inode_at c handle ≡ file.inode = ap inode_in in_model.1 ∙ in_model.2.inode in
-        let session : session_of c ≡ session_here h = ap (λ session. unwrap_or session 0) client.held.session in
-        let holdable = holds.opened (inode_at c handle)
-        (names-held c s.count files h handle file client.held at.opened) in
-        ap (look_refusal s.tree c) inode
-        ∙ refusal-is s.tree c (session_here h) file.inode fault session (subst (IsHoldable s.tree) inode holdable) why
-
-    is_flushed-now : is_flushed (OfFiles (file.inode ∷ [])) c.pending ≡ true
-    is_flushed-now = flushed_in h files c s.count client.held file.inode at.flushed
-
-    unseen : sees_first c (doing_of mine) (asked_parts offset len) ≡ false
-    unseen =
-        let m : OpenFile = in_model.0 in
-        let same = in_model.2 in
-        sees-window c handle offset len file.inode (Working 0 started) moved m at.some at.short in_model.1
-        ∙ ap is_some (none_in (IsView files file.inode) (fresh_view c.views handle m 0) file.view none same.view)
-
-    may_ask : (start : Start) → may_be_quiet start s h.id now c (doing_of mine) (stage_of (Working 0 started)) ≡ true
-    may_ask start =
-        quiet_when _ (sees_first c (doing_of mine) (asked_parts offset len)) _ is_flushed-now (ap is_some refusal)
-
-    settles : quieted s h.id c now (doing_of mine) (stage_of (Working 0 started)) ≡ Replying (Refused fault)
-    settles =
-        settles_when _ _ (ModelReading 0) (refused_look s c (inode_at c handle) (stage_of (Working 0 started)))
-        (flushing_on s c now 0 started) is_flushed-now unseen
-        ∙ ap (λ o. elim o as (λ _. Stage) [
-          | None ↦ stage_of (Working 0 started)
-          | Some answer ↦ Replying answer
-        ]) refusal
-
-    -- what the model's client is doing then
-    abbrev replying : ModelDoing
-    replying = record (doing_of mine) { stage = Replying (Refused fault); moved = true }
-
-    abbrev asked : ModelClient
-    asked = record c { doing = Some replying }
-
-    refused-leads : StepsTo s h.id now (Quiet ∷ Answered (ToldRefused fault) ∷ []) (Done (Refused fault))
-        (refused_here fault h) (shared files after)
-    refused-leads =
-        let told = ToldRefused fault in
-        let busy = client-doing mine at.busy client in
-        let tree = tree-quiet s h.id now (doing_of mine) busy in
-        let stale = is_stale (session_here h) file.inode _ _ fault why in
-        steps_after s h.id now Quiet asked replying told (Refused fault) (refused_here fault h) (shared files after)
-        (λ start alone. record { doing = doing_of mine; busy = busy; begins_is = refl; may = may_ask start })
-        refl (client-quiet s h.id now (doing_of mine) busy (Replying (Refused fault)) settles) refl stale.0
-        (record { may = λ start alone. Settles (Refused fault) refl refl; own = refl; says = refl })
-        stale.1
-        (subst (λ t. HasStore t (shared files after)) (sym tree) (has_store-same has looks.rows_are (λ inode. refl)))
-        (subst (Stays s.tree) (sym tree) (stays-same s.tree))
-        (subst (λ t. Holds t (after_told replying.op told asked)) (sym tree)
-        (holds-told replying.op told s.tree asked refl (holds-doing c (Some replying) holds)))
-        (record {
-          held = held-later (grows-same files) (omega arith)
-              (held-told replying.op told asked s.count files h refl (held-doing (Some replying) h.doing client.held));
-          doing = subst (SamePlace IsDoing None) (sym (refused-rests fault h).idle) tt;
-        })
-
--- a look without a result: it was refused, memory ran out, the keeper failed, or a row is Bad
-pub look_unmade : (now entry handle offset : ℕ) (h end : ClientValue) (files : FilesValue) (before after : Store)
-    (file : Handle) (fault : TxFault) (done : Made)
-    → (len : ℕ) × (does_of h.doing ≡ Some (does.Reads offset len)) → IfSome h.doing (λ d. handle ≡ handle_of d.op)
-    → file_of h.handles handle ≡ Some file → file.view ≡ None → IsReady h → left h ≡ None
-    → LooksAtRows {A = ℕ} before after (Err fault) (length_seen (session_here h) file.inode)
-    → EndsUnmade Quiet fault h end done
-    → Makes now entry h end (shared files before) (shared files after) done
-look_unmade now entry handle offset h end files before after file fault done reads names opened none ready flushed looks
-    ends =
-    let b = before_look h handle offset file reads names opened none ready flushed in
-    let finds = length_seen (session_here h) file.inode in
-    unmade now entry h end (reader handle offset b.len file.inode (Working 0 b.started) b.moved) (shared files before)
-    (shared files after) Quiet fault done b.at.busy ready (λ inode. refl)
-    (not_looked before after fault finds looks) ends
-    (λ s count has holds client. plain-looked before after fault finds looks has.known has.is has.whole)
-    (λ refused is s count has holds client.
-    refused-leads now handle offset b.len b.started b.moved h files before after file b.at none refused
-    (subst (λ fault. LooksAtRows {A = ℕ} before after (Err fault) finds) is looks) s has holds client)
+  -- or it is answered
+  pub look-over : (later : Cached) → LooksUp cache later → (found : Found)
+      → ((blocks : Blocks) (all : List Asked) → HasCached blocks seen.views fetch.block cache
+      → IsFetching blocks seen.views all fetch → IsReadBy (told_by fetch.block blocks) seen.views all (read_of found))
+      → Makes now entry h (over handles later h) before used
+      (made.Both (Look file.inode window) (told_read found) (Data found.bytes))
+  look-over later looks_up found read = record {
+    id = refl;
+    limits = refl;
+    ready = record { buffer = asks.buffer; doing = tt };
+    devices = uses-look (made.Both (Look file.inode window) (told_read found) (Data found.bytes)) before keeper
+        (λ device. refl) looks.looks.rows_are looks.looks.opened_at looks.looks.counts tt;
+    falls = refl;
+    leads = λ s g number has holds client. leads-over s g number has holds client later looks_up found read;
+  }

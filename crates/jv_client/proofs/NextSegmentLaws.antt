@@ -9,7 +9,7 @@ use Rattle.jv_model.specs.client.ModelClient.{Flush as ModelFlush, OfFiles, OfAl
 use Rattle.jv_pending.proofs.SegmentLaws.{own_segment}
 use Rattle.jv_client.specs.declared.doing.Flush.{Flush}
 use Rattle.jv_client.specs.declared.doing.Flush.TheVariants as flush
-use Rattle.jv_client.specs.UnderWay.{segment_left}
+use Rattle.jv_client.specs.Held.{segment_left}
 
 -- the inode of a segment
 

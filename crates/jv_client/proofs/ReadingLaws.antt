@@ -1,483 +1,452 @@
--- Readings of the first window: which looks they make, and what they return.
-use Rattle.std.proofs.Common.{◌≡◌, ℕ, zero, suc, ◌+◌, ◌-◌, ◌*◌, ◌/◌, ◌≤◌, ◌<◌, min, Bool, true, false, cond, ◌&&◌}
-use Rattle.std.proofs.Common.{◌||◌, not, List, [], ◌∷◌, length, take, Option, None, Some, Result, Ok, Err, refl, sym}
-use Rattle.std.proofs.Common.{ap, subst, ◌∙◌, arith}
-use Rattle.std.proofs.Math.Seq.{take-length}
-use Rattle.std.specs.Prelude.{is_some, ◌==◌, nat_le, nat_lt, if◌then◌else◌, IsSomeAnd, unwrap_or}
-use Rattle.std.proofs.lemmas.Bool.{le-leb, and_right}
-use Rattle.std.proofs.lemmas.Bool.Decides.{nat_tests}
+-- Readings: how one begins, goes ahead without a request, and what it returns.
+use Rattle.std.proofs.Common.{◌≡◌, ◌≢◌, ℕ, zero, ◌+◌, ◌-◌, ◌*◌, ◌/◌, ◌≤◌, ◌<◌, Bool, true, false, List, [], ◌∷◌, length}
+use Rattle.std.proofs.Common.{suc, Option, None, Some, refl, sym, ap, subst, ◌∙◌, arith}
+use Rattle.std.specs.Prelude.{is_some, not, IfSome, IsSomeAnd, IsTrue, OnErr, Result, Ok, Err}
+use Rattle.std.specs.Option.{option_map}
 use Rattle.jv_model.specs.declared.limits.TheConstants.{FILE_END, WINDOW}
-use Rattle.jv_model.specs.declared.act.Act.{Act}
-use Rattle.jv_model.specs.declared.act.ActKind.TheVariants.{Look}
-use Rattle.jv_model.specs.declared.fault.Fault.{Fault}
-use Rattle.jv_model.specs.declared.fault.Fault.TheVariants.{Stale}
-use Rattle.jv_model.specs.declared.fault.Gone.TheVariants.{Session, Node as GoneNode}
-use Rattle.jv_model.specs.declared.fault.TxFault.{TxFault}
-use Rattle.jv_model.specs.declared.op.Op.{Op}
 use Rattle.jv_model.specs.declared.op.Op.TheVariants as op
 use Rattle.jv_model.specs.declared.profile.Does.{Does}
 use Rattle.jv_model.specs.declared.profile.Does.TheVariants as does
-use Rattle.jv_model.specs.FiniteMap.{get}
-use Rattle.jv_model.specs.tree.Attempt.{◌>>=◌, require, some_or}
-use Rattle.jv_model.specs.tree.Tree.{Tree, Node, Content, node_at, content_at, content_of}
+use Rattle.jv_model.specs.client.ModelClient.{ModelClient, OpenFile, file_of}
+use Rattle.jv_model.specs.client.Pending.{PendingByte}
 use Rattle.jv_model.specs.client.Profile.{handle_of}
 use Rattle.jv_model.specs.client.Submission.{is_flushed}
-use Rattle.jv_model.specs.client.ModelClient.{ModelClient, OpenFile, View as ModelView, Doing as ModelDoing}
-use Rattle.jv_model.specs.client.ModelClient.{Reading as ModelReading, OfFiles, file_of, with_file}
-use Rattle.jv_model.specs.journal.Steps.{Start, IsEntry, LooksAt, window_to_look}
-use Rattle.jv_model.specs.journal.Stepping.{stepped, entry_of}
-use Rattle.jv_model.specs.journal.Reading.{Asked, shows_all, asked_parts, bytes_from, bytes_between, is_fresh}
-use Rattle.jv_model.specs.journal.Reading.{fresh_view, cited_view, read_on, reading, part_to_look}
-use Rattle.jv_model.specs.journal.State.{State, has_session, or_empty, sees_first, view_now, of_doing}
-use Rattle.jv_model.proofs.ClientsLaws.{own_client}
-use Rattle.jv_outside.specs.Store.{Store}
-use Rattle.jv_rows.specs.Transactions.{Agrees, Looks}
-use Rattle.jv_data.specs.Committing.{length_seen}
-use Rattle.jv_files.specs.declared.files.StoredSegment.{StoredSegment}
-use Rattle.jv_files.specs.Stored.{FilesValue, segments_at, stored_byte}
-use Rattle.jv_files.specs.Holds.{Keeps}
-use Rattle.jv_files.specs.Shown.{shown_between, as_seen}
+use Rattle.jv_model.specs.journal.Reading.{Asked, asked_parts, reading}
+use Rattle.jv_model.specs.journal.Steps.{asked_of}
+use Rattle.jv_cache.specs.Cached.{Cached}
+use Rattle.jv_contents.specs.Blocks.{Blocks, told_by}
+use Rattle.jv_contents.specs.Bytes.{Told}
+use Rattle.jv_shared.specs.Shared.{Known, Shared}
+use Rattle.jv_handles.specs.declared.handle.Handle.{Handle}
+use Rattle.jv_handles.specs.Held.{IsHandle}
+use Rattle.jv_handles.specs.Views.{SeenViews, view_at}
+use Rattle.jv_handles.proofs.HandleLaws.{handles-there}
+use Rattle.jv_fetching.specs.declared.need.Need.{Need}
+use Rattle.jv_fetching.specs.declared.need.Need.TheVariants.{Nothing}
+use Rattle.jv_fetching.specs.Fetching.{Fetching, begins, fetch_left, fetched_of}
+use Rattle.jv_fetching.specs.Going.{CanFetch, IsFetching}
+use Rattle.jv_fetching.specs.Calls.{AreSizedBy, HasCached, IsCacheOf, LooksUp, Wants, first_seen}
+use Rattle.jv_fetching.specs.Shows.{IsReadBy, One, Two}
+use Rattle.jv_fetching.proofs.CacheLaws.{cache_of-empty, cache_of-has, cache_of-looks}
+use Rattle.jv_fetching.proofs.FetchLaws.{by_parts, fetches_go_on}
+use Rattle.jv_fetching.proofs.SameLaws.{fetches_show}
 use Rattle.jv_client.specs.declared.doing.Doing.{Doing}
-use Rattle.jv_client.specs.declared.doing.Flush.{Flush}
 use Rattle.jv_client.specs.declared.doing.Flush.TheVariants as flush
 use Rattle.jv_client.specs.declared.doing.Progress.{Progress}
-use Rattle.jv_client.specs.declared.doing.Progress.TheVariants.{Working}
-use Rattle.jv_client.specs.declared.handles.Handle.{Handle}
-use Rattle.jv_client.specs.declared.handles.View.{View}
-use Rattle.jv_client.specs.ClientValue.{ClientValue, session_here}
-use Rattle.jv_client.specs.Shared.{HasStore, shared}
-use Rattle.jv_client.specs.Held.{SamePlace, ShowsContent, IsView, IsHandle, IsHeld, IsClient}
-use Rattle.jv_client.specs.UnderWay.{IsReady, IsUnderWay, left, left_of, segment_left}
-use Rattle.jv_client.proofs.TableLaws.{file-same, same-with_file, there_in, none_in}
-use Rattle.jv_client.proofs.HeldLaws.{views-later}
-use Rattle.jv_client.proofs.StepLaws.{with_stage-doing, doing_of, client-doing}
-use Rattle.jv_client.proofs.FormLaws.{does_otherwise, flushes_otherwise, names_it, reads_here, under_way}
+use Rattle.jv_client.specs.declared.doing.Progress.TheVariants.{Working, Reading}
+use Rattle.jv_client.specs.declared.reading.Ahead.{Ahead}
+use Rattle.jv_client.specs.declared.reading.Ahead.TheVariants as ahead
+use Rattle.jv_client.specs.declared.reading.Found.{Found}
+use Rattle.jv_client.specs.ClientValue.{ClientValue}
+use Rattle.jv_client.specs.Held.{GoesOn, IsClient, IsHeld, flush_of_code, segment_left}
+use Rattle.jv_client.specs.UnderWay.{FlushesFor, Closes, Syncs, Describes, ReadsNothing, Reads, Truncates as CutsOff}
+use Rattle.jv_client.specs.UnderWay.{IsForm, Mounts, Transacts, Leaves, Writes, Flushes, Copies, TellsStats}
+use Rattle.jv_client.specs.UnderWay.{IsAt, IsReading, IsReady, IsUnderWay, asks_more, does_of, has_segment, left}
+use Rattle.jv_client.specs.UnderWay.{left_of, names_open, reading_steps, steps_in, steps_left, steps_of}
+use Rattle.jv_client.specs.Reading.{Begins, ClientComesTo, ComesTo, GoesAhead, IsAhead, IsCachedAs, IsMade}
+use Rattle.jv_client.specs.Reading.{OnlyLooksUp, ReadsAtOnce, need_at, need_in}
+use Rattle.jv_client.specs.Reading.{put_at, read_of}
 
--- the parts of a range in the first window
+-- ---- an operation that reads
 
-abbrev parts_by : ℕ → ℕ → ℕ → List Asked
-parts_by offset stop window =
-    let border = (window + 1) * WINDOW in
-    if nat_le stop offset then []
-    else if nat_le stop border then record { window = window; from = offset; to = stop } ∷ []
-    else record { window = window; from = offset; to = border }
-    ∷ record { window = window + 1; from = border; to = stop } ∷ []
-
-two_tests : {X : Type 0} (a b : Bool) (x y z : X) → a ≡ false → b ≡ true → cond a x (cond b y z) ≡ y
-two_tests a b x y z e f = ap (λ t. cond t x (cond b y z)) e ∙ ap (λ t. cond t y z) f
-
-first_window : (offset stop : ℕ) → offset < stop → stop ≤ WINDOW → offset / WINDOW ≡ 0
-first_window offset stop low high = omega arith
-
-abbrev pub first_part : ℕ → ℕ → Asked
-first_part offset len = record { window = 0; from = offset; to = offset + len }
-
-pub one_part : (offset len : ℕ) → 0 < len → offset + len ≤ WINDOW → asked_parts offset len ≡ first_part offset len ∷ []
-one_part offset len some short =
-    let stop : min (offset + len) FILE_END ≡ offset + len = omega arith in
-    let window : offset / WINDOW ≡ 0 = first_window offset (offset + len) (omega arith) short in
-    let past : nat_le (offset + len) offset ≡ false = grind (arith, nat_tests) in
-    let inside : nat_le (offset + len) WINDOW ≡ true = le-leb _ _ short in
-    ap (λ x. parts_by offset x (offset / WINDOW)) stop ∙ ap (parts_by offset (offset + len)) window
-    ∙ two_tests _ _ [] (first_part offset len ∷ [])
-    (record { window = 0; from = offset; to = WINDOW } ∷ record { window = 1; from = WINDOW; to = offset + len } ∷ [])
-    past inside
-
--- views
-
--- the latest fresh view is the one that its entry cites
-pub cited-fresh : (views : List ModelView) (handle : ℕ) (file : OpenFile) (view : ModelView)
-    → fresh_view views handle file 0 ≡ Some view → cited_view views handle file 0 view.entry ≡ Some view
-cited-fresh [] handle file view e = absurd (cc e)
-cited-fresh (v ∷ vs) handle file view e =
-    elim (is_fresh handle file 0 v) as (λ b. (if b then Some v else fresh_view vs handle file 0) ≡ Some view
-    → (if (v.entry == view.entry) && b then Some v else cited_view vs handle file 0 view.entry) ≡ Some view) [
-      | true ↦ λ same.
-          let is : v ≡ view = cc same in
-          let number : (v.entry == view.entry) ≡ true =
-          (let entries = ap (λ (v : ModelView). v.entry) is in grind (arith, nat_tests)) in
-          ap (λ b. if b && true then Some v else cited_view vs handle file 0 view.entry) number ∙ same
-      | false ↦ λ later.
-          let none : ((v.entry == view.entry) && false) ≡ false = and_right (v.entry == view.entry) false refl in
-          ap (λ b. if b then Some v else cited_view vs handle file 0 view.entry) none
-          ∙ cited-fresh vs handle file view later
-    ] e
-
--- a read in the first window that cites its view
-pub reading-cited : (views : List ModelView) (handle : ℕ) (file : OpenFile) (offset len : ℕ) (view : ModelView)
-    → 0 < len → offset + len ≤ WINDOW → fresh_view views handle file 0 ≡ Some view
-    → reading views handle file (asked_parts offset len) view.entry 0
-    ≡ Some (bytes_between view.content offset (offset + len))
-reading-cited views handle file offset len view some short fresh =
-    ap (λ parts. reading views handle file parts view.entry 0) (one_part offset len some short)
-    ∙ ap (λ o. read_on views handle file 0 (first_part offset len) [] (elim o as (λ _. Option (List ℕ)) [
-      | None ↦ None
-      | Some view ↦ Some (bytes_between view.content offset (offset + len))
-    ])) (cited-fresh views handle file view fresh)
-
--- the bytes that a view shows
-
-same_bytes : (f g : ℕ → ℕ) → ((position : ℕ) → f position ≡ g position) → (from n : ℕ)
-    → bytes_from f from n ≡ bytes_from g from n
-same_bytes f g same from zero = refl
-same_bytes f g same from (suc n) =
-    ap (λ b. b ∷ bytes_from f (from + 1) n) (same from) ∙ ap (λ bs. g from ∷ bs) (same_bytes f g same (from + 1) n)
-
-module _ (view : View) (m : ModelView) (segments : List StoredSegment) (from to : ℕ)
-    (shows : ShowsContent view m segments) where
-  -- those of the file as it was seen
-  pub view_bytes : bytes_between m.content from to ≡ shown_between view.seen.length (as_seen view.seen segments) from to
-  view_bytes =
-      ap (λ n. bytes_from m.content.byte from (min to n - from)) shows.long
-      ∙ same_bytes m.content.byte (stored_byte (as_seen view.seen segments)) shows.keeps.bytes from
-      (min to view.seen.length - from)
-
-  -- none past its length
-  pub no_bytes : view.seen.length ≤ from → bytes_between m.content from to ≡ []
-  no_bytes past =
-      let long = shows.long in
-      let none : min to m.content.length - from ≡ 0 = omega (arith, long, past) in
-      ap (bytes_from m.content.byte from) none
-
--- a reading
-
-abbrev pub reader : ℕ → ℕ → ℕ → ℕ → Progress → Bool → Doing
-reader handle offset len inode progress moved = record {
-  op = op.Read handle offset len;
-  does = does.Reads offset len;
-  flush = flush.File inode;
-  progress = progress;
-  has_moved = moved;
-}
-
--- it is past its flush
-pub record IsAtFile (h : ClientValue) (handle offset len : ℕ) (file : Handle) (progress : Progress) (moved : Bool)
-    : Type 0 where
-  pub busy : h.doing ≡ Some (reader handle offset len file.inode progress moved)
+-- what its form says
+pub record ReadsFile (h : ClientValue) (d : Doing) (offset len : ℕ) : Type 0 where
+  pub handle : ℕ
+  pub file : Handle
+  pub op_is : d.op ≡ op.Read handle offset len
+  pub first : d.flush ≡ flush.File file.inode
   pub opened : file_of h.handles handle ≡ Some file
+  pub session : IsTrue (is_some h.session)
   pub some : 0 < len
-  pub short : offset + len ≤ WINDOW
-  pub mounted : is_some h.session ≡ true
-  pub flushed : is_some (segment_left (flush.File file.inode) h.pending) ≡ false
-  pub ready : IsReady h
+  pub long : len ≤ WINDOW
+  pub low : offset < FILE_END
 
--- a look saw the length of the file, and all the segments that it has in memory
-pub record HasSeen (sid : ℕ) (files : FilesValue) (before after : Store) (inode : ℕ) (view : View) : Type 0 where
-  pub looks : Looks before after (Ok view.seen.length) (length_seen sid inode)
-  pub all : view.seen.commits ≡ length (segments_at files inode)
+module _ (h : ClientValue) (d : Doing) (offset len : ℕ) (is : d.does ≡ does.Reads offset len) where
+  reads-for : (handle : ℕ) (file : Handle) → FlushesFor d handle → d.flush ≡ flush.File file.inode
+      → file_of h.handles handle ≡ Some file → IsTrue (is_some h.session) → ReadsFile h d offset len
+  reads-for handle file (Closes o e) first opened session = absurd (let f = sym e ∙ is in cc)
+  reads-for handle file (Syncs o e) first opened session = absurd (let f = sym e ∙ is in cc)
+  reads-for handle file (Describes o e) first opened session = absurd (let f = sym e ∙ is in cc)
+  reads-for handle file (ReadsNothing from n o e) first opened session = absurd (let f = sym e ∙ is in cc)
+  reads-for handle file (Reads from n o e some long low) first opened session =
+      let same : does.Reads from n ≡ does.Reads offset len = sym e ∙ is in
+      let start : from ≡ offset = cc same in
+      let size : n ≡ len = cc same in
+      record {
+        handle = handle;
+        file = file;
+        op_is = o ∙ ap (λ from. op.Read handle from n) start ∙ ap (op.Read handle offset) size;
+        first = first;
+        opened = opened;
+        session = session;
+        some = omega (arith, some, size);
+        long = omega (arith, long, size);
+        low = omega (arith, low, start);
+      }
+  reads-for handle file (CutsOff n o e) first opened session = absurd (let f = sym e ∙ is in cc)
 
--- the client after it
-abbrev pub with_view : ℕ → Handle → View → Option Doing → ClientValue → ClientValue
-with_view handle file view doing h = record h {
-  handles = with_file handle (Some (record file { view = Some view })) h.handles;
-  doing = doing;
-}
+  pub reads-file : IsForm h d → ReadsFile h d offset len
+  reads-file (Mounts o e first) = absurd (let f = sym e ∙ is in cc)
+  reads-file (Transacts o spelled e first session) = absurd (let f = sym e ∙ is in cc)
+  reads-file (Leaves o e first session) = absurd (let f = sym e ∙ is in cc)
+  reads-file (Writes handle from bytes file o e opened short room session) = absurd (let f = sym e ∙ is in cc)
+  reads-file (Flushes handle file for first opened session) = reads-for handle file for first opened session
+  reads-file (Copies source from target to n file other o e first opened second session) =
+      absurd (let f = sym e ∙ is in cc)
+  reads-file (TellsStats o e first session) = absurd (let f = sym e ∙ is in cc)
 
--- what a look finds
+-- an operation that reads is in progress, by a handle that is open
+pub record ReadsHere (h : ClientValue) (offset len : ℕ) : Type 0 where
+  pub d : Doing
+  pub busy : h.doing ≡ Some d
+  pub does_is : d.does ≡ does.Reads offset len
+  pub file : ReadsFile h d offset len
+  pub opened : file_of h.handles (handle_of d.op) ≡ Some file.file
 
--- what a part that reads finds in the tree that rows and files stand for
-pub agrees_in : {A : Type 0} (files : FilesValue) (before after : Store) (result : Result A TxFault)
-    (finds : Tree → Result A Fault) (t : Tree)
-    → Looks before after result finds → HasStore t (shared files before) → Agrees result (finds t)
-agrees_in files before after result finds t looks has =
-    subst (λ t. Agrees result (finds t)) (sym has.tree) (looks.agrees has.known has.is has.whole has.bytes)
+that_reads : (o : Option Doing) (offset len : ℕ) → does_of o ≡ Some (does.Reads offset len)
+    → (d : Doing) × (o ≡ Some d) × (d.does ≡ does.Reads offset len)
+that_reads None offset len e = absurd (cc e)
+that_reads (Some d) offset len e = (d, refl, cc e)
 
--- the session and the file are there, and the file has this length
-pub record SeesFile (sid inode length : ℕ) (there : Bool) (o : Option Content) : Type 0 where
-  pub session : there ≡ true
-  pub content : Content
-  pub file : o ≡ Some content
-  pub long : content.length ≡ length
+pub under : (h : ClientValue) (d : Doing) → h.doing ≡ Some d → IsReady h → IsUnderWay h d
+under h d busy ready = subst (λ (o : Option Doing). IfSome o (IsUnderWay h)) busy ready.doing
 
--- or one of them is gone
-pub data NotSeen (sid inode : ℕ) (there : Bool) (o : Option Content) (fault : Fault) : Type 0 where
-  SessionGone : there ≡ false → fault ≡ Stale (Session sid) → NotSeen sid inode there o fault
-  FileGone : there ≡ true → o ≡ None → fault ≡ Stale (GoneNode inode) → NotSeen sid inode there o fault
-
--- the length by whether the session is there, and by the file's bytes
-abbrev length_by : ℕ → ℕ → Bool → Option Content → Result ℕ Fault
-length_by sid inode there o =
-    require there (Stale (Session sid)) >>= λ _. some_or o (Stale (GoneNode inode)) >>= λ content. Ok content.length
-
-pub sees_file : (sid inode n : ℕ) (there : Bool) (o : Option Content) → length_by sid inode there o ≡ Ok n
-    → SeesFile sid inode n there o
-sees_file sid inode n false o e = absurd (cc)
-sees_file sid inode n true None e = absurd (cc)
-sees_file sid inode n true (Some content) e = record { session = refl; content = content; file = refl; long = cc }
-
-pub not_seen : (sid inode : ℕ) (there : Bool) (o : Option Content) (fault : Fault)
-    → length_by sid inode there o ≡ Err fault → NotSeen sid inode there o fault
-not_seen sid inode false o fault e = SessionGone refl (cc)
-not_seen sid inode true None fault e = FileGone refl refl (cc)
-not_seen sid inode true (Some content) fault e = absurd (cc)
-
--- a file that has bytes is there
-content-there : (o : Option Node) (content : Content) → content_of o ≡ Some content → is_some o ≡ true
-content-there None content e = absurd (cc e)
-content-there (Some node) content e = refl
-
--- the session of the model's client
-pub session-same : (t : Tree) (m : ModelClient) (h : ClientValue) → m.session ≡ h.session
-    → has_session t m ≡ is_some (get t.sessions (session_here h))
-session-same t m h same = ap (λ session. is_some (get t.sessions (unwrap_or session 0))) same
-
--- a look at the file
-
-abbrev window_of : Option Asked → Option ℕ
-window_of None = None
-window_of (Some asked) = Some asked.window
-
-first_window_to_look : (views : List ModelView) (handle offset len : ℕ) (file : OpenFile)
-    → 0 < len → offset + len ≤ WINDOW → fresh_view views handle file 0 ≡ None
-    → window_of (part_to_look views handle file (asked_parts offset len)) ≡ Some 0
-first_window_to_look views handle offset len file some short none =
-    ap (λ parts. window_of (part_to_look views handle file parts)) (one_part offset len some short)
-    ∙ ap (λ o. window_of (elim o as (λ _. Option Asked) [
-      | None ↦ Some (first_part offset len)
-      | Some view ↦ (if shows_all (first_part offset len) view then None else None)
-    ])) none
-
-looks_at : (s : State) (c : ModelClient) (handle offset len inode started : ℕ) (moved : Bool) (m : OpenFile)
-    → is_flushed (OfFiles (inode ∷ [])) c.pending ≡ true → file_of c.handles handle ≡ Some m → inode ≡ m.inode
-    → fresh_view c.views handle m 0 ≡ None → 0 < len → offset + len ≤ WINDOW → has_session s.tree c ≡ true
-    → is_some (node_at s.tree inode) ≡ true
-    → LooksAt s c (doing_of (reader handle offset len inode (Working 0 started) moved)) inode 0
-looks_at s c handle offset len inode started moved m flushed is same none some short session there =
-    let d = doing_of (reader handle offset len inode (Working 0 started) moved) in
+pub reads-here : (h : ClientValue) (offset len : ℕ) → does_of h.doing ≡ Some (does.Reads offset len) → IsReady h
+    → ReadsHere h offset len
+reads-here h offset len does ready =
+    let that = that_reads h.doing offset len does in
+    let d : Doing = that.0 in
+    let file = reads-file h d offset len that.2 (under h d that.1 ready).form in
     record {
-      goes_on = ap (λ b. b || false) flushed;
-      file = subst (λ o. IsSomeAnd o (λ file. (inode ≡ file.inode) × (window_to_look c d file ≡ Some 0))) (sym is)
-          (same, first_window_to_look c.views handle offset len m some short none);
-      session = session;
-      there = there;
+      d = d;
+      busy = that.1;
+      does_is = that.2;
+      file = file;
+      opened = ap (λ o. file_of h.handles (handle_of o)) file.op_is ∙ file.opened;
     }
 
-abbrev pub looking : ModelDoing → ModelDoing
-looking d = record d { stage = ModelReading 0; moved = true }
+-- what it flushes is committed
 
-abbrev pub looked_client : State → ℕ → ℕ → ModelDoing → ModelClient → ModelClient
-looked_client s handle inode d c = record c { views = view_now s handle inode 0 ∷ c.views; doing = Some (looking d) }
+pub flushed-here : (h : ClientValue) (d : Doing) → h.doing ≡ Some d → left h ≡ None
+    → segment_left d.flush h.pending ≡ None
+flushed-here h d busy none = ap (left_of h.pending) (sym busy) ∙ none
 
-module _ (s : State) (client now handle offset len inode started : ℕ) (moved : Bool)
-    (busy : (s.clients client).doing ≡ Some (doing_of (reader handle offset len inode (Working 0 started) moved))) where
-  abbrev look : Act
-  look = entry_of 0 now client (Look inode 0)
+pub flushed-model : (g : Known) (v : Shared) (m : ModelClient) (count : ℕ) (h : ClientValue) (d : Doing)
+    → IsHeld g v m count h → h.doing ≡ Some d → left h ≡ None
+    → is_flushed (flush_of_code d.flush) m.pending ≡ true
+flushed-model g v m count h d held busy none =
+    ap (is_flushed (flush_of_code d.flush)) held.pending ∙ ap (λ o. not (is_some o)) (flushed-here h d busy none)
 
-  tree-look : (stepped s client now (Look inode 0)).tree ≡ s.tree
-  tree-look = ap (λ o. (of_doing s look o).tree) busy
+-- and it made no request yet
+pub record NotBegun (d : Doing) : Type 0 where
+  pub started : ℕ
+  pub id : ℕ
+  pub progress : d.progress ≡ Working 0 started id
 
-  client-look : (stepped s client now (Look inode 0)).clients client
-      ≡ looked_client s handle inode (doing_of (reader handle offset len inode (Working 0 started) moved))
-      (s.clients client)
-  client-look =
-      let c = s.clients client in
-      ap (λ o. (of_doing s look o).clients client) busy ∙ own_client s.clients client _
-      ∙ with_stage-doing (ModelReading 0) (record c { views = view_now s handle inode 0 ∷ c.views })
-      (doing_of (reader handle offset len inode (Working 0 started) moved)) busy
+pub not-begun : (h : ClientValue) (d : Doing) → IsUnderWay h d → segment_left d.flush h.pending ≡ None
+    → need_at d.progress ≡ None → NotBegun d
+not-begun h d under none first = by_progress d.progress refl under.at first
+  where
+    by_progress : (p : Progress) → d.progress ≡ p → IsAt h d p → need_at p ≡ None → NotBegun d
+    by_progress (Working zero started id) e at first = record { started = started; id = id; progress = e }
+    by_progress (Working (suc quiets) started id) e at first =
+        let some : 0 < suc quiets = omega arith in
+        let segment : has_segment h d ≡ true = at.segment some in
+        let never : has_segment h d ≡ false = ap is_some none in
+        absurd (cc (sym segment ∙ never))
+    by_progress (Reading fetch next) e at first = absurd (cc first)
 
--- the view that it takes
+-- ---- what the handle's views show, in the model
 
-sees_all : (view : View) (segments : List StoredSegment) → view.seen.commits ≡ length segments
-    → as_seen view.seen segments ≡ segments
-sees_all view segments all = ap (λ n. take n segments) all ∙ take-length segments
+module _ (g : Known) (v : Shared) (m : ModelClient) (count : ℕ) (h : ClientValue) (held : IsHeld g v m count h)
+    (number : ℕ) (file : Handle) (opened : file_of h.handles number ≡ Some file) where
+  pub there : (model : OpenFile) × (file_of m.handles number ≡ Some model)
+      × IsHandle g v m.views count number model file
+  there = handles-there g v m.views count m.handles h.handles held.handles number file opened
 
-view-taken : (s : State) (files : FilesValue) (handle inode : ℕ) (view : View) (content : Content)
-    → content_at s.tree inode ≡ Some content → content.length ≡ view.seen.length
-    → Keeps (segments_at files inode) content → view.seen.commits ≡ length (segments_at files inode)
-    → s.count + 1 ≡ view.entry
-    → IsView files inode (view_now s handle inode 0) view
-view-taken s files handle inode view content there long keeps all entry =
-    let segments = segments_at files inode in
-    let shows : or_empty (content_at s.tree inode) ≡ content = ap or_empty there in
-    record {
-      entry = entry;
-      shows = record {
-        seen = omega (arith, all);
-        long = ap (λ (c : Content). c.length) shows ∙ long;
-        keeps = subst (λ c. Keeps (as_seen view.seen segments) c) (sym shows)
-            (subst (λ xs. Keeps xs content) (sym (sees_all view segments all)) keeps);
-      };
-    }
+  pub sized-here : AreSizedBy g.sizes file.views
+  sized-here = fetches_show.sized g v m.views count number there.0 file there.2
 
--- it is the handle's latest one, and no other handle's
+  pub reads-as : (offset len : ℕ) (read : ℕ × ℕ × List ℕ) → 0 < len → offset < FILE_END → len ≤ WINDOW
+      → IsReadBy (told_by v.yard.setting.block g.blocks) file.views (asked_parts offset len) read
+      → reading m.views number there.0 (asked_parts offset len) read.0 read.1 ≡ Some read.2
+  reads-as offset len read some low long by =
+      fetches_show.same g v m.views count number offset len there.0 file read some low long there.2 by
 
-fresh-taken : (s : State) (handle inode : ℕ) (m : OpenFile) (views : List ModelView)
-    → m.inode ≡ inode → m.opened ≤ s.count
-    → fresh_view (view_now s handle inode 0 ∷ views) handle m 0 ≡ Some (view_now s handle inode 0)
-fresh-taken s handle inode m views same before =
-    let mine : (handle == handle) ≡ true = grind (arith, nat_tests) in
-    let equal : (inode == m.inode) ≡ true = grind (arith, nat_tests) in
-    let later : nat_lt m.opened (s.count + 1) ≡ true = grind (arith, nat_tests) in
-    let taken = λ (b : Bool). if b then Some (view_now s handle inode 0) else fresh_view views handle m 0 in
-    ap (λ b. taken (b && (inode == m.inode) && true && nat_lt m.opened (s.count + 1))) mine
-    ∙ ap (λ b. taken (b && true && nat_lt m.opened (s.count + 1))) equal
-    ∙ ap taken later
+-- the first window was seen
+pub seen_first : (told : Told) (views : SeenViews) (parts : List Asked) (read : ℕ × ℕ × List ℕ)
+    → IsReadBy told views parts read → first_seen views parts
+seen_first told views parts read (One asked others view is seen ends e) =
+    subst (first_seen views) (sym is) (ap is_some seen)
+seen_first told views parts read (Two asked other view next is seen full after e) =
+    subst (first_seen views) (sym is) (ap is_some seen)
 
-fresh-not_taken : (s : State) (handle inode n : ℕ) (m : OpenFile) (views : List ModelView) → (n ≡ handle → ⊥)
-    → fresh_view (view_now s handle inode 0 ∷ views) n m 0 ≡ fresh_view views n m 0
-fresh-not_taken s handle inode n m views apart =
-    let other : (handle == n) ≡ false = grind (arith, nat_tests) in
-    let taken = λ (b : Bool). if b then Some (view_now s handle inode 0) else fresh_view views n m 0 in
-    ap (λ b. taken (b && (inode == m.inode) && true && nat_lt m.opened (s.count + 1))) other
+pub seen_window : (views : SeenViews) (offset len : ℕ) → 0 < len → offset < FILE_END
+    → first_seen views (asked_parts offset len) → is_some (view_at views (offset / WINDOW)) ≡ true
+seen_window views offset len some low =
+    by_parts offset len some low (λ parts. first_seen views parts → is_some (view_at views (offset / WINDOW)) ≡ true)
+    (λ single seen. seen) (λ double seen. seen)
 
--- client and model after the look
-looked-held : (s : State) (c : ModelClient) (files : FilesValue) (h : ClientValue) (handle : ℕ) (m : OpenFile)
-    (file : Handle) (view : View) (doing : Option ModelDoing) (mine : Option Doing)
-    → IsHeld c s.count files h → file_of c.handles handle ≡ Some m → file_of h.handles handle ≡ Some file
-    → IsHandle c.views s.count files handle m file → IsView files file.inode (view_now s handle file.inode 0) view
-    → IsHeld (record c { views = view_now s handle file.inode 0 ∷ c.views; doing = doing }) (s.count + 1) files
-    (with_view handle file view mine h)
-looked-held s c files h handle m file view doing mine held is opened same shown =
-    let taken = view_now s handle file.inode 0 in
-    let before = same.before in
-    record {
-      session = held.session;
-      direct = held.direct;
-      removed = held.removed;
-      handles = same-with_file (IsHandle c.views s.count files) (IsHandle (taken ∷ c.views) (s.count + 1) files) handle
-          c.handles h.handles m file (record file { view = Some view }) is opened
-          (λ n a b apart other. record {
-            inode = other.inode;
-            opened = other.opened;
-            before = (let early = other.before in omega (arith, early));
-            view = subst (λ o. SamePlace (IsView files b.inode) o b.view)
-                (sym (fresh-not_taken s handle file.inode n a c.views apart)) other.view;
-          })
-          (record {
-            inode = same.inode;
-            opened = same.opened;
-            before = omega (arith, before);
-            view = subst (λ o. SamePlace (IsView files file.inode) o (Some view))
-                (sym (fresh-taken s handle file.inode m c.views same.inode before)) shown;
-          })
-          held.handles;
-      views = (omega arith, views-later s.count (s.count + 1) c.views (omega arith) held.views);
-      pending = held.pending;
-    }
+-- ---- a reading that has begun before
 
--- an operation written out
-written_out : (d : Doing) (o : Op) (does : Does) (first : Flush) → d.op ≡ o → d.does ≡ does → d.flush ≡ first
-    → d ≡ record d { op = o; does = does; flush = first }
-written_out d o does first of_op of_does of_flush =
-    ap (λ o. record d { op = o }) of_op ∙ ap (λ does. record d { op = o; does = does }) of_does
-    ∙ ap (λ first. record d { op = o; does = does; flush = first }) of_flush
+module _ (h : ClientValue) where
+  reading_in : (o : Option Doing) (next : Need) → need_in o ≡ Some next
+      → (d : Doing) × (fetch : Fetching) × (o ≡ Some d) × (d.progress ≡ Reading fetch next)
+  reading_in None next e = absurd (cc e)
+  reading_in (Some d) next e = by_progress d.progress refl e
+    where
+      by_progress : (p : Progress) → d.progress ≡ p → need_at p ≡ Some next
+          → (d' : Doing) × (fetch : Fetching) × (Some d ≡ Some d') × (d'.progress ≡ Reading fetch next)
+      by_progress (Working quiets started id) is e = absurd (cc e)
+      by_progress (Reading fetch other) is e = (d, fetch, refl, is ∙ ap (Reading fetch) (cc e))
 
--- a reading in progress, by the handle and the file that the code names
-pub at_file : (h : ClientValue) (handle offset len : ℕ) (file : Handle) (d : Doing)
-    → h.doing ≡ Some d → d.does ≡ does.Reads offset len → IsReady h → left h ≡ None
-    → handle ≡ handle_of d.op → file_of h.handles handle ≡ Some file
-    → IsAtFile h handle offset len file d.progress d.has_moved
-at_file h handle offset len file d busy of_does ready none names opened =
-    let under = under_way h d busy ready in
-    let r = flushes_otherwise h d under.form (ap does_otherwise of_does) in
-    let is = reads_here d r.handle offset len r.reason of_does in
-    let own : handle ≡ r.handle = names ∙ names_it d r.handle r.reason in
-    let both : Some file ≡ Some r.file = sym opened ∙ ap (file_of h.handles) own ∙ r.opened in
-    let same : file ≡ r.file = cc both in
-    let reads : d.op ≡ op.Read handle offset len = is.0 ∙ ap (λ handle. op.Read handle offset len) (sym own) in
-    let first : d.flush ≡ flush.File file.inode =
-    r.flushes ∙ ap (λ (file : Handle). flush.File file.inode) (sym same) in
-    let spelt : d ≡ reader handle offset len file.inode d.progress d.has_moved =
-    written_out d (op.Read handle offset len) (does.Reads offset len) (flush.File file.inode) reads of_does first in
-    let flushed : left_of h.pending (Some d) ≡ None = ap (left_of h.pending) (sym busy) ∙ none in
-    record {
-      busy = busy ∙ ap Some spelt;
-      opened = opened;
-      some = is.1;
-      short = is.2;
-      mounted = r.session;
-      flushed = ap (λ first. is_some (segment_left first h.pending)) (sym first) ∙ ap is_some flushed;
-      ready = ready;
-    }
+  pub ahead-already : (block : ℕ) (next : Need) → IsReady h → need_in h.doing ≡ Some next → IsAhead block h h
+  ahead-already block next ready needs =
+      let at = reading_in h.doing next needs in
+      let d : Doing = at.0 in
+      let fetch : Fetching = at.1 in
+      let is : d ≡ put_at (Reading fetch next) d = ap (λ p. put_at p d) at.3 in
+      let reads : IsReading h d fetch next = subst (IsAt h d) at.3 (under h d at.2 ready).at in
+      record {
+        d = d;
+        fetch = fetch;
+        next = next;
+        busy = at.2;
+        is = ap (λ o. record h { doing = o }) (at.2 ∙ ap Some is);
+        reads = reads.read;
+        fewer = omega arith;
+        goes = λ g v m count block_is client. (
+          subst (λ (p : Progress). GoesOn g v h (put_at p d) p) at.3
+              (subst (λ (o : Option Doing). IfSome o (λ (d : Doing). GoesOn g v h d d.progress)) at.2 client.reading),
+          client.cache,
+        );
+      }
 
--- what is still known of the reading
+-- ---- a reading begins
 
-pub reading_on : {h : ClientValue} {handle offset len : ℕ} {file : Handle} {progress : Progress} {moved : Bool}
-    → IsAtFile h handle offset len file progress moved
-    → IsUnderWay h (reader handle offset len file.inode progress moved)
-reading_on {h} {handle} {offset} {len} {file} {progress} {moved} at =
-    under_way h (reader handle offset len file.inode progress moved) at.busy at.ready
+-- a cache that is there, or a new one
+pub record HasCache (h : ClientValue) (cache : Cached) : Type 0 where
+  pub knows : (sizes : ℕ → ℕ) (block : ℕ) (blocks : Blocks) → IfSome h.cache (IsCacheOf sizes block blocks)
+      → IsCacheOf sizes block blocks cache
 
-module _ (h : ClientValue) (files : FilesValue) (c : ModelClient) (count : ℕ) (held : IsHeld c count files h) where
-  -- the file of the model's client
-  pub opened_in : (handle : ℕ) (file : Handle) → file_of h.handles handle ≡ Some file
-      → (m : OpenFile) × (file_of c.handles handle ≡ Some m) × IsHandle c.views count files handle m file
-  opened_in handle file opened =
-      there_in (IsHandle c.views count files handle) (file_of c.handles handle) (file_of h.handles handle) file opened
-      (file-same (IsHandle c.views count files) c.handles h.handles held.handles handle)
+module _ (offset len block : ℕ) (h : ClientValue) (d : Doing) (busy : h.doing ≡ Some d)
+    (is : d.does ≡ does.Reads offset len) (ready : IsReady h) (none : left h ≡ None) (first : need_in h.doing ≡ None)
+    (on : ReadsFile h d offset len) where
+  abbrev start : Fetching
+  start = begins block (asked_parts offset len)
 
-  pub flushed_in : (inode : ℕ) → is_some (segment_left (flush.File inode) h.pending) ≡ false
-      → is_flushed (OfFiles (inode ∷ [])) c.pending ≡ true
-  flushed_in inode none = ap (λ pending. is_flushed (OfFiles (inode ∷ [])) pending) held.pending ∙ ap not none
+  opened : file_of h.handles (handle_of d.op) ≡ Some on.file
+  opened = ap (λ o. file_of h.handles (handle_of o)) on.op_is ∙ on.opened
 
--- whether the model's reading has a view of its window
-abbrev sees_in : ModelClient → ℕ → Option OpenFile → List Asked → Bool
-sees_in c handle None parts = false
-sees_in c handle (Some file) [] = false
-sees_in c handle (Some file) (asked ∷ others) = is_some (fresh_view c.views handle file asked.window)
+  not_begun : NotBegun d
+  not_begun = not-begun h d (under h d busy ready) (flushed-here h d busy none) (ap need_in (sym busy) ∙ first)
 
-pub sees-window : (c : ModelClient) (handle offset len inode : ℕ) (progress : Progress) (moved : Bool) (m : OpenFile)
-    → 0 < len → offset + len ≤ WINDOW → file_of c.handles handle ≡ Some m
-    → sees_first c (doing_of (reader handle offset len inode progress moved)) (asked_parts offset len)
-    ≡ is_some (fresh_view c.views handle m 0)
-sees-window c handle offset len inode progress moved m some short is =
-    ap (sees_first c (doing_of (reader handle offset len inode progress moved))) (one_part offset len some short)
-    ∙ ap (λ o. sees_in c handle o (first_part offset len ∷ [])) is
+  -- the steps that are left before it
+  most : steps_left h ≡ 3 * length h.pending + (len + 2) - 0
+  most =
+      let n = length h.pending in
+      ap (steps_of n) busy
+      ∙ ap (λ (p : Progress). steps_in n (record d { progress = p })) not_begun.progress
+      ∙ ap (λ (x : Does). 3 * n + reading_steps x - 0) is
 
--- a look, in the model
-pub record HasLooked (s : State) (h : ClientValue) (files : FilesValue) (now handle offset len started : ℕ)
-    (moved : Bool) (file : Handle) (view : View) : Type 0 where
-  pub m : OpenFile
-  pub is : file_of (s.clients h.id).handles handle ≡ Some m
-  pub allowed : (start : Start) (alone : Bool) → IsEntry start alone s h.id now (Look file.inode 0) true
-  pub leads : (stepped s h.id now (Look file.inode 0)).clients h.id
-      ≡ looked_client s handle file.inode (doing_of (reader handle offset len file.inode (Working 0 started) moved))
-      (s.clients h.id)
-  pub tree : (stepped s h.id now (Look file.inode 0)).tree ≡ s.tree
-  pub fresh : fresh_view (view_now s handle file.inode 0 ∷ (s.clients h.id).views) handle m 0
-      ≡ Some (view_now s handle file.inode 0)
-  pub held : (doing : Option ModelDoing) (mine : Option Doing)
-      → IsHeld (record (s.clients h.id) {
-        views = view_now s handle file.inode 0 ∷ (s.clients h.id).views;
-        doing = doing;
-      }) (s.count + 1) files (with_view handle file view mine h)
-  pub taken : IsView files file.inode (view_now s handle file.inode 0) view
+  module _ (cache later : Cached) (has : HasCache h cache) (looks : LooksUp cache later) where
+    abbrev went : ClientValue
+    went = record h { cache = Some later }
 
-pub has_looked : (s : State) (h : ClientValue) (files : FilesValue) (before after : Store)
-    (now handle offset len started : ℕ) (moved : Bool) (file : Handle) (view : View)
-    → IsAtFile h handle offset len file (Working 0 started) moved → file.view ≡ None
-    → HasSeen (session_here h) files before after file.inode view
-    → s.count + 1 ≡ view.entry → HasStore s.tree (shared files before) → IsClient (s.clients h.id) s.count files h
-    → HasLooked s h files now handle offset len started moved file view
-has_looked s h files before after now handle offset len started moved file view at none seen entry has client =
-    let c = s.clients h.id in
-    let inode = file.inode in
-    let d = reader handle offset len inode (Working 0 started) moved in
-    let mine = opened_in h files c s.count client.held handle file at.opened in
-    let m : OpenFile = mine.0 in
-    let same = mine.2 in
-    let busy = client-doing d at.busy client in
-    let found = sees_file (session_here h) inode view.seen.length (is_some (get s.tree.sessions (session_here h)))
-    (content_at s.tree inode)
-    (agrees_in files before after (Ok view.seen.length) (length_seen (session_here h) inode) s.tree seen.looks has) in
-    let unseen = none_in (IsView files inode) (fresh_view c.views handle m 0) file.view none same.view in
-    let taken = view-taken s files handle inode view found.content found.file found.long
-    (has.stored inode found.content found.file) seen.all entry in
-    record {
-      m = m;
-      is = mine.1;
-      allowed = λ start alone. record {
-        doing = doing_of d;
+    later-knows : (sizes : ℕ → ℕ) (block : ℕ) (blocks : Blocks) → IfSome h.cache (IsCacheOf sizes block blocks)
+        → IsCacheOf sizes block blocks later
+    later-knows sizes block blocks known =
+        cache_of-looks sizes block blocks cache later looks (has.knows sizes block blocks known)
+
+    pub begins-cached : IsCachedAs h went
+    begins-cached = record { cache = Some later; after_is = refl; knows = later-knows }
+
+    -- it goes on well by the views of its handle
+    reads-on : (sizes : ℕ → ℕ) (blocks : Blocks) → AreSizedBy sizes on.file.views
+        → IfSome h.cache (IsCacheOf sizes block blocks) → HasCached blocks on.file.views block cache
+    reads-on sizes blocks sized known =
+        cache_of-has sizes block blocks on.file.views cache sized (has.knows sizes block blocks known)
+
+    begins-well : (blocks : Blocks) → IsFetching blocks on.file.views (asked_parts offset len) start
+    begins-well blocks = fetches_go_on.begin blocks on.file.views block offset len on.some on.low
+
+    -- and needs something
+    module _ (fetch : Fetching) (next : Need) (comes : ComesTo on.file.views cache start (ahead.Needs fetch next)) where
+      abbrev put : Doing
+      put = put_at (Reading fetch next) d
+
+      abbrev began : ClientValue
+      began = record went { doing = Some put }
+
+      goes : GoesAhead on.file.views cache start fetch
+      goes = comes.0
+
+      began-goes : (g : Known) (v : Shared) (m : ModelClient) (count : ℕ) → v.yard.setting.block ≡ block
+          → IsClient g v m count h
+          → GoesOn g v began put (Reading fetch next) × IfSome began.cache (IsCacheOf g.sizes v.yard.setting.block g.blocks)
+      began-goes g v m count same client =
+          let sized = sized-here g v m count h client.held (handle_of d.op) on.file opened in
+          let known = subst (λ block. IfSome h.cache (IsCacheOf g.sizes block g.blocks)) same client.cache in
+          let fetching : IsFetching g.blocks on.file.views (asked_parts offset len) fetch =
+          goes.reads g.blocks (asked_parts offset len) (reads-on g.sizes g.blocks sized known) (begins-well g.blocks) in
+          let asked : IsFetching g.blocks on.file.views (asked_of d.does) fetch =
+          subst (λ (x : Does). IsFetching g.blocks on.file.views (asked_of x) fetch) (sym is) fetching in
+          (
+            subst (λ (o : Option Handle). IsSomeAnd o (λ (handle : Handle). (fetch.block ≡ v.yard.setting.block)
+                × IsFetching g.blocks handle.views (asked_of d.does) fetch)) (sym opened) (goes.block ∙ sym same, asked),
+            later-knows g.sizes v.yard.setting.block g.blocks client.cache,
+          )
+
+      pub begins-ahead : IsAhead block h began
+      begins-ahead = record {
+        d = d;
+        fetch = fetch;
+        next = next;
         busy = busy;
-        begins_is = refl;
-        may = looks_at s c handle offset len inode started moved m
-            (flushed_in h files c s.count client.held inode at.flushed) mine.1 (sym same.inode) unseen at.some at.short
-            (session-same s.tree c h client.held.session ∙ found.session)
-            (content-there (node_at s.tree inode) found.content found.file);
-      };
-      leads = client-look s h.id now handle offset len inode started moved busy;
-      tree = tree-look s h.id now handle offset len inode started moved busy;
-      fresh = fresh-taken s handle inode m c.views same.inode same.before;
-      held = λ doing own. looked-held s c files h handle m file view doing own client.held mine.1 at.opened same taken;
-      taken = taken;
+        is = refl;
+        reads = (offset, len, is);
+        fewer = (let few = goes.few in let weight = fetches_go_on.weight block offset len on.some on.low in
+            omega (arith, few, weight, most));
+        goes = began-goes;
+      }
+
+      began-reads : IsReading began put fetch next
+      began-reads = record {
+        read = (offset, len, is);
+        flushed = ap is_some (flushed-here h d busy none);
+        goes_on = subst (λ (o : Option Handle). IsSomeAnd o (λ (handle : Handle). CanFetch handle.views fetch
+            × Wants handle.views fetch next)) (sym opened) (goes.can tt, comes.1);
+        more = comes.2;
+        cache = refl;
+      }
+
+      pub begins-ready : IsReady began
+      begins-ready = record {
+        buffer = ready.buffer;
+        doing = record {
+          form = Flushes on.handle on.file (Reads offset len on.op_is is on.some on.long on.low) on.first on.opened
+              on.session;
+          at = began-reads;
+          asks = λ moved. refl;
+        };
+      }
+
+    -- or it has read all
+    pub begins-read : (found : Found) → ComesTo on.file.views cache start (ahead.Read found)
+        → ReadsAtOnce offset len block h went found
+    begins-read found comes = record {
+      same = begins-cached;
+      read = λ d' file sizes blocks busy' opened' sized known.
+          let same : d ≡ d' = (let both : Some d ≡ Some d' = sym busy ∙ busy' in cc both) in
+          let named : Some on.file ≡ Some file = sym opened ∙ ap (λ (d : Doing). file_of h.handles (handle_of d.op)) same
+          ∙ opened' in
+          let file_is : on.file ≡ file = cc named in
+          subst (λ (file : Handle). IsReadBy (told_by block blocks) file.views (asked_parts offset len) (read_of found))
+          file_is
+          (comes blocks (asked_parts offset len)
+          (reads-on sizes blocks (subst (λ (file : Handle). AreSizedBy sizes file.views) (sym file_is) sized) known)
+          (begins-well blocks));
     }
+
+-- ---- it has read all
+
+pub reads-all : (views : SeenViews) (cache : Cached) (fetch next : Fetching) (need : Need) (found : Found)
+    → next.block ≡ fetch.block → need ≡ Nothing → Wants views next need
+    → ((blocks : Blocks) (all : List Asked) → HasCached blocks views fetch.block cache
+    → IsFetching blocks views all fetch → IsFetching blocks views all next)
+    → read_of found ≡ fetched_of next → ComesTo views cache fetch (ahead.Read found)
+reads-all views cache fetch next need found block none wants reads is = λ blocks all cached fetching.
+    let over : Wants views next Nothing = subst (Wants views next) none wants in
+    let by : IsReadBy (told_by next.block blocks) views all (fetched_of next) =
+    fetches_show.done blocks views all next over.1 (reads blocks all cached fetching) in
+    subst (λ n. IsReadBy (told_by n blocks) views all (read_of found)) block
+    (subst (IsReadBy (told_by next.block blocks) views all) (sym is) by)
+
+-- ---- with the cache that is there, or a new one
+
+made_cache : (before after : Option Cached) (cache : Cached) → IsMade before after → after ≡ Some cache
+    → (sizes : ℕ → ℕ) (block : ℕ) (blocks : Blocks) → IfSome before (IsCacheOf sizes block blocks)
+    → IsCacheOf sizes block blocks cache
+made_cache (Some old) after cache made is sizes block blocks known =
+    let both : Some old ≡ Some cache = sym made ∙ is in
+    let same : old ≡ cache = cc both in
+    subst (IsCacheOf sizes block blocks) same known
+made_cache None after cache made is sizes block blocks known =
+    let empty : IsSomeAnd (Some cache) (λ (cache : Cached). cache.blocks ≡ []) =
+    subst (λ (o : Option Cached). IsSomeAnd o (λ (cache : Cached). cache.blocks ≡ [])) is made in
+    cache_of-empty sizes block blocks cache empty
+
+module _ (h middle after : ClientValue) (made : Option Cached) (is_made : IsMade h.cache made)
+    (middle_is : middle ≡ record h { cache = made }) (looks : OnlyLooksUp middle after) where
+  was : made ≡ Some looks.cache
+  was = sym (ap (λ (h : ClientValue). h.cache) middle_is) ∙ looks.was
+
+  has_cache : HasCache h looks.cache
+  has_cache = record { knows = made_cache h.cache made looks.cache is_made was }
+
+  after_went : after ≡ record h { cache = Some looks.later }
+  after_went = looks.after_is ∙ ap (λ (h : ClientValue). record h { cache = Some looks.later }) middle_is
+
+  pub ahead-cached : IsCachedAs h after
+  ahead-cached = record {
+    cache = Some looks.later;
+    after_is = after_went;
+    knows = λ sizes block blocks known.
+        cache_of-looks sizes block blocks looks.cache looks.later looks.looks
+        (has_cache.knows sizes block blocks known);
+  }
+
+  module _ (offset len block : ℕ) (does : does_of h.doing ≡ Some (does.Reads offset len)) (ready : IsReady h)
+      (none : left h ≡ None) (first : need_in h.doing ≡ None) where
+    abbrev here : ReadsHere h offset len
+    here = reads-here h offset len does ready
+
+    comes-here : (fetch : Fetching) (came ahead : Ahead) → fetch ≡ begins block (asked_parts offset len)
+        → came ≡ ahead → ClientComesTo fetch middle came
+        → ComesTo here.file.file.views looks.cache (begins block (asked_parts offset len)) ahead
+    comes-here fetch came ahead of_fetch of_ahead comes =
+        subst (ComesTo here.file.file.views looks.cache (begins block (asked_parts offset len))) of_ahead
+        (subst (λ (fetch : Fetching). ComesTo here.file.file.views looks.cache fetch came) of_fetch (comes here.d here.file.file looks.cache (ap (λ (h : ClientValue). h.doing) middle_is ∙ here.busy)
+        (ap (λ (h : ClientValue). file_of h.handles (handle_of here.d.op)) middle_is ∙ here.opened) looks.was))
+
+    pub begins-none : (start : Fetching) (came : Ahead) (fetch : Fetching) (next : Need)
+        → start ≡ begins block (asked_parts offset len) → came ≡ ahead.Needs fetch next
+        → ClientComesTo start middle came → (doing : Option Doing) (end : ClientValue)
+        → doing ≡ option_map (put_at (Reading fetch next)) after.doing → end ≡ record after { doing = doing }
+        → Begins offset len block h end None
+    begins-none start came fetch next of_start of_ahead comes doing end doing_is put_is =
+        let d = here.d in
+        let to = comes-here start came (ahead.Needs fetch next) of_start of_ahead comes in
+        let end_is : end ≡ record after { doing = option_map (put_at (Reading fetch next)) after.doing } =
+        put_is ∙ ap (λ (o : Option Doing). record after { doing = o }) doing_is in
+        let began : ClientValue = record h { cache = Some looks.later; doing = Some (put_at (Reading fetch next) d) } in
+        let is : end ≡ began =
+        end_is
+        ∙ ap (λ (h : ClientValue). record h { doing = option_map (put_at (Reading fetch next)) h.doing }) after_went
+        ∙ ap (λ (o : Option Doing). record h {
+          cache = Some looks.later;
+          doing = option_map (put_at (Reading fetch next)) o;
+        }) here.busy in
+        subst (λ (c : ClientValue). IsAhead block h c × IsReady c) (sym is)
+        (
+          begins-ahead offset len block h d here.busy here.does_is ready none first here.file looks.cache looks.later has_cache
+              looks.looks fetch next to,
+          begins-ready offset len block h d here.busy here.does_is ready none first here.file looks.cache looks.later has_cache
+              looks.looks fetch next to,
+        )
+
+    pub begins-some : (start : Fetching) (came : Ahead) (found : Found) → start ≡ begins block (asked_parts offset len)
+        → came ≡ ahead.Read found → ClientComesTo start middle came → Begins offset len block h after (Some found)
+    begins-some start came found of_start of_ahead comes =
+        subst (λ (c : ClientValue). ReadsAtOnce offset len block h c found) (sym after_went)
+        (begins-read offset len block h here.d here.busy here.does_is ready none first here.file looks.cache looks.later
+        has_cache looks.looks found (comes-here start came (ahead.Read found) of_start of_ahead comes))
+
+-- what holds anyway holds on an error
+pub on_err : {A E : Type 0} (result : Result A E) (P : Type 0) → P → OnErr result P
+on_err (Ok value) P p = tt
+on_err (Err fault) P p = p
+
+-- a client that only kept its cache
+pub same-cached : (h : ClientValue) → IsCachedAs h h
+same-cached h = record { cache = h.cache; after_is = refl; knows = λ sizes block blocks known. known }

@@ -1,26 +1,29 @@
 -- An operation that was begun goes on well.
 use Rattle.std.proofs.Common.{◌≡◌, ℕ, zero, suc, ◌+◌, ◌≤◌, ◌<◌, Bool, true, false, ◌&&◌, ◌||◌, not, List, [], ◌∷◌, length, Option, None, Some, inl, inr, refl, sym, ap, subst, ◌∙◌, arith}
-use Rattle.std.specs.Prelude.{nat_lt, nat_le, is_some, ◌==◌, if◌then◌else◌}
-use Rattle.std.proofs.lemmas.Bool.{and_parts, le-ltb, leb-true, not-true, not-false, or_parts}
-use Rattle.std.proofs.Math.Nat.{min-le_left}
+use Rattle.std.specs.Prelude.{IfSome, nat_lt, nat_le, is_some, ◌==◌, if◌then◌else◌}
+use Rattle.std.proofs.lemmas.Bool.{leb-false, leb-true, ltb-false, not-false, not-true, or_parts}
 use Rattle.std.proofs.lemmas.Bool.Decides.{eqb_tells}
-use Rattle.jv_model.specs.declared.limits.TheConstants.{DEFAULT_BUFFER, FILE_END, MAX_HANDLES, WINDOW}
+use Rattle.jv_model.specs.declared.limits.TheConstants.{FILE_END, MAX_DATA, MAX_HANDLES}
 use Rattle.jv_model.specs.declared.fault.Fault.TheVariants.{InProgress, NotConnected, BadHandle, TooManyHandles, FileTooLarge}
 use Rattle.jv_model.specs.declared.op.Op.{Op}
 use Rattle.jv_model.specs.declared.op.Op.TheVariants as op
 use Rattle.jv_model.specs.declared.profile.Does.TheVariants as does
 use Rattle.jv_model.specs.declared.profile.Answer.TheVariants as answer
 use Rattle.jv_model.specs.declared.profile.Profile.{Profile}
+use Rattle.jv_model.specs.client.Pending.{Segment}
 use Rattle.jv_model.specs.client.Profile.{profile}
 use Rattle.jv_model.specs.client.ModelClient.{file_of, open_count}
-use Rattle.jv_model.specs.client.Submission.{first_refusal, is_mount, submission_of, names_closed, by_limits}
-use Rattle.jv_client.specs.Built.{has_form, may_hold, is_built_op, pending_limit}
+use Rattle.jv_model.specs.client.Submission.{first_refusal, is_closed, is_mount, submission_of, names_closed, by_limits}
+use Rattle.jv_handles.specs.declared.handle.Handle.{Handle}
+use Rattle.jv_handles.specs.Handles.{inode_here, inode_of_handle}
+use Rattle.jv_handles.proofs.TableLaws.{the_some}
+use Rattle.jv_client.specs.Built.{is_built_op}
 use Rattle.jv_client.specs.declared.doing.Doing.{Doing}
+use Rattle.jv_client.specs.declared.doing.Flush.{Flush}
 use Rattle.jv_client.specs.declared.doing.Flush.TheVariants as flush
 use Rattle.jv_client.specs.ClientValue.{ClientValue}
-use Rattle.jv_client.specs.Held.{begun, flush_here, inode_here, inode_of_handle}
-use Rattle.jv_client.specs.UnderWay.{FlushesFor, Closes, Syncs, Describes, ReadsNothing, Reads, IsForm, Mounts, Transacts, Leaves, Writes, Flushes, IsUnderWay, IsReady}
-use Rattle.jv_client.proofs.TableLaws.{the_some}
+use Rattle.jv_client.specs.Held.{begun, flush_here, segment_left}
+use Rattle.jv_client.specs.UnderWay.{Alone, Beside, Closes, Copies, Describes, Flushes, FlushesFor, HasRoom, IsForm, IsReady, IsUnderWay, Leaves, Mounts, Reads, ReadsNothing, Syncs, TellsStats, Transacts, Truncates, Writes}
 
 -- a submission that isn't refused
 
@@ -50,10 +53,6 @@ above : (n : ℕ) → (n ≡ 0 → ⊥) → 0 < n
 above zero some = absurd (some refl)
 above (suc n) some = omega arith
 
-first_of_or : (a b : Bool) → (a || b) ≡ true → b ≡ false → a ≡ true
-first_of_or true b e none = refl
-first_of_or false b e none = absurd (cc (sym e ∙ none))
-
 module _ (h : ClientValue) where
   abbrev pub starts : Op → Doing
   starts o = begun o (by_limits h.limits (profile o).does) (flush_here h (profile o))
@@ -65,6 +64,11 @@ module _ (h : ClientValue) where
       let both = or_parts writeback h.limits.writeback none in
       Mounts (ap op.Mount both.0) (ap does.Mounts none) refl
 
+  -- the file of a handle that isn't closed
+  opened_file : (handle : ℕ) → is_closed h.handles handle ≡ false
+      → (file : Handle) × (file_of h.handles handle ≡ Some file)
+  opened_file handle there = the_some (file_of h.handles handle) (not-false _ there)
+
   -- the file of a handle that is flushed first
   flushes_form : (o : Op) (handle : ℕ) → flush_here h (profile o) ≡ flush.File (inode_here h.handles handle)
       → FlushesFor (starts o) handle
@@ -72,80 +76,117 @@ module _ (h : ClientValue) where
       → is_some h.session ≡ true → names_closed h.handles (profile o).handles ≡ false → IsForm h (starts o)
   flushes_form o handle first for same session opened =
       let closed = or_parts _ _ (sym same ∙ opened) in
-      let file = the_some (file_of h.handles handle) (not-false _ closed.0) in
+      let file = opened_file handle closed.0 in
       Flushes handle file.0 for (first ∙ ap (λ f. flush.File (inode_of_handle f)) file.1) file.1 session
 
   read_for : (handle offset len : ℕ) (none : Bool) → ((len == 0) || nat_le FILE_END offset) ≡ none
-      → nat_le (offset + len) WINDOW ≡ true
+      → nat_le len MAX_DATA ≡ true
       → FlushesFor (begun (op.Read handle offset len) (by_limits h.limits
       (if none then does.Answers answer.NoData else does.Reads offset len))
       (flush.File (inode_here h.handles handle))) handle
   read_for handle offset len true e short = ReadsNothing offset len refl refl
   read_for handle offset len false e short =
-      let some = (or_parts (len == 0) _ e).0 in
-      Reads offset len refl refl (elim (eqb_tells len 0)
-      [ inl same ↦ absurd (cc (sym same.0 ∙ some)) | inr other ↦ above len other.1 ])
-      (leb-true (offset + len) WINDOW short)
+      let parts = or_parts (len == 0) _ e in
+      let few = leb-true len MAX_DATA short in
+      let low = leb-false FILE_END offset parts.1 in
+      Reads offset len refl refl
+      (elim (eqb_tells len 0) [ inl same ↦ absurd (cc (sym same.0 ∙ parts.0)) | inr other ↦ above len other.1 ])
+      (omega (arith, few)) (omega (arith, low))
 
-  write_form : (handle offset : ℕ) (bytes : List ℕ) → (nat_le (offset + length bytes) WINDOW || nat_lt FILE_END
-      (offset + length bytes)) ≡ true
-      → nat_le (length h.pending + length bytes) (pending_limit h.limits) ≡ true
-      → names_closed h.handles (profile (op.Write handle offset bytes)).handles ≡ false
+  -- a write that there is room for, beside what is pending or once that was committed
+  room_for : (len : ℕ) (full : Bool) → nat_lt h.limits.buffer (length h.pending + len) ≡ full
+      → len ≤ h.limits.buffer → HasRoom h (if full then flush.All else flush.Nothing) len
+  room_for len true e few = Alone refl few
+  room_for len false e few =
+      Beside refl (let fits = ltb-false h.limits.buffer (length h.pending + len) e in omega (arith, fits))
+
+  write_form : (handle offset : ℕ) (bytes : List ℕ) → MAX_DATA ≤ h.limits.buffer → nat_le (length bytes) MAX_DATA ≡ true
+      → is_some h.session ≡ true → names_closed h.handles (profile (op.Write handle offset bytes)).handles ≡ false
       → nat_lt FILE_END (offset + length bytes) ≡ false → IsForm h (starts (op.Write handle offset bytes))
-  write_form handle offset bytes form few opened short =
+  write_form handle offset bytes buffer few session opened short =
       let closed = or_parts _ _ opened in
-      let file = the_some (file_of h.handles handle) (not-false _ closed.0) in
-      let fits : length h.pending + length bytes ≤ pending_limit h.limits = leb-true _ _ few in
-      let small : pending_limit h.limits ≤ h.limits.buffer = min-le_left h.limits.buffer DEFAULT_BUFFER in
-      Writes handle offset bytes file.0 refl refl
-      (ap (λ b. if b then flush.All else flush.Nothing)
-      (le-ltb h.limits.buffer (length h.pending + length bytes) (omega (arith, fits, small))))
-      file.1 (leb-true _ _ (first_of_or _ _ form short)) fits
+      let file = opened_file handle closed.0 in
+      let low = leb-true (length bytes) MAX_DATA few in
+      let end = ltb-false FILE_END (offset + length bytes) short in
+      Writes handle offset bytes file.0 refl refl file.1 (omega (arith, end))
+      (room_for (length bytes) (nat_lt h.limits.buffer (length h.pending + length bytes)) refl (omega (arith, low, buffer)))
+      session
 
-  form_of : (o : Op) → has_form h.limits o ≡ true → may_hold h.limits (length h.pending) o ≡ true
+  copy_form : (source from target to len : ℕ) → is_some h.session ≡ true
+      → names_closed h.handles (profile (op.Copy source from target to len)).handles ≡ false
+      → IsForm h (starts (op.Copy source from target to len))
+  copy_form source from target to len session opened =
+      let closed = or_parts (is_closed h.handles source) _ opened in
+      let other_closed = or_parts (is_closed h.handles target) _ closed.1 in
+      let file = opened_file source closed.0 in
+      let other = opened_file target other_closed.0 in
+      Copies source from target to len file.0 other.0 refl refl
+      (ap (λ f. flush.Files (inode_of_handle f) (inode_here h.handles target)) file.1
+      ∙ ap (λ f. flush.Files file.0.inode (inode_of_handle f)) other.1)
+      file.1 other.1 session
+
+  form_of : (o : Op) → MAX_DATA ≤ h.limits.buffer → is_built_op h.limits o ≡ true
       → IsAccepted (is_some h.session) (names_closed h.handles (profile o).handles) (profile o) → IsForm h (starts o)
-  form_of (op.Mount writeback) form few a = mount_form writeback form
-  form_of op.Umount form few a = Leaves refl refl refl (not-false _ a.mounted_is)
-  form_of (op.Fstat handle) form few a = flushes_form (op.Fstat handle) handle refl (Describes refl refl) refl
+  form_of (op.Mount writeback) buffer built a = mount_form writeback built
+  form_of op.Umount buffer built a = Leaves refl refl refl (not-false _ a.mounted_is)
+  form_of (op.Fstat handle) buffer built a =
+      flushes_form (op.Fstat handle) handle refl (Describes refl refl) refl (not-false _ a.mounted_is) a.opened
+  form_of (op.Close handle) buffer built a =
+      flushes_form (op.Close handle) handle refl (Closes refl refl) refl (not-false _ a.mounted_is) a.opened
+  form_of (op.Flush handle) buffer built a =
+      flushes_form (op.Flush handle) handle refl (Syncs refl refl) refl (not-false _ a.mounted_is) a.opened
+  form_of (op.Read handle offset len) buffer built a =
+      flushes_form (op.Read handle offset len) handle refl (read_for handle offset len _ refl built) refl
       (not-false _ a.mounted_is) a.opened
-  form_of (op.Close handle) form few a = flushes_form (op.Close handle) handle refl (Closes refl refl) refl
-      (not-false _ a.mounted_is) a.opened
-  form_of (op.Flush handle) form few a = flushes_form (op.Flush handle) handle refl (Syncs refl refl) refl
-      (not-false _ a.mounted_is) a.opened
-  form_of (op.Read handle offset len) form few a =
-      flushes_form (op.Read handle offset len) handle refl (read_for handle offset len _ refl form) refl
-      (not-false _ a.mounted_is) a.opened
-  form_of (op.Write handle offset bytes) form few a = write_form handle offset bytes form few a.opened a.short
-  form_of (op.Truncate handle len) form few a = absurd (cc form)
-  form_of (op.Copy source from target to len) form few a = absurd (cc form)
-  form_of (op.Compact path window) form few a = absurd (cc form)
-  form_of op.Clean form few a = absurd (cc form)
-  form_of (op.Gc delete) form few a = absurd (cc form)
-  form_of op.Upload form few a = absurd (cc form)
-  form_of op.Stats form few a = absurd (cc form)
-  form_of _ form few a = Transacts refl form refl refl (not-false _ a.mounted_is)
+  form_of (op.Write handle offset bytes) buffer built a =
+      write_form handle offset bytes buffer built (not-false _ a.mounted_is) a.opened a.short
+  form_of (op.Truncate handle len) buffer built a =
+      flushes_form (op.Truncate handle len) handle refl (Truncates len refl refl) refl (not-false _ a.mounted_is) a.opened
+  form_of (op.Copy source from target to len) buffer built a =
+      copy_form source from target to len (not-false _ a.mounted_is) a.opened
+  form_of (op.Compact path window) buffer built a = absurd (cc built)
+  form_of op.Clean buffer built a = absurd (cc built)
+  form_of (op.Gc delete) buffer built a = absurd (cc built)
+  form_of op.Upload buffer built a = absurd (cc built)
+  form_of op.Stats buffer built a = TellsStats refl refl refl (not-false _ a.mounted_is)
+  form_of _ buffer built a = Transacts refl built refl refl (not-false _ a.mounted_is)
+
+room-still : (h : ClientValue) (doing : Option Doing) (first : Flush) (len : ℕ) → HasRoom h first len
+    → HasRoom (record h { doing = doing }) first len
+room-still h doing first len (Beside is fits) = Beside is fits
+room-still h doing first len (Alone is fits) = Alone is fits
 
 still_form : (h : ClientValue) (d : Doing) (doing : Option Doing) → IsForm h d → IsForm (record h { doing = doing }) d
 still_form h d doing (Mounts o does first) = Mounts o does first
 still_form h d doing (Transacts o spelled does first session) = Transacts o spelled does first session
 still_form h d doing (Leaves o does first session) = Leaves o does first session
-still_form h d doing (Writes handle offset bytes file o does first opened short few) = Writes handle offset bytes file
-    o does first opened short few
+still_form h d doing (Writes handle offset bytes file o does opened short room session) =
+    Writes handle offset bytes file o does opened short (room-still h doing d.flush (length bytes) room) session
 still_form h d doing (Flushes handle file for first opened session) = Flushes handle file for first opened session
+still_form h d doing (Copies source from target to len file other o does first opened there session) =
+    Copies source from target to len file other o does first opened there session
+still_form h d doing (TellsStats o does first session) = TellsStats o does first session
 
 -- a built operation that is accepted is under way
-pub begun-ready : (h : ClientValue) (o : Op) (d : Doing) → is_built_op h.limits (length h.pending) o ≡ true
+pub begun-ready : (h : ClientValue) (o : Op) (d : Doing) → IsReady h → is_built_op h.limits o ≡ true
     → submission_of (is_some h.doing) (is_some h.session) (names_closed h.handles (profile o).handles)
     (open_count h.handles) (profile o) ≡ None
     → d ≡ starts h o → IsReady (record h { doing = Some d })
-begun-ready h o d built none same =
-    let both = and_parts (has_form h.limits o) _ built in
-    let form = form_of h o both.0 both.1 (accepted (is_some h.doing) (is_some h.session)
+begun-ready h o d ready built none same =
+    let form = form_of h o ready.buffer built (accepted (is_some h.doing) (is_some h.session)
     (names_closed h.handles (profile o).handles) (open_count h.handles) (profile o) none) in
     let way : IsUnderWay (record h { doing = Some d }) (starts h o) =
     record {
       form = still_form h (starts h o) (Some d) form;
-      at = record { few = omega arith; segment = λ less. absurd (omega (arith, less)) };
+      at = record {
+        few = few-none (segment_left (flush_here h (profile o)) h.pending);
+        segment = λ less. absurd (omega (arith, less));
+        numbered = λ less. absurd (omega (arith, less));
+      };
       asks = λ moved. absurd (cc moved);
     } in
-    subst (IsUnderWay (record h { doing = Some d })) (sym same) way
+    record { buffer = ready.buffer; doing = subst (IsUnderWay (record h { doing = Some d })) (sym same) way }
+  where
+    few-none : (o : Option Segment) → IfSome o (λ (segment : Segment). 0 ≤ 1 + segment.len)
+    few-none None = tt
+    few-none (Some segment) = omega arith

@@ -1,285 +1,201 @@
--- A reading shows the bytes of the view that its handle keeps.
-use Rattle.std.proofs.Common.{◌≡◌, ℕ, zero, suc, ◌+◌, ◌≤◌, ◌<◌, Bool, true, false, ◌||◌, List, [], ◌∷◌, length}
-use Rattle.std.proofs.Common.{Option, None, Some, refl, sym, ap, subst, ◌∙◌, arith}
-use Rattle.std.specs.Prelude.{is_some, nat_lt, if◌then◌else◌, IfSome}
-use Rattle.std.proofs.lemmas.Bool.{le-ltb}
-use Rattle.jv_model.specs.declared.profile.Does.TheVariants as does
-use Rattle.jv_model.specs.client.Profile.{handle_of}
-use Rattle.jv_model.specs.declared.act.ActKind.TheVariants.{Quiet}
+-- A reading that asks for nothing is answered with what its views show, or with the memory that it lacks.
+use Rattle.std.proofs.Common.{◌≡◌, ℕ, ◌+◌, ◌≤◌, ◌/◌, ◌||◌, not, Bool, true, false, List, [], ◌∷◌, length, Option, None, Some}
+use Rattle.std.proofs.Common.{refl, sym, ap, subst, ◌∙◌, arith}
+use Rattle.std.specs.Prelude.{is_some, IfSome, IsSomeAnd, IsTrue}
+use Rattle.std.proofs.lemmas.Bool.{false_from_ne_true, or_from}
+use Rattle.jv_model.specs.declared.limits.TheConstants.{WINDOW}
+use Rattle.jv_model.specs.declared.act.ActKind.TheVariants.{Answered}
 use Rattle.jv_model.specs.declared.act.Told.{Told}
-use Rattle.jv_model.specs.declared.act.Told.TheVariants.{Looks}
-use Rattle.jv_model.specs.declared.op.Reply.TheVariants.{Data}
-use Rattle.jv_model.specs.client.ModelClient.{ModelClient, OpenFile, View as ModelView, Doing as ModelDoing, Stage}
-use Rattle.jv_model.specs.client.ModelClient.{Reading as ModelReading, OfFiles, file_of, inode_at}
-use Rattle.jv_model.specs.client.Pending.{window_size}
-use Rattle.jv_model.specs.client.Submission.{is_flushed}
-use Rattle.jv_model.specs.journal.Reading.{asked_parts, bytes_between, fresh_view, reading}
-use Rattle.jv_model.specs.journal.State.{State, look_refusal, quieted, flushing_on, refused_look, sees_first}
-use Rattle.jv_model.specs.journal.Steps.{Start, ReadsViews, may_be_quiet}
-use Rattle.jv_model.specs.journal.Past.{or_no_bytes}
-use Rattle.jv_volume.specs.Holding.{Stays}
-use Rattle.jv_files.specs.Stored.{FilesValue, segments_at}
-use Rattle.jv_files.specs.Shown.{shown_between, as_seen}
-use Rattle.jv_files.proofs.GrowthLaws.{grows-same}
+use Rattle.jv_model.specs.declared.act.Told.TheVariants.{Looks, Refused as ToldRefused}
+use Rattle.jv_model.specs.declared.fault.Device.{Device}
+use Rattle.jv_model.specs.declared.fault.Fault.TheVariants.{NoMemory}
+use Rattle.jv_model.specs.declared.op.Reply.{Reply}
+use Rattle.jv_model.specs.declared.op.Reply.TheVariants.{Data, Refused as RefusedReply}
+use Rattle.jv_model.specs.declared.op.Step.TheVariants.{Done}
+use Rattle.jv_model.specs.declared.profile.Does.{Does}
+use Rattle.jv_model.specs.declared.profile.Does.TheVariants as does
+use Rattle.jv_model.specs.client.ModelClient.{ModelClient, Doing as ModelDoing, Working as ModelWorking, file_of}
+use Rattle.jv_model.specs.client.Profile.{handle_of}
+use Rattle.jv_model.specs.journal.Reading.{asked_parts, reading}
+use Rattle.jv_model.specs.journal.State.{State, after_told}
+use Rattle.jv_model.specs.journal.Steps.{Start}
+use Rattle.jv_cache.specs.Cached.{Cached}
+use Rattle.jv_contents.specs.Blocks.{Blocks, told_by}
+use Rattle.jv_shared.specs.Shared.{HasStore, Known, Shared}
+use Rattle.jv_shared.proofs.SameLaws.{same-none, same-stays}
+use Rattle.jv_handles.specs.declared.handle.Handle.{Handle}
+use Rattle.jv_handles.specs.Views.{view_at}
+use Rattle.jv_fetching.specs.Calls.{IsCacheOf}
+use Rattle.jv_fetching.specs.Shows.{IsReadBy}
+use Rattle.jv_steps.specs.IsStep.{IsStep}
+use Rattle.jv_steps.proofs.ReadStepLaws.{read-answered_alone, told-read}
+use Rattle.jv_requests.specs.Request.{Request}
+use Rattle.jv_requests.proofs.StillLaws.{failure-request, still-request}
 use Rattle.jv_client.specs.declared.doing.Doing.{Doing}
 use Rattle.jv_client.specs.declared.doing.Progress.{Progress}
 use Rattle.jv_client.specs.declared.doing.Progress.TheVariants.{Working, Reading}
-use Rattle.jv_client.specs.declared.handles.Handle.{Handle}
-use Rattle.jv_client.specs.declared.handles.View.{View}
-use Rattle.jv_client.specs.declared.made.Made.TheVariants.{Answer, Both}
+use Rattle.jv_client.specs.declared.made.Made.{Made}
+use Rattle.jv_client.specs.declared.made.Made.TheVariants as made
+use Rattle.jv_client.specs.declared.reading.Found.{Found}
 use Rattle.jv_client.specs.ClientValue.{ClientValue}
-use Rattle.jv_client.specs.Shared.{Shared, HasStore}
-use Rattle.jv_client.specs.Held.{IsView, IsHeld, Holds, stage_of}
 use Rattle.jv_client.specs.Ending.{ended}
-use Rattle.jv_client.specs.UnderWay.{IsAt, IsReady, asks_more, does_of, has_segment, left, shows_from, view_of}
-use Rattle.jv_client.specs.Makes.{Makes}
-use Rattle.jv_client.proofs.TableLaws.{there_in}
-use Rattle.jv_client.proofs.HeldLaws.{held-later, held-doing, holds-doing, stays-same}
-use Rattle.jv_client.proofs.StepLaws.{doing_of, client-doing, tree-quiet, client-quiet, steps_after, steps_alone}
-use Rattle.jv_client.proofs.StepLaws.{makes_as}
-use Rattle.jv_client.proofs.FormLaws.{no_quiets, nothing_asked, that_does}
-use Rattle.jv_client.proofs.ReadingLaws.{IsAtFile, at_file, flushed_in, looking, no_bytes, opened_in, reader}
-use Rattle.jv_client.proofs.ReadingLaws.{reading-cited, reading_on, sees-window, view_bytes}
+use Rattle.jv_client.specs.Held.{GoesOn, Holds, IsClient, IsHeld, in_flight, stage_of}
+use Rattle.jv_client.specs.Makes.{Makes, tells_failure}
+use Rattle.jv_client.specs.Transacting.{Fails}
+use Rattle.jv_client.specs.UnderWay.{IsReady, IsUnderWay, asks_more, has_more, has_not_seen, has_segment, left}
+use Rattle.jv_client.specs.Reading.{IsCachedAs, ReadsAtOnce, Shows, need_in, read_of, shown, told_read}
+use Rattle.jv_client.proofs.HeldLaws.{client-doing, doing_of, holds-doing}
+use Rattle.jv_client.proofs.KeptLaws.{client-ended}
+use Rattle.jv_client.proofs.AnswerLaws.{makes-as, makes-ended, not_ending, request-lands, uses-none}
+use Rattle.jv_client.proofs.ReadingLaws.{NotBegun, ReadsFile, flushed-here, flushed-model, not-begun, reads-as, reads-file}
+use Rattle.jv_client.proofs.ReadingLaws.{seen_first, seen_window, sized-here, there, under}
 
--- the view in the model
-record HasView (c : ModelClient) (files : FilesValue) (handle : ℕ) (file : Handle) (view : View) : Type 0 where
-  m : OpenFile
-  is : file_of c.handles handle ≡ Some m
-  seen : ModelView
-  fresh : fresh_view c.views handle m 0 ≡ Some seen
-  same : IsView files file.inode seen view
+-- ---- a client with another cache
 
-has_view : (c : ModelClient) (count : ℕ) (h : ClientValue) (files : FilesValue) (handle : ℕ) (file : Handle)
-    (view : View) → file_of h.handles handle ≡ Some file → file.view ≡ Some view → IsHeld c count files h
-    → HasView c files handle file view
-has_view c count h files handle file view opened e held =
-    let mine = opened_in h files c count held handle file opened in
-    let seen = there_in (IsView files file.inode) (fresh_view c.views handle mine.0 0) file.view view e mine.2.view in
-    record { m = mine.0; is = mine.1; seen = seen.0; fresh = seen.1; same = seen.2 }
+module _ (g : Known) (v : Shared) (m : ModelClient) (count : ℕ) (h : ClientValue) (cache : Option Cached) where
+  abbrev recached : ClientValue
+  recached = record h { cache = cache }
 
--- what a read returns by it
-returns-view : (c : ModelClient) (handle offset len entry : ℕ) (m : OpenFile) (seen : ModelView) (bytes : List ℕ)
-    → fresh_view c.views handle m 0 ≡ Some seen → seen.entry ≡ entry → 0 < len → offset + len ≤ window_size
-    → bytes_between seen.content offset (offset + len) ≡ bytes
-    → reading c.views handle m (asked_parts offset len) entry 0 ≡ Some bytes
-returns-view c handle offset len entry m seen bytes fresh number some short shows =
-    ap (λ n. reading c.views handle m (asked_parts offset len) n 0) (sym number)
-    ∙ reading-cited c.views handle m offset len seen some short fresh ∙ ap Some shows
+  pub held-cached : IsHeld g v m count h → IsHeld g v m count recached
+  held-cached held = record {
+    session = held.session;
+    direct = held.direct;
+    removed = held.removed;
+    handles = held.handles;
+    views = held.views;
+    pending = held.pending;
+  }
 
-data-of : (views : List ModelView) (handle offset len entry : ℕ) (o : Option OpenFile) (m : OpenFile) (bytes : List ℕ)
-    → o ≡ Some m → reading views handle m (asked_parts offset len) entry 0 ≡ Some bytes
-    → elim o as (λ _. List ℕ) [
-      | None ↦ []
-      | Some file ↦ or_no_bytes (reading views handle file (asked_parts offset len) entry 0)
-    ] ≡ bytes
-data-of views handle offset len entry o m bytes is reads =
-    ap (λ o. elim o as (λ _. List ℕ) [
-      | None ↦ []
-      | Some file ↦ or_no_bytes (reading views handle file (asked_parts offset len) entry 0)
-    ]) is ∙ ap or_no_bytes reads
+  goes-cached : (d : Doing) (p : Progress) → GoesOn g v h d p → GoesOn g v recached d p
+  goes-cached d (Working quiets started id) goes = tt
+  goes-cached d (Reading fetch next) goes = goes
 
--- a request for a block
+  reading-cached : (o : Option Doing) → IfSome o (λ (d : Doing). GoesOn g v h d d.progress)
+      → IfSome o (λ (d : Doing). GoesOn g v recached d d.progress)
+  reading-cached None goes = tt
+  reading-cached (Some d) goes = goes-cached d d.progress goes
 
-quiet_when : (flushed sees gone : Bool) → flushed ≡ true → sees ≡ true → (if flushed then sees || gone else true) ≡ true
-quiet_when flushed sees gone e f = ap (λ b. if b then sees || gone else true) e ∙ ap (λ b. b || gone) f
+  pub client-cached : IfSome cache (IsCacheOf g.sizes v.yard.setting.block g.blocks) → IsClient g v m count h
+      → IsClient g v m count recached
+  client-cached known is = record {
+    held = held-cached is.held;
+    doing = is.doing;
+    flight = is.flight;
+    reading = reading-cached h.doing is.reading;
+    cache = known;
+  }
 
-reads_when : (flushed sees : Bool) (shown gone flushing : Stage) → flushed ≡ true → sees ≡ true
-    → (if flushed then (if sees then shown else gone) else flushing) ≡ shown
-reads_when flushed sees shown gone flushing e f =
-    ap (λ b. if b then (if sees then shown else gone) else flushing) e ∙ ap (λ b. if b then shown else gone) f
+-- ---- an answer without a request
 
--- its first request, or a further one
-abbrev AsksFirst : Progress → Type 0
-AsksFirst (Working quiets started) = quiets ≡ 0
-AsksFirst Reading = Unit {0}
+module _ (now entry : ℕ) (h : ClientValue) (ready : IsReady h) (v : Shared) (cache : Option Cached)
+    (knows : (sizes : ℕ → ℕ) (block : ℕ) (blocks : Blocks) → IfSome h.cache (IsCacheOf sizes block blocks)
+    → IfSome cache (IsCacheOf sizes block blocks)) (told : Told) (reply : Reply) where
+  abbrev left_by : ClientValue
+  left_by = record h { cache = cache; doing = None }
 
-no_segment_first : (h : ClientValue) (d : Doing) (progress : Progress) → IsAt h d progress → has_segment h d ≡ false
-    → AsksFirst progress
-no_segment_first h d (Working quiets started) at none = no_quiets h d quiets at none
-no_segment_first h d Reading at none = tt
+  abbrev without_op : ModelClient → ModelClient
+  without_op m = record m { doing = None }
 
-module _ (s : State) (client now : ℕ) (c : ModelClient) (handle offset len inode : ℕ) (moved : Bool) where
-  abbrev model_of : Progress → ModelDoing
-  model_of progress = doing_of (reader handle offset len inode progress moved)
+  answered-alone : ((device : Device) → tells_failure device (made.Answer told reply) ≡ false)
+      → ((s : State) (g : Known) → HasStore s.tree g v → IsClient g v (s.clients h.id) s.count h
+      → Request s g g v v h.id now (in_flight h) (in_flight h) (Answered told ∷ []) (Done reply) s.tree
+      (without_op (s.clients h.id)) s.copied)
+      → Makes now entry h left_by v v (made.Answer told reply)
+  answered-alone calm asked =
+      makes-ended now entry h left_by v v (made.Answer told reply) reply refl ready
+      (record { id = refl; limits = refl; idle = refl })
+      (uses-none (made.Answer told reply) v calm tt)
+      (λ s g number store holds is. let mine = in_flight h in let m = s.clients h.id in record {
+        learned = g;
+        tree = s.tree;
+        model = without_op m;
+        copied = s.copied;
+        request = request-lands s g g v v h.id now mine mine (Answered told ∷ []) (Done reply) s.tree (without_op m)
+            s.copied (asked s g store is);
+        is_client = client-ended s.tree g v store 0 g v (same-stays 0 g v v (same-none v)) m s.count (s.count + 1)
+            (record h { cache = cache }) (omega arith)
+            (client-cached g v m s.count h cache (knows g.sizes v.yard.setting.block g.blocks is.cache) is);
+        no_failure = tt;
+        holds = holds-doing s.tree m None holds;
+      })
 
-  module _ (flushed : is_flushed (OfFiles (inode ∷ [])) c.pending ≡ true) where
-    quiet-allowed : (start : Start) (progress : Progress) → AsksFirst progress
-        → sees_first c (model_of progress) (asked_parts offset len) ≡ true
-        → may_be_quiet start s client now c (model_of progress) (stage_of progress) ≡ true
-    quiet-allowed start (Working zero started) first sees =
-        quiet_when _ _ (is_some (look_refusal s.tree c (inode_at c handle))) flushed sees
-    quiet-allowed start (Working (suc quiets) started) first sees = absurd (omega (arith, first))
-    quiet-allowed start Reading first sees = refl
+-- ---- memory ran out before it asked for anything
 
-    quieted-reads : (progress : Progress) → AsksFirst progress
-        → sees_first c (model_of progress) (asked_parts offset len) ≡ true
-        → quieted s client c now (model_of progress) (stage_of progress) ≡ ModelReading 0
-    quieted-reads (Working zero started) first sees =
-        reads_when _ _ (ModelReading 0) (refused_look s c (inode_at c handle) (model_of (Working zero started)).stage)
-        (flushing_on s c now zero started) flushed sees
-    quieted-reads (Working (suc quiets) started) first sees = absurd (omega (arith, first))
-    quieted-reads Reading first sees = refl
+module _ (now entry : ℕ) (h middle after : ClientValue) (d : Doing) (busy : h.doing ≡ Some d) (ready : IsReady h)
+    (v : Shared) (done : Made) where
+  pub fails-reading : IsCachedAs h middle → Fails NoMemory middle after done → Makes now entry h after v v done
+  fails-reading same fails =
+      makes-as now entry h after (record h { cache = same.cache; doing = None }) v v v done
+      (made.Answer (ToldRefused NoMemory) (RefusedReply NoMemory))
+      (fails.after_is ∙ ap ended same.after_is) refl fails.made_is
+      (answered-alone now entry h ready v same.cache same.knows (ToldRefused NoMemory) (RefusedReply NoMemory)
+      (λ device. refl)
+      (λ s g store is. failure-request s g v v store (same-none v) h.id now (in_flight h) (doing_of d)
+      (client-doing g v (s.clients h.id) s.count h d busy is) (not_ending d) NoMemory refl))
 
--- a reading by a handle that has a view
-module _ (now entry handle offset len : ℕ) (progress : Progress) (moved : Bool) (h : ClientValue) (v : Shared)
-    (file : Handle) (view : View) (at : IsAtFile h handle offset len file progress moved)
-    (e : file.view ≡ Some view) where
-  -- no byte of it is asked for: nothing is asked for at all
-  show_none : view.seen.length ≤ offset → nat_lt offset view.seen.length ≡ false
-      → Makes now entry h (ended h) v v (Answer (Looks view.entry 0 0) (Data []))
-  show_none past low =
-      let d = reader handle offset len file.inode progress moved in
-      let unread : asks_more h d ≡ false =
-      ap (λ o. shows_from offset (view_of o)) at.opened ∙ ap (shows_from offset) e ∙ low in
-      let asked = nothing_asked h d (reading_on at) at.flushed unread in
-      let idle = reader handle offset len file.inode (Working 0 asked.started) false in
-      let same = ap (λ progress. reader handle offset len file.inode progress moved) asked.progress
-      ∙ ap (reader handle offset len file.inode (Working 0 asked.started)) asked.first in
-      let busy = at.busy ∙ ap Some same in
-      record {
-        id = refl;
-        limits = refl;
-        ready = tt;
-        grows = grows-same v.files;
-        keeper = record { opened_at = refl; counts = refl; still = λ asks. refl; bad = tt };
-        falls = refl;
-        leads = λ s number has holds client.
-            let c = s.clients h.id in
-            let shown = has_view c s.count h v.files handle file view at.opened e client.held in
-            let nothing = returns-view c handle offset len view.entry shown.m shown.seen [] shown.fresh shown.same.entry
-            at.some at.short
-            (no_bytes view shown.seen (segments_at v.files file.inode) offset (offset + len) shown.same.shows past) in
-            steps_alone s h.id now (doing_of idle) (Looks view.entry 0 0) (Data []) (ended h) v
-            (client-doing idle busy client) refl
-            (record {
-              may = λ start alone. ReadsViews (record {
-                goes_on = flushed_in h v.files c s.count client.held file.inode at.flushed;
-                file = shown.m;
-                opened = shown.is;
-                first = view.entry;
-                second = 0;
-                bytes = [];
-                reads = nothing;
-                same = refl;
-              });
-              own = refl;
-              says = ap Data (data-of c.views handle offset len view.entry (file_of c.handles handle) shown.m []
-                  shown.is nothing);
-            })
-            has (holds-doing c None holds)
-            (record {
-              held = held-later (grows-same v.files) (omega arith) (held-doing None None client.held);
-              doing = tt;
-            });
-      }
+-- ---- it has read all
 
-  -- the bytes of the view
-  show_bytes : (bytes : List ℕ)
-      → bytes ≡ shown_between view.seen.length (as_seen view.seen (segments_at v.files file.inode)) offset
-      (offset + len)
-      → Makes now entry h (ended h) v v (Both Quiet (Looks view.entry 0 (length bytes)) (Data bytes))
-  show_bytes bytes shows =
-      let d = reader handle offset len file.inode progress moved in
-      let first = no_segment_first h d progress (reading_on at).at at.flushed in
-      record {
-        id = refl;
-        limits = refl;
-        ready = tt;
-        grows = grows-same v.files;
-        keeper = record { opened_at = refl; counts = refl; still = λ asks. refl; bad = tt };
-        falls = refl;
-        leads = λ s number has holds client.
-            let c = s.clients h.id in
-            let shown = has_view c s.count h v.files handle file view at.opened e client.held in
-            let before = doing_of d in
-            let busy = client-doing d at.busy client in
-            let tree = tree-quiet s h.id now before busy in
-            let flushed = flushed_in h v.files c s.count client.held file.inode at.flushed in
-            let sees = sees-window c handle offset len file.inode progress moved shown.m at.some at.short shown.is
-            ∙ ap is_some shown.fresh in
-            let reads = returns-view c handle offset len view.entry shown.m shown.seen bytes shown.fresh
-            shown.same.entry at.some at.short
-            (view_bytes view shown.seen (segments_at v.files file.inode) offset (offset + len) shown.same.shows
-            ∙ sym shows) in
-            let after = record c { doing = Some (looking before) } in
-            steps_after s h.id now Quiet after (looking before) (Looks view.entry 0 (length bytes)) (Data bytes)
-            (ended h) v
-            (λ start alone. record {
-              doing = before;
-              busy = busy;
-              begins_is = refl;
-              may = quiet-allowed s h.id now c handle offset len file.inode moved flushed start progress first sees;
-            })
-            refl
-            (client-quiet s h.id now before busy (ModelReading 0)
-            (quieted-reads s h.id now c handle offset len file.inode moved flushed progress first sees))
-            refl refl
-            (record {
-              may = λ start alone. ReadsViews (record {
-                goes_on = refl;
-                file = shown.m;
-                opened = shown.is;
-                first = view.entry;
-                second = 0;
-                bytes = bytes;
-                reads = reads;
-                same = refl;
-              });
-              own = refl;
-              says = ap Data (data-of c.views handle offset len view.entry (file_of c.handles handle) shown.m bytes
-                  shown.is reads);
-            })
-            refl
-            (subst (λ t. HasStore t v) (sym tree) has)
-            (subst (Stays s.tree) (sym tree) (stays-same s.tree))
-            (subst (λ t. Holds t (record c { doing = None })) (sym tree) (holds-doing c None holds))
-            (record {
-              held = held-later (grows-same v.files) (omega arith) (held-doing None None client.held);
-              doing = tt;
-            });
-      }
+module _ (now entry offset len : ℕ) (h middle : ClientValue) (d : Doing) (busy : h.doing ≡ Some d)
+    (is : d.does ≡ does.Reads offset len) (ready : IsReady h) (none : left h ≡ None) (first : need_in h.doing ≡ None)
+    (v : Shared) (found : Found) (reads : ReadsAtOnce offset len v.yard.setting.block h middle found) where
+  on : ReadsFile h d offset len
+  on = reads-file h d offset len is (under h d busy ready).form
 
--- from what is known before
+  opened : file_of h.handles (handle_of d.op) ≡ Some on.file
+  opened = ap (λ o. file_of h.handles (handle_of o)) on.op_is ∙ on.opened
 
-pub record BeforeShow (h : ClientValue) (offset len : ℕ) (file : Handle) : Type 0 where
-  pub handle : ℕ
-  pub d : Doing
-  pub busy : h.doing ≡ Some d
-  pub at : IsAtFile h handle offset len file d.progress d.has_moved
+  not_begun : NotBegun d
+  not_begun = not-begun h d (under h d busy ready) (flushed-here h d busy none) (ap need_in (sym busy) ∙ first)
 
-pub before_show : (h : ClientValue) (offset len : ℕ) (file : Handle) → does_of h.doing ≡ Some (does.Reads offset len)
-    → IfSome h.doing (λ d. file_of h.handles (handle_of d.op) ≡ Some file)
-    → IsReady h → left h ≡ None → BeforeShow h offset len file
-before_show h offset len file reads opened ready flushed =
-    let doing = that_does h.doing (does.Reads offset len) reads in
-    let d = doing.0 in
-    let named = subst (λ o. IfSome o (λ d. file_of h.handles (handle_of d.op) ≡ Some file)) doing.1 opened in
-    record {
-      handle = handle_of d.op;
-      d = d;
-      busy = doing.1;
-      at = at_file h (handle_of d.op) offset len file d doing.1 doing.2 ready flushed refl named;
-    }
+  module _ (s : State) (g : Known) (store : HasStore s.tree g v) (client : IsClient g v (s.clients h.id) s.count h)
+      where
+    abbrev mine : ModelClient
+    mine = s.clients h.id
 
-pub shows_nothing : (now entry offset len : ℕ) (h after : ClientValue) (v : Shared) (file : Handle) (view : View)
-    (told : Told) (bytes : List ℕ)
-    → BeforeShow h offset len file → file.view ≡ Some view → view.seen.length ≤ offset
-    → after ≡ ended h → told ≡ Looks view.entry 0 0 → bytes ≡ []
-    → Makes now entry h after v v (Answer told (Data bytes))
-shows_nothing now entry offset len h after v file view told bytes before e past of_after of_told of_bytes =
-    let made = ap (λ told. Answer told (Data bytes)) of_told
-    ∙ ap (λ bytes. Answer (Looks view.entry 0 0) (Data bytes)) of_bytes in
-    makes_as of_after refl made
-    (show_none now entry before.handle offset len before.d.progress before.d.has_moved h v file view before.at e past
-    (le-ltb offset view.seen.length past))
+    abbrev model : ModelDoing
+    model = doing_of d
 
-pub shows_all : (now entry offset len : ℕ) (h after : ClientValue) (v : Shared) (file : Handle) (view : View)
-    (told : Told) (bytes : List ℕ)
-    → BeforeShow h offset len file → file.view ≡ Some view
-    → bytes ≡ shown_between view.seen.length (as_seen view.seen (segments_at v.files file.inode)) offset (offset + len)
-    → after ≡ ended h → told ≡ Looks view.entry 0 (length bytes)
-    → Makes now entry h after v v (Both Quiet told (Data bytes))
-shows_all now entry offset len h after v file view told bytes before e shows of_after of_told =
-    makes_as of_after refl (ap (λ told. Both Quiet told (Data bytes)) of_told)
-    (show_bytes now entry before.handle offset len before.d.progress before.d.has_moved h v file view before.at e bytes
-    shows)
+    read : IsReadBy (told_by v.yard.setting.block g.blocks) on.file.views (asked_parts offset len) (read_of found)
+    read = reads.read d on.file g.sizes g.blocks busy opened
+        (sized-here g v mine s.count h client.held (handle_of d.op) on.file opened) client.cache
+
+    -- it made no request: the first window was seen
+    seen : asks_more h d ≡ false
+    seen =
+        ap (λ (x : Does). asks_more h (record d { does = x })) is
+        ∙ ap (λ (o : Option Handle). has_not_seen offset o) opened
+        ∙ ap not (seen_window on.file.views offset len on.some on.low
+        (seen_first (told_by v.yard.setting.block g.blocks) on.file.views (asked_parts offset len) (read_of found) read))
+
+    still : d.has_moved ≡ false
+    still = false_from_ne_true d.has_moved (λ moved.
+        let asks : has_more h d d.progress ≡ true = (under h d busy ready).asks moved in
+        let nothing : has_more h d d.progress ≡ false =
+        ap (λ (p : Progress). has_more h d p) not_begun.progress
+        ∙ or_from (has_segment h d) (asks_more h d) (ap is_some (flushed-here h d busy none)) seen in
+        absurd (cc (sym asks ∙ nothing)))
+
+    read-request : Request s g g v v h.id now (in_flight h) (in_flight h) (Answered (told_read found) ∷ [])
+        (Done (Data found.bytes)) s.tree (record mine { doing = None }) s.copied
+    read-request =
+        let file = there g v mine s.count h client.held (handle_of d.op) on.file opened in
+        still-request s g v v store (same-none v) h.id now (in_flight h) (Answered (told_read found) ∷ [])
+        (Done (Data found.bytes)) (record mine { doing = None })
+        (λ start alone.
+        subst (λ c. IsStep start alone s h.id now (Answered (told_read found) ∷ []) (Done (Data found.bytes)) s.tree c
+        s.copied)
+        (told-read d.op on.handle offset len found.first found.second (length found.bytes) mine on.op_is)
+        (read-answered_alone start alone s h.id now model (client-doing g v mine s.count h d busy client) offset len is
+        file.0 file.1 found.first found.second found.bytes not_begun.started (ap stage_of not_begun.progress)
+        (flushed-model g v mine s.count h d client.held busy none) still
+        (reads-as g v mine s.count h client.held (handle_of d.op) on.file opened offset len (read_of found) on.some
+        on.low on.long read)))
+
+  pub shows-reading : (after : ClientValue) (done : Made) → Shows None found middle after done
+      → Makes now entry h after v v done
+  shows-reading after done shows =
+      makes-as now entry h after (record h { cache = reads.same.cache; doing = None }) v v v done
+      (made.Answer (told_read found) (Data found.bytes))
+      (shows.after_is ∙ ap ended reads.same.after_is) refl shows.made_is
+      (answered-alone now entry h ready v reads.same.cache reads.same.knows (told_read found) (Data found.bytes)
+      (λ device. refl) (λ s g store is. read-request s g store is))

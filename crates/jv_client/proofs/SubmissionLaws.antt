@@ -12,13 +12,15 @@ use Rattle.jv_model.specs.client.Pending.{PendingByte}
 use Rattle.jv_model.specs.client.ModelClient.{ModelClient, OpenFile, OfFiles, OfAll, open_count, inode_at}
 use Rattle.jv_model.specs.client.Profile.{profile, handle_list}
 use Rattle.jv_model.specs.client.Submission.{submission, submission_of, submitted, names_closed, is_closed, flush_of, by_limits}
-use Rattle.jv_files.specs.Stored.{FilesValue}
+use Rattle.jv_shared.specs.Shared.{Known, Shared}
+use Rattle.jv_handles.specs.declared.handle.Handle.{Handle}
+use Rattle.jv_handles.specs.Handles.{inode_here}
+use Rattle.jv_handles.specs.Held.{IsHandle, SameTable}
+use Rattle.jv_handles.proofs.TableLaws.{some-same, count-same, file-same}
 use Rattle.jv_client.specs.declared.doing.Flush.TheVariants as flush
-use Rattle.jv_client.specs.declared.handles.Handle.{Handle}
 use Rattle.jv_client.specs.ClientValue.{ClientValue}
-use Rattle.jv_client.specs.Held.{SameTable, IsHandle, IsDoing, IsHeld, IsClient, inode_here, files_here, flush_here, begun, flush_of_code}
+use Rattle.jv_client.specs.Held.{IsDoing, IsHeld, IsClient, files_here, flush_here, begun, flush_of_code}
 use Rattle.jv_client.proofs.HeldLaws.{held-doing}
-use Rattle.jv_client.proofs.TableLaws.{some-same, count-same, file-same}
 use Rattle.jv_client.proofs.LastLaws.{inode-same}
 
 module _ {X Y : Type 0} (P : ℕ → X → Y → Type 0) where
@@ -35,12 +37,12 @@ module _ {X Y : Type 0} (P : ℕ → X → Y → Type 0) where
       ap (λ b. b || (is_closed xs second || false)) (closed-same xs ys h first)
       ∙ ap (λ b. is_closed ys first || (b || false)) (closed-same xs ys h second)
 
-module _ (m : ModelClient) (count : ℕ) (files : FilesValue) (c : ClientValue) where
+module _ (g : Known) (v : Shared) (m : ModelClient) (count : ℕ) (c : ClientValue) where
   abbrev Same : ℕ → OpenFile → Handle → Type 0
-  Same = IsHandle m.views count files
+  Same = IsHandle g v m.views count
 
   -- the refusals are the same
-  pub submission-same : (o : Op) → IsClient m count files c
+  pub submission-same : (o : Op) → IsClient g v m count c
       → submission m o ≡ submission_of (is_some c.doing) (is_some c.session)
       (names_closed c.handles (profile o).handles) (open_count c.handles) (profile o)
   submission-same o h =
@@ -54,19 +56,19 @@ module _ (m : ModelClient) (count : ℕ) (files : FilesValue) (c : ClientValue) 
       ∙ ap (λ n. submission_of (is_some c.doing) (is_some c.session) (names_closed c.handles row.handles) n row)
       (count-same Same 1 m.handles c.handles h.held.handles)
 
-  files-same : IsHeld m count files c → (handles : Handles)
+  files-same : IsHeld g v m count c → (handles : Handles)
       → OfFiles (map (inode_at m) (handle_list handles)) ≡ flush_of_code (files_here c.handles handles)
   files-same h named.None = refl
-  files-same h (named.One handle) = ap (λ i. OfFiles (i ∷ [])) (inode-same h handle)
+  files-same h (named.One handle) = ap (λ i. OfFiles (i ∷ [])) (inode-same g v m count c h handle)
   files-same h (named.Two first second) =
-      ap (λ i. OfFiles (i ∷ inode_at m second ∷ [])) (inode-same h first)
-      ∙ ap (λ i. OfFiles (inode_here c.handles first ∷ i ∷ [])) (inode-same h second)
+      ap (λ i. OfFiles (i ∷ inode_at m second ∷ [])) (inode-same g v m count c h first)
+      ∙ ap (λ i. OfFiles (inode_here c.handles first ∷ i ∷ [])) (inode-same g v m count c h second)
 
   full-same : (b : Bool) → (if b then OfAll else OfFiles []) ≡ flush_of_code (if b then flush.All else flush.Nothing)
   full-same true = refl
   full-same false = refl
 
-  by-flushes : IsHeld m count files c → (row : Profile) (flushes : Flushes) → row.flushes ≡ flushes
+  by-flushes : IsHeld g v m count c → (row : Profile) (flushes : Flushes) → row.flushes ≡ flushes
       → flush_of c.limits.buffer m row ≡ flush_of_code (flush_here c row)
   by-flushes h row Nothing e = rw e refl
   by-flushes h row ItsFiles e = rw e (files-same h row.handles)
@@ -76,21 +78,24 @@ module _ (m : ModelClient) (count : ℕ) (files : FilesValue) (c : ClientValue) 
   by-flushes h row Everything e = rw e refl
 
   -- what is committed first is the same
-  pub flush-same : IsHeld m count files c → (row : Profile)
+  pub flush-same : IsHeld g v m count c → (row : Profile)
       → flush_of c.limits.buffer m row ≡ flush_of_code (flush_here c row)
   flush-same h row = by-flushes h row row.flushes refl
 
   -- an operation that isn't refused is in progress
-  pub begun-stands : (o : Op) → IsClient m count files c
-      → IsClient (submitted c.limits o m) count files (record c
+  pub begun-stands : (o : Op) → IsClient g v m count c
+      → IsClient g v (submitted c.limits o m) count (record c
       { doing = Some (begun o (by_limits c.limits (profile o).does) (flush_here c (profile o))) })
   begun-stands o h = record {
-    held = held-doing _ _ h.held;
+    held = held-doing g v m count c _ _ h.held;
     doing = record { op = refl; does = refl; flush = flush-same h.held (profile o); stage = refl; moved = refl };
+    flight = tt;
+    reading = tt;
+    cache = h.cache;
   }
 
   -- the refusal by a row that is the operation's
-  pub refusal-by : (o : Op) (row : Profile) (refusal : Option Fault) → IsClient m count files c → row ≡ profile o
+  pub refusal-by : (o : Op) (row : Profile) (refusal : Option Fault) → IsClient g v m count c → row ≡ profile o
       → refusal ≡ submission_of (is_some c.doing) (is_some c.session) (names_closed c.handles row.handles)
       (open_count c.handles) row
       → refusal ≡ submission m o

@@ -1,5 +1,5 @@
 -- What was tried of an operation's transaction: by a mount, out of memory before it, and by a transaction on metadata.
-use Rattle.std.proofs.Common.{◌≡◌, ℕ, Bool, true, false, IsTrue, Option, None, Some, Result, Ok, Err, refl, sym, ap, subst, ◌∙◌}
+use Rattle.std.proofs.Common.{◌≡◌, ℕ, Bool, Option, None, Some, Result, Ok, Err, refl, sym, ap, subst, ◌∙◌}
 use Rattle.std.specs.Prelude.{IfSome}
 use Rattle.jv_model.specs.declared.basics.Who.{Who}
 use Rattle.jv_model.specs.declared.fault.RowFault.TheVariants.{Memory}
@@ -20,7 +20,7 @@ use Rattle.jv_metadata.specs.declared.answers.Answer.{Answer}
 use Rattle.jv_metadata.specs.Attempts.{Asks, TellsKept, attempt, mapped, plain}
 use Rattle.jv_metadata.proofs.AttemptLaws.{transacts-always}
 use Rattle.jv_client.specs.ClientValue.{ClientValue, session_here}
-use Rattle.jv_client.specs.Held.{held_here, inode_here}
+use Rattle.jv_handles.specs.Handles.{held_here, inode_here}
 use Rattle.jv_client.specs.Transacting.{IsCaller, Attempts}
 
 -- the answer of a mount

@@ -1,158 +1,215 @@
 -- Where a transaction wasn't made, the operation ends with its refusal, or out of memory, or with the keeper's failure; or the run
--- stops at a row that is Bad, which is none over whole rows.
-use Rattle.std.proofs.Common.{◌≡◌, ℕ, ◌+◌, [], ◌∷◌, Option, Some, Result, Err, refl, sym, subst}
-use Rattle.std.specs.Prelude.{IfSome}
+-- stops at a row that is Bad, which is none where rows are known and whole.
+use Rattle.std.proofs.Common.{◌≡◌, ℕ, ◌+◌, Bool, true, false, IsTrue, [], ◌∷◌, Option, None, Some, Result, Ok, Err}
+use Rattle.std.proofs.Common.{refl, sym, ap, subst, ◌∙◌, arith}
+use Rattle.std.specs.Prelude.{IfSome, List}
 use Rattle.jv_model.specs.declared.act.ActKind.{ActKind}
 use Rattle.jv_model.specs.declared.act.ActKind.TheVariants.{Answered}
 use Rattle.jv_model.specs.declared.act.Told.TheVariants.{Refused as ToldRefused}
-use Rattle.jv_model.specs.declared.fault.Fault.{Fault}
-use Rattle.jv_model.specs.declared.fault.TxFault.{TxFault}
+use Rattle.jv_model.specs.declared.fault.Device.{Device}
+use Rattle.jv_model.specs.declared.fault.Device.TheVariants.{Keeper, Depot, Shelf, Carrier}
 use Rattle.jv_model.specs.declared.fault.Busy.TheVariants.{Lists}
-use Rattle.jv_model.specs.declared.fault.Device.TheVariants.{Keeper}
+use Rattle.jv_model.specs.declared.fault.Fault.{Fault}
 use Rattle.jv_model.specs.declared.fault.Fault.TheVariants.{Contended, DeviceFailed, NoMemory}
 use Rattle.jv_model.specs.declared.fault.RowFault.TheVariants.{Bad, Failed, Memory}
+use Rattle.jv_model.specs.declared.fault.TxFault.{TxFault}
 use Rattle.jv_model.specs.declared.fault.TxFault.TheVariants.{Refused, Moved, Rows as OfRows}
 use Rattle.jv_model.specs.declared.op.Reply.TheVariants.{Refused as RefusedReply}
 use Rattle.jv_model.specs.declared.op.Step.TheVariants.{Done}
 use Rattle.jv_model.specs.tree.Tree.{Tree}
-use Rattle.jv_model.specs.journal.State.{State}
+use Rattle.jv_model.specs.journal.State.{State, after_told}
+use Rattle.jv_model.specs.journal.Steps.{is_failure}
+use Rattle.jv_outside.specs.Causes.{RoseIf}
 use Rattle.jv_outside.specs.Store.{Store}
-use Rattle.jv_rows.specs.Transactions.{Agrees, Lands, Looks, Transacts}
-use Rattle.jv_model.specs.tree.Caller.{Outcome}
-use Rattle.jv_model.specs.declared.op.Reply.{Reply}
-use Rattle.jv_files.specs.Stored.{SameSegments}
-use Rattle.jv_files.proofs.GrowthLaws.{grows-by}
+use Rattle.jv_rows.specs.Transactions.{Looks}
+use Rattle.jv_data.specs.Records.{TakesNumber}
+use Rattle.jv_shared.specs.Shared.{HasStore, Known, Shared}
+use Rattle.jv_shared.proofs.SameLaws.{same-rows}
+use Rattle.jv_requests.specs.Request.{Request}
 use Rattle.jv_client.specs.declared.doing.Doing.{Doing}
 use Rattle.jv_client.specs.declared.made.Made.{Made}
 use Rattle.jv_client.specs.declared.made.Made.TheVariants as made
 use Rattle.jv_client.specs.ClientValue.{ClientValue}
-use Rattle.jv_client.specs.Shared.{Shared, HasStore}
-use Rattle.jv_client.specs.Held.{IsClient, Holds}
+use Rattle.jv_client.specs.Held.{IsClient, Holds, in_flight}
 use Rattle.jv_client.specs.Ending.{refused_here}
-use Rattle.jv_client.specs.UnderWay.{IsReady, IsUnderWay}
-use Rattle.jv_client.specs.Makes.{Makes, StepsTo}
-use Rattle.jv_client.specs.Transacting.{EndsUnmade, IsPlain, NotMade}
-use Rattle.jv_data.specs.Committing.{CommitsLength}
-use Rattle.jv_model.specs.rows.RowKeys.{RowMap}
-use Rattle.jv_volume.specs.TreeOf.{tree_of}
-use Rattle.jv_volume.specs.TypedRows.{typed}
-use Rattle.jv_volume.specs.Whole.{Whole}
-use Rattle.jv_client.proofs.StepLaws.{makes_as}
-use Rattle.jv_client.proofs.AnswerLaws.{fails, refused-rests}
+use Rattle.jv_client.specs.UnderWay.{IsReady}
+use Rattle.jv_client.specs.Makes.{Makes, TellsBad, UsesDevices, asks_nothing, faults_of, is_failure_of, step_of}
+use Rattle.jv_client.specs.Makes.{tells_failure}
+use Rattle.jv_client.specs.Transacting.{EndsUnmade, Fails, NotMade, Refuses}
+use Rattle.jv_client.proofs.EndingLaws.{holds-told}
+use Rattle.jv_client.proofs.KeptLaws.{client-told}
+use Rattle.jv_client.proofs.AnswerLaws.{fails-makes, makes-as, makes-ended, refused-rests, rests-flight}
 
-plain-agrees : {A : Type 0} (fault : TxFault) (model : Result A Fault) → Agrees (Err fault) model → IsPlain fault
-plain-agrees (Refused fault) model h = tt
-plain-agrees (Moved list) model h = absurd h
-plain-agrees (OfRows (Bad at bytes)) model h = absurd h
-plain-agrees (OfRows Failed) model h = tt
-plain-agrees (OfRows Memory) model h = tt
+-- ---- devices: nothing was asked but of the keeper
+
+-- no other device is said to have failed
+abbrev pub OnlyKeeper : Made → Type 0
+OnlyKeeper done = (tells_failure Depot done ≡ false) × (tells_failure Shelf done ≡ false)
+    × (tells_failure Carrier done ≡ false)
+
+module _ (before : Shared) (keeper : Store) (done : Made) where
+  abbrev used : Shared
+  used = record before { keeper = keeper }
+
+  calm : (b : Bool) (faults : ℕ) → b ≡ false → RoseIf b faults faults
+  calm b faults none = subst (λ b. RoseIf b faults faults) (sym none) refl
+
+  -- A step that calls the keeper alone: it is open where it was, and failed where the step answers so.
+  pub uses-keeper : keeper.opened ≡ before.keeper.opened
+      → RoseIf (tells_failure Keeper done) before.keeper.faults keeper.faults → OnlyKeeper done
+      → (IsTrue (asks_nothing done) → keeper.rows ≡ before.keeper.rows) → TellsBad before (step_of done)
+      → UsesDevices done before (record before { keeper = keeper })
+  uses-keeper opened faults only rows bad = record {
+    keeper_at = opened;
+    carrier_at = refl;
+    depot_at = refl;
+    shelf_at = refl;
+    setting = refl;
+    last = refl;
+    counts = by_device;
+    rows = rows;
+    objects = λ asks. refl;
+    blocks = refl;
+    bad = bad;
+  }
+    where
+      by_device : (device : Device) → RoseIf (tells_failure device done) (faults_of device before)
+          (faults_of device used)
+      by_device Keeper = faults
+      by_device Depot = calm (tells_failure Depot done) before.yard.depot.faults only.0
+      by_device Shelf = calm (tells_failure Shelf done) before.yard.shelf.faults only.1
+      by_device Carrier = calm (tells_failure Carrier done) before.carrier.faults only.2
+
+-- ---- which transactions weren't made
 
 -- a part that reads
-module _ {A : Type 0} (before after : Store) (fault : TxFault) (finds : Tree → Result A Fault)
-    (h : Looks before after (Err fault) finds) where
-  pub not_looked : NotMade fault before after
-  not_looked = record { rows_are = h.rows_are; opened_at = h.opened_at; counts = h.counts; bad = h.bad }
+pub not_looked : {A : Type 0} (before after : Store) (fault : TxFault) (finds : Tree → Result A Fault)
+    → Looks {A = A} before after (Err fault) finds → NotMade fault before after
+not_looked before after fault finds h =
+    record { rows_are = h.rows_are; opened_at = h.opened_at; counts = h.counts; bad = h.bad }
 
-  pub plain-looked : (known : RowMap) → before.rows ≡ Some known → Whole (typed known) → IsPlain fault
-  plain-looked known is whole = let none : ℕ → ℕ → ℕ = λ inode position. 0 in
-      plain-agrees fault (finds (tree_of none (typed known))) (h.agrees known is whole none)
+-- the number of a slice
+pub not_taken : (sid : ℕ) (before after : Store) (fault : TxFault) → TakesNumber sid before after (Err fault)
+    → NotMade fault before after
+not_taken sid before after fault h =
+    record { rows_are = h.undone; opened_at = h.opened_at; counts = h.counts; bad = h.bad }
 
-plain-lands : {A : Type 0} (fault : TxFault) (known : RowMap) (after : Option RowMap) (bytes : ℕ → ℕ → ℕ)
-    (reply : A → Reply) (act : Tree → Result Outcome Fault)
-    → Lands known after bytes reply act (Err fault) → IsPlain fault
-plain-lands (Refused fault) known after bytes reply act h = tt
-plain-lands (Moved list) known after bytes reply act h = absurd h
-plain-lands (OfRows (Bad at bad)) known after bytes reply act h = absurd h
-plain-lands (OfRows Failed) known after bytes reply act h = tt
-plain-lands (OfRows Memory) known after bytes reply act h = tt
+-- ---- what the model makes of it
 
--- a transaction
-module _ {A : Type 0} (ready : Tree → Type 0) (before after : Store) (fault : TxFault) (reply : A → Reply)
-    (act : Tree → Result Outcome Fault)
-    (h : Transacts ready before after (Err fault) reply act) where
-  pub not_transacted : NotMade fault before after
-  not_transacted = record { rows_are = h.undone; opened_at = h.opened_at; counts = h.counts; bad = h.bad }
+-- an answer that is no failure says of no device that it failed
+pub calm-told : (fault : Fault) → is_failure (ToldRefused fault) ≡ false → (device : Device)
+    → is_failure_of device (ToldRefused fault) ≡ false
+calm-told (DeviceFailed failed) e device = absurd (cc e)
+calm-told _ e device = refl
 
-  pub plain-transacted : (known : RowMap) → before.rows ≡ Some known → Whole (typed known) → (bytes : ℕ → ℕ → ℕ)
-      → ready (tree_of bytes (typed known)) → IsPlain fault
-  plain-transacted known is whole bytes readied = plain-lands fault known after.rows bytes reply act
-      (h.lands known is whole bytes readied)
+-- the model refuses a request of this kind likewise, and that is no failure of a device
+pub record RefusedAs (now : ℕ) (h : ClientValue) (d : Doing) (before used : Shared) (kind : ActKind) (fault : Fault)
+    (s : State) (g : Known) : Type 0 where
+  pub request : Request s g g before used h.id now (in_flight h) 0 (kind ∷ Answered (ToldRefused fault) ∷ [])
+      (Done (RefusedReply fault)) s.tree (after_told d.op (ToldRefused fault) (s.clients h.id)) s.copied
+  pub calm : is_failure (ToldRefused fault) ≡ false
 
--- a commit
-module _ (sid now inode end started : ℕ) (before after : Store) (fault : TxFault)
-    (h : CommitsLength sid now inode end started before after (Err fault)) where
-  pub not_committed : NotMade fault before after
-  not_committed = record { rows_are = h.undone; opened_at = h.opened_at; counts = h.counts; bad = h.bad }
+-- What is left to show of the model where a transaction wasn't made: it is refused likewise; no list has moved, and no
+-- row is Bad.
+abbrev pub UnmadeLeads : (now : ℕ) → ClientValue → Doing → (before left : Shared) → ActKind → TxFault → State → Known
+    → Type 0
+UnmadeLeads now h d before left kind (Refused fault) s g = RefusedAs now h d before left kind fault s g
+UnmadeLeads now h d before left kind (Moved list) s g = ⊥
+UnmadeLeads now h d before left kind (OfRows (Bad at bytes)) s g = ⊥
+UnmadeLeads now h d before left kind (OfRows Failed) s g = Unit {0}
+UnmadeLeads now h d before left kind (OfRows Memory) s g = Unit {0}
 
--- what the model makes of the refusal
-abbrev pub RefusedLeads : (now entry : ℕ) → ClientValue → Shared → Shared → ActKind → TxFault → Type 0
-RefusedLeads now entry h before grown kind fault = (refused : Fault) → fault ≡ Refused refused → (s : State)
-    → s.count + 1 ≡ entry → HasStore s.tree before
-    → Holds s.tree (s.clients h.id) → IsClient (s.clients h.id) s.count before.files h
-    → StepsTo s h.id now (kind ∷ Answered (ToldRefused refused) ∷ []) (Done (RefusedReply refused))
-    (refused_here refused h) grown
+-- over any state that client and devices stand for
+abbrev pub InState : (entry : ℕ) → ClientValue → Shared → (State → Known → Type 0) → Type 0
+InState entry h before P = (s : State) (g : Known) → s.count + 1 ≡ entry → HasStore s.tree g before
+    → Holds s.tree (s.clients h.id) → IsClient g before (s.clients h.id) s.count h → P s g
 
--- no row is Bad in any state of the model
-abbrev pub PlainLeads : (entry : ℕ) → ClientValue → Shared → TxFault → Type 0
-PlainLeads entry h before fault = (s : State) → s.count + 1 ≡ entry → HasStore s.tree before
-    → Holds s.tree (s.clients h.id)
-    → IsClient (s.clients h.id) s.count before.files h → IsPlain fault
+-- ---- the steps
 
-module _ (now entry : ℕ) (h : ClientValue) (before grown : Shared) (files : SameSegments before.files grown.files)
-  where
-    -- a request that was refused
-    refuses : (kind : ActKind) (fault : TxFault) (refused : Fault) → NotMade fault before.keeper grown.keeper
-        → grown.keeper.faults ≡ before.keeper.faults
-        → ((s : State) → s.count + 1 ≡ entry → HasStore s.tree before → Holds s.tree (s.clients h.id)
-        → IsClient (s.clients h.id) s.count before.files h
-        → StepsTo s h.id now (kind ∷ Answered (ToldRefused refused) ∷ []) (Done (RefusedReply refused))
-        (refused_here refused h) grown)
-        → Makes now entry h (refused_here refused h) before grown
-        (made.Both kind (ToldRefused refused) (RefusedReply refused))
-    refuses kind fault refused none still leads =
-        let rests = refused-rests refused h in
-        record {
-          id = rests.id;
-          limits = rests.limits;
-          ready = subst (λ (o : Option Doing). IfSome o (IsUnderWay (refused_here refused h))) (sym rests.idle) tt;
-          grows = grows-by before.files grown.files files;
-          keeper = record { opened_at = none.opened_at; counts = still; still = λ asks. none.rows_are; bad = tt };
-          falls = rests.idle;
-          leads = leads;
-        }
+module _ (now entry : ℕ) (h : ClientValue) (d : Doing) (before used : Shared) (busy : h.doing ≡ Some d)
+    (ready : IsReady h) where
+  -- A request that is refused.
+  pub refuses : (kind : ActKind) (fault : Fault)
+      → UsesDevices (made.Both kind (ToldRefused fault) (RefusedReply fault)) before used
+      → InState entry h before (RefusedAs now h d before used kind fault)
+      → Makes now entry h (refused_here fault h) before used (made.Both kind (ToldRefused fault) (RefusedReply fault))
+  refuses kind fault uses leads =
+      let rests = refused-rests fault h in
+      makes-ended now entry h (refused_here fault h) before used
+      (made.Both kind (ToldRefused fault) (RefusedReply fault)) (RefusedReply fault) refl ready rests uses
+      (λ s g count store holds is.
+      let m = s.clients h.id in
+      let after = after_told d.op (ToldRefused fault) m in
+      let kinds : List ActKind = kind ∷ Answered (ToldRefused fault) ∷ [] in
+      let refused = leads s g count store holds is in
+      record {
+        learned = g;
+        tree = s.tree;
+        model = after;
+        copied = s.copied;
+        request = subst (λ (n : ℕ). Request s g g before used h.id now (in_flight h) n kinds
+            (Done (RefusedReply fault)) s.tree after s.copied)
+            (sym (rests-flight h (refused_here fault h) rests)) refused.request;
+        is_client = client-told s.tree g before store refused.request.own g used refused.request.leads.kept m
+            s.count (s.count + 2) h (omega arith) is d.op (ToldRefused fault) refl;
+        no_failure = calm-told fault refused.calm;
+        holds = holds-told d.op (ToldRefused fault) s.tree m refl holds;
+      })
 
-pub unmade : (now entry : ℕ) (h after : ClientValue) (d : Doing) (before grown : Shared) (kind : ActKind)
-    (fault : TxFault) (done : Made)
-    → h.doing ≡ Some d → IsReady h → SameSegments before.files grown.files → NotMade fault before.keeper grown.keeper
-    → EndsUnmade kind fault h after done
-    → PlainLeads entry h before fault → RefusedLeads now entry h before grown kind fault
-    → Makes now entry h after before grown done
-unmade now entry h after d before grown kind (Refused fault) done busy ready files none ends plain refused =
-    makes_as ends.after_is refl ends.made_is (refuses now entry h before grown files kind (Refused fault) fault none
-    none.counts (refused fault refl))
-unmade now entry h after d before grown kind (Moved list) done busy ready files none ends plain refused =
-    makes_as ends.1.after_is refl ends.1.made_is (refuses now entry h before grown files kind (Moved list)
-    (Contended (Lists ends.0 ends.0)) none none.counts
-    (λ s number has_store holds client. absurd (plain s number has_store holds client)))
-unmade now entry h after d before grown kind (OfRows (Bad at bytes)) done busy ready files none ends plain refused =
-    makes_as ends.0 refl ends.1 (record {
-      id = refl;
-      limits = refl;
-      ready = ready;
-      grows = grows-by before.files grown.files files;
-      keeper = record {
-        opened_at = none.opened_at;
-        counts = none.counts;
-        still = λ asks. none.rows_are;
-        bad = none.bad;
-      };
-      falls = refl;
-      leads = λ s number has_store holds client. absurd (plain s number has_store holds client);
-    })
-unmade now entry h after d before grown kind (OfRows Failed) done busy ready files none ends plain refused =
-    makes_as ends.after_is refl ends.made_is (fails now entry h d before grown (DeviceFailed Keeper) busy ready refl
-    files
-    (record { opened_at = none.opened_at; counts = none.counts; still = λ asks. none.rows_are; bad = tt }))
-unmade now entry h after d before grown kind (OfRows Memory) done busy ready files none ends plain refused =
-    makes_as ends.after_is refl ends.made_is (fails now entry h d before grown NoMemory busy ready refl files
-    (record { opened_at = none.opened_at; counts = none.counts; still = λ asks. none.rows_are; bad = tt }))
+-- A transaction that wasn't made, by how the step ends.
+module _ (now entry : ℕ) (h after : ClientValue) (d : Doing) (before : Shared) (keeper : Store)
+    (busy : h.doing ≡ Some d) (ready : IsReady h) where
+  abbrev then_shared : Shared
+  then_shared = record before { keeper = keeper }
+
+  abbrev IsMade : Made → Type 0
+  IsMade done = Makes now entry h after before (record before { keeper = keeper }) done
+
+  failed : (fault : Fault) (done : Made) → is_failure (ToldRefused fault) ≡ true
+      → RoseIf (is_failure_of Keeper (ToldRefused fault)) before.keeper.faults keeper.faults
+      → (is_failure_of Depot (ToldRefused fault) ≡ false) × (is_failure_of Shelf (ToldRefused fault) ≡ false)
+      × (is_failure_of Carrier (ToldRefused fault) ≡ false)
+      → keeper.rows ≡ before.keeper.rows → keeper.opened ≡ before.keeper.opened → Fails fault h after done
+      → IsMade done
+  failed fault done fail cause only rows opened ends =
+      fails-makes now entry h d before then_shared fault after done busy ready fail ends
+      (same-rows before keeper before.carrier rows)
+      (subst (λ (x : Made). UsesDevices x before then_shared) (sym ends.made_is)
+      (uses-keeper before keeper (made.Answer (ToldRefused fault) (RefusedReply fault)) opened cause only (λ asks. rows)
+      tt))
+
+  refused : (kind : ActKind) (fault : Fault) (done : Made) → keeper.rows ≡ before.keeper.rows
+      → keeper.opened ≡ before.keeper.opened → keeper.faults ≡ before.keeper.faults → Refuses kind fault h after done
+      → InState entry h before (RefusedAs now h d before then_shared kind fault)
+      → IsMade done
+  refused kind fault done rows opened faults ends leads =
+      makes-as now entry h after (refused_here fault h) before then_shared then_shared done
+      (made.Both kind (ToldRefused fault) (RefusedReply fault)) ends.after_is refl ends.made_is
+      (refuses now entry h d before then_shared busy ready kind fault
+      (uses-keeper before keeper (made.Both kind (ToldRefused fault) (RefusedReply fault)) opened faults
+      (refl, refl, refl) (λ asks. rows) tt) leads)
+
+  pub unmade : (kind : ActKind) (fault : TxFault) (done : Made) → NotMade fault before.keeper keeper
+      → EndsUnmade kind fault h after done
+      → InState entry h before (UnmadeLeads now h d before (record before { keeper = keeper }) kind fault)
+      → Makes now entry h after before (record before { keeper = keeper }) done
+  unmade kind (Refused fault) done none ends leads =
+      refused kind fault done none.rows_are none.opened_at none.counts ends leads
+  unmade kind (Moved list) done none ends leads =
+      refused kind (Contended (Lists ends.0 ends.0)) done none.rows_are none.opened_at none.counts ends.1
+      (λ s g number store holds is. absurd (leads s g number store holds is))
+  unmade kind (OfRows (Bad at bytes)) done none ends leads =
+      makes-as now entry h after h before then_shared then_shared done (made.Broken at bytes) ends.0 refl ends.1
+      (record {
+        id = refl;
+        limits = refl;
+        ready = ready;
+        devices = uses-keeper before keeper (made.Broken at bytes) none.opened_at none.counts (refl, refl, refl)
+            (λ asks. none.rows_are) none.bad;
+        falls = tt;
+        leads = λ s g number store holds is. absurd (leads s g number store holds is);
+      })
+  unmade kind (OfRows Failed) done none ends leads =
+      failed (DeviceFailed Keeper) done refl none.counts (refl, refl, refl) none.rows_are none.opened_at ends
+  unmade kind (OfRows Memory) done none ends leads =
+      failed NoMemory done refl none.counts (refl, refl, refl) none.rows_are none.opened_at ends

@@ -58,7 +58,8 @@ IsWorkingOn (Reading fetch need) = ⊥
 -- What comes after a commit: its answer where nothing is left to ask for, else the operation goes on. A write that had to wait for
 -- room is pending then.
 pub data Follows (d : Doing) (kind : ActKind) (h after : ClientValue) (made : Made) : Type 0 where
-  Answers : left h ≡ None → IsTrue (ends_itself h d) → after ≡ told_here d.op (answer_here d.does).0 h
+  Answers : left h ≡ None → IsTrue (ends_itself h d) → (length h.pending ≤ 0 → written_alone d.op h.handles ≡ None)
+      → after ≡ told_here d.op (answer_here d.does).0 h
       → made ≡ Both kind (answer_here d.does).0 (answer_here d.does).1 → Follows d kind h after made
   Writes : (handle offset : ℕ) (bytes : List ℕ) → left h ≡ None → d.op ≡ op.Write handle offset bytes
       → after ≡ record h { pending = written (inode_here h.handles handle) offset bytes []; doing = None }

@@ -5,8 +5,10 @@ pub mod Built
 pub mod Held
 pub mod Ending
 pub mod UnderWay
+pub mod Reading
 pub mod Flushing
 pub mod Transacting
 pub mod Changing
 pub mod Stats
+pub mod Getting
 pub mod Makes

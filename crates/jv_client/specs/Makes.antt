@@ -10,6 +10,8 @@ use Rattle.jv_model.specs.declared.fault.Device.TheVariants.{Keeper, Depot, Shel
 use Rattle.jv_model.specs.declared.fault.Fault.TheVariants.{DeviceFailed}
 use Rattle.jv_model.specs.declared.op.Step.{Step}
 use Rattle.jv_model.specs.declared.op.Step.TheVariants.{More, Done, Broken}
+use Rattle.jv_model.specs.tree.Tree.{Tree}
+use Rattle.jv_model.specs.client.ModelClient.{ModelClient}
 use Rattle.jv_model.specs.journal.State.{State}
 use Rattle.jv_model.specs.journal.Steps.{Start}
 use Rattle.jv_model.specs.journal.Stepping.{AllowsStep, stepped_by, entry_of}

@@ -8,12 +8,13 @@ ghost use Rattle.jv_shared.specs.Shared.{Shared};
 ghost use Rattle.jv_client.specs.Ending.{Finishes, closed, finished_here, refused_here, told_here, without};
 ghost use Rattle.jv_client.specs.UnderWay.{IsReady, ClosesOpen, Ends, HasKept, MayKeep, closed_by, does_of, ends_itself, keeps, left, tells_stats};
 ghost use Rattle.jv_client.specs.declared.doing.Flush.TheVariants.{Nothing};
-ghost use Rattle.jv_client.specs.Stats.{IsStatsOf};
+ghost use Rattle.jv_client.specs.Stats.{IsStatsOf, numbers_in};
 ghost use Rattle.jv_client.specs.Transacting.{Fails, Refuses};
 ghost use Rattle.jv_client.specs.Makes.{Makes};
 
 use crate::client::{Client, forget};
 use crate::made::Made;
+use jv_cache::BlockCache;
 use jv_handles::{Handle, clear, inode_at, named};
 use jv_model::{ActKind, Answer, Does, Fault, Gone, Handles, Op, Reply, Sequence, Told};
 use jv_pending::Pending;
@@ -183,10 +184,7 @@ impl Client {
         ensures made { (now entry : ℕ) (v : Shared) → Makes now entry self.old self.new v v result }
         ensures numbers { IsStatsOf self.old result }
     {
-        let (hits, misses, cached) = match &self.cache {
-            Some(cache) => (cache.hits(), cache.misses(), cache.len() as u64),
-            None => (0, 0, 0),
-        };
+        let (hits, misses, cached) = cache_numbers(&self.cache);
         let pending = self.pending.bytes();
         forget(&mut self.doing);
         Made::Answer(
@@ -198,6 +196,18 @@ impl Client {
                 pending,
             },
         )
+    }
+}
+
+/// The hits and misses of a cache, and the number of blocks that it keeps.
+fn cache_numbers(cache: &Option<BlockCache>) -> (u64, u64, u64)
+    ensures hits { result.0 ≡ (numbers_in cache.now).hits }
+    ensures misses { result.1 ≡ (numbers_in cache.now).misses }
+    ensures cached { result.2 ≡ (numbers_in cache.now).cached }
+{
+    match cache {
+        Some(cache) => (cache.hits(), cache.misses(), cache.len() as u64),
+        None => (0, 0, 0),
     }
 }
 

@@ -1,10 +1,13 @@
 //! Operations that change the bytes of files in one transaction: truncates and copies.
-ghost use Rattle.std.specs.Prelude.{◌≡◌, ℕ, IfSome, IsSome, IsTrue, None};
+ghost use Rattle.std.specs.Prelude.{◌≡◌, ℕ, IfSome, IsSome, IsTrue, None, map};
 ghost use Rattle.jv_outside.specs.Carriage.{Carriage};
 ghost use Rattle.jv_yard.specs.YardValue.{YardValue};
+ghost use Rattle.jv_handles.specs.Handles.{unseen};
 ghost use Rattle.jv_client.specs.Shared.{shared};
 ghost use Rattle.jv_client.specs.UnderWay.{IsReady, changes_files, left};
 ghost use Rattle.jv_client.specs.Makes.{Makes};
+ghost use Rattle.jv_client.specs.Changing.{TriesChange, copied_to, cut_to, is_change};
+ghost use Rattle.jv_metadata.specs.Attempts.{mapped};
 
 use crate::client::Client;
 use crate::made::Made;
@@ -40,13 +43,20 @@ impl Client {
         };
         match tried {
             Ok(Changed { kind, reply, inode }) => {
-                forget_views(&mut self.handles, inode);
+                self.drop_views(inode);
                 let told = told_of(&reply);
                 self.end_as(told);
                 Made::Both(kind, told, reply)
             }
             Err(fault) => self.unmade(ActKind::Quiet, fault),
         }
+    }
+
+    /// Drops what the client saw of a file that it changed.
+    fn drop_views(&mut self, inode: u64)
+        ensures { self.new ≡ record self.old { handles = map (unseen inode) self.old.handles } }
+    {
+        forget_views(&mut self.handles, inode);
     }
 }
 
@@ -57,16 +67,15 @@ fn try_change<K: Keeper>(
     who: &Who,
     handles: &[Option<Handle>],
     op: &Op,
-) -> Result<Changed, TxFault> {
+) -> Result<Changed, TxFault>
+    requires { IsTrue (is_change op.now) }
+    ensures { TriesChange handles.now op.now who.entry.now (K.seen k.old) (K.seen k.new) result }
+{
     match op {
         Op::Truncate { handle, len } => {
             let inode = inode_at(handles, *handle);
-            truncate(alloc, k, who, inode, *len)?;
-            Ok(Changed {
-                kind: ActKind::Truncated { inode, len: *len },
-                reply: Reply::Done,
-                inode,
-            })
+            let made = truncate(alloc, k, who, inode, *len);
+            cut(made, inode, *len)
         }
         Op::Copy {
             source,
@@ -75,20 +84,47 @@ fn try_change<K: Keeper>(
             to,
             len,
         } => {
-            let (source, target) = (inode_at(handles, *source), inode_at(handles, *target));
-            let len = copy_range(alloc, k, who, source, *from, target, *to, *len)?;
-            Ok(Changed {
-                kind: ActKind::Copied {
-                    source,
-                    from: *from,
-                    target,
-                    to: *to,
-                    len,
-                },
-                reply: Reply::Count { bytes: len },
-                inode: target,
-            })
+            let source = inode_at(handles, *source);
+            let target = inode_at(handles, *target);
+            let made = copy_range(alloc, k, who, source, *from, target, *to, *len);
+            copied(made, source, *from, target, *to)
         }
         _ => unreachable!(),
     }
+}
+
+/// What a truncate made.
+fn cut(made: Result<(), TxFault>, inode: u64, len: u64) -> Result<Changed, TxFault>
+    ensures { result ≡ mapped (λ unit. cut_to inode len) made }
+{
+    made?;
+    Ok(Changed {
+        kind: ActKind::Truncated { inode, len },
+        reply: Reply::Done,
+        inode,
+    })
+}
+
+/// What a copy made, which counts the bytes that it copied.
+fn copied(
+    made: Result<u64, TxFault>,
+    source: u64,
+    from: u64,
+    target: u64,
+    to: u64,
+) -> Result<Changed, TxFault>
+    ensures { result ≡ mapped (copied_to source from target to) made }
+{
+    let len = made?;
+    Ok(Changed {
+        kind: ActKind::Copied {
+            source,
+            from,
+            target,
+            to,
+            len,
+        },
+        reply: Reply::Count { bytes: len },
+        inode: target,
+    })
 }

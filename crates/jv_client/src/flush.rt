@@ -17,7 +17,7 @@ ghost use Rattle.jv_yard.specs.YardValue.{YardValue};
 ghost use Rattle.jv_client.specs.declared.doing.Progress.TheVariants.{Working};
 ghost use Rattle.jv_client.specs.UnderWay.{IsReady, ClosesOpen, left, moved_to, progress_of};
 ghost use Rattle.jv_client.specs.Held.{segment_left};
-ghost use Rattle.jv_client.specs.Flushing.{Follows, IfWrite, IsWorkingOn, IsWrittenAlone, NextOf, without_segment};
+ghost use Rattle.jv_client.specs.Flushing.{Follows, IfWrite, IsWorkingOn, IsWrittenAlone, NextOf, bytes_of, without_segment};
 ghost use Rattle.jv_client.specs.Makes.{Makes};
 
 use crate::client::{Client, forget};
@@ -206,13 +206,7 @@ impl Client {
 
     /// Commits a segment's slice, of which all blocks were put. Refused with `Stale` where its session or its file is gone,
     /// with `TimedOut` where its first block is as old as uploads live, and with `NoSpace` where the volume has no room.
-    fn commit<K: Keeper>(
-        &mut self,
-        at: SegmentAt,
-        upload: Upload,
-        k: &mut K,
-        now: Moment,
-    ) -> Made
+    fn commit<K: Keeper>(&mut self, at: SegmentAt, upload: Upload, k: &mut K, now: Moment) -> Made
         requires busy { progress_of self.old.doing
             ≡ Some (Working upload.quiets upload.started upload.id) }
         requires asked { 0 < upload.quiets }
@@ -230,13 +224,7 @@ impl Client {
         let Ok(next) = self.write_after(at) else {
             return self.fail(Fault::NoMemory);
         };
-        let rec = Rec {
-            pos: at.pos,
-            id: upload.id,
-            size: at.len,
-            off: 0,
-            len: at.len,
-        };
+        let rec = self.record_of(at, upload.id);
         let who = self.who(now);
         match commit(
             self.alloc,
@@ -274,9 +262,27 @@ impl Client {
         written_alone(self.alloc, &doing.op, &self.handles, self.limits.buffer)
     }
 
+    /// The record that shows a segment's slice, which has all of the segment's bytes.
+    fn record_of(&self, at: SegmentAt, id: u64) -> Rec
+        requires own { next_segment (Some at.inode) self.now.pending ≡ Some (segment_at at) }
+        ensures shows { result
+            ≡ record { pos = at.pos; id = id; size = at.len; off = 0; len = at.len } }
+        ensures long { length (bytes_of (segment_at at) self.now.pending) ≡ at.len }
+    {
+        let len = self.pending.segment(at).len() as u32;
+        Rec {
+            pos: at.pos,
+            id,
+            size: len,
+            off: 0,
+            len,
+        }
+    }
+
     /// Drops a segment that was committed, and the views of its file.
     fn drop_segment(&mut self, at: SegmentAt)
-        requires { next_segment (Some at.inode) self.old.pending ≡ Some (segment_at at) }
+        requires own { next_segment (Some at.inode) self.old.pending ≡ Some (segment_at at) }
+        requires long { length (bytes_of (segment_at at) self.old.pending) ≡ at.len }
         ensures rest { self.new ≡ without_segment (segment_at at) self.old }
         ensures fewer { length self.new.pending + at.len ≡ length self.old.pending }
     {

@@ -1,11 +1,20 @@
 //! Reading: looks at windows that the handle didn't see, then blocks that the cache doesn't have, one a step.
-ghost use Rattle.std.specs.Prelude.{◌≡◌, ℕ, IfSome, IsSome, None, Some};
+ghost use Rattle.std.specs.Prelude.{◌≡◌, ◌≢◌, ◌≤◌, ℕ, length, IfOk, IfSome, IsSome, OnErr, OnOk, None, Some};
+ghost use Rattle.std.specs.Option.{option_map};
 ghost use Rattle.jv_model.specs.declared.profile.Does.TheVariants.{Reads};
 ghost use Rattle.jv_outside.specs.Carriage.{Carriage};
+ghost use Rattle.jv_outside.specs.Store.{Store};
+ghost use Rattle.jv_yard.specs.YardValue.{YardValue};
 ghost use Rattle.jv_shared.specs.Lengths.{IsLength};
+ghost use Rattle.jv_fetching.specs.Calls.{LooksUp};
+ghost use Rattle.jv_fetching.specs.Fetching.{block_needed};
+ghost use Rattle.jv_client.specs.declared.doing.Progress.TheVariants.{Reading, Working};
+ghost use Rattle.jv_client.specs.ClientValue.{ClientValue};
 ghost use Rattle.jv_client.specs.Shared.{shared};
-ghost use Rattle.jv_client.specs.UnderWay.{IsReady, does_of, left};
+ghost use Rattle.jv_client.specs.UnderWay.{IsReady, does_of, left, names_open};
 ghost use Rattle.jv_client.specs.Makes.{Makes};
+ghost use Rattle.jv_client.specs.Getting.{HasFilled, IsBlockIn, ReadsBlock, yard_fault};
+ghost use Rattle.jv_client.specs.Reading.{Begins, ClientComesTo, ComesTo, GoesOnAfter, IsAhead, IsCachedAs, IsMade, OnlyLooksUp, Shows, fetch_at, fetch_in, need_at, need_in, put_at};
 
 use crate::answers::looks;
 use crate::client::{Client, forget};
@@ -73,7 +82,9 @@ impl Client {
     }
 
     /// What a reading that has begun needs next.
-    fn need(&self) -> Option<Need> {
+    fn need(&self) -> Option<Need>
+        ensures { result ≡ need_in self.now.doing }
+    {
         match &self.doing {
             Some(doing) => need_of(&doing.progress),
             None => None,
@@ -87,7 +98,18 @@ impl Client {
         k: &mut K,
         yard: &mut Yard<D, H>,
         entry: u64,
-    ) -> Made {
+    ) -> Made
+        requires ready { IsReady self.old }
+        requires flushed { left self.old ≡ None }
+        requires needs { need_in self.old.doing ≡ Some need }
+        requires block { let seen = ⟦<Yard<D, H> as ObservedYard>⟧.seen in
+            IsLength (seen yard.old).setting.block }
+        ensures { let seen = ⟦<Yard<D, H> as ObservedYard>⟧.seen in
+            (now : ℕ) (carrier : Carriage) (h : ClientValue)
+            → IsAhead (seen yard.old).setting.block h self.old → IsReady h
+            → Makes now entry h self.new (shared (K.seen k.old) (seen yard.old) carrier)
+            (shared (K.seen k.new) (seen yard.new) carrier) result }
+    {
         match need {
             Need::Look(window) => self.look(window, k, entry),
             Need::Block(block) => self.get(block, yard),
@@ -101,10 +123,16 @@ impl Client {
         offset: u64,
         len: u32,
         block: u32,
-    ) -> Result<Option<Found>, AllocError> {
-        if self.cache.is_none() {
-            self.cache = Some(BlockCache::new(self.alloc, self.limits.entries)?);
-        }
+    ) -> Result<Option<Found>, AllocError>
+        requires reads { does_of self.old.doing ≡ Some (Reads offset len) }
+        requires ready { IsReady self.old }
+        requires flushed { left self.old ≡ None }
+        requires first { need_in self.old.doing ≡ None }
+        requires block { IsLength block }
+        ensures ok { IfOk result (Begins offset len block self.old self.new) }
+        ensures err { OnErr result (IsCachedAs self.old self.new) }
+    {
+        make_cache(self.alloc, self.limits.entries, &mut self.cache)?;
         match self.ahead(Fetch::new(self.alloc, offset, len, block))? {
             Ahead::Read(found) => Ok(Some(found)),
             Ahead::Needs(fetch, need) => {
@@ -115,7 +143,13 @@ impl Client {
     }
 
     /// Goes ahead with a reading by the views of its handle and by the cache.
-    fn ahead(&mut self, fetch: Fetch) -> Result<Ahead, AllocError> {
+    fn ahead(&mut self, fetch: Fetch) -> Result<Ahead, AllocError>
+        requires busy { IsSome self.old.doing }
+        requires opened { IfSome self.old.doing (names_open self.old) }
+        requires cached { IsSome self.old.cache }
+        ensures looks { OnlyLooksUp self.old self.new }
+        ensures comes { IfOk result (ClientComesTo fetch self.old) }
+    {
         let handle = self.handle_in_use();
         match (named(&self.handles, handle), &mut self.cache) {
             (Some(open), Some(cache)) => read_ahead(fetch, &open.views, cache),
@@ -124,7 +158,14 @@ impl Client {
     }
 
     /// Looks at a window of the file. Refused with `Stale` where the session or the file is gone.
-    fn look<K: Keeper>(&mut self, window: u32, k: &mut K, entry: u64) -> Made {
+    fn look<K: Keeper>(&mut self, window: u32, k: &mut K, entry: u64) -> Made
+        requires ready { IsReady self.old }
+        requires flushed { left self.old ≡ None }
+        requires needs { need_in self.old.doing ≡ Some (Need.Look window) }
+        ensures { (now : ℕ) (yard : YardValue) (carrier : Carriage) (h : ClientValue)
+            → IsAhead yard.setting.block h self.old → IsReady h → Makes now entry h self.new
+            (shared (K.seen k.old) yard carrier) (shared (K.seen k.new) yard carrier) result }
+    {
         let handle = self.handle_in_use();
         let inode = inode_at(&self.handles, handle);
         let who = self.who(Moment(0));
@@ -151,16 +192,24 @@ impl Client {
     }
 
     /// Gets a block that the cache doesn't have. Fails where the depot or the shelf does.
-    fn get<D: Depot, H: Shelf>(&mut self, block: BlockId, yard: &mut Yard<D, H>) -> Made {
+    fn get<D: Depot, H: Shelf>(&mut self, block: BlockId, yard: &mut Yard<D, H>) -> Made
+        requires ready { IsReady self.old }
+        requires flushed { left self.old ≡ None }
+        requires needs { need_in self.old.doing ≡ Some (Need.Block block) }
+        requires length { let seen = ⟦<Yard<D, H> as ObservedYard>⟧.seen in
+            IsLength (seen yard.old).setting.block }
+        ensures { let seen = ⟦<Yard<D, H> as ObservedYard>⟧.seen in
+            (now entry : ℕ) (keeper : Store) (carrier : Carriage) (h : ClientValue)
+            → IsAhead (seen yard.old).setting.block h self.old → IsReady h
+            → Makes now entry h self.new (shared keeper (seen yard.old) carrier)
+            (shared keeper (seen yard.new) carrier) result }
+    {
         let bytes = match read_block(self.alloc, yard, self.id, block) {
             Ok(bytes) => bytes,
             Err(fault) => return self.fail(fault),
         };
         let mut fetch = take_fetch(&mut self.doing);
-        match &mut self.cache {
-            Some(cache) => fetch.fill(cache, block, bytes),
-            None => unreachable!(),
-        }
+        fill(&mut fetch, &mut self.cache, block, bytes);
         match self.ahead(fetch) {
             Ok(ahead) => self.go_on_reading(ActKind::Quiet, ahead),
             Err(AllocError) => self.fail(Fault::NoMemory),
@@ -168,7 +217,9 @@ impl Client {
     }
 
     /// Goes on after a request, or answers with it where the reading wants nothing more.
-    fn go_on_reading(&mut self, kind: ActKind, ahead: Ahead) -> Made {
+    fn go_on_reading(&mut self, kind: ActKind, ahead: Ahead) -> Made
+        ensures { GoesOnAfter kind ahead self.old self.new result }
+    {
         match ahead {
             Ahead::Read(found) => self.show(Some(kind), found),
             Ahead::Needs(fetch, need) => {
@@ -179,7 +230,9 @@ impl Client {
     }
 
     /// Answers with what was read.
-    fn show(&mut self, kind: Option<ActKind>, found: Found) -> Made {
+    fn show(&mut self, kind: Option<ActKind>, found: Found) -> Made
+        ensures { Shows kind found self.old self.new result }
+    {
         let Found {
             first,
             second,
@@ -194,8 +247,25 @@ impl Client {
     }
 }
 
+/// Makes a cache for this many blocks, where there is none. On error nothing has changed.
+fn make_cache(
+    alloc: Global,
+    entries: usize,
+    cache: &mut Option<BlockCache>,
+) -> Result<(), AllocError>
+    ensures made { OnOk result (IsMade cache.old cache.new) }
+    ensures err { OnErr result (cache.new ≡ cache.old) }
+{
+    if cache.is_none() {
+        *cache = Some(BlockCache::new(alloc, entries)?);
+    }
+    Ok(())
+}
+
 /// What a reading needs next, where it has begun.
-fn need_of(progress: &Progress) -> Option<Need> {
+fn need_of(progress: &Progress) -> Option<Need>
+    ensures { result ≡ need_at progress.now }
+{
     match progress {
         Progress::Working { .. } => None,
         Progress::Reading { need, .. } => Some(*need),
@@ -203,25 +273,43 @@ fn need_of(progress: &Progress) -> Option<Need> {
 }
 
 /// The operation reads from here on.
-fn read_from(doing: &mut Option<Doing>, fetch: Fetch, need: Need) {
+fn read_from(doing: &mut Option<Doing>, fetch: Fetch, need: Need)
+    ensures { doing.new ≡ option_map (put_at (Reading fetch need)) doing.old }
+{
     if let Some(doing) = doing {
         doing.progress = Progress::Reading { fetch, need };
     }
 }
 
 /// Takes the reading out of an operation that reads.
-fn take_fetch(doing: &mut Option<Doing>) -> Fetch {
-    let Some(doing) = doing else {
-        unreachable!();
-    };
-    match replace(&mut doing.progress, Progress::FIRST) {
+fn take_fetch(doing: &mut Option<Doing>) -> Fetch
+    requires { IsSome (fetch_in doing.old) }
+    ensures taken { fetch_in doing.old ≡ Some result }
+    ensures left { doing.new ≡ option_map (put_at (Working 0 0 0)) doing.old }
+{
+    match doing {
+        Some(doing) => take_from(&mut doing.progress),
+        None => unreachable!(),
+    }
+}
+
+/// Takes the reading out of the progress of an operation that reads.
+fn take_from(progress: &mut Progress) -> Fetch
+    requires { IsSome (fetch_at progress.old) }
+    ensures taken { fetch_at progress.old ≡ Some result }
+    ensures left { progress.new ≡ Working 0 0 0 }
+{
+    match replace(progress, Progress::FIRST) {
         Progress::Reading { fetch, .. } => fetch,
         Progress::Working { .. } => unreachable!(),
     }
 }
 
 /// Goes ahead with a reading as far as it wants no request.
-fn read_ahead(mut fetch: Fetch, views: &Views, cache: &mut BlockCache) -> Result<Ahead, AllocError> {
+fn read_ahead(mut fetch: Fetch, views: &Views, cache: &mut BlockCache) -> Result<Ahead, AllocError>
+    ensures looks { LooksUp cache.old cache.new }
+    ensures comes { IfOk result (ComesTo views.now cache.old fetch) }
+{
     match fetch.advance(views, cache)? {
         Need::Nothing => {
             let (first, second, bytes) = fetch.into_parts()?;
@@ -241,17 +329,51 @@ fn read_block<D: Depot, H: Shelf>(
     yard: &mut Yard<D, H>,
     client: ClientId,
     block: BlockId,
-) -> Result<Bytes, Fault> {
+) -> Result<Bytes, Fault>
+    ensures low { client ≤ 7 }
+    ensures read { let seen = ⟦<Yard<D, H> as ObservedYard>⟧.seen in
+        ReadsBlock client block (seen yard.old) (seen yard.new) result }
+{
     let BlockId { id, index, size } = block;
-    let name = match block_name(alloc, yard.setting(), id, index, size) {
-        Ok(name) => name,
-        Err(AllocError) => return Err(Fault::NoMemory),
+    let Ok(name) = block_name(alloc, yard.setting(), id, index, size) else {
+        return Err(Fault::NoMemory);
     };
     match yard.get_block(client, &name) {
-        Ok(Some(bytes)) if bytes.len() == size as usize => Ok(bytes),
-        Ok(_) => Err(Fault::Contended(Busy::Misses(1))),
-        Err(YardFault::Depot) => Err(Fault::DeviceFailed(Device::Depot)),
-        Err(YardFault::Shelf) => Err(Fault::DeviceFailed(Device::Shelf)),
-        Err(YardFault::Memory) => Err(Fault::NoMemory),
+        Ok(value) => block_in(value, size),
+        Err(fault) => Err(fault_of(fault)),
+    }
+}
+
+/// The bytes of a block of this size, by what was read at its name.
+fn block_in(value: Option<Bytes>, size: u32) -> Result<Bytes, Fault>
+    ensures { IsBlockIn size value result }
+{
+    match value {
+        Some(bytes) if bytes.len() == size as usize => Ok(bytes),
+        _ => Err(Fault::Contended(Busy::Misses(1))),
+    }
+}
+
+/// What a yard's fault is to a client.
+fn fault_of(fault: YardFault) -> Fault
+    ensures { result ≡ yard_fault fault }
+{
+    match fault {
+        YardFault::Depot => Fault::DeviceFailed(Device::Depot),
+        YardFault::Shelf => Fault::DeviceFailed(Device::Shelf),
+        YardFault::Memory => Fault::NoMemory,
+    }
+}
+
+/// Fills in the block that a reading needs, and keeps it where memory allows.
+fn fill(fetch: &mut Fetch, cache: &mut Option<BlockCache>, block: BlockId, bytes: Bytes)
+    requires there { IsSome cache.old }
+    requires needed { block_needed fetch.old ≡ Some block }
+    requires long { length bytes ≡ block.size }
+    ensures { HasFilled block bytes fetch.old fetch.new cache.old cache.new }
+{
+    match cache {
+        Some(cache) => fetch.fill(cache, block, bytes),
+        None => unreachable!(),
     }
 }

@@ -19,9 +19,7 @@ ghost use Rattle.jv_model.specs.declared.profile.Does.TheVariants.{Releases};
 use crate::answers::{handle_of, looks};
 use crate::client::Client;
 use crate::made::Made;
-use jv_handles::{
-    Handle, Views, free_handle, held, inode_at, is_open_elsewhere, set,
-};
+use jv_handles::{Handle, Views, free_handle, held, inode_at, is_open_elsewhere, set};
 use jv_live::mount;
 use jv_metadata::{Answer, transact};
 use jv_model::{

@@ -3,4 +3,5 @@ use Rattle.jv_client.specs.Shared.{shared}
 use Rattle.jv_client.proofs.client.Client.close.Goals as goal
 
 pub returns-else-is_last : goal.returns-else-is_last
-returns-else-is_last g c files = c.end_at_once.ensures c.args.now c.args.entry (shared files (g.K.Keeper.seen c.args.k.now))
+returns-else-is_last g c yard carrier =
+    c.end_at_once.ensures c.args.now c.args.entry (shared (g.K.Keeper.seen c.args.k.now) yard carrier)

@@ -7,5 +7,4 @@ pub returns : goal.returns
 returns c now entry v =
     let h = c.args.self.now in
     end_at_once now entry h c.end.new.self v c.in-Some.told c.in-Some.reply h.doing refl c.requires.busy
-    c.requires.ready c.requires.flushed c.requires.not_write
-    c.requires.ends c.in-Some.ensures
+    c.requires.ready c.requires.flushed c.requires.not_write c.requires.not_stats c.requires.ends c.in-Some.ensures

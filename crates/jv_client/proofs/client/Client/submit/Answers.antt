@@ -13,17 +13,17 @@ use Rattle.jv_client.proofs.SubmissionLaws.{refusal-by, begun-stands}
 use Rattle.jv_client.proofs.client.Client.submit.Goals as goal
 
 pub returns-in-Some-clause-refusal : goal.returns-in-Some-clause-refusal
-returns-in-Some-clause-refusal c m count files h = sym c.in-Some.is
-    ∙ refusal-by m count files c.args.self.now c.args.op c.profile-row.result c.refusal.result h c.profile-row.ensures
+returns-in-Some-clause-refusal c g all m count h = sym c.in-Some.is
+    ∙ refusal-by g all m count c.args.self.now c.args.op c.profile-row.result c.refusal.result h c.profile-row.ensures
     c.refusal.ensures
 
 pub returns-clause-refusal : goal.returns-clause-refusal
-returns-clause-refusal c m count files h = sym c.in_default.is
-    ∙ refusal-by m count files c.args.self.now c.args.op c.profile-row.result c.refusal.result h c.profile-row.ensures
+returns-clause-refusal c g all m count h = sym c.in_default.is
+    ∙ refusal-by g all m count c.args.self.now c.args.op c.profile-row.result c.refusal.result h c.profile-row.ensures
     c.refusal.ensures
 
 pub returns-clause-begun : goal.returns-clause-begun
-returns-clause-begun c m count files h =
+returns-clause-begun c g all m count h =
     let value : ClientValue = c.args.self.now in
     let o = c.args.op in
     let row : c.profile-row.result ≡ profile o = c.profile-row.ensures in
@@ -33,11 +33,11 @@ returns-clause-begun c m count files h =
     let flush = c.flush_of-flush.ensures ∙ ap (λ (r : Profile). flush_here value r) row in
     let doing = c.begun.ensures ∙ ap (λ does. begun o does c.flush_of-flush.result) does
     ∙ ap (begun o (by_limits value.limits (profile o).does)) flush in
-    let stands = subst (λ (d : Doing). IsClient (submitted value.limits o m) count files
-    (record value { doing = Some d })) (sym doing) (begun-stands m count files value o h) in
-    let placed = subst (λ (d : Option Doing). IsClient (submitted value.limits o m) count files
+    let stands = subst (λ (d : Doing). IsClient g all (submitted value.limits o m) count
+    (record value { doing = Some d })) (sym doing) (begun-stands g all m count value o h) in
+    let placed = subst (λ (d : Option Doing). IsClient g all (submitted value.limits o m) count
     (record value { doing = d })) (sym c.begin.ensures) stands in
-    subst (λ (v : ClientValue). IsClient (submitted value.limits o m) count files
+    subst (λ (v : ClientValue). IsClient g all (submitted value.limits o m) count
     (record v { doing = c.begin.new.doing })) (sym seen) placed
 
 pub returns-clause-ready : goal.returns-clause-ready
@@ -54,6 +54,6 @@ returns-clause-ready c ready built =
     let none = sym (c.refusal.ensures ∙ ap (λ (r : Profile). submission_of (is_some value.doing)
     (is_some value.session) (names_closed value.handles r.handles) (open_count value.handles) r) row)
     ∙ c.in_default.is in
-    let stands = begun-ready value o c.begun.result built none doing in
+    let stands = begun-ready value o c.begun.result ready built none doing in
     let placed = subst (λ (d : Option Doing). IsReady (record value { doing = d })) (sym c.begin.ensures) stands in
     subst (λ (v : ClientValue). IsReady (record v { doing = c.begin.new.doing })) (sym seen) placed

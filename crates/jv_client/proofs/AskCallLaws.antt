@@ -1,0 +1,246 @@
+-- The functions that look at a window and get a block, by what their calls promise.
+use Rattle.std.proofs.Common.{◌≡◌, ℕ, ◌≤◌, List, Option, None, Some, Result, Ok, Err, refl, sym, ap, subst, ◌∙◌}
+use Rattle.std.specs.Prelude.{IfSome}
+use Rattle.std.specs.Option.{option_map}
+use Rattle.jv_model.specs.declared.act.ActKind.TheVariants.{Look, Quiet}
+use Rattle.jv_model.specs.declared.fault.Fault.{Fault}
+use Rattle.jv_model.specs.declared.fault.Fault.TheVariants.{NoMemory}
+use Rattle.jv_model.specs.declared.fault.TxFault.{TxFault}
+use Rattle.jv_model.specs.declared.slice.BlockId.{BlockId}
+use Rattle.jv_model.specs.client.ModelClient.{file_of, with_file}
+use Rattle.jv_model.specs.client.Profile.{handle_of}
+use Rattle.jv_outside.specs.Store.{Store}
+use Rattle.jv_cache.specs.Cached.{Cached}
+use Rattle.jv_data.specs.declared.looking.View.{View as Looked}
+use Rattle.jv_data.specs.Records.{LooksAt}
+use Rattle.jv_handles.specs.declared.handle.Handle.{Handle}
+use Rattle.jv_handles.specs.Handles.{inode_here, inode_of_handle, seen_by, unseen_by}
+use Rattle.jv_shared.specs.Shared.{Shared}
+use Rattle.jv_yard.specs.BlockCalls.{GetsBlock}
+use Rattle.jv_yard.specs.Contents.{name_in}
+use Rattle.jv_yard.specs.YardValue.{YardValue}
+use Rattle.jv_fetching.specs.declared.need.Need.{Need}
+use Rattle.jv_fetching.specs.declared.need.Need.TheVariants.{Block as NeedsBlock, Look as NeedsLook}
+use Rattle.jv_fetching.specs.Fetching.{Fetching, block_needed}
+use Rattle.jv_client.specs.declared.doing.Doing.{Doing}
+use Rattle.jv_client.specs.declared.doing.Progress.TheVariants.{Working}
+use Rattle.jv_client.specs.declared.made.Made.{Made}
+use Rattle.jv_client.specs.declared.reading.Ahead.{Ahead}
+use Rattle.jv_client.specs.ClientValue.{ClientValue, session_here}
+use Rattle.jv_client.specs.Ending.{ended}
+use Rattle.jv_client.specs.Getting.{Fills, HasFilled, ReadsBlock, Unread}
+use Rattle.jv_client.specs.Makes.{Makes}
+use Rattle.jv_client.specs.Reading.{ClientComesTo, GoesOnAfter, IsAhead, OnlyLooksUp, fetch_in, need_in, put_at}
+use Rattle.jv_client.specs.Transacting.{EndsUnmade, Fails}
+use Rattle.jv_client.specs.UnderWay.{IsReady, left}
+use Rattle.jv_client.proofs.ReaderLaws.{Asking, IsAsking, asking, is_asking}
+use Rattle.jv_client.proofs.GoneOnLaws.{over}
+use Rattle.jv_client.proofs.LookLaws.{seen_handles, view_of}
+use Rattle.jv_client.proofs.UnlookedLaws.{cached-here, look-out, look-unmade}
+use Rattle.jv_client.proofs.GotLaws.{get-unread}
+use Rattle.jv_client.proofs.ReadCallLaws.{get-came, get-lost, look-came, look-lost, made_as, taken_out}
+
+-- the client with another table of handles, whose reading was taken out
+abbrev pub put_back : List (Option Handle) → ClientValue → ClientValue
+put_back handles c = record c { handles = handles; doing = option_map (put_at (Working 0 0 0)) c.doing }
+
+-- the reading that was taken out
+fetch_is : (h : ClientValue) (cache : Cached) (d : Doing) (fetch fetch' : Fetching) (next : Need) (o : Option Doing)
+    → o ≡ (asking h cache d fetch next).doing → fetch_in o ≡ Some fetch' → fetch' ≡ fetch
+fetch_is h cache d fetch fetch' next o is taken =
+    let both : Some fetch ≡ Some fetch' = sym (ap fetch_in is) ∙ taken in
+    cc
+
+module _ (block : ℕ) (h c : ClientValue) (next : Need) (a : IsAhead block h c) (ready_before : IsReady h)
+    (ready : IsReady c) (flushed : left c ≡ None) (need : need_in c.doing ≡ Some next) where
+  abbrev before_request : Asking block h c next
+  before_request = is_asking block h c next a ready_before ready flushed need
+
+  -- what it names
+  pub handle-is : (handle : ℕ) → IfSome c.doing (λ d. handle ≡ handle_of d.op) → handle ≡ handle_of before_request.d.op
+  handle-is handle names = subst (λ o. IfSome o (λ d. handle ≡ handle_of d.op))
+      (ap (λ (x : ClientValue). x.doing) before_request.is) names
+
+  pub inode-is : (handle inode : ℕ) → IfSome c.doing (λ d. handle ≡ handle_of d.op) → inode ≡ inode_here c.handles handle
+      → inode ≡ before_request.asks.reads.file.inode
+  inode-is handle inode names is =
+      is ∙ ap (λ n. inode_here c.handles n) (handle-is handle names)
+      ∙ ap (λ (x : ClientValue). inode_here x.handles (handle_of before_request.d.op)) before_request.is
+      ∙ ap inode_of_handle before_request.asks.reads.opened
+
+  pub took-fetch : (fetch : Fetching) → fetch_in c.doing ≡ Some fetch → fetch ≡ before_request.fetch
+  took-fetch fetch taken = fetch_is h before_request.cache before_request.d before_request.fetch fetch next c.doing
+      (ap (λ (x : ClientValue). x.doing) before_request.is) taken
+
+-- ---- a look
+
+module _ (now entry : ℕ) (h c : ClientValue) (window : ℕ) (before : Shared)
+    (a : IsAhead before.yard.setting.block h c) (ready_before : IsReady h) (ready : IsReady c) (flushed : left c ≡ None)
+    (need : need_in c.doing ≡ Some (NeedsLook window)) (keeper : Store) (handle inode : ℕ)
+    (names : IfSome c.doing (λ d. handle ≡ handle_of d.op)) (inode_of : inode ≡ inode_here c.handles handle) where
+  abbrev block : ℕ
+  block = before.yard.setting.block
+
+  abbrev asked : Asking block h c (NeedsLook window)
+  asked = is_asking block h c (NeedsLook window) a ready_before ready flushed need
+
+  abbrev used : Shared
+  used = record before { keeper = keeper }
+
+  of_handle : handle ≡ handle_of asked.d.op
+  of_handle = handle-is block h c (NeedsLook window) a ready_before ready flushed need handle names
+
+  of_inode : inode ≡ asked.asks.reads.file.inode
+  of_inode = inode-is block h c (NeedsLook window) a ready_before ready flushed need handle inode names inode_of
+
+  here : (result : Result Looked TxFault) → LooksAt (session_here c) inode window before.keeper keeper result
+      → LooksAt (session_here h) asked.asks.reads.file.inode window before.keeper keeper result
+  here result looks =
+      subst (λ n. LooksAt (session_here h) n window before.keeper keeper result) of_inode
+      (subst (λ n. LooksAt n inode window before.keeper keeper result)
+      (ap (λ (x : ClientValue). session_here x) asked.is) looks)
+
+  -- refused, or not made
+  pub looks-unmade : (fault : TxFault) (after : ClientValue) (done : Made)
+      → LooksAt (session_here c) inode window before.keeper keeper (Err fault) → EndsUnmade Quiet fault c after done
+      → Makes now entry h after before used done
+  looks-unmade fault after done looks ends =
+      look-unmade now entry block h asked.d asked.offset asked.len asked.cache asked.fetch window asked.asks before refl
+      keeper fault after done (subst IsReady asked.is ready) (here (Err fault) looks)
+      (subst (λ (x : ClientValue). EndsUnmade Quiet fault x after done) asked.is ends)
+
+  module _ (looked : Looked) (looks : LooksAt (session_here c) inode window before.keeper keeper (Ok looked)) where
+    -- no memory for the view
+    pub looks-full : (then after : ClientValue) (done : Made) → then ≡ c → Fails NoMemory then after done
+        → Makes now entry h after before used done
+    looks-full then after done same fails =
+        made_as now entry h after (over h.handles asked.cache h) before used done _
+        (fails.after_is ∙ ap ended (same ∙ asked.is)) fails.made_is
+        (look-out now entry block h asked.d asked.offset asked.len asked.cache asked.fetch window asked.asks before refl
+        keeper asked.cache
+        (cached-here now entry block h asked.d asked.offset asked.len asked.cache asked.fetch window asked.asks before
+        refl keeper)
+        looks.looks.rows_are looks.looks.opened_at looks.looks.counts)
+
+    module _ (mid then : ClientValue)
+        (mid_is : mid
+        ≡ put_back (with_file handle (seen_by window (view_of entry looked) (file_of c.handles handle)) c.handles) c)
+        (only : OnlyLooksUp mid then) where
+      same_mid : mid ≡ taken_out (seen_handles (handle_of asked.d.op) window (view_of entry looked) h.handles) asked.cache
+          asked.d h
+      same_mid =
+          mid_is
+          ∙ ap (λ n. put_back (with_file n (seen_by window (view_of entry looked) (file_of c.handles n)) c.handles) c)
+          of_handle
+          ∙ ap (λ (x : ClientValue). put_back (with_file (handle_of asked.d.op)
+          (seen_by window (view_of entry looked) (file_of x.handles (handle_of asked.d.op))) x.handles) x) asked.is
+
+      -- the reading goes ahead
+      pub looks-came : (fetch : Fetching) (ahead : Ahead) (after : ClientValue) (done : Made)
+          → fetch_in c.doing ≡ Some fetch → ClientComesTo fetch mid ahead
+          → GoesOnAfter (Look inode window) ahead then after done → Makes now entry h after before used done
+      looks-came fetch ahead after done taken comes goes =
+          look-came now entry block h asked.d asked.offset asked.len asked.cache asked.fetch window asked.asks before refl
+          keeper looked (here (Ok looked) looks) ahead then after done
+          (subst (λ (x : ClientValue). OnlyLooksUp x then) same_mid only)
+          (subst (λ (x : ClientValue). ClientComesTo asked.fetch x ahead) same_mid
+          (subst (λ (f : Fetching). ClientComesTo f mid ahead)
+          (took-fetch block h c (NeedsLook window) a ready_before ready flushed need fetch taken) comes))
+          (subst (λ n. GoesOnAfter (Look n window) ahead then after done) of_inode goes)
+
+      -- or memory ran out
+      pub looks-lost : (back after : ClientValue) (done : Made)
+          → back
+          ≡ record then { handles = with_file handle (unseen_by window (file_of then.handles handle)) then.handles }
+          → Fails NoMemory back after done → Makes now entry h after before used done
+      looks-lost back after done dropped fails =
+          look-lost now entry block h asked.d asked.offset asked.len asked.cache asked.fetch window asked.asks before refl
+          keeper looked (here (Ok looked) looks) then after done
+          (subst (λ (x : ClientValue). OnlyLooksUp x then) same_mid only)
+          (fails.after_is ∙ ap ended (dropped
+          ∙ ap (λ n. record then { handles = with_file n (unseen_by window (file_of then.handles n)) then.handles })
+          of_handle))
+          fails.made_is
+
+-- ---- a block
+
+module _ (now entry : ℕ) (h c : ClientValue) (b : BlockId) (before : Shared)
+    (a : IsAhead before.yard.setting.block h c) (ready_before : IsReady h) (ready : IsReady c) (flushed : left c ≡ None)
+    (need : need_in c.doing ≡ Some (NeedsBlock b)) (low : c.id ≤ 7) (yard : YardValue) where
+  abbrev length_of : ℕ
+  length_of = before.yard.setting.block
+
+  abbrev wanted : Asking length_of h c (NeedsBlock b)
+  wanted = is_asking length_of h c (NeedsBlock b) a ready_before ready flushed need
+
+  abbrev yard_used : Shared
+  yard_used = record before { yard = yard }
+
+  same_id : c.id ≡ h.id
+  same_id = ap (λ (x : ClientValue). x.id) wanted.is
+
+  id_low : h.id ≤ 7
+  id_low = subst (λ n. n ≤ 7) same_id low
+
+  -- what it needs, once its reading was taken out
+  pub needs-block : (fetch : Fetching) → fetch_in c.doing ≡ Some fetch → block_needed fetch ≡ Some b
+  needs-block fetch taken =
+      ap block_needed (took-fetch length_of h c (NeedsBlock b) a ready_before ready flushed need fetch taken)
+      ∙ wanted.asks.wants
+
+  -- it didn't come
+  pub gets-none : (fault : Fault) (after : ClientValue) (done : Made)
+      → ReadsBlock c.id b before.yard yard (Err fault) → Fails fault c after done
+      → Makes now entry h after before yard_used done
+  gets-none fault after done unread fails =
+      made_as now entry h after (over h.handles wanted.cache h) before yard_used done _
+      (fails.after_is ∙ ap ended wanted.is) fails.made_is
+      (get-unread now entry length_of h wanted.d wanted.offset wanted.len wanted.cache wanted.fetch b wanted.asks before
+      refl id_low yard fault (subst (λ n. Unread n b before.yard yard fault) same_id unread))
+
+  module _ (bytes : List ℕ) (gets : ReadsBlock c.id b before.yard yard (Ok bytes)) (fetch filled : Fetching)
+      (taken : fetch_in c.doing ≡ Some fetch) (cache : Option Cached)
+      (fills : HasFilled b bytes fetch filled c.cache cache) (mid then : ClientValue)
+      (mid_is : mid ≡ record c { cache = cache; doing = option_map (put_at (Working 0 0 0)) c.doing })
+      (only : OnlyLooksUp mid then) where
+    same_cache : fills.cache ≡ wanted.cache
+    same_cache =
+        let both : Some fills.cache ≡ Some wanted.cache =
+        sym fills.was_is ∙ ap (λ (x : ClientValue). x.cache) wanted.is in
+        cc
+
+    now_mid : mid ≡ taken_out h.handles fills.kept wanted.d h
+    now_mid =
+        mid_is
+        ∙ ap (λ (o : Option Cached). record c { cache = o; doing = option_map (put_at (Working 0 0 0)) c.doing })
+        fills.kept_is
+        ∙ ap (λ (x : ClientValue). record x {
+          cache = Some fills.kept;
+          doing = option_map (put_at (Working 0 0 0)) x.doing;
+        }) wanted.is
+
+    in_name : GetsBlock h.id (name_in before.yard.setting b) before.yard yard (Ok (Some bytes))
+    in_name = subst (λ n. GetsBlock n (name_in before.yard.setting b) before.yard yard (Ok (Some bytes))) same_id gets.0
+
+    in_place : Fills b bytes wanted.fetch filled wanted.cache fills.kept
+    in_place =
+        subst (λ (f : Fetching). Fills b bytes f filled wanted.cache fills.kept)
+        (took-fetch length_of h c (NeedsBlock b) a ready_before ready flushed need fetch taken)
+        (subst (λ (cache : Cached). Fills b bytes fetch filled cache fills.kept) same_cache fills.fills)
+
+    -- the reading goes ahead
+    pub gets-came : (ahead : Ahead) (after : ClientValue) (done : Made) → ClientComesTo filled mid ahead
+        → GoesOnAfter Quiet ahead then after done → Makes now entry h after before yard_used done
+    gets-came ahead after done comes goes =
+        get-came now entry length_of h wanted.d wanted.offset wanted.len wanted.cache wanted.fetch b wanted.asks before
+        refl id_low yard bytes in_name filled fills.kept in_place ahead then after done
+        (subst (λ (x : ClientValue). OnlyLooksUp x then) now_mid only)
+        (subst (λ (x : ClientValue). ClientComesTo filled x ahead) now_mid comes) goes
+
+    -- or memory ran out
+    pub gets-lost : (after : ClientValue) (done : Made) → Fails NoMemory then after done
+        → Makes now entry h after before yard_used done
+    gets-lost after done fails =
+        get-lost now entry length_of h wanted.d wanted.offset wanted.len wanted.cache wanted.fetch b wanted.asks before
+        refl id_low yard bytes in_name filled fills.kept in_place then after done
+        (subst (λ (x : ClientValue). OnlyLooksUp x then) now_mid only) fails.after_is fails.made_is

@@ -1,0 +1,388 @@
+-- A reading gets a block: it goes on with its bytes, it is answered, or the block didn't come.
+use Rattle.std.proofs.Common.{◌≡◌, ◌≢◌, ℕ, ◌+◌, ◌≤◌, ◌<◌, false, true, List, [], ◌∷◌, length, Option, None, Some, Ok, Err, refl, sym, ap}
+use Rattle.std.proofs.Common.{subst, ◌∙◌, arith}
+use Rattle.std.specs.Prelude.{is_some}
+use Rattle.jv_model.specs.declared.act.ActKind.TheVariants.{Answered, Quiet}
+use Rattle.jv_model.specs.declared.act.Told.TheVariants.{Refused as ToldRefused}
+use Rattle.jv_model.specs.declared.fault.Busy.TheVariants.{Misses}
+use Rattle.jv_model.specs.declared.fault.Device.{Device}
+use Rattle.jv_model.specs.declared.fault.Device.TheVariants.{Keeper as TheKeeper, Depot as TheDepot, Shelf as TheShelf, Carrier as TheCarrier}
+use Rattle.jv_model.specs.declared.fault.Fault.{Fault}
+use Rattle.jv_model.specs.declared.fault.Fault.TheVariants.{Contended, NoMemory}
+use Rattle.jv_model.specs.declared.op.Reply.TheVariants.{Data, Refused as RefusedReply}
+use Rattle.jv_model.specs.declared.op.Step.TheVariants.{More, Done}
+use Rattle.jv_model.specs.declared.setting.Setting.{Setting}
+use Rattle.jv_model.specs.declared.slice.BlockId.{BlockId}
+use Rattle.jv_model.specs.blocks.Slices.{block_at}
+use Rattle.jv_model.specs.client.ModelClient.{ModelClient, OpenFile, Doing as ModelDoing, View as ModelView, Reading as ModelReading}
+use Rattle.jv_model.specs.client.Profile.{handle_of}
+use Rattle.jv_model.specs.journal.Reading.{Asked, asked_parts, fresh_view}
+use Rattle.jv_model.specs.journal.State.{State, after_told, sees_first}
+use Rattle.jv_model.specs.journal.Steps.{file_in_use, is_failure}
+use Rattle.jv_outside.specs.Causes.{RoseIf}
+use Rattle.jv_cache.specs.Cached.{Cached}
+use Rattle.jv_contents.specs.Blocks.{Blocks, told_by}
+use Rattle.jv_yard.specs.declared.faults.YardFault.{YardFault}
+use Rattle.jv_yard.specs.declared.faults.YardFault.TheVariants.{Depot, Shelf, Memory}
+use Rattle.jv_yard.specs.BlockCalls.{GetsBlock}
+use Rattle.jv_yard.specs.Contents.{name_in}
+use Rattle.jv_yard.specs.Refusals.{Refuses}
+use Rattle.jv_yard.specs.YardValue.{YardValue}
+use Rattle.jv_shared.specs.Keeping.{HoldsSame, KeepsShared}
+use Rattle.jv_shared.specs.Shared.{HasStore, Known, Shared}
+use Rattle.jv_shared.proofs.SameLaws.{same-gets, same-stays}
+use Rattle.jv_handles.specs.declared.handle.Handle.{Handle}
+use Rattle.jv_handles.specs.declared.views.View.{View}
+use Rattle.jv_handles.specs.Held.{IsHandle, IsSeen, SamePlace}
+use Rattle.jv_handles.specs.Views.{SeenViews, view_at}
+use Rattle.jv_handles.proofs.TableLaws.{some-same, there_in}
+use Rattle.jv_handles.proofs.HandleLaws.{handle-stays}
+use Rattle.jv_reading.specs.Parts.{IsNamed}
+use Rattle.jv_fetching.specs.declared.need.Need.{Need}
+use Rattle.jv_fetching.specs.declared.need.Need.TheVariants.{Block as NeedsBlock, Nothing}
+use Rattle.jv_fetching.specs.Calls.{HasCached, IsCacheOf, Keeps, LooksUp, Wants, first_seen}
+use Rattle.jv_fetching.specs.Fetching.{Fetching, fetch_left}
+use Rattle.jv_fetching.specs.Going.{CanFetch, IsFetching}
+use Rattle.jv_fetching.specs.Laws.{IsOfView}
+use Rattle.jv_fetching.specs.Shows.{IsReadBy}
+use Rattle.jv_fetching.proofs.CacheLaws.{cache_of-keeps, cache_of-looks}
+use Rattle.jv_fetching.proofs.SameLaws.{fetches_show}
+use Rattle.jv_steps.specs.IsStep.{at_stage}
+use Rattle.jv_steps.proofs.LookStepLaws.{sees_first-is}
+use Rattle.jv_requests.specs.Request.{Request}
+use Rattle.jv_requests.proofs.GetLaws.{GotBlock, MayGet, get-answered, get-request, got-block}
+use Rattle.jv_client.specs.declared.doing.Doing.{Doing}
+use Rattle.jv_client.specs.declared.made.Made.{Made}
+use Rattle.jv_client.specs.declared.made.Made.TheVariants as made
+use Rattle.jv_client.specs.declared.reading.Found.{Found}
+use Rattle.jv_client.specs.ClientValue.{ClientValue}
+use Rattle.jv_client.specs.Getting.{Fills, IsNone, Missing, ReadsBlock, Refused, Unread, yard_fault}
+use Rattle.jv_client.specs.Held.{Holds, IsClient, IsHeld, in_flight}
+use Rattle.jv_client.specs.Makes.{Makes, StepsTo, TellsBad, UsesDevices, faults_of, is_failure_of, step_of, tells_failure}
+use Rattle.jv_client.specs.Reading.{GoesAhead, read_of, told_read}
+use Rattle.jv_client.proofs.EndingLaws.{holds-told}
+use Rattle.jv_client.proofs.HeldLaws.{doing_of}
+use Rattle.jv_client.proofs.KeptLaws.{cache-goes, held-goes}
+use Rattle.jv_client.proofs.ReaderLaws.{IsAsking, busy_in, file_by, handle_in, may_get, none_flying, opened_in}
+use Rattle.jv_client.proofs.GoneOnLaws.{client-on, client-over, falls-on, going_on, none-kept, over, reading-is, ready-on}
+use Rattle.jv_client.proofs.ReadFailedLaws.{failed, failed-by}
+
+-- ---- devices
+
+-- a block was read, and nothing else was asked
+uses-got : (done : Made) (before : Shared) (yard : YardValue) → ((device : Device) → tells_failure device done ≡ false)
+    → yard ≡ before.yard → TellsBad before (step_of done) → UsesDevices done before (record before { yard = yard })
+uses-got done before yard fine same bad =
+    subst (λ (yard : YardValue). UsesDevices done before (record before { yard = yard })) (sym same)
+    (record {
+      keeper_at = refl;
+      carrier_at = refl;
+      depot_at = refl;
+      shelf_at = refl;
+      setting = refl;
+      last = refl;
+      counts = λ device. subst (λ b. RoseIf b (faults_of device before) (faults_of device before)) (sym (fine device))
+          refl;
+      rows = λ asks. refl;
+      objects = λ asks. refl;
+      blocks = refl;
+      bad = bad;
+    })
+
+-- the answer that a device of the yard failed, or that memory ran out
+abbrev unread_as : YardFault → Made
+unread_as why = made.Answer (ToldRefused (yard_fault why)) (RefusedReply (yard_fault why))
+
+-- it did
+uses-unread : (why : YardFault) (before : Shared) (yard : YardValue) → Refuses before.yard yard why
+    → UsesDevices (unread_as why) before (record before { yard = yard })
+uses-unread Depot before yard refused =
+    let same = refused.1 in
+    record {
+      keeper_at = refl;
+      carrier_at = refl;
+      depot_at = refused.0.opened_at;
+      shelf_at = ap (λ (y : YardValue). y.shelf.opened) same;
+      setting = ap (λ (y : YardValue). y.setting) same;
+      last = ap (λ (y : YardValue). y.last) same;
+      counts = by_device;
+      rows = λ asks. refl;
+      objects = λ asks. refused.0.content_is;
+      blocks = ap (λ (y : YardValue). y.shelf.content) same;
+      bad = tt;
+    }
+  where
+    by_device : (device : Device) → RoseIf (tells_failure device (unread_as Depot)) (faults_of device before)
+        (faults_of device (record before { yard = yard }))
+    by_device TheKeeper = refl
+    by_device TheDepot = refused.0.cause
+    by_device TheShelf = ap (λ (y : YardValue). y.shelf.faults) refused.1
+    by_device TheCarrier = refl
+uses-unread Shelf before yard refused =
+    let same = refused.1 in
+    record {
+      keeper_at = refl;
+      carrier_at = refl;
+      depot_at = ap (λ (y : YardValue). y.depot.opened) same;
+      shelf_at = refused.0.opened_at;
+      setting = ap (λ (y : YardValue). y.setting) same;
+      last = ap (λ (y : YardValue). y.last) same;
+      counts = by_device;
+      rows = λ asks. refl;
+      objects = λ asks. ap (λ (y : YardValue). y.depot.content) same;
+      blocks = refused.0.content_is;
+      bad = tt;
+    }
+  where
+    by_device : (device : Device) → RoseIf (tells_failure device (unread_as Shelf)) (faults_of device before)
+        (faults_of device (record before { yard = yard }))
+    by_device TheKeeper = refl
+    by_device TheDepot = ap (λ (y : YardValue). y.depot.faults) refused.1
+    by_device TheShelf = refused.0.cause
+    by_device TheCarrier = refl
+uses-unread Memory before yard refused = uses-got (unread_as Memory) before yard (λ device. refl) refused tt
+
+fails-unread : (why : YardFault) → is_failure (ToldRefused (yard_fault why)) ≡ true
+fails-unread Depot = refl
+fails-unread Shelf = refl
+fails-unread Memory = refl
+
+-- ---- the model asks for the block
+
+-- whether the model's reading has a view of its first window
+sees_same : (g : Known) (v : Shared) (m : ModelClient) (md : ModelDoing) (count : ℕ) (file : OpenFile) (handle : Handle)
+    → file_in_use m md ≡ Some file → IsHandle g v m.views count (handle_of md.op) file handle → (parts : List Asked)
+    → first_seen handle.views parts → sees_first m md parts ≡ true
+sees_same g v m md count file handle opened named [] first = absurd first
+sees_same g v m md count file handle opened named (asked ∷ others) first =
+    sees_first-is m md file opened asked others
+    ∙ some-same (IsSeen g v asked.window) (fresh_view m.views (handle_of md.op) file asked.window)
+    (view_at handle.views asked.window) (named.seen asked.window)
+    ∙ first
+
+module _ (now entry block : ℕ) (h : ClientValue) (d : Doing) (offset len : ℕ) (cache : Cached) (fetch : Fetching)
+    (b : BlockId) (asks : IsAsking block h d offset len cache fetch (NeedsBlock b)) (before : Shared)
+    (length_is : before.yard.setting.block ≡ block) (low : h.id ≤ 7) (yard : YardValue) where
+  abbrev handle : ℕ
+  handle = handle_of d.op
+
+  abbrev file : Handle
+  file = asks.reads.file
+
+  abbrev name : List ℕ
+  name = name_in before.yard.setting b
+
+  abbrev used : Shared
+  used = record before { yard = yard }
+
+  -- what the cache has is known
+  pub cached-before : (s : State) (g : Known) → HasStore s.tree g before → IsClient g before (s.clients h.id) s.count h
+      → IsCacheOf g.sizes before.yard.setting.block g.blocks cache
+  cached-before s g has client = (asks.goes g before (s.clients h.id) s.count length_is client).2
+
+  module _ (s : State) (g : Known) (has : HasStore s.tree g before)
+      (client : IsClient g before (s.clients h.id) s.count h) where
+    abbrev m : ModelClient
+    m = s.clients h.id
+
+    abbrev md : ModelDoing
+    md = doing_of d
+
+    busy : m.doing ≡ Some md
+    busy = busy_in h d asks.busy asks.at asks.none offset len asks.reads g before m s.count client
+
+    in_use : file_in_use m md ≡ Some (file_by file)
+    in_use = opened_in h d asks.busy asks.at asks.none offset len asks.reads g before m s.count client
+
+    named : IsHandle g before m.views s.count handle (file_by file) file
+    named = handle_in h d asks.busy asks.at asks.none offset len asks.reads g before m s.count client
+
+    fetching : IsFetching g.blocks file.views (asked_parts offset len) fetch
+    fetching = (asks.goes g before m s.count length_is client).1
+
+    own_block : fetch.block ≡ before.yard.setting.block
+    own_block = (asks.goes g before m s.count length_is client).0
+
+    -- a view of the handle names the block
+    of_view : IsOfView file.views fetch.block (asked_parts offset len) b
+    of_view = fetches_show.block g.blocks file.views (asked_parts offset len) fetch b asks.wants fetching
+
+    may : MayGet offset len m md 0
+    may = may_get h d asks.busy asks.at asks.none offset len asks.reads g before m s.count client
+        (sees_same g before m md s.count (file_by file) file in_use named (asked_parts offset len) of_view.first)
+
+    sized : b ≡ block_at b.id (g.sizes b.id) fetch.block b.index
+    sized = fetches_show.block_sized g.sizes file.views fetch.block (asked_parts offset len) b
+        (fetches_show.sized g before m.views s.count handle (file_by file) file named) of_view
+
+    -- it is there, with the bytes that are known
+    pub got : (value : Option (List ℕ)) → GetsBlock h.id name before.yard yard (Ok value) → GotBlock g b value
+    got value gets =
+        let seen : SamePlace (IsSeen g before of_view.window)
+        (fresh_view m.views handle (file_by file) of_view.window) (view_at file.views of_view.window) =
+        named.seen of_view.window in
+        let there = there_in (IsSeen g before of_view.window)
+        (fresh_view m.views handle (file_by file) of_view.window) (view_at file.views of_view.window) of_view.view
+        of_view.seen seen in
+        let of : IsNamed of_view.view.list before.yard.setting.block b =
+        subst (λ n. IsNamed of_view.view.list n b) own_block of_view.named in
+        got-block s g before has h.id yard of_view.window of_view.view.length of_view.view.list there.0.content
+        there.2.shows b of.r of.there of.some of.below of.is low value gets
+
+    known : (bytes : List ℕ) → GetsBlock h.id name before.yard yard (Ok (Some bytes)) → g.blocks b ≡ Some bytes
+    known bytes gets = let is = got (Some bytes) gets in is.known ∙ sym is.is
+
+    pub cached-kept : (bytes : List ℕ) (kept : Cached) → GetsBlock h.id name before.yard yard (Ok (Some bytes))
+        → Keeps b bytes cache kept → IsCacheOf g.sizes before.yard.setting.block g.blocks kept
+    cached-kept bytes kept gets keeps =
+        cache_of-keeps g.sizes before.yard.setting.block g.blocks b bytes cache kept keeps (known bytes gets)
+        (subst (λ n. b ≡ block_at b.id (g.sizes b.id) n b.index) own_block sized) (cached-before s g has client)
+
+  -- ---- it came
+
+  module _ (bytes : List ℕ) (gets : GetsBlock h.id name before.yard yard (Ok (Some bytes))) (filled : Fetching)
+      (kept : Cached) (fills : Fills b bytes fetch filled cache kept) (later : Cached) (looks_up : LooksUp kept later)
+      where
+    pub cached-then : (s : State) (g : Known) → HasStore s.tree g before
+        → IsClient g before (s.clients h.id) s.count h
+        → IsCacheOf g.sizes before.yard.setting.block g.blocks later
+    cached-then s g has client =
+        cache_of-looks g.sizes before.yard.setting.block g.blocks kept later looks_up
+        (cached-kept s g has client bytes kept gets fills.cache_is)
+
+    module _ (s : State) (g : Known) (has : HasStore s.tree g before) (holds : Holds s.tree (s.clients h.id))
+        (client : IsClient g before (s.clients h.id) s.count h) where
+      abbrev mine : ModelClient
+      mine = s.clients h.id
+
+      stays : KeepsShared 0 g g before used
+      stays = same-stays 0 g before used (same-gets before yard h.id name (Ok (Some bytes)) gets)
+
+      held-on : IsHeld g used mine (s.count + 1) h
+      held-on = held-goes s.tree g before has 0 g used stays mine s.count (s.count + 1) h (omega arith) client.held
+
+      named-on : IsHandle g used mine.views (s.count + 1) handle (file_by file) file
+      named-on = handle-stays s.tree g before has 0 g used stays mine.views s.count (s.count + 1) (omega arith) handle
+          (file_by file) file (named s g has client)
+
+      cached-on : IsCacheOf g.sizes used.yard.setting.block g.blocks kept
+      cached-on = cache-goes s.tree g before has 0 g used stays (Some kept)
+          (cached-kept s g has client bytes kept gets fills.cache_is)
+
+      fetching-on : IsFetching g.blocks file.views (asked_parts offset len) filled
+      fetching-on = fills.reads g.blocks file.views (asked_parts offset len) (known s g has client bytes gets)
+          (fetching s g has client)
+
+      block-on : filled.block ≡ used.yard.setting.block
+      block-on = fills.block ∙ own_block s g has client ∙ sym (ap (λ (x : Setting). x.block) stays.setting)
+
+      idle : in_flight h ≡ 0
+      idle = none_flying h d asks.busy asks.at asks.none
+
+      leads-on : (f : Fetching) (need : Need) → GoesAhead file.views kept filled f
+          → StepsTo s g before h now (Quiet ∷ []) More (going_on h.handles later f need d h) used
+      leads-on f need goes = record {
+        learned = g;
+        tree = s.tree;
+        model = at_stage (ModelReading 0) (doing_of d) mine;
+        copied = s.copied;
+        request = subst
+            (λ n. Request s g g before used h.id now (in_flight h) n (Quiet ∷ []) More s.tree
+            (at_stage (ModelReading 0) (doing_of d) mine) s.copied) idle
+            (get-request s g before has h.id yard now (doing_of d) (busy s g has client) offset len asks.does 0
+            (may s g has client) (in_flight h) name (Some bytes) gets);
+        is_client = client-on block h d offset len cache fetch (NeedsBlock b) asks h.handles file asks.reads.opened refl
+            g used mine (s.count + 1) held-on named-on kept cached-on later looks_up filled block-on fetching-on f need
+            goes;
+        no_failure = tt;
+        holds = record { opened = holds.opened; pending = holds.pending };
+      }
+
+      leads-over : (found : Found)
+          → ((blocks : Blocks) (all : List Asked) → HasCached blocks file.views filled.block kept
+          → IsFetching blocks file.views all filled
+          → IsReadBy (told_by filled.block blocks) file.views all (read_of found))
+          → StepsTo s g before h now (Quiet ∷ Answered (told_read found) ∷ []) (Done (Data found.bytes))
+          (over h.handles later h) used
+      leads-over found read = record {
+        learned = g;
+        tree = s.tree;
+        model = after_told d.op (told_read found) mine;
+        copied = s.copied;
+        request = subst
+            (λ n. Request s g g before used h.id now (in_flight h) n (Quiet ∷ Answered (told_read found) ∷ [])
+            (Done (Data found.bytes)) s.tree (after_told d.op (told_read found) mine) s.copied) idle
+            (get-answered s g before has h.id yard now (doing_of d) (busy s g has client) offset len asks.does 0
+            (may s g has client) (in_flight h) name (Some bytes) gets (file_by file) (in_use s g has client) found.first
+            found.second found.bytes
+            (reading-is block h d offset len cache fetch (NeedsBlock b) asks h.handles file asks.reads.opened refl g used
+            mine (s.count + 1) held-on named-on kept cached-on later looks_up filled block-on fetching-on found read));
+        is_client = client-over block h d offset len cache fetch (NeedsBlock b) asks h.handles file asks.reads.opened
+            refl g used mine (s.count + 1) held-on named-on kept cached-on later looks_up (s.count + 2) (omega arith)
+            found;
+        no_failure = λ device. refl;
+        holds = holds-told d.op (told_read found) s.tree mine
+            (none-kept d.op handle offset len asks.reads.op_is found.first found.second (length found.bytes)) holds;
+      }
+
+    -- it goes on
+    pub get-on : (f : Fetching) (need : Need) → GoesAhead file.views kept filled f → Wants file.views f need
+        → need ≢ Nothing
+        → Makes now entry h (going_on h.handles later f need d h) before used (made.Request Quiet)
+    get-on f need goes wants more =
+        let can = goes.can (fills.can file.views asks.can) in
+        let few = goes.few in
+        let less = fills.falls in
+        record {
+          id = refl;
+          limits = refl;
+          ready = ready-on block h d offset len cache fetch (NeedsBlock b) asks h.handles file asks.reads.opened refl
+              later f need can wants more;
+          devices = uses-got (made.Request Quiet) before yard (λ device. refl) gets.0 tt;
+          falls = (falls-on block h d offset len cache fetch (NeedsBlock b) asks h.handles file asks.reads.opened refl
+              later f need can wants more (omega (arith, few, less)), refl);
+          leads = λ s g number has holds client. leads-on s g has holds client f need goes;
+        }
+
+    -- or it is answered
+    pub get-over : (found : Found)
+        → ((blocks : Blocks) (all : List Asked) → HasCached blocks file.views filled.block kept
+        → IsFetching blocks file.views all filled
+        → IsReadBy (told_by filled.block blocks) file.views all (read_of found))
+        → Makes now entry h (over h.handles later h) before used (made.Both Quiet (told_read found) (Data found.bytes))
+    get-over found read = record {
+      id = refl;
+      limits = refl;
+      ready = record { buffer = asks.buffer; doing = tt };
+      devices = uses-got (made.Both Quiet (told_read found) (Data found.bytes)) before yard (λ device. refl) gets.0 tt;
+      falls = refl;
+      leads = λ s g number has holds client. leads-over s g has holds client found read;
+    }
+
+    -- or memory ran out
+    pub get-out : Makes now entry h (over h.handles later h) before used
+        (made.Answer (ToldRefused NoMemory) (RefusedReply NoMemory))
+    get-out = failed now entry block h d offset len cache fetch (NeedsBlock b) asks before used
+        (same-gets before yard h.id name (Ok (Some bytes)) gets) NoMemory later cached-then refl
+        (uses-got (made.Answer (ToldRefused NoMemory) (RefusedReply NoMemory)) before yard (λ device. refl) gets.0 tt)
+
+  -- ---- it didn't come
+
+  pub get-unread : (fault : Fault) → Unread h.id b before.yard yard fault
+      → Makes now entry h (over h.handles cache h) before used (made.Answer (ToldRefused fault) (RefusedReply fault))
+  get-unread fault (Refused why refused is) =
+      subst (λ fault. Makes now entry h (over h.handles cache h) before used
+      (made.Answer (ToldRefused fault) (RefusedReply fault))) (sym is)
+      (failed now entry block h d offset len cache fetch (NeedsBlock b) asks before used
+      (same-gets before yard h.id name (Err why) refused) (yard_fault why) cache cached-before (fails-unread why)
+      (uses-unread why before yard refused))
+  get-unread fault (Missing value gets none is) =
+      subst (λ fault. Makes now entry h (over h.handles cache h) before used
+      (made.Answer (ToldRefused fault) (RefusedReply fault))) (sym is)
+      (failed-by now entry block h d offset len cache fetch (NeedsBlock b) asks before used
+      (same-gets before yard h.id name (Ok value) gets) (Contended (Misses 1)) cache cached-before
+      (uses-got (made.Answer (ToldRefused (Contended (Misses 1))) (RefusedReply (Contended (Misses 1)))) before yard
+      (λ device. refl) gets.0 tt)
+      (λ s g number has holds client.
+      let is = got s g has client value gets in
+      absurd (none is.bytes is.is is.long)))

@@ -1,0 +1,281 @@
+-- The request of a flush for one block of its segment's slice: the block is put, and the slice goes on being in flight; or the
+-- carrier or the depot fails, and the operation ends.
+use Rattle.std.proofs.Common.{◌≡◌, ℕ, suc, ◌+◌, ◌-◌, ◌*◌, ◌≤◌, ◌<◌, Bool, true, false, ◌==◌, List, [], ◌∷◌, length, Option}
+use Rattle.std.proofs.Common.{None, Some, Result, Ok, Err, refl, sym, ap, subst, ◌∙◌, arith}
+use Rattle.std.specs.Prelude.{IsTrue, if◌then◌else◌}
+use Rattle.std.specs.Option.{option_map}
+use Rattle.std.proofs.lemmas.Nat.{mul-le}
+use Rattle.jv_model.specs.declared.limits.TheConstants.{WINDOW}
+use Rattle.jv_model.specs.declared.act.ActKind.TheVariants.{Quiet}
+use Rattle.jv_model.specs.declared.act.Told.TheVariants.{Refused as ToldRefused}
+use Rattle.jv_model.specs.declared.fault.Device.{Device}
+use Rattle.jv_model.specs.declared.fault.Device.TheVariants as device
+use Rattle.jv_model.specs.declared.op.Reply.TheVariants.{Refused as RefusedReply}
+use Rattle.jv_model.specs.declared.op.Step.TheVariants.{More}
+use Rattle.jv_model.specs.blocks.Slices.{block_count}
+use Rattle.jv_model.specs.client.Pending.{Segment}
+use Rattle.jv_model.specs.client.Submission.{next_segment}
+use Rattle.jv_model.specs.client.ModelClient.{Working as InModel}
+use Rattle.jv_model.specs.journal.State.{State}
+use Rattle.jv_outside.specs.Carriage.{Carriage}
+use Rattle.jv_outside.specs.Causes.{RoseIf}
+use Rattle.jv_slices.proofs.BlockLaws.{block_begins}
+use Rattle.jv_contents.specs.Flights.{Flight, flight_block, flight_bytes}
+use Rattle.jv_yard.specs.YardValue.{YardValue}
+use Rattle.jv_shared.specs.Flying.{Flies}
+use Rattle.jv_shared.specs.Shared.{HasStore, Known, Shared, with_block}
+use Rattle.jv_steps.specs.IsStep.{at_stage}
+use Rattle.jv_flushing.specs.declared.putting.PutFault.{PutFault}
+use Rattle.jv_flushing.specs.declared.putting.PutFault.TheVariants.{Carrier, Depot, Memory}
+use Rattle.jv_flushing.specs.Putting.{PutsFlight, fault_of}
+use Rattle.jv_flushing.proofs.PutStepLaws.{put-step_flies, unput-same}
+use Rattle.jv_flushing.proofs.UsedLaws.{PutUses, put-uses, put_fails}
+use Rattle.jv_requests.specs.Request.{Request}
+use Rattle.jv_requests.proofs.PutLaws.{put-fails, put-request}
+use Rattle.jv_client.specs.declared.doing.Doing.{Doing}
+use Rattle.jv_client.specs.declared.doing.Progress.{Progress}
+use Rattle.jv_client.specs.declared.doing.Progress.TheVariants.{Working}
+use Rattle.jv_client.specs.declared.made.Made.{Made}
+use Rattle.jv_client.specs.declared.made.Made.TheVariants.{Answer, Request as AsksFor}
+use Rattle.jv_client.specs.ClientValue.{ClientValue}
+use Rattle.jv_client.specs.Flushing.{bytes_of}
+use Rattle.jv_client.specs.Held.{IsClient, IsOnWay, flight_of, flush_of_code, in_flight, number_of, stage_of}
+use Rattle.jv_client.specs.UnderWay.{IsAt, IsReady, left, moved_to, progress_of}
+use Rattle.jv_client.specs.Makes.{Makes, UsesDevices, faults_of, tells_failure}
+use Rattle.jv_client.specs.Transacting.{Fails}
+use Rattle.jv_client.proofs.HeldLaws.{client-doing, doing_of}
+use Rattle.jv_client.proofs.GoesOnLaws.{in_progress}
+use Rattle.jv_client.proofs.FormLaws.{under_way}
+use Rattle.jv_client.proofs.LeftLaws.{flight-flying, flight-is, left-is}
+use Rattle.jv_client.proofs.AnswerLaws.{fails-makes, makes-as}
+use Rattle.jv_client.proofs.FlushLaws.{Asked, asks}
+
+-- ---- what is done to devices
+
+-- the answer where a block wasn't put
+abbrev pub not_put : PutFault → Made
+not_put fault = Answer (ToldRefused (fault_of fault)) (RefusedReply (fault_of fault))
+
+told-carrier : (d : Device) → tells_failure d (not_put Carrier) ≡ put_fails d (Err Carrier)
+told-carrier device.Keeper = refl
+told-carrier device.Depot = refl
+told-carrier device.Shelf = refl
+told-carrier device.Carrier = refl
+
+told-depot : (d : Device) → tells_failure d (not_put Depot) ≡ put_fails d (Err Depot)
+told-depot device.Keeper = refl
+told-depot device.Depot = refl
+told-depot device.Shelf = refl
+told-depot device.Carrier = refl
+
+told-memory : (d : Device) → tells_failure d (not_put Memory) ≡ put_fails d (Err Memory)
+told-memory device.Keeper = refl
+told-memory device.Depot = refl
+told-memory device.Shelf = refl
+told-memory device.Carrier = refl
+
+-- the device that failed is told
+told-unput : (fault : PutFault) (d : Device) → tells_failure d (not_put fault) ≡ put_fails d (Err fault)
+told-unput Carrier = told-carrier
+told-unput Depot = told-depot
+told-unput Memory = told-memory
+
+told-put : (d : Device) → tells_failure d (AsksFor Quiet) ≡ put_fails d (Ok tt)
+told-put device.Keeper = refl
+told-put device.Depot = refl
+told-put device.Shelf = refl
+told-put device.Carrier = refl
+
+module _ (before : Shared) (yard : YardValue) (carrier : Carriage) (result : Result (Unit {0}) PutFault)
+    (uses : PutUses before.yard yard before.carrier carrier result) (done : Made)
+    (told : (d : Device) → tells_failure d done ≡ put_fails d result) where
+  abbrev used : Shared
+  used = record before { yard = yard; carrier = carrier }
+
+  -- each device counts a fault where the put failed because of it
+  put-counts : (d : Device) → RoseIf (tells_failure d done) (faults_of d before) (faults_of d used)
+  put-counts device.Keeper =
+      subst (λ b. RoseIf b before.keeper.faults before.keeper.faults) (sym (told device.Keeper)) refl
+  put-counts device.Depot =
+      subst (λ b. RoseIf b before.yard.depot.faults yard.depot.faults) (sym (told device.Depot)) uses.depot
+  put-counts device.Shelf =
+      subst (λ b. RoseIf b before.yard.shelf.faults yard.shelf.faults) (sym (told device.Shelf))
+      (ap (λ shelf. shelf.faults) uses.shelf)
+  put-counts device.Carrier =
+      subst (λ b. RoseIf b before.carrier.faults carrier.faults) (sym (told device.Carrier)) uses.carrier
+
+-- ---- the request
+
+-- a slice of which a request was made has its number
+numbered : (h : ClientValue) (d : Doing) (quiets started id : ℕ) → h.doing ≡ Some d → IsReady h
+    → d.progress ≡ Working quiets started id → 0 < quiets → 0 < id
+numbered h d quiets started id busy ready at asked =
+    (subst (IsAt h d) at (under_way h d busy ready).at).numbered asked
+
+pub put-numbered : (h : ClientValue) (quiets started id : ℕ) → IsReady h
+    → progress_of h.doing ≡ Some (Working quiets started id) → 0 < quiets → 0 < id
+put-numbered h quiets started id ready at asked =
+    let d = in_progress h.doing (Working quiets started id) at in
+    numbered h d.0 quiets started id d.1 ready d.2 asked
+
+module _ (now entry : ℕ) (h : ClientValue) (d : Doing) (before : Shared) (yard : YardValue) (carrier : Carriage)
+    (segment : Segment) (quiets put started id : ℕ) (busy : h.doing ≡ Some d) (ready : IsReady h)
+    (next : left h ≡ Some segment) (at : d.progress ≡ Working quiets started id) (some : quiets ≡ suc put) where
+  abbrev bytes : List ℕ
+  bytes = bytes_of segment h.pending
+
+  abbrev flight : Flight
+  flight = record { id = id; bytes = bytes; put = put }
+
+  abbrev then_shared : Shared
+  then_shared = record before { yard = yard; carrier = carrier }
+
+  abbrev first_moment : ℕ
+  first_moment = if quiets == 1 then now else started
+
+  flying : flight_of h ≡ Some flight
+  flying =
+      flight-is h d busy (Working quiets started id) at
+      ∙ flight-flying h.pending d.flush quiets put started id segment some (left-is h d busy (Some segment) next)
+
+  id_some : 0 < id
+  id_some = numbered h d quiets started id busy ready at (omega (arith, some))
+
+  module _ (long : length bytes ≡ segment.len) (short : segment.len ≤ WINDOW) (block : 0 < before.yard.setting.block)
+      (there : quiets ≤ block_count segment.len before.yard.setting.block)
+      (puts : PutsFlight h.id now flight before.yard yard before.carrier carrier (Ok tt)) where
+    abbrev uses : PutUses before.yard yard before.carrier carrier (Ok tt)
+    uses = put-uses h.id now flight before.yard yard before.carrier carrier (Ok tt) puts
+
+    uses_devices : UsesDevices (AsksFor Quiet) before then_shared
+    uses_devices = record {
+      keeper_at = refl;
+      carrier_at = uses.carrier_at;
+      depot_at = uses.depot_at;
+      shelf_at = ap (λ shelf. shelf.opened) uses.shelf;
+      setting = uses.setting;
+      last = uses.last;
+      counts = put-counts before yard carrier (Ok tt) uses (AsksFor Quiet) told-put;
+      rows = λ asks. refl;
+      objects = λ asks. absurd (cc asks);
+      blocks = ap (λ shelf. shelf.content) uses.shelf;
+      bad = tt;
+    }
+
+    more : put < block_count (length bytes) before.yard.setting.block
+    more = subst (λ n. put < block_count n before.yard.setting.block) (sym long) (omega (arith, there, some))
+
+    -- a slice has no more blocks than bytes
+    few : quiets ≤ segment.len
+    few =
+        let begins = block_begins segment.len before.yard.setting.block put block (omega (arith, there, some)) in
+        let rises = mul-le put 1 put before.yard.setting.block (omega arith) block in
+        omega (arith, begins, rises, some)
+
+    put_in : (s : State) (g : Known) → HasStore s.tree g before → IsClient g before (s.clients h.id) s.count h
+        → Asked now h d before then_shared bytes quiets first_moment id s g
+    put_in s g store is =
+        let f : Flies g before flight = (subst (IsOnWay g before) flying is.flight).0 in
+        let small : length bytes ≤ WINDOW = omega (arith, long, short) in
+        let learned = with_block (flight_block before.yard.setting.block flight put)
+        (flight_bytes before.yard.setting.block flight put) g in
+        let next_is : next_segment (flush_of_code d.flush) (s.clients h.id).pending ≡ Some segment =
+        ap (next_segment (flush_of_code d.flush)) is.held.pending ∙ left-is h d busy (Some segment) next in
+        let count : put + 1 ≡ quiets = omega (arith, some) in
+        record {
+          learned = learned;
+          request = subst (λ (n : ℕ). Request s g learned before then_shared h.id now n id (Quiet ∷ []) More s.tree
+              (at_stage (InModel (quiets + 1) first_moment) (doing_of d) (s.clients h.id)) s.copied)
+              (sym (ap number_of flying))
+              (put-request s g before store h.id now (doing_of d)
+              (client-doing g before (s.clients h.id) s.count h d busy is) quiets started (ap stage_of at) flight yard
+              carrier segment next_is (omega (arith, some)) f small more puts);
+          flies = subst (λ n. Flies learned then_shared (record { id = id; bytes = bytes; put = n })) count
+              (put-step_flies before flight h.id now yard carrier s.tree g store f small more puts);
+          put = (let most : quiets ≤ block_count (length bytes) before.yard.setting.block = omega (arith, more, some) in
+              subst (λ x. quiets ≤ block_count (length bytes) x) (sym (ap (λ setting. setting.block) uses.setting)) most);
+        }
+
+    -- The block was put, and the operation goes on.
+    puts_block : Makes now entry h
+        (record h { doing = Some (moved_to (Working (quiets + 1) (if quiets == 1 then now else started) id) d) }) before
+        (record before { yard = yard; carrier = carrier }) (AsksFor Quiet)
+    puts_block =
+        asks now entry h d before then_shared segment quiets started id first_moment id busy ready next at few id_some
+        uses_devices (λ s g count store holds is. put_in s g store is)
+
+  -- It wasn't, and the operation ends.
+  fails_block : (after : ClientValue) (done : Made) (fault : PutFault)
+      → PutsFlight h.id now flight before.yard yard before.carrier carrier (Err fault) → Fails (fault_of fault) h after done
+      → Makes now entry h after before (record before { yard = yard; carrier = carrier }) done
+  fails_block after done fault puts ends =
+      let uses = put-uses h.id now flight before.yard yard before.carrier carrier (Err fault) puts in
+      let same = unput-same before flight h.id now yard carrier fault puts in
+      fails-makes now entry h d before then_shared (fault_of fault) after done busy ready (put-fails fault) ends same
+      (subst (λ (x : Made). UsesDevices x before then_shared) (sym ends.made_is) (record {
+        keeper_at = refl;
+        carrier_at = uses.carrier_at;
+        depot_at = uses.depot_at;
+        shelf_at = ap (λ shelf. shelf.opened) uses.shelf;
+        setting = uses.setting;
+        last = uses.last;
+        counts = put-counts before yard carrier (Err fault) uses (not_put fault) (told-unput fault);
+        rows = λ asks. refl;
+        objects = λ asks. same.objects;
+        blocks = ap (λ shelf. shelf.content) uses.shelf;
+        bad = tt;
+      }))
+
+-- The same, as the code has it.
+module _ (now entry : ℕ) (h after : ClientValue) (before : Shared) (yard : YardValue) (carrier : Carriage)
+    (segment : Segment) (quiets started id : ℕ) (done : Made) (ready : IsReady h)
+    (at : progress_of h.doing ≡ Some (Working quiets started id)) (asked : 0 < quiets)
+    (next : left h ≡ Some segment) where
+  one_less : quiets ≡ suc (quiets - 1)
+  one_less = omega (arith, asked)
+
+  module _ (client : ℕ) (own : client ≡ h.id) (bytes : List ℕ) (bytes_are : bytes ≡ bytes_of segment h.pending) where
+    abbrev put_flight : Flight
+    put_flight = record { id = id; bytes = bytes; put = quiets - 1 }
+
+    puts_same : (result : Result (Unit {0}) PutFault)
+        → PutsFlight client now put_flight before.yard yard before.carrier carrier result
+        → PutsFlight h.id now (record { id = id; bytes = bytes_of segment h.pending; put = quiets - 1 }) before.yard yard
+        before.carrier carrier result
+    puts_same result puts =
+        subst (λ (bytes : List ℕ). PutsFlight h.id now (record { id = id; bytes = bytes; put = quiets - 1 }) before.yard
+        yard before.carrier carrier result) bytes_are
+        (subst (λ (client : ℕ). PutsFlight client now put_flight before.yard yard before.carrier carrier result) own puts)
+
+    pub block-put : length bytes ≡ segment.len → segment.len ≤ WINDOW → 0 < before.yard.setting.block
+        → quiets ≤ block_count segment.len before.yard.setting.block
+        → PutsFlight client now (record { id = id; bytes = bytes; put = quiets - 1 }) before.yard yard before.carrier
+        carrier (Ok tt)
+        → (moment : ℕ) → moment ≡ (if quiets == 1 then now else started)
+        → after ≡ record h { doing = option_map (moved_to (Working (quiets + 1) moment id)) h.doing }
+        → done ≡ AsksFor Quiet
+        → Makes now entry h after before (record before { yard = yard; carrier = carrier }) done
+    block-put long short block there puts moment moment_is after_is done_is =
+        let d = in_progress h.doing (Working quiets started id) at in
+        let progress : ℕ → Progress = λ moment. Working (quiets + 1) moment id in
+        makes-as now entry h after
+        (record h { doing = Some (moved_to (progress (if quiets == 1 then now else started)) d.0) }) before
+        (record before { yard = yard; carrier = carrier }) (record before { yard = yard; carrier = carrier }) done
+        (AsksFor Quiet)
+        (after_is
+        ∙ ap (λ moment. record h { doing = option_map (moved_to (progress moment)) h.doing }) moment_is
+        ∙ ap (λ (o : Option Doing). record h { doing = option_map (moved_to (progress
+        (if quiets == 1 then now else started))) o }) d.1)
+        refl done_is
+        (puts_block now entry h d.0 before yard carrier segment quiets (quiets - 1) started id d.1 ready next d.2 one_less
+        (ap length (sym bytes_are) ∙ long) short block there (puts_same (Ok tt) puts))
+
+    pub block-unput : (fault : PutFault)
+        → PutsFlight client now (record { id = id; bytes = bytes; put = quiets - 1 }) before.yard yard before.carrier
+        carrier (Err fault)
+        → Fails (fault_of fault) h after done
+        → Makes now entry h after before (record before { yard = yard; carrier = carrier }) done
+    block-unput fault puts ends =
+        let d = in_progress h.doing (Working quiets started id) at in
+        fails_block now entry h d.0 before yard carrier segment quiets (quiets - 1) started id d.1 ready next d.2
+        one_less after done fault (puts_same (Err fault) puts) ends

@@ -1,0 +1,278 @@
+-- A look that came to no view: it is refused since the session or the file is gone, or the keeper failed, or memory ran out, or a row is
+-- Bad.
+use Rattle.std.proofs.Common.{◌≡◌, ℕ, ◌+◌, ◌≤◌, false, true, List, [], ◌∷◌, Option, None, Some, Err, refl, sym, ap, subst}
+use Rattle.std.proofs.Common.{◌∙◌, arith}
+use Rattle.std.specs.Prelude.{IfSome, IsTrue, unwrap_or}
+use Rattle.jv_model.specs.declared.basics.Limits.{Limits}
+use Rattle.jv_model.specs.declared.limits.TheConstants.{MAX_DATA}
+use Rattle.jv_model.specs.declared.act.ActKind.TheVariants.{Answered, Quiet}
+use Rattle.jv_model.specs.declared.act.Told.TheVariants.{Refused as ToldRefused}
+use Rattle.jv_model.specs.declared.fault.Busy.TheVariants.{Lists}
+use Rattle.jv_model.specs.declared.fault.Device.{Device}
+use Rattle.jv_model.specs.declared.fault.Device.TheVariants.{Keeper, Depot, Shelf, Carrier}
+use Rattle.jv_model.specs.declared.fault.Down.{Down}
+use Rattle.jv_model.specs.declared.fault.Fault.{Fault}
+use Rattle.jv_model.specs.declared.fault.Fault.TheVariants.{Contended, DeviceFailed, NoMemory, Stale}
+use Rattle.jv_model.specs.declared.fault.Gone.TheVariants.{Session, Node}
+use Rattle.jv_model.specs.declared.fault.RowFault.TheVariants.{Bad, Failed, Memory}
+use Rattle.jv_model.specs.declared.fault.TxFault.{TxFault}
+use Rattle.jv_model.specs.declared.fault.TxFault.TheVariants.{Refused as RefusedBy, Moved, Rows as OfRows}
+use Rattle.jv_model.specs.declared.op.Reply.TheVariants.{Refused}
+use Rattle.jv_model.specs.declared.op.Step.TheVariants.{Done}
+use Rattle.jv_model.specs.client.ModelClient.{ModelClient, Doing as ModelDoing, file_of, held_inodes, inode_at, inode_in, is_among, session_of}
+use Rattle.jv_model.specs.client.Profile.{handle_of}
+use Rattle.jv_model.specs.journal.Reading.{asked_parts}
+use Rattle.jv_model.specs.journal.State.{State, after_told}
+use Rattle.jv_model.specs.journal.Steps.{file_in_use, window_to_look}
+use Rattle.jv_outside.specs.Causes.{RoseIf}
+use Rattle.jv_outside.specs.Store.{Store}
+use Rattle.jv_volume.specs.Holding.{IsHoldable}
+use Rattle.jv_cache.specs.Cached.{Cached}
+use Rattle.jv_data.specs.Committing.{length_seen}
+use Rattle.jv_data.specs.Records.{LooksAt}
+use Rattle.jv_shared.specs.Keeping.{HoldsSame, KeepsShared}
+use Rattle.jv_shared.specs.Shared.{HasStore, Known, Shared}
+use Rattle.jv_shared.proofs.SameLaws.{same-rows, same-stays}
+use Rattle.jv_handles.specs.declared.handle.Handle.{Handle}
+use Rattle.jv_handles.specs.Held.{IsHandle}
+use Rattle.jv_fetching.specs.declared.need.Need.TheVariants.{Look as NeedsLook}
+use Rattle.jv_fetching.specs.Calls.{IsCacheOf}
+use Rattle.jv_fetching.specs.Fetching.{Fetching}
+use Rattle.jv_fetching.specs.Going.{IsFetching}
+use Rattle.jv_fetching.proofs.SameLaws.{fetches_show}
+use Rattle.jv_steps.specs.Stages.{MayRead}
+use Rattle.jv_steps.proofs.LookStepLaws.{window-needed}
+use Rattle.jv_requests.specs.Request.{Request}
+use Rattle.jv_requests.proofs.LookLaws.{SeesNone, NoSession, NoFile, look-never_bad, look-never_moved, look-refused, sees_none}
+use Rattle.jv_requests.proofs.StillLaws.{found-in}
+use Rattle.jv_client.specs.declared.doing.Doing.{Doing}
+use Rattle.jv_client.specs.declared.made.Made.{Made}
+use Rattle.jv_client.specs.declared.made.Made.TheVariants as made
+use Rattle.jv_client.specs.ClientValue.{ClientValue, session_here}
+use Rattle.jv_client.specs.Ending.{ended, refused_here}
+use Rattle.jv_client.specs.Held.{Holds, IsClient, flight_in, in_flight, number_of}
+use Rattle.jv_client.specs.Makes.{Makes, StepsTo, UsesDevices, faults_of, is_failure_of, is_same_device}
+use Rattle.jv_client.specs.Transacting.{EndsUnmade}
+use Rattle.jv_client.specs.UnderWay.{IsReady, IsUnderWay}
+use Rattle.jv_client.proofs.EndingLaws.{holds-told}
+use Rattle.jv_client.proofs.HeldLaws.{doing_of}
+use Rattle.jv_client.proofs.KeptLaws.{cache-goes, held-goes, told-client}
+use Rattle.jv_client.proofs.WrittenLaws.{names-held}
+use Rattle.jv_client.proofs.ReaderLaws.{IsAsking, asking, busy_in, file_by, handle_in, may_read, none_flying, opened_in}
+use Rattle.jv_client.proofs.GoneOnLaws.{over}
+use Rattle.jv_client.proofs.ReadFailedLaws.{failed, held-cache}
+use Rattle.jv_client.proofs.LookLaws.{uses-look}
+
+-- a refusal leaves the client without an operation, and its name and limits
+record Rests (h after : ClientValue) : Type 0 where
+  id : after.id ≡ h.id
+  limits : after.limits ≡ h.limits
+  idle : after.doing ≡ None
+
+refused-rests : (fault : Fault) (h : ClientValue) → Rests h (refused_here fault h)
+refused-rests (Stale (Session sid)) h = record { id = refl; limits = refl; idle = refl }
+refused-rests (Stale (Node inode)) h = record { id = refl; limits = refl; idle = refl }
+refused-rests _ h = record { id = refl; limits = refl; idle = refl }
+
+-- the keeper failed
+uses-failed : (before : Shared) (keeper : Store) → keeper.rows ≡ before.keeper.rows
+    → keeper.opened ≡ before.keeper.opened → RoseIf true before.keeper.faults keeper.faults
+    → UsesDevices (made.Answer (ToldRefused (DeviceFailed Keeper)) (Refused (DeviceFailed Keeper))) before
+    (record before { keeper = keeper })
+uses-failed before keeper rows opened rose = record {
+  keeper_at = opened;
+  carrier_at = refl;
+  depot_at = refl;
+  shelf_at = refl;
+  setting = refl;
+  last = refl;
+  counts = by_device;
+  rows = λ asks. rows;
+  objects = λ asks. refl;
+  blocks = refl;
+  bad = tt;
+}
+  where
+    by_device : (device : Device) → RoseIf (is_same_device device Keeper) (faults_of device before)
+        (faults_of device (record before { keeper = keeper }))
+    by_device Keeper = rose
+    by_device Depot = refl
+    by_device Shelf = refl
+    by_device Carrier = refl
+
+-- a session or a file that is gone is no device that failed
+calm : (sid inode : ℕ) (fault : Fault) (s : State) → SeesNone sid inode s.tree fault
+    → (device : Device) → is_failure_of device (ToldRefused fault) ≡ false
+calm sid inode fault s (NoSession gone is) device = ap (λ f. is_failure_of device (ToldRefused f)) is
+calm sid inode fault s (NoFile session none is) device = ap (λ f. is_failure_of device (ToldRefused f)) is
+
+module _ (now entry block : ℕ) (h : ClientValue) (d : Doing) (offset len : ℕ) (cache : Cached) (fetch : Fetching)
+    (window : ℕ) (asks : IsAsking block h d offset len cache fetch (NeedsLook window)) (before : Shared)
+    (length_is : before.yard.setting.block ≡ block) (keeper : Store) where
+  abbrev handle : ℕ
+  handle = handle_of d.op
+
+  abbrev file : Handle
+  file = asks.reads.file
+
+  abbrev used : Shared
+  used = record before { keeper = keeper }
+
+  abbrev c : ClientValue
+  c = asking h cache d fetch (NeedsLook window)
+
+  -- what the cache has is known
+  pub cached-here : (s : State) (g : Known) → HasStore s.tree g before → IsClient g before (s.clients h.id) s.count h
+      → IsCacheOf g.sizes before.yard.setting.block g.blocks cache
+  cached-here s g has client = (asks.goes g before (s.clients h.id) s.count length_is client).2
+
+  -- memory ran out, before the look or after it
+  pub look-out : (later : Cached)
+      → ((s : State) (g : Known) → HasStore s.tree g before → IsClient g before (s.clients h.id) s.count h
+      → IsCacheOf g.sizes before.yard.setting.block g.blocks later)
+      → keeper.rows ≡ before.keeper.rows → keeper.opened ≡ before.keeper.opened → keeper.faults ≡ before.keeper.faults
+      → Makes now entry h (over h.handles later h) before used (made.Answer (ToldRefused NoMemory) (Refused NoMemory))
+  look-out later cached rows opened faults =
+      failed now entry block h d offset len cache fetch (NeedsLook window) asks before used
+      (same-rows before keeper before.carrier rows) NoMemory later cached refl
+      (uses-look (made.Answer (ToldRefused NoMemory) (Refused NoMemory)) before keeper (λ device. refl) rows opened faults
+      tt)
+
+  -- ---- it was refused
+
+  module _ (fault : Fault)
+      (looks : LooksAt (session_here h) file.inode window before.keeper keeper (Err (RefusedBy fault)))
+      (s : State) (g : Known) (has : HasStore s.tree g before) (holds : Holds s.tree (s.clients h.id))
+      (client : IsClient g before (s.clients h.id) s.count h) where
+    abbrev m : ModelClient
+    m = s.clients h.id
+
+    abbrev md : ModelDoing
+    md = doing_of d
+
+    busy : m.doing ≡ Some md
+    busy = busy_in h d asks.busy asks.at asks.none offset len asks.reads g before m s.count client
+
+    may : MayRead m md 0
+    may = may_read h d asks.busy asks.at asks.none offset len asks.reads g before m s.count client
+
+    in_use : file_in_use m md ≡ Some (file_by file)
+    in_use = opened_in h d asks.busy asks.at asks.none offset len asks.reads g before m s.count client
+
+    named : IsHandle g before m.views s.count handle (file_by file) file
+    named = handle_in h d asks.busy asks.at asks.none offset len asks.reads g before m s.count client
+
+    fetching : IsFetching g.blocks file.views (asked_parts offset len) fetch
+    fetching = (asks.goes g before m s.count length_is client).1
+
+    in_rows : LooksAt (session_of m) file.inode window before.keeper keeper (Err (RefusedBy fault))
+    in_rows =
+        subst (λ (o : Option ℕ). LooksAt (unwrap_or o 0) file.inode window before.keeper keeper (Err (RefusedBy fault)))
+        (sym client.held.session) looks
+
+    to_look : window_to_look m md (file_by file) ≡ Some window
+    to_look =
+        window-needed m md 0 offset len asks.does may (file_by file)
+        ∙ sym (fetches_show.same_look g before m.views s.count handle (file_by file) file (asked_parts offset len) named)
+        ∙ fetches_show.look g.blocks file.views (asked_parts offset len) fetch window asks.wants fetching
+
+    holdable : IsHoldable s.tree file.inode
+    holdable =
+        let inode : inode_at m handle ≡ file.inode = ap inode_in in_use in
+        subst (IsHoldable s.tree) inode
+        (holds.opened (inode_at m handle)
+        (names-held g before m s.count h handle file client.held asks.reads.opened))
+
+    why : SeesNone (session_of m) file.inode s.tree fault
+    why = sees_none (session_of m) file.inode s.tree fault
+        (found-in s.tree g before has keeper (Err (RefusedBy fault)) (length_seen (session_of m) file.inode) in_rows.looks)
+
+    stays : KeepsShared 0 g g before used
+    stays = same-stays 0 g before used (same-rows before keeper before.carrier looks.looks.rows_are)
+
+    none_flies : in_flight (refused_here fault c) ≡ 0
+    none_flies = ap (λ o. number_of (flight_in (refused_here fault c).pending o)) (refused-rests fault c).idle
+
+    refused-leads : StepsTo s g before h now (Quiet ∷ Answered (ToldRefused fault) ∷ []) (Done (Refused fault))
+        (refused_here fault c) used
+    refused-leads = record {
+      learned = g;
+      tree = s.tree;
+      model = after_told d.op (ToldRefused fault) m;
+      copied = s.copied;
+      request = subst
+          (λ n. Request s g g before used h.id now (in_flight h) n (Quiet ∷ Answered (ToldRefused fault) ∷ [])
+          (Done (Refused fault)) s.tree (after_told d.op (ToldRefused fault) m) s.copied)
+          (none_flying h d asks.busy asks.at asks.none ∙ sym none_flies)
+          (look-refused s h.id now md busy offset len asks.does 0 may (file_by file) in_use window to_look g before has
+          keeper (in_flight h) holdable fault in_rows);
+      is_client = told-client g used (s.count + 2) d.op (ToldRefused fault) m c refl
+          (held-goes s.tree g before has 0 g used stays m s.count (s.count + 2) c (omega arith)
+          (held-cache g before m s.count h c.cache c.doing client.held))
+          (cache-goes s.tree g before has 0 g used stays (Some cache) (cached-here s g has client));
+      no_failure = calm (session_of m) file.inode fault s why;
+      holds = holds-told d.op (ToldRefused fault) s.tree m refl holds;
+    }
+
+  -- ---- all ways that it ends
+
+  pub look-unmade : (fault : TxFault) (after : ClientValue) (done : Made) → IsReady c
+      → LooksAt (session_here h) file.inode window before.keeper keeper (Err fault)
+      → EndsUnmade Quiet fault c after done → Makes now entry h after before used done
+  look-unmade (RefusedBy fault) after done ready looks ends =
+      let rests = refused-rests fault c in
+      subst (λ x. Makes now entry h after before used x) (sym ends.made_is)
+      (subst (λ x. Makes now entry h x before used (made.Both Quiet (ToldRefused fault) (Refused fault)))
+      (sym ends.after_is)
+      (record {
+        id = rests.id;
+        limits = rests.limits;
+        ready = record {
+          buffer = subst (λ (limits : Limits). MAX_DATA ≤ limits.buffer) (sym rests.limits) asks.buffer;
+          doing = subst (λ (o : Option Doing). IfSome o (IsUnderWay (refused_here fault c))) (sym rests.idle) tt;
+        };
+        devices = uses-look (made.Both Quiet (ToldRefused fault) (Refused fault)) before keeper (λ device. refl)
+            looks.looks.rows_are looks.looks.opened_at looks.looks.counts tt;
+        falls = rests.idle;
+        leads = λ s g number has holds client. refused-leads fault looks s g has holds client;
+      }))
+  look-unmade (Moved list) after done ready looks ends =
+      let fault : Fault = Contended (Lists ends.0 ends.0) in
+      subst (λ x. Makes now entry h after before used x) (sym ends.1.made_is)
+      (subst (λ x. Makes now entry h x before used (made.Both Quiet (ToldRefused fault) (Refused fault)))
+      (sym ends.1.after_is)
+      (record {
+        id = refl;
+        limits = refl;
+        ready = record { buffer = asks.buffer; doing = tt };
+        devices = uses-look (made.Both Quiet (ToldRefused fault) (Refused fault)) before keeper (λ device. refl)
+            looks.looks.rows_are looks.looks.opened_at looks.looks.counts tt;
+        falls = refl;
+        leads = λ s g number has holds client.
+            absurd (look-never_moved s.tree g before has (session_here h) file.inode window keeper list looks);
+      }))
+  look-unmade (OfRows (Bad at bytes)) after done ready looks ends =
+      subst (λ x. Makes now entry h after before used x) (sym ends.1)
+      (subst (λ x. Makes now entry h x before used (made.Broken at bytes)) (sym ends.0)
+      (record {
+        id = refl;
+        limits = refl;
+        ready = ready;
+        devices = uses-look (made.Broken at bytes) before keeper (λ device. refl) looks.looks.rows_are
+            looks.looks.opened_at looks.looks.counts looks.looks.bad;
+        falls = tt;
+        leads = λ s g number has holds client.
+            absurd (look-never_bad s.tree g before has (session_here h) file.inode window keeper at bytes looks);
+      }))
+  look-unmade (OfRows Failed) after done ready looks ends =
+      subst (λ x. Makes now entry h after before used x) (sym ends.made_is)
+      (subst (λ x. Makes now entry h x before used
+      (made.Answer (ToldRefused (DeviceFailed Keeper)) (Refused (DeviceFailed Keeper)))) (sym ends.after_is)
+      (failed now entry block h d offset len cache fetch (NeedsLook window) asks before used
+      (same-rows before keeper before.carrier looks.looks.rows_are) (DeviceFailed Keeper) cache cached-here refl
+      (uses-failed before keeper looks.looks.rows_are looks.looks.opened_at looks.looks.counts)))
+  look-unmade (OfRows Memory) after done ready looks ends =
+      subst (λ x. Makes now entry h after before used x) (sym ends.made_is)
+      (subst (λ x. Makes now entry h x before used (made.Answer (ToldRefused NoMemory) (Refused NoMemory)))
+      (sym ends.after_is)
+      (look-out cache cached-here looks.looks.rows_are looks.looks.opened_at looks.looks.counts))

@@ -1,0 +1,18 @@
+use Rattle.std.proofs.Common.{refl}
+use Rattle.jv_yard.specs.declared.faults.YardFault.TheVariants.{Memory}
+use Rattle.jv_client.specs.Getting.{Refused}
+use Rattle.jv_client.proofs.GettingLaws.{reads-refused, reads-value}
+use Rattle.jv_client.proofs.reading.read_block.Goals as goal
+
+pub returns-in_default-clause-read : goal.returns-in_default-clause-read
+returns-in_default-clause-read g c = Refused Memory refl refl
+
+pub returns-in-Ok-get_block-clause-read : goal.returns-in-Ok-get_block-clause-read
+returns-in-Ok-get_block-clause-read g c =
+    reads-value c.args.client _ _ _ _ c.in-Ok.ensures c.in-Ok-get_block.value c.block_in.result c.in-Ok-get_block.ensures
+    c.block_in.ensures
+
+pub returns-clause-read : goal.returns-clause-read
+returns-clause-read g c =
+    reads-refused c.args.client _ _ _ _ c.in-Ok.ensures c.in-Err.fault c.fault_of.result c.in-Err.ensures
+    c.fault_of.ensures

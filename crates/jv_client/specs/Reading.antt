@@ -1,0 +1,151 @@
+-- A reading within a step: how far it goes without a request, and what it leaves of the client.
+use Rattle.std.specs.Prelude.{◌≡◌, ◌≢◌, ℕ, ◌≤◌, ◌<◌, List, [], length, Option, None, Some, IfSome, IsSomeAnd}
+use Rattle.std.specs.Option.{option_map}
+use Rattle.jv_model.specs.declared.act.ActKind.{ActKind}
+use Rattle.jv_model.specs.declared.act.Told.{Told}
+use Rattle.jv_model.specs.declared.act.Told.TheVariants.{Looks}
+use Rattle.jv_model.specs.declared.op.Reply.TheVariants.{Data}
+use Rattle.jv_model.specs.declared.profile.Does.TheVariants as does
+use Rattle.jv_model.specs.client.ModelClient.{ModelClient, file_of}
+use Rattle.jv_model.specs.client.Profile.{handle_of}
+use Rattle.jv_model.specs.journal.Reading.{Asked, asked_parts}
+use Rattle.jv_cache.specs.Cached.{Cached}
+use Rattle.jv_contents.specs.Blocks.{Blocks, told_by}
+use Rattle.jv_shared.specs.Shared.{Known, Shared}
+use Rattle.jv_handles.specs.declared.handle.Handle.{Handle}
+use Rattle.jv_handles.specs.Views.{SeenViews}
+use Rattle.jv_fetching.specs.declared.need.Need.{Need}
+use Rattle.jv_fetching.specs.declared.need.Need.TheVariants.{Nothing}
+use Rattle.jv_fetching.specs.Fetching.{Fetching, fetch_left}
+use Rattle.jv_fetching.specs.Going.{CanFetch, IsFetching}
+use Rattle.jv_fetching.specs.Calls.{AreSizedBy, HasCached, IsCacheOf, LooksUp, Wants, first_seen}
+use Rattle.jv_fetching.specs.Shows.{IsReadBy}
+use Rattle.jv_client.specs.declared.doing.Doing.{Doing}
+use Rattle.jv_client.specs.declared.doing.Progress.{Progress}
+use Rattle.jv_client.specs.declared.doing.Progress.TheVariants.{Working, Reading}
+use Rattle.jv_client.specs.declared.made.Made.{Made}
+use Rattle.jv_client.specs.declared.made.Made.TheVariants as made
+use Rattle.jv_client.specs.declared.reading.Ahead.{Ahead}
+use Rattle.jv_client.specs.declared.reading.Ahead.TheVariants as ahead
+use Rattle.jv_client.specs.declared.reading.Found.{Found}
+use Rattle.jv_client.specs.ClientValue.{ClientValue}
+use Rattle.jv_client.specs.Ending.{ended}
+use Rattle.jv_client.specs.Held.{GoesOn, IsClient}
+use Rattle.jv_client.specs.UnderWay.{IsReady, moved_to, steps_left}
+
+-- ---- the operation in progress
+
+-- what a reading that has begun needs next
+abbrev pub need_at : Progress → Option Need
+need_at (Working quiets started id) = None
+need_at (Reading fetch next) = Some next
+
+abbrev pub need_in : Option Doing → Option Need
+need_in None = None
+need_in (Some d) = need_at d.progress
+
+-- and how far it is
+abbrev pub fetch_at : Progress → Option Fetching
+fetch_at (Working quiets started id) = None
+fetch_at (Reading fetch next) = Some fetch
+
+abbrev pub fetch_in : Option Doing → Option Fetching
+fetch_in None = None
+fetch_in (Some d) = fetch_at d.progress
+
+-- an operation at another point, for which it made no request
+abbrev pub put_at : Progress → Doing → Doing
+put_at progress d = record d { progress = progress }
+
+-- ---- ahead without a request
+
+-- A reading goes ahead by these views and by the blocks of a cache.
+pub record GoesAhead (views : SeenViews) (cache : Cached) (before after : Fetching) : Type 0 where
+  pub block : after.block ≡ before.block
+  pub can : CanFetch views before → CanFetch views after
+  pub few : fetch_left after ≤ fetch_left before
+  pub fewer : before.begun ≡ None → first_seen views before.parts → fetch_left after < fetch_left before
+  pub reads : (blocks : Blocks) (all : List Asked) → HasCached blocks views before.block cache
+      → IsFetching blocks views all before → IsFetching blocks views all after
+
+abbrev pub read_of : Found → ℕ × ℕ × List ℕ
+read_of found = (found.first, found.second, found.bytes)
+
+-- It needs something, or it has read what the views show.
+abbrev pub ComesTo : SeenViews → Cached → Fetching → Ahead → Type 0
+ComesTo views cache before (ahead.Needs after next) =
+    GoesAhead views cache before after × Wants views after next × (next ≢ Nothing)
+ComesTo views cache before (ahead.Read found) = (blocks : Blocks) (all : List Asked) → HasCached blocks views before.block cache
+    → IsFetching blocks views all before → IsReadBy (told_by before.block blocks) views all (read_of found)
+
+-- of a client, whose operation reads by its handle: it looked up blocks, and nothing else has changed
+pub record OnlyLooksUp (h after : ClientValue) : Type 0 where
+  pub cache : Cached
+  pub later : Cached
+  pub was : h.cache ≡ Some cache
+  pub looks : LooksUp cache later
+  pub after_is : after ≡ record h { cache = Some later }
+
+abbrev pub ClientComesTo : Fetching → ClientValue → Ahead → Type 0
+ClientComesTo fetch h ahead = (d : Doing) (file : Handle) (cache : Cached) → h.doing ≡ Some d
+    → file_of h.handles (handle_of d.op) ≡ Some file → h.cache ≡ Some cache → ComesTo file.views cache fetch ahead
+
+-- ---- a reading begins
+
+-- a cache that is there, or an empty one
+abbrev pub IsMade : Option Cached → Option Cached → Type 0
+IsMade (Some cache) after = after ≡ Some cache
+IsMade None after = IsSomeAnd after (λ (cache : Cached). cache.blocks ≡ [])
+
+-- a client with another cache, in which nothing stands that isn't known
+pub record IsCachedAs (h after : ClientValue) : Type 0 where
+  pub cache : Option Cached
+  pub after_is : after ≡ record h { cache = cache }
+  pub knows : (sizes : ℕ → ℕ) (block : ℕ) (blocks : Blocks) → IfSome h.cache (IsCacheOf sizes block blocks)
+      → IfSome cache (IsCacheOf sizes block blocks)
+
+-- The client before a request of its reading, which was so when the step began, or has just begun.
+pub record IsAhead (block : ℕ) (h c : ClientValue) : Type 0 where
+  pub d : Doing
+  pub fetch : Fetching
+  pub next : Need
+  pub busy : h.doing ≡ Some d
+  pub is : c ≡ record h { cache = c.cache; doing = Some (put_at (Reading fetch next) d) }
+  pub reads : (offset len : ℕ) × (d.does ≡ does.Reads offset len)
+  pub fewer : steps_left c ≤ steps_left h
+  pub goes : (g : Known) (v : Shared) (m : ModelClient) (count : ℕ) → v.yard.setting.block ≡ block → IsClient g v m count h
+      → GoesOn g v c (put_at (Reading fetch next) d) (Reading fetch next)
+      × IfSome c.cache (IsCacheOf g.sizes v.yard.setting.block g.blocks)
+
+-- all was read at once, by the views of the operation's handle and the blocks of the cache
+pub record ReadsAtOnce (offset len block : ℕ) (h after : ClientValue) (found : Found) : Type 0 where
+  pub same : IsCachedAs h after
+  pub read : (d : Doing) (file : Handle) (sizes : ℕ → ℕ) (blocks : Blocks) → h.doing ≡ Some d
+      → file_of h.handles (handle_of d.op) ≡ Some file → AreSizedBy sizes file.views
+      → IfSome h.cache (IsCacheOf sizes block blocks)
+      → IsReadBy (told_by block blocks) file.views (asked_parts offset len) (read_of found)
+
+-- it needs something, or it was read at once
+abbrev pub Begins : (offset len block : ℕ) (h after : ClientValue) → Option Found → Type 0
+Begins offset len block h after None = IsAhead block h after × IsReady after
+Begins offset len block h after (Some found) = ReadsAtOnce offset len block h after found
+
+-- ---- a reading is answered, or goes on
+
+abbrev pub told_read : Found → Told
+told_read found = Looks found.first found.second (length found.bytes)
+
+-- the answer with what was read, after a request of this kind if there was one
+abbrev pub shown : Option ActKind → Found → Made
+shown None found = made.Answer (told_read found) (Data found.bytes)
+shown (Some kind) found = made.Both kind (told_read found) (Data found.bytes)
+
+pub record Shows (kind : Option ActKind) (found : Found) (h after : ClientValue) (done : Made) : Type 0 where
+  pub after_is : after ≡ ended h
+  pub made_is : done ≡ shown kind found
+
+-- after a request of this kind
+abbrev pub GoesOnAfter : ActKind → Ahead → ClientValue → ClientValue → Made → Type 0
+GoesOnAfter kind (ahead.Needs fetch next) h after done =
+    (after ≡ record h { doing = option_map (moved_to (Reading fetch next)) h.doing }) × (done ≡ made.Request kind)
+GoesOnAfter kind (ahead.Read found) h after done = Shows (Some kind) found h after done
