@@ -14,7 +14,7 @@ use Rattle.std.proofs.lemmas.Bool.{leb-true}
 use Rattle.jv_cmd.specs.Bounds.{AreAllowed}
 use Rattle.jv_cmd.specs.Program.{program_app}
 use Rattle.jv_cmd.specs.Values.{number_of_digits, number_within, place_of, within}
-use Rattle.jv_cmd.specs.Words.{Answers, Parses, asked, command_at, command_in, read_by, format_in, session_in, options_in, setting_in, setting_fields_in, stored_setting_in, where_allowed, value_in, is_built_store, IsAllowedCommand, Refuses, HasFeed, SaysRefused}
+use Rattle.jv_cmd.specs.Words.{Answers, Parses, asked, command_at, command_in, read_by, format_in, session_in, options_in, setting_in, setting_fields_in, stored_setting_in, where_allowed, value_in, is_built_store, is_given, IsAllowedCommand, Refuses, HasFeed, SaysRefused}
 
 read_by_a_fault : (kinds : Kinds) (stop : Option (Text × List Row)) → kinds ≢ [] → read_by kinds stop ≡ None
 read_by_a_fault [] stop h = absurd (h refl)
@@ -76,11 +76,6 @@ format_allowed : (rows : List Row) → IfSome (format_in rows) IsAllowedCommand
 unfolding format_in
 format_allowed rows = all_then (value_in place_of (codes "url") rows) (λ place. option_map (Format place) (setting_in rows)) IsAllowedCommand (λ place. all_mapped (setting_in rows) (Format place) IsAllowedCommand (setting_allowed (is_built_store rows) rows))
 
-known_then : {A B : Type 0} (o : Option A) (f : A → Option B) (Q : A → Type 0) (P : B → Type 0) → IfSome o Q
-    → ((a : A) → Q a → IfSome (f a) P) → IfSome (option_and_then f o) P
-known_then None f Q P q h = tt
-known_then (Some a) f Q P q h = h a q
-
 -- a number that is read is in its range
 
 record InRange (least most n : ℕ) : Type 0 where
@@ -101,16 +96,23 @@ number_in_range least most text = all_then (number_of_digits text) (within least
 value_in_range : (least most : ℕ) (id : Text) (rows : List Row) → IfSome (value_in (number_within least most) id rows) (InRange least most)
 value_in_range least most id rows = all_then (first_of id rows) (number_within least most) (InRange least most) (number_in_range least most)
 
+options_made : (staged : Bool) (cache buffer uploads : Option ℕ) (folder : Option Text) → IfSome cache (InRange 0 256)
+    → IfSome buffer (InRange 8 256)
+    → IfSome (option_and_then (λ c. option_and_then (λ b. option_and_then (λ u. option_and_then (λ f.
+    Some (record { cache = c; buffer = b; uploads = u; writeback = staged; cache_dir = f })) folder) uploads) buffer) cache) AreAllowed
+options_made staged None buffer uploads folder small range = tt
+options_made staged (Some c) None uploads folder small range = tt
+options_made staged (Some c) (Some b) None folder small range = tt
+options_made staged (Some c) (Some b) (Some u) None small range = tt
+options_made staged (Some c) (Some b) (Some u) (Some f) small range = record { cache = small.high; least = range.low; most = range.high }
+
 options_allowed : (rows : List Row) → IfSome (options_in rows) AreAllowed
 unfolding options_in
 options_allowed rows =
-    known_then (value_in (number_within 0 256) (codes "cache-size") rows) _ (InRange 0 256) AreAllowed
-    (value_in_range 0 256 (codes "cache-size") rows) (λ cache small.
-    known_then (value_in (number_within 8 256) (codes "buffer-size") rows) _ (InRange 8 256) AreAllowed
-    (value_in_range 8 256 (codes "buffer-size") rows) (λ buffer range.
-    all_then (value_in (number_within 0 64) (codes "max-uploads") rows) _ AreAllowed (λ uploads.
-    all_then (first_of (codes "cache-dir") rows) _ AreAllowed (λ folder.
-    record { cache = small.high; least = range.low; most = range.high }))))
+    options_made (is_given (codes "writeback") rows) (value_in (number_within 0 256) (codes "cache-size") rows)
+    (value_in (number_within 8 256) (codes "buffer-size") rows) (value_in (number_within 0 64) (codes "max-uploads") rows)
+    (first_of (codes "cache-dir") rows) (value_in_range 0 256 (codes "cache-size") rows)
+    (value_in_range 8 256 (codes "buffer-size") rows)
 
 session_allowed : (rows : List Row) → IfSome (session_in rows) IsAllowedCommand
 unfolding session_in

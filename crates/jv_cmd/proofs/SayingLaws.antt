@@ -12,7 +12,7 @@ use Rattle.jv_outside.proofs.StreamLaws.{Gains-trans}
 use Rattle.jv_cmd.specs.Saying.{Says, Said, Cut}
 use Rattle.jv_cmd.specs.declared.ended.Ended.{Ended}
 use Rattle.jv_cmd.specs.Ends.{message_of, digits_or_dash}
-use Rattle.jv_cmd.proofs.GoingLaws.{Rose-since}
+use Rattle.jv_cmd.proofs.ReadingLaws.{Rose-since}
 
 -- whether a call failed or not
 pub Says-written : (result : Result (Unit {0}) Down) (before after : Stream) (text : List ℕ)

@@ -67,10 +67,32 @@ a_length n least most = record { least = least; most = most }
 
 lengths : AllByRecursion IsLength block_sizes
 lengths = (
-  a_length _ (omega arith) (omega arith), (a_length _ (omega arith) (omega arith), (a_length _ (omega arith) (omega arith),
-  (a_length _ (omega arith) (omega arith), (a_length _ (omega arith) (omega arith), (a_length _ (omega arith) (omega arith),
-  (a_length _ (omega arith) (omega arith), (a_length _ (omega arith) (omega arith), (a_length _ (omega arith) (omega arith),
-  tt)))))))),
+  a_length _ (omega arith) (omega arith),
+  (
+    a_length _ (omega arith) (omega arith),
+    (
+      a_length _ (omega arith) (omega arith),
+      (
+        a_length _ (omega arith) (omega arith),
+        (
+          a_length _ (omega arith) (omega arith),
+          (
+            a_length _ (omega arith) (omega arith),
+            (
+              a_length _ (omega arith) (omega arith),
+              (
+                a_length _ (omega arith) (omega arith),
+                (
+                  a_length _ (omega arith) (omega arith),
+                  tt,
+                ),
+              ),
+            ),
+          ),
+        ),
+      ),
+    ),
+  ),
 )
 
 pub allowed_length : (setting : Setting) → is_setting setting ≡ true → IsLength setting.block

@@ -55,7 +55,7 @@ pub data SessionEnds (options : SessionOptions) (answers : Device → ℕ) (befo
       → AreAttached setting.bucket options.cache_dir before.blocks attached
       → IsStarted setting attached.depot attached.shelf yard
       → RunsLines answers (staged (limits_of options setting.block) yard (record before { keeper = opened; blocks = attached }))
-          left ended
+      left ended
       → UsesBlocks answers attached after.blocks → after ≡ world_of before.err left → SessionEnds options answers before after ended
 
 abbrev pub Does : Command → (Device → ℕ) → WorldValue → WorldValue → Ended → Type 0

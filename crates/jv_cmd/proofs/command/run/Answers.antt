@@ -9,14 +9,14 @@ use Rattle.jv_cmd.proofs.AskedLaws.{asked_allowed}
 use Rattle.jv_cmd.proofs.CommandLaws.{RunsAsked-ran, RunsAsked-refused, RunsAsked-unread}
 use Rattle.jv_cmd.proofs.command.run.Goals as goal
 
-pub run_command-requires-clause-allowed : goal.run_command-requires-clause-allowed
-run_command-requires-clause-allowed g c = asked_allowed _ c.in-Ok.command c.in-Ok.ensures.asked
+pub run_command-ended-requires-clause-allowed : goal.run_command-ended-requires-clause-allowed
+run_command-ended-requires-clause-allowed g c = asked_allowed _ c.in-Ok.command c.in-Ok.ensures.asked
 
 pub returns-in-Ok : goal.returns-in-Ok
 returns-in-Ok g c =
     let words = map string_bytes c.args.words.now in
     let w = c.args.world in
-    let e = c.run_command.result.1 in
+    let e = c.run_command-ended.result.1 in
     let blocks = block_devices (g.D.Depot.seen w.depot) (g.H.Shelf.seen w.shelf)
     ((goal.Carrier-dyn g (w.carrier.vtable, w.carrier.value)).seen w.carrier.value) in
     let before : List Act → WorldValue = λ acts. world_value (g.S.Source.seen w.source) (g.O.Sink.seen w.out)
@@ -29,9 +29,9 @@ returns-in-Ok g c =
     subst (λ acts. RunsAsked words (asked words) (before acts) (record after { err = err }) c.status-status.result)
     c.clear.ensures
     (RunsAsked-ran words (asked words) c.in-Ok.command
-    (before c.clear.new.self.acts) after err c.run_command.result.0 c.status-status.result
-    c.in-Ok.ensures.asked c.run_command.ensures.runs
-    (ap g.E.Sink.seen c.run_command.ensures.err) c.status-status.ensures c.report.ensures)
+    (before c.clear.new.self.acts) after err c.run_command-ended.result.0 c.status-status.result
+    c.in-Ok.ensures.asked c.run_command-ended.ensures.runs
+    (ap g.E.Sink.seen c.run_command-ended.ensures.err) c.status-status.ensures c.report.ensures)
 
 pub returns-in-Err-Refused : goal.returns-in-Err-Refused
 returns-in-Err-Refused g c =
