@@ -1,11 +1,10 @@
 -- What the calls of a reading that asks for something leave of the client is what the step promises.
-use Rattle.std.proofs.Common.{◌≡◌, ℕ, ◌≤◌, List, Option, None, Some, Ok, Err, refl, sym, ap, subst, ◌∙◌}
+use Rattle.std.proofs.Common.{◌≡◌, ℕ, ◌≤◌, List, Option, Some, Ok, refl, ap, subst, ◌∙◌}
 use Rattle.std.specs.Option.{option_map}
 use Rattle.jv_model.specs.declared.act.ActKind.TheVariants.{Look, Quiet}
 use Rattle.jv_model.specs.declared.act.Told.TheVariants.{Refused as ToldRefused}
-use Rattle.jv_model.specs.declared.fault.Fault.{Fault}
 use Rattle.jv_model.specs.declared.fault.Fault.TheVariants.{NoMemory}
-use Rattle.jv_model.specs.declared.op.Reply.TheVariants.{Data, Refused}
+use Rattle.jv_model.specs.declared.op.Reply.TheVariants.{Refused}
 use Rattle.jv_model.specs.declared.slice.BlockId.{BlockId}
 use Rattle.jv_model.specs.client.ModelClient.{file_of, with_file}
 use Rattle.jv_model.specs.client.Profile.{handle_of}
@@ -15,7 +14,6 @@ use Rattle.jv_data.specs.declared.looking.View.{View as Looked}
 use Rattle.jv_data.specs.Records.{LooksAt}
 use Rattle.jv_handles.specs.declared.handle.Handle.{Handle}
 use Rattle.jv_handles.specs.Handles.{unseen_by}
-use Rattle.jv_handles.specs.Views.{view_at}
 use Rattle.jv_handles.proofs.UnseenLaws.{unseen_by-seen_by}
 use Rattle.jv_shared.specs.Shared.{Shared}
 use Rattle.jv_yard.specs.BlockCalls.{GetsBlock}

@@ -28,11 +28,12 @@ use Rattle.jv_client.specs.declared.doing.Flush.TheVariants as flush
 use Rattle.jv_client.specs.declared.doing.Progress.{Progress}
 use Rattle.jv_client.specs.declared.doing.Progress.TheVariants.{Working, Reading}
 use Rattle.jv_client.specs.ClientValue.{ClientValue}
-use Rattle.jv_client.specs.Held.{GoesOn as GoesOnWell, IsClient, flight_by, flight_in, flush_of_code, in_flight, number_of}
+use Rattle.jv_client.specs.Held.{IsClient, flight_by, flight_in, flush_of_code, in_flight, number_of}
 use Rattle.jv_client.specs.Held.{stage_of}
 use Rattle.jv_client.specs.Reading.{IsAhead, need_in, put_at}
 use Rattle.jv_client.specs.UnderWay.{IsForm}
-use Rattle.jv_client.specs.UnderWay.{IsAt, IsReading, IsReady, IsUnderWay, has_segment, left, left_of, steps_left, steps_of}
+use Rattle.jv_client.specs.UnderWay.{IsAt, IsReading, IsReady, IsUnderWay, has_segment, left, left_of, steps_left}
+use Rattle.jv_client.specs.UnderWay.{steps_of}
 use Rattle.jv_client.specs.Held.{segment_left}
 use Rattle.jv_client.proofs.HeldLaws.{client-doing, doing_of}
 use Rattle.jv_client.proofs.ReadingLaws.{reads-file}
