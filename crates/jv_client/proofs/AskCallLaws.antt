@@ -1,6 +1,7 @@
 -- The functions that look at a window and get a block, by what their calls promise.
-use Rattle.std.proofs.Common.{◌≡◌, ℕ, ◌≤◌, List, Option, None, Some, Result, Ok, Err, refl, sym, ap, subst, ◌∙◌}
-use Rattle.std.specs.Prelude.{IfSome}
+use Rattle.std.proofs.Common.{◌≡◌, ℕ, ◌≤◌, true, false, List, Option, None, Some, Result, Ok, Err, refl, sym, ap}
+use Rattle.std.proofs.Common.{subst, ◌∙◌}
+use Rattle.std.specs.Prelude.{IfSome, IsSome, IsSomeAnd, IsTrue, OnErr, OnOk, is_err, is_some}
 use Rattle.std.specs.Option.{option_map}
 use Rattle.jv_model.specs.declared.act.ActKind.TheVariants.{Look, Quiet}
 use Rattle.jv_model.specs.declared.fault.Fault.{Fault}
@@ -14,6 +15,8 @@ use Rattle.jv_cache.specs.Cached.{Cached}
 use Rattle.jv_data.specs.declared.looking.View.{View as Looked}
 use Rattle.jv_data.specs.Records.{LooksAt}
 use Rattle.jv_handles.specs.declared.handle.Handle.{Handle}
+use Rattle.jv_handles.specs.declared.views.View.{View}
+use Rattle.jv_handles.proofs.TableLaws.{the_some}
 use Rattle.jv_handles.specs.Handles.{inode_here, inode_of_handle, seen_by, unseen_by}
 use Rattle.jv_shared.specs.Shared.{Shared}
 use Rattle.jv_yard.specs.BlockCalls.{GetsBlock}
@@ -21,24 +24,29 @@ use Rattle.jv_yard.specs.Contents.{name_in}
 use Rattle.jv_yard.specs.YardValue.{YardValue}
 use Rattle.jv_fetching.specs.declared.need.Need.{Need}
 use Rattle.jv_fetching.specs.declared.need.Need.TheVariants.{Block as NeedsBlock, Look as NeedsLook}
-use Rattle.jv_fetching.specs.Fetching.{Fetching, block_needed}
+use Rattle.jv_fetching.specs.Calls.{Wants}
+use Rattle.jv_fetching.specs.Fetching.{Fetching}
+use Rattle.jv_fetching.specs.Going.{CanFetch}
 use Rattle.jv_client.specs.declared.doing.Doing.{Doing}
-use Rattle.jv_client.specs.declared.doing.Progress.TheVariants.{Working}
+use Rattle.jv_client.specs.declared.doing.Progress.{Progress}
+use Rattle.jv_client.specs.declared.doing.Progress.TheVariants.{Reading, Working}
 use Rattle.jv_client.specs.declared.made.Made.{Made}
 use Rattle.jv_client.specs.declared.reading.Ahead.{Ahead}
 use Rattle.jv_client.specs.ClientValue.{ClientValue, session_here}
 use Rattle.jv_client.specs.Ending.{ended}
 use Rattle.jv_client.specs.Getting.{Fills, HasFilled, ReadsBlock, Unread}
 use Rattle.jv_client.specs.Makes.{Makes}
-use Rattle.jv_client.specs.Reading.{ClientComesTo, GoesOnAfter, IsAhead, OnlyLooksUp, fetch_in, need_in, put_at}
+use Rattle.jv_client.specs.Reading.{ClientComesTo, GoesOnAfter, IsAhead, OnlyLooksUp, fetch_in, need_at, need_in}
+use Rattle.jv_client.specs.Reading.{put_at}
 use Rattle.jv_client.specs.Transacting.{EndsUnmade, Fails}
-use Rattle.jv_client.specs.UnderWay.{IsReady, left}
-use Rattle.jv_client.proofs.ReaderLaws.{Asking, IsAsking, asking, is_asking}
+use Rattle.jv_client.specs.UnderWay.{IsAt, IsReady, IsUnderWay, left, names_open}
+use Rattle.jv_client.proofs.AnswerLaws.{makes-as}
+use Rattle.jv_client.proofs.ReaderLaws.{Asking, asking, is_asking}
 use Rattle.jv_client.proofs.GoneOnLaws.{over}
-use Rattle.jv_client.proofs.LookLaws.{seen_handles, view_of}
+use Rattle.jv_client.proofs.LookLaws.{seen_handles, seen_opened, view_of}
 use Rattle.jv_client.proofs.UnlookedLaws.{cached-here, look-out, look-unmade}
 use Rattle.jv_client.proofs.GotLaws.{get-unread}
-use Rattle.jv_client.proofs.ReadCallLaws.{get-came, get-lost, look-came, look-lost, made_as, taken_out}
+use Rattle.jv_client.proofs.ReadCallLaws.{get-came, get-lost, look-came, look-lost, taken_out}
 
 -- the client with another table of handles, whose reading was taken out
 abbrev pub put_back : List (Option Handle) → ClientValue → ClientValue
@@ -114,8 +122,8 @@ module _ (now entry : ℕ) (h c : ClientValue) (window : ℕ) (before : Shared)
     pub looks-full : (then after : ClientValue) (done : Made) → then ≡ c → Fails NoMemory then after done
         → Makes now entry h after before used done
     looks-full then after done same fails =
-        made_as now entry h after (over h.handles asked.cache h) before used done _
-        (fails.after_is ∙ ap ended (same ∙ asked.is)) fails.made_is
+        makes-as now entry h after (over h.handles asked.cache h) before used used done _
+        (fails.after_is ∙ ap ended (same ∙ asked.is)) refl fails.made_is
         (look-out now entry block h asked.d asked.offset asked.len asked.cache asked.fetch window asked.asks before refl
         keeper asked.cache
         (cached-here now entry block h asked.d asked.offset asked.len asked.cache asked.fetch window asked.asks before
@@ -166,7 +174,8 @@ module _ (now entry : ℕ) (h c : ClientValue) (window : ℕ) (before : Shared)
 
 module _ (now entry : ℕ) (h c : ClientValue) (b : BlockId) (before : Shared)
     (a : IsAhead before.yard.setting.block h c) (ready_before : IsReady h) (ready : IsReady c) (flushed : left c ≡ None)
-    (need : need_in c.doing ≡ Some (NeedsBlock b)) (low : c.id ≤ 7) (yard : YardValue) where
+    (need : need_in c.doing ≡ Some (NeedsBlock b)) (v : ClientValue) (same_v : v ≡ c) (low : v.id ≤ 7)
+    (yard : YardValue) where
   abbrev length_of : ℕ
   length_of = before.yard.setting.block
 
@@ -176,48 +185,45 @@ module _ (now entry : ℕ) (h c : ClientValue) (b : BlockId) (before : Shared)
   abbrev yard_used : Shared
   yard_used = record before { yard = yard }
 
-  same_id : c.id ≡ h.id
-  same_id = ap (λ (x : ClientValue). x.id) wanted.is
+  same_id : v.id ≡ h.id
+  same_id = ap (λ (x : ClientValue). x.id) (same_v ∙ wanted.is)
 
   id_low : h.id ≤ 7
   id_low = subst (λ n. n ≤ 7) same_id low
 
-  -- what it needs, once its reading was taken out
-  pub needs-block : (fetch : Fetching) → fetch_in c.doing ≡ Some fetch → block_needed fetch ≡ Some b
-  needs-block fetch taken =
-      ap block_needed (took-fetch length_of h c (NeedsBlock b) a ready_before ready flushed need fetch taken)
-      ∙ wanted.asks.wants
-
   -- it didn't come
   pub gets-none : (fault : Fault) (after : ClientValue) (done : Made)
-      → ReadsBlock c.id b before.yard yard (Err fault) → Fails fault c after done
+      → ReadsBlock v.id b before.yard yard (Err fault) → Fails fault c after done
       → Makes now entry h after before yard_used done
   gets-none fault after done unread fails =
-      made_as now entry h after (over h.handles wanted.cache h) before yard_used done _
-      (fails.after_is ∙ ap ended wanted.is) fails.made_is
+      makes-as now entry h after (over h.handles wanted.cache h) before yard_used yard_used done _
+      (fails.after_is ∙ ap ended wanted.is) refl fails.made_is
       (get-unread now entry length_of h wanted.d wanted.offset wanted.len wanted.cache wanted.fetch b wanted.asks before
       refl id_low yard fault (subst (λ n. Unread n b before.yard yard fault) same_id unread))
 
-  module _ (bytes : List ℕ) (gets : ReadsBlock c.id b before.yard yard (Ok bytes)) (fetch filled : Fetching)
-      (taken : fetch_in c.doing ≡ Some fetch) (cache : Option Cached)
-      (fills : HasFilled b bytes fetch filled c.cache cache) (mid then : ClientValue)
-      (mid_is : mid ≡ record c { cache = cache; doing = option_map (put_at (Working 0 0 0)) c.doing })
-      (only : OnlyLooksUp mid then) where
+  module _ (bytes : List ℕ) (gets : ReadsBlock v.id b before.yard yard (Ok bytes)) (fetch filled : Fetching)
+      (taken : fetch_in v.doing ≡ Some fetch) (cache : Option Cached)
+      (fills : HasFilled b bytes fetch filled v.cache cache) (doing : Option Doing)
+      (left_is : doing ≡ option_map (put_at (Working 0 0 0)) v.doing) (then : ClientValue)
+      (only : OnlyLooksUp (record v { cache = cache; doing = doing }) then) where
+    abbrev mid : ClientValue
+    mid = record v { cache = cache; doing = doing }
+
     same_cache : fills.cache ≡ wanted.cache
     same_cache =
         let both : Some fills.cache ≡ Some wanted.cache =
-        sym fills.was_is ∙ ap (λ (x : ClientValue). x.cache) wanted.is in
+        sym fills.was_is ∙ ap (λ (x : ClientValue). x.cache) (same_v ∙ wanted.is) in
         cc
 
     now_mid : mid ≡ taken_out h.handles fills.kept wanted.d h
     now_mid =
-        mid_is
-        ∙ ap (λ (o : Option Cached). record c { cache = o; doing = option_map (put_at (Working 0 0 0)) c.doing })
+        ap (λ o. record v { cache = cache; doing = o }) left_is
+        ∙ ap (λ (o : Option Cached). record v { cache = o; doing = option_map (put_at (Working 0 0 0)) v.doing })
         fills.kept_is
         ∙ ap (λ (x : ClientValue). record x {
           cache = Some fills.kept;
           doing = option_map (put_at (Working 0 0 0)) x.doing;
-        }) wanted.is
+        }) (same_v ∙ wanted.is)
 
     in_name : GetsBlock h.id (name_in before.yard.setting b) before.yard yard (Ok (Some bytes))
     in_name = subst (λ n. GetsBlock n (name_in before.yard.setting b) before.yard yard (Ok (Some bytes))) same_id gets.0
@@ -225,7 +231,8 @@ module _ (now entry : ℕ) (h c : ClientValue) (b : BlockId) (before : Shared)
     in_place : Fills b bytes wanted.fetch filled wanted.cache fills.kept
     in_place =
         subst (λ (f : Fetching). Fills b bytes f filled wanted.cache fills.kept)
-        (took-fetch length_of h c (NeedsBlock b) a ready_before ready flushed need fetch taken)
+        (took-fetch length_of h c (NeedsBlock b) a ready_before ready flushed need fetch
+        (ap (λ (x : ClientValue). fetch_in x.doing) (sym same_v) ∙ taken))
         (subst (λ (cache : Cached). Fills b bytes fetch filled cache fills.kept) same_cache fills.fills)
 
     -- the reading goes ahead
@@ -244,3 +251,130 @@ module _ (now entry : ℕ) (h c : ClientValue) (b : BlockId) (before : Shared)
         get-lost now entry length_of h wanted.d wanted.offset wanted.len wanted.cache wanted.fetch b wanted.asks before
         refl id_low yard bytes in_name filled fills.kept in_place then after done
         (subst (λ (x : ClientValue). OnlyLooksUp x then) now_mid only) fails.after_is fails.made_is
+
+-- ---- the client in between
+
+-- a result that is no error
+pub if_ok : {X E : Type 0} (P : Type 0) (r : Result X E) → is_err r ≡ false → OnOk r P → P
+if_ok P (Ok x) none h = h
+if_ok P (Err e) none h = absurd (cc none)
+
+pub if_err : {X E : Type 0} (P : Type 0) (r : Result X E) → is_err r ≡ true → OnErr r P → P
+if_err P (Ok x) some h = absurd (cc some)
+if_err P (Err e) some h = h
+
+-- an operation that needs something has its handle open
+pub open_here : (c : ClientValue) (next : Need) → IsReady c → need_in c.doing ≡ Some next → (d : Doing) → c.doing ≡ Some d
+    → IsTrue (is_some (file_of c.handles (handle_of d.op)))
+open_here c next ready need d busy = by_progress d.progress at (ap need_in (sym busy) ∙ need)
+  where
+    at : IsAt c d d.progress
+    at = (subst (λ o. IfSome o (IsUnderWay c)) busy ready.doing).at
+
+    by_handle : (o : Option Handle) (P : Handle → Type 0) → IsSomeAnd o P → IsTrue (is_some o)
+    by_handle None P h = absurd h
+    by_handle (Some handle) P h = refl
+
+    by_progress : (p : Progress) → IsAt c d p → need_at p ≡ Some next
+        → IsTrue (is_some (file_of c.handles (handle_of d.op)))
+    by_progress (Working quiets started id) here none = absurd (cc none)
+    by_progress (Reading fetch need) here is =
+        by_handle (file_of c.handles (handle_of d.op))
+        (λ (handle : Handle). CanFetch handle.views fetch × Wants handle.views fetch need) here.goes_on
+
+-- and so has the client whose reading was taken out
+pub open_then : (c v : ClientValue) (next : Need) → IsReady c → need_in c.doing ≡ Some next → v ≡ c
+    → (doing : Option Doing) → doing ≡ option_map (put_at (Working 0 0 0)) v.doing → (cache : Option Cached)
+    → IfSome doing (names_open (record v { cache = cache; doing = doing }))
+open_then c v next ready need same doing taken cache =
+    subst (λ o. IfSome o (names_open (record v { cache = cache; doing = o }))) (sym taken) (by_doing v.doing refl)
+  where
+    by_doing : (o : Option Doing) → v.doing ≡ o
+        → IfSome (option_map (put_at (Working 0 0 0)) o)
+        (names_open (record v { cache = cache; doing = option_map (put_at (Working 0 0 0)) v.doing }))
+    by_doing None e = tt
+    by_doing (Some d) e =
+        subst (λ (handles : List (Option Handle)). IsTrue (is_some (file_of handles (handle_of d.op))))
+        (ap (λ (x : ClientValue). x.handles) (sym same))
+        (open_here c next ready need d (ap (λ (x : ClientValue). x.doing) (sym same) ∙ e))
+
+-- a handle that is given a view stays open
+pub open_seen : (handles : List (Option Handle)) (handle window : ℕ) (view : View)
+    → IsTrue (is_some (file_of handles handle))
+    → IsTrue (is_some (file_of (with_file handle (seen_by window view (file_of handles handle)) handles) handle))
+open_seen handles handle window view some =
+    let there = the_some (file_of handles handle) some in
+    ap is_some (seen_opened handle window view handles there.0 there.1)
+
+-- under the names that the code has
+pub mid_looked : (c v : ClientValue) (handle window : ℕ) (view : View) (old new stored : List (Option Handle))
+    (doing : Option Doing) → v ≡ c → old ≡ v.handles → stored ≡ new
+    → new ≡ with_file handle (seen_by window view (file_of old handle)) old
+    → doing ≡ option_map (put_at (Working 0 0 0)) v.doing
+    → record v { handles = stored; doing = doing }
+    ≡ put_back (with_file handle (seen_by window view (file_of c.handles handle)) c.handles) c
+mid_looked c v handle window view old new stored doing same same_old same_new set taken =
+    ap (λ (hs : List (Option Handle)). record v { handles = hs; doing = doing })
+    (same_new ∙ set ∙ ap (λ hs. with_file handle (seen_by window view (file_of hs handle)) hs) same_old)
+    ∙ ap (λ o. record v {
+      handles = with_file handle (seen_by window view (file_of v.handles handle)) v.handles;
+      doing = o;
+    }) taken
+    ∙ ap (λ (v : ClientValue). put_back (with_file handle (seen_by window view (file_of v.handles handle)) v.handles) v)
+    same
+
+-- so the handle of a reading that has looked is open
+pub open_looked : (c v : ClientValue) (next : Need) → IsReady c → need_in c.doing ≡ Some next → v ≡ c
+    → (doing : Option Doing) → doing ≡ option_map (put_at (Working 0 0 0)) v.doing → (handle window : ℕ) (view : View)
+    → IfSome c.doing (λ d. handle ≡ handle_of d.op) → (old new stored : List (Option Handle)) → old ≡ v.handles
+    → stored ≡ new → new ≡ with_file handle (seen_by window view (file_of old handle)) old
+    → IfSome doing (names_open (record v { handles = stored; doing = doing }))
+open_looked c v next ready need same doing taken handle window view names old new stored same_old same_new set =
+    subst (λ (x : ClientValue). IfSome x.doing (names_open x))
+    (sym (mid_looked c v handle window view old new stored doing same same_old same_new set taken))
+    (by_doing c.doing refl names)
+  where
+    by_doing : (o : Option Doing) → c.doing ≡ o → IfSome o (λ d. handle ≡ handle_of d.op)
+        → IfSome (option_map (put_at (Working 0 0 0)) o)
+        (names_open (put_back (seen_handles handle window view c.handles) c))
+    by_doing None e named = tt
+    by_doing (Some d) e named =
+        subst (λ n. IsTrue (is_some (file_of (seen_handles handle window view c.handles) n))) named
+        (open_seen c.handles handle window view
+        (subst (λ n. IsTrue (is_some (file_of c.handles n))) (sym named) (open_here c next ready need d e)))
+
+-- and after it was gone ahead with
+pub open_after : (c v : ClientValue) (next : Need) → IsReady c → need_in c.doing ≡ Some next → v ≡ c
+    → (doing : Option Doing) → doing ≡ option_map (put_at (Working 0 0 0)) v.doing → (handle window : ℕ) (view : View)
+    → IfSome c.doing (λ d. handle ≡ handle_of d.op) → (old new stored : List (Option Handle)) → old ≡ v.handles
+    → stored ≡ new → new ≡ with_file handle (seen_by window view (file_of old handle)) old
+    → (then : ClientValue) → OnlyLooksUp (record v { handles = stored; doing = doing }) then
+    → (now : List (Option Handle)) → now ≡ then.handles → IsSome (file_of now handle)
+open_after c v next ready need same doing taken handle window view names old new stored same_old same_new set then only
+    now is = by_doing c.doing refl names
+  where
+    handles : now ≡ seen_handles handle window view c.handles
+    handles = is ∙ ap (λ (x : ClientValue). x.handles) only.after_is
+        ∙ ap (λ (x : ClientValue). x.handles)
+        (mid_looked c v handle window view old new stored doing same same_old same_new set taken)
+
+    by_doing : (o : Option Doing) → c.doing ≡ o → IfSome o (λ d. handle ≡ handle_of d.op) → IsSome (file_of now handle)
+    by_doing None e named =
+        let none : need_in None ≡ Some next = sym (ap need_in e) ∙ need in
+        absurd (cc none)
+    by_doing (Some d) e named =
+        subst (λ (hs : List (Option Handle)). IsSome (file_of hs handle)) (sym handles)
+        (open_seen c.handles handle window view
+        (subst (λ n. IsTrue (is_some (file_of c.handles n))) (sym named) (open_here c next ready need d e)))
+
+-- a view that is dropped again
+pub back_as : (v then : ClientValue) (handle window : ℕ) (old new stored : List (Option Handle)) → v ≡ then
+    → old ≡ v.handles → stored ≡ new → new ≡ with_file handle (unseen_by window (file_of old handle)) old
+    → record v { handles = stored }
+    ≡ record then { handles = with_file handle (unseen_by window (file_of then.handles handle)) then.handles }
+back_as v then handle window old new stored same same_old same_new dropped =
+    ap (λ (hs : List (Option Handle)). record v { handles = hs })
+    (same_new ∙ dropped ∙ ap (λ hs. with_file handle (unseen_by window (file_of hs handle)) hs) same_old)
+    ∙ ap (λ (x : ClientValue). record x {
+      handles = with_file handle (unseen_by window (file_of x.handles handle)) x.handles;
+    }) same

@@ -1,5 +1,5 @@
 -- Reading a block: by what the yard has at its name.
-use Rattle.std.proofs.Common.{◌≡◌, ℕ, List, Option, Some, Result, Ok, Err, refl, subst}
+use Rattle.std.proofs.Common.{◌≡◌, ℕ, List, Option, Result, Ok, Err, subst}
 use Rattle.jv_model.specs.declared.fault.Fault.{Fault}
 use Rattle.jv_model.specs.declared.slice.BlockId.{BlockId}
 use Rattle.jv_yard.specs.declared.faults.YardFault.{YardFault}
@@ -18,9 +18,11 @@ module _ (client : ℕ) (b : BlockId) (before after : YardValue) (name : List �
     pub reads-value : (value : Option (List ℕ)) (result : Result (List ℕ) Fault)
         → GetsBlock client name before after (Ok value) → IsBlockIn b.size value result
         → ReadsBlock client b before after result
-    reads-value value (Ok bytes) gets is =
-        (subst (λ value. GetsBlock client (name_in before.setting b) before after (Ok value)) is.0
-        (here (Ok value) gets), is.1)
+    reads-value value (Ok bytes) gets is = (
+      subst (λ value. GetsBlock client (name_in before.setting b) before after (Ok value)) is.0
+          (here (Ok value) gets),
+      is.1,
+    )
     reads-value value (Err fault) gets is = Missing value (here (Ok value) gets) is.0 is.1
 
     -- a device failed, or memory ran out

@@ -1,12 +1,13 @@
 -- A reading gets a block: it goes on with its bytes, it is answered, or the block didn't come.
-use Rattle.std.proofs.Common.{◌≡◌, ◌≢◌, ℕ, ◌+◌, ◌≤◌, ◌<◌, false, true, List, [], ◌∷◌, length, Option, None, Some, Ok, Err, refl, sym, ap}
+use Rattle.std.proofs.Common.{◌≡◌, ◌≢◌, ℕ, ◌+◌, ◌≤◌, false, true, List, [], ◌∷◌, length, Option, Some, Ok, Err, refl}
+use Rattle.std.proofs.Common.{sym, ap}
 use Rattle.std.proofs.Common.{subst, ◌∙◌, arith}
-use Rattle.std.specs.Prelude.{is_some}
 use Rattle.jv_model.specs.declared.act.ActKind.TheVariants.{Answered, Quiet}
 use Rattle.jv_model.specs.declared.act.Told.TheVariants.{Refused as ToldRefused}
 use Rattle.jv_model.specs.declared.fault.Busy.TheVariants.{Misses}
 use Rattle.jv_model.specs.declared.fault.Device.{Device}
-use Rattle.jv_model.specs.declared.fault.Device.TheVariants.{Keeper as TheKeeper, Depot as TheDepot, Shelf as TheShelf, Carrier as TheCarrier}
+use Rattle.jv_model.specs.declared.fault.Device.TheVariants.{Keeper as TheKeeper, Depot as TheDepot}
+use Rattle.jv_model.specs.declared.fault.Device.TheVariants.{Shelf as TheShelf, Carrier as TheCarrier}
 use Rattle.jv_model.specs.declared.fault.Fault.{Fault}
 use Rattle.jv_model.specs.declared.fault.Fault.TheVariants.{Contended, NoMemory}
 use Rattle.jv_model.specs.declared.op.Reply.TheVariants.{Data, Refused as RefusedReply}
@@ -14,7 +15,7 @@ use Rattle.jv_model.specs.declared.op.Step.TheVariants.{More, Done}
 use Rattle.jv_model.specs.declared.setting.Setting.{Setting}
 use Rattle.jv_model.specs.declared.slice.BlockId.{BlockId}
 use Rattle.jv_model.specs.blocks.Slices.{block_at}
-use Rattle.jv_model.specs.client.ModelClient.{ModelClient, OpenFile, Doing as ModelDoing, View as ModelView, Reading as ModelReading}
+use Rattle.jv_model.specs.client.ModelClient.{ModelClient, OpenFile, Doing as ModelDoing, Reading as ModelReading}
 use Rattle.jv_model.specs.client.Profile.{handle_of}
 use Rattle.jv_model.specs.journal.Reading.{Asked, asked_parts, fresh_view}
 use Rattle.jv_model.specs.journal.State.{State, after_told, sees_first}
@@ -28,21 +29,20 @@ use Rattle.jv_yard.specs.BlockCalls.{GetsBlock}
 use Rattle.jv_yard.specs.Contents.{name_in}
 use Rattle.jv_yard.specs.Refusals.{Refuses}
 use Rattle.jv_yard.specs.YardValue.{YardValue}
-use Rattle.jv_shared.specs.Keeping.{HoldsSame, KeepsShared}
+use Rattle.jv_shared.specs.Keeping.{KeepsShared}
 use Rattle.jv_shared.specs.Shared.{HasStore, Known, Shared}
 use Rattle.jv_shared.proofs.SameLaws.{same-gets, same-stays}
 use Rattle.jv_handles.specs.declared.handle.Handle.{Handle}
-use Rattle.jv_handles.specs.declared.views.View.{View}
 use Rattle.jv_handles.specs.Held.{IsHandle, IsSeen, SamePlace}
-use Rattle.jv_handles.specs.Views.{SeenViews, view_at}
+use Rattle.jv_handles.specs.Views.{view_at}
 use Rattle.jv_handles.proofs.TableLaws.{some-same, there_in}
 use Rattle.jv_handles.proofs.HandleLaws.{handle-stays}
 use Rattle.jv_reading.specs.Parts.{IsNamed}
 use Rattle.jv_fetching.specs.declared.need.Need.{Need}
 use Rattle.jv_fetching.specs.declared.need.Need.TheVariants.{Block as NeedsBlock, Nothing}
 use Rattle.jv_fetching.specs.Calls.{HasCached, IsCacheOf, Keeps, LooksUp, Wants, first_seen}
-use Rattle.jv_fetching.specs.Fetching.{Fetching, fetch_left}
-use Rattle.jv_fetching.specs.Going.{CanFetch, IsFetching}
+use Rattle.jv_fetching.specs.Fetching.{Fetching}
+use Rattle.jv_fetching.specs.Going.{IsFetching}
 use Rattle.jv_fetching.specs.Laws.{IsOfView}
 use Rattle.jv_fetching.specs.Shows.{IsReadBy}
 use Rattle.jv_fetching.proofs.CacheLaws.{cache_of-keeps, cache_of-looks}
@@ -56,15 +56,17 @@ use Rattle.jv_client.specs.declared.made.Made.{Made}
 use Rattle.jv_client.specs.declared.made.Made.TheVariants as made
 use Rattle.jv_client.specs.declared.reading.Found.{Found}
 use Rattle.jv_client.specs.ClientValue.{ClientValue}
-use Rattle.jv_client.specs.Getting.{Fills, IsNone, Missing, ReadsBlock, Refused, Unread, yard_fault}
+use Rattle.jv_client.specs.Getting.{Fills, Missing, Refused, Unread, yard_fault}
 use Rattle.jv_client.specs.Held.{Holds, IsClient, IsHeld, in_flight}
-use Rattle.jv_client.specs.Makes.{Makes, StepsTo, TellsBad, UsesDevices, faults_of, is_failure_of, step_of, tells_failure}
+use Rattle.jv_client.specs.Makes.{Makes, StepsTo, TellsBad, UsesDevices, faults_of, step_of, tells_failure}
 use Rattle.jv_client.specs.Reading.{GoesAhead, read_of, told_read}
+use Rattle.jv_client.proofs.AnswerLaws.{uses-none}
 use Rattle.jv_client.proofs.EndingLaws.{holds-told}
 use Rattle.jv_client.proofs.HeldLaws.{doing_of}
 use Rattle.jv_client.proofs.KeptLaws.{cache-goes, held-goes}
 use Rattle.jv_client.proofs.ReaderLaws.{IsAsking, busy_in, file_by, handle_in, may_get, none_flying, opened_in}
-use Rattle.jv_client.proofs.GoneOnLaws.{client-on, client-over, falls-on, going_on, none-kept, over, reading-is, ready-on}
+use Rattle.jv_client.proofs.GoneOnLaws.{client-on, client-over, falls-on, going_on, none-kept, over, reading-is}
+use Rattle.jv_client.proofs.GoneOnLaws.{ready-on}
 use Rattle.jv_client.proofs.ReadFailedLaws.{failed, failed-by}
 
 -- ---- devices
@@ -74,20 +76,7 @@ uses-got : (done : Made) (before : Shared) (yard : YardValue) → ((device : Dev
     → yard ≡ before.yard → TellsBad before (step_of done) → UsesDevices done before (record before { yard = yard })
 uses-got done before yard fine same bad =
     subst (λ (yard : YardValue). UsesDevices done before (record before { yard = yard })) (sym same)
-    (record {
-      keeper_at = refl;
-      carrier_at = refl;
-      depot_at = refl;
-      shelf_at = refl;
-      setting = refl;
-      last = refl;
-      counts = λ device. subst (λ b. RoseIf b (faults_of device before) (faults_of device before)) (sym (fine device))
-          refl;
-      rows = λ asks. refl;
-      objects = λ asks. refl;
-      blocks = refl;
-      bad = bad;
-    })
+    (uses-none done before fine bad)
 
 -- the answer that a device of the yard failed, or that memory ran out
 abbrev unread_as : YardFault → Made
@@ -242,129 +231,132 @@ module _ (now entry block : ℕ) (h : ClientValue) (d : Doing) (offset len : ℕ
 
   module _ (bytes : List ℕ) (gets : GetsBlock h.id name before.yard yard (Ok (Some bytes))) (filled : Fetching)
       (kept : Cached) (fills : Fills b bytes fetch filled cache kept) (later : Cached) (looks_up : LooksUp kept later)
-      where
-    pub cached-then : (s : State) (g : Known) → HasStore s.tree g before
-        → IsClient g before (s.clients h.id) s.count h
-        → IsCacheOf g.sizes before.yard.setting.block g.blocks later
-    cached-then s g has client =
-        cache_of-looks g.sizes before.yard.setting.block g.blocks kept later looks_up
-        (cached-kept s g has client bytes kept gets fills.cache_is)
-
-    module _ (s : State) (g : Known) (has : HasStore s.tree g before) (holds : Holds s.tree (s.clients h.id))
-        (client : IsClient g before (s.clients h.id) s.count h) where
-      abbrev mine : ModelClient
-      mine = s.clients h.id
-
-      stays : KeepsShared 0 g g before used
-      stays = same-stays 0 g before used (same-gets before yard h.id name (Ok (Some bytes)) gets)
-
-      held-on : IsHeld g used mine (s.count + 1) h
-      held-on = held-goes s.tree g before has 0 g used stays mine s.count (s.count + 1) h (omega arith) client.held
-
-      named-on : IsHandle g used mine.views (s.count + 1) handle (file_by file) file
-      named-on = handle-stays s.tree g before has 0 g used stays mine.views s.count (s.count + 1) (omega arith) handle
-          (file_by file) file (named s g has client)
-
-      cached-on : IsCacheOf g.sizes used.yard.setting.block g.blocks kept
-      cached-on = cache-goes s.tree g before has 0 g used stays (Some kept)
+    where
+      pub cached-then : (s : State) (g : Known) → HasStore s.tree g before
+          → IsClient g before (s.clients h.id) s.count h
+          → IsCacheOf g.sizes before.yard.setting.block g.blocks later
+      cached-then s g has client =
+          cache_of-looks g.sizes before.yard.setting.block g.blocks kept later looks_up
           (cached-kept s g has client bytes kept gets fills.cache_is)
 
-      fetching-on : IsFetching g.blocks file.views (asked_parts offset len) filled
-      fetching-on = fills.reads g.blocks file.views (asked_parts offset len) (known s g has client bytes gets)
-          (fetching s g has client)
+      module _ (s : State) (g : Known) (has : HasStore s.tree g before) (holds : Holds s.tree (s.clients h.id))
+          (client : IsClient g before (s.clients h.id) s.count h) where
+        abbrev mine : ModelClient
+        mine = s.clients h.id
 
-      block-on : filled.block ≡ used.yard.setting.block
-      block-on = fills.block ∙ own_block s g has client ∙ sym (ap (λ (x : Setting). x.block) stays.setting)
+        stays : KeepsShared 0 g g before used
+        stays = same-stays 0 g before used (same-gets before yard h.id name (Ok (Some bytes)) gets)
 
-      idle : in_flight h ≡ 0
-      idle = none_flying h d asks.busy asks.at asks.none
+        held-on : IsHeld g used mine (s.count + 1) h
+        held-on = held-goes s.tree g before has 0 g used stays mine s.count (s.count + 1) h (omega arith) client.held
 
-      leads-on : (f : Fetching) (need : Need) → GoesAhead file.views kept filled f
-          → StepsTo s g before h now (Quiet ∷ []) More (going_on h.handles later f need d h) used
-      leads-on f need goes = record {
-        learned = g;
-        tree = s.tree;
-        model = at_stage (ModelReading 0) (doing_of d) mine;
-        copied = s.copied;
-        request = subst
-            (λ n. Request s g g before used h.id now (in_flight h) n (Quiet ∷ []) More s.tree
-            (at_stage (ModelReading 0) (doing_of d) mine) s.copied) idle
-            (get-request s g before has h.id yard now (doing_of d) (busy s g has client) offset len asks.does 0
-            (may s g has client) (in_flight h) name (Some bytes) gets);
-        is_client = client-on block h d offset len cache fetch (NeedsBlock b) asks h.handles file asks.reads.opened refl
-            g used mine (s.count + 1) held-on named-on kept cached-on later looks_up filled block-on fetching-on f need
-            goes;
-        no_failure = tt;
-        holds = record { opened = holds.opened; pending = holds.pending };
-      }
+        named-on : IsHandle g used mine.views (s.count + 1) handle (file_by file) file
+        named-on = handle-stays s.tree g before has 0 g used stays mine.views s.count (s.count + 1) (omega arith) handle
+            (file_by file) file (named s g has client)
 
-      leads-over : (found : Found)
+        cached-on : IsCacheOf g.sizes used.yard.setting.block g.blocks kept
+        cached-on = cache-goes s.tree g before has 0 g used stays (Some kept)
+            (cached-kept s g has client bytes kept gets fills.cache_is)
+
+        fetching-on : IsFetching g.blocks file.views (asked_parts offset len) filled
+        fetching-on = fills.reads g.blocks file.views (asked_parts offset len) (known s g has client bytes gets)
+            (fetching s g has client)
+
+        block-on : filled.block ≡ used.yard.setting.block
+        block-on = fills.block ∙ own_block s g has client ∙ sym (ap (λ (x : Setting). x.block) stays.setting)
+
+        idle : in_flight h ≡ 0
+        idle = none_flying h d asks.busy asks.at asks.none
+
+        leads-on : (f : Fetching) (need : Need) → GoesAhead file.views kept filled f
+            → StepsTo s g before h now (Quiet ∷ []) More (going_on h.handles later f need d h) used
+        leads-on f need goes = record {
+          learned = g;
+          tree = s.tree;
+          model = at_stage (ModelReading 0) (doing_of d) mine;
+          copied = s.copied;
+          request = subst
+              (λ n. Request s g g before used h.id now (in_flight h) n (Quiet ∷ []) More s.tree
+              (at_stage (ModelReading 0) (doing_of d) mine) s.copied) idle
+              (get-request s g before has h.id yard now (doing_of d) (busy s g has client) offset len asks.does 0
+              (may s g has client) (in_flight h) name (Some bytes) gets);
+          is_client = client-on block h d offset len cache fetch (NeedsBlock b) asks h.handles file asks.reads.opened refl
+              g used mine (s.count + 1) held-on named-on kept cached-on later looks_up filled block-on fetching-on f need
+              goes;
+          no_failure = tt;
+          holds = record { opened = holds.opened; pending = holds.pending };
+        }
+
+        leads-over : (found : Found)
+            → ((blocks : Blocks) (all : List Asked) → HasCached blocks file.views filled.block kept
+            → IsFetching blocks file.views all filled
+            → IsReadBy (told_by filled.block blocks) file.views all (read_of found))
+            → StepsTo s g before h now (Quiet ∷ Answered (told_read found) ∷ []) (Done (Data found.bytes))
+            (over h.handles later h) used
+        leads-over found read = record {
+          learned = g;
+          tree = s.tree;
+          model = after_told d.op (told_read found) mine;
+          copied = s.copied;
+          request = subst
+              (λ n. Request s g g before used h.id now (in_flight h) n (Quiet ∷ Answered (told_read found) ∷ [])
+              (Done (Data found.bytes)) s.tree (after_told d.op (told_read found) mine) s.copied) idle
+              (get-answered s g before has h.id yard now (doing_of d) (busy s g has client) offset len asks.does 0
+              (may s g has client) (in_flight h) name (Some bytes) gets (file_by file) (in_use s g has client) found.first
+              found.second found.bytes
+              (reading-is block h d offset len cache fetch (NeedsBlock b) asks h.handles file asks.reads.opened refl g used
+              mine (s.count + 1) held-on named-on kept cached-on later looks_up filled block-on fetching-on found read));
+          is_client = client-over block h d offset len cache fetch (NeedsBlock b) asks h.handles file asks.reads.opened
+              refl g used mine (s.count + 1) held-on named-on kept cached-on later looks_up (s.count + 2) (omega arith)
+              found;
+          no_failure = λ device. refl;
+          holds = holds-told d.op (told_read found) s.tree mine
+              (none-kept d.op handle offset len asks.reads.op_is found.first found.second (length found.bytes)) holds;
+        }
+
+      -- it goes on
+      pub get-on : (f : Fetching) (need : Need) → GoesAhead file.views kept filled f → Wants file.views f need
+          → need ≢ Nothing
+          → Makes now entry h (going_on h.handles later f need d h) before used (made.Request Quiet)
+      get-on f need goes wants more =
+          let can = goes.can (fills.can file.views asks.can) in
+          let few = goes.few in
+          let less = fills.falls in
+          record {
+            id = refl;
+            limits = refl;
+            ready = ready-on block h d offset len cache fetch (NeedsBlock b) asks h.handles file asks.reads.opened refl
+                later f need can wants more;
+            devices = uses-got (made.Request Quiet) before yard (λ device. refl) gets.0 tt;
+            falls = (
+              falls-on block h d offset len cache fetch (NeedsBlock b) asks h.handles file asks.reads.opened refl
+                  later f need can wants more (omega (arith, few, less)),
+              refl,
+            );
+            leads = λ s g number has holds client. leads-on s g has holds client f need goes;
+          }
+
+      -- or it is answered
+      pub get-over : (found : Found)
           → ((blocks : Blocks) (all : List Asked) → HasCached blocks file.views filled.block kept
           → IsFetching blocks file.views all filled
           → IsReadBy (told_by filled.block blocks) file.views all (read_of found))
-          → StepsTo s g before h now (Quiet ∷ Answered (told_read found) ∷ []) (Done (Data found.bytes))
-          (over h.handles later h) used
-      leads-over found read = record {
-        learned = g;
-        tree = s.tree;
-        model = after_told d.op (told_read found) mine;
-        copied = s.copied;
-        request = subst
-            (λ n. Request s g g before used h.id now (in_flight h) n (Quiet ∷ Answered (told_read found) ∷ [])
-            (Done (Data found.bytes)) s.tree (after_told d.op (told_read found) mine) s.copied) idle
-            (get-answered s g before has h.id yard now (doing_of d) (busy s g has client) offset len asks.does 0
-            (may s g has client) (in_flight h) name (Some bytes) gets (file_by file) (in_use s g has client) found.first
-            found.second found.bytes
-            (reading-is block h d offset len cache fetch (NeedsBlock b) asks h.handles file asks.reads.opened refl g used
-            mine (s.count + 1) held-on named-on kept cached-on later looks_up filled block-on fetching-on found read));
-        is_client = client-over block h d offset len cache fetch (NeedsBlock b) asks h.handles file asks.reads.opened
-            refl g used mine (s.count + 1) held-on named-on kept cached-on later looks_up (s.count + 2) (omega arith)
-            found;
-        no_failure = λ device. refl;
-        holds = holds-told d.op (told_read found) s.tree mine
-            (none-kept d.op handle offset len asks.reads.op_is found.first found.second (length found.bytes)) holds;
+          → Makes now entry h (over h.handles later h) before used (made.Both Quiet (told_read found) (Data found.bytes))
+      get-over found read = record {
+        id = refl;
+        limits = refl;
+        ready = record { buffer = asks.buffer; doing = tt };
+        devices = uses-got (made.Both Quiet (told_read found) (Data found.bytes)) before yard (λ device. refl) gets.0 tt;
+        falls = refl;
+        leads = λ s g number has holds client. leads-over s g has holds client found read;
       }
 
-    -- it goes on
-    pub get-on : (f : Fetching) (need : Need) → GoesAhead file.views kept filled f → Wants file.views f need
-        → need ≢ Nothing
-        → Makes now entry h (going_on h.handles later f need d h) before used (made.Request Quiet)
-    get-on f need goes wants more =
-        let can = goes.can (fills.can file.views asks.can) in
-        let few = goes.few in
-        let less = fills.falls in
-        record {
-          id = refl;
-          limits = refl;
-          ready = ready-on block h d offset len cache fetch (NeedsBlock b) asks h.handles file asks.reads.opened refl
-              later f need can wants more;
-          devices = uses-got (made.Request Quiet) before yard (λ device. refl) gets.0 tt;
-          falls = (falls-on block h d offset len cache fetch (NeedsBlock b) asks h.handles file asks.reads.opened refl
-              later f need can wants more (omega (arith, few, less)), refl);
-          leads = λ s g number has holds client. leads-on s g has holds client f need goes;
-        }
-
-    -- or it is answered
-    pub get-over : (found : Found)
-        → ((blocks : Blocks) (all : List Asked) → HasCached blocks file.views filled.block kept
-        → IsFetching blocks file.views all filled
-        → IsReadBy (told_by filled.block blocks) file.views all (read_of found))
-        → Makes now entry h (over h.handles later h) before used (made.Both Quiet (told_read found) (Data found.bytes))
-    get-over found read = record {
-      id = refl;
-      limits = refl;
-      ready = record { buffer = asks.buffer; doing = tt };
-      devices = uses-got (made.Both Quiet (told_read found) (Data found.bytes)) before yard (λ device. refl) gets.0 tt;
-      falls = refl;
-      leads = λ s g number has holds client. leads-over s g has holds client found read;
-    }
-
-    -- or memory ran out
-    pub get-out : Makes now entry h (over h.handles later h) before used
-        (made.Answer (ToldRefused NoMemory) (RefusedReply NoMemory))
-    get-out = failed now entry block h d offset len cache fetch (NeedsBlock b) asks before used
-        (same-gets before yard h.id name (Ok (Some bytes)) gets) NoMemory later cached-then refl
-        (uses-got (made.Answer (ToldRefused NoMemory) (RefusedReply NoMemory)) before yard (λ device. refl) gets.0 tt)
+      -- or memory ran out
+      pub get-out : Makes now entry h (over h.handles later h) before used
+          (made.Answer (ToldRefused NoMemory) (RefusedReply NoMemory))
+      get-out = failed now entry block h d offset len cache fetch (NeedsBlock b) asks before used
+          (same-gets before yard h.id name (Ok (Some bytes)) gets) NoMemory later cached-then refl
+          (uses-got (made.Answer (ToldRefused NoMemory) (RefusedReply NoMemory)) before yard (λ device. refl) gets.0 tt)
 
   -- ---- it didn't come
 

@@ -1,5 +1,5 @@
 -- Readings: how one begins, goes ahead without a request, and what it returns.
-use Rattle.std.proofs.Common.{◌≡◌, ◌≢◌, ℕ, zero, ◌+◌, ◌-◌, ◌*◌, ◌/◌, ◌≤◌, ◌<◌, Bool, true, false, List, [], ◌∷◌, length}
+use Rattle.std.proofs.Common.{◌≡◌, ℕ, zero, ◌+◌, ◌-◌, ◌*◌, ◌/◌, ◌≤◌, ◌<◌, true, false, List, [], length}
 use Rattle.std.proofs.Common.{suc, Option, None, Some, refl, sym, ap, subst, ◌∙◌, arith}
 use Rattle.std.specs.Prelude.{is_some, not, IfSome, IsSomeAnd, IsTrue, OnErr, Result, Ok, Err}
 use Rattle.std.specs.Option.{option_map}
@@ -8,7 +8,6 @@ use Rattle.jv_model.specs.declared.op.Op.TheVariants as op
 use Rattle.jv_model.specs.declared.profile.Does.{Does}
 use Rattle.jv_model.specs.declared.profile.Does.TheVariants as does
 use Rattle.jv_model.specs.client.ModelClient.{ModelClient, OpenFile, file_of}
-use Rattle.jv_model.specs.client.Pending.{PendingByte}
 use Rattle.jv_model.specs.client.Profile.{handle_of}
 use Rattle.jv_model.specs.client.Submission.{is_flushed}
 use Rattle.jv_model.specs.journal.Reading.{Asked, asked_parts, reading}
@@ -23,7 +22,7 @@ use Rattle.jv_handles.specs.Views.{SeenViews, view_at}
 use Rattle.jv_handles.proofs.HandleLaws.{handles-there}
 use Rattle.jv_fetching.specs.declared.need.Need.{Need}
 use Rattle.jv_fetching.specs.declared.need.Need.TheVariants.{Nothing}
-use Rattle.jv_fetching.specs.Fetching.{Fetching, begins, fetch_left, fetched_of}
+use Rattle.jv_fetching.specs.Fetching.{Fetching, begins, fetched_of}
 use Rattle.jv_fetching.specs.Going.{CanFetch, IsFetching}
 use Rattle.jv_fetching.specs.Calls.{AreSizedBy, HasCached, IsCacheOf, LooksUp, Wants, first_seen}
 use Rattle.jv_fetching.specs.Shows.{IsReadBy, One, Two}
@@ -41,8 +40,8 @@ use Rattle.jv_client.specs.ClientValue.{ClientValue}
 use Rattle.jv_client.specs.Held.{GoesOn, IsClient, IsHeld, flush_of_code, segment_left}
 use Rattle.jv_client.specs.UnderWay.{FlushesFor, Closes, Syncs, Describes, ReadsNothing, Reads, Truncates as CutsOff}
 use Rattle.jv_client.specs.UnderWay.{IsForm, Mounts, Transacts, Leaves, Writes, Flushes, Copies, TellsStats}
-use Rattle.jv_client.specs.UnderWay.{IsAt, IsReading, IsReady, IsUnderWay, asks_more, does_of, has_segment, left}
-use Rattle.jv_client.specs.UnderWay.{left_of, names_open, reading_steps, steps_in, steps_left, steps_of}
+use Rattle.jv_client.specs.UnderWay.{IsAt, IsReading, IsReady, IsUnderWay, does_of, has_segment, left}
+use Rattle.jv_client.specs.UnderWay.{left_of, reading_steps, steps_in, steps_left, steps_of}
 use Rattle.jv_client.specs.Reading.{Begins, ClientComesTo, ComesTo, GoesAhead, IsAhead, IsCachedAs, IsMade}
 use Rattle.jv_client.specs.Reading.{OnlyLooksUp, ReadsAtOnce, need_at, need_in}
 use Rattle.jv_client.specs.Reading.{put_at, read_of}
@@ -290,8 +289,7 @@ module _ (offset len block : ℕ) (h : ClientValue) (d : Doing) (busy : h.doing 
           let fetching : IsFetching g.blocks on.file.views (asked_parts offset len) fetch =
           goes.reads g.blocks (asked_parts offset len) (reads-on g.sizes g.blocks sized known) (begins-well g.blocks) in
           let asked : IsFetching g.blocks on.file.views (asked_of d.does) fetch =
-          subst (λ (x : Does). IsFetching g.blocks on.file.views (asked_of x) fetch) (sym is) fetching in
-          (
+          subst (λ (x : Does). IsFetching g.blocks on.file.views (asked_of x) fetch) (sym is) fetching in (
             subst (λ (o : Option Handle). IsSomeAnd o (λ (handle : Handle). (fetch.block ≡ v.yard.setting.block)
                 × IsFetching g.blocks handle.views (asked_of d.does) fetch)) (sym opened) (goes.block ∙ sym same, asked),
             later-knows g.sizes v.yard.setting.block g.blocks client.cache,
@@ -427,8 +425,7 @@ module _ (h middle after : ClientValue) (made : Option Cached) (is_made : IsMade
           cache = Some looks.later;
           doing = option_map (put_at (Reading fetch next)) o;
         }) here.busy in
-        subst (λ (c : ClientValue). IsAhead block h c × IsReady c) (sym is)
-        (
+        subst (λ (c : ClientValue). IsAhead block h c × IsReady c) (sym is) (
           begins-ahead offset len block h d here.busy here.does_is ready none first here.file looks.cache looks.later has_cache
               looks.looks fetch next to,
           begins-ready offset len block h d here.busy here.does_is ready none first here.file looks.cache looks.later has_cache

@@ -1,12 +1,11 @@
 -- A reading that asks for nothing is answered with what its views show, or with the memory that it lacks.
-use Rattle.std.proofs.Common.{◌≡◌, ℕ, ◌+◌, ◌≤◌, ◌/◌, ◌||◌, not, Bool, true, false, List, [], ◌∷◌, length, Option, None, Some}
+use Rattle.std.proofs.Common.{◌≡◌, ℕ, ◌+◌, not, true, false, [], ◌∷◌, length, Option, None, Some}
 use Rattle.std.proofs.Common.{refl, sym, ap, subst, ◌∙◌, arith}
-use Rattle.std.specs.Prelude.{is_some, IfSome, IsSomeAnd, IsTrue}
+use Rattle.std.specs.Prelude.{is_some, IfSome}
 use Rattle.std.proofs.lemmas.Bool.{false_from_ne_true, or_from}
-use Rattle.jv_model.specs.declared.limits.TheConstants.{WINDOW}
 use Rattle.jv_model.specs.declared.act.ActKind.TheVariants.{Answered}
 use Rattle.jv_model.specs.declared.act.Told.{Told}
-use Rattle.jv_model.specs.declared.act.Told.TheVariants.{Looks, Refused as ToldRefused}
+use Rattle.jv_model.specs.declared.act.Told.TheVariants.{Refused as ToldRefused}
 use Rattle.jv_model.specs.declared.fault.Device.{Device}
 use Rattle.jv_model.specs.declared.fault.Fault.TheVariants.{NoMemory}
 use Rattle.jv_model.specs.declared.op.Reply.{Reply}
@@ -14,17 +13,15 @@ use Rattle.jv_model.specs.declared.op.Reply.TheVariants.{Data, Refused as Refuse
 use Rattle.jv_model.specs.declared.op.Step.TheVariants.{Done}
 use Rattle.jv_model.specs.declared.profile.Does.{Does}
 use Rattle.jv_model.specs.declared.profile.Does.TheVariants as does
-use Rattle.jv_model.specs.client.ModelClient.{ModelClient, Doing as ModelDoing, Working as ModelWorking, file_of}
+use Rattle.jv_model.specs.client.ModelClient.{ModelClient, Doing as ModelDoing, file_of}
 use Rattle.jv_model.specs.client.Profile.{handle_of}
-use Rattle.jv_model.specs.journal.Reading.{asked_parts, reading}
-use Rattle.jv_model.specs.journal.State.{State, after_told}
-use Rattle.jv_model.specs.journal.Steps.{Start}
+use Rattle.jv_model.specs.journal.Reading.{asked_parts}
+use Rattle.jv_model.specs.journal.State.{State}
 use Rattle.jv_cache.specs.Cached.{Cached}
 use Rattle.jv_contents.specs.Blocks.{Blocks, told_by}
 use Rattle.jv_shared.specs.Shared.{HasStore, Known, Shared}
 use Rattle.jv_shared.proofs.SameLaws.{same-none, same-stays}
 use Rattle.jv_handles.specs.declared.handle.Handle.{Handle}
-use Rattle.jv_handles.specs.Views.{view_at}
 use Rattle.jv_fetching.specs.Calls.{IsCacheOf}
 use Rattle.jv_fetching.specs.Shows.{IsReadBy}
 use Rattle.jv_steps.specs.IsStep.{IsStep}
@@ -39,16 +36,16 @@ use Rattle.jv_client.specs.declared.made.Made.TheVariants as made
 use Rattle.jv_client.specs.declared.reading.Found.{Found}
 use Rattle.jv_client.specs.ClientValue.{ClientValue}
 use Rattle.jv_client.specs.Ending.{ended}
-use Rattle.jv_client.specs.Held.{GoesOn, Holds, IsClient, IsHeld, in_flight, stage_of}
+use Rattle.jv_client.specs.Held.{GoesOn, IsClient, IsHeld, in_flight, stage_of}
 use Rattle.jv_client.specs.Makes.{Makes, tells_failure}
 use Rattle.jv_client.specs.Transacting.{Fails}
-use Rattle.jv_client.specs.UnderWay.{IsReady, IsUnderWay, asks_more, has_more, has_not_seen, has_segment, left}
-use Rattle.jv_client.specs.Reading.{IsCachedAs, ReadsAtOnce, Shows, need_in, read_of, shown, told_read}
+use Rattle.jv_client.specs.UnderWay.{IsReady, asks_more, does_of, has_more, has_not_seen, has_segment, left}
+use Rattle.jv_client.specs.Reading.{Begins, IsAhead, IsCachedAs, ReadsAtOnce, Shows, need_in, read_of, told_read}
 use Rattle.jv_client.proofs.HeldLaws.{client-doing, doing_of, holds-doing}
 use Rattle.jv_client.proofs.KeptLaws.{client-ended}
 use Rattle.jv_client.proofs.AnswerLaws.{makes-as, makes-ended, not_ending, request-lands, uses-none}
 use Rattle.jv_client.proofs.ReadingLaws.{NotBegun, ReadsFile, flushed-here, flushed-model, not-begun, reads-as, reads-file}
-use Rattle.jv_client.proofs.ReadingLaws.{seen_first, seen_window, sized-here, there, under}
+use Rattle.jv_client.proofs.ReadingLaws.{reads-here, seen_first, seen_window, sized-here, there, under}
 
 -- ---- a client with another cache
 
@@ -148,48 +145,48 @@ module _ (now entry offset len : ℕ) (h middle : ClientValue) (d : Doing) (busy
   not_begun = not-begun h d (under h d busy ready) (flushed-here h d busy none) (ap need_in (sym busy) ∙ first)
 
   module _ (s : State) (g : Known) (store : HasStore s.tree g v) (client : IsClient g v (s.clients h.id) s.count h)
-      where
-    abbrev mine : ModelClient
-    mine = s.clients h.id
+    where
+      abbrev mine : ModelClient
+      mine = s.clients h.id
 
-    abbrev model : ModelDoing
-    model = doing_of d
+      abbrev model : ModelDoing
+      model = doing_of d
 
-    read : IsReadBy (told_by v.yard.setting.block g.blocks) on.file.views (asked_parts offset len) (read_of found)
-    read = reads.read d on.file g.sizes g.blocks busy opened
-        (sized-here g v mine s.count h client.held (handle_of d.op) on.file opened) client.cache
+      read : IsReadBy (told_by v.yard.setting.block g.blocks) on.file.views (asked_parts offset len) (read_of found)
+      read = reads.read d on.file g.sizes g.blocks busy opened
+          (sized-here g v mine s.count h client.held (handle_of d.op) on.file opened) client.cache
 
-    -- it made no request: the first window was seen
-    seen : asks_more h d ≡ false
-    seen =
-        ap (λ (x : Does). asks_more h (record d { does = x })) is
-        ∙ ap (λ (o : Option Handle). has_not_seen offset o) opened
-        ∙ ap not (seen_window on.file.views offset len on.some on.low
-        (seen_first (told_by v.yard.setting.block g.blocks) on.file.views (asked_parts offset len) (read_of found) read))
+      -- it made no request: the first window was seen
+      seen : asks_more h d ≡ false
+      seen =
+          ap (λ (x : Does). asks_more h (record d { does = x })) is
+          ∙ ap (λ (o : Option Handle). has_not_seen offset o) opened
+          ∙ ap not (seen_window on.file.views offset len on.some on.low
+          (seen_first (told_by v.yard.setting.block g.blocks) on.file.views (asked_parts offset len) (read_of found) read))
 
-    still : d.has_moved ≡ false
-    still = false_from_ne_true d.has_moved (λ moved.
-        let asks : has_more h d d.progress ≡ true = (under h d busy ready).asks moved in
-        let nothing : has_more h d d.progress ≡ false =
-        ap (λ (p : Progress). has_more h d p) not_begun.progress
-        ∙ or_from (has_segment h d) (asks_more h d) (ap is_some (flushed-here h d busy none)) seen in
-        absurd (cc (sym asks ∙ nothing)))
+      still : d.has_moved ≡ false
+      still = false_from_ne_true d.has_moved (λ moved.
+          let asks : has_more h d d.progress ≡ true = (under h d busy ready).asks moved in
+          let nothing : has_more h d d.progress ≡ false =
+          ap (λ (p : Progress). has_more h d p) not_begun.progress
+          ∙ or_from (has_segment h d) (asks_more h d) (ap is_some (flushed-here h d busy none)) seen in
+          absurd (cc (sym asks ∙ nothing)))
 
-    read-request : Request s g g v v h.id now (in_flight h) (in_flight h) (Answered (told_read found) ∷ [])
-        (Done (Data found.bytes)) s.tree (record mine { doing = None }) s.copied
-    read-request =
-        let file = there g v mine s.count h client.held (handle_of d.op) on.file opened in
-        still-request s g v v store (same-none v) h.id now (in_flight h) (Answered (told_read found) ∷ [])
-        (Done (Data found.bytes)) (record mine { doing = None })
-        (λ start alone.
-        subst (λ c. IsStep start alone s h.id now (Answered (told_read found) ∷ []) (Done (Data found.bytes)) s.tree c
-        s.copied)
-        (told-read d.op on.handle offset len found.first found.second (length found.bytes) mine on.op_is)
-        (read-answered_alone start alone s h.id now model (client-doing g v mine s.count h d busy client) offset len is
-        file.0 file.1 found.first found.second found.bytes not_begun.started (ap stage_of not_begun.progress)
-        (flushed-model g v mine s.count h d client.held busy none) still
-        (reads-as g v mine s.count h client.held (handle_of d.op) on.file opened offset len (read_of found) on.some
-        on.low on.long read)))
+      read-request : Request s g g v v h.id now (in_flight h) (in_flight h) (Answered (told_read found) ∷ [])
+          (Done (Data found.bytes)) s.tree (record mine { doing = None }) s.copied
+      read-request =
+          let file = there g v mine s.count h client.held (handle_of d.op) on.file opened in
+          still-request s g v v store (same-none v) h.id now (in_flight h) (Answered (told_read found) ∷ [])
+          (Done (Data found.bytes)) (record mine { doing = None })
+          (λ start alone.
+          subst (λ c. IsStep start alone s h.id now (Answered (told_read found) ∷ []) (Done (Data found.bytes)) s.tree c
+          s.copied)
+          (told-read d.op on.handle offset len found.first found.second (length found.bytes) mine on.op_is)
+          (read-answered_alone start alone s h.id now model (client-doing g v mine s.count h d busy client) offset len is
+          file.0 file.1 found.first found.second found.bytes not_begun.started (ap stage_of not_begun.progress)
+          (flushed-model g v mine s.count h d client.held busy none) still
+          (reads-as g v mine s.count h client.held (handle_of d.op) on.file opened offset len (read_of found) on.some
+          on.low on.long read)))
 
   pub shows-reading : (after : ClientValue) (done : Made) → Shows None found middle after done
       → Makes now entry h after v v done
@@ -199,3 +196,32 @@ module _ (now entry offset len : ℕ) (h middle : ClientValue) (d : Doing) (busy
       (shows.after_is ∙ ap ended reads.same.after_is) refl shows.made_is
       (answered-alone now entry h ready v reads.same.cache reads.same.knows (told_read found) (Data found.bytes)
       (λ device. refl) (λ s g store is. read-request s g store is))
+
+-- ---- from what a reading that begins comes to
+
+module _ (offset len block : ℕ) (h middle : ClientValue) (result : Option Found)
+    (begins : Begins offset len block h middle result) where
+  -- it needs something
+  pub begun-ahead : (other : ℕ) → block ≡ other → result ≡ None → IsAhead other h middle
+  begun-ahead other same is =
+      let to : Begins offset len block h middle None = subst (Begins offset len block h middle) is begins in
+      subst (λ n. IsAhead n h middle) same to.0
+
+  -- or it is answered
+  pub begun-shows : (now entry : ℕ) (after : ClientValue) (v : Shared) (done : Made) (found : Found)
+      → does_of h.doing ≡ Some (does.Reads offset len) → IsReady h → left h ≡ None → need_in h.doing ≡ None
+      → block ≡ v.yard.setting.block → result ≡ Some found → Shows None found middle after done
+      → Makes now entry h after v v done
+  begun-shows now entry after v done found does ready none first same is shows =
+      let here = reads-here h offset len does ready in
+      let to : ReadsAtOnce offset len block h middle found = subst (Begins offset len block h middle) is begins in
+      shows-reading now entry offset len h middle here.d here.busy here.does_is ready none first v found
+      (subst (λ n. ReadsAtOnce offset len n h middle found) same to) after done shows
+
+-- or memory ran out
+pub begun-fails : (now entry offset len : ℕ) (h middle after : ClientValue) (v : Shared) (done : Made)
+    → does_of h.doing ≡ Some (does.Reads offset len) → IsReady h → IsCachedAs h middle
+    → Fails NoMemory middle after done → Makes now entry h after v v done
+begun-fails now entry offset len h middle after v done does ready same fails =
+    let here = reads-here h offset len does ready in
+    fails-reading now entry h middle after here.d here.busy ready v done same fails

@@ -1,5 +1,6 @@
-use Rattle.std.proofs.Common.{refl}
+use Rattle.std.proofs.Common.{refl, ap, ◌∙◌}
 use Rattle.jv_yard.specs.declared.faults.YardFault.TheVariants.{Memory}
+use Rattle.jv_yard.specs.Contents.{name_in}
 use Rattle.jv_client.specs.Getting.{Refused}
 use Rattle.jv_client.proofs.GettingLaws.{reads-refused, reads-value}
 use Rattle.jv_client.proofs.reading.read_block.Goals as goal
@@ -9,10 +10,12 @@ returns-in_default-clause-read g c = Refused Memory refl refl
 
 pub returns-in-Ok-get_block-clause-read : goal.returns-in-Ok-get_block-clause-read
 returns-in-Ok-get_block-clause-read g c =
-    reads-value c.args.client _ _ _ _ c.in-Ok.ensures c.in-Ok-get_block.value c.block_in.result c.in-Ok-get_block.ensures
-    c.block_in.ensures
+    reads-value c.args.client c.args.block _ _ _
+    (c.in-Ok.ensures ∙ ap (λ setting. name_in setting c.args.block) c.setting.ensures)
+    c.in-Ok-get_block.value c.block_in.result c.in-Ok-get_block.ensures c.block_in.ensures
 
 pub returns-clause-read : goal.returns-clause-read
 returns-clause-read g c =
-    reads-refused c.args.client _ _ _ _ c.in-Ok.ensures c.in-Err.fault c.fault_of.result c.in-Err.ensures
-    c.fault_of.ensures
+    reads-refused c.args.client c.args.block _ _ _
+    (c.in-Ok.ensures ∙ ap (λ setting. name_in setting c.args.block) c.setting.ensures)
+    c.in-Err.fault c.fault_of.result c.in-Err.ensures c.fault_of.ensures

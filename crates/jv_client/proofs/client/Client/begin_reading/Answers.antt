@@ -1,5 +1,5 @@
 -- A reading begins, and goes ahead as far as it wants no request.
-use Rattle.std.proofs.Common.{◌≡◌, Option, Some, sym, ap, subst, ◌∙◌}
+use Rattle.std.proofs.Common.{◌≡◌, Option, sym, ap, subst, ◌∙◌}
 use Rattle.std.specs.Option.{option_map}
 use Rattle.jv_cache.specs.Cached.{Cached}
 use Rattle.jv_client.specs.declared.doing.Progress.TheVariants.{Reading}
