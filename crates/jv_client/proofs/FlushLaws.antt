@@ -1,10 +1,9 @@
 -- The requests of a flush before its commit, for the number of a segment's slice and for each of its blocks, and what refuses
 -- them.
-use Rattle.std.proofs.Common.{◌≡◌, ℕ, suc, ◌+◌, ◌-◌, ◌*◌, ◌≤◌, ◌<◌, Bool, true, false, ◌||◌, ◌==◌, IsTrue, [], ◌∷◌, length, Option, None}
-use Rattle.std.proofs.Common.{Some, Result, Ok, Err, refl, sym, ap, subst, ◌∙◌, arith}
-use Rattle.std.specs.Prelude.{IfSome, IsSome, List, if◌then◌else◌, is_some, unwrap_or}
+use Rattle.std.proofs.Common.{◌≡◌, ℕ, ◌+◌, ◌-◌, ◌*◌, ◌≤◌, ◌<◌, ◌||◌, IsTrue, [], ◌∷◌, length, Option}
+use Rattle.std.proofs.Common.{Some, Ok, Err, refl, sym, ap, subst, ◌∙◌, arith}
+use Rattle.std.specs.Prelude.{IfSome, IsSome, List, is_some, unwrap_or}
 use Rattle.std.specs.Option.{option_map}
-use Rattle.jv_model.specs.declared.limits.TheConstants.{WINDOW}
 use Rattle.jv_model.specs.declared.act.ActKind.TheVariants.{Answered, Quiet}
 use Rattle.jv_model.specs.declared.act.Told.TheVariants.{Refused as ToldRefused}
 use Rattle.jv_model.specs.declared.fault.RowFault.TheVariants.{Bad, Failed, Memory}
@@ -33,11 +32,11 @@ use Rattle.jv_client.specs.declared.made.Made.{Made}
 use Rattle.jv_client.specs.declared.made.Made.TheVariants.{Request as AsksFor}
 use Rattle.jv_client.specs.ClientValue.{ClientValue, session_here}
 use Rattle.jv_client.specs.Flushing.{bytes_of}
-use Rattle.jv_client.specs.Held.{IsClient, IsHeld, IsOnWay, Holds, flight_by, flight_from, flight_of, flush_of_code}
+use Rattle.jv_client.specs.Held.{IsClient, IsOnWay, flight_by, flush_of_code}
 use Rattle.jv_client.specs.Held.{in_flight, number_of, segment_left, stage_of}
 use Rattle.jv_client.specs.UnderWay.{IsReady, IsWorking, has_segment, asks_more, left, moved_to, progress_of, reading_steps}
 use Rattle.jv_client.specs.UnderWay.{steps_in}
-use Rattle.jv_client.specs.Makes.{Makes, StepsTo, UsesDevices}
+use Rattle.jv_client.specs.Makes.{Makes, UsesDevices}
 use Rattle.jv_client.specs.Transacting.{EndsUnmade}
 use Rattle.jv_handles.proofs.TableLaws.{the_some}
 use Rattle.jv_client.proofs.HeldLaws.{client-doing, doing_of, holds-doing}

@@ -1,6 +1,6 @@
 -- A request after which the operation in progress goes on: what the client itself has to show for it, and what is left
 -- to show of the model.
-use Rattle.std.proofs.Common.{◌≡◌, ℕ, suc, ◌+◌, ◌-◌, ◌≤◌, ◌<◌, true, ◌||◌, IsTrue, [], ◌∷◌, length, Option, None, Some}
+use Rattle.std.proofs.Common.{◌≡◌, ℕ, ◌+◌, ◌-◌, ◌≤◌, ◌<◌, IsTrue, [], ◌∷◌, length, Option, None, Some}
 use Rattle.std.proofs.Common.{refl, sym, ap, subst, ◌∙◌, arith}
 use Rattle.std.specs.Prelude.{IfSome, List, is_some}
 use Rattle.jv_model.specs.declared.basics.Limits.{Limits}
@@ -118,9 +118,9 @@ module _ (now entry : ℕ) (h after : ClientValue) (d : Doing) (p : Progress) (k
     devices = uses;
     falls = (
       (let now_left : steps_left after ≡ steps_in (length after.pending) asked =
-      ap (steps_of (length after.pending)) is in
-      let was_left : steps_left h ≡ steps_in (length h.pending) d = ap (steps_of (length h.pending)) busy in
-      omega (arith, now_left, was_left, fewer)),
+          ap (steps_of (length after.pending)) is in
+          let was_left : steps_left h ≡ steps_in (length h.pending) d = ap (steps_of (length h.pending)) busy in
+          omega (arith, now_left, was_left, fewer)),
       ap is_some is,
     );
     leads = leads;

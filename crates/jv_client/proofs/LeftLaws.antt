@@ -1,12 +1,11 @@
 -- What an operation still has to commit: its next segment, and the slice in flight that this gets.
-use Rattle.std.proofs.Common.{◌≡◌, ℕ, zero, suc, ◌+◌, ◌≤◌, ◌<◌, Bool, true, false, cond, List, [], ◌∷◌, length, filter}
+use Rattle.std.proofs.Common.{◌≡◌, ℕ, zero, suc, ◌+◌, ◌≤◌, ◌<◌, Bool, true, false, List, [], ◌∷◌, length, filter}
 use Rattle.std.proofs.Common.{Option, None, Some, refl, sym, ap, subst, ◌∙◌, arith}
 use Rattle.std.specs.Prelude.{◌==◌, ◌%◌, if◌then◌else◌}
 use Rattle.jv_model.specs.client.Pending.{PendingByte, Segment, first_segment, pending_of, run_length, stands_at}
 use Rattle.jv_model.specs.client.Pending.{window_size}
 use Rattle.jv_model.specs.client.ModelClient.{Flush as ModelFlush, OfFiles, OfAll}
 use Rattle.jv_model.specs.client.Submission.{next_segment, segment_of_files}
-use Rattle.jv_contents.specs.Flights.{Flight}
 use Rattle.jv_client.specs.declared.doing.Doing.{Doing}
 use Rattle.jv_client.specs.declared.doing.Flush.{Flush}
 use Rattle.jv_client.specs.declared.doing.Progress.{Progress}

@@ -1,8 +1,8 @@
 -- The request of a flush for one block of its segment's slice: the block is put, and the slice goes on being in flight; or the
 -- carrier or the depot fails, and the operation ends.
-use Rattle.std.proofs.Common.{◌≡◌, ℕ, suc, ◌+◌, ◌-◌, ◌*◌, ◌≤◌, ◌<◌, Bool, true, false, ◌==◌, List, [], ◌∷◌, length, Option}
-use Rattle.std.proofs.Common.{None, Some, Result, Ok, Err, refl, sym, ap, subst, ◌∙◌, arith}
-use Rattle.std.specs.Prelude.{IsTrue, if◌then◌else◌}
+use Rattle.std.proofs.Common.{◌≡◌, ℕ, suc, ◌+◌, ◌-◌, ◌≤◌, ◌<◌, ◌==◌, List, [], ◌∷◌, length, Option}
+use Rattle.std.proofs.Common.{Some, Result, Ok, Err, refl, sym, ap, subst, ◌∙◌, arith}
+use Rattle.std.specs.Prelude.{if◌then◌else◌}
 use Rattle.std.specs.Option.{option_map}
 use Rattle.std.proofs.lemmas.Nat.{mul-le}
 use Rattle.jv_model.specs.declared.limits.TheConstants.{WINDOW}
@@ -39,7 +39,7 @@ use Rattle.jv_client.specs.declared.made.Made.{Made}
 use Rattle.jv_client.specs.declared.made.Made.TheVariants.{Answer, Request as AsksFor}
 use Rattle.jv_client.specs.ClientValue.{ClientValue}
 use Rattle.jv_client.specs.Flushing.{bytes_of}
-use Rattle.jv_client.specs.Held.{IsClient, IsOnWay, flight_of, flush_of_code, in_flight, number_of, stage_of}
+use Rattle.jv_client.specs.Held.{IsClient, IsOnWay, flight_of, flush_of_code, number_of, stage_of}
 use Rattle.jv_client.specs.UnderWay.{IsAt, IsReady, left, moved_to, progress_of}
 use Rattle.jv_client.specs.Makes.{Makes, UsesDevices, faults_of, tells_failure}
 use Rattle.jv_client.specs.Transacting.{Fails}
@@ -257,15 +257,12 @@ module _ (now entry : ℕ) (h after : ClientValue) (before : Shared) (yard : Yar
         → Makes now entry h after before (record before { yard = yard; carrier = carrier }) done
     block-put long short block there puts moment moment_is after_is done_is =
         let d = in_progress h.doing (Working quiets started id) at in
-        let progress : ℕ → Progress = λ moment. Working (quiets + 1) moment id in
-        makes-as now entry h after
-        (record h { doing = Some (moved_to (progress (if quiets == 1 then now else started)) d.0) }) before
-        (record before { yard = yard; carrier = carrier }) (record before { yard = yard; carrier = carrier }) done
-        (AsksFor Quiet)
-        (after_is
-        ∙ ap (λ moment. record h { doing = option_map (moved_to (progress moment)) h.doing }) moment_is
-        ∙ ap (λ (o : Option Doing). record h { doing = option_map (moved_to (progress
-        (if quiets == 1 then now else started))) o }) d.1)
+        let first : ℕ = if quiets == 1 then now else started in
+        let moved : ℕ → Option Doing → ClientValue =
+        λ moment o. record h { doing = option_map (moved_to (Working (quiets + 1) moment id)) o } in
+        makes-as now entry h after (moved first (Some d.0)) before (record before { yard = yard; carrier = carrier })
+        (record before { yard = yard; carrier = carrier }) done (AsksFor Quiet)
+        (after_is ∙ ap (λ moment. moved moment h.doing) moment_is ∙ ap (moved first) d.1)
         refl done_is
         (puts_block now entry h d.0 before yard carrier segment quiets (quiets - 1) started id d.1 ready next d.2 one_less
         (ap length (sym bytes_are) ∙ long) short block there (puts_same (Ok tt) puts))
