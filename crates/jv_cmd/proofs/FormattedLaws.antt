@@ -12,12 +12,13 @@ use Rattle.jv_model.specs.rows.RowGrammar.{is_node, is_setting, setting_bytes, c
 use Rattle.jv_model.specs.rows.RowKeys.{row_key, RowMap}
 use Rattle.jv_model.specs.rows.RowPlaces.{setting_key, counters_key, node_key, slice_key}
 use Rattle.jv_model.proofs.FiniteMapLaws.{get-empty_map, same_maps}
+use Rattle.jv_model.proofs.TreeComputes.{maps_compute}
 use Rattle.jv_outside.specs.Blocks.{StagedMap, staged_at, staged_key}
 use Rattle.jv_outside.specs.Holding.{Holding}
 use Rattle.jv_outside.specs.Objects.{ObjectMap, bytes_at}
 use Rattle.jv_outside.specs.Rows.{applied}
 use Rattle.jv_volume.specs.TypedRows.{Cell, Rows, typed}
-use Rattle.jv_volume.specs.Views.{row_in, setting_at, slice_in, slice_row_at}
+use Rattle.jv_volume.specs.Views.{row_in, setting_at, setting_in, slice_in, slice_row_at}
 use Rattle.jv_volume.specs.Whole.{Whole}
 use Rattle.jv_volume.proofs.FreshWholeLaws.{first_rows, whole-first_rows}
 use Rattle.jv_volume.proofs.TypedLaws.{typed-insert-row}
@@ -132,8 +133,13 @@ module _ (setting : Setting) (at : ℕ) (widths : SettingWidths setting) (allowe
       ∙ four_rows (Ok (OfSetting setting)) (Ok (OfCounters fresh_counters))
       (Ok (OfNode (fresh_directory root_mode at))) (Ok (OfNode (fresh_directory trash_mode at)))
 
+  setting_first : get (first_rows setting at) setting_key ≡ Some (Ok (OfSetting setting))
+  unfolding maps_compute
+  setting_first = refl
+
   setting_formatted : setting_at (typed (formatted setting at)) ≡ Some setting
-  setting_formatted = ap setting_at typed_formatted
+  setting_formatted = ap (λ (rows : Rows). setting_in (row_in (get rows setting_key))) typed_formatted
+      ∙ ap (λ cell. setting_in (row_in cell)) setting_first
 
   -- no slice has a row
   no_slices : (id : ℕ) → slice_row_at (typed (formatted setting at)) id ≡ None
