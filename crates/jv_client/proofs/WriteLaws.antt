@@ -109,9 +109,11 @@ module _ (h : ClientValue) (d : Doing) (busy : h.doing ≡ Some d) (ready : IsRe
       let room = beside in
       let short = the_write.short in
       let few = ap length same_bytes in
-      subst (λ (o : Op). MayKeep o handles pending) (sym the_write.op_is)
-      (ap (λ handles. is_some (file_of handles the_write.handle)) same_handles ∙ ap is_some the_write.opened,
-      short, omega (arith, room, few, limit))
+      subst (λ (o : Op). MayKeep o handles pending) (sym the_write.op_is) (
+        ap (λ handles. is_some (file_of handles the_write.handle)) same_handles ∙ ap is_some the_write.opened,
+        short,
+        omega (arith, room, few, limit),
+      )
 
   write_alone : (now entry : ℕ) (v : Shared)
       → Makes now entry h (wrote the_write.handle the_write.offset the_write.bytes h) v v
@@ -125,18 +127,18 @@ module _ (h : ClientValue) (d : Doing) (busy : h.doing ≡ Some d) (ready : IsRe
       answers-makes now entry h (wrote w.handle w.offset w.bytes h) v (Fine count 0 0 0) (Count count) ready
       (record { id = refl; limits = refl; idle = refl }) (λ device. refl)
       (λ s g store holds is.
-          let c = s.clients h.id in
-          record {
-            model = model_wrote w.handle w.offset w.bytes c;
-            steps = λ start alone.
-                written-at_once start alone s h.id now (doing_of d) (client-doing g v c s.count h d busy is) done.started
-                done.stage (flushed-same h d c.pending none is.held.pending) done.first w.handle w.offset w.bytes w.op_is
-                count w.does_is;
-            is_client = wrote-client c h w.handle w.offset w.bytes g v (s.count + 1)
-                (held-goes s.tree g v store 0 g v (stays-none 0 g v) c s.count (s.count + 1) h (omega arith) is.held)
-                is.cache;
-            holds = wrote-holds c h w.handle w.offset w.bytes s.tree g v s.count w.file is.held w.opened holds;
-          })
+      let c = s.clients h.id in
+      record {
+        model = model_wrote w.handle w.offset w.bytes c;
+        steps = λ start alone.
+            written-at_once start alone s h.id now (doing_of d) (client-doing g v c s.count h d busy is) done.started
+            done.stage (flushed-same h d c.pending none is.held.pending) done.first w.handle w.offset w.bytes w.op_is
+            count w.does_is;
+        is_client = wrote-client c h w.handle w.offset w.bytes g v (s.count + 1)
+            (held-goes s.tree g v store 0 g v (stays-none 0 g v) c s.count (s.count + 1) h (omega arith) is.held)
+            is.cache;
+        holds = wrote-holds c h w.handle w.offset w.bytes s.tree g v s.count w.file is.held w.opened holds;
+      })
 
   pub write_kept : (now entry : ℕ) (after : ClientValue) (v : Shared) (count : ℕ) (handles : List (Option Handle))
       (before pending : PendingValue) → handles ≡ h.handles → before.bytes ≡ h.pending
