@@ -66,22 +66,22 @@ module _ (now entry : ℕ) (h after : ClientValue) (v : Shared) (told : Told) (s
       makes-ended now entry h after v v (made.Answer told said) said refl ready rests
       (uses-none (made.Answer told said) v calm tt)
       (λ s g count store holds is.
-          let w = well s g store holds is in
-          let mine = in_flight h in
-          let kinds = IsAnswered told ∷ [] in
-          record {
-            learned = g;
-            tree = s.tree;
-            model = w.model;
-            copied = s.copied;
-            request = subst (λ n. Request s g g v v h.id now mine n kinds (Done said) s.tree w.model s.copied)
-                (sym (rests-flight h after rests))
-                (request-lands s g g v v h.id now mine mine kinds (Done said) s.tree w.model s.copied
-                (still-request s g v v store (same-none v) h.id now mine kinds (Done said) w.model w.steps));
-            is_client = w.is_client;
-            no_failure = tt;
-            holds = w.holds;
-          })
+      let w = well s g store holds is in
+      let mine = in_flight h in
+      let kinds = IsAnswered told ∷ [] in
+      record {
+        learned = g;
+        tree = s.tree;
+        model = w.model;
+        copied = s.copied;
+        request = subst (λ n. Request s g g v v h.id now mine n kinds (Done said) s.tree w.model s.copied)
+            (sym (rests-flight h after rests))
+            (request-lands s g g v v h.id now mine mine kinds (Done said) s.tree w.model s.copied
+            (still-request s g v v store (same-none v) h.id now mine kinds (Done said) w.model w.steps));
+        is_client = w.is_client;
+        no_failure = tt;
+        holds = w.holds;
+      })
 
 -- ---- of an operation that is at its first step after its flush
 
@@ -134,19 +134,19 @@ module _ (now entry : ℕ) (h : ClientValue) (v : Shared) (d : Doing) (busy : h.
       let told = Fine 0 0 0 0 in
       answers-makes now entry h (told_here d.op told h) v told reply.Done ready (told-rests d.op told h) (λ device. refl)
       (λ s g store holds is.
-          let c = s.clients h.id in
-          let last_too = is_last-same g v c s.count h is.held handle ∙ last in
-          let left : ModelClient = record c { handles = with_file handle None c.handles; doing = None } in
-          told-well h d v told reply.Done (ap (λ o. keeps_bytes o told) of_op) s g store holds is now left
-          (ap (λ o. after_told o told c) of_op
-          ∙ ap (λ b. record c {
-            handles = with_file handle None c.handles;
-            sustained = (if b then filter (λ inode. not (inode == inode_at c handle)) c.sustained else c.sustained);
-            doing = None;
-          }) last_too)
-          (λ start alone. closed-at_once start alone s h.id now (doing_of d)
-          (client-doing g v c s.count h d busy is) done.started done.stage (flushed s g is) done.first handle of_op
-          of_does last_too))
+      let c = s.clients h.id in
+      let last_too = is_last-same g v c s.count h is.held handle ∙ last in
+      let left : ModelClient = record c { handles = with_file handle None c.handles; doing = None } in
+      told-well h d v told reply.Done (ap (λ o. keeps_bytes o told) of_op) s g store holds is now left
+      (ap (λ o. after_told o told c) of_op
+      ∙ ap (λ b. record c {
+        handles = with_file handle None c.handles;
+        sustained = (if b then filter (λ inode. not (inode == inode_at c handle)) c.sustained else c.sustained);
+        doing = None;
+      }) last_too)
+      (λ start alone. closed-at_once start alone s h.id now (doing_of d)
+      (client-doing g v c s.count h d busy is) done.started done.stage (flushed s g is) done.first handle of_op
+      of_does last_too))
 
   -- a flush with nothing to commit
   flushed_by-handle : (handle : ℕ) → d.op ≡ op.Flush handle → d.does ≡ does.Answers answer.Done
@@ -155,12 +155,12 @@ module _ (now entry : ℕ) (h : ClientValue) (v : Shared) (d : Doing) (busy : h.
       let told = Fine 0 0 0 0 in
       answers-makes now entry h (told_here d.op told h) v told reply.Done ready (told-rests d.op told h) (λ device. refl)
       (λ s g store holds is.
-          let c = s.clients h.id in
-          told-well h d v told reply.Done (ap (λ o. keeps_bytes o told) of_op) s g store holds is now
-          (record c { doing = None }) (ap (λ o. after_told o told c) of_op)
-          (λ start alone. flushed-at_once start alone s h.id now (doing_of d)
-          (client-doing g v c s.count h d busy is) done.started done.stage (flushed s g is) done.first handle of_op
-          of_does))
+      let c = s.clients h.id in
+      told-well h d v told reply.Done (ap (λ o. keeps_bytes o told) of_op) s g store holds is now
+      (record c { doing = None }) (ap (λ o. after_told o told c) of_op)
+      (λ start alone. flushed-at_once start alone s h.id now (doing_of d)
+      (client-doing g v c s.count h d busy is) done.started done.stage (flushed s g is) done.first handle of_op
+      of_does))
 
   -- a read of no byte
   nothing-read : (handle offset len : ℕ) → d.op ≡ op.Read handle offset len → d.does ≡ does.Answers answer.NoData
@@ -170,12 +170,12 @@ module _ (now entry : ℕ) (h : ClientValue) (v : Shared) (d : Doing) (busy : h.
       answers-makes now entry h (told_here d.op told h) v told (reply.Data []) ready (told-rests d.op told h)
       (λ device. refl)
       (λ s g store holds is.
-          let c = s.clients h.id in
-          told-well h d v told (reply.Data []) (ap (λ o. keeps_bytes o told) of_op) s g store holds is now
-          (record c { doing = None }) (ap (λ o. after_told o told c) of_op)
-          (λ start alone. read-at_once start alone s h.id now (doing_of d)
-          (client-doing g v c s.count h d busy is) done.started done.stage (flushed s g is) done.first handle offset len
-          of_op of_does))
+      let c = s.clients h.id in
+      told-well h d v told (reply.Data []) (ap (λ o. keeps_bytes o told) of_op) s g store holds is now
+      (record c { doing = None }) (ap (λ o. after_told o told c) of_op)
+      (λ start alone. read-at_once start alone s h.id now (doing_of d)
+      (client-doing g v c s.count h d busy is) done.started done.stage (flushed s g is) done.first handle offset len
+      of_op of_does))
 
   -- the numbers of the cache
   pub stats-told : d.op ≡ op.Stats → d.does ≡ does.Answers answer.CacheStats → (hits misses cached : ℕ)
@@ -186,18 +186,18 @@ module _ (now entry : ℕ) (h : ClientValue) (v : Shared) (d : Doing) (busy : h.
       let said = reply.CacheStats hits misses cached (length h.pending) in
       answers-makes now entry h (ended h) v told said ready (ended-rests h) (λ device. refl)
       (λ s g store holds is.
-          let c = s.clients h.id in
-          let long : length c.pending ≡ length h.pending = ap length is.held.pending in
-          record {
-            model = record c { doing = None };
-            steps = λ start alone.
-                subst (λ n. IsStep start alone s h.id now (IsAnswered (Fine hits misses cached n) ∷ [])
-                (Done (reply.CacheStats hits misses cached n)) s.tree (record c { doing = None }) s.copied) long
-                (stats-answered start alone s h.id now (doing_of d) (client-doing g v c s.count h d busy is)
-                done.started done.stage (flushed s g is) done.first of_op of_does hits misses cached);
-            is_client = client-ended s.tree g v store 0 g v (stays-none 0 g v) c s.count (s.count + 1) h (omega arith) is;
-            holds = holds-doing s.tree c None holds;
-          })
+      let c = s.clients h.id in
+      let long : length c.pending ≡ length h.pending = ap length is.held.pending in
+      record {
+        model = record c { doing = None };
+        steps = λ start alone.
+            subst (λ n. IsStep start alone s h.id now (IsAnswered (Fine hits misses cached n) ∷ [])
+            (Done (reply.CacheStats hits misses cached n)) s.tree (record c { doing = None }) s.copied) long
+            (stats-answered start alone s h.id now (doing_of d) (client-doing g v c s.count h d busy is)
+            done.started done.stage (flushed s g is) done.first of_op of_does hits misses cached);
+        is_client = client-ended s.tree g v store 0 g v (stays-none 0 g v) c s.count (s.count + 1) h (omega arith) is;
+        holds = holds-doing s.tree c None holds;
+      })
 
   -- these are all that have nothing to ask for, but writes
 

@@ -11,7 +11,7 @@ use Rattle.jv_model.specs.declared.op.Step.TheVariants.{Done}
 use Rattle.jv_model.specs.declared.profile.Answer.TheVariants as answer
 use Rattle.jv_model.specs.declared.profile.Does.{Does}
 use Rattle.jv_model.specs.declared.profile.Does.TheVariants as does
-use Rattle.jv_model.specs.client.Pending.{written}
+use Rattle.jv_model.specs.client.Pending.{PendingByte, first_segment, written}
 use Rattle.jv_model.specs.client.ModelClient.{file_of}
 use Rattle.jv_pending.specs.Held.{PendingValue}
 use Rattle.jv_steps.proofs.AnswerStepLaws.{written-at_once}
@@ -24,12 +24,13 @@ use Rattle.jv_client.specs.declared.doing.Flush.{Flush}
 use Rattle.jv_client.specs.declared.doing.Flush.TheVariants as flush
 use Rattle.jv_client.specs.declared.made.Made.TheVariants as made
 use Rattle.jv_client.specs.ClientValue.{ClientValue}
-use Rattle.jv_client.specs.UnderWay.{Alone, Beside, Closes, Copies, Describes, Flushes, FlushesFor, HasKept, HasRoom, IsForm, IsReady, Leaves, MayKeep, Mounts, Reads, ReadsNothing, Syncs, TellsStats, Transacts, Truncates, Writes, ends_itself, has_segment, keeps, left}
+use Rattle.jv_client.specs.Held.{segment_left}
+use Rattle.jv_client.specs.UnderWay.{Alone, Beside, Closes, Copies, Describes, Flushes, FlushesFor, HasKept, HasRoom, IsForm, IsReady, Leaves, MayKeep, Mounts, Reads, ReadsNothing, Syncs, TellsStats, Transacts, Truncates, Writes, ends_itself, has_segment, keeps, left, left_of}
 use Rattle.jv_client.specs.Makes.{Makes}
 use Rattle.jv_client.proofs.HeldLaws.{client-doing, doing_of}
 use Rattle.jv_client.proofs.KeptLaws.{cache-goes, held-goes}
 use Rattle.jv_client.proofs.AnswerLaws.{makes-as}
-use Rattle.jv_client.proofs.FormLaws.{flushed-same, no_segment, under_way}
+use Rattle.jv_client.proofs.FormLaws.{flushed-same, none_left, under_way}
 use Rattle.jv_client.proofs.AtOnceLaws.{IsDone, answers-makes, is_done}
 use Rattle.jv_client.proofs.WrittenLaws.{model_wrote, wrote, wrote-client, wrote-holds}
 
@@ -78,21 +79,29 @@ module _ (h : ClientValue) (d : Doing) (kept : keeps d.does ≡ true) where
       other_keeps does.Copies of_does refl
   write_of (TellsStats of_op of_does first session) = other_keeps (does.Answers answer.CacheStats) of_does refl
 
--- ---- a write that flushes nothing
+-- ---- a write that has nothing left to commit
+
+none_pending : (pending : List PendingByte) → first_segment pending ≡ None → pending ≡ []
+none_pending [] none = refl
+none_pending (b ∷ bytes) none = absurd (cc none)
 
 module _ (h : ClientValue) (d : Doing) (busy : h.doing ≡ Some d) (ready : IsReady h) (kept : keeps d.does ≡ true)
-    (first : d.flush ≡ flush.Nothing) where
+    (flushed : left h ≡ None) where
   the_write : IsWrite h d
   the_write = write_of h d kept (under_way h d busy ready).form
 
-  -- its bytes have room beside those that are pending
+  -- its bytes have room beside those that are pending; where it flushed all, none are
   beside : length h.pending + length the_write.bytes ≤ h.limits.buffer
   beside = by_room the_write.room
     where
       by_room : HasRoom h d.flush (length the_write.bytes)
           → length h.pending + length the_write.bytes ≤ h.limits.buffer
       by_room (Beside is fits) = fits
-      by_room (Alone is fits) = absurd (let same : flush.Nothing ≡ flush.All = sym first ∙ is in cc)
+      by_room (Alone is fits) =
+          let none : first_segment h.pending ≡ None =
+          sym (ap (λ first. segment_left first h.pending) is) ∙ sym (ap (left_of h.pending) busy) ∙ flushed in
+          let empty = ap length (none_pending h.pending none) in
+          omega (arith, fits, empty)
 
   pub may_keep : (handles : List (Option Handle)) (pending : PendingValue) → handles ≡ h.handles
       → pending.bytes ≡ h.pending → pending.limit ≡ h.limits.buffer → MayKeep d.op handles pending
@@ -100,34 +109,36 @@ module _ (h : ClientValue) (d : Doing) (busy : h.doing ≡ Some d) (ready : IsRe
       let room = beside in
       let short = the_write.short in
       let few = ap length same_bytes in
-      subst (λ (o : Op). MayKeep o handles pending) (sym the_write.op_is)
-      (ap (λ handles. is_some (file_of handles the_write.handle)) same_handles ∙ ap is_some the_write.opened,
-      short, omega (arith, room, few, limit))
+      subst (λ (o : Op). MayKeep o handles pending) (sym the_write.op_is) (
+        ap (λ handles. is_some (file_of handles the_write.handle)) same_handles ∙ ap is_some the_write.opened,
+        short,
+        omega (arith, room, few, limit),
+      )
 
   write_alone : (now entry : ℕ) (v : Shared)
       → Makes now entry h (wrote the_write.handle the_write.offset the_write.bytes h) v v
       (made.Answer (Fine (length the_write.bytes) 0 0 0) (Count (length the_write.bytes)))
   write_alone now entry v =
       let w = the_write in
-      let none = no_segment h d first in
+      let none = none_left h d busy flushed in
       let ends = ap (λ does. ends_itself h (record d { does = does })) w.does_is in
       let done = is_done h d (under_way h d busy ready) none ends in
       let count = length w.bytes in
       answers-makes now entry h (wrote w.handle w.offset w.bytes h) v (Fine count 0 0 0) (Count count) ready
       (record { id = refl; limits = refl; idle = refl }) (λ device. refl)
       (λ s g store holds is.
-          let c = s.clients h.id in
-          record {
-            model = model_wrote w.handle w.offset w.bytes c;
-            steps = λ start alone.
-                written-at_once start alone s h.id now (doing_of d) (client-doing g v c s.count h d busy is) done.started
-                done.stage (flushed-same h d c.pending none is.held.pending) done.first w.handle w.offset w.bytes w.op_is
-                count w.does_is;
-            is_client = wrote-client c h w.handle w.offset w.bytes g v (s.count + 1)
-                (held-goes s.tree g v store 0 g v (stays-none 0 g v) c s.count (s.count + 1) h (omega arith) is.held)
-                is.cache;
-            holds = wrote-holds c h w.handle w.offset w.bytes s.tree g v s.count w.file is.held w.opened holds;
-          })
+      let c = s.clients h.id in
+      record {
+        model = model_wrote w.handle w.offset w.bytes c;
+        steps = λ start alone.
+            written-at_once start alone s h.id now (doing_of d) (client-doing g v c s.count h d busy is) done.started
+            done.stage (flushed-same h d c.pending none is.held.pending) done.first w.handle w.offset w.bytes w.op_is
+            count w.does_is;
+        is_client = wrote-client c h w.handle w.offset w.bytes g v (s.count + 1)
+            (held-goes s.tree g v store 0 g v (stays-none 0 g v) c s.count (s.count + 1) h (omega arith) is.held)
+            is.cache;
+        holds = wrote-holds c h w.handle w.offset w.bytes s.tree g v s.count w.file is.held w.opened holds;
+      })
 
   pub write_kept : (now entry : ℕ) (after : ClientValue) (v : Shared) (count : ℕ) (handles : List (Option Handle))
       (before pending : PendingValue) → handles ≡ h.handles → before.bytes ≡ h.pending

@@ -7,7 +7,6 @@ ghost use Rattle.jv_model.specs.client.Profile.{handle_of};
 ghost use Rattle.jv_shared.specs.Shared.{Shared};
 ghost use Rattle.jv_client.specs.Ending.{Finishes, closed, finished_here, refused_here, told_here, without};
 ghost use Rattle.jv_client.specs.UnderWay.{IsReady, ClosesOpen, Ends, HasKept, MayKeep, closed_by, does_of, ends_itself, keeps, left, tells_stats};
-ghost use Rattle.jv_client.specs.declared.doing.Flush.TheVariants.{Nothing};
 ghost use Rattle.jv_client.specs.Stats.{IsStatsOf, numbers_in};
 ghost use Rattle.jv_client.specs.Transacting.{Fails, Refuses};
 ghost use Rattle.jv_client.specs.Makes.{Makes};
@@ -159,7 +158,6 @@ impl Client {
         requires ready { IsReady self.old }
         requires flushed { left self.old ≡ None }
         requires writes { IfSome self.old.doing (λ d. IsTrue (keeps d.does)) }
-        requires first { IfSome self.old.doing (λ d. d.flush ≡ Nothing) }
         ensures { (now entry : ℕ) (v : Shared) → Makes now entry self.old self.new v v result }
     {
         let kept = match &self.doing {

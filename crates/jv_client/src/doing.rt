@@ -25,7 +25,10 @@ pub enum Progress {
         id: u64,
     },
     /// It reads, and needs this next.
-    Reading { fetch: Fetch, need: Need },
+    Reading {
+        fetch: Fetch,
+        need: Need,
+    },
 }
 
 impl Progress {

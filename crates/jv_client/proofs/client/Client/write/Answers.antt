@@ -3,7 +3,6 @@ use Rattle.std.proofs.Common.{◌≡◌, None, Some, ap, sym, subst, ◌∙◌}
 use Rattle.std.specs.Prelude.{IfSome, IsTrue}
 use Rattle.jv_pending.specs.Held.{PendingValue}
 use Rattle.jv_client.specs.declared.doing.Doing.{Doing}
-use Rattle.jv_client.specs.declared.doing.Flush.TheVariants.{Nothing}
 use Rattle.jv_client.specs.ClientValue.{ClientValue}
 use Rattle.jv_client.specs.Ending.{ended}
 use Rattle.jv_client.specs.UnderWay.{keeps}
@@ -19,7 +18,7 @@ keep-kept-requires c =
     let d = c.in-Some.doing in
     let busy : h.doing ≡ Some d = ap (λ (v : ClientValue). v.doing) (sym seen) ∙ c.in-Some.is in
     may_keep h d busy c.requires.ready (subst (λ o. IfSome o (λ (d : Doing). IsTrue (keeps d.does))) busy c.requires.writes)
-    (subst (λ o. IfSome o (λ (d : Doing). d.flush ≡ Nothing)) busy c.requires.first) c.deref.result.now
+    c.requires.flushed c.deref.result.now
     c.self.inside.pending (c.deref.ensures.value ∙ ap (λ (v : ClientValue). v.handles) seen)
     (ap (λ (v : ClientValue). v.pending) seen)
     (c.self.invariant ∙ ap (λ (v : ClientValue). v.limits.buffer) seen)
@@ -49,5 +48,5 @@ returns c now entry v =
     ∙ ap (λ doing. record h { pending = c.keep-kept.new.pending.bytes; doing = doing }) c.forget.ensures in
     write_kept h d busy c.requires.ready
     (subst (λ o. IfSome o (λ (d : Doing). IsTrue (keeps d.does))) busy c.requires.writes)
-    (subst (λ o. IfSome o (λ (d : Doing). d.flush ≡ Nothing)) busy c.requires.first) now entry _ v c.in-Ok.count
+    c.requires.flushed now entry _ v c.in-Ok.count
     c.deref.result.now c.self.inside.pending c.keep-kept.new.pending handles pending c.in-Ok.ensures.ok after
