@@ -1,5 +1,6 @@
 -- The functions that look at a window and get a block, by what their calls promise.
-use Rattle.std.proofs.Common.{◌≡◌, ℕ, ◌≤◌, true, false, List, Option, None, Some, Result, Ok, Err, refl, sym, ap, subst, ◌∙◌}
+use Rattle.std.proofs.Common.{◌≡◌, ℕ, ◌≤◌, true, false, List, Option, None, Some, Result, Ok, Err, refl, sym, ap}
+use Rattle.std.proofs.Common.{subst, ◌∙◌}
 use Rattle.std.specs.Prelude.{IfSome, IsSome, IsSomeAnd, IsTrue, OnErr, OnOk, is_err, is_some}
 use Rattle.std.specs.Option.{option_map}
 use Rattle.jv_model.specs.declared.act.ActKind.TheVariants.{Look, Quiet}
@@ -24,7 +25,7 @@ use Rattle.jv_yard.specs.YardValue.{YardValue}
 use Rattle.jv_fetching.specs.declared.need.Need.{Need}
 use Rattle.jv_fetching.specs.declared.need.Need.TheVariants.{Block as NeedsBlock, Look as NeedsLook}
 use Rattle.jv_fetching.specs.Calls.{Wants}
-use Rattle.jv_fetching.specs.Fetching.{Fetching, block_needed}
+use Rattle.jv_fetching.specs.Fetching.{Fetching}
 use Rattle.jv_fetching.specs.Going.{CanFetch}
 use Rattle.jv_client.specs.declared.doing.Doing.{Doing}
 use Rattle.jv_client.specs.declared.doing.Progress.{Progress}
@@ -35,15 +36,17 @@ use Rattle.jv_client.specs.ClientValue.{ClientValue, session_here}
 use Rattle.jv_client.specs.Ending.{ended}
 use Rattle.jv_client.specs.Getting.{Fills, HasFilled, ReadsBlock, Unread}
 use Rattle.jv_client.specs.Makes.{Makes}
-use Rattle.jv_client.specs.Reading.{ClientComesTo, GoesOnAfter, IsAhead, OnlyLooksUp, fetch_in, need_at, need_in, put_at}
+use Rattle.jv_client.specs.Reading.{ClientComesTo, GoesOnAfter, IsAhead, OnlyLooksUp, fetch_in, need_at, need_in}
+use Rattle.jv_client.specs.Reading.{put_at}
 use Rattle.jv_client.specs.Transacting.{EndsUnmade, Fails}
 use Rattle.jv_client.specs.UnderWay.{IsAt, IsReady, IsUnderWay, left, names_open}
-use Rattle.jv_client.proofs.ReaderLaws.{Asking, IsAsking, asking, is_asking}
+use Rattle.jv_client.proofs.AnswerLaws.{makes-as}
+use Rattle.jv_client.proofs.ReaderLaws.{Asking, asking, is_asking}
 use Rattle.jv_client.proofs.GoneOnLaws.{over}
 use Rattle.jv_client.proofs.LookLaws.{seen_handles, seen_opened, view_of}
 use Rattle.jv_client.proofs.UnlookedLaws.{cached-here, look-out, look-unmade}
 use Rattle.jv_client.proofs.GotLaws.{get-unread}
-use Rattle.jv_client.proofs.ReadCallLaws.{get-came, get-lost, look-came, look-lost, made_as, taken_out}
+use Rattle.jv_client.proofs.ReadCallLaws.{get-came, get-lost, look-came, look-lost, taken_out}
 
 -- the client with another table of handles, whose reading was taken out
 abbrev pub put_back : List (Option Handle) → ClientValue → ClientValue
@@ -119,8 +122,8 @@ module _ (now entry : ℕ) (h c : ClientValue) (window : ℕ) (before : Shared)
     pub looks-full : (then after : ClientValue) (done : Made) → then ≡ c → Fails NoMemory then after done
         → Makes now entry h after before used done
     looks-full then after done same fails =
-        made_as now entry h after (over h.handles asked.cache h) before used done _
-        (fails.after_is ∙ ap ended (same ∙ asked.is)) fails.made_is
+        makes-as now entry h after (over h.handles asked.cache h) before used used done _
+        (fails.after_is ∙ ap ended (same ∙ asked.is)) refl fails.made_is
         (look-out now entry block h asked.d asked.offset asked.len asked.cache asked.fetch window asked.asks before refl
         keeper asked.cache
         (cached-here now entry block h asked.d asked.offset asked.len asked.cache asked.fetch window asked.asks before
@@ -193,8 +196,8 @@ module _ (now entry : ℕ) (h c : ClientValue) (b : BlockId) (before : Shared)
       → ReadsBlock v.id b before.yard yard (Err fault) → Fails fault c after done
       → Makes now entry h after before yard_used done
   gets-none fault after done unread fails =
-      made_as now entry h after (over h.handles wanted.cache h) before yard_used done _
-      (fails.after_is ∙ ap ended wanted.is) fails.made_is
+      makes-as now entry h after (over h.handles wanted.cache h) before yard_used yard_used done _
+      (fails.after_is ∙ ap ended wanted.is) refl fails.made_is
       (get-unread now entry length_of h wanted.d wanted.offset wanted.len wanted.cache wanted.fetch b wanted.asks before
       refl id_low yard fault (subst (λ n. Unread n b before.yard yard fault) same_id unread))
 

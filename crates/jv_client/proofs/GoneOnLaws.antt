@@ -1,12 +1,11 @@
 -- A reading after its request: it goes on with what it needs next, it is answered, or it failed.
-use Rattle.std.proofs.Common.{◌≡◌, ◌≢◌, ℕ, ◌+◌, ◌*◌, ◌≤◌, ◌<◌, false, List, length, Option, None, Some, refl, sym, ap, subst}
+use Rattle.std.proofs.Common.{◌≡◌, ◌≢◌, ℕ, ◌≤◌, ◌<◌, false, List, length, Option, None, Some, refl, sym, ap, subst}
 use Rattle.std.proofs.Common.{◌∙◌, arith}
 use Rattle.std.specs.Prelude.{IsSomeAnd}
 use Rattle.jv_model.specs.declared.act.Told.TheVariants.{Looks}
 use Rattle.jv_model.specs.declared.op.Op.{Op}
 use Rattle.jv_model.specs.declared.op.Op.TheVariants as op
-use Rattle.jv_model.specs.declared.profile.Does.{Does}
-use Rattle.jv_model.specs.client.ModelClient.{ModelClient, OpenFile, Reading as ModelReading, file_of}
+use Rattle.jv_model.specs.client.ModelClient.{ModelClient, Reading as ModelReading, file_of}
 use Rattle.jv_model.specs.client.Profile.{handle_of}
 use Rattle.jv_model.specs.journal.Reading.{Asked, asked_parts, reading}
 use Rattle.jv_model.specs.journal.State.{after_told}
@@ -32,14 +31,14 @@ use Rattle.jv_client.specs.declared.doing.Flush.TheVariants as flush
 use Rattle.jv_client.specs.declared.doing.Progress.TheVariants.{Reading}
 use Rattle.jv_client.specs.declared.reading.Found.{Found}
 use Rattle.jv_client.specs.ClientValue.{ClientValue}
-use Rattle.jv_client.specs.Ending.{ended, told_here}
+use Rattle.jv_client.specs.Ending.{told_here}
 use Rattle.jv_client.specs.Held.{IsClient, IsHeld}
 use Rattle.jv_client.specs.Reading.{GoesAhead, read_of, told_read}
 use Rattle.jv_client.specs.UnderWay.{Flushes, IsReady, Reads, moved_to, steps_left}
 use Rattle.jv_client.proofs.EndingLaws.{keeps_bytes}
 use Rattle.jv_client.proofs.HeldLaws.{doing_of}
-use Rattle.jv_client.proofs.KeptLaws.{IsCached, moved-client, told-client}
-use Rattle.jv_client.proofs.ReaderLaws.{IsAsking, ReadsBy, file_by}
+use Rattle.jv_client.proofs.KeptLaws.{moved-client, told-client}
+use Rattle.jv_client.proofs.ReaderLaws.{IsAsking, file_by}
 
 -- what is held after more entries
 pub held-later : (g : Known) (v : Shared) (m : ModelClient) (count later : ℕ) (c : ClientValue) → count ≤ later

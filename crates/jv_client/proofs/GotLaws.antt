@@ -1,12 +1,13 @@
 -- A reading gets a block: it goes on with its bytes, it is answered, or the block didn't come.
-use Rattle.std.proofs.Common.{◌≡◌, ◌≢◌, ℕ, ◌+◌, ◌≤◌, ◌<◌, false, true, List, [], ◌∷◌, length, Option, None, Some, Ok, Err, refl, sym, ap}
+use Rattle.std.proofs.Common.{◌≡◌, ◌≢◌, ℕ, ◌+◌, ◌≤◌, false, true, List, [], ◌∷◌, length, Option, Some, Ok, Err, refl}
+use Rattle.std.proofs.Common.{sym, ap}
 use Rattle.std.proofs.Common.{subst, ◌∙◌, arith}
-use Rattle.std.specs.Prelude.{is_some}
 use Rattle.jv_model.specs.declared.act.ActKind.TheVariants.{Answered, Quiet}
 use Rattle.jv_model.specs.declared.act.Told.TheVariants.{Refused as ToldRefused}
 use Rattle.jv_model.specs.declared.fault.Busy.TheVariants.{Misses}
 use Rattle.jv_model.specs.declared.fault.Device.{Device}
-use Rattle.jv_model.specs.declared.fault.Device.TheVariants.{Keeper as TheKeeper, Depot as TheDepot, Shelf as TheShelf, Carrier as TheCarrier}
+use Rattle.jv_model.specs.declared.fault.Device.TheVariants.{Keeper as TheKeeper, Depot as TheDepot}
+use Rattle.jv_model.specs.declared.fault.Device.TheVariants.{Shelf as TheShelf, Carrier as TheCarrier}
 use Rattle.jv_model.specs.declared.fault.Fault.{Fault}
 use Rattle.jv_model.specs.declared.fault.Fault.TheVariants.{Contended, NoMemory}
 use Rattle.jv_model.specs.declared.op.Reply.TheVariants.{Data, Refused as RefusedReply}
@@ -14,7 +15,7 @@ use Rattle.jv_model.specs.declared.op.Step.TheVariants.{More, Done}
 use Rattle.jv_model.specs.declared.setting.Setting.{Setting}
 use Rattle.jv_model.specs.declared.slice.BlockId.{BlockId}
 use Rattle.jv_model.specs.blocks.Slices.{block_at}
-use Rattle.jv_model.specs.client.ModelClient.{ModelClient, OpenFile, Doing as ModelDoing, View as ModelView, Reading as ModelReading}
+use Rattle.jv_model.specs.client.ModelClient.{ModelClient, OpenFile, Doing as ModelDoing, Reading as ModelReading}
 use Rattle.jv_model.specs.client.Profile.{handle_of}
 use Rattle.jv_model.specs.journal.Reading.{Asked, asked_parts, fresh_view}
 use Rattle.jv_model.specs.journal.State.{State, after_told, sees_first}
@@ -28,21 +29,20 @@ use Rattle.jv_yard.specs.BlockCalls.{GetsBlock}
 use Rattle.jv_yard.specs.Contents.{name_in}
 use Rattle.jv_yard.specs.Refusals.{Refuses}
 use Rattle.jv_yard.specs.YardValue.{YardValue}
-use Rattle.jv_shared.specs.Keeping.{HoldsSame, KeepsShared}
+use Rattle.jv_shared.specs.Keeping.{KeepsShared}
 use Rattle.jv_shared.specs.Shared.{HasStore, Known, Shared}
 use Rattle.jv_shared.proofs.SameLaws.{same-gets, same-stays}
 use Rattle.jv_handles.specs.declared.handle.Handle.{Handle}
-use Rattle.jv_handles.specs.declared.views.View.{View}
 use Rattle.jv_handles.specs.Held.{IsHandle, IsSeen, SamePlace}
-use Rattle.jv_handles.specs.Views.{SeenViews, view_at}
+use Rattle.jv_handles.specs.Views.{view_at}
 use Rattle.jv_handles.proofs.TableLaws.{some-same, there_in}
 use Rattle.jv_handles.proofs.HandleLaws.{handle-stays}
 use Rattle.jv_reading.specs.Parts.{IsNamed}
 use Rattle.jv_fetching.specs.declared.need.Need.{Need}
 use Rattle.jv_fetching.specs.declared.need.Need.TheVariants.{Block as NeedsBlock, Nothing}
 use Rattle.jv_fetching.specs.Calls.{HasCached, IsCacheOf, Keeps, LooksUp, Wants, first_seen}
-use Rattle.jv_fetching.specs.Fetching.{Fetching, fetch_left}
-use Rattle.jv_fetching.specs.Going.{CanFetch, IsFetching}
+use Rattle.jv_fetching.specs.Fetching.{Fetching}
+use Rattle.jv_fetching.specs.Going.{IsFetching}
 use Rattle.jv_fetching.specs.Laws.{IsOfView}
 use Rattle.jv_fetching.specs.Shows.{IsReadBy}
 use Rattle.jv_fetching.proofs.CacheLaws.{cache_of-keeps, cache_of-looks}
@@ -56,15 +56,17 @@ use Rattle.jv_client.specs.declared.made.Made.{Made}
 use Rattle.jv_client.specs.declared.made.Made.TheVariants as made
 use Rattle.jv_client.specs.declared.reading.Found.{Found}
 use Rattle.jv_client.specs.ClientValue.{ClientValue}
-use Rattle.jv_client.specs.Getting.{Fills, IsNone, Missing, ReadsBlock, Refused, Unread, yard_fault}
+use Rattle.jv_client.specs.Getting.{Fills, Missing, Refused, Unread, yard_fault}
 use Rattle.jv_client.specs.Held.{Holds, IsClient, IsHeld, in_flight}
-use Rattle.jv_client.specs.Makes.{Makes, StepsTo, TellsBad, UsesDevices, faults_of, is_failure_of, step_of, tells_failure}
+use Rattle.jv_client.specs.Makes.{Makes, StepsTo, TellsBad, UsesDevices, faults_of, step_of, tells_failure}
 use Rattle.jv_client.specs.Reading.{GoesAhead, read_of, told_read}
+use Rattle.jv_client.proofs.AnswerLaws.{uses-none}
 use Rattle.jv_client.proofs.EndingLaws.{holds-told}
 use Rattle.jv_client.proofs.HeldLaws.{doing_of}
 use Rattle.jv_client.proofs.KeptLaws.{cache-goes, held-goes}
 use Rattle.jv_client.proofs.ReaderLaws.{IsAsking, busy_in, file_by, handle_in, may_get, none_flying, opened_in}
-use Rattle.jv_client.proofs.GoneOnLaws.{client-on, client-over, falls-on, going_on, none-kept, over, reading-is, ready-on}
+use Rattle.jv_client.proofs.GoneOnLaws.{client-on, client-over, falls-on, going_on, none-kept, over, reading-is}
+use Rattle.jv_client.proofs.GoneOnLaws.{ready-on}
 use Rattle.jv_client.proofs.ReadFailedLaws.{failed, failed-by}
 
 -- ---- devices
@@ -74,20 +76,7 @@ uses-got : (done : Made) (before : Shared) (yard : YardValue) → ((device : Dev
     → yard ≡ before.yard → TellsBad before (step_of done) → UsesDevices done before (record before { yard = yard })
 uses-got done before yard fine same bad =
     subst (λ (yard : YardValue). UsesDevices done before (record before { yard = yard })) (sym same)
-    (record {
-      keeper_at = refl;
-      carrier_at = refl;
-      depot_at = refl;
-      shelf_at = refl;
-      setting = refl;
-      last = refl;
-      counts = λ device. subst (λ b. RoseIf b (faults_of device before) (faults_of device before)) (sym (fine device))
-          refl;
-      rows = λ asks. refl;
-      objects = λ asks. refl;
-      blocks = refl;
-      bad = bad;
-    })
+    (uses-none done before fine bad)
 
 -- the answer that a device of the yard failed, or that memory ran out
 abbrev unread_as : YardFault → Made

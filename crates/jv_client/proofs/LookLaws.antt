@@ -1,21 +1,20 @@
--- A reading looks at a window: it goes on with the view, it is answered, it is refused since the session or the file is gone, or the look
--- failed.
-use Rattle.std.proofs.Common.{◌≡◌, ◌≢◌, ℕ, ◌+◌, ◌≤◌, ◌<◌, false, true, List, [], ◌∷◌, length, Option, None, Some, Ok, Err, refl, sym, ap}
-use Rattle.std.proofs.Common.{subst, ◌∙◌, arith, eq-eqb}
-use Rattle.std.specs.Prelude.{is_some, unwrap_or, IsTrue, if◌then◌else◌}
+-- A reading looks at a window: it goes on with the view, or it is answered.
+use Rattle.std.proofs.Common.{◌≡◌, ◌≢◌, ℕ, ◌+◌, ◌≤◌, ◌<◌, false, List, [], ◌∷◌, length, Option, None, Some, Ok, refl}
+use Rattle.std.proofs.Common.{sym, ap}
+use Rattle.std.proofs.Common.{subst, ◌∙◌, arith}
+use Rattle.std.specs.Prelude.{is_some, unwrap_or}
 use Rattle.std.specs.List.{AllByRecursion}
-use Rattle.std.specs.Option.{option_map}
 use Rattle.jv_model.specs.declared.act.ActKind.TheVariants.{Answered, Look}
 use Rattle.jv_model.specs.declared.fault.Device.{Device}
 use Rattle.jv_model.specs.declared.fault.Device.TheVariants.{Keeper, Depot, Shelf, Carrier}
 use Rattle.jv_model.specs.declared.op.Reply.TheVariants.{Data}
 use Rattle.jv_model.specs.declared.op.Step.TheVariants.{More, Done}
-use Rattle.jv_model.specs.client.ModelClient.{ModelClient, OpenFile, Doing as ModelDoing, View as ModelView, Reading as ModelReading, file_of, session_of, with_file}
+use Rattle.jv_model.specs.client.ModelClient.{ModelClient, Doing as ModelDoing, View as ModelView}
+use Rattle.jv_model.specs.client.ModelClient.{Reading as ModelReading, file_of, session_of, with_file}
 use Rattle.jv_model.specs.client.Profile.{handle_of}
-use Rattle.jv_model.specs.journal.Reading.{Asked, asked_parts, part_to_look}
+use Rattle.jv_model.specs.journal.Reading.{Asked, asked_parts}
 use Rattle.jv_model.specs.journal.State.{State, after_told, view_now}
 use Rattle.jv_model.specs.journal.Steps.{file_in_use, window_to_look}
-use Rattle.jv_model.specs.tree.Tree.{Content, Tree}
 use Rattle.jv_outside.specs.Causes.{RoseIf}
 use Rattle.jv_outside.specs.Store.{Store}
 use Rattle.jv_cache.specs.Cached.{Cached}
@@ -39,7 +38,7 @@ use Rattle.jv_fetching.specs.declared.need.Need.TheVariants.{Look as NeedsLook, 
 use Rattle.jv_fetching.specs.Calls.{HasCached, IsCacheOf, LooksUp, Wants, first_seen, first_unseen}
 use Rattle.jv_fetching.specs.Fetching.{Fetching, fetch_left}
 use Rattle.jv_fetching.specs.Going.{CanFetch, IsFetching}
-use Rattle.jv_fetching.specs.Shows.{IsReadBy, window_needed}
+use Rattle.jv_fetching.specs.Shows.{IsReadBy}
 use Rattle.jv_fetching.proofs.FetchLaws.{fetches_go_on}
 use Rattle.jv_fetching.proofs.SameLaws.{fetches_show}
 use Rattle.jv_steps.specs.Stages.{MayRead}
@@ -55,11 +54,12 @@ use Rattle.jv_client.specs.ClientValue.{ClientValue, session_here}
 use Rattle.jv_client.specs.Held.{Holds, IsClient, IsHeld, in_flight}
 use Rattle.jv_client.specs.Makes.{Makes, StepsTo, TellsBad, UsesDevices, faults_of, step_of, tells_failure}
 use Rattle.jv_client.specs.Reading.{GoesAhead, read_of, told_read}
-use Rattle.jv_client.proofs.EndingLaws.{holds-told, keeps_bytes}
+use Rattle.jv_client.proofs.EndingLaws.{holds-told}
 use Rattle.jv_client.proofs.HeldLaws.{doing_of}
-use Rattle.jv_client.proofs.KeptLaws.{cache-goes, held-goes}
+use Rattle.jv_client.proofs.KeptLaws.{held-goes}
 use Rattle.jv_client.proofs.ReaderLaws.{IsAsking, busy_in, file_by, handle_in, may_read, none_flying, opened_in}
-use Rattle.jv_client.proofs.GoneOnLaws.{client-on, client-over, falls-on, going_on, none-kept, over, reading-is, ready-on}
+use Rattle.jv_client.proofs.GoneOnLaws.{client-on, client-over, falls-on, going_on, none-kept, over, reading-is}
+use Rattle.jv_client.proofs.GoneOnLaws.{ready-on}
 
 -- ---- devices
 

@@ -1,11 +1,10 @@
 -- What the calls of a reading that asks for something leave of the client is what the step promises.
-use Rattle.std.proofs.Common.{◌≡◌, ℕ, ◌≤◌, List, Option, None, Some, Ok, Err, refl, sym, ap, subst, ◌∙◌}
+use Rattle.std.proofs.Common.{◌≡◌, ℕ, ◌≤◌, List, Option, Some, Ok, refl, ap, subst, ◌∙◌}
 use Rattle.std.specs.Option.{option_map}
 use Rattle.jv_model.specs.declared.act.ActKind.TheVariants.{Look, Quiet}
 use Rattle.jv_model.specs.declared.act.Told.TheVariants.{Refused as ToldRefused}
-use Rattle.jv_model.specs.declared.fault.Fault.{Fault}
 use Rattle.jv_model.specs.declared.fault.Fault.TheVariants.{NoMemory}
-use Rattle.jv_model.specs.declared.op.Reply.TheVariants.{Data, Refused}
+use Rattle.jv_model.specs.declared.op.Reply.TheVariants.{Refused}
 use Rattle.jv_model.specs.declared.slice.BlockId.{BlockId}
 use Rattle.jv_model.specs.client.ModelClient.{file_of, with_file}
 use Rattle.jv_model.specs.client.Profile.{handle_of}
@@ -15,7 +14,6 @@ use Rattle.jv_data.specs.declared.looking.View.{View as Looked}
 use Rattle.jv_data.specs.Records.{LooksAt}
 use Rattle.jv_handles.specs.declared.handle.Handle.{Handle}
 use Rattle.jv_handles.specs.Handles.{unseen_by}
-use Rattle.jv_handles.specs.Views.{view_at}
 use Rattle.jv_handles.proofs.UnseenLaws.{unseen_by-seen_by}
 use Rattle.jv_shared.specs.Shared.{Shared}
 use Rattle.jv_yard.specs.BlockCalls.{GetsBlock}
@@ -36,6 +34,7 @@ use Rattle.jv_client.specs.Getting.{Fills}
 use Rattle.jv_client.specs.Makes.{Makes}
 use Rattle.jv_client.specs.Reading.{ClientComesTo, GoesOnAfter, OnlyLooksUp, put_at}
 use Rattle.jv_client.specs.UnderWay.{moved_to}
+use Rattle.jv_client.proofs.AnswerLaws.{makes-as}
 use Rattle.jv_client.proofs.ReaderLaws.{IsAsking}
 use Rattle.jv_client.proofs.GoneOnLaws.{going_on, over}
 use Rattle.jv_client.proofs.LookLaws.{look-on, look-over, not_seen, seen_handle, seen_handles, seen_opened, view_of}
@@ -50,13 +49,6 @@ taken_out handles cache d h = record h {
   cache = Some cache;
   doing = Some (put_at (Working 0 0 0) d);
 }
-
--- a step under other names of the client after it and of its result
-pub made_as : (now entry : ℕ) (h after end : ClientValue) (before used : Shared) (done is : Made) → after ≡ end → done ≡ is
-    → Makes now entry h end before used is → Makes now entry h after before used done
-made_as now entry h after end before used done is same_end same makes =
-    subst (λ x. Makes now entry h after before used x) (sym same)
-    (subst (λ x. Makes now entry h x before used is) (sym same_end) makes)
 
 -- ---- what was looked up
 
@@ -106,15 +98,15 @@ module _ (now entry block : ℕ) (h : ClientValue) (d : Doing) (offset len : ℕ
       let to = comes (put_at (Working 0 0 0) d) seen cache refl opened refl in
       let is : after ≡ going_on handles up.later f need d h =
       goes.0 ∙ ap (λ (x : ClientValue). record x { doing = option_map (moved_to (Reading f need)) x.doing }) up.after_is in
-      made_as now entry h after (going_on handles up.later f need d h) before used done
-      (made.Request (Look file.inode window)) is goes.1
+      makes-as now entry h after (going_on handles up.later f need d h) before used used done
+      (made.Request (Look file.inode window)) is refl goes.1
       (look-on now entry block h d offset len cache fetch window asks before length_is keeper looked looks up.later
       up.looks f need to.0 to.1 to.2)
   look-came (Read found) then after done only comes goes =
       let up = looked_up handles cache d h then only in
       let to = comes (put_at (Working 0 0 0) d) seen cache refl opened refl in
       let is : after ≡ over handles up.later h = goes.after_is ∙ ap ended up.after_is in
-      made_as now entry h after (over handles up.later h) before used done _ is goes.made_is
+      makes-as now entry h after (over handles up.later h) before used used done _ is refl goes.made_is
       (look-over now entry block h d offset len cache fetch window asks before length_is keeper looked looks up.later
       up.looks found to)
 
@@ -136,8 +128,8 @@ module _ (now entry block : ℕ) (h : ClientValue) (d : Doing) (offset len : ℕ
         handles = with_file (handle_of d.op) (unseen_by window (file_of x.handles (handle_of d.op))) x.handles;
       })) up.after_is
       ∙ ap (λ (handles : List (Option Handle)). over handles up.later h) back in
-      made_as now entry h after (over h.handles up.later h) before used done
-      (made.Answer (ToldRefused NoMemory) (Refused NoMemory)) is made_is
+      makes-as now entry h after (over h.handles up.later h) before used used done
+      (made.Answer (ToldRefused NoMemory) (Refused NoMemory)) is refl made_is
       (look-out now entry block h d offset len cache fetch window asks before length_is keeper up.later
       (λ s g has client. cache_of-looks g.sizes before.yard.setting.block g.blocks cache up.later up.looks
       (cached-here now entry block h d offset len cache fetch window asks before length_is keeper s g has client))
@@ -161,7 +153,7 @@ module _ (now entry block : ℕ) (h : ClientValue) (d : Doing) (offset len : ℕ
       let to = comes (put_at (Working 0 0 0) d) asks.reads.file kept refl asks.reads.opened refl in
       let is : after ≡ going_on h.handles up.later f need d h =
       goes.0 ∙ ap (λ (x : ClientValue). record x { doing = option_map (moved_to (Reading f need)) x.doing }) up.after_is in
-      made_as now entry h after (going_on h.handles up.later f need d h) before now_used done (made.Request Quiet) is
+      makes-as now entry h after (going_on h.handles up.later f need d h) before now_used now_used done (made.Request Quiet) is refl
       goes.1
       (get-on now entry block h d offset len cache fetch b asks before length_is low yard bytes gets filled kept fills
       up.later up.looks f need to.0 to.1 to.2)
@@ -169,7 +161,7 @@ module _ (now entry block : ℕ) (h : ClientValue) (d : Doing) (offset len : ℕ
       let up = looked_up h.handles kept d h then only in
       let to = comes (put_at (Working 0 0 0) d) asks.reads.file kept refl asks.reads.opened refl in
       let is : after ≡ over h.handles up.later h = goes.after_is ∙ ap ended up.after_is in
-      made_as now entry h after (over h.handles up.later h) before now_used done _ is goes.made_is
+      makes-as now entry h after (over h.handles up.later h) before now_used now_used done _ is refl goes.made_is
       (get-over now entry block h d offset len cache fetch b asks before length_is low yard bytes gets filled kept fills
       up.later up.looks found to)
 
@@ -179,7 +171,7 @@ module _ (now entry block : ℕ) (h : ClientValue) (d : Doing) (offset len : ℕ
       → Makes now entry h after before now_used done
   get-lost then after done only after_is made_is =
       let up = looked_up h.handles kept d h then only in
-      made_as now entry h after (over h.handles up.later h) before now_used done
-      (made.Answer (ToldRefused NoMemory) (Refused NoMemory)) (after_is ∙ ap ended up.after_is) made_is
+      makes-as now entry h after (over h.handles up.later h) before now_used now_used done
+      (made.Answer (ToldRefused NoMemory) (Refused NoMemory)) (after_is ∙ ap ended up.after_is) refl made_is
       (get-out now entry block h d offset len cache fetch b asks before length_is low yard bytes gets filled kept fills
       up.later up.looks)

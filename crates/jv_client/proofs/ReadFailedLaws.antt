@@ -1,5 +1,6 @@
--- A reading whose request failed: the operation is over, and the client is as it was, but for blocks that were looked up or kept.
-use Rattle.std.proofs.Common.{◌≡◌, ℕ, ◌+◌, ◌≤◌, false, true, List, [], ◌∷◌, Option, None, Some, refl, subst, arith}
+-- A reading whose request failed: the operation is over, and the client is as it was, but for blocks that were looked up or
+-- kept.
+use Rattle.std.proofs.Common.{◌≡◌, ℕ, ◌+◌, true, [], ◌∷◌, Option, None, Some, refl, subst, arith}
 use Rattle.jv_model.specs.declared.act.ActKind.TheVariants.{Answered}
 use Rattle.jv_model.specs.declared.act.Told.TheVariants.{Refused as ToldRefused}
 use Rattle.jv_model.specs.declared.fault.Fault.{Fault}
@@ -19,13 +20,12 @@ use Rattle.jv_requests.specs.Request.{Request}
 use Rattle.jv_requests.proofs.LookLaws.{goes-look}
 use Rattle.jv_requests.proofs.StillLaws.{failure-request}
 use Rattle.jv_client.specs.declared.doing.Doing.{Doing}
-use Rattle.jv_client.specs.declared.made.Made.{Made}
 use Rattle.jv_client.specs.declared.made.Made.TheVariants as made
 use Rattle.jv_client.specs.ClientValue.{ClientValue}
 use Rattle.jv_client.specs.Held.{Holds, IsClient, IsHeld, in_flight}
 use Rattle.jv_client.specs.Makes.{Makes, StepsTo, UsesDevices}
 use Rattle.jv_client.proofs.HeldLaws.{doing_of, holds-doing}
-use Rattle.jv_client.proofs.KeptLaws.{IsCached, cache-goes, ended-client, held-goes}
+use Rattle.jv_client.proofs.KeptLaws.{cache-goes, ended-client, held-goes}
 use Rattle.jv_client.proofs.ReaderLaws.{IsAsking, busy_in, may_read, none_flying}
 use Rattle.jv_client.proofs.GoneOnLaws.{over}
 

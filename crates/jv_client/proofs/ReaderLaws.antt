@@ -1,6 +1,6 @@
 -- A reading in progress: its form, the model's reading that it stands for, and that it may ask for something.
-use Rattle.std.proofs.Common.{◌≡◌, ℕ, zero, suc, ◌+◌, ◌*◌, ◌≤◌, ◌<◌, true, false, not, List, length, Option, None, Some, refl, sym, ap, subst}
-use Rattle.std.proofs.Common.{◌∙◌, arith}
+use Rattle.std.proofs.Common.{◌≡◌, ℕ, zero, suc, ◌+◌, ◌*◌, ◌≤◌, ◌<◌, true, false, not, List, length, Option, None}
+use Rattle.std.proofs.Common.{Some, refl, sym, ap, subst, ◌∙◌, arith}
 use Rattle.std.specs.Prelude.{is_some, IsTrue, IfSome, IsSomeAnd}
 use Rattle.jv_model.specs.declared.limits.TheConstants.{FILE_END, MAX_DATA, WINDOW}
 use Rattle.jv_model.specs.declared.op.Op.TheVariants as op
@@ -28,14 +28,15 @@ use Rattle.jv_client.specs.declared.doing.Flush.TheVariants as flush
 use Rattle.jv_client.specs.declared.doing.Progress.{Progress}
 use Rattle.jv_client.specs.declared.doing.Progress.TheVariants.{Working, Reading}
 use Rattle.jv_client.specs.ClientValue.{ClientValue}
-use Rattle.jv_client.specs.Held.{GoesOn as GoesOnWell, IsClient, flight_by, flight_in, flush_of_code, in_flight, number_of}
+use Rattle.jv_client.specs.Held.{IsClient, flight_by, flight_in, flush_of_code, in_flight, number_of}
 use Rattle.jv_client.specs.Held.{stage_of}
 use Rattle.jv_client.specs.Reading.{IsAhead, need_in, put_at}
-use Rattle.jv_client.specs.UnderWay.{FlushesFor, Closes, Syncs, Describes, ReadsNothing, Reads, Truncates as Cuts}
-use Rattle.jv_client.specs.UnderWay.{IsForm, Mounts, Transacts, Leaves, Writes, Flushes, Copies, TellsStats}
-use Rattle.jv_client.specs.UnderWay.{IsAt, IsReading, IsReady, IsUnderWay, has_segment, left, left_of, steps_left, steps_of}
+use Rattle.jv_client.specs.UnderWay.{IsForm}
+use Rattle.jv_client.specs.UnderWay.{IsAt, IsReading, IsReady, IsUnderWay, has_segment, left, left_of, steps_left}
+use Rattle.jv_client.specs.UnderWay.{steps_of}
 use Rattle.jv_client.specs.Held.{segment_left}
 use Rattle.jv_client.proofs.HeldLaws.{client-doing, doing_of}
+use Rattle.jv_client.proofs.ReadingLaws.{reads-file}
 
 -- ---- its form
 
@@ -50,51 +51,20 @@ pub record ReadsBy (h : ClientValue) (d : Doing) (offset len : ℕ) : Type 0 whe
   pub short : len ≤ WINDOW
   pub low : offset < FILE_END
 
-record ReadsFor (d : Doing) (handle offset len : ℕ) : Type 0 where
-  op_is : d.op ≡ op.Read handle offset len
-  some : 0 < len
-  short : len ≤ WINDOW
-  low : offset < FILE_END
-
-reads_for : (d : Doing) (handle offset len : ℕ) → FlushesFor d handle → d.does ≡ does.Reads offset len
-    → ReadsFor d handle offset len
-reads_for d handle offset len (Closes o e) is = absurd (let f = sym e ∙ is in cc)
-reads_for d handle offset len (Syncs o e) is = absurd (let f = sym e ∙ is in cc)
-reads_for d handle offset len (Describes o e) is = absurd (let f = sym e ∙ is in cc)
-reads_for d handle offset len (ReadsNothing from n o e) is = absurd (let f = sym e ∙ is in cc)
-reads_for d handle offset len (Cuts n o e) is = absurd (let f = sym e ∙ is in cc)
-reads_for d handle offset len (Reads from n o e some short low) is =
-    let f : does.Reads from n ≡ does.Reads offset len = sym e ∙ is in
-    let first : from ≡ offset = cc in
-    let second : n ≡ len = cc in
-    record {
-      op_is = o ∙ ap (λ x. op.Read handle x n) first ∙ ap (λ x. op.Read handle offset x) second;
-      some = subst (λ x. 0 < x) second some;
-      short = subst (λ x. x ≤ WINDOW) second short;
-      low = subst (λ x. x < FILE_END) first low;
-    }
-
 pub reads_by : (h : ClientValue) (d : Doing) (offset len : ℕ) → IsForm h d → d.does ≡ does.Reads offset len
     → ReadsBy h d offset len
-reads_by h d offset len (Mounts o e first) is = absurd (let f = sym e ∙ is in cc)
-reads_by h d offset len (Transacts o spelled e first session) is = absurd (let f = sym e ∙ is in cc)
-reads_by h d offset len (Leaves o e first session) is = absurd (let f = sym e ∙ is in cc)
-reads_by h d offset len (Writes handle from bytes file o e opened short room session) is = absurd (let f = sym e ∙ is in cc)
-reads_by h d offset len (Copies source from target to n file other o e first opened others session) is =
-    absurd (let f = sym e ∙ is in cc)
-reads_by h d offset len (TellsStats o e first session) is = absurd (let f = sym e ∙ is in cc)
-reads_by h d offset len (Flushes handle file for first opened session) is =
-    let reads = reads_for d handle offset len for is in
-    let named : handle ≡ handle_of d.op = sym (ap handle_of reads.op_is) in
+reads_by h d offset len form is =
+    let r = reads-file h d offset len is form in
+    let named : r.handle ≡ handle_of d.op = sym (ap handle_of r.op_is) in
     record {
-      file = file;
-      op_is = reads.op_is ∙ ap (λ n. op.Read n offset len) named;
-      flush_is = first;
-      opened = ap (file_of h.handles) (sym named) ∙ opened;
-      session = session;
-      some = reads.some;
-      short = reads.short;
-      low = reads.low;
+      file = r.file;
+      op_is = r.op_is ∙ ap (λ n. op.Read n offset len) named;
+      flush_is = r.first;
+      opened = ap (file_of h.handles) (sym named) ∙ r.opened;
+      session = r.session;
+      some = r.some;
+      short = r.long;
+      low = r.low;
     }
 
 -- ---- the model's reading

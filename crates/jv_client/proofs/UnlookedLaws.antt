@@ -1,25 +1,21 @@
--- A look that came to no view: it is refused since the session or the file is gone, or the keeper failed, or memory ran out, or a row is
--- Bad.
-use Rattle.std.proofs.Common.{◌≡◌, ℕ, ◌+◌, ◌≤◌, false, true, List, [], ◌∷◌, Option, None, Some, Err, refl, sym, ap, subst}
+-- A look that came to no view: it is refused since the session or the file is gone, the keeper failed, memory ran out, or
+-- a row is Bad.
+use Rattle.std.proofs.Common.{◌≡◌, ℕ, ◌+◌, false, true, [], ◌∷◌, Option, Some, Err, refl, sym, ap, subst}
 use Rattle.std.proofs.Common.{◌∙◌, arith}
-use Rattle.std.specs.Prelude.{IfSome, IsTrue, unwrap_or}
-use Rattle.jv_model.specs.declared.basics.Limits.{Limits}
-use Rattle.jv_model.specs.declared.limits.TheConstants.{MAX_DATA}
+use Rattle.std.specs.Prelude.{unwrap_or}
 use Rattle.jv_model.specs.declared.act.ActKind.TheVariants.{Answered, Quiet}
 use Rattle.jv_model.specs.declared.act.Told.TheVariants.{Refused as ToldRefused}
 use Rattle.jv_model.specs.declared.fault.Busy.TheVariants.{Lists}
 use Rattle.jv_model.specs.declared.fault.Device.{Device}
 use Rattle.jv_model.specs.declared.fault.Device.TheVariants.{Keeper, Depot, Shelf, Carrier}
-use Rattle.jv_model.specs.declared.fault.Down.{Down}
 use Rattle.jv_model.specs.declared.fault.Fault.{Fault}
-use Rattle.jv_model.specs.declared.fault.Fault.TheVariants.{Contended, DeviceFailed, NoMemory, Stale}
-use Rattle.jv_model.specs.declared.fault.Gone.TheVariants.{Session, Node}
+use Rattle.jv_model.specs.declared.fault.Fault.TheVariants.{Contended, DeviceFailed, NoMemory}
 use Rattle.jv_model.specs.declared.fault.RowFault.TheVariants.{Bad, Failed, Memory}
 use Rattle.jv_model.specs.declared.fault.TxFault.{TxFault}
 use Rattle.jv_model.specs.declared.fault.TxFault.TheVariants.{Refused as RefusedBy, Moved, Rows as OfRows}
 use Rattle.jv_model.specs.declared.op.Reply.TheVariants.{Refused}
 use Rattle.jv_model.specs.declared.op.Step.TheVariants.{Done}
-use Rattle.jv_model.specs.client.ModelClient.{ModelClient, Doing as ModelDoing, file_of, held_inodes, inode_at, inode_in, is_among, session_of}
+use Rattle.jv_model.specs.client.ModelClient.{ModelClient, Doing as ModelDoing, inode_at, inode_in, session_of}
 use Rattle.jv_model.specs.client.Profile.{handle_of}
 use Rattle.jv_model.specs.journal.Reading.{asked_parts}
 use Rattle.jv_model.specs.journal.State.{State, after_told}
@@ -30,7 +26,7 @@ use Rattle.jv_volume.specs.Holding.{IsHoldable}
 use Rattle.jv_cache.specs.Cached.{Cached}
 use Rattle.jv_data.specs.Committing.{length_seen}
 use Rattle.jv_data.specs.Records.{LooksAt}
-use Rattle.jv_shared.specs.Keeping.{HoldsSame, KeepsShared}
+use Rattle.jv_shared.specs.Keeping.{KeepsShared}
 use Rattle.jv_shared.specs.Shared.{HasStore, Known, Shared}
 use Rattle.jv_shared.proofs.SameLaws.{same-rows, same-stays}
 use Rattle.jv_handles.specs.declared.handle.Handle.{Handle}
@@ -43,17 +39,19 @@ use Rattle.jv_fetching.proofs.SameLaws.{fetches_show}
 use Rattle.jv_steps.specs.Stages.{MayRead}
 use Rattle.jv_steps.proofs.LookStepLaws.{window-needed}
 use Rattle.jv_requests.specs.Request.{Request}
-use Rattle.jv_requests.proofs.LookLaws.{SeesNone, NoSession, NoFile, look-never_bad, look-never_moved, look-refused, sees_none}
+use Rattle.jv_requests.proofs.LookLaws.{SeesNone, NoSession, NoFile, look-never_bad, look-never_moved, look-refused}
+use Rattle.jv_requests.proofs.LookLaws.{sees_none}
 use Rattle.jv_requests.proofs.StillLaws.{found-in}
 use Rattle.jv_client.specs.declared.doing.Doing.{Doing}
 use Rattle.jv_client.specs.declared.made.Made.{Made}
 use Rattle.jv_client.specs.declared.made.Made.TheVariants as made
 use Rattle.jv_client.specs.ClientValue.{ClientValue, session_here}
-use Rattle.jv_client.specs.Ending.{ended, refused_here}
-use Rattle.jv_client.specs.Held.{Holds, IsClient, flight_in, in_flight, number_of}
+use Rattle.jv_client.specs.Ending.{refused_here}
+use Rattle.jv_client.specs.Held.{Holds, IsClient, in_flight}
 use Rattle.jv_client.specs.Makes.{Makes, StepsTo, UsesDevices, faults_of, is_failure_of, is_same_device}
 use Rattle.jv_client.specs.Transacting.{EndsUnmade}
-use Rattle.jv_client.specs.UnderWay.{IsReady, IsUnderWay}
+use Rattle.jv_client.specs.UnderWay.{IsReady}
+use Rattle.jv_client.proofs.AnswerLaws.{refused-rests, rests-flight, rests-ready}
 use Rattle.jv_client.proofs.EndingLaws.{holds-told}
 use Rattle.jv_client.proofs.HeldLaws.{doing_of}
 use Rattle.jv_client.proofs.KeptLaws.{cache-goes, held-goes, told-client}
@@ -62,17 +60,6 @@ use Rattle.jv_client.proofs.ReaderLaws.{IsAsking, asking, busy_in, file_by, hand
 use Rattle.jv_client.proofs.GoneOnLaws.{over}
 use Rattle.jv_client.proofs.ReadFailedLaws.{failed, held-cache}
 use Rattle.jv_client.proofs.LookLaws.{uses-look}
-
--- a refusal leaves the client without an operation, and its name and limits
-record Rests (h after : ClientValue) : Type 0 where
-  id : after.id ≡ h.id
-  limits : after.limits ≡ h.limits
-  idle : after.doing ≡ None
-
-refused-rests : (fault : Fault) (h : ClientValue) → Rests h (refused_here fault h)
-refused-rests (Stale (Session sid)) h = record { id = refl; limits = refl; idle = refl }
-refused-rests (Stale (Node inode)) h = record { id = refl; limits = refl; idle = refl }
-refused-rests _ h = record { id = refl; limits = refl; idle = refl }
 
 -- the keeper failed
 uses-failed : (before : Shared) (keeper : Store) → keeper.rows ≡ before.keeper.rows
@@ -191,7 +178,7 @@ module _ (now entry block : ℕ) (h : ClientValue) (d : Doing) (offset len : ℕ
     stays = same-stays 0 g before used (same-rows before keeper before.carrier looks.looks.rows_are)
 
     none_flies : in_flight (refused_here fault c) ≡ 0
-    none_flies = ap (λ o. number_of (flight_in (refused_here fault c).pending o)) (refused-rests fault c).idle
+    none_flies = rests-flight c (refused_here fault c) (refused-rests fault c)
 
     refused-leads : StepsTo s g before h now (Quiet ∷ Answered (ToldRefused fault) ∷ []) (Done (Refused fault))
         (refused_here fault c) used
@@ -227,10 +214,7 @@ module _ (now entry block : ℕ) (h : ClientValue) (d : Doing) (offset len : ℕ
       (record {
         id = rests.id;
         limits = rests.limits;
-        ready = record {
-          buffer = subst (λ (limits : Limits). MAX_DATA ≤ limits.buffer) (sym rests.limits) asks.buffer;
-          doing = subst (λ (o : Option Doing). IfSome o (IsUnderWay (refused_here fault c))) (sym rests.idle) tt;
-        };
+        ready = rests-ready c (refused_here fault c) rests ready;
         devices = uses-look (made.Both Quiet (ToldRefused fault) (Refused fault)) before keeper (λ device. refl)
             looks.looks.rows_are looks.looks.opened_at looks.looks.counts tt;
         falls = rests.idle;

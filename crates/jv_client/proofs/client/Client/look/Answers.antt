@@ -1,8 +1,6 @@
 -- The look wasn't made, or memory ran out after it, or the reading goes on with its view or is answered.
-use Rattle.std.proofs.Common.{ℕ, Ok, Err, Some, None, refl, sym, ap, subst, ◌∙◌, ◌≡◌, length}
-use Rattle.std.specs.Prelude.{IfSome}
+use Rattle.std.proofs.Common.{Ok, Err, sym, ap, subst, ◌∙◌, ◌≡◌, length}
 use Rattle.std.proofs.lemmas.List.{with_items_is}
-use Rattle.jv_model.specs.client.Profile.{handle_of}
 use Rattle.jv_data.specs.declared.looking.View.{View as Looked}
 use Rattle.jv_data.specs.Records.{LooksAt}
 use Rattle.jv_handles.specs.Handles.{inode_here}
