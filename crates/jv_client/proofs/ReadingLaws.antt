@@ -45,6 +45,7 @@ use Rattle.jv_client.specs.UnderWay.{left_of, reading_steps, steps_in, steps_lef
 use Rattle.jv_client.specs.Reading.{Begins, ClientComesTo, ComesTo, GoesAhead, IsAhead, IsCachedAs, IsMade}
 use Rattle.jv_client.specs.Reading.{OnlyLooksUp, ReadsAtOnce, need_at, need_in}
 use Rattle.jv_client.specs.Reading.{put_at, read_of}
+use Rattle.jv_client.proofs.FormLaws.{that_does, under_way}
 
 -- ---- an operation that reads
 
@@ -102,20 +103,12 @@ pub record ReadsHere (h : ClientValue) (offset len : ℕ) : Type 0 where
   pub file : ReadsFile h d offset len
   pub opened : file_of h.handles (handle_of d.op) ≡ Some file.file
 
-that_reads : (o : Option Doing) (offset len : ℕ) → does_of o ≡ Some (does.Reads offset len)
-    → (d : Doing) × (o ≡ Some d) × (d.does ≡ does.Reads offset len)
-that_reads None offset len e = absurd (cc e)
-that_reads (Some d) offset len e = (d, refl, cc e)
-
-pub under : (h : ClientValue) (d : Doing) → h.doing ≡ Some d → IsReady h → IsUnderWay h d
-under h d busy ready = subst (λ (o : Option Doing). IfSome o (IsUnderWay h)) busy ready.doing
-
 pub reads-here : (h : ClientValue) (offset len : ℕ) → does_of h.doing ≡ Some (does.Reads offset len) → IsReady h
     → ReadsHere h offset len
-reads-here h offset len does ready =
-    let that = that_reads h.doing offset len does in
+reads-here h offset len reads ready =
+    let that = that_does h.doing (does.Reads offset len) reads in
     let d : Doing = that.0 in
-    let file = reads-file h d offset len that.2 (under h d that.1 ready).form in
+    let file = reads-file h d offset len that.2 (under_way h d that.1 ready).form in
     record {
       d = d;
       busy = that.1;
@@ -205,7 +198,7 @@ module _ (h : ClientValue) where
       let d : Doing = at.0 in
       let fetch : Fetching = at.1 in
       let is : d ≡ put_at (Reading fetch next) d = ap (λ p. put_at p d) at.3 in
-      let reads : IsReading h d fetch next = subst (IsAt h d) at.3 (under h d at.2 ready).at in
+      let reads : IsReading h d fetch next = subst (IsAt h d) at.3 (under_way h d at.2 ready).at in
       record {
         d = d;
         fetch = fetch;
@@ -238,7 +231,7 @@ module _ (offset len block : ℕ) (h : ClientValue) (d : Doing) (busy : h.doing 
   opened = ap (λ o. file_of h.handles (handle_of o)) on.op_is ∙ on.opened
 
   not_begun : NotBegun d
-  not_begun = not-begun h d (under h d busy ready) (flushed-here h d busy none) (ap need_in (sym busy) ∙ first)
+  not_begun = not-begun h d (under_way h d busy ready) (flushed-here h d busy none) (ap need_in (sym busy) ∙ first)
 
   -- the steps that are left before it
   most : steps_left h ≡ 3 * length h.pending + (len + 2) - 0

@@ -41,11 +41,12 @@ use Rattle.jv_client.specs.Makes.{Makes, tells_failure}
 use Rattle.jv_client.specs.Transacting.{Fails}
 use Rattle.jv_client.specs.UnderWay.{IsReady, asks_more, does_of, has_more, has_not_seen, has_segment, left}
 use Rattle.jv_client.specs.Reading.{Begins, IsAhead, IsCachedAs, ReadsAtOnce, Shows, need_in, read_of, told_read}
+use Rattle.jv_client.proofs.FormLaws.{under_way}
 use Rattle.jv_client.proofs.HeldLaws.{client-doing, doing_of, holds-doing}
 use Rattle.jv_client.proofs.KeptLaws.{client-ended}
 use Rattle.jv_client.proofs.AnswerLaws.{makes-as, makes-ended, not_ending, request-lands, uses-none}
 use Rattle.jv_client.proofs.ReadingLaws.{NotBegun, ReadsFile, flushed-here, flushed-model, not-begun, reads-as, reads-file}
-use Rattle.jv_client.proofs.ReadingLaws.{reads-here, seen_first, seen_window, sized-here, there, under}
+use Rattle.jv_client.proofs.ReadingLaws.{reads-here, seen_first, seen_window, sized-here, there}
 
 -- ---- a client with another cache
 
@@ -136,13 +137,13 @@ module _ (now entry offset len : ℕ) (h middle : ClientValue) (d : Doing) (busy
     (is : d.does ≡ does.Reads offset len) (ready : IsReady h) (none : left h ≡ None) (first : need_in h.doing ≡ None)
     (v : Shared) (found : Found) (reads : ReadsAtOnce offset len v.yard.setting.block h middle found) where
   on : ReadsFile h d offset len
-  on = reads-file h d offset len is (under h d busy ready).form
+  on = reads-file h d offset len is (under_way h d busy ready).form
 
   opened : file_of h.handles (handle_of d.op) ≡ Some on.file
   opened = ap (λ o. file_of h.handles (handle_of o)) on.op_is ∙ on.opened
 
   not_begun : NotBegun d
-  not_begun = not-begun h d (under h d busy ready) (flushed-here h d busy none) (ap need_in (sym busy) ∙ first)
+  not_begun = not-begun h d (under_way h d busy ready) (flushed-here h d busy none) (ap need_in (sym busy) ∙ first)
 
   module _ (s : State) (g : Known) (store : HasStore s.tree g v) (client : IsClient g v (s.clients h.id) s.count h)
     where
@@ -166,7 +167,7 @@ module _ (now entry offset len : ℕ) (h middle : ClientValue) (d : Doing) (busy
 
       still : d.has_moved ≡ false
       still = false_from_ne_true d.has_moved (λ moved.
-          let asks : has_more h d d.progress ≡ true = (under h d busy ready).asks moved in
+          let asks : has_more h d d.progress ≡ true = (under_way h d busy ready).asks moved in
           let nothing : has_more h d d.progress ≡ false =
           ap (λ (p : Progress). has_more h d p) not_begun.progress
           ∙ or_from (has_segment h d) (asks_more h d) (ap is_some (flushed-here h d busy none)) seen in

@@ -64,8 +64,9 @@ impl Client {
         requires flushed { left self.old ≡ None }
         requires block { let seen = ⟦<Yard<D, H> as ObservedYard>⟧.seen in
             IsLength (seen yard.old).setting.block }
-        ensures { let seen = ⟦<Yard<D, H> as ObservedYard>⟧.seen in (now : ℕ) (carrier : Carriage) → Makes now entry
-            self.old self.new (shared (K.seen k.old) (seen yard.old) carrier)
+        ensures { let seen = ⟦<Yard<D, H> as ObservedYard>⟧.seen in
+            (now : ℕ) (carrier : Carriage) → Makes now entry self.old self.new
+            (shared (K.seen k.old) (seen yard.old) carrier)
             (shared (K.seen k.new) (seen yard.new) carrier) result }
     {
         if let Some(need) = self.need() {
