@@ -1,11 +1,10 @@
 -- An operation ends with an answer: what that leaves of the client, what it does to devices, and the answer that memory ran out or a
 -- device failed.
-use Rattle.std.proofs.Common.{◌≡◌, ◌≢◌, ℕ, ◌+◌, ◌≤◌, true, false, List, [], ◌∷◌, length, Option, None, Some, refl, sym, ap, subst, ◌∙◌, arith}
+use Rattle.std.proofs.Common.{◌≡◌, ℕ, ◌+◌, ◌≤◌, true, false, List, Option, None, Some, refl, sym, ap, subst, arith}
 use Rattle.std.specs.Prelude.{IfSome}
 use Rattle.jv_model.specs.declared.limits.TheConstants.{MAX_DATA}
 use Rattle.jv_model.specs.declared.basics.Limits.{Limits}
 use Rattle.jv_model.specs.declared.act.ActKind.{ActKind}
-use Rattle.jv_model.specs.declared.act.ActKind.TheVariants.{Answered as IsAnswered}
 use Rattle.jv_model.specs.declared.act.Told.{Told}
 use Rattle.jv_model.specs.declared.act.Told.TheVariants.{Fine, Looks, Refused as ToldRefused}
 use Rattle.jv_model.specs.declared.fault.Device.{Device}
@@ -19,15 +18,15 @@ use Rattle.jv_model.specs.declared.op.Reply.TheVariants.{Refused as RefusedReply
 use Rattle.jv_model.specs.declared.op.Step.{Step}
 use Rattle.jv_model.specs.declared.op.Step.TheVariants.{Done}
 use Rattle.jv_model.specs.tree.Tree.{Tree}
-use Rattle.jv_model.specs.client.ModelClient.{ModelClient, Doing as ModelDoing}
-use Rattle.jv_model.specs.journal.State.{State, after_told}
+use Rattle.jv_model.specs.client.ModelClient.{ModelClient}
+use Rattle.jv_model.specs.journal.State.{State}
 use Rattle.jv_model.specs.journal.Steps.{is_failure, must_answer}
 use Rattle.jv_outside.specs.Causes.{RoseIf}
-use Rattle.jv_shared.specs.Keeping.{HoldsSame, KeepsShared}
+use Rattle.jv_shared.specs.Keeping.{HoldsSame}
 use Rattle.jv_shared.specs.Shared.{HasStore, Known, Shared}
 use Rattle.jv_shared.proofs.SameLaws.{same-none, same-stays}
 use Rattle.jv_steps.proofs.RefusalStepLaws.{goes-reading, goes-working}
-use Rattle.jv_requests.specs.Request.{IsApart, Request}
+use Rattle.jv_requests.specs.Request.{Request}
 use Rattle.jv_requests.proofs.StillLaws.{failure-request}
 use Rattle.jv_client.specs.declared.doing.Doing.{Doing}
 use Rattle.jv_client.specs.declared.doing.Progress.{Progress}
@@ -37,7 +36,7 @@ use Rattle.jv_client.specs.declared.made.Made.TheVariants as made
 use Rattle.jv_client.specs.ClientValue.{ClientValue}
 use Rattle.jv_client.specs.Ending.{ended, finished_here, refused_here, told_here}
 use Rattle.jv_client.specs.Held.{Holds, IsClient, flight_in, in_flight, number_of, stage_of}
-use Rattle.jv_client.specs.Makes.{Falls, HasNoFailure, Makes, StepsTo, TellsBad, UsesDevices, asks_nothing, faults_of, is_failure_of, kinds_of, step_of, tells_failure}
+use Rattle.jv_client.specs.Makes.{Falls, Makes, StepsTo, TellsBad, UsesDevices, faults_of, kinds_of, step_of, tells_failure}
 use Rattle.jv_client.specs.Transacting.{Fails}
 use Rattle.jv_client.specs.UnderWay.{IsReady, IsUnderWay}
 use Rattle.jv_client.proofs.HeldLaws.{client-doing, doing_of, holds-doing}

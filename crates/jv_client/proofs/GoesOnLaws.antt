@@ -1,6 +1,6 @@
 -- A request after which the operation in progress goes on: what the client itself has to show for it, and what is left
 -- to show of the model.
-use Rattle.std.proofs.Common.{◌≡◌, ℕ, ◌+◌, ◌-◌, ◌≤◌, ◌<◌, IsTrue, [], ◌∷◌, length, Option, None, Some}
+use Rattle.std.proofs.Common.{◌≡◌, ℕ, ◌+◌, ◌≤◌, ◌<◌, IsTrue, [], ◌∷◌, length, Option, None, Some}
 use Rattle.std.proofs.Common.{refl, sym, ap, subst, ◌∙◌, arith}
 use Rattle.std.specs.Prelude.{IfSome, List, is_some}
 use Rattle.jv_model.specs.declared.basics.Limits.{Limits}

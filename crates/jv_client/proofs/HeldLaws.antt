@@ -10,7 +10,6 @@ use Rattle.jv_shared.specs.Shared.{Known, Shared}
 use Rattle.jv_client.specs.declared.doing.Doing.{Doing}
 use Rattle.jv_client.specs.ClientValue.{ClientValue}
 use Rattle.jv_client.specs.Held.{Holds, IsClient, IsDoing, IsHeld, flush_of_code, stage_of}
-use Rattle.jv_handles.specs.Held.{SamePlace}
 use Rattle.jv_handles.proofs.TableLaws.{there_in}
 
 -- ---- what the model's client is doing

@@ -1,6 +1,6 @@
 -- A client stays stood for while what clients share goes on: another one's, and the one whose step it is, as its operation goes on
 -- or ends.
-use Rattle.std.proofs.Common.{◌≡◌, ◌≢◌, ℕ, ◌+◌, ◌<◌, ◌≤◌, true, false, List, length, Option, None, Some, refl, sym, ap, subst, ◌∙◌, arith}
+use Rattle.std.proofs.Common.{◌≡◌, ◌≢◌, ℕ, ◌<◌, ◌≤◌, true, false, length, Option, None, Some, refl, sym, ap, subst, ◌∙◌}
 use Rattle.std.specs.Prelude.{IfSome, IsSomeAnd}
 use Rattle.jv_model.specs.declared.act.Told.{Told}
 use Rattle.jv_model.specs.declared.act.Told.TheVariants.{Fine, Looks, Refused as ToldRefused}
@@ -12,16 +12,16 @@ use Rattle.jv_model.specs.declared.op.Op.TheVariants as op
 use Rattle.jv_model.specs.declared.setting.Setting.{Setting}
 use Rattle.jv_model.specs.blocks.Slices.{block_count}
 use Rattle.jv_model.specs.tree.Tree.{Tree}
-use Rattle.jv_model.specs.client.ModelClient.{ModelClient, Doing as ModelDoing, Stage, file_of}
+use Rattle.jv_model.specs.client.ModelClient.{ModelClient, Doing as ModelDoing, file_of}
 use Rattle.jv_model.specs.client.Profile.{handle_of}
 use Rattle.jv_model.specs.journal.State.{after_told}
 use Rattle.jv_model.specs.journal.Steps.{asked_of}
-use Rattle.jv_volume.specs.TypedRows.{Rows, typed}
+use Rattle.jv_volume.specs.TypedRows.{Rows}
 use Rattle.jv_volume.specs.Slices.{next_slice}
 use Rattle.jv_cache.specs.Cached.{Cached}
 use Rattle.jv_contents.specs.Flights.{Flight}
 use Rattle.jv_shared.specs.Keeping.{KeepsShared}
-use Rattle.jv_shared.specs.Shared.{HasStore, Known, Shared, rows_in}
+use Rattle.jv_shared.specs.Shared.{HasStore, Known, Shared}
 use Rattle.jv_shared.proofs.KeepingLaws.{flies-stay}
 use Rattle.jv_shared.proofs.StoreLaws.{rows_are}
 use Rattle.jv_handles.specs.declared.handle.Handle.{Handle}
@@ -29,7 +29,6 @@ use Rattle.jv_handles.specs.Held.{SamePlace}
 use Rattle.jv_handles.proofs.HandleLaws.{handles-stay}
 use Rattle.jv_handles.proofs.SeenLaws.{views-later}
 use Rattle.jv_fetching.specs.Calls.{IsCacheOf}
-use Rattle.jv_fetching.specs.Fetching.{Fetching}
 use Rattle.jv_fetching.specs.Going.{IsFetching}
 use Rattle.jv_fetching.proofs.CacheLaws.{cache_of-later}
 use Rattle.jv_fetching.proofs.FetchLaws.{come}

@@ -33,7 +33,6 @@ use Rattle.jv_flushing.proofs.UsedLaws.{PutUses, put-uses, put_fails}
 use Rattle.jv_requests.specs.Request.{Request}
 use Rattle.jv_requests.proofs.PutLaws.{put-fails, put-request}
 use Rattle.jv_client.specs.declared.doing.Doing.{Doing}
-use Rattle.jv_client.specs.declared.doing.Progress.{Progress}
 use Rattle.jv_client.specs.declared.doing.Progress.TheVariants.{Working}
 use Rattle.jv_client.specs.declared.made.Made.{Made}
 use Rattle.jv_client.specs.declared.made.Made.TheVariants.{Answer, Request as AsksFor}

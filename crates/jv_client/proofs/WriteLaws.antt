@@ -1,13 +1,11 @@
 -- A write that there is room for is answered in its only step; or memory ran out.
-use Rattle.std.proofs.Common.{◌≡◌, ℕ, ◌+◌, ◌≤◌, true, false, IfSome, List, [], ◌∷◌, length, Option, None, Some, refl, sym, ap, subst, ◌∙◌, arith}
+use Rattle.std.proofs.Common.{◌≡◌, ℕ, ◌+◌, ◌≤◌, true, false, List, [], ◌∷◌, length, Option, None, Some, refl, sym, ap, subst, ◌∙◌, arith}
 use Rattle.std.specs.Prelude.{is_some}
 use Rattle.jv_model.specs.declared.limits.TheConstants.{FILE_END}
-use Rattle.jv_model.specs.declared.act.ActKind.TheVariants.{Answered as IsAnswered}
 use Rattle.jv_model.specs.declared.act.Told.TheVariants.{Fine}
 use Rattle.jv_model.specs.declared.op.Op.{Op}
 use Rattle.jv_model.specs.declared.op.Op.TheVariants as op
 use Rattle.jv_model.specs.declared.op.Reply.TheVariants.{Count}
-use Rattle.jv_model.specs.declared.op.Step.TheVariants.{Done}
 use Rattle.jv_model.specs.declared.profile.Answer.TheVariants as answer
 use Rattle.jv_model.specs.declared.profile.Does.{Does}
 use Rattle.jv_model.specs.declared.profile.Does.TheVariants as does
@@ -20,18 +18,16 @@ use Rattle.jv_handles.specs.Handles.{inode_here}
 use Rattle.jv_shared.specs.Shared.{Shared}
 use Rattle.jv_shared.proofs.KeepingLaws.{stays-none}
 use Rattle.jv_client.specs.declared.doing.Doing.{Doing}
-use Rattle.jv_client.specs.declared.doing.Flush.{Flush}
-use Rattle.jv_client.specs.declared.doing.Flush.TheVariants as flush
 use Rattle.jv_client.specs.declared.made.Made.TheVariants as made
 use Rattle.jv_client.specs.ClientValue.{ClientValue}
 use Rattle.jv_client.specs.Held.{segment_left}
-use Rattle.jv_client.specs.UnderWay.{Alone, Beside, Closes, Copies, Describes, Flushes, FlushesFor, HasKept, HasRoom, IsForm, IsReady, Leaves, MayKeep, Mounts, Reads, ReadsNothing, Syncs, TellsStats, Transacts, Truncates, Writes, ends_itself, has_segment, keeps, left, left_of}
+use Rattle.jv_client.specs.UnderWay.{Alone, Beside, Closes, Copies, Describes, Flushes, FlushesFor, HasKept, HasRoom, IsForm, IsReady, Leaves, MayKeep, Mounts, Reads, ReadsNothing, Syncs, TellsStats, Transacts, Truncates, Writes, ends_itself, keeps, left, left_of}
 use Rattle.jv_client.specs.Makes.{Makes}
 use Rattle.jv_client.proofs.HeldLaws.{client-doing, doing_of}
-use Rattle.jv_client.proofs.KeptLaws.{cache-goes, held-goes}
+use Rattle.jv_client.proofs.KeptLaws.{held-goes}
 use Rattle.jv_client.proofs.AnswerLaws.{makes-as}
 use Rattle.jv_client.proofs.FormLaws.{flushed-same, none_left, under_way}
-use Rattle.jv_client.proofs.AtOnceLaws.{IsDone, answers-makes, is_done}
+use Rattle.jv_client.proofs.AtOnceLaws.{answers-makes, is_done}
 use Rattle.jv_client.proofs.WrittenLaws.{model_wrote, wrote, wrote-client, wrote-holds}
 
 -- ---- from the form of the operation

@@ -1,6 +1,6 @@
 -- The lines that a session runs today: eight clients, step by step, with all operations on metadata and on the bytes of files, in
 -- direct mode.
-use Rattle.std.specs.Prelude.{ℕ, Bool, true, false, ◌||◌, not, nat_le, length}
+use Rattle.std.specs.Prelude.{Bool, true, false, ◌||◌, not, nat_le, length}
 use Rattle.jv_model.specs.declared.limits.TheConstants.{MAX_DATA}
 use Rattle.jv_model.specs.declared.basics.Limits.{Limits}
 use Rattle.jv_model.specs.declared.op.Op.{Op}

@@ -1,7 +1,6 @@
 -- When a client in memory stands for one of the model.
-use Rattle.std.specs.Prelude.{◌≡◌, ℕ, Bool, true, false, ◌-◌, ◌≤◌, ◌&&◌, ◌+◌, not, nat_lt, if◌then◌else◌, zero, suc, List, [], ◌∷◌, length, IfSome, IsSomeAnd, Option, None, Some, Result, Ok, Err}
+use Rattle.std.specs.Prelude.{◌≡◌, ℕ, Bool, true, false, ◌≤◌, ◌&&◌, ◌+◌, not, nat_lt, if◌then◌else◌, zero, suc, List, [], ◌∷◌, length, IfSome, IsSomeAnd, Option, None, Some, Result, Ok, Err}
 use Rattle.std.specs.List.{AllByRecursion}
-use Rattle.std.specs.Option.{option_map}
 use Rattle.jv_model.specs.declared.fault.Fault.{Fault}
 use Rattle.jv_model.specs.declared.op.Op.{Op}
 use Rattle.jv_model.specs.declared.profile.Does.{Does}
@@ -9,7 +8,7 @@ use Rattle.jv_model.specs.declared.profile.Profile.{Profile}
 use Rattle.jv_model.specs.declared.profile.Flushes.TheVariants.{Nothing, ItsFiles, IfFull, Everything}
 use Rattle.jv_model.specs.declared.profile.Handles.{Handles}
 use Rattle.jv_model.specs.declared.profile.Handles.TheVariants as named
-use Rattle.jv_model.specs.blocks.Slices.{block_at, block_count}
+use Rattle.jv_model.specs.blocks.Slices.{block_count}
 use Rattle.jv_model.specs.tree.Tree.{Tree}
 use Rattle.jv_model.specs.client.Pending.{PendingByte, Segment, bytes_in_range}
 use Rattle.jv_model.specs.client.Profile.{handle_of}
@@ -17,8 +16,6 @@ use Rattle.jv_model.specs.client.ModelClient.{ModelClient, View as ModelView, Do
 use Rattle.jv_model.specs.client.Submission.{next_segment}
 use Rattle.jv_model.specs.journal.Steps.{asked_of}
 use Rattle.jv_volume.specs.Holding.{IsHoldable}
-use Rattle.jv_cache.specs.declared.key.BlockKey.{BlockKey}
-use Rattle.jv_cache.specs.Cached.{Cached, found_in}
 use Rattle.jv_contents.specs.Flights.{Flight}
 use Rattle.jv_fetching.specs.Going.{IsFetching}
 use Rattle.jv_fetching.specs.Calls.{IsCacheOf}

@@ -1,5 +1,5 @@
 -- What a step makes of a client and of what all clients share.
-use Rattle.std.specs.Prelude.{◌≡◌, ◌≢◌, ℕ, ◌+◌, ◌≤◌, ◌<◌, Bool, true, false, List, [], ◌∷◌, ◌++◌, map, length, IsSome, IsTrue, IfSome, None}
+use Rattle.std.specs.Prelude.{◌≡◌, ℕ, ◌+◌, ◌<◌, Bool, true, false, List, [], ◌∷◌, ◌++◌, map, length, IsSome, IsTrue, IfSome, None}
 use Rattle.jv_model.specs.declared.act.Act.{Act}
 use Rattle.jv_model.specs.declared.act.ActKind.{ActKind}
 use Rattle.jv_model.specs.declared.act.ActKind.TheVariants.{Answered}
@@ -13,17 +13,10 @@ use Rattle.jv_model.specs.declared.op.Step.TheVariants.{More, Done, Broken}
 use Rattle.jv_model.specs.tree.Tree.{Tree}
 use Rattle.jv_model.specs.client.ModelClient.{ModelClient}
 use Rattle.jv_model.specs.journal.State.{State}
-use Rattle.jv_model.specs.journal.Steps.{Start}
-use Rattle.jv_model.specs.journal.Stepping.{AllowsStep, stepped_by, entry_of}
+use Rattle.jv_model.specs.journal.Stepping.{entry_of}
 use Rattle.jv_outside.specs.Causes.{RoseIf}
 use Rattle.jv_rows.specs.Transactions.{IsBad}
-use Rattle.jv_volume.specs.TypedRows.{Rows, typed}
-use Rattle.jv_volume.specs.Slices.{next_slice}
-use Rattle.jv_volume.specs.Holding.{Stays}
-use Rattle.jv_contents.specs.Counts.{record_count}
-use Rattle.jv_contents.specs.Flights.{Flight}
-use Rattle.jv_shared.specs.Flying.{Flies}
-use Rattle.jv_shared.specs.Keeping.{Leads}
+use Rattle.jv_volume.specs.TypedRows.{typed}
 use Rattle.jv_shared.specs.Shared.{HasStore, Known, Shared}
 use Rattle.jv_requests.specs.Request.{Request}
 use Rattle.jv_client.specs.declared.made.Made.{Made}

@@ -1,5 +1,5 @@
 -- What a client tells of its cache.
-use Rattle.std.specs.Prelude.{◌≡◌, ℕ, List, length, Option, None, Some}
+use Rattle.std.specs.Prelude.{◌≡◌, ℕ, length, Option, None, Some}
 use Rattle.jv_model.specs.declared.act.Told.TheVariants.{Fine}
 use Rattle.jv_model.specs.declared.op.Reply.TheVariants.{CacheStats}
 use Rattle.jv_cache.specs.Cached.{Cached}

@@ -1,5 +1,5 @@
 -- What the transaction of an operation promises, without a journal, and what its answer makes of the client.
-use Rattle.std.specs.Prelude.{◌≡◌, ℕ, Bool, true, ◌&&◌, List, ◌∷◌, [], ◌++◌, Option, None, Some, Result, Ok, Err, IfSome}
+use Rattle.std.specs.Prelude.{◌≡◌, ℕ, Bool, true, ◌&&◌, List, ◌∷◌, [], ◌++◌, Option, None, Some, Result, IfSome}
 use Rattle.jv_model.specs.declared.act.ActKind.{ActKind}
 use Rattle.jv_model.specs.declared.act.Told.TheVariants.{Refused as ToldRefused}
 use Rattle.jv_model.specs.declared.fault.Busy.TheVariants.{Lists}
@@ -11,14 +11,13 @@ use Rattle.jv_model.specs.declared.fault.TxFault.{TxFault}
 use Rattle.jv_model.specs.declared.fault.TxFault.TheVariants.{Refused, Moved, Rows as OfRows}
 use Rattle.jv_model.specs.declared.op.Op.{Op}
 use Rattle.jv_model.specs.declared.op.Op.TheVariants as op
-use Rattle.jv_model.specs.declared.op.Reply.{Reply}
 use Rattle.jv_model.specs.declared.op.Reply.TheVariants.{Refused as RefusedReply}
 use Rattle.jv_model.specs.script.Spelled.{is_spelled}
 use Rattle.jv_model.specs.tree.Caller.{Caller}
 use Rattle.jv_model.specs.client.ModelClient.{free_handle, with_file}
 use Rattle.jv_model.specs.client.Profile.{handle_of}
 use Rattle.jv_model.specs.journal.State.{Gift, NewSession, NewHandle, Nothing, gift_of}
-use Rattle.jv_model.specs.journal.Steps.{entry_of_gift, told_of}
+use Rattle.jv_model.specs.journal.Steps.{told_of}
 use Rattle.jv_outside.specs.Store.{Store}
 use Rattle.jv_rows.specs.Transactions.{Transacts, FaultCause, BadFault}
 use Rattle.jv_volume.specs.TypedRows.{typed}

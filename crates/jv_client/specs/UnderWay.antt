@@ -1,5 +1,5 @@
 -- What holds of a client's own state before each step.
-use Rattle.std.specs.Prelude.{◌≡◌, ◌≢◌, ℕ, ◌+◌, ◌-◌, ◌*◌, ◌/◌, ◌≤◌, ◌<◌, Bool, true, false, ◌||◌, not, if◌then◌else◌, IsTrue, IfSome, IsSomeAnd, List, [], length, is_some, Option, None, Some}
+use Rattle.std.specs.Prelude.{◌≡◌, ◌≢◌, ℕ, ◌+◌, ◌-◌, ◌*◌, ◌/◌, ◌≤◌, ◌<◌, Bool, true, false, ◌||◌, not, IsTrue, IfSome, IsSomeAnd, List, [], length, is_some, Option, None, Some}
 use Rattle.jv_model.specs.declared.limits.TheConstants.{FILE_END, MAX_DATA, WINDOW}
 use Rattle.jv_model.specs.declared.op.Op.{Op}
 use Rattle.jv_model.specs.declared.op.Op.TheVariants as op
@@ -7,7 +7,6 @@ use Rattle.jv_model.specs.declared.op.Reply.{Reply}
 use Rattle.jv_model.specs.declared.op.Reply.TheVariants.{Done, Data}
 use Rattle.jv_model.specs.declared.act.Told.{Told}
 use Rattle.jv_model.specs.declared.act.Told.TheVariants.{Fine, Looks}
-use Rattle.jv_model.specs.declared.profile.Answer.{Answer}
 use Rattle.jv_model.specs.declared.profile.Answer.TheVariants as answer
 use Rattle.jv_model.specs.declared.profile.Does.{Does}
 use Rattle.jv_model.specs.declared.profile.Does.TheVariants as does

@@ -1,5 +1,5 @@
 -- The numbers are those of the cache, and the model takes them as they are.
-use Rattle.std.proofs.Common.{◌≡◌, length, ap, subst, refl, ◌∙◌}
+use Rattle.std.proofs.Common.{length, ap, subst, refl, ◌∙◌}
 use Rattle.std.specs.Prelude.{IfSome, IsTrue}
 use Rattle.jv_model.specs.declared.act.Told.TheVariants.{Fine}
 use Rattle.jv_model.specs.declared.op.Reply.TheVariants.{CacheStats}
