@@ -1,10 +1,9 @@
 -- Which line each entry of a journal belongs to.
-use Rattle.std.proofs.Common.{◌≡◌, ℕ, zero, suc, ◌+◌, ◌≤◌, ◌<◌, leb, false, MatchBool, List, [], ◌∷◌, ◌++◌, length, slice_get, IfSome, inl, inr, refl, ap, subst, ◌∙◌, arith}
+use Rattle.std.proofs.Common.{◌≡◌, ℕ, ◌+◌, ◌≤◌, ◌<◌, leb, false, MatchBool, List, [], ◌∷◌, ◌++◌, inl, inr, refl, ap, subst, ◌∙◌, arith}
 use Rattle.std.proofs.lemmas.Bool.{le-leb, lt-leb, cond-true, cond-false, cases_eq}
 use Rattle.std.proofs.lemmas.List.{append-nil}
 use Rattle.std.proofs.lemmas.List.Elements.{filter-append}
 use Rattle.jv_model.specs.declared.act.Act.{Act}
-use Rattle.jv_model.specs.declared.op.Line.{Line}
 use Rattle.jv_model.specs.journal.Legal.{Allowed, AllAllowed, OfLine, OfWorker}
 use Rattle.jv_model.specs.journal.Past.{Past, NoMore, is_workers, begun_to, advance, past}
 use Rattle.jv_laws.proofs.JournalGrowthLaws.{line_of_advance, begun_to-begun}

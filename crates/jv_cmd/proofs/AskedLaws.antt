@@ -7,7 +7,6 @@ use Rattle.clap.specs.Words.{Row, Text, Kinds, fault_of, first_of, subcommand_of
 use Rattle.clap.specs.declared.parser.matches.ArgMatches.{ArgMatches}
 use Rattle.jv_cmd.specs.declared.words.request.Command.{Command}
 use Rattle.jv_cmd.specs.declared.words.request.Command.TheVariants.{Format, Session}
-use Rattle.jv_cmd.specs.declared.words.request.SessionOptions.{SessionOptions}
 use Rattle.jv_cmd.specs.declared.words.request.WordsFault.{WordsFault}
 use Rattle.jv_cmd.specs.declared.words.request.WordsFault.TheVariants.{Refused, Memory}
 use Rattle.std.proofs.lemmas.Bool.{leb-true}

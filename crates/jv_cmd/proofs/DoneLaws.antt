@@ -1,20 +1,18 @@
 -- What lines that were run have done: none at first, and one line more.
-use Rattle.std.proofs.Common.{◌≡◌, ℕ, ◌+◌, ◌≤◌, ◌<◌, IsSomeAnd, IfSome, All, List, [], ◌∷◌, ◌++◌, length, map, Option, None, Some, refl, sym, ap, subst, ◌∙◌, arith}
+use Rattle.std.proofs.Common.{◌≡◌, ℕ, ◌+◌, ◌≤◌, ◌<◌, IsSomeAnd, IfSome, All, List, [], ◌∷◌, ◌++◌, length, Option, None, refl, sym, ap, subst, ◌∙◌, arith}
 use Rattle.std.proofs.lemmas.List.{append_assoc, length_push}
 use Rattle.std.proofs.lemmas.List.Elements.{All-push}
 use Rattle.std.specs.Io.KnownBytes.{prepend_known}
-use Rattle.jv_model.specs.declared.act.Act.{Act}
 use Rattle.jv_model.specs.declared.fault.Device.{Device}
 use Rattle.jv_model.specs.declared.limits.TheConstants.{MAX_LINE, MAX_LINES}
 use Rattle.jv_model.specs.declared.op.Line.{Line}
 use Rattle.jv_model.specs.declared.setting.Setting.{Setting}
-use Rattle.jv_model.specs.journal.Past.{at_start, begun_to}
+use Rattle.jv_model.specs.journal.Past.{at_start}
 use Rattle.jv_laws.proofs.JournalGrowthLaws.{begun_to-begun}
 use Rattle.jv_outside.proofs.StreamLaws.{Gains-nil}
 use Rattle.jv_outside.proofs.TicksLaws.{Passes-trans, Passes-zero}
-use Rattle.jv_shared.specs.Shared.{Shared}
 use Rattle.jv_client.specs.Makes.{faults_of}
-use Rattle.jv_session.specs.Lines.{AreFailures, LineUses, StaysOpen, device_failures}
+use Rattle.jv_session.specs.Lines.{LineUses, device_failures}
 use Rattle.jv_session.specs.Stands.{ScheduleValue, fresh_schedule}
 use Rattle.jv_session.proofs.UsesLaws.{both_failures, no_failures, rose_times-then, stays_then}
 use Rattle.jv_cmd.specs.Run.{Beginning, IsBuilt, IsKnownClock, StartsWhole, session_run, up_to}

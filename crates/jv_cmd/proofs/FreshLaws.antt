@@ -1,5 +1,5 @@
 -- Where a run starts.
-use Rattle.std.proofs.Common.{◌≡◌, ◌≢◌, ℕ, zero, suc, ◌+◌, ◌<◌, ◌≤◌, List, Option, None, Some, IfSome, slice_get, refl, sym, ap, subst, ◌∙◌, arith}
+use Rattle.std.proofs.Common.{◌≡◌, ℕ, zero, suc, ◌<◌, List, Option, Some, IfSome, slice_get, refl, sym, ap, subst, ◌∙◌, arith}
 use Rattle.jv_model.specs.declared.op.Line.{Line}
 use Rattle.jv_model.specs.declared.basics.Limits.{Limits}
 use Rattle.jv_model.specs.declared.setting.Setting.{Setting}
@@ -21,7 +21,7 @@ use Rattle.jv_shared.proofs.SettingLaws.{setting_length}
 use Rattle.jv_requests.specs.Request.{IsWithin}
 use Rattle.jv_client.specs.ClientValue.{ClientValue, fresh_client}
 use Rattle.jv_client.specs.Held.{in_flight}
-use Rattle.jv_session.specs.Stands.{AreApart, IsClientAt, IsState, Stands, fresh_schedule}
+use Rattle.jv_session.specs.Stands.{AreApart, IsClientAt, Stands, fresh_schedule}
 use Rattle.jv_cmd.specs.Run.{Beginning, StartsWhole, session_run, start_of}
 use Rattle.jv_cmd.specs.Stages.{StageValue}
 

@@ -1,5 +1,5 @@
 -- A stage's yard, which is in its door.
-use Rattle.std.proofs.Common.{◌≡◌, ℕ, ◌≤◌, List, Option, None, Some, IsSome, IsSomeAnd, refl, sym, ap, subst, arith}
+use Rattle.std.proofs.Common.{◌≡◌, ℕ, List, Option, None, Some, IsSome, IsSomeAnd, refl, sym, ap, subst, arith}
 use Rattle.jv_model.specs.declared.basics.Limits.{Limits}
 use Rattle.jv_model.specs.declared.setting.Setting.{Setting}
 use Rattle.jv_shared.specs.Lengths.{IsLength}

@@ -1,15 +1,11 @@
 -- What is seen of what the lines of a script use.
-use Rattle.std.specs.Prelude.{◌≡◌, ℕ, List, [], Option, None, Some}
+use Rattle.std.specs.Prelude.{◌≡◌, List, [], Option, None, Some}
 use Rattle.std.specs.Option.{option_map}
 use Rattle.jv_model.specs.declared.act.Act.{Act}
 use Rattle.jv_model.specs.declared.basics.Limits.{Limits}
 use Rattle.jv_model.specs.declared.setting.Setting.{Setting}
 use Rattle.jv_model.specs.FiniteMap.{empty_map}
-use Rattle.jv_outside.specs.Blocks.{StagedMap}
-use Rattle.jv_outside.specs.Carriage.{Carriage}
 use Rattle.jv_outside.specs.Holding.{Holding}
-use Rattle.jv_outside.specs.Objects.{ObjectMap}
-use Rattle.jv_outside.specs.Store.{Store}
 use Rattle.jv_outside.specs.Stream.{Stream}
 use Rattle.jv_outside.specs.Ticks.{Ticks}
 use Rattle.jv_volume.specs.TreeOf.{no_setting}

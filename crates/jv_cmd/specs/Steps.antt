@@ -1,5 +1,5 @@
 -- How a run gets from line to line.
-use Rattle.std.specs.Prelude.{◌≡◌, ℕ, ◌+◌, ◌≤◌, Bool, true, false, IsTrue, List, [], ◌∷◌, ◌++◌, map, length, All, Option, None, Some, IfSome, IsSomeAnd, Result, Ok, Err}
+use Rattle.std.specs.Prelude.{◌≡◌, ℕ, ◌+◌, ◌≤◌, false, List, [], ◌∷◌, ◌++◌, map, length, All, Option, None, Some, IfSome, IsSomeAnd, Result, Ok, Err}
 use Rattle.jv_model.specs.declared.act.Act.{Act}
 use Rattle.jv_model.specs.declared.basics.Limits.{Limits}
 use Rattle.jv_model.specs.declared.fault.Device.{Device}
@@ -15,7 +15,7 @@ use Rattle.jv_shared.specs.Shared.{Shared}
 use Rattle.jv_client.specs.Built.{is_built_line}
 use Rattle.jv_client.specs.Makes.{faults_of}
 use Rattle.jv_session.specs.Lines.{AreFailures, BreaksAt, CutsLine, FromThere, LineState, LineUses, StaysOpen, line_state}
-use Rattle.jv_session.specs.Stands.{IsYardOf, ScheduleValue, Stands}
+use Rattle.jv_session.specs.Stands.{ScheduleValue, Stands}
 use Rattle.jv_cmd.specs.declared.ended.Ended.{Ended}
 use Rattle.jv_cmd.specs.declared.ended.Ended.TheVariants.{OffLine, BadRow, OutFailed, ClockFailed, OutOfMemory}
 use Rattle.jv_model.specs.declared.limits.TheConstants.{MAX_LINE, MAX_LINES}

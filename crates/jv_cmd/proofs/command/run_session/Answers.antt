@@ -1,4 +1,4 @@
-use Rattle.std.proofs.Common.{refl, sym, subst}
+use Rattle.std.proofs.Common.{refl}
 use Rattle.jv_cmd.specs.Commands.{NotOpened}
 use Rattle.jv_session.proofs.UsesLaws.{no_failures}
 use Rattle.jv_cmd.proofs.CommandLaws.{CountsFaults-volume, RunsSession-volume}

@@ -1,4 +1,4 @@
-use Rattle.std.proofs.Common.{List, [], ℕ, refl, sym, ap, subst, ◌∙◌}
+use Rattle.std.proofs.Common.{List, [], ℕ, refl, sym, ap, subst}
 use Rattle.jv_outside.specs.Stream.{HasAll, IsCut, Stream}
 use Rattle.jv_outside.specs.Ticks.{Ticks}
 use Rattle.jv_outside.proofs.StreamLaws.{Gains-nil}

@@ -1,4 +1,4 @@
-use Rattle.std.proofs.Common.{ℕ, ◌<◌, take, Ok, ap, subst, arith}
+use Rattle.std.proofs.Common.{◌<◌, take, Ok, ap, subst, arith}
 use Rattle.std.specs.Io.KnownBytes.{prepend_known}
 use Rattle.jv_model.specs.declared.limits.TheConstants.{MAX_LINES}
 use Rattle.jv_cmd.specs.declared.reader.Next.{Next}
