@@ -1,15 +1,31 @@
 -- The text of a drawn script, line by line, and the totals of its answers, one by one.
-use Rattle.std.proofs.Common.{◌≡◌, ℕ, zero, suc, ◌+◌, ◌<◌, List, [], ◌∷◌, ◌++◌, length, take, drop, fold, None, Some, slice_get, refl, sym, ap, ◌∙◌, arith}
+use Rattle.std.proofs.Common.{◌≡◌, ℕ, zero, suc, ◌+◌, ◌-◌, ◌<◌, List, [], ◌∷◌, ◌++◌, length, take, drop, fold, if◌then◌else◌, is_some, Option, None, Some, slice_get, codes, refl, sym, ap, ◌∙◌, arith}
 use Rattle.std.specs.List.{flat_map, position}
-use Rattle.std.proofs.lemmas.List.{append_assoc, append-nil, take_all, drop_all}
+use Rattle.std.proofs.lemmas.List.{append_assoc, append-nil, length-drop, take_all, drop_all}
 use Rattle.jv_model.specs.declared.op.Line.{Line}
+use Rattle.jv_model.specs.script.Grammar.{line_of}
 use Rattle.jv_generator.specs.declared.accesses.TheConstants.{LINES}
-use Rattle.jv_generator.specs.Script.{script}
+use Rattle.jv_generator.specs.Script.{Drawn, script}
 use Rattle.jv_generator.specs.Summary.{TotalsValue, with_reply}
 use Rattle.jv_generator.proofs.ScriptLaws.{script_length}
-use Rattle.jv_cmd.specs.Generating.{line_text, replies_said, reply_said, script_text}
+use Rattle.jv_cmd.specs.Generating.{line_bytes, line_text, replies_said, reply_said, script_text, spelled_bytes, written}
 use Rattle.jv_cmd.specs.Texts.{is_feed, texts_of}
 use Rattle.jv_cmd.proofs.TextLaws.{around_feed, no_feed, texts_of-feed, texts_of-last}
+
+pub absent : (found : Option Line) → ((line : Line) → found ≡ Some line → ⊥) → found ≡ None
+absent None not = refl
+absent (Some line) not = absurd (not line refl)
+
+-- the generator's next line
+pub next_line : (seed : ℕ) (before after : Drawn) (found : Option Line) (line : Line) → before.seed ≡ seed
+    → found ≡ slice_get (script before.seed) before.given
+    → after ≡ record before { given = before.given + (if is_some found then 1 else 0) } → found ≡ Some line
+    → (after.seed ≡ seed) × (after.given ≡ before.given + 1) × (slice_get (script seed) before.given ≡ Some line)
+next_line seed before after found line same at grows is = (
+  ap (λ (d : Drawn). d.seed) grows ∙ same,
+  ap (λ (d : Drawn). d.given) grows ∙ ap (λ (o : Option Line). before.given + (if is_some o then 1 else 0)) is,
+  ap (λ (s : ℕ). slice_get (script s) before.given) (sym same) ∙ sym at ∙ is,
+)
 
 -- ==== the text ====
 
@@ -73,12 +89,34 @@ totals_whole t seed k said end =
     ap (λ (ls : List Line). fold with_reply t (replies_said ls (texts_of said)))
     (drop_all k (script seed) (omega (arith, end, script_length seed)))
 
+-- ==== what an answer spells ====
+
+pub spelled_line : (digits text bytes : List ℕ) (line : Line) → text ≡ codes "A write 1 0 " ++ digits → line_of text ≡ Some line
+    → bytes ≡ line_bytes line → bytes ≡ spelled_bytes digits
+unfolding spelled_bytes
+spelled_line digits text bytes line text_is read is =
+    is ∙ sym (ap written read) ∙ ap (λ (t : List ℕ). written (line_of t)) text_is
+
+pub spelled_none : (digits text bytes : List ℕ) → text ≡ codes "A write 1 0 " ++ digits → line_of text ≡ None → bytes ≡ []
+    → bytes ≡ spelled_bytes digits
+unfolding spelled_bytes
+spelled_none digits text bytes text_is none is =
+    is ∙ sym (ap written none) ∙ ap (λ (t : List ℕ). written (line_of t)) text_is
+
 -- ==== the first answer ====
 
 pub first_answer : (said : List ℕ) (k : ℕ) → position is_feed said ≡ Some k → texts_of said ≡ take k said ∷ texts_of (drop (k + 1) said)
 first_answer said k e =
     let around = around_feed said k e in
     ap texts_of around.2 ∙ texts_of-feed (take k said) (drop (k + 1) said) around.1
+
+-- with what follows it, as a part of the text
+pub first_rest : (said : List ℕ) (k : ℕ) → position is_feed said ≡ Some k
+    → texts_of said ≡ take k said ∷ texts_of (take (length said - (k + 1)) (drop (k + 1) said))
+first_rest said k e =
+    first_answer said k e
+    ∙ ap (λ (rest : List ℕ). take k said ∷ texts_of rest)
+    (sym (take_all (length said - (k + 1)) (drop (k + 1) said) (omega (arith, length-drop (k + 1) said))))
 
 pub only_answer : (said : List ℕ) → position is_feed said ≡ None → 0 < length said → texts_of said ≡ said ∷ texts_of []
 only_answer said e some = texts_of-last said (no_feed said e) some

@@ -1,5 +1,6 @@
 -- How the run of a script ended, by how its lines did.
 use Rattle.std.proofs.Common.{◌≡◌, ℕ, false, List, [], Option, None, Some, IsSomeAnd, refl, sym, ap, subst, arith}
+use Rattle.jv_model.specs.declared.setting.Setting.{Setting}
 use Rattle.jv_outside.specs.Causes.{RoseIf}
 use Rattle.jv_outside.specs.Stream.{Stream, HasAll, IsCut}
 use Rattle.jv_cmd.specs.declared.ended.Ended.{Ended}
@@ -8,6 +9,7 @@ use Rattle.jv_cmd.specs.Faults.{Counts, CountsFaults, clock_failed, on_stage, ou
 use Rattle.jv_cmd.specs.Generating.{EndsScript, PrintsSummary, SumsUp, script_text, summary_of, with_streams}
 use Rattle.jv_cmd.specs.Stages.{StageValue}
 use Rattle.jv_cmd.specs.Steps.{EndsLines}
+use Rattle.jv_cmd.proofs.GoingLaws.{EndsLines-none}
 
 -- the script of the source
 pub EndsScript-source : (before after : StageValue) (ended : Ended) → EndsLines before after ended → EndsScript None before after ended
@@ -26,7 +28,7 @@ cut_rose (Some text) before after line h = h.rose
 
 -- a script whose text was the source, and whose answers were kept
 module _ (seed : ℕ) (before after : StageValue) (left said : Option (List ℕ)) (source : after.source ≡ before.source) where
-  Inner : Ended → Type 0
+  abbrev pub Inner : Ended → Type 0
   Inner ran = EndsLines (with_streams (Some (script_text seed)) (Some []) before) (with_streams left said after) ran
 
   calm_source : after.source.faults ≡ before.source.faults
@@ -89,3 +91,20 @@ module _ (seed : ℕ) (before after : StageValue) (left said : Option (List ℕ)
     stays = e.stays;
     counts = e.counts;
   }
+
+-- over a source and an out in memory, which had the text and nothing
+pub EndsScript-kept : (seed : ℕ) (before after : StageValue) (text taken left said : Option (List ℕ)) (ran ended : Ended)
+    → after.source ≡ before.source → text ≡ Some (script_text seed) → taken ≡ Some []
+    → EndsLines (with_streams text taken before) (with_streams left said after) ran
+    → PrintsSummary seed said before.out after.out ran ended → EndsScript (Some seed) before after ended
+EndsScript-kept seed before after text taken left said ran ended source is none e h =
+    EndsScript-drawn seed before after left said source ran ended
+    (subst (λ (o : Option (List ℕ)). EndsLines (with_streams o (Some []) before) (with_streams left said after) ran) is
+    (subst (λ (o : Option (List ℕ)). EndsLines (with_streams text o before) (with_streams left said after) ran) none e)) h
+
+-- there was no memory for the text
+pub EndsScript-textless : (seed : ℕ) (stage : StageValue) (setting : Setting) → stage.journal ≡ [] → stage.devices.yard.setting ≡ setting
+    → EndsScript (Some seed) stage stage OutOfMemory
+EndsScript-textless seed stage setting empty is =
+    EndsScript-drawn seed stage stage (Some (script_text seed)) (Some []) refl OutOfMemory OutOfMemory
+    (EndsLines-none (with_streams (Some (script_text seed)) (Some []) stage) setting empty is) (refl, refl)

@@ -4,14 +4,14 @@ ghost use Rattle.std.specs.Prelude.{◌≡◌, ◌≤◌, ◌++◌, ◌∷◌, [
 ghost use Rattle.jv_model.specs.declared.limits.TheConstants.{MAX_DATA};
 ghost use Rattle.jv_model.specs.script.Printed.{hex_pair, number_word};
 ghost use Rattle.jv_model.specs.script.ReplyText.{mode_digits};
-ghost use Rattle.jv_generator.specs.Summary.{totals_of};
+ghost use Rattle.jv_generator.specs.Summary.{totals_of, with_reply};
 ghost use Rattle.jv_generator.specs.Script.{script};
 ghost use Rattle.jv_cmd.specs.Generating.{EndsScript, PrintsSummary, SumsUp, is_read, is_read_op, line_bytes, line_text, op_bytes, operation_text, repeated_text, replies_said, reply_said, script_text, spelled_bytes, summary_of};
 ghost use Rattle.jv_cmd.specs.Stages.{IsFirst};
 ghost use Rattle.jv_cmd.specs.Texts.{texts_of};
 
 use crate::ended::{Ended, hex_pair};
-use crate::lines::run_script;
+use crate::lines::{discard, run_script};
 use crate::reader::feed_in;
 use crate::stage::{ObservedStage, Stage};
 use itoa::Buffer;
@@ -120,6 +120,15 @@ fn push_line(text: &mut Vec<u8>, line: &Line) -> Result<(), AllocError>
     }
 }
 
+/// The same of a line that isn't needed any more.
+fn push_last(text: &mut Vec<u8>, line: Line) -> Result<(), AllocError>
+    ensures { OnOk result (text.new.items ≡ text.old.items ++ line_text line) }
+{
+    let pushed = push_line(text, &line);
+    discard(line);
+    pushed
+}
+
 /// The text of the script of a seed.
 fn script_text(alloc: Global, seed: u64) -> Result<Bytes, AllocError>
     ensures { IfOk result (λ text. text ≡ script_text seed) }
@@ -127,7 +136,7 @@ fn script_text(alloc: Global, seed: u64) -> Result<Bytes, AllocError>
     let mut drawn = Generator::new(seed);
     let mut text = Vec::new(alloc);
     'lines: while let Some(line) = drawn.next(alloc)? {
-        push_line(&mut text, &line)?;
+        push_last(&mut text, line)?;
     }
     Ok(Bytes::from_vec(text))
 }
@@ -152,13 +161,21 @@ fn line_bytes(alloc: Global, line: Line) -> Bytes
     }
 }
 
+/// The text of a write of these digits.
+fn write_text(alloc: Global, digits: &[u8]) -> Result<Vec<u8>, AllocError>
+    ensures { IfOk result (λ text. text.items ≡ codes "A write 1 0 " ++ digits.now) }
+{
+    let mut text = Vec::new(alloc);
+    text.extend_from_slice(b"A write 1 0 ")?;
+    text.extend_from_slice(digits)?;
+    Ok(text)
+}
+
 /// The bytes that the digits of an answer spell. A line of a write has the same spelling.
-#[tactic(auto, unfolding(crate::specs::Generating::spelled_bytes))]
 fn spelled_bytes(alloc: Global, digits: &[u8]) -> Result<Bytes, AllocError>
     ensures { IfOk result (λ bytes. bytes ≡ spelled_bytes digits.now) }
 {
-    let mut text = b"A write 1 0 ".to_vec(alloc)?;
-    text.extend_from_slice(digits)?;
+    let text = write_text(alloc, digits)?;
     match read_line(alloc, text.as_slice()) {
         Ok(line) => Ok(line_bytes(alloc, line)),
         Err(BadLine::Off) => Ok(Bytes::new(alloc)),
@@ -211,13 +228,28 @@ fn next_answer(said: &[u8]) -> Option<(&[u8], &[u8])>
     ensures { MatchOption result (texts_of said.now ≡ [])
         (λ r. texts_of said.now ≡ r.0.now ∷ texts_of r.1.now) }
 {
-    if said.is_empty() {
+    if said.len() == 0 {
         return None;
     }
     match feed_in(said) {
         Some(at) => Some((&said[..at], &said[at + 1..])),
         None => Some((said, &[])),
     }
+}
+
+/// Counts a line's answer.
+fn count_answer(
+    alloc: Global,
+    totals: &mut Totals,
+    line: Line,
+    answer: &[u8],
+) -> Result<(), AllocError>
+    ensures { OnOk result (totals.new ≡ with_reply totals.old (reply_said line answer.now)) }
+{
+    let reply = reply_said(alloc, &line, answer);
+    discard(line);
+    totals.count(&reply?);
+    Ok(())
 }
 
 /// The totals of the answers to the script of a seed.
@@ -230,9 +262,10 @@ fn totals(alloc: Global, seed: u64, said: &[u8]) -> Result<Totals, AllocError>
     let mut rest = said;
     'lines: while let Some(line) = drawn.next(alloc)? {
         let Some((answer, after)) = next_answer(rest) else {
+            discard(line);
             return Ok(totals);
         };
-        totals.count(&reply_said(alloc, &line, answer)?);
+        count_answer(alloc, &mut totals, line, answer)?;
         rest = after;
     }
     Ok(totals)
@@ -298,30 +331,13 @@ pub(crate) fn run_drawn<S: Source, O: Sink, K: Keeper, D: Depot, H: Shelf, C: Cl
         return (Ended::OutOfMemory, stage);
     };
     let Stage { limits, source, out, keeper, door, clock, carrier, journal } = stage;
-    let mut lines = Stage {
-        limits,
-        source: NeverSource::new(text),
-        out: NeverSink::new(Bytes::new(alloc)),
-        keeper,
-        door,
-        clock,
-        carrier,
-        journal,
-    };
+    let script = NeverSource::new(text);
+    let none = Bytes::new(alloc);
+    let answers = NeverSink::new(none);
+    let mut lines = Stage { limits, source: script, out: answers, keeper, door, clock, carrier, journal };
     let ran = run_script(alloc, setting, &mut lines);
     let mut out = out;
     let ended = print_summary(alloc, seed, ran, &lines.out, &mut out);
-    (ended, with_streams(source, out, lines))
-}
-
-/// The stage with this source and this out.
-fn with_streams<S, O, K, D, H, C>(
-    source: S,
-    out: O,
-    lines: Stage<NeverSource, NeverSink, K, D, H, C>,
-) -> Stage<S, O, K, D, H, C>
-    ensures { result ≡ record { limits = lines.limits; source = source; out = out; keeper = lines.keeper; door = lines.door; clock = lines.clock; carrier = lines.carrier; journal = lines.journal } }
-{
     let Stage { limits, keeper, door, clock, carrier, journal, .. } = lines;
-    Stage { limits, source, out, keeper, door, clock, carrier, journal }
+    (ended, Stage { limits, source, out, keeper, door, clock, carrier, journal })
 }
