@@ -11,17 +11,18 @@ lines-preserved c =
     record {
       seed = next.0;
       within = c.in_ok-line.ensures.within;
-      counts = inv.counts ∙ totals_more c.lines.totals c.args.seed c.lines.drawn.given c.next.new.self.given c.in-Some.line _ _ _
+      counts = inv.counts ∙ totals_more c.lines.totals c.args.seed c.lines.drawn.given c.next.new.self.given c.in-Some.line c.lines.rest.now
+          c.in-Some-next_answer.answer.now c.in-Some-next_answer.after.now
           next.2 next.1 c.in-Some-next_answer.ensures
-          ∙ ap (λ (t : TotalsValue). totals_from t c.args.seed c.next.new.self.given _) (sym c.in_ok-count_answer.ensures);
+          ∙ ap (λ (t : TotalsValue). totals_from t c.args.seed c.next.new.self.given c.in-Some-next_answer.after.now) (sym c.in_ok-count_answer.ensures);
     }
 
 pub returns-in_default-next_answer : goal.returns-in_default-next_answer
 returns-in_default-next_answer c =
-    sym (c.lines.invariant.counts ∙ totals_answered c.lines.totals c.args.seed c.lines.drawn.given _ c.in_default-next_answer.ensures)
+    sym (c.lines.invariant.counts ∙ totals_answered c.lines.totals c.args.seed c.lines.drawn.given c.lines.rest.now c.in_default-next_answer.ensures)
 
 pub returns : goal.returns
 returns c =
     let none = absent c.in_ok-line.field-0 c.in_default.not-Some in
     sym (c.lines.invariant.counts
-    ∙ totals_whole c.lines.totals c.args.seed c.lines.drawn.given _ (c.in_ok-line.ensures.end.0 none))
+    ∙ totals_whole c.lines.totals c.args.seed c.lines.drawn.given c.lines.rest.now (c.in_ok-line.ensures.end.0 none))
