@@ -10,9 +10,9 @@ ghost use Rattle.jv_cmd.specs.Words.{IsAllowedCommand};
 
 use crate::blocks::{attach_all, ended_by_yard};
 use crate::bounds::limits_of;
+use crate::drawn::run_drawn;
 use crate::ended::{Ended, report, say};
 use crate::format::run_format;
-use crate::drawn::run_drawn;
 use crate::lines::run_script;
 use crate::stage::{ObservedStage, Stage};
 use crate::volume::open_volume;

@@ -97,8 +97,16 @@ fn push_operation(text: &mut Vec<u8>, op: &Op) -> Result<(), AllocError>
     match op {
         Op::Mount { .. } => text.extend_from_slice(b"mount"),
         Op::Create { path, mode } => push_create(text, path.as_slice(), *mode),
-        Op::Read { handle, offset, len } => push_read(text, *handle, *offset, *len),
-        Op::Write { handle, offset, bytes } => push_write(text, *handle, *offset, bytes.as_slice()),
+        Op::Read {
+            handle,
+            offset,
+            len,
+        } => push_read(text, *handle, *offset, *len),
+        Op::Write {
+            handle,
+            offset,
+            bytes,
+        } => push_write(text, *handle, *offset, bytes.as_slice()),
         Op::Flush { handle } => push_flush(text, *handle),
         _ => Ok(()),
     }
@@ -330,14 +338,52 @@ pub(crate) fn run_drawn<S: Source, O: Sink, K: Keeper, D: Depot, H: Shelf, C: Cl
     let Ok(text) = script_text(alloc, seed) else {
         return (Ended::OutOfMemory, stage);
     };
-    let Stage { limits, source, out, keeper, door, clock, carrier, journal } = stage;
+    let Stage {
+        limits,
+        source,
+        out,
+        keeper,
+        door,
+        clock,
+        carrier,
+        journal,
+    } = stage;
     let script = NeverSource::new(text);
     let none = Bytes::new(alloc);
     let answers = NeverSink::new(none);
-    let mut lines = Stage { limits, source: script, out: answers, keeper, door, clock, carrier, journal };
+    let mut lines = Stage {
+        limits,
+        source: script,
+        out: answers,
+        keeper,
+        door,
+        clock,
+        carrier,
+        journal,
+    };
     let ran = run_script(alloc, setting, &mut lines);
     let mut out = out;
     let ended = print_summary(alloc, seed, ran, &lines.out, &mut out);
-    let Stage { limits, keeper, door, clock, carrier, journal, .. } = lines;
-    (ended, Stage { limits, source, out, keeper, door, clock, carrier, journal })
+    let Stage {
+        limits,
+        keeper,
+        door,
+        clock,
+        carrier,
+        journal,
+        ..
+    } = lines;
+    (
+        ended,
+        Stage {
+            limits,
+            source,
+            out,
+            keeper,
+            door,
+            clock,
+            carrier,
+            journal,
+        },
+    )
 }
