@@ -13,7 +13,7 @@ use Rattle.std.proofs.lemmas.Bool.{leb-true}
 use Rattle.jv_cmd.specs.Bounds.{AreAllowed}
 use Rattle.jv_cmd.specs.Program.{program_app}
 use Rattle.jv_cmd.specs.Values.{number_of_digits, number_within, place_of, within}
-use Rattle.jv_cmd.specs.Words.{Answers, Parses, asked, command_at, command_in, read_by, format_in, session_in, options_in, setting_in, setting_fields_in, stored_setting_in, where_allowed, value_in, is_built_store, is_given, IsAllowedCommand, Refuses, HasFeed, SaysRefused}
+use Rattle.jv_cmd.specs.Words.{Answers, Parses, asked, command_at, command_in, read_by, format_in, session_in, options_in, setting_in, setting_fields_in, stored_setting_in, where_allowed, seed_of, value_in, is_built_store, is_given, IsAllowedCommand, Refuses, HasFeed, SaysRefused}
 
 read_by_a_fault : (kinds : Kinds) (stop : Option (Text × List Row)) → kinds ≢ [] → read_by kinds stop ≡ None
 read_by_a_fault [] stop h = absurd (h refl)
@@ -95,22 +95,24 @@ number_in_range least most text = all_then (number_of_digits text) (within least
 value_in_range : (least most : ℕ) (id : Text) (rows : List Row) → IfSome (value_in (number_within least most) id rows) (InRange least most)
 value_in_range least most id rows = all_then (first_of id rows) (number_within least most) (InRange least most) (number_in_range least most)
 
-options_made : (staged : Bool) (cache buffer uploads : Option ℕ) (folder : Option Text) → IfSome cache (InRange 0 256)
+options_made : (staged : Bool) (cache buffer uploads : Option ℕ) (folder : Option Text) (seed : Option (Option ℕ)) → IfSome cache (InRange 0 256)
     → IfSome buffer (InRange 8 256)
-    → IfSome (option_and_then (λ c. option_and_then (λ b. option_and_then (λ u. option_and_then (λ f.
-    Some (record { cache = c; buffer = b; uploads = u; writeback = staged; cache_dir = f })) folder) uploads) buffer) cache) AreAllowed
-options_made staged None buffer uploads folder small range = tt
-options_made staged (Some c) None uploads folder small range = tt
-options_made staged (Some c) (Some b) None folder small range = tt
-options_made staged (Some c) (Some b) (Some u) None small range = tt
-options_made staged (Some c) (Some b) (Some u) (Some f) small range = record { cache = small.high; least = range.low; most = range.high }
+    → IfSome (option_and_then (λ c. option_and_then (λ b. option_and_then (λ u. option_and_then (λ f. option_and_then (λ g.
+    Some (record { cache = c; buffer = b; uploads = u; writeback = staged; cache_dir = f; generate = g })) seed) folder) uploads) buffer) cache)
+    AreAllowed
+options_made staged None buffer uploads folder seed small range = tt
+options_made staged (Some c) None uploads folder seed small range = tt
+options_made staged (Some c) (Some b) None folder seed small range = tt
+options_made staged (Some c) (Some b) (Some u) None seed small range = tt
+options_made staged (Some c) (Some b) (Some u) (Some f) None small range = tt
+options_made staged (Some c) (Some b) (Some u) (Some f) (Some g) small range = record { cache = small.high; least = range.low; most = range.high }
 
 options_allowed : (rows : List Row) → IfSome (options_in rows) AreAllowed
 unfolding options_in
 options_allowed rows =
     options_made (is_given (codes "writeback") rows) (value_in (number_within 0 256) (codes "cache-size") rows)
     (value_in (number_within 8 256) (codes "buffer-size") rows) (value_in (number_within 0 64) (codes "max-uploads") rows)
-    (first_of (codes "cache-dir") rows) (value_in_range 0 256 (codes "cache-size") rows)
+    (first_of (codes "cache-dir") rows) (seed_of (first_of (codes "generate") rows)) (value_in_range 0 256 (codes "cache-size") rows)
     (value_in_range 8 256 (codes "buffer-size") rows)
 
 session_allowed : (rows : List Row) → IfSome (session_in rows) IsAllowedCommand

@@ -1,7 +1,8 @@
 -- What the top call comes to, by the function that ran the command.
-use Rattle.std.proofs.Common.{◌≡◌, ℕ, false, List, Option, None, Some, refl, ap, sym, subst, ◌∙◌}
+use Rattle.std.proofs.Common.{◌≡◌, ℕ, false, List, [], Option, None, Some, refl, ap, sym, subst, ◌∙◌}
 use Rattle.clap.specs.Words.{Text}
 use Rattle.jv_model.specs.declared.basics.Limits.{Limits}
+use Rattle.jv_model.specs.declared.fault.Device.{Device}
 use Rattle.jv_model.specs.declared.fault.Device.TheVariants.{Keeper, Depot, Shelf, Carrier}
 use Rattle.jv_model.specs.declared.fault.Down.{Down}
 use Rattle.jv_model.specs.declared.fault.Down.TheVariants.{Failed, Memory}
@@ -17,7 +18,9 @@ use Rattle.jv_yard.specs.declared.faults.YardFault.{YardFault}
 use Rattle.jv_yard.specs.declared.faults.YardFault.TheVariants as yard
 use Rattle.jv_yard.specs.Starting.{IsStarted}
 use Rattle.jv_yard.specs.YardValue.{YardValue}
+use Rattle.jv_client.specs.Makes.{faults_of}
 use Rattle.jv_client.specs.Shared.{shared}
+use Rattle.jv_session.specs.Lines.{StaysOpen}
 use Rattle.jv_session.proofs.UsesLaws.{no_failures}
 use Rattle.jv_cmd.specs.declared.ended.Ended.{Ended}
 use Rattle.jv_cmd.specs.declared.ended.Ended.TheVariants.{Whole, OffLine, NoVolume, VolumeExists, NewerVersion, SettingOff, BadRow, SourceFailed, OutFailed, ClockFailed, KeeperFailed, DepotFailed, CarrierFailed, ShelfFailed, OutOfMemory}
@@ -30,10 +33,11 @@ use Rattle.jv_cmd.specs.Commands.{Attached, RunsAttached, RunsCommand, RunsNone,
 use Rattle.jv_cmd.specs.Ends.{status_of, message_of}
 use Rattle.jv_cmd.specs.Faults.{CountsFaults, UsesKeeper, Unopened, OpenedThere, in_world, source_failed, out_failed, clock_failed}
 use Rattle.jv_cmd.specs.Formatting.{Formats}
+use Rattle.jv_cmd.specs.Generating.{EndsScript, PrintsSummary, RunsScript, SumsUp, script_text, with_streams}
 use Rattle.jv_cmd.specs.Opening.{IsKnown}
+use Rattle.jv_cmd.specs.Run.{RunsLines}
 use Rattle.jv_cmd.specs.Saying.{Says}
 use Rattle.jv_cmd.specs.Stages.{StageValue, stage_value, staged, world_of, yard_at}
-use Rattle.jv_cmd.specs.Steps.{EndsLines}
 use Rattle.jv_cmd.specs.Words.{IsRefusal}
 use Rattle.jv_cmd.specs.Worlds.{BlockDevices, WorldValue}
 
@@ -117,31 +121,80 @@ RunsAsked-unread words asked before err status says result = subst
     (unread words asked before err says)
 
 -- the keeper was opened before the lines, and stays so
-module _ (before after : StageValue) (place : List ℕ) (old : Store) (opened : before.devices.keeper.opened ≡ Some place)
-    (calm : before.devices.keeper.faults ≡ old.faults) where
-  rose : (ended : Ended) (e : EndsLines before after ended) → RoseTimes (e.answers Keeper) old.faults after.devices.keeper.faults
-  rose ended e = subst (λ count. RoseTimes (e.answers Keeper) count after.devices.keeper.faults) calm (e.counts Keeper)
+module _ (before after : StageValue) (place : List ℕ) (old : Store) (answers : Device → ℕ) (opened : before.devices.keeper.opened ≡ Some place)
+    (calm : before.devices.keeper.faults ≡ old.faults) (stays : StaysOpen before.devices after.devices)
+    (counts : (device : Device) → RoseTimes (answers device) (faults_of device before.devices) (faults_of device after.devices)) where
+  rose : RoseTimes (answers Keeper) old.faults after.devices.keeper.faults
+  rose = subst (λ count. RoseTimes (answers Keeper) count after.devices.keeper.faults) calm (counts Keeper)
 
-  place_after : (ended : Ended) → EndsLines before after ended → after.devices.keeper.opened ≡ Some place
-  place_after ended e = e.stays.keeper_at ∙ opened
+  place_after : after.devices.keeper.opened ≡ Some place
+  place_after = stays.keeper_at ∙ opened
 
-  pub UsesKeeper-lines : (ended : Ended) (e : EndsLines before after ended)
-      → UsesKeeper ended (e.answers Keeper) place old after.devices.keeper
-  UsesKeeper-lines Whole e = record { opened = place_after Whole e; faults = rose Whole e }
-  UsesKeeper-lines (OffLine number) e = record { opened = place_after (OffLine number) e; faults = rose (OffLine number) e }
-  UsesKeeper-lines NoVolume e = absurd e.runs.cause
-  UsesKeeper-lines VolumeExists e = absurd e.runs.cause
-  UsesKeeper-lines (NewerVersion version) e = absurd e.runs.cause
-  UsesKeeper-lines SettingOff e = absurd e.runs.cause
-  UsesKeeper-lines (BadRow key bytes) e = record { opened = place_after (BadRow key bytes) e; faults = rose (BadRow key bytes) e }
-  UsesKeeper-lines SourceFailed e = record { opened = place_after SourceFailed e; faults = rose SourceFailed e }
-  UsesKeeper-lines OutFailed e = record { opened = place_after OutFailed e; faults = rose OutFailed e }
-  UsesKeeper-lines ClockFailed e = record { opened = place_after ClockFailed e; faults = rose ClockFailed e }
-  UsesKeeper-lines KeeperFailed e = absurd e.runs.cause
-  UsesKeeper-lines DepotFailed e = absurd e.runs.cause
-  UsesKeeper-lines CarrierFailed e = absurd e.runs.cause
-  UsesKeeper-lines ShelfFailed e = absurd e.runs.cause
-  UsesKeeper-lines OutOfMemory e = record { opened = OpenedThere (place_after OutOfMemory e); faults = rose OutOfMemory e }
+  keeper_lines : (ended : Ended) → RunsLines answers before after ended
+      → UsesKeeper ended (answers Keeper) place old after.devices.keeper
+  keeper_lines Whole runs = record { opened = place_after; faults = rose }
+  keeper_lines (OffLine number) runs = record { opened = place_after; faults = rose }
+  keeper_lines NoVolume runs = absurd runs.cause
+  keeper_lines VolumeExists runs = absurd runs.cause
+  keeper_lines (NewerVersion version) runs = absurd runs.cause
+  keeper_lines SettingOff runs = absurd runs.cause
+  keeper_lines (BadRow key bytes) runs = record { opened = place_after; faults = rose }
+  keeper_lines SourceFailed runs = record { opened = place_after; faults = rose }
+  keeper_lines OutFailed runs = record { opened = place_after; faults = rose }
+  keeper_lines ClockFailed runs = record { opened = place_after; faults = rose }
+  keeper_lines KeeperFailed runs = absurd runs.cause
+  keeper_lines DepotFailed runs = absurd runs.cause
+  keeper_lines CarrierFailed runs = absurd runs.cause
+  keeper_lines ShelfFailed runs = absurd runs.cause
+  keeper_lines OutOfMemory runs = record { opened = OpenedThere place_after; faults = rose }
+
+  -- a script that was drawn
+  keeper_whole : (seed : ℕ) (said : Option (List ℕ)) (ended : Ended) → SumsUp seed said before.out after.out ended
+      → UsesKeeper ended (answers Keeper) place old after.devices.keeper
+  keeper_whole seed said Whole sums = record { opened = place_after; faults = rose }
+  keeper_whole seed said (OffLine number) sums = absurd sums
+  keeper_whole seed said NoVolume sums = absurd sums
+  keeper_whole seed said VolumeExists sums = absurd sums
+  keeper_whole seed said (NewerVersion version) sums = absurd sums
+  keeper_whole seed said SettingOff sums = absurd sums
+  keeper_whole seed said (BadRow key bytes) sums = absurd sums
+  keeper_whole seed said SourceFailed sums = absurd sums
+  keeper_whole seed said OutFailed sums = record { opened = place_after; faults = rose }
+  keeper_whole seed said ClockFailed sums = absurd sums
+  keeper_whole seed said KeeperFailed sums = absurd sums
+  keeper_whole seed said DepotFailed sums = absurd sums
+  keeper_whole seed said CarrierFailed sums = absurd sums
+  keeper_whole seed said ShelfFailed sums = absurd sums
+  keeper_whole seed said OutOfMemory sums = record { opened = OpenedThere place_after; faults = rose }
+
+  same_keeper : (ran ended : Ended) → ended ≡ ran → UsesKeeper ran (answers Keeper) place old after.devices.keeper
+      → UsesKeeper ended (answers Keeper) place old after.devices.keeper
+  same_keeper ran ended is uses = subst (λ (e : Ended). UsesKeeper e (answers Keeper) place old after.devices.keeper) (sym is) uses
+
+  keeper_drawn : (seed : ℕ) (left said : Option (List ℕ)) (ran ended : Ended)
+      → RunsLines answers (with_streams (Some (script_text seed)) (Some []) before) (with_streams left said after) ran
+      → PrintsSummary seed said before.out after.out ran ended → UsesKeeper ended (answers Keeper) place old after.devices.keeper
+  keeper_drawn seed left said Whole ended runs prints = keeper_whole seed said ended prints
+  keeper_drawn seed left said (OffLine number) ended runs prints = same_keeper (OffLine number) ended prints.0 (record { opened = place_after; faults = rose })
+  keeper_drawn seed left said NoVolume ended runs prints = absurd runs.cause
+  keeper_drawn seed left said VolumeExists ended runs prints = absurd runs.cause
+  keeper_drawn seed left said (NewerVersion version) ended runs prints = absurd runs.cause
+  keeper_drawn seed left said SettingOff ended runs prints = absurd runs.cause
+  keeper_drawn seed left said (BadRow key bytes) ended runs prints = same_keeper (BadRow key bytes) ended prints.0 (record { opened = place_after; faults = rose })
+  keeper_drawn seed left said SourceFailed ended runs prints = same_keeper SourceFailed ended prints.0 (record { opened = place_after; faults = rose })
+  keeper_drawn seed left said OutFailed ended runs prints = same_keeper OutFailed ended prints.0 (record { opened = place_after; faults = rose })
+  keeper_drawn seed left said ClockFailed ended runs prints = same_keeper ClockFailed ended prints.0 (record { opened = place_after; faults = rose })
+  keeper_drawn seed left said KeeperFailed ended runs prints = absurd runs.cause
+  keeper_drawn seed left said DepotFailed ended runs prints = absurd runs.cause
+  keeper_drawn seed left said CarrierFailed ended runs prints = absurd runs.cause
+  keeper_drawn seed left said ShelfFailed ended runs prints = absurd runs.cause
+  keeper_drawn seed left said OutOfMemory ended runs prints =
+      same_keeper OutOfMemory ended prints.0 (record { opened = OpenedThere place_after; faults = rose })
+
+  pub UsesKeeper-script : (seed : Option ℕ) (ended : Ended) → RunsScript seed answers before after ended
+      → UsesKeeper ended (answers Keeper) place old after.devices.keeper
+  UsesKeeper-script None ended runs = keeper_lines ended runs
+  UsesKeeper-script (Some seed) ended runs = keeper_drawn seed runs.left runs.said runs.ran ended runs.runs runs.prints
 
 -- no device that lines use has failed
 calm_lines : (ended : Ended) → source_failed ended ≡ false → out_failed ended ≡ false → clock_failed ended ≡ false
@@ -211,18 +264,20 @@ late_started before after ended cannot = subst IsLate (sym cannot.ended_is) (lat
 pub RunsAttached-ran : (options : SessionOptions) (setting : Setting) (before after : WorldValue) (limits : Limits) (given : Option YardValue)
     (yard : YardValue) (left : StageValue) (ended : Ended) → IsStarted setting before.blocks.depot before.blocks.shelf yard
     → limits ≡ limits_of options setting.block → given ≡ Some yard
-    → EndsLines (stage_value limits before.source before.out (shared before.keeper (yard_at given) before.blocks.carrier) before.clock before.journal)
+    → EndsScript options.generate
+    (stage_value limits before.source before.out (shared before.keeper (yard_at given) before.blocks.carrier) before.clock before.journal)
     left ended → after ≡ world_of before.err left → RunsAttached options setting before after ended
 RunsAttached-ran options setting before after limits given yard left ended started bounds is ends world =
     Ran yard left started
-    (subst (λ (l : Limits). EndsLines (staged l yard before) left ended) bounds
-    (subst (λ (y : YardValue). EndsLines (staged limits y before) left ended) (ap yard_at is) ends)) world
+    (subst (λ (l : Limits). EndsScript options.generate (staged l yard before) left ended) bounds
+    (subst (λ (y : YardValue). EndsScript options.generate (staged limits y before) left ended) (ap yard_at is) ends)) world
 
 -- what the lines did with the devices for blocks, which were in the yard
-UsesBlocks-lines : (setting : Setting) (limits : Limits) (before : WorldValue) (yard : YardValue) (left : StageValue) (ended : Ended)
-    → IsStarted setting before.blocks.depot before.blocks.shelf yard → (e : EndsLines (staged limits yard before) left ended)
+UsesBlocks-lines : (seed : Option ℕ) (setting : Setting) (limits : Limits) (before : WorldValue) (yard : YardValue) (left : StageValue)
+    (ended : Ended) → IsStarted setting before.blocks.depot before.blocks.shelf yard
+    → (e : EndsScript seed (staged limits yard before) left ended)
     → UsesBlocks e.answers before.blocks (world_of before.err left).blocks
-UsesBlocks-lines setting limits before yard left ended started e = record {
+UsesBlocks-lines seed setting limits before yard left ended started e = record {
   depot_at = e.stays.depot_at ∙ ap (λ (d : Holding ObjectMap). d.opened) started.depot_same;
   shelf_at = e.stays.shelf_at ∙ ap (λ (h : Holding StagedMap). h.opened) started.shelf_same;
   carrier_at = e.stays.carrier_at;
@@ -262,9 +317,10 @@ module _ (place : List ℕ) (options : SessionOptions) (before after : WorldValu
         answers = e.answers;
         ends = Opened setting opened attached yard left known rows are started e.runs
             (subst (λ (w : WorldValue). UsesBlocks e.answers attached w.blocks) (sym is)
-            (UsesBlocks-lines setting limits world yard left ended started e)) is;
+            (UsesBlocks-lines options.generate setting limits world yard left ended started e)) is;
         keeper = subst (λ (w : WorldValue). UsesKeeper ended (e.answers Keeper) place before.keeper w.keeper) (sym is)
-            (UsesKeeper-lines (staged limits yard world) left place before.keeper keeper.opened keeper.faults ended e);
+            (UsesKeeper-script (staged limits yard world) left place before.keeper e.answers keeper.opened keeper.faults e.stays e.counts
+            options.generate ended e.runs);
       }
 
   pub RunsSession-volume : RunsVolume options setting (record before { keeper = opened }) after ended

@@ -13,6 +13,8 @@ pub mod DoneLaws
 pub mod EndLaws
 pub mod GoingLaws
 pub mod SayingLaws
+pub mod DrawnLaws
+pub mod ScriptEndLaws
 mod CommandLaws
 pub mod Apps
 pub mod AskedLaws

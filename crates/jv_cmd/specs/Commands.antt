@@ -18,10 +18,9 @@ use Rattle.jv_cmd.specs.Ends.{status_of, message_of}
 use Rattle.jv_cmd.specs.Faults.{CountsFaults, UsesKeeper, in_world}
 use Rattle.jv_cmd.specs.Formatting.{Formats}
 use Rattle.jv_cmd.specs.Opening.{CannotOpen, IsKnown}
-use Rattle.jv_cmd.specs.Run.{RunsLines}
+use Rattle.jv_cmd.specs.Generating.{EndsScript, RunsScript}
 use Rattle.jv_cmd.specs.Saying.{Says}
 use Rattle.jv_cmd.specs.Stages.{StageValue, staged, world_of}
-use Rattle.jv_cmd.specs.Steps.{EndsLines}
 use Rattle.jv_cmd.specs.Words.{asked, IsRefusal}
 use Rattle.jv_cmd.specs.Worlds.{BlockDevices, WorldValue, emptied}
 
@@ -39,7 +38,7 @@ pub record RunsNone (answers : Device → ℕ) (before after : WorldValue) : Typ
   pub rows : after.keeper.rows ≡ before.keeper.rows
 
 -- A session with these options: there is no volume to run on, and no device for blocks is opened; or one of them isn't opened for the
--- volume of that setting; or the shelf's blocks couldn't be read; or the lines run on that volume, with depot and shelf in a yard, which
+-- volume of that setting; or the shelf's blocks couldn't be read; or the script runs on that volume, with depot and shelf in a yard, which
 -- are back where they were in the end. So often each device failed, and an operation was answered so.
 pub data SessionEnds (options : SessionOptions) (answers : Device → ℕ) (before after : WorldValue) (ended : Ended) : Type 0 where
   NotOpened : CannotOpen before.keeper.rows ended → RunsNone answers before after → after.blocks ≡ before.blocks
@@ -54,7 +53,8 @@ pub data SessionEnds (options : SessionOptions) (answers : Device → ℕ) (befo
       → IsKnown before.keeper.rows setting → opened.rows ≡ before.keeper.rows
       → AreAttached setting.bucket options.cache_dir before.blocks attached
       → IsStarted setting attached.depot attached.shelf yard
-      → RunsLines answers (staged (limits_of options setting.block) yard (record before { keeper = opened; blocks = attached }))
+      → RunsScript options.generate answers
+      (staged (limits_of options setting.block) yard (record before { keeper = opened; blocks = attached }))
       left ended
       → UsesBlocks answers attached after.blocks → after ≡ world_of before.err left → SessionEnds options answers before after ended
 
@@ -72,7 +72,7 @@ pub data RunsAttached (options : SessionOptions) (setting : Setting) (before aft
   Unstarted : CannotStart before.blocks after.blocks ended → LeavesLines before after → after.keeper ≡ before.keeper
       → RunsAttached options setting before after ended
   Ran : (yard : YardValue) (left : StageValue) → IsStarted setting before.blocks.depot before.blocks.shelf yard
-      → EndsLines (staged (limits_of options setting.block) yard before) left ended → after ≡ world_of before.err left
+      → EndsScript options.generate (staged (limits_of options setting.block) yard before) left ended → after ≡ world_of before.err left
       → RunsAttached options setting before after ended
 
 -- the same before they are, where the keeper is opened: one of them isn't opened, or all are

@@ -11,6 +11,7 @@ pub mod Stages
 pub mod Faults
 pub mod Saying
 pub mod Run
+pub mod Generating
 pub mod Opening
 pub mod Attaching
 pub mod Formatting

@@ -19,6 +19,10 @@ required_option id = record (new_rule id) { long = Some id; action = Some Set; v
 abbrev pub option : Text → Text → Rule
 option id default = record (new_rule id) { long = Some id; action = Some Set; value_names = 1; defaults = default ∷ [] }
 
+-- `--id V`, which may be left out
+abbrev pub free_option : Text → Rule
+free_option id = record (new_rule id) { long = Some id; action = Some Set; value_names = 1 }
+
 -- `--id`
 abbrev pub flag : Text → Rule
 flag id = record (new_rule id) { long = Some id; action = Some SetTrue }
@@ -43,7 +47,7 @@ abbrev pub with_staging : App → App
 with_staging app = with_rule (with_rule app (flag (codes "writeback"))) (option (codes "cache-dir") (codes "juicevol-cache"))
 
 abbrev pub session_app : App
-session_app = with_staging (with_sizes (with_rule (new_app (codes "session")) (positional (codes "url"))))
+session_app = with_rule (with_staging (with_sizes (with_rule (new_app (codes "session")) (positional (codes "url"))))) (free_option (codes "generate"))
 
 -- the words begin with the command, and without any the answer is the help
 abbrev pub bare_app : App

@@ -1,5 +1,5 @@
 -- What the words of a command line ask for.
-use Rattle.std.specs.Prelude.{◌≡◌, ◌≢◌, ◌&&◌, Bool, false, if◌then◌else◌, List, [], ◌∷◌, Option, None, Some, option_and_then, option_map, codes, bytes_eq, string_bytes, Result, Ok, Err, IsTrue}
+use Rattle.std.specs.Prelude.{◌≡◌, ◌≢◌, ℕ, ◌&&◌, Bool, false, if◌then◌else◌, List, [], ◌∷◌, Option, None, Some, option_and_then, option_map, codes, bytes_eq, string_bytes, Result, Ok, Err, IsTrue}
 use Rattle.std.specs.Option.{option_map_or}
 use Rattle.clap.specs.Words.{Row, Text, fault_of, first_of, subcommand_of, subcommand_rows_of}
 use Rattle.clap.specs.declared.parser.matches.ArgMatches.{ArgMatches}
@@ -8,6 +8,7 @@ use Rattle.jv_model.specs.declared.limits.TheConstants.{FULL_COUNT, MAX_CAPACITY
 use Rattle.jv_model.specs.Optional.{◌>>=◌}
 use Rattle.jv_model.specs.declared.setting.Setting.{Setting}
 use Rattle.jv_model.specs.rows.RowGrammar.{is_setting}
+use Rattle.jv_model.specs.script.Spelling.{number_of}
 use Rattle.jv_cmd.specs.declared.words.request.Command.{Command}
 use Rattle.jv_cmd.specs.declared.words.request.Command.TheVariants.{Format, Session}
 use Rattle.jv_cmd.specs.declared.words.request.SessionOptions.{SessionOptions}
@@ -57,13 +58,19 @@ stored_setting_in rows = setting_fields_in rows >>= where_allowed
 abbrev pub setting_in : List Row → Option Setting
 setting_in rows = (if is_built_store rows then stored_setting_in rows else None)
 
+-- the seed of a script that is drawn, where one is asked for: a number of 64 bits
+abbrev pub seed_of : Option Text → Option (Option ℕ)
+seed_of None = Some None
+seed_of (Some text) = option_map Some (number_of text)
+
 unfoldable pub options_in : List Row → Option SessionOptions
 options_in rows = do
   cache ← value_in (number_within 0 256) (codes "cache-size") rows
   buffer ← value_in (number_within 8 256) (codes "buffer-size") rows
   uploads ← value_in (number_within 0 64) (codes "max-uploads") rows
   folder ← first_of (codes "cache-dir") rows
-  Some (record { cache = cache; buffer = buffer; uploads = uploads; writeback = is_given (codes "writeback") rows; cache_dir = folder })
+  generate ← seed_of (first_of (codes "generate") rows)
+  Some (record { cache = cache; buffer = buffer; uploads = uploads; writeback = is_given (codes "writeback") rows; cache_dir = folder; generate = generate })
 
 unfoldable pub format_in : List Row → Option Command
 format_in rows = do

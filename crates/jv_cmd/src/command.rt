@@ -1,22 +1,26 @@
-ghost use Rattle.std.specs.Prelude.{◌≡◌, [], map, string_bytes};
+ghost use Rattle.std.specs.Prelude.{◌≡◌, ◌≤◌, [], map, string_bytes, IsSome, IsSomeAnd};
+ghost use Rattle.jv_model.specs.declared.limits.TheConstants.{MAX_DATA};
 ghost use Rattle.jv_shared.specs.Lengths.{IsLength};
 ghost use Rattle.jv_cmd.specs.Bounds.{AreAllowed};
 ghost use Rattle.jv_cmd.specs.Commands.{Runs, RunsAttached, RunsCommand, RunsSession, RunsVolume};
 ghost use Rattle.jv_cmd.specs.Faults.{CountsFaults, in_world};
+ghost use Rattle.jv_cmd.specs.Generating.{EndsScript};
+ghost use Rattle.jv_cmd.specs.Stages.{IsFirst};
 ghost use Rattle.jv_cmd.specs.Words.{IsAllowedCommand};
 
 use crate::blocks::{attach_all, ended_by_yard};
 use crate::bounds::limits_of;
+use crate::drawn::run_drawn;
 use crate::ended::{Ended, report, say};
 use crate::format::run_format;
 use crate::lines::run_script;
-use crate::stage::Stage;
+use crate::stage::{ObservedStage, Stage};
 use crate::volume::open_volume;
 use crate::words::{Command, SessionOptions, WordsFault, read_words};
 use crate::world::{Finish, Observed, World};
 use jv_model::{Setting, Text};
 use jv_outside::{Clock, Depot, Keeper, Shelf, Sink, Source};
-use jv_yard::{Alone, Yard};
+use jv_yard::{Alone, Yard, YardDoor};
 use std::alloc::Global;
 
 /// Runs the command that the words are, over the devices of the world, with an emptied journal.
@@ -167,7 +171,7 @@ fn run_attached<S: Source, O: Sink, E: Sink, K: Keeper, D: Depot, H: Shelf, C: C
     match Yard::start(alloc, depot, shelf, &setting) {
         Ok(yard) => {
             let limits = limits_of(options, setting.block);
-            let mut stage = Stage {
+            let stage = Stage {
                 limits,
                 source,
                 out,
@@ -177,7 +181,7 @@ fn run_attached<S: Source, O: Sink, E: Sink, K: Keeper, D: Depot, H: Shelf, C: C
                 carrier,
                 journal,
             };
-            let ended = run_script(alloc, setting, &mut stage);
+            let (ended, stage) = run_staged(alloc, options.generate, setting, stage);
             (ended, stage.into_world(err))
         }
         Err((depot, shelf, fault)) => {
@@ -193,6 +197,32 @@ fn run_attached<S: Source, O: Sink, E: Sink, K: Keeper, D: Depot, H: Shelf, C: C
                 journal,
             };
             (ended_by_yard(fault), world)
+        }
+    }
+}
+
+/// Runs the script of a seed, or else of the source, over the rows of the keeper and the blocks of a yard that was just
+/// started, whose setting this is.
+fn run_staged<S: Source, O: Sink, K: Keeper, D: Depot, H: Shelf, C: Clock>(
+    alloc: Global,
+    generate: Option<u64>,
+    setting: Setting,
+    stage: Stage<S, O, K, D, H, C>,
+) -> (Ended, Stage<S, O, K, D, H, C>)
+    requires empty { stage.journal.acts ≡ [] }
+    requires buffer { MAX_DATA ≤ stage.limits.buffer }
+    requires yard { let given = ⟦<Alone<D, H> as YardDoor<D, H>>⟧.given in
+        IsSomeAnd (given stage.door) (IsFirst setting) }
+    ensures runs { let seen = ⟦<Stage<S, O, K, D, H, C> as ObservedStage>⟧.seen in
+        EndsScript generate (seen stage) (seen result.1) result.0 }
+    ensures yard { IsSome (⟦<Alone<D, H> as YardDoor<D, H>>⟧.given result.1.door) }
+{
+    match generate {
+        Some(seed) => run_drawn(alloc, seed, setting, stage),
+        None => {
+            let mut stage = stage;
+            let ended = run_script(alloc, setting, &mut stage);
+            (ended, stage)
         }
     }
 }

@@ -4,6 +4,7 @@
 mod blocks;
 mod bounds;
 mod command;
+mod drawn;
 mod ended;
 mod format;
 mod lines;

@@ -36,7 +36,7 @@ fn read_built(alloc: Global, number: u32, text: &[u8], schedule: &Schedule) -> R
 }
 
 /// Drops a line, which has many forms: a proof of this function alone goes over them.
-fn discard(line: Line) {
+pub(crate) fn discard(line: Line) {
     drop(line);
 }
 

@@ -44,7 +44,7 @@ impl Model for LineReader {
 }
 
 /// The place of the first line feed.
-fn feed_in(bytes: &[u8]) -> Option<usize>
+pub(crate) fn feed_in(bytes: &[u8]) -> Option<usize>
     ensures { result ≡ position is_feed bytes.now }
 {
     bytes.iter().position(|byte| *byte == b'\n')

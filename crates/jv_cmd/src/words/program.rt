@@ -2,7 +2,7 @@
 ghost use Rattle.std.specs.Prelude.{◌≡◌, IfOk, codes, false};
 ghost use Rattle.clap.specs.Words.{app_of, rule_of, shape_of, with_rule, with_subcommand};
 ghost use Rattle.clap.specs.declared.builder.command.Command.TheViews.{out-Command};
-ghost use Rattle.jv_cmd.specs.Program.{IsApp, IsRule, bare_app, flag, format_app, option, positional, program_app, required_option, session_app, with_limits, with_objects, with_sizes, with_staging};
+ghost use Rattle.jv_cmd.specs.Program.{IsApp, IsRule, bare_app, flag, format_app, free_option, option, positional, program_app, required_option, session_app, with_limits, with_objects, with_sizes, with_staging};
 
 use clap::{Arg, ArgAction, Command};
 use std::alloc::{AllocError, Global};
@@ -128,7 +128,8 @@ fn session<'a>(alloc: Global) -> Result<Command<'a>, AllocError>
     );
     let command = with_arg(command, url(alloc))?;
     let command = with_sizes(alloc, command)?;
-    with_staging(alloc, command)
+    let command = with_staging(alloc, command)?;
+    with_arg(command, generate(alloc))
 }
 
 /// The options of `session` on what its clients hold, and how many uploads run.
@@ -183,6 +184,18 @@ fn with_staging<'a>(alloc: Global, command: Command<'a>) -> Result<Command<'a>, 
     with_arg(command, folder)
 }
 
+/// The option of `session` for a script that is drawn.
+fn generate<'a>(alloc: Global) -> Arg<'a>
+    ensures { IsRule (free_option (codes "generate")) result }
+{
+    free_option(
+        alloc,
+        "generate",
+        "N",
+        "Run the script drawn from the seed N, 0 to 2^64 - 1, instead, and print its totals alone",
+    )
+}
+
 fn url<'a>(alloc: Global) -> Arg<'a>
     ensures { IsRule (positional (codes "url")) result }
 {
@@ -232,6 +245,17 @@ fn option<'a>(
         .action(ArgAction::Set)
         .value_name(shown)
         .default_value(default)
+        .help(help)
+}
+
+/// An option with a value, that may be left out.
+fn free_option<'a>(alloc: Global, id: &'a str, shown: &'a str, help: &'a str) -> Arg<'a>
+    ensures { IsRule (free_option id.entry.now) result }
+{
+    Arg::new(alloc, id)
+        .long(id)
+        .action(ArgAction::Set)
+        .value_name(shown)
         .help(help)
 }
 

@@ -4,12 +4,12 @@ ghost use Rattle.clap.specs.Words.{fault_of, first_of, found_of, rows_of, subcom
 ghost use Rattle.jv_cmd.specs.declared.words.read.BadValue.TheVariants as bad;
 ghost use Rattle.jv_cmd.specs.Program.{program_app};
 ghost use Rattle.jv_cmd.specs.Values.{block_size_of, number_within, place_of};
-ghost use Rattle.jv_cmd.specs.Words.{Answers, Parses, Reads, Refuses, asked, command_at, format_in, has_text, options_in, session_in, setting_in, setting_fields_in, stored_setting_in, value_in, where_allowed};
+ghost use Rattle.jv_cmd.specs.Words.{Answers, Parses, Reads, Refuses, asked, command_at, format_in, has_text, options_in, seed_of, session_in, setting_in, setting_fields_in, stored_setting_in, value_in, where_allowed};
 
 use super::program::program;
 use super::refusal::{refused, told};
 use super::request::{Command, SessionOptions, WordsFault};
-use super::values::{block_size, number_within, place};
+use super::values::{block_size, number_within, place, seed};
 use clap::ArgMatches;
 use jv_model::{FULL_COUNT, MAX_CAPACITY, MAX_TRASH_DAYS, Setting, Text, copied};
 use jv_rows::allows_setting;
@@ -151,13 +151,26 @@ fn options(alloc: Global, values: &ArgMatches<'_>) -> Result<SessionOptions, Bad
     let buffer = number_in(values, "buffer-size", 8, 256)?;
     let uploads = number_in(values, "max-uploads", 0, 64)? as u32;
     let cache_dir = copied_in(alloc, values, "cache-dir")?;
+    let generate = seed_in(values)?;
     Ok(SessionOptions {
         cache,
         buffer,
         uploads,
         writeback: has_text(values, "writeback", "true"),
         cache_dir,
+        generate,
     })
+}
+
+/// The seed of a script that is drawn, where one is asked for.
+fn seed_in(values: &ArgMatches<'_>) -> Result<Option<u64>, BadValue>
+    ensures { Reads result (seed_of (first_of (codes "generate") (rows_of (found_of values.now)))) }
+{
+    let Some(text) = text_in(values, "generate") else {
+        return Ok(None);
+    };
+    let seed = seed(text).ok_or(BadValue::Off)?;
+    Ok(Some(seed))
 }
 
 fn place_in(alloc: Global, values: &ArgMatches<'_>) -> Result<Text, BadValue>
@@ -200,7 +213,7 @@ fn has_text(values: &ArgMatches<'_>, id: &str, text: &str) -> bool
     text_in(values, id).is_some_and(|value| value == text.as_bytes())
 }
 
-/// The value of this name, which has one by its default or because it has to be given.
+/// The value of this name, where it has one: by its default, or because it was given.
 fn text_in<'a>(values: &ArgMatches<'a>, id: &str) -> Option<&'a [u8]>
     ensures { option_copied result ≡ first_of id.now (rows_of (found_of values.now)) }
 {

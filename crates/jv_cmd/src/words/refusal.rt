@@ -35,18 +35,10 @@ pub(crate) fn told(alloc: Global, words: &[String], error: &Error) -> WordsFault
 
 /// Whether the words ask for what isn't built yet.
 fn is_unbuilt(words: &[String]) -> bool {
-    let Some((command, rest)) = words.split_first() else {
-        return false;
-    };
-    match command.as_str() {
-        "fsck" | "gc" | "dump" | "load" => true,
-        "session" => rest.iter().any(|word| is_generate(word.as_str())),
-        _ => false,
+    match words.first() {
+        Some(command) => matches!(command.as_str(), "fsck" | "gc" | "dump" | "load"),
+        None => false,
     }
-}
-
-fn is_generate(word: &str) -> bool {
-    word == "--generate" || word.starts_with("--generate=")
 }
 
 fn own_text(alloc: Global, error: &Error) -> WordsFault

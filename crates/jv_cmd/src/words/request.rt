@@ -37,6 +37,8 @@ pub struct SessionOptions {
     pub writeback: bool,
     /// The folder of staged and cached blocks.
     pub cache_dir: Text,
+    /// The seed of the script that is run in place of the source's.
+    pub generate: Option<u64>,
 }
 
 /// Why words are no command.

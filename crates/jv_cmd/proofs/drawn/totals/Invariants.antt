@@ -1,0 +1,19 @@
+use Rattle.std.proofs.Common.{◌≡◌, ◌≤◌, ◌-◌}
+use Rattle.jv_generator.specs.declared.accesses.TheConstants.{LINES}
+use Rattle.jv_generator.specs.Script.{script}
+use Rattle.jv_generator.specs.Summary.{totals_of}
+use Rattle.jv_cmd.specs.Generating.{replies_said}
+use Rattle.jv_cmd.specs.Texts.{texts_of}
+use Rattle.jv_cmd.proofs.DrawnLaws.{totals_from}
+use Rattle.jv_cmd.proofs.drawn.totals.Given as goal
+
+-- the answers left add to the totals what is missing
+abbrev pub invariant-lines : goal.invariant-lines
+invariant-lines l = record {
+  seed : l.drawn.seed ≡ l.seed;
+  within : l.drawn.given ≤ LINES;
+  counts : totals_of (replies_said (script l.seed) (texts_of l.said)) ≡ totals_from l.totals l.seed l.drawn.given l.rest;
+}
+
+abbrev pub decreases-lines : goal.decreases-lines
+decreases-lines l = LINES - l.drawn.given
