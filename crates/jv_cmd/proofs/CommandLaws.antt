@@ -1,5 +1,6 @@
 -- What the top call comes to, by the function that ran the command.
-use Rattle.std.proofs.Common.{◌≡◌, ℕ, false, List, [], Option, None, Some, refl, ap, sym, subst, ◌∙◌}
+use Rattle.std.proofs.Common.{◌≡◌, ◌≢◌, ℕ, false, true, List, [], Option, None, Some, is_some, refl, ap, sym, subst, ◌∙◌, arith}
+use Rattle.std.proofs.lemmas.Bool.{false≢true}
 use Rattle.clap.specs.Words.{Text}
 use Rattle.jv_model.specs.declared.basics.Limits.{Limits}
 use Rattle.jv_model.specs.declared.fault.Device.{Device}
@@ -7,6 +8,7 @@ use Rattle.jv_model.specs.declared.fault.Device.TheVariants.{Keeper, Depot, Shel
 use Rattle.jv_model.specs.declared.fault.Down.{Down}
 use Rattle.jv_model.specs.declared.fault.Down.TheVariants.{Failed, Memory}
 use Rattle.jv_model.specs.declared.setting.Setting.{Setting}
+use Rattle.jv_model.specs.rows.RowKeys.{RowMap}
 use Rattle.jv_outside.specs.Blocks.{StagedMap}
 use Rattle.jv_outside.specs.Causes.{RoseIf, RoseTimes}
 use Rattle.jv_outside.specs.Holding.{Holding}
@@ -29,12 +31,12 @@ use Rattle.jv_cmd.specs.declared.words.request.Command.TheVariants.{Format, Sess
 use Rattle.jv_cmd.specs.declared.words.request.SessionOptions.{SessionOptions}
 use Rattle.jv_cmd.specs.Attaching.{AreAttached, CannotAttach, CannotStart, NoDepot, NoCarrier, NoShelf, UsesBlocks, ended_at, ended_by_yard}
 use Rattle.jv_cmd.specs.Bounds.{limits_of}
-use Rattle.jv_cmd.specs.Commands.{Attached, RunsAttached, RunsCommand, RunsNone, RunsSession, RunsVolume, LeavesLines, Stopped, Ran, Unstarted, NotOpened, NotAttached, NotStarted, Opened, Refused, NoMemory, RunsAsked}
+use Rattle.jv_cmd.specs.Commands.{Attached, Does, SessionEnds, is_drawn, RunsAttached, RunsCommand, RunsNone, RunsSession, RunsVolume, LeavesLines, Stopped, Ran, Unstarted, NotOpened, NotAttached, NotStarted, Opened, Refused, NoMemory, RunsAsked}
 use Rattle.jv_cmd.specs.Ends.{status_of, message_of}
 use Rattle.jv_cmd.specs.Faults.{CountsFaults, UsesKeeper, Unopened, OpenedThere, in_world, source_failed, out_failed, clock_failed}
 use Rattle.jv_cmd.specs.Formatting.{Formats}
 use Rattle.jv_cmd.specs.Generating.{EndsScript, PrintsSummary, RunsScript, SumsUp, script_text, with_streams}
-use Rattle.jv_cmd.specs.Opening.{IsKnown}
+use Rattle.jv_cmd.specs.Opening.{CannotOpen, IsKnown}
 use Rattle.jv_cmd.specs.Run.{RunsLines}
 use Rattle.jv_cmd.specs.Saying.{Says}
 use Rattle.jv_cmd.specs.Stages.{StageValue, stage_value, staged, world_of, yard_at}
@@ -55,19 +57,6 @@ pub RunsCommand-format : (command : Command) (place : List ℕ) (setting : Setti
 RunsCommand-format command place setting before after ended is formats faults keeper =
     subst (λ (c : Command). RunsCommand c before after ended) (sym is)
     (record { answers = no_failures; does = (formats, λ device. refl); faults = faults; keeper = keeper })
-
--- the words were a command
-pub RunsAsked-ran : (words : List Text) (asked : Option Command) (command : Command) (before after : WorldValue)
-    (err : Stream) (ended : Ended) (status : ℕ) → asked ≡ Some command → RunsCommand command before after ended
-    → after.err ≡ before.err → status ≡ status_of ended → Says after.err err (message_of ended)
-    → RunsAsked words asked before (record after { err = err }) status
-RunsAsked-ran words asked command before after err ended status is runs same result says =
-    subst (λ o. RunsAsked words o before (record after { err = err }) status) (sym is) (record {
-      ended = ended;
-      runs = subst (λ e. RunsCommand command before (record after { err = e }) ended) same runs;
-      result = result;
-      says = subst (λ e. Says e err (message_of ended)) same says;
-    })
 
 -- they were none
 pub RunsAsked-refused : (words : List Text) (asked : Option Command) (before : WorldValue) (err : Stream)
@@ -99,6 +88,7 @@ unread words (Some (Format place setting)) before err says = record {
     keeper = record { opened = Unopened refl; faults = refl };
   };
   result = refl;
+  drawn = λ drawn same. absurd (omega (arith, same));
   says = says;
 }
 unread words (Some (Session place options)) before err says = record {
@@ -110,6 +100,7 @@ unread words (Some (Session place options)) before err says = record {
     keeper = record { opened = Unopened refl; faults = refl };
   };
   result = refl;
+  drawn = λ drawn same. absurd (omega (arith, same));
   says = says;
 }
 
@@ -213,11 +204,13 @@ record IsLate (ended : Ended) : Type 0 where
   calm : (before after : WorldValue) → LeavesLines before after → CountsFaults ended (in_world before) (in_world after)
   keeper : (place : List ℕ) (before after : Store) → UsesKeeper Whole 0 place before after
       → UsesKeeper ended 0 place before after
+  no_line : status_of ended ≢ 3
 
 late_memory : IsLate OutOfMemory
 late_memory = record {
   calm = calm_lines OutOfMemory refl refl refl;
   keeper = λ place before after k. record { opened = OpenedThere k.opened; faults = k.faults };
+  no_line = λ same. absurd (omega (arith, same));
 }
 
 late_at : (failed : Ended) → IsLate failed → (down : Down) (ended : Ended) → ended ≡ ended_at failed down
@@ -229,18 +222,21 @@ late_depot : IsLate DepotFailed
 late_depot = record {
   calm = calm_lines DepotFailed refl refl refl;
   keeper = λ place before after k. record { opened = k.opened; faults = k.faults };
+  no_line = λ same. absurd (omega (arith, same));
 }
 
 late_carrier : IsLate CarrierFailed
 late_carrier = record {
   calm = calm_lines CarrierFailed refl refl refl;
   keeper = λ place before after k. record { opened = k.opened; faults = k.faults };
+  no_line = λ same. absurd (omega (arith, same));
 }
 
 late_shelf : IsLate ShelfFailed
 late_shelf = record {
   calm = calm_lines ShelfFailed refl refl refl;
   keeper = λ place before after k. record { opened = k.opened; faults = k.faults };
+  no_line = λ same. absurd (omega (arith, same));
 }
 
 late_ended : (bucket folder : List ℕ) (before after : BlockDevices) (ended : Ended)
@@ -259,6 +255,37 @@ late_fault yard.Memory = late_memory
 
 late_started : (before after : BlockDevices) (ended : Ended) → CannotStart before after ended → IsLate ended
 late_started before after ended cannot = subst IsLate (sym cannot.ended_is) (late_fault cannot.fault)
+
+-- no line of a drawn script ends the command
+
+not_opened : (rows : Option RowMap) (ended : Ended) → CannotOpen rows ended → status_of ended ≢ 3
+not_opened rows (OffLine number) cannot = absurd cannot
+not_opened rows ended cannot = λ same. absurd (omega (arith, same))
+
+drawn_lines : (seed : Option ℕ) (answers : Device → ℕ) (before after : StageValue) (ended : Ended)
+    → RunsScript seed answers before after ended → is_some seed ≡ true → before.limits.writeback ≡ false
+    → status_of ended ≢ 3
+drawn_lines None answers before after ended runs drawn direct = absurd (false≢true drawn)
+drawn_lines (Some seed) answers before after ended runs drawn direct = runs.none_off direct
+
+drawn_session : (options : SessionOptions) (answers : Device → ℕ) (before after : WorldValue) (ended : Ended)
+    → SessionEnds options answers before after ended → is_some options.generate ≡ true → status_of ended ≢ 3
+drawn_session options answers before after ended (NotOpened cannot none same) drawn =
+    not_opened before.keeper.rows ended cannot
+drawn_session options answers before after ended (NotAttached setting known none cannot) drawn =
+    (late_ended setting.bucket options.cache_dir before.blocks after.blocks ended cannot).no_line
+drawn_session options answers before after ended (NotStarted setting attached known none are cannot) drawn =
+    (late_started attached after.blocks ended cannot).no_line
+drawn_session options answers before after ended (Opened setting opened attached yard left known rows are started runs uses
+    is) drawn =
+    let world = record before { keeper = opened; blocks = attached } in
+    drawn_lines options.generate answers (staged (limits_of options setting.block) yard world) left ended runs drawn refl
+
+drawn_command : (command : Command) (answers : Device → ℕ) (before after : WorldValue) (ended : Ended)
+    → Does command answers before after ended → is_drawn command ≡ true → status_of ended ≢ 3
+drawn_command (Format place setting) answers before after ended does drawn = absurd (false≢true drawn)
+drawn_command (Session place options) answers before after ended does drawn =
+    drawn_session options answers before after ended does drawn
 
 -- lines that ran over a stage whose yard was just started
 pub RunsAttached-ran : (options : SessionOptions) (setting : Setting) (before after : WorldValue) (limits : Limits) (given : Option YardValue)
@@ -285,6 +312,20 @@ UsesBlocks-lines seed setting limits before yard left ended started e = record {
   shelf = subst (λ (h : Holding StagedMap). RoseTimes (e.answers Shelf) h.faults left.devices.yard.shelf.faults) started.shelf_same (e.counts Shelf);
   carrier = e.counts Carrier;
 }
+
+-- the words were a command
+pub RunsAsked-ran : (words : List Text) (asked : Option Command) (command : Command) (before after : WorldValue)
+    (err : Stream) (ended : Ended) (status : ℕ) → asked ≡ Some command → RunsCommand command before after ended
+    → after.err ≡ before.err → status ≡ status_of ended → Says after.err err (message_of ended)
+    → RunsAsked words asked before (record after { err = err }) status
+RunsAsked-ran words asked command before after err ended status is runs same result says =
+    subst (λ o. RunsAsked words o before (record after { err = err }) status) (sym is) (record {
+      ended = ended;
+      runs = subst (λ e. RunsCommand command before (record after { err = e }) ended) same runs;
+      result = result;
+      drawn = λ drawn same. drawn_command command runs.answers before after ended runs.does drawn (sym result ∙ same);
+      says = subst (λ e. Says e err (message_of ended)) same says;
+    })
 
 -- a session after the keeper was opened and the setting read
 module _ (place : List ℕ) (options : SessionOptions) (before after : WorldValue) (opened : Store) (setting : Setting) (ended : Ended)

@@ -14,6 +14,13 @@ pub mod EndLaws
 pub mod GoingLaws
 pub mod SayingLaws
 pub mod DrawnLaws
+pub mod DrawnWordLaws
+pub mod DrawnNumberLaws
+pub mod DrawnDataLaws
+pub mod DrawnPathLaws
+pub mod DrawnLineLaws
+pub mod DrawnScriptLaws
+pub mod DrawnEndLaws
 pub mod ScriptEndLaws
 mod CommandLaws
 pub mod Apps

@@ -5,10 +5,11 @@ use Rattle.jv_outside.specs.Causes.{RoseIf}
 use Rattle.jv_outside.specs.Stream.{Stream, HasAll, IsCut}
 use Rattle.jv_cmd.specs.declared.ended.Ended.{Ended}
 use Rattle.jv_cmd.specs.declared.ended.Ended.TheVariants.{Whole, OffLine, NoVolume, VolumeExists, NewerVersion, SettingOff, BadRow, SourceFailed, OutFailed, ClockFailed, KeeperFailed, DepotFailed, CarrierFailed, ShelfFailed, OutOfMemory}
-use Rattle.jv_cmd.specs.Faults.{Counts, CountsFaults, clock_failed, on_stage, out_failed, source_failed}
+use Rattle.jv_cmd.specs.Faults.{CountsFaults, on_stage, out_failed, source_failed}
 use Rattle.jv_cmd.specs.Generating.{EndsScript, PrintsSummary, SumsUp, script_text, summary_of, with_streams}
 use Rattle.jv_cmd.specs.Stages.{StageValue}
 use Rattle.jv_cmd.specs.Steps.{EndsLines}
+use Rattle.jv_cmd.proofs.DrawnEndLaws.{drawn_runs}
 use Rattle.jv_cmd.proofs.GoingLaws.{EndsLines-none}
 
 -- the script of the source
@@ -86,7 +87,15 @@ module _ (seed : ℕ) (before after : StageValue) (left said : Option (List ℕ)
       → EndsScript (Some seed) before after ended
   EndsScript-drawn ran ended e h = record {
     answers = e.answers;
-    runs = record { ran = ran; left = left; said = said; runs = e.runs; prints = h; source = source };
+    runs = record {
+      ran = ran;
+      left = left;
+      said = said;
+      runs = e.runs;
+      prints = h;
+      source = source;
+      none_off = drawn_runs seed e.answers before after left said ran ended e.runs h;
+    };
     faults = faults_of_run ran ended e h;
     stays = e.stays;
     counts = e.counts;

@@ -1,5 +1,5 @@
 -- What the top call does, by the words that it was given.
-use Rattle.std.specs.Prelude.{◌≡◌, ℕ, List, Option, None, Some}
+use Rattle.std.specs.Prelude.{◌≡◌, ◌≢◌, ℕ, Bool, true, false, List, Option, None, Some, is_some}
 use Rattle.clap.specs.Words.{Text}
 use Rattle.jv_model.specs.declared.fault.Device.{Device}
 use Rattle.jv_model.specs.declared.fault.Device.TheVariants.{Keeper}
@@ -66,6 +66,11 @@ abbrev pub place_of : Command → List ℕ
 place_of (Format place setting) = place
 place_of (Session place options) = place
 
+-- the command runs a script that is drawn
+abbrev pub is_drawn : Command → Bool
+is_drawn (Format place setting) = false
+is_drawn (Session place options) = is_some options.generate
+
 -- A session over the volume of a setting, for which depot, carrier and shelf are opened: the shelf's blocks couldn't be read, and no
 -- line was run; or the lines ran.
 pub data RunsAttached (options : SessionOptions) (setting : Setting) (before after : WorldValue) (ended : Ended) : Type 0 where
@@ -96,11 +101,12 @@ pub record RunsCommand (command : Command) (before after : WorldValue) (ended : 
   pub faults : CountsFaults ended (in_world before) (in_world after)
   pub keeper : UsesKeeper ended (answers Keeper) (place_of command) before.keeper after.keeper
 
--- how the command ended: what it did apart from standard error, its status, and its text there
+-- how the command ended: what it did apart from standard error, its status, and its text there; no line of a drawn script ends it
 pub record EndsCommand (command : Command) (before after : WorldValue) (status : ℕ) : Type 0 where
   pub ended : Ended
   pub runs : RunsCommand command before (record after { err = before.err }) ended
   pub result : status ≡ status_of ended
+  pub drawn : is_drawn command ≡ true → status ≢ 3
   pub says : Says before.err after.err (message_of ended)
 
 -- the words are refused, or there is no memory to read them

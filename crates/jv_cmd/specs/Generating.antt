@@ -1,5 +1,5 @@
 -- What a session is whose script is drawn from a seed: one that reads the script's text, but that prints a summary in place of answers.
-use Rattle.std.specs.Prelude.{◌≡◌, ℕ, Bool, true, false, ◌==◌, if◌then◌else◌, List, [], ◌∷◌, ◌++◌, length, drop, Option, None, Some, IsSomeAnd, codes, decimal}
+use Rattle.std.specs.Prelude.{◌≡◌, ◌≢◌, ℕ, Bool, true, false, ◌==◌, if◌then◌else◌, List, [], ◌∷◌, ◌++◌, length, drop, Option, None, Some, IsSomeAnd, codes, decimal}
 use Rattle.std.specs.List.{flat_map}
 use Rattle.jv_model.specs.declared.fault.Device.{Device}
 use Rattle.jv_model.specs.declared.fault.Fault.TheVariants.{NotFound}
@@ -20,6 +20,7 @@ use Rattle.jv_generator.specs.Summary.{summary_line, totals_of}
 use Rattle.jv_session.specs.Lines.{StaysOpen}
 use Rattle.jv_cmd.specs.declared.ended.Ended.{Ended}
 use Rattle.jv_cmd.specs.declared.ended.Ended.TheVariants.{Whole, OutFailed, OutOfMemory}
+use Rattle.jv_cmd.specs.Ends.{status_of}
 use Rattle.jv_cmd.specs.Faults.{CountsFaults, on_stage}
 use Rattle.jv_cmd.specs.Run.{RunsLines}
 use Rattle.jv_cmd.specs.Stages.{StageValue}
@@ -32,12 +33,22 @@ abbrev pub repeated_text : List ℕ → List ℕ
 repeated_text [] = codes "-"
 repeated_text (byte ∷ bytes) = hex_pair byte ++ 120 ∷ decimal (length (byte ∷ bytes))
 
+abbrev pub create_words : List ℕ → ℕ → List ℕ
+create_words path mode = codes "create " ++ path ++ 32 ∷ mode_digits mode
+
+abbrev pub read_words : ℕ → ℕ → ℕ → List ℕ
+read_words handle position size = codes "read" ++ number_word handle ++ number_word position ++ number_word size
+
+abbrev pub write_words : ℕ → ℕ → List ℕ → List ℕ
+write_words handle position bytes =
+    codes "write" ++ number_word handle ++ number_word position ++ 32 ∷ repeated_text bytes
+
 -- an operation of a kind that a drawn script has
 unfoldable pub operation_text : Op → List ℕ
 operation_text (Mount writeback) = codes "mount"
-operation_text (Create path mode) = codes "create " ++ path ++ 32 ∷ mode_digits mode
-operation_text (Read handle position size) = codes "read" ++ number_word handle ++ number_word position ++ number_word size
-operation_text (Write handle position bytes) = codes "write" ++ number_word handle ++ number_word position ++ 32 ∷ repeated_text bytes
+operation_text (Create path mode) = create_words path mode
+operation_text (Read handle position size) = read_words handle position size
+operation_text (Write handle position bytes) = write_words handle position bytes
 operation_text (Flush handle) = codes "flush" ++ number_word handle
 operation_text _ = []
 
@@ -120,6 +131,7 @@ PrintsSummary seed said before after Whole ended = SumsUp seed said before after
 PrintsSummary seed said before after ran ended = (ended ≡ ran) × (after ≡ before)
 
 -- The lines ran as those of a source with the script's text, and printed `said` where out would keep it. The source wasn't used.
+-- Outside writeback mode none of the lines ends the run.
 pub record RunsDrawn (seed : ℕ) (answers : Device → ℕ) (before after : StageValue) (ended : Ended) : Type 0 where
   pub ran : Ended
   pub left : Option (List ℕ)
@@ -127,6 +139,7 @@ pub record RunsDrawn (seed : ℕ) (answers : Device → ℕ) (before after : Sta
   pub runs : RunsLines answers (with_streams (Some (script_text seed)) (Some []) before) (with_streams left said after) ran
   pub prints : PrintsSummary seed said before.out after.out ran ended
   pub source : after.source ≡ before.source
+  pub none_off : before.limits.writeback ≡ false → status_of ended ≢ 3
 
 -- the script of a seed, or else of the source
 abbrev pub RunsScript : Option ℕ → (Device → ℕ) → StageValue → StageValue → Ended → Type 0

@@ -12,6 +12,7 @@ pub mod Faults
 pub mod Saying
 pub mod Run
 pub mod Generating
+pub mod DrawnScript
 pub mod Opening
 pub mod Attaching
 pub mod Formatting

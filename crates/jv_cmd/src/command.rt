@@ -35,13 +35,14 @@ use std::alloc::Global;
 /// fails. `format` calls none of them.
 ///
 /// The status is 0 if the command did its work: every line of the source was run, or the volume is formatted. It is 2 if
-/// the words are refused, 3 if the next line isn't run, 4 if there is no volume for a session, or one for `format`, or the
-/// row of its setting is of a later version, or a row that is read is malformed or names one that isn't there, 5 if a device
-/// failed, and 6 if the process is out of memory. A device that fails inside an operation of a script is answered `EIO`.
-/// Standard error has a text for each but the first, which ends with a line feed. Nothing after the end of the run is done,
-/// and everything before it is done, printed and in the journal. Where the clock fails or memory runs out on a line, the
-/// steps that the line made are in the journal, and it prints nothing. Apart from such answers, a device's count of faults
-/// rises only with status 5, by that device, and standard error's own faults are passed over.
+/// the words are refused, 3 if the next line isn't run (a drawn script has no such line), 4 if there is no volume for a
+/// session, or one for `format`, or the row of its setting is of a later version, or a row that is read is malformed or
+/// names one that isn't there, 5 if a device failed, and 6 if the process is out of memory. A device that fails inside an
+/// operation of a script is answered `EIO`. Standard error has a text for each but the first, which ends with a line
+/// feed. Nothing after the end of the run is done, and everything before it is done, printed and in the journal. Where
+/// the clock fails or memory runs out on a line, the steps that the line made are in the journal, and it prints nothing.
+/// Apart from such answers, a device's count of faults rises only with status 5, by that device, and standard error's own
+/// faults are passed over.
 pub fn run<S: Source, O: Sink, E: Sink, K: Keeper, D: Depot, H: Shelf, C: Clock>(
     alloc: Global,
     words: &[String],

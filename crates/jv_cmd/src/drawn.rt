@@ -6,7 +6,7 @@ ghost use Rattle.jv_model.specs.script.Printed.{hex_pair, number_word};
 ghost use Rattle.jv_model.specs.script.ReplyText.{mode_digits};
 ghost use Rattle.jv_generator.specs.Summary.{totals_of, with_reply};
 ghost use Rattle.jv_generator.specs.Script.{script};
-ghost use Rattle.jv_cmd.specs.Generating.{EndsScript, PrintsSummary, SumsUp, is_read, is_read_op, line_bytes, line_text, op_bytes, operation_text, repeated_text, replies_said, reply_said, script_text, spelled_bytes, summary_of};
+ghost use Rattle.jv_cmd.specs.Generating.{EndsScript, PrintsSummary, SumsUp, create_words, is_read, is_read_op, line_bytes, line_text, op_bytes, operation_text, read_words, repeated_text, replies_said, reply_said, script_text, spelled_bytes, summary_of, write_words};
 ghost use Rattle.jv_cmd.specs.Stages.{IsFirst};
 ghost use Rattle.jv_cmd.specs.Texts.{texts_of};
 
@@ -55,7 +55,7 @@ fn mode_digits(mode: u16) -> [u8; 4]
 }
 
 fn push_create(text: &mut Vec<u8>, path: &[u8], mode: u16) -> Result<(), AllocError>
-    ensures { OnOk result (text.new.items ≡ text.old.items ++ codes "create " ++ path.now ++ 32 ∷ mode_digits mode) }
+    ensures { OnOk result (text.new.items ≡ text.old.items ++ create_words path.now mode) }
 {
     text.extend_from_slice(b"create ")?;
     text.extend_from_slice(path)?;
@@ -64,7 +64,7 @@ fn push_create(text: &mut Vec<u8>, path: &[u8], mode: u16) -> Result<(), AllocEr
 }
 
 fn push_read(text: &mut Vec<u8>, handle: u64, offset: u64, len: u32) -> Result<(), AllocError>
-    ensures { OnOk result (text.new.items ≡ text.old.items ++ codes "read" ++ number_word handle ++ number_word offset ++ number_word len) }
+    ensures { OnOk result (text.new.items ≡ text.old.items ++ read_words handle offset len) }
 {
     text.extend_from_slice(b"read")?;
     push_number(text, handle)?;
@@ -73,7 +73,7 @@ fn push_read(text: &mut Vec<u8>, handle: u64, offset: u64, len: u32) -> Result<(
 }
 
 fn push_write(text: &mut Vec<u8>, handle: u64, offset: u64, bytes: &[u8]) -> Result<(), AllocError>
-    ensures { OnOk result (text.new.items ≡ text.old.items ++ codes "write" ++ number_word handle ++ number_word offset ++ 32 ∷ repeated_text bytes.now) }
+    ensures { OnOk result (text.new.items ≡ text.old.items ++ write_words handle offset bytes.now) }
 {
     text.extend_from_slice(b"write")?;
     push_number(text, handle)?;
