@@ -36,7 +36,7 @@ use Rattle.jv_client.specs.declared.made.Made.TheVariants as made
 use Rattle.jv_client.specs.ClientValue.{ClientValue}
 use Rattle.jv_client.specs.Ending.{ended, finished_here, refused_here, told_here}
 use Rattle.jv_client.specs.Held.{Holds, IsClient, flight_in, in_flight, number_of, stage_of}
-use Rattle.jv_client.specs.Makes.{Falls, Makes, StepsTo, TellsBad, UsesDevices, faults_of, kinds_of, step_of, tells_failure}
+use Rattle.jv_client.specs.Makes.{FailsAlone, Falls, Makes, StepsTo, TellsBad, UsesDevices, faults_of, kinds_of, step_of, tells_failure}
 use Rattle.jv_client.specs.Transacting.{Fails}
 use Rattle.jv_client.specs.UnderWay.{IsReady, IsUnderWay}
 use Rattle.jv_client.proofs.HeldLaws.{client-doing, doing_of, holds-doing}
@@ -131,15 +131,17 @@ uses-none done v calm bad = record {
 
 module _ (now entry : ℕ) (h after : ClientValue) (before used : Shared) (done : Made) (reply : Reply) where
   pub makes-ended : step_of done ≡ Done reply → IsReady h → Rests h after → UsesDevices done before used
+      → FailsAlone done
       → ((s : State) (g : Known) → s.count + 1 ≡ entry → HasStore s.tree g before → Holds s.tree (s.clients h.id)
       → IsClient g before (s.clients h.id) s.count h
       → StepsTo s g before h now (kinds_of done) (step_of done) after used)
       → Makes now entry h after before used done
-  makes-ended is ready rests devices leads = record {
+  makes-ended is ready rests devices alone leads = record {
     id = rests.id;
     limits = rests.limits;
     ready = rests-ready h after rests ready;
     devices = devices;
+    alone = alone;
     falls = subst (λ (step : Step). Falls step h after) (sym is) rests.idle;
     leads = leads;
   }
@@ -177,7 +179,6 @@ module _ (now entry : ℕ) (h : ClientValue) (d : Doing) (before used : Shared) 
             (client-doing g before c s.count h d busy is) (not_ending d) fault fail);
         is_client = client-ended s.tree g before store 0 g used (same-stays 0 g before used same) c s.count (s.count + 1) h
             (omega arith) is;
-        no_failure = tt;
         holds = holds-doing s.tree c None holds;
       }
 
@@ -187,7 +188,7 @@ module _ (now entry : ℕ) (h : ClientValue) (d : Doing) (before used : Shared) 
   fails-makes after done busy ready fail fails same devices =
       makes-as now entry h after (ended h) before used used done failed fails.after_is refl fails.made_is
       (makes-ended now entry h (ended h) before used failed (RefusedReply fault) refl ready (ended-rests h)
-      (subst (λ (x : Made). UsesDevices x before used) fails.made_is devices)
+      (subst (λ (x : Made). UsesDevices x before used) fails.made_is devices) tt
       (λ s g count store holds is. fails-leads busy fail same s g store holds is))
 
 -- memory ran out, and no device was used

@@ -58,7 +58,7 @@ module _ (now entry : ℕ) (h after : ClientValue) (v : Shared) (told : Told) (s
       → Makes now entry h after v v (made.Answer told said)
   answers-makes ready rests calm well =
       makes-ended now entry h after v v (made.Answer told said) said refl ready rests
-      (uses-none (made.Answer told said) v calm tt)
+      (uses-none (made.Answer told said) v calm tt) tt
       (λ s g count store holds is.
       let w = well s g store holds is in
       let mine = in_flight h in
@@ -73,7 +73,6 @@ module _ (now entry : ℕ) (h after : ClientValue) (v : Shared) (told : Told) (s
             (request-lands s g g v v h.id now mine mine kinds (Done said) s.tree w.model s.copied
             (still-request s g v v store (same-none v) h.id now mine kinds (Done said) w.model w.steps));
         is_client = w.is_client;
-        no_failure = tt;
         holds = w.holds;
       })
 

@@ -1,5 +1,5 @@
 -- A step that is a truncate or a copy with its answer: what it makes of the client and of what clients share.
-use Rattle.std.proofs.Common.{◌≡◌, ℕ, ◌+◌, true, false, IsTrue, List, [], ◌∷◌, map, None, Some, Ok, Err, refl, ap, subst}
+use Rattle.std.proofs.Common.{◌≡◌, ℕ, ◌+◌, true, IsTrue, List, [], ◌∷◌, map, None, Some, Ok, Err, refl, ap, subst}
 use Rattle.std.proofs.Common.{◌∙◌, arith}
 use Rattle.std.specs.Prelude.{Result, unwrap_or}
 use Rattle.jv_model.specs.declared.act.ActKind.{ActKind}
@@ -25,7 +25,6 @@ use Rattle.jv_model.specs.client.ModelClient.{ModelClient, inode_at}
 use Rattle.jv_model.specs.client.Profile.{handle_of}
 use Rattle.jv_model.specs.client.Submission.{is_flushed}
 use Rattle.jv_model.specs.journal.State.{State, after_told, caller}
-use Rattle.jv_model.specs.journal.Steps.{is_failure}
 use Rattle.jv_outside.specs.Store.{Store}
 use Rattle.jv_rows.specs.Transactions.{IsFor}
 use Rattle.jv_data.specs.Changing.{AnyTold, Changes, IsCrowded, Never, count_in}
@@ -54,7 +53,7 @@ use Rattle.jv_client.proofs.HeldLaws.{client-doing, doing_of, holds-doing, holds
 use Rattle.jv_client.proofs.LastLaws.{inode-same}
 use Rattle.jv_client.proofs.KeptLaws.{cache-goes, ended-client, held-goes}
 use Rattle.jv_client.proofs.DueLaws.{IsFirst, change-first, first-flushed, first-stage}
-use Rattle.jv_client.proofs.TransactionLaws.{answered-makes, calm-device}
+use Rattle.jv_client.proofs.TransactionLaws.{answered-makes}
 use Rattle.jv_client.proofs.UnmadeLaws.{UnmadeLeads, unmade}
 
 -- ---- what the model makes of it, whatever files its caller has open
@@ -126,11 +125,11 @@ module _ (now : ℕ) (h : ClientValue) (d : Doing) (busy : h.doing ≡ Some d) (
 
     -- it leads to the client without its views of the file
     leads-changed : (kind named : ActKind) (told : Told) (answer : Reply) (inode other : ℕ) (t : Tree) (copied : ℕ)
-        → kind ≡ named → inode ≡ other → is_failure told ≡ false
+        → kind ≡ named → inode ≡ other
         → Request s g g v used h.id now (in_flight h) (in_flight h) (kind ∷ Answered told ∷ []) (Done answer) t
         (record (without_views inode mine) { doing = None }) copied
         → StepsTo s g v h now (named ∷ Answered told ∷ []) (Done answer) (ended (blind other h)) used
-    leads-changed kind named told answer inode other t copied is_named same calm request =
+    leads-changed kind named told answer inode other t copied is_named same request =
         let blinded = blind inode h in
         let model : ModelClient = record (without_views inode mine) { doing = None } in
         let goes : KeepsShared request.own g g v used = request.leads.kept in
@@ -149,7 +148,6 @@ module _ (now : ℕ) (h : ClientValue) (d : Doing) (busy : h.doing ≡ Some d) (
               (held-goes s.tree g v has request.own g used goes (without_views inode mine) s.count (s.count + 2)
               blinded (omega arith) (held-blind g v s.count inode mine h is.held))
               (cache-goes s.tree g v has request.own g used goes h.cache is.cache);
-          no_failure = calm-device told calm;
           holds = holds-doing t (without_views inode mine) None
               (holds-blind t inode mine (holds-later s.tree t mine stays holds));
         }))
@@ -181,7 +179,7 @@ module _ (now : ℕ) (h : ClientValue) (d : Doing) (busy : h.doing ≡ Some d) (
           model-flushed g v has (in_flight h) keeper due handle len of_op changes in
           leads-changed (Truncated (inode_at mine handle) len) (Truncated (inode_here h.handles handle) len)
           (Fine 0 0 0 0) reply.Done (inode_at mine handle) (inode_here h.handles handle) request.0 s.copied
-          (ap (λ inode. Truncated inode len) same) same refl request.1
+          (ap (λ inode. Truncated inode len) same) same request.1
 
     -- a copy
     module _ (source from target to len : ℕ) (of_op : d.op ≡ op.Copy source from target to len) (due : Setting → ℕ)
@@ -218,7 +216,7 @@ module _ (now : ℕ) (h : ClientValue) (d : Doing) (busy : h.doing ≡ Some d) (
             (s.copied + count)
             (ap (λ inode. Copied inode from (inode_at mine target) to count) first_same
             ∙ ap (λ inode. Copied (inode_here h.handles source) from inode to count) same)
-            same refl request.1
+            same request.1
 
   -- one in whose name a change is tried, and the files that it is on
   abbrev asker : ℕ → ℕ → Caller
@@ -248,7 +246,7 @@ module _ (now : ℕ) (h : ClientValue) (d : Doing) (busy : h.doing ≡ Some d) (
         let inode = inode_here h.handles handle in
         let tx = tried (asker inode 0) (asker-is inode 0) refl in
         answered-makes now entry h (ended (blind inode h)) (Truncated inode len) (Fine 0 0 0 0) reply.Done v keeper
-        (record { id = refl; limits = refl; idle = refl }) ready tx.opened_at tx.counts
+        (record { id = refl; limits = refl; idle = refl }) ready tx.opened_at tx.counts (refl, λ device. refl)
         (λ s g number has holds is. truncate-leads s g has holds is handle len of_op (due_after now)
         (model-truncates s g has holds is handle len of_op (due_after now) (Ok tt) tried))
 
@@ -266,6 +264,7 @@ module _ (now : ℕ) (h : ClientValue) (d : Doing) (busy : h.doing ≡ Some d) (
         let tx = tried (asker first_inode inode) (asker-is first_inode inode) refl refl in
         answered-makes now entry h (ended (blind inode h)) (Copied first_inode from inode to count) (Fine count 0 0 0)
         (reply.Count count) v keeper (record { id = refl; limits = refl; idle = refl }) ready tx.opened_at tx.counts
+        (refl, λ device. refl)
         (λ s g number has holds is. copy-leads s g has holds is source from target to len of_op (due_after now) count
         (model-copies s g has holds is source from target to len of_op (due_after now) (Ok count) tried))
 
@@ -347,7 +346,7 @@ module _ (now : ℕ) (h : ClientValue) (d : Doing) (busy : h.doing ≡ Some d) (
     truncate-unmade handle len of_op of_does fault tried ends =
         let inode = inode_here h.handles handle in
         let tx = tried (asker inode 0) (asker-is inode 0) refl in
-        unmade now entry h after d v keeper busy ready Quiet fault done
+        unmade now entry h after d v keeper busy ready Quiet fault done refl
         (record { rows_are = tx.undone; opened_at = tx.opened_at; counts = tx.counts; bad = tx.bad }) ends
         (λ s g number has holds is. truncate-unmade_leads handle len of_op of_does s g has holds is fault tried)
 
@@ -362,7 +361,7 @@ module _ (now : ℕ) (h : ClientValue) (d : Doing) (busy : h.doing ≡ Some d) (
         let first_inode = inode_here h.handles source in
         let inode = inode_here h.handles target in
         let tx = tried (asker first_inode inode) (asker-is first_inode inode) refl refl in
-        unmade now entry h after d v keeper busy ready Quiet fault done
+        unmade now entry h after d v keeper busy ready Quiet fault done refl
         (record { rows_are = tx.undone; opened_at = tx.opened_at; counts = tx.counts; bad = tx.bad }) ends
         (λ s g number has holds is. copy-unmade_leads source from target to len of_op of_does s g has holds is fault
         tried)

@@ -39,8 +39,8 @@ use Rattle.jv_client.specs.ClientValue.{ClientValue, session_here}
 use Rattle.jv_client.specs.Ending.{told_here}
 use Rattle.jv_client.specs.Held.{IsHeld, IsClient, Holds, in_flight, is_last_here, segment_left}
 use Rattle.jv_client.specs.UnderWay.{IsReady, answer_here, ends_itself, left, left_of, moved_to}
-use Rattle.jv_client.specs.Makes.{Makes, StepsTo, TellsBad, UsesDevices, asks_nothing, faults_of}
-use Rattle.jv_client.specs.Makes.{is_failure_of, step_of, tells_failure}
+use Rattle.jv_client.specs.Makes.{IsCalm, Makes, StepsTo, TellsBad, UsesDevices, asks_nothing, faults_of}
+use Rattle.jv_client.specs.Makes.{step_of, tells_failure}
 use Rattle.jv_client.specs.Flushing.{Follows, Answers, Writes, GoesOn, written_alone}
 use Rattle.jv_client.proofs.AfterCommitLaws.{falls-without, way-without}
 use Rattle.jv_client.proofs.AnswerLaws.{Rests, makes-as, makes-ended, rests-flight, told-rests}
@@ -60,7 +60,7 @@ keeps-none : (what : Does) (o : Op) → is_write o ≡ false → keeps_bytes o (
 keeps-none (does.Answers answer.NoData) o e = e
 keeps-none _ o e = e
 
-calm-answer : (what : Does) (failed : Device) → is_failure_of failed (answer_here what).0 ≡ false
+calm-answer : (what : Does) → IsCalm (answer_here what).0
 calm-answer (does.Answers answer.NoData) failed = refl
 calm-answer _ failed = refl
 
@@ -173,7 +173,6 @@ module _ (h : ClientValue) (d : Doing) (v : Shared) (keeper : Store) (at : Segme
             (held-without segment_here s.tree g v store request-on.own g used_here request-on.leads.kept model s.count
             (s.count + 1) h (omega arith) is.held)
             is.cache tt tt;
-        no_failure = tt;
         holds = holds-doing tree_then left_model then_model.doing holds-here;
       }
 
@@ -184,9 +183,9 @@ module _ (h : ClientValue) (d : Doing) (v : Shared) (keeper : Store) (at : Segme
       ends-so : (told : Told) (said : Reply) (c : ModelClient) (after : ClientValue) → Rests between after
           → Leads (commit ∷ Answered told ∷ []) said c
           → ((later : ℕ) → IsHeld g used_here left_model later between → IsClient g used_here c later after)
-          → ((failed : Device) → is_failure_of failed told ≡ false) → Holds tree_then c
+          → Holds tree_then c
           → StepsTo s g v h now (commit ∷ Answered told ∷ []) (Done said) after used_here
-      ends-so told said c after rests request client calm held = record {
+      ends-so told said c after rests request client held = record {
         learned = g;
         tree = tree_then;
         model = c;
@@ -200,7 +199,6 @@ module _ (h : ClientValue) (d : Doing) (v : Shared) (keeper : Store) (at : Segme
             client (s.count + 2)
             (held-without segment_here s.tree g v store request.own g used_here request.leads.kept model s.count
             (s.count + 2) h (omega arith) is.held);
-        no_failure = calm;
         holds = held;
       }
 
@@ -230,7 +228,6 @@ module _ (h : ClientValue) (d : Doing) (v : Shared) (keeper : Store) (at : Segme
             (subst (λ c. Leads (commit ∷ Answered (told_of said) ∷ []) said c) (after-answer d.does d.op left_model)
             (request-over said answer.same)))
             (λ later held. told-client g used_here later d.op told left_model between other held is.cache)
-            (calm-answer d.does)
             (holds-told d.op told tree_then left_model other holds-here)
 
       -- a write had to wait, and is pending now
@@ -259,7 +256,6 @@ module _ (h : ClientValue) (d : Doing) (v : Shared) (keeper : Store) (at : Segme
               pending = written (inode_here between.handles handle) offset bytes pending;
               doing = None;
             })) w.none (wrote-client left_model between handle offset bytes g used_here later held is.cache))
-            (λ failed. refl)
             (wrote-holds left_model between handle offset bytes tree_then g v s.count w.file held-here w.opened holds-here)
 
   -- ---- what it makes
@@ -276,6 +272,7 @@ module _ (h : ClientValue) (d : Doing) (v : Shared) (keeper : Store) (at : Segme
         doing = way-without h d segment_here is_commit.way.form is_commit.next fewer goes;
       };
       devices = uses (made.Request commit) (λ failed. refl) refl tt;
+      alone = refl;
       falls = (
         falls-without h d segment_here is_commit.way.form is_commit.next fewer goes quiets started id is_commit.at_is
             is_commit.few is_commit.some is_commit.busy,
@@ -294,7 +291,7 @@ module _ (h : ClientValue) (d : Doing) (v : Shared) (keeper : Store) (at : Segme
         let rests = told-rests d.op told between in
         makes-ended now entry h (told_here d.op told between) v used_here (made.Both commit told said) said refl ready
         (record { id = rests.id; limits = rests.limits; idle = rests.idle })
-        (uses (made.Both commit told said) (λ failed. refl) refl tt)
+        (uses (made.Both commit told said) (λ failed. refl) refl tt) (refl, calm-answer d.does)
         (λ s g count store holds is. leads-over s g store holds is over ends alone)
 
     makes-write : (over : segment_left d.flush between.pending ≡ None) (handle offset : ℕ) (bytes : List ℕ)
@@ -311,7 +308,7 @@ module _ (h : ClientValue) (d : Doing) (v : Shared) (keeper : Store) (at : Segme
           doing = None;
         }) v used_here (made.Both commit told said) said refl ready
         (record { id = refl; limits = refl; idle = refl })
-        (uses (made.Both commit told said) (λ failed. refl) refl tt)
+        (uses (made.Both commit told said) (λ failed. refl) refl tt) (refl, λ failed. refl)
         (λ s g count store holds is. leads-write s g store holds is over handle offset bytes of_op)
 
     -- a commit, and what follows it

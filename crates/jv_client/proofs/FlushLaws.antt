@@ -112,7 +112,7 @@ module _ (now entry : ℕ) (h : ClientValue) (d : Doing) (before used : Shared) 
         pending = omega arith;
         handles = λ handle file opened. (file, opened, refl);
       })
-      refl works (ap (λ b. b || asks_more after asking) there) fewer uses
+      refl works (ap (λ b. b || asks_more after asking) there) fewer uses refl
       (λ s g count store holds is.
       let m = s.clients h.id in
       let model : ModelClient = at_stage (InModel (quiets + 1) moment) (doing_of d) m in
@@ -127,7 +127,6 @@ module _ (now entry : ℕ) (h : ClientValue) (d : Doing) (before used : Shared) 
         is_client = client-asks s.tree g before store asked.request.own asked.learned used asked.request.leads.kept m
             s.count (s.count + 1) h (omega arith) is d stage
             (subst (IsOnWay asked.learned used) (sym flying) (asked.flies, asked.put)) tt;
-        no_failure = tt;
         holds = holds-doing s.tree m model.doing holds;
       })
 
@@ -202,7 +201,7 @@ module _ (now entry : ℕ) (h : ClientValue) (d : Doing) (before : Shared) (keep
       → TakesNumber sid before.keeper keeper (Err fault) → EndsUnmade Quiet fault h after done
       → Makes now entry h after before numbered done
   refuses_number after fault done takes ends =
-      unmade now entry h after d before keeper busy ready Quiet fault done
+      unmade now entry h after d before keeper busy ready Quiet fault done refl
       (not_taken sid before.keeper keeper fault takes) ends
       (λ s g count store holds is. refused_in s g store is fault takes)
 

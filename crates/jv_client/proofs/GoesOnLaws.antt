@@ -1,6 +1,6 @@
 -- A request after which the operation in progress goes on: what the client itself has to show for it, and what is left
 -- to show of the model.
-use Rattle.std.proofs.Common.{◌≡◌, ℕ, ◌+◌, ◌≤◌, ◌<◌, IsTrue, [], ◌∷◌, length, Option, None, Some}
+use Rattle.std.proofs.Common.{◌≡◌, ℕ, ◌+◌, ◌≤◌, ◌<◌, IsTrue, false, [], ◌∷◌, length, Option, None, Some}
 use Rattle.std.proofs.Common.{refl, sym, ap, subst, ◌∙◌, arith}
 use Rattle.std.specs.Prelude.{IfSome, List, is_some}
 use Rattle.jv_model.specs.declared.basics.Limits.{Limits}
@@ -8,6 +8,7 @@ use Rattle.jv_model.specs.declared.act.ActKind.{ActKind}
 use Rattle.jv_model.specs.declared.op.Step.TheVariants.{More}
 use Rattle.jv_model.specs.client.ModelClient.{file_of}
 use Rattle.jv_model.specs.journal.State.{State}
+use Rattle.jv_model.specs.journal.Stepping.{is_answer}
 use Rattle.jv_handles.specs.declared.handle.Handle.{Handle}
 use Rattle.jv_shared.specs.Shared.{HasStore, Known, Shared}
 use Rattle.jv_client.specs.declared.doing.Doing.{Doing}
@@ -99,11 +100,11 @@ module _ (now entry : ℕ) (h after : ClientValue) (d : Doing) (p : Progress) (k
   pub goes-on : after.id ≡ h.id → Continues h after → after.doing ≡ Some (moved_to p d)
       → IsAt after (moved_to p d) p → IsTrue (has_more after (moved_to p d) p)
       → steps_in (length after.pending) (moved_to p d) < steps_in (length h.pending) d
-      → UsesDevices (AsksFor kind) before used
+      → UsesDevices (AsksFor kind) before used → is_answer kind ≡ false
       → ((s : State) (g : Known) → s.count + 1 ≡ entry → HasStore s.tree g before → Holds s.tree (s.clients h.id)
       → IsClient g before (s.clients h.id) s.count h → StepsTo s g before h now (kind ∷ []) More after used)
       → Makes now entry h after before used (AsksFor kind)
-  goes-on same continues is at more fewer uses leads = record {
+  goes-on same continues is at more fewer uses asks leads = record {
     id = same;
     limits = continues.limits;
     ready = record {
@@ -116,6 +117,7 @@ module _ (now entry : ℕ) (h after : ClientValue) (d : Doing) (p : Progress) (k
       });
     };
     devices = uses;
+    alone = asks;
     falls = (
       (let now_left : steps_left after ≡ steps_in (length after.pending) asked =
           ap (steps_of (length after.pending)) is in

@@ -283,7 +283,6 @@ module _ (now entry block : ℕ) (h : ClientValue) (d : Doing) (offset len : ℕ
           is_client = client-on block h d offset len cache fetch (NeedsBlock b) asks h.handles file asks.reads.opened refl
               g used mine (s.count + 1) held-on named-on kept cached-on later looks_up filled block-on fetching-on f need
               goes;
-          no_failure = tt;
           holds = record { opened = holds.opened; pending = holds.pending };
         }
 
@@ -309,7 +308,6 @@ module _ (now entry block : ℕ) (h : ClientValue) (d : Doing) (offset len : ℕ
           is_client = client-over block h d offset len cache fetch (NeedsBlock b) asks h.handles file asks.reads.opened
               refl g used mine (s.count + 1) held-on named-on kept cached-on later looks_up (s.count + 2) (omega arith)
               found;
-          no_failure = λ device. refl;
           holds = holds-told d.op (told_read found) s.tree mine
               (none-kept d.op handle offset len asks.reads.op_is found.first found.second (length found.bytes)) holds;
         }
@@ -328,6 +326,7 @@ module _ (now entry block : ℕ) (h : ClientValue) (d : Doing) (offset len : ℕ
             ready = ready-on block h d offset len cache fetch (NeedsBlock b) asks h.handles file asks.reads.opened refl
                 later f need can wants more;
             devices = uses-got (made.Request Quiet) before yard (λ device. refl) gets.0 tt;
+            alone = refl;
             falls = (
               falls-on block h d offset len cache fetch (NeedsBlock b) asks h.handles file asks.reads.opened refl
                   later f need can wants more (omega (arith, few, less)),
@@ -347,6 +346,7 @@ module _ (now entry block : ℕ) (h : ClientValue) (d : Doing) (offset len : ℕ
         limits = refl;
         ready = record { buffer = asks.buffer; doing = tt };
         devices = uses-got (made.Both Quiet (told_read found) (Data found.bytes)) before yard (λ device. refl) gets.0 tt;
+        alone = (refl, λ device. refl);
         falls = refl;
         leads = λ s g number has holds client. leads-over s g has holds client found read;
       }

@@ -265,7 +265,6 @@ module _ (now entry block : ℕ) (h : ClientValue) (d : Doing) (offset len : ℕ
         is_client = client-on block h d offset len cache fetch (NeedsLook window) asks handles seen opened refl g used
             (record m { views = taken ∷ m.views }) (s.count + 1) held named_then cache cached later looks_up fetch
             own_block fetching_then f need goes;
-        no_failure = tt;
         holds = record { opened = holds.opened; pending = holds.pending };
       }
 
@@ -292,7 +291,6 @@ module _ (now entry block : ℕ) (h : ClientValue) (d : Doing) (offset len : ℕ
         is_client = client-over block h d offset len cache fetch (NeedsLook window) asks handles seen opened refl g used
             (record m { views = taken ∷ m.views }) (s.count + 1) held named_then cache cached later looks_up
             (s.count + 2) (omega arith) found;
-        no_failure = λ device. refl;
         holds = holds-told d.op (told_read found) s.tree (record m { views = taken ∷ m.views })
             (none-kept d.op handle offset len asks.reads.op_is found.first found.second (length found.bytes)) holds_then;
       }
@@ -308,6 +306,7 @@ module _ (now entry block : ℕ) (h : ClientValue) (d : Doing) (offset len : ℕ
         (goes.can can-seen) wants more;
     devices = uses-look (made.Request (Look file.inode window)) before keeper (λ device. refl) looks.looks.rows_are
         looks.looks.opened_at looks.looks.counts tt;
+    alone = refl;
     falls = (
       falls-on block h d offset len cache fetch (NeedsLook window) asks handles seen opened refl later f need
           (goes.can can-seen) wants more (fewer-seen f goes),
@@ -328,6 +327,7 @@ module _ (now entry block : ℕ) (h : ClientValue) (d : Doing) (offset len : ℕ
     ready = record { buffer = asks.buffer; doing = tt };
     devices = uses-look (made.Both (Look file.inode window) (told_read found) (Data found.bytes)) before keeper
         (λ device. refl) looks.looks.rows_are looks.looks.opened_at looks.looks.counts tt;
+    alone = (refl, λ device. refl);
     falls = refl;
     leads = λ s g number has holds client. leads-over s g number has holds client later looks_up found read;
   }

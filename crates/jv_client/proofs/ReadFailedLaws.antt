@@ -72,7 +72,6 @@ module _ (now entry block : ℕ) (h : ClientValue) (d : Doing) (offset len : ℕ
           (held-cache g before m s.count h (Some later) h.doing client.held))
           (cache-goes s.tree g before has 0 g used (same-stays 0 g before used same) (Some later)
           (cached s g has client));
-      no_failure = tt;
       holds = holds-doing s.tree m None holds;
     }
 
@@ -90,6 +89,7 @@ module _ (now entry block : ℕ) (h : ClientValue) (d : Doing) (offset len : ℕ
     limits = refl;
     ready = record { buffer = asks.buffer; doing = tt };
     devices = uses;
+    alone = tt;
     falls = refl;
     leads = leads;
   }

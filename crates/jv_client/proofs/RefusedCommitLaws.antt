@@ -123,5 +123,5 @@ module _ (h : ClientValue) (d : Doing) (v : Shared) (keeper : Store) (at : Segme
   pub refuses-commit : (entry : ℕ) (after : ClientValue) (fault : TxFault) (outcome : Made) → Commits fault
       → EndsUnmade Quiet fault h after outcome → Makes now entry h after v used_here outcome
   refuses-commit entry after fault outcome commits ends =
-      unmade now entry h after d v keeper is_commit.busy ready Quiet fault outcome (not-committed fault commits) ends
+      unmade now entry h after d v keeper is_commit.busy ready Quiet fault outcome refl (not-committed fault commits) ends
       (λ s g count store holds is. unmade-so s g store holds is fault commits)

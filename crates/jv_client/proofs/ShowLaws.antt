@@ -102,7 +102,7 @@ module _ (now entry : ℕ) (h : ClientValue) (ready : IsReady h) (v : Shared) (c
   answered-alone calm asked =
       makes-ended now entry h left_by v v (made.Answer told reply) reply refl ready
       (record { id = refl; limits = refl; idle = refl })
-      (uses-none (made.Answer told reply) v calm tt)
+      (uses-none (made.Answer told reply) v calm tt) tt
       (λ s g number store holds is. let mine = in_flight h in let m = s.clients h.id in record {
         learned = g;
         tree = s.tree;
@@ -113,7 +113,6 @@ module _ (now entry : ℕ) (h : ClientValue) (ready : IsReady h) (v : Shared) (c
         is_client = client-ended s.tree g v store 0 g v (same-stays 0 g v v (same-none v)) m s.count (s.count + 1)
             (record h { cache = cache }) (omega arith)
             (client-cached g v m s.count h cache (knows g.sizes v.yard.setting.block g.blocks is.cache) is);
-        no_failure = tt;
         holds = holds-doing s.tree m None holds;
       })
 

@@ -19,6 +19,7 @@ steps-of line now entry id h after before used journal more made step m long is 
   limits = m.limits;
   ready = m.ready;
   devices = m.devices;
+  alone = m.alone;
   falls = subst (λ x. Falls x h after) (sym is) m.falls;
   leads = λ s g count has holds client. subst (λ x. StepsTo s g before h now (kinds_of made) x after used) (sym is)
       (m.leads s g (omega (arith, count, long)) has holds client);

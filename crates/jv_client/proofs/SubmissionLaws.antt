@@ -1,7 +1,11 @@
 -- A client in memory is refused, and flushes, as the client of the model that it stands for.
-use Rattle.std.proofs.Common.{◌≡◌, ℕ, ◌+◌, Bool, true, false, not, List, [], ◌∷◌, length, map, Option, Some, refl, sym, ap, ◌∙◌}
-use Rattle.std.specs.Prelude.{is_some, ◌||◌, nat_lt, if◌then◌else◌}
+use Rattle.std.proofs.Common.{◌≡◌, ℕ, ◌+◌, Bool, true, false, not, List, [], ◌∷◌, length, map, Option, Some, refl, sym, ap, subst, ◌∙◌}
+use Rattle.std.specs.Prelude.{is_some, ◌&&◌, ◌||◌, nat_le, nat_lt, if◌then◌else◌}
+use Rattle.std.proofs.lemmas.Option.{same_Some}
+use Rattle.jv_model.specs.declared.act.Told.TheVariants.{Refused as ToldRefused}
 use Rattle.jv_model.specs.declared.fault.Fault.{Fault}
+use Rattle.jv_model.specs.declared.fault.Fault.TheVariants.{InProgress, NotConnected, BadHandle, TooManyHandles, FileTooLarge}
+use Rattle.jv_model.specs.declared.limits.TheConstants.{FILE_END, MAX_HANDLES}
 use Rattle.jv_model.specs.declared.op.Op.{Op}
 use Rattle.jv_model.specs.declared.profile.Profile.{Profile}
 use Rattle.jv_model.specs.declared.profile.Flushes.{Flushes}
@@ -11,7 +15,7 @@ use Rattle.jv_model.specs.declared.profile.Handles.TheVariants as named
 use Rattle.jv_model.specs.client.Pending.{PendingByte}
 use Rattle.jv_model.specs.client.ModelClient.{ModelClient, OpenFile, OfFiles, OfAll, open_count, inode_at}
 use Rattle.jv_model.specs.client.Profile.{profile, handle_list}
-use Rattle.jv_model.specs.client.Submission.{submission, submission_of, submitted, names_closed, is_closed, flush_of, by_limits}
+use Rattle.jv_model.specs.client.Submission.{first_refusal, is_mount, submission, submission_of, submitted, names_closed, is_closed, flush_of, by_limits}
 use Rattle.jv_shared.specs.Shared.{Known, Shared}
 use Rattle.jv_handles.specs.declared.handle.Handle.{Handle}
 use Rattle.jv_handles.specs.Handles.{inode_here}
@@ -20,8 +24,35 @@ use Rattle.jv_handles.proofs.TableLaws.{some-same, count-same, file-same}
 use Rattle.jv_client.specs.declared.doing.Flush.TheVariants as flush
 use Rattle.jv_client.specs.ClientValue.{ClientValue}
 use Rattle.jv_client.specs.Held.{IsDoing, IsHeld, IsClient, files_here, flush_here, begun, flush_of_code}
+use Rattle.jv_client.specs.Makes.{IsCalm}
 use Rattle.jv_client.proofs.HeldLaws.{held-doing}
 use Rattle.jv_client.proofs.LastLaws.{inode-same}
+
+-- no refusal at a submission says that a device failed
+
+abbrev IsOther : Fault → Type 0
+IsOther fault = IsCalm (ToldRefused fault)
+
+refused-calm : (busy mounted closed many large : Bool) (fault : Fault) → first_refusal (
+    (busy, InProgress)
+    ∷ (mounted, NotConnected)
+    ∷ (closed, BadHandle)
+    ∷ (many, TooManyHandles)
+    ∷ (large, FileTooLarge)
+    ∷ []) ≡ Some fault → IsOther fault
+refused-calm true mounted closed many large fault is = subst IsOther (same_Some InProgress fault is) (λ device. refl)
+refused-calm false true closed many large fault is = subst IsOther (same_Some NotConnected fault is) (λ device. refl)
+refused-calm false false true many large fault is = subst IsOther (same_Some BadHandle fault is) (λ device. refl)
+refused-calm false false false true large fault is =
+    subst IsOther (same_Some TooManyHandles fault is) (λ device. refl)
+refused-calm false false false false true fault is = subst IsOther (same_Some FileTooLarge fault is) (λ device. refl)
+refused-calm false false false false false fault is = absurd (cc is)
+
+pub refusal-calm : (busy mounted closed : Bool) (handles : ℕ) (row : Profile) (fault : Fault)
+    → submission_of busy mounted closed handles row ≡ Some fault → IsCalm (ToldRefused fault)
+refusal-calm busy mounted closed handles row fault is =
+    refused-calm (busy || (is_mount row.does && mounted)) (row.needs_mount && not mounted) closed
+    (row.opens && nat_le MAX_HANDLES handles) (nat_lt FILE_END row.end) fault is
 
 module _ {X Y : Type 0} (P : ℕ → X → Y → Type 0) where
   closed-same : (xs : List (Option X)) (ys : List (Option Y)) → SameTable P 1 xs ys → (handle : ℕ)

@@ -6,8 +6,6 @@ use Rattle.jv_model.specs.declared.act.ActKind.{ActKind}
 use Rattle.jv_model.specs.declared.act.ActKind.TheVariants.{Answered, Meta}
 use Rattle.jv_model.specs.declared.act.Told.{Told}
 use Rattle.jv_model.specs.declared.act.Told.TheVariants.{Fine, Looks, Refused as ToldRefused}
-use Rattle.jv_model.specs.declared.fault.Device.{Device}
-use Rattle.jv_model.specs.declared.fault.Fault.TheVariants.{DeviceFailed}
 use Rattle.jv_model.specs.declared.fault.RowFault.TheVariants.{Bad, Failed, Memory}
 use Rattle.jv_model.specs.declared.fault.TxFault.{TxFault}
 use Rattle.jv_model.specs.declared.fault.TxFault.TheVariants.{Refused as RefusedBy, Moved, Rows as OfRows}
@@ -24,23 +22,24 @@ use Rattle.jv_model.specs.client.Profile.{handle_of}
 use Rattle.jv_model.specs.client.Submission.{is_flushed}
 use Rattle.jv_model.specs.journal.State.{State, Gift, after_told, caller, gift_of}
 use Rattle.jv_model.specs.journal.State.{newly_sustained, transacted}
-use Rattle.jv_model.specs.journal.Steps.{entry_of_gift, told_of, is_failure, transacts}
+use Rattle.jv_model.specs.journal.Steps.{entry_of_gift, told_of, transacts}
 use Rattle.jv_outside.specs.Store.{Store}
 use Rattle.jv_volume.specs.Holding.{takes_entries}
 use Rattle.jv_volume.proofs.HoldingLaws.{sustains_none, sustains_held}
 use Rattle.jv_volume.proofs.OpeningLaws.{opened_file}
 use Rattle.jv_links.specs.Removals.{HoldsFiles}
 use Rattle.jv_metadata.specs.declared.answers.Answer.{Answer}
-use Rattle.jv_metadata.specs.Attempts.{KeepsOne, TellsKept, attempt, is_inode, is_metadata}
+use Rattle.jv_metadata.specs.Attempts.{KeepsOne, TellsKept, attempt, is_inode, is_metadata, is_refusal}
 use Rattle.jv_shared.specs.Keeping.{KeepsShared}
 use Rattle.jv_shared.specs.Shared.{HasStore, Known, Shared}
 use Rattle.jv_handles.specs.Handles.{held_here, inode_here}
 use Rattle.jv_handles.proofs.HandleLaws.{handles-free, handles-held, handles-inode}
 use Rattle.jv_steps.specs.Stages.{handed}
 use Rattle.jv_steps.proofs.GiftLaws.{among-sustained}
+use Rattle.jv_steps.proofs.TransactionStepLaws.{asks-by_gift}
 use Rattle.jv_requests.specs.Request.{Request}
 use Rattle.jv_requests.proofs.LandedLaws.{acted-stays, store-shape}
-use Rattle.jv_requests.proofs.MetadataLaws.{keeps-told, transaction-calm, transaction-never_bad}
+use Rattle.jv_requests.proofs.MetadataLaws.{keeps-told, transaction-never_bad}
 use Rattle.jv_requests.proofs.MetadataLaws.{transaction-never_moved, transaction-not_made, transaction-not_made_calm}
 use Rattle.jv_requests.proofs.MetadataLaws.{transaction-request}
 use Rattle.jv_client.specs.declared.doing.Doing.{Doing}
@@ -49,7 +48,7 @@ use Rattle.jv_client.specs.declared.made.Made.TheVariants.{Both}
 use Rattle.jv_client.specs.ClientValue.{ClientValue, session_here}
 use Rattle.jv_client.specs.Held.{IsClient, IsHeld, Holds, in_flight}
 use Rattle.jv_client.specs.UnderWay.{ClosesOpen, IsReady, asks_more, left, makes_transaction}
-use Rattle.jv_client.specs.Makes.{Makes, StepsTo, is_failure_of, kinds_of}
+use Rattle.jv_client.specs.Makes.{FailsAlone, IsCalm, Makes, StepsTo, kinds_of}
 use Rattle.jv_client.specs.Transacting.{IsCaller, Attempts, EndsUnmade, NotMade, answered_here, given_here}
 use Rattle.jv_client.specs.Transacting.{handles_given, sustained_with}
 use Rattle.jv_client.proofs.AnswerLaws.{Rests, makes-ended, request-lands, rests-flight, told-rests}
@@ -66,23 +65,26 @@ use Rattle.jv_client.proofs.GiftLaws.{IsGift, among-kept, held-given, holds-give
 
 -- ---- an operation that was answered
 
--- an answer that is no failure says of no device that it failed
-pub calm-device : (told : Told) → is_failure told ≡ false → (device : Device) → is_failure_of device told ≡ false
-calm-device (ToldRefused (DeviceFailed failed)) e device = absurd (cc e)
-calm-device _ e device = refl
+-- an answer that is no refusal says of no device that it failed
+calm-reply : (said : Reply) → is_refusal said ≡ false → IsCalm (told_of said)
+calm-reply (reply.Refused fault) e device = absurd (cc e)
+calm-reply (reply.Uploaded None) e device = refl
+calm-reply (reply.Uploaded (Some block)) e device = refl
+calm-reply _ e device = refl
 
 -- A step with a request of the keeper, which went well, and the answer.
 module _ (now entry : ℕ) (h after : ClientValue) (kind : ActKind) (told : Told) (answer : Reply) (v : Shared)
     (keeper : Store) where
   pub answered-makes : Rests h after → IsReady h → keeper.opened ≡ v.keeper.opened
-      → keeper.faults ≡ v.keeper.faults
+      → keeper.faults ≡ v.keeper.faults → FailsAlone (Both kind told answer)
       → ((s : State) (g : Known) → s.count + 1 ≡ entry → HasStore s.tree g v → Holds s.tree (s.clients h.id)
       → IsClient g v (s.clients h.id) s.count h
       → StepsTo s g v h now (kind ∷ Answered told ∷ []) (Done answer) after (record v { keeper = keeper }))
       → Makes now entry h after v (record v { keeper = keeper }) (Both kind told answer)
-  answered-makes rests ready opened counts leads =
+  answered-makes rests ready opened counts alone leads =
       makes-ended now entry h after v (record v { keeper = keeper }) (Both kind told answer) answer refl ready rests
-      (uses-keeper v keeper (Both kind told answer) opened counts (refl, refl, refl) (λ asks. absurd (cc asks)) tt) leads
+      (uses-keeper v keeper (Both kind told answer) opened counts (refl, refl, refl) (λ asks. absurd (cc asks)) tt)
+      alone leads
 
 -- ---- which answers those are
 
@@ -228,10 +230,10 @@ module _ (now : ℕ) (h : ClientValue) (d : Doing) (busy : h.doing ≡ Some d) (
           (entry_of_gift (gift_of answer.reply) ∷ Answered (told_of answer.reply) ∷ []) (Done answer.reply) t
           (after_told d.op (told_of answer.reply) (handed s (doing_of d) out mine)) s.copied
 
-      leads-made : IsMade → is_failure (told_of answer.reply) ≡ false
+      leads-made : IsMade
           → StepsTo s g v h now (entry_of_gift (gift_of answer.reply) ∷ Answered (told_of answer.reply) ∷ [])
           (Done answer.reply) (answered_here (s.count + 1) d.op answer h) used
-      leads-made request calm =
+      leads-made request =
           let told = told_of answer.reply in
           let kinds = entry_of_gift (gift_of answer.reply) ∷ Answered told ∷ [] in
           let after = answered_here (s.count + 1) d.op answer h in
@@ -253,7 +255,6 @@ module _ (now : ℕ) (h : ClientValue) (d : Doing) (busy : h.doing ≡ Some d) (
                 (held-goes s.tree g v has request.own g used goes (handed s (doing_of d) out mine) (s.count + 1)
                 (s.count + 2) (given_here (s.count + 1) answer h) (omega arith) held-handed)
                 (cache-goes s.tree g v has request.own g used goes h.cache is.cache);
-            no_failure = calm-device told calm;
             holds = holds-told d.op told t (handed s (doing_of d) out mine) plain holds-handed;
           }
 
@@ -276,9 +277,7 @@ module _ (now : ℕ) (h : ClientValue) (d : Doing) (busy : h.doing ≡ Some d) (
         let tx = tried.does who known in
         let request = transaction-request s h.id now (doing_of d) busy first.started stage flushed transacts g v has
         (in_flight h) keeper (HoldsFiles who.held) files (λ (answer : Answer). answer.reply) answer tx in
-        let calm = transaction-calm s h.id now (doing_of d) busy first.started stage flushed transacts g v has
-        (in_flight h) keeper (HoldsFiles who.held) files (λ (answer : Answer). answer.reply) answer tx in
-        leads-made s g has holds is answer request.0 request.1 (tried.tells who known) request.2 calm
+        leads-made s g has holds is answer request.0 request.1 (tried.tells who known) request.2
 
     pub transaction-made : (entry : ℕ) → Makes now entry h (answered_here entry d.op answer h) v used made
     transaction-made entry =
@@ -287,6 +286,7 @@ module _ (now : ℕ) (h : ClientValue) (d : Doing) (busy : h.doing ≡ Some d) (
         answered-makes now entry h (answered_here entry d.op answer h) (entry_of_gift (gift_of answer.reply))
         (told_of answer.reply) answer.reply v keeper
         (record { id = rests.id; limits = rests.limits; idle = rests.idle }) ready tx.opened_at tx.counts
+        (asks-by_gift (gift_of answer.reply), calm-reply answer.reply tried.answers)
         (λ s g number has holds is.
         subst (λ n. StepsTo s g v h now (kinds_of made) (Done answer.reply) (answered_here n d.op answer h) used) number
         (made-leads s g has holds is))
@@ -335,7 +335,7 @@ module _ (now : ℕ) (h : ClientValue) (d : Doing) (busy : h.doing ≡ Some d) (
       → Attempts h d.op now v.keeper keeper (Err fault) → EndsUnmade Meta fault h after done
       → Makes now entry h after v used done
   transaction-unmade entry fault after done tried ends =
-      unmade now entry h after d v keeper busy ready Meta fault done (not_made fault tried) ends
+      unmade now entry h after d v keeper busy ready Meta fault done refl (not_made fault tried) ends
       (λ s g number has holds is. unmade-leads s g has holds is fault tried)
 
 -- the handle of a close is open while a reply hands another one to the client

@@ -17,8 +17,8 @@ use Rattle.jv_outside.specs.Store.{Store}
 use Rattle.jv_rows.specs.Transactions.{IsFor, Transacts, Always}
 use Rattle.jv_links.specs.Removals.{HoldsFiles}
 use Rattle.jv_metadata.specs.declared.answers.Answer.{Answer}
-use Rattle.jv_metadata.specs.Attempts.{Asks, TellsKept, attempt, mapped, plain}
-use Rattle.jv_metadata.proofs.AttemptLaws.{transacts-always}
+use Rattle.jv_metadata.specs.Attempts.{AnswersPlainly, Asks, TellsKept, attempt, mapped, plain}
+use Rattle.jv_metadata.proofs.AttemptLaws.{answers-mapped, transacts-always}
 use Rattle.jv_client.specs.ClientValue.{ClientValue, session_here}
 use Rattle.jv_handles.specs.Handles.{held_here, inode_here}
 use Rattle.jv_client.specs.Transacting.{IsCaller, Attempts}
@@ -42,6 +42,7 @@ tried_mount h o writeback now before after made result is makes same = record {
       transacts-always who.held before after (λ sid. SessionMade sid) (λ t. mount t who) session_answer (λ sid. refl) made
       (makes who mine.client mine.now_is) result same (λ t. attempt t who o) (λ t. ap (attempt t who) is);
   tells = λ who mine. subst (TellsKept who o before) (sym same) (mount-tells who o writeback before made is);
+  answers = answers-mapped session_answer (λ sid. refl) made result same;
 }
 
 -- nothing was tried
@@ -55,6 +56,7 @@ tried_none h o now before = record {
     bad = none_bad before.rows;
   };
   tells = λ who mine. tt;
+  answers = tt;
 }
   where
     none_bad : (rows : Option RowMap) → IfSome rows (λ known. Unit {0})
@@ -66,10 +68,11 @@ pub tried_metadata : (h : ClientValue) (o : Op) (now : ℕ) (before after : Stor
     → by.sid ≡ session_here h → by.held ≡ held_here h.handles → by.now ≡ now → handle ≡ free_handle h.handles → inode ≡ inode_here h.handles (handle_of o)
     → ((who : Caller) → IsFor by who → Asks who handle inode
     → Transacts (HoldsFiles who.held) before after result (λ (answer : Answer). answer.reply) (λ t. attempt t who o))
-    → ((who : Caller) → IsFor by who → TellsKept who o before result) → Attempts h o now before after result
-tried_metadata h o now before after result by handle inode sid held at free names does tells = record {
+    → ((who : Caller) → IsFor by who → TellsKept who o before result) → AnswersPlainly result → Attempts h o now before after result
+tried_metadata h o now before after result by handle inode sid held at free names does tells answers = record {
   does = λ who mine. does who (for who mine) (record { gets = mine.free ∙ sym free; names = mine.inode ∙ sym names });
   tells = λ who mine. tells who (for who mine);
+  answers = answers;
 }
   where
     for : (who : Caller) → IsCaller h o now who → IsFor by who

@@ -1,6 +1,6 @@
 -- A look that came to no view: it is refused since the session or the file is gone, the keeper failed, memory ran out, or
 -- a row is Bad.
-use Rattle.std.proofs.Common.{◌≡◌, ℕ, ◌+◌, false, true, [], ◌∷◌, Option, Some, Err, refl, sym, ap, subst}
+use Rattle.std.proofs.Common.{◌≡◌, ℕ, ◌+◌, true, [], ◌∷◌, Option, Some, Err, refl, sym, ap, subst}
 use Rattle.std.proofs.Common.{◌∙◌, arith}
 use Rattle.std.specs.Prelude.{unwrap_or}
 use Rattle.jv_model.specs.declared.act.ActKind.TheVariants.{Answered, Quiet}
@@ -18,6 +18,7 @@ use Rattle.jv_model.specs.declared.op.Step.TheVariants.{Done}
 use Rattle.jv_model.specs.client.ModelClient.{ModelClient, Doing as ModelDoing, inode_at, inode_in, session_of}
 use Rattle.jv_model.specs.client.Profile.{handle_of}
 use Rattle.jv_model.specs.journal.Reading.{asked_parts}
+use Rattle.jv_model.specs.tree.Tree.{Tree}
 use Rattle.jv_model.specs.journal.State.{State, after_told}
 use Rattle.jv_model.specs.journal.Steps.{file_in_use, window_to_look}
 use Rattle.jv_outside.specs.Causes.{RoseIf}
@@ -48,8 +49,8 @@ use Rattle.jv_client.specs.declared.made.Made.TheVariants as made
 use Rattle.jv_client.specs.ClientValue.{ClientValue, session_here}
 use Rattle.jv_client.specs.Ending.{refused_here}
 use Rattle.jv_client.specs.Held.{Holds, IsClient, in_flight}
-use Rattle.jv_client.specs.Makes.{Makes, StepsTo, UsesDevices, faults_of, is_failure_of, is_same_device}
-use Rattle.jv_client.specs.Transacting.{EndsUnmade}
+use Rattle.jv_client.specs.Makes.{Makes, StepsTo, UsesDevices, faults_of, is_same_device}
+use Rattle.jv_client.specs.Transacting.{EndsUnmade, refusal_of}
 use Rattle.jv_client.specs.UnderWay.{IsReady}
 use Rattle.jv_client.proofs.AnswerLaws.{refused-rests, rests-flight, rests-ready}
 use Rattle.jv_client.proofs.EndingLaws.{holds-told}
@@ -60,6 +61,7 @@ use Rattle.jv_client.proofs.ReaderLaws.{IsAsking, asking, busy_in, file_by, hand
 use Rattle.jv_client.proofs.GoneOnLaws.{over}
 use Rattle.jv_client.proofs.ReadFailedLaws.{failed, held-cache}
 use Rattle.jv_client.proofs.LookLaws.{uses-look}
+use Rattle.jv_client.proofs.UnmadeLaws.{calm-refusal}
 
 -- the keeper failed
 uses-failed : (before : Shared) (keeper : Store) → keeper.rows ≡ before.keeper.rows
@@ -87,11 +89,10 @@ uses-failed before keeper rows opened rose = record {
     by_device Shelf = refl
     by_device Carrier = refl
 
--- a session or a file that is gone is no device that failed
-calm : (sid inode : ℕ) (fault : Fault) (s : State) → SeesNone sid inode s.tree fault
-    → (device : Device) → is_failure_of device (ToldRefused fault) ≡ false
-calm sid inode fault s (NoSession gone is) device = ap (λ f. is_failure_of device (ToldRefused f)) is
-calm sid inode fault s (NoFile session none is) device = ap (λ f. is_failure_of device (ToldRefused f)) is
+-- the operation is refused since a session or a file is gone, as the look was
+seen-same : (sid inode : ℕ) (fault : Fault) (t : Tree) → SeesNone sid inode t fault → refusal_of fault ≡ fault
+seen-same sid inode fault t (NoSession gone is) = subst (λ f. refusal_of f ≡ f) (sym is) refl
+seen-same sid inode fault t (NoFile session none is) = subst (λ f. refusal_of f ≡ f) (sym is) refl
 
 module _ (now entry block : ℕ) (h : ClientValue) (d : Doing) (offset len : ℕ) (cache : Cached) (fetch : Fetching)
     (window : ℕ) (asks : IsAsking block h d offset len cache fetch (NeedsLook window)) (before : Shared)
@@ -197,9 +198,13 @@ module _ (now entry block : ℕ) (h : ClientValue) (d : Doing) (offset len : ℕ
           (held-goes s.tree g before has 0 g used stays m s.count (s.count + 2) c (omega arith)
           (held-cache g before m s.count h c.cache c.doing client.held))
           (cache-goes s.tree g before has 0 g used stays (Some cache) (cached-here s g has client));
-      no_failure = calm (session_of m) file.inode fault s why;
       holds = holds-told d.op (ToldRefused fault) s.tree m refl holds;
     }
+
+    refused-so : StepsTo s g before h now (Quiet ∷ Answered (ToldRefused (refusal_of fault)) ∷ [])
+        (Done (Refused (refusal_of fault))) (refused_here (refusal_of fault) c) used
+    refused-so = subst (λ f. StepsTo s g before h now (Quiet ∷ Answered (ToldRefused f) ∷ []) (Done (Refused f))
+        (refused_here f c) used) (sym (seen-same (session_of m) file.inode fault s.tree why)) refused-leads
 
   -- ---- all ways that it ends
 
@@ -207,18 +212,20 @@ module _ (now entry block : ℕ) (h : ClientValue) (d : Doing) (offset len : ℕ
       → LooksAt (session_here h) file.inode window before.keeper keeper (Err fault)
       → EndsUnmade Quiet fault c after done → Makes now entry h after before used done
   look-unmade (RefusedBy fault) after done ready looks ends =
-      let rests = refused-rests fault c in
+      let why = refusal_of fault in
+      let rests = refused-rests why c in
       subst (λ x. Makes now entry h after before used x) (sym ends.made_is)
-      (subst (λ x. Makes now entry h x before used (made.Both Quiet (ToldRefused fault) (Refused fault)))
+      (subst (λ x. Makes now entry h x before used (made.Both Quiet (ToldRefused why) (Refused why)))
       (sym ends.after_is)
       (record {
         id = rests.id;
         limits = rests.limits;
-        ready = rests-ready c (refused_here fault c) rests ready;
-        devices = uses-look (made.Both Quiet (ToldRefused fault) (Refused fault)) before keeper (λ device. refl)
+        ready = rests-ready c (refused_here why c) rests ready;
+        devices = uses-look (made.Both Quiet (ToldRefused why) (Refused why)) before keeper (λ device. refl)
             looks.looks.rows_are looks.looks.opened_at looks.looks.counts tt;
+        alone = (refl, calm-refusal fault);
         falls = rests.idle;
-        leads = λ s g number has holds client. refused-leads fault looks s g has holds client;
+        leads = λ s g number has holds client. refused-so fault looks s g has holds client;
       }))
   look-unmade (Moved list) after done ready looks ends =
       let fault : Fault = Contended (Lists ends.0 ends.0) in
@@ -231,6 +238,7 @@ module _ (now entry block : ℕ) (h : ClientValue) (d : Doing) (offset len : ℕ
         ready = record { buffer = asks.buffer; doing = tt };
         devices = uses-look (made.Both Quiet (ToldRefused fault) (Refused fault)) before keeper (λ device. refl)
             looks.looks.rows_are looks.looks.opened_at looks.looks.counts tt;
+        alone = (refl, λ device. refl);
         falls = refl;
         leads = λ s g number has holds client.
             absurd (look-never_moved s.tree g before has (session_here h) file.inode window keeper list looks);
@@ -244,6 +252,7 @@ module _ (now entry block : ℕ) (h : ClientValue) (d : Doing) (offset len : ℕ
         ready = ready;
         devices = uses-look (made.Broken at bytes) before keeper (λ device. refl) looks.looks.rows_are
             looks.looks.opened_at looks.looks.counts looks.looks.bad;
+        alone = tt;
         falls = tt;
         leads = λ s g number has holds client.
             absurd (look-never_bad s.tree g before has (session_here h) file.inode window keeper at bytes looks);

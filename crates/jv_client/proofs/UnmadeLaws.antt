@@ -18,6 +18,7 @@ use Rattle.jv_model.specs.declared.op.Reply.TheVariants.{Refused as RefusedReply
 use Rattle.jv_model.specs.declared.op.Step.TheVariants.{Done}
 use Rattle.jv_model.specs.tree.Tree.{Tree}
 use Rattle.jv_model.specs.journal.State.{State, after_told}
+use Rattle.jv_model.specs.journal.Stepping.{is_answer}
 use Rattle.jv_model.specs.journal.Steps.{is_failure}
 use Rattle.jv_outside.specs.Causes.{RoseIf}
 use Rattle.jv_outside.specs.Store.{Store}
@@ -33,9 +34,9 @@ use Rattle.jv_client.specs.ClientValue.{ClientValue}
 use Rattle.jv_client.specs.Held.{IsClient, Holds, in_flight}
 use Rattle.jv_client.specs.Ending.{refused_here}
 use Rattle.jv_client.specs.UnderWay.{IsReady}
-use Rattle.jv_client.specs.Makes.{Makes, TellsBad, UsesDevices, asks_nothing, faults_of, is_failure_of, step_of}
+use Rattle.jv_client.specs.Makes.{IsCalm, Makes, TellsBad, UsesDevices, asks_nothing, faults_of, is_failure_of, step_of}
 use Rattle.jv_client.specs.Makes.{tells_failure}
-use Rattle.jv_client.specs.Transacting.{EndsUnmade, Fails, NotMade, Refuses}
+use Rattle.jv_client.specs.Transacting.{EndsUnmade, Fails, NotMade, Refuses, refusal_of}
 use Rattle.jv_client.proofs.EndingLaws.{holds-told}
 use Rattle.jv_client.proofs.KeptLaws.{client-told}
 use Rattle.jv_client.proofs.AnswerLaws.{fails-makes, makes-as, makes-ended, refused-rests, rests-flight}
@@ -96,11 +97,15 @@ not_taken sid before after fault h =
 
 -- ---- what the model makes of it
 
--- an answer that is no failure says of no device that it failed
-pub calm-told : (fault : Fault) → is_failure (ToldRefused fault) ≡ false → (device : Device)
-    → is_failure_of device (ToldRefused fault) ≡ false
-calm-told (DeviceFailed failed) e device = absurd (cc e)
-calm-told _ e device = refl
+-- an operation is refused with no device that failed
+pub calm-refusal : (fault : Fault) → IsCalm (ToldRefused (refusal_of fault))
+calm-refusal (DeviceFailed failed) device = refl
+calm-refusal _ device = refl
+
+-- and with what its transaction was refused with, where that is no failure
+pub same-refusal : (fault : Fault) → is_failure (ToldRefused fault) ≡ false → refusal_of fault ≡ fault
+same-refusal (DeviceFailed failed) e = absurd (cc e)
+same-refusal _ e = refl
 
 -- the model refuses a request of this kind likewise, and that is no failure of a device
 pub record RefusedAs (now : ℕ) (h : ClientValue) (d : Doing) (before used : Shared) (kind : ActKind) (fault : Fault)
@@ -129,14 +134,15 @@ InState entry h before P = (s : State) (g : Known) → s.count + 1 ≡ entry →
 module _ (now entry : ℕ) (h : ClientValue) (d : Doing) (before used : Shared) (busy : h.doing ≡ Some d)
     (ready : IsReady h) where
   -- A request that is refused.
-  pub refuses : (kind : ActKind) (fault : Fault)
+  pub refuses : (kind : ActKind) (fault : Fault) → is_answer kind ≡ false → IsCalm (ToldRefused fault)
       → UsesDevices (made.Both kind (ToldRefused fault) (RefusedReply fault)) before used
       → InState entry h before (RefusedAs now h d before used kind fault)
       → Makes now entry h (refused_here fault h) before used (made.Both kind (ToldRefused fault) (RefusedReply fault))
-  refuses kind fault uses leads =
+  refuses kind fault asks calm uses leads =
       let rests = refused-rests fault h in
       makes-ended now entry h (refused_here fault h) before used
       (made.Both kind (ToldRefused fault) (RefusedReply fault)) (RefusedReply fault) refl ready rests uses
+      (asks, calm)
       (λ s g count store holds is.
       let m = s.clients h.id in
       let after = after_told d.op (ToldRefused fault) m in
@@ -152,7 +158,6 @@ module _ (now entry : ℕ) (h : ClientValue) (d : Doing) (before used : Shared) 
             (sym (rests-flight h (refused_here fault h) rests)) refused.request;
         is_client = client-told s.tree g before store refused.request.own g used refused.request.leads.kept m
             s.count (s.count + 2) h (omega arith) is d.op (ToldRefused fault) refl;
-        no_failure = calm-told fault refused.calm;
         holds = holds-told d.op (ToldRefused fault) s.tree m refl holds;
       })
 
@@ -178,27 +183,37 @@ module _ (now entry : ℕ) (h after : ClientValue) (d : Doing) (before : Shared)
       (uses-keeper before keeper (made.Answer (ToldRefused fault) (RefusedReply fault)) opened cause only (λ asks. rows)
       tt))
 
-  refused : (kind : ActKind) (fault : Fault) (done : Made) → keeper.rows ≡ before.keeper.rows
+  -- a refusal of the transaction is one of the operation
+  refused-as : (kind : ActKind) (fault : Fault) (s : State) (g : Known)
+      → RefusedAs now h d before then_shared kind fault s g
+      → RefusedAs now h d before then_shared kind (refusal_of fault) s g
+  refused-as kind fault s g refused = subst (λ (x : Fault). RefusedAs now h d before then_shared kind x s g)
+      (sym (same-refusal fault refused.calm)) refused
+
+  refused : (kind : ActKind) (fault : Fault) (done : Made) → is_answer kind ≡ false → IsCalm (ToldRefused fault)
+      → keeper.rows ≡ before.keeper.rows
       → keeper.opened ≡ before.keeper.opened → keeper.faults ≡ before.keeper.faults → Refuses kind fault h after done
       → InState entry h before (RefusedAs now h d before then_shared kind fault)
       → IsMade done
-  refused kind fault done rows opened faults ends leads =
+  refused kind fault done asks calm rows opened faults ends leads =
       makes-as now entry h after (refused_here fault h) before then_shared then_shared done
       (made.Both kind (ToldRefused fault) (RefusedReply fault)) ends.after_is refl ends.made_is
-      (refuses now entry h d before then_shared busy ready kind fault
+      (refuses now entry h d before then_shared busy ready kind fault asks calm
       (uses-keeper before keeper (made.Both kind (ToldRefused fault) (RefusedReply fault)) opened faults
       (refl, refl, refl) (λ asks. rows) tt) leads)
 
-  pub unmade : (kind : ActKind) (fault : TxFault) (done : Made) → NotMade fault before.keeper keeper
+  pub unmade : (kind : ActKind) (fault : TxFault) (done : Made) → is_answer kind ≡ false
+      → NotMade fault before.keeper keeper
       → EndsUnmade kind fault h after done
       → InState entry h before (UnmadeLeads now h d before (record before { keeper = keeper }) kind fault)
       → Makes now entry h after before (record before { keeper = keeper }) done
-  unmade kind (Refused fault) done none ends leads =
-      refused kind fault done none.rows_are none.opened_at none.counts ends leads
-  unmade kind (Moved list) done none ends leads =
-      refused kind (Contended (Lists ends.0 ends.0)) done none.rows_are none.opened_at none.counts ends.1
+  unmade kind (Refused fault) done asks none ends leads =
+      refused kind (refusal_of fault) done asks (calm-refusal fault) none.rows_are none.opened_at none.counts ends
+      (λ s g number store holds is. refused-as kind fault s g (leads s g number store holds is))
+  unmade kind (Moved list) done asks none ends leads =
+      refused kind (Contended (Lists ends.0 ends.0)) done asks (λ device. refl) none.rows_are none.opened_at none.counts ends.1
       (λ s g number store holds is. absurd (leads s g number store holds is))
-  unmade kind (OfRows (Bad at bytes)) done none ends leads =
+  unmade kind (OfRows (Bad at bytes)) done asks none ends leads =
       makes-as now entry h after h before then_shared then_shared done (made.Broken at bytes) ends.0 refl ends.1
       (record {
         id = refl;
@@ -206,10 +221,11 @@ module _ (now entry : ℕ) (h after : ClientValue) (d : Doing) (before : Shared)
         ready = ready;
         devices = uses-keeper before keeper (made.Broken at bytes) none.opened_at none.counts (refl, refl, refl)
             (λ asks. none.rows_are) none.bad;
+        alone = tt;
         falls = tt;
         leads = λ s g number store holds is. absurd (leads s g number store holds is);
       })
-  unmade kind (OfRows Failed) done none ends leads =
+  unmade kind (OfRows Failed) done asks none ends leads =
       failed (DeviceFailed Keeper) done refl none.counts (refl, refl, refl) none.rows_are none.opened_at ends
-  unmade kind (OfRows Memory) done none ends leads =
+  unmade kind (OfRows Memory) done asks none ends leads =
       failed NoMemory done refl none.counts (refl, refl, refl) none.rows_are none.opened_at ends

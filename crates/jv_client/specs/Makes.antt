@@ -13,7 +13,7 @@ use Rattle.jv_model.specs.declared.op.Step.TheVariants.{More, Done, Broken}
 use Rattle.jv_model.specs.tree.Tree.{Tree}
 use Rattle.jv_model.specs.client.ModelClient.{ModelClient}
 use Rattle.jv_model.specs.journal.State.{State}
-use Rattle.jv_model.specs.journal.Stepping.{entry_of}
+use Rattle.jv_model.specs.journal.Stepping.{entry_of, is_answer}
 use Rattle.jv_outside.specs.Causes.{RoseIf}
 use Rattle.jv_rows.specs.Transactions.{IsBad}
 use Rattle.jv_volume.specs.TypedRows.{typed}
@@ -53,17 +53,23 @@ abbrev pub is_failure_of : Device → Told → Bool
 is_failure_of device (ToldRefused (DeviceFailed failed)) = is_same_device device failed
 is_failure_of device _ = false
 
--- such an answer comes without a request
+-- an answer without a request is that the device failed
 abbrev pub tells_failure : Device → Made → Bool
 tells_failure device (made.Request kind) = false
 tells_failure device (made.Answer told reply) = is_failure_of device told
 tells_failure device (made.Both kind told reply) = false
 tells_failure device (made.Broken key bytes) = false
 
--- and never in a step that made one
-abbrev pub HasNoFailure : List ActKind → Type 0
-HasNoFailure (kind ∷ Answered told ∷ kinds) = (device : Device) → is_failure_of device told ≡ false
-HasNoFailure kinds = Unit {0}
+-- an answer says of no device that it failed
+abbrev pub IsCalm : Told → Type 0
+IsCalm told = (device : Device) → is_failure_of device told ≡ false
+
+-- That a device failed is answered without a request alone: the answer after one is calm, and the request's entry is none.
+abbrev pub FailsAlone : Made → Type 0
+FailsAlone (made.Request kind) = is_answer kind ≡ false
+FailsAlone (made.Answer told reply) = Unit {0}
+FailsAlone (made.Both kind told reply) = (is_answer kind ≡ false) × IsCalm told
+FailsAlone (made.Broken key bytes) = Unit {0}
 
 -- no request was made
 abbrev pub asks_nothing : Made → Bool
@@ -109,7 +115,6 @@ pub record StepsTo (s : State) (g : Known) (before : Shared) (h : ClientValue) (
   pub copied : ℕ
   pub request : Request s g learned before v h.id now (in_flight h) (in_flight after) kinds step tree model copied
   pub is_client : IsClient learned v model (s.count + length kinds) after
-  pub no_failure : HasNoFailure kinds
   pub holds : Holds tree model
 
 -- after a step that isn't the last one the operation goes on, and fewer are left
@@ -125,6 +130,7 @@ pub record Makes (now entry : ℕ) (h after : ClientValue) (before used : Shared
   pub limits : after.limits ≡ h.limits
   pub ready : IsReady after
   pub devices : UsesDevices done before used
+  pub alone : FailsAlone done
   pub falls : Falls (step_of done) h after
   pub leads : (s : State) (g : Known) → s.count + 1 ≡ entry → HasStore s.tree g before → Holds s.tree (s.clients h.id)
       → IsClient g before (s.clients h.id) s.count h → StepsTo s g before h now (kinds_of done) (step_of done) after used
@@ -143,6 +149,7 @@ pub record Steps (line now : ℕ) (h after : ClientValue) (before used : Shared)
   pub limits : after.limits ≡ h.limits
   pub ready : IsReady after
   pub devices : UsesDevices made before used
+  pub alone : FailsAlone made
   pub falls : Falls step h after
   pub leads : (s : State) (g : Known) → s.count ≡ length journal → HasStore s.tree g before → Holds s.tree (s.clients h.id)
       → IsClient g before (s.clients h.id) s.count h → StepsTo s g before h now (kinds_of made) step after used

@@ -5,7 +5,7 @@ use Rattle.jv_model.specs.declared.act.Told.TheVariants.{Refused as ToldRefused}
 use Rattle.jv_model.specs.declared.fault.Busy.TheVariants.{Lists}
 use Rattle.jv_model.specs.declared.fault.Device.TheVariants.{Keeper}
 use Rattle.jv_model.specs.declared.fault.Fault.{Fault}
-use Rattle.jv_model.specs.declared.fault.Fault.TheVariants.{Contended, DeviceFailed, NoMemory}
+use Rattle.jv_model.specs.declared.fault.Fault.TheVariants.{Contended, DeviceFailed, Invalid, NoMemory}
 use Rattle.jv_model.specs.declared.fault.RowFault.TheVariants.{Bad, Failed, Memory}
 use Rattle.jv_model.specs.declared.fault.TxFault.{TxFault}
 use Rattle.jv_model.specs.declared.fault.TxFault.TheVariants.{Refused, Moved, Rows as OfRows}
@@ -23,7 +23,7 @@ use Rattle.jv_rows.specs.Transactions.{Transacts, FaultCause, BadFault}
 use Rattle.jv_volume.specs.TypedRows.{typed}
 use Rattle.jv_links.specs.Removals.{HoldsFiles}
 use Rattle.jv_metadata.specs.declared.answers.Answer.{Answer}
-use Rattle.jv_metadata.specs.Attempts.{attempt, is_metadata, TellsKept}
+use Rattle.jv_metadata.specs.Attempts.{AnswersPlainly, attempt, is_metadata, TellsKept}
 use Rattle.jv_handles.specs.declared.handle.Handle.{Handle}
 use Rattle.jv_handles.specs.Handles.{held_here, inode_here, new_handle}
 use Rattle.jv_client.specs.declared.made.Made.{Made}
@@ -49,6 +49,7 @@ is_tried o = is_metadata o && is_spelled o
 pub record Attempts (h : ClientValue) (o : Op) (now : ℕ) (before after : Store) (result : Result Answer TxFault) : Type 0 where
   pub does : (who : Caller) → IsCaller h o now who → Transacts (HoldsFiles who.held) before after result (λ answer. answer.reply) (λ t. attempt t who o)
   pub tells : (who : Caller) → IsCaller h o now who → TellsKept who o before result
+  pub answers : AnswersPlainly result
 
 -- a client's session and its handles with what a reply hands to it, by the entry with this number
 abbrev pub session_given : Gift → Option ℕ → Option ℕ
@@ -103,8 +104,14 @@ pub record Fails (fault : Fault) (h after : ClientValue) (done : Made) : Type 0 
   pub after_is : after ≡ ended h
   pub made_is : done ≡ made.Answer (ToldRefused fault) (RefusedReply fault)
 
+-- What an operation is refused with whose transaction was refused. A device that failed is never the reason: its count of faults didn't
+-- rise. No transaction over a volume's rows is refused so.
+abbrev pub refusal_of : Fault → Fault
+refusal_of (DeviceFailed device) = Invalid
+refusal_of fault = fault
+
 abbrev pub EndsUnmade : ActKind → TxFault → ClientValue → ClientValue → Made → Type 0
-EndsUnmade kind (Refused fault) h after done = Refuses kind fault h after done
+EndsUnmade kind (Refused fault) h after done = Refuses kind (refusal_of fault) h after done
 EndsUnmade kind (Moved list) h after done = (count : ℕ) × Refuses kind (Contended (Lists count count)) h after done
 EndsUnmade kind (OfRows (Bad at bytes)) h after done = (after ≡ h) × (done ≡ made.Broken at bytes)
 EndsUnmade kind (OfRows Failed) h after done = Fails (DeviceFailed Keeper) h after done

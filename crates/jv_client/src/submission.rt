@@ -1,5 +1,6 @@
 //! How an operation begins.
-ghost use Rattle.std.specs.Prelude.{◌≡◌, ℕ, ◌≤◌, IsSome, IsTrue, is_some, length, OnOk, OnErr, Some, None};
+ghost use Rattle.std.specs.Prelude.{◌≡◌, ℕ, ◌≤◌, IfErr, IsSome, IsTrue, is_some, length, OnOk, OnErr, Some, None};
+ghost use Rattle.jv_model.specs.declared.act.Told.TheVariants.{Refused};
 ghost use Rattle.jv_model.specs.declared.limits.TheConstants.{MAX_HANDLES, FILE_END};
 ghost use Rattle.jv_model.specs.client.ModelClient.{ModelClient, open_count};
 ghost use Rattle.jv_model.specs.client.Profile.{profile};
@@ -7,6 +8,7 @@ ghost use Rattle.jv_model.specs.client.Submission.{submission, submission_of, su
 ghost use Rattle.jv_client.specs.Built.{is_built_op};
 ghost use Rattle.jv_handles.specs.Handles.{inode_here};
 ghost use Rattle.jv_shared.specs.Shared.{Known, Shared};
+ghost use Rattle.jv_client.specs.Makes.{IsCalm};
 ghost use Rattle.jv_client.specs.UnderWay.{IsReady};
 ghost use Rattle.jv_client.specs.Held.{IsClient, begun, flush_here, full_flush, files_here, in_flight, refused_with};
 
@@ -23,6 +25,7 @@ impl Client {
     pub fn submit(&mut self, op: Op) -> Result<(), (Op, Fault)>
         ensures refusal { (g : Known) (v : Shared) (m : ModelClient) (count : ℕ)
             → IsClient g v m count self.old → refused_with result ≡ submission m op }
+        ensures calm { IfErr result (λ refused. IsCalm (Refused refused.1)) }
         ensures begun { (g : Known) (v : Shared) (m : ModelClient) (count : ℕ)
             → IsClient g v m count self.old
             → OnOk result (IsClient g v (submitted self.old.limits op m) count self.new) }

@@ -12,7 +12,7 @@ ghost use Rattle.jv_handles.specs.Handles.{new_handle};
 ghost use Rattle.jv_client.specs.Held.{is_last_here};
 ghost use Rattle.jv_client.specs.UnderWay.{IsReady, asks_more, does_of, left, makes_transaction};
 ghost use Rattle.jv_client.specs.Makes.{Makes};
-ghost use Rattle.jv_client.specs.Transacting.{Attempts, EndsUnmade, handles_given, is_tried, session_given, sustained_with};
+ghost use Rattle.jv_client.specs.Transacting.{Attempts, EndsUnmade, handles_given, is_tried, refusal_of, session_given, sustained_with};
 ghost use Rattle.jv_model.specs.declared.op.Reply.TheVariants.{SessionMade};
 ghost use Rattle.jv_model.specs.declared.profile.Does.TheVariants.{Releases};
 
@@ -105,7 +105,7 @@ impl Client {
         ensures { EndsUnmade kind fault self.old self.new result }
     {
         match fault {
-            TxFault::Refused(fault) => self.refuse(kind, fault),
+            TxFault::Refused(fault) => self.refuse(kind, refusal_of(fault)),
             TxFault::Moved(list) => {
                 let found = u32::try_from(list.len()).unwrap_or(u32::MAX);
                 self.refuse(
@@ -120,6 +120,17 @@ impl Client {
             TxFault::Rows(RowFault::Failed) => self.fail(Fault::DeviceFailed(Device::Keeper)),
             TxFault::Rows(RowFault::Memory) => self.fail(Fault::NoMemory),
         }
+    }
+}
+
+/// What an operation is refused with whose transaction was refused. That a device failed is no refusal but
+/// [`RowFault::Failed`]: no transaction over a volume's rows returns it as one, and it is `Invalid` here.
+fn refusal_of(fault: Fault) -> Fault
+    ensures { result ≡ refusal_of fault }
+{
+    match fault {
+        Fault::DeviceFailed(_) => Fault::Invalid,
+        other => other,
     }
 }
 

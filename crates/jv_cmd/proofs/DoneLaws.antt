@@ -1,5 +1,5 @@
 -- What lines that were run have done: none at first, and one line more.
-use Rattle.std.proofs.Common.{◌≡◌, ℕ, ◌+◌, ◌≤◌, ◌<◌, IsSomeAnd, IfSome, All, List, [], ◌∷◌, ◌++◌, length, Option, None, refl, sym, ap, subst, ◌∙◌, arith}
+use Rattle.std.proofs.Common.{◌≡◌, ℕ, ◌+◌, ◌≤◌, ◌<◌, IsSomeAnd, IfSome, All, List, [], ◌∷◌, ◌++◌, length, Option, refl, sym, ap, subst, ◌∙◌, arith}
 use Rattle.std.proofs.lemmas.List.{append_assoc, length_push}
 use Rattle.std.proofs.lemmas.List.Elements.{All-push}
 use Rattle.std.specs.Io.KnownBytes.{prepend_known}
@@ -27,12 +27,13 @@ use Rattle.jv_cmd.proofs.StepLaws.{Reaches-more}
 
 -- what is used of devices
 
-HasUsed-none : (before : StageValue) → HasUsed before before 0 no_failures
-HasUsed-none before =
+HasUsed-none : (before : StageValue) → before.journal ≡ [] → HasUsed before before 0 no_failures
+HasUsed-none before empty =
     record {
       passes = Passes-zero before.clock.answers;
       stays = record { keeper_at = refl; carrier_at = refl; depot_at = refl; shelf_at = refl; setting = refl };
       counts = λ device. refl;
+      counted = λ device. ap (device_failures device) empty;
     }
 
 pub HasUsed-line : (before now after : StageValue) (s s' : ScheduleValue) (asked asks : ℕ) (failed more : Device → ℕ)
@@ -43,6 +44,7 @@ HasUsed-line before now after s s' asked asks failed more done uses = record {
   stays = stays_then before.devices now.devices after.devices done.stays uses.stays;
   counts = λ device. rose_times-then (failed device) (more device) (faults_of device before.devices) (faults_of device now.devices)
       (faults_of device after.devices) (done.counts device) (uses.counts device);
+  counted = failures_more now.journal after.journal failed more done.counted uses.answers;
 }
 
 -- one line more, where the run began on a whole volume
@@ -55,7 +57,7 @@ module _ (left : Option (List ℕ)) (before now after : StageValue) (n : ℕ) (t
       (comes_settled left before now after n text line s s' d a.asks a.uses.passes start w
       (λ p more. Enters p (n + 1) now.journal after.journal)
       (λ p more stands next rest count clock.
-      Enters-goes p more (n + 1) a.asks a.failed now.journal after.journal printed s' after.devices
+      Enters-goes p more (n + 1) a.asks now.journal after.journal printed s' after.devices
       (a.goes p more stands next rest count clock)))
 
   earlier_done : (known : Option (ℕ → ℕ)) → IsKnownClock known before.clock after.clock
@@ -64,29 +66,26 @@ module _ (left : Option (List ℕ)) (before now after : StageValue) (n : ℕ) (t
 
   goes_there : (known : Option (ℕ → ℕ)) (more : List Line) (status : ℕ) → IsKnownClock known before.clock after.clock
       → Goes (there start known (d.lines ++ line ∷ more) status n now.journal) more
-      (n + 1) a.asks a.failed now.journal after.journal printed s' after.devices
+      (n + 1) a.asks now.journal after.journal printed s' after.devices
   goes_there known more status t =
       comes left before now after n text line s s' d a.asks a.uses.passes start w
-      (λ p rest. Goes p rest (n + 1) a.asks a.failed now.journal after.journal printed s' after.devices) a.goes
+      (λ p rest. Goes p rest (n + 1) a.asks now.journal after.journal printed s' after.devices) a.goes
       known more status t
 
-  DoneOn-more : DoneOn start before after (d.lines ++ line ∷ []) (n + 1) (d.asked + a.asks) (both_failures d.failed a.failed)
-      (text ++ printed) s'
+  DoneOn-more : DoneOn start before after (d.lines ++ line ∷ []) (n + 1) (d.asked + a.asks) (text ++ printed) s'
   DoneOn-more =
       let o = OfNext-done in
       let on = d.whole start w in
-      let g = goes_there None [] 0 tt in
       record {
         own = subst (λ journal. AreBetween 0 (n + 1) journal) (sym o.grows)
             (AreBetween-append 0 (n + 1) now.journal o.acts
             (AreBetween-wider 0 n 0 (n + 1) now.journal (omega arith) (omega arith) on.own)
             (AreBetween-wider (n + 1) (n + 1) 0 (n + 1) o.acts (omega arith) (omega arith) o.own));
-        failures = failures_more now.journal g.acts after.journal d.failed a.failed g.grows on.failures g.failures;
         reaches = λ known more status t.
             let run = session_run start known (d.lines ++ line ∷ more) status in
             subst (λ lines. Reaches (session_run start known lines status) more (n + 1) (d.asked + a.asks)
             (text ++ printed) after.journal s' after.devices) (sym (append_assoc d.lines (line ∷ []) more))
-            (Reaches-more run line more n d.asked a.asks a.failed text printed now.journal after.journal s s'
+            (Reaches-more run line more n d.asked a.asks text printed now.journal after.journal s s'
             now.devices after.devices (on.reaches known (line ∷ more) status (earlier_done known t))
             (goes_there known more status t));
       }
@@ -138,10 +137,9 @@ Done-more left left' before now after n text printed bytes_of_line line s s' d r
 
 DoneOn-start : (start : Beginning) (before : StageValue) (setting : Setting) → before.journal ≡ []
     → before.devices.yard.setting ≡ setting → StartsWhole before start
-    → DoneOn start before before [] 0 0 no_failures [] (fresh_schedule setting before.limits)
+    → DoneOn start before before [] 0 0 [] (fresh_schedule setting before.limits)
 DoneOn-start start before setting empty is w = record {
   own = subst (λ journal. AreBetween 0 0 journal) (sym empty) tt;
-  failures = λ device. ap (device_failures device) empty;
   reaches = λ known more status t.
       let run = session_run start known more status in
       let s = fresh_schedule setting before.limits in
@@ -173,7 +171,7 @@ Done-start before setting empty is = record {
   short = λ k d below. absurd (omega (arith, below));
   built = λ k d below. absurd (omega (arith, below));
   first = none_read before.source.content;
-  uses = HasUsed-none before;
+  uses = HasUsed-none before empty;
   limits = refl;
   whole = λ start w. DoneOn-start start before setting empty is w;
 }

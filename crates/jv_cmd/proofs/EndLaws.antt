@@ -25,7 +25,7 @@ use Rattle.jv_cmd.specs.Stages.{StageValue}
 use Rattle.jv_cmd.specs.Steps.{Done, EndsLines, HasUsed, IsOffText, LineUnbuilt, NoLine, ReadsBuilt, Reaches, used}
 use Rattle.jv_cmd.specs.Texts.{texts_of}
 use Rattle.jv_cmd.proofs.DoneLaws.{HasUsed-line, built_more}
-use Rattle.jv_cmd.proofs.EntryLaws.{Enters, Enters-cut, OfNext, OfNext-settled, comes, comes_settled, failures_more, there}
+use Rattle.jv_cmd.proofs.EntryLaws.{Enters, Enters-cut, OfNext, OfNext-settled, comes, comes_settled, there}
 use Rattle.jv_cmd.proofs.ReadingLaws.{IsKnownClock-earlier, each_more, first_is, first_more, known_then, next_is, short_more}
 use Rattle.jv_cmd.proofs.StepLaws.{InLine-cut, Legal-cut, Legal-reached, Stands-reached, printed-cut, text_of-reached}
 
@@ -84,12 +84,11 @@ module _ (left : Option (List ℕ)) (before now after : StageValue) (n : ℕ) (t
 
   RunsWhole-last : (ended : Ended) (start : Beginning) (known : Option (ℕ → ℕ)) → StartsWhole before start
       → IsKnownClock known before.clock after.clock → Prints ended start known before after d.lines
-      → RunsWhole start known d.failed before after ended d.lines
+      → RunsWhole start known before after ended d.lines
   RunsWhole-last ended start known w t prints = record {
     legal = Legal-reached (session_run start known d.lines (status_of ended)) n d.asked text after.journal s
         after.devices d.count (at_last start w known (status_of ended) t);
     printed = prints;
-    counted = λ device. ap (device_failures device) idle.journal ∙ (d.whole start w).failures device;
     leaves = Leaves-stands _ s after.devices (Stands-last start w known (status_of ended) t);
   }
 
@@ -111,6 +110,7 @@ module _ (left : Option (List ℕ)) (before now after : StageValue) (n : ℕ) (t
       };
       built = d.built;
       cause = cause;
+      counted = λ device. ap (device_failures device) idle.journal ∙ d.uses.counted device;
       whole = λ start known w t. RunsWhole-last ended start known w t (prints start known w t);
     };
     faults = faults;
@@ -137,7 +137,7 @@ module _ (left left' : Option (List ℕ)) (before now after : StageValue) (n : �
       → EndsBy ended before after (d.texts ++ bytes_of_line ∷ []) (d.lines ++ line ∷ [])
       → ((start : Beginning) (known : Option (ℕ → ℕ)) → StartsWhole before start
       → IsKnownClock known before.clock after.clock
-      → RunsWhole start known (both_failures d.failed failed) before after ended (d.lines ++ line ∷ []))
+      → RunsWhole start known before after ended (d.lines ++ line ∷ []))
       → CountsFaults ended (on_stage before) (on_stage after) → EndsLines before after ended
   EndsLines-next ended asks failed uses cause whole faults = record {
     answers = both_failures d.failed failed;
@@ -147,6 +147,7 @@ module _ (left left' : Option (List ℕ)) (before now after : StageValue) (n : �
       read = AreLines-next;
       built = built_more left before now n text bytes_of_line line s d read;
       cause = cause;
+      counted = used_now.counted;
       whole = whole;
     };
     faults = faults;
@@ -164,15 +165,15 @@ module _ (left left' : Option (List ℕ)) (before now after : StageValue) (n : �
     OfNext-cut = OfNext-settled left before now after n text line s d start w
         (comes_settled left before now after n text line s s' d c.asks c.uses.passes start w
         (λ p more. Enters p (n + 1) now.journal after.journal)
-        (λ p more stands next rest count clock. Enters-cut p more (n + 1) c.asks c.failed now after s s'
+        (λ p more stands next rest count clock. Enters-cut p more (n + 1) c.asks now after s s'
         (c.stops p more stands next rest count clock)))
 
     cut_there : (known : Option (ℕ → ℕ)) (status : ℕ) → IsKnownClock known before.clock after.clock
-        → Cut (there start known (d.lines ++ line ∷ []) status n now.journal) [] (n + 1) c.asks c.failed (used now s)
+        → Cut (there start known (d.lines ++ line ∷ []) status n now.journal) [] (n + 1) c.asks (used now s)
         (used after s')
     cut_there known status t =
         comes left before now after n text line s s' d c.asks c.uses.passes start w
-        (λ p more. Cut p more (n + 1) c.asks c.failed (used now s) (used after s')) c.stops known [] status t
+        (λ p more. Cut p more (n + 1) c.asks (used now s) (used after s')) c.stops known [] status t
 
     earlier_cut : (known : Option (ℕ → ℕ)) → IsKnownClock known before.clock after.clock
         → IsKnownClock known before.clock now.clock
@@ -193,23 +194,21 @@ module _ (left left' : Option (List ℕ)) (before now after : StageValue) (n : �
         (session_run start known (d.lines ++ line ∷ []) status) after.journal).printed
     gains_before gains status known t =
         subst (λ bytes. Gains before.out.content after.out.content bytes)
-        (sym (printed-cut (session_run start known (d.lines ++ line ∷ []) status) line n d.asked c.asks c.failed text
+        (sym (printed-cut (session_run start known (d.lines ++ line ∷ []) status) line n d.asked c.asks text
         (used now s) (used after s') size_cut (reaches_cut known status t) (cut_there known status t))) gains
 
     pub RunsWhole-cut : (ended : Ended) → may_be_cut (status_of ended) ≡ true → (known : Option (ℕ → ℕ))
         → IsKnownClock known before.clock after.clock
         → Prints ended start known before after (d.lines ++ line ∷ [])
-        → RunsWhole start known (both_failures d.failed c.failed) before after ended (d.lines ++ line ∷ [])
+        → RunsWhole start known before after ended (d.lines ++ line ∷ [])
     RunsWhole-cut ended cuts known t prints =
         let run = session_run start known (d.lines ++ line ∷ []) (status_of ended) in
         let cut = cut_there known (status_of ended) t in
         record {
-          legal = Legal-cut run line n d.asked c.asks c.failed text (used now s) (used after s') size_cut
+          legal = Legal-cut run line n d.asked c.asks text (used now s) (used after s') size_cut
               (reaches_cut known (status_of ended) t) cut cuts;
           printed = prints;
-          counted = failures_more now.journal cut.acts after.journal d.failed c.failed cut.appends.grows
-              (d.whole start w).failures cut.failures;
-          leaves = Leaves-in_line _ s' after.devices (InLine-cut run line n d.asked c.asks c.failed text (used now s)
+          leaves = Leaves-in_line _ s' after.devices (InLine-cut run line n d.asked c.asks text (used now s)
               (used after s') size_cut (reaches_cut known (status_of ended) t) cut);
         }
 

@@ -7,7 +7,7 @@ use Rattle.jv_model.specs.journal.Legal.{AllAllowed}
 use Rattle.jv_model.specs.journal.Past.{Past, Setup, NoMore, begun_to, past, reached}
 use Rattle.jv_outside.specs.Ticks.{Passes}
 use Rattle.jv_shared.specs.Shared.{Shared}
-use Rattle.jv_session.specs.Lines.{AreFailures, Cut, FromThere}
+use Rattle.jv_session.specs.Lines.{AnswersSo, AreFailures, Cut, FromThere}
 use Rattle.jv_session.specs.Stands.{ClockFor, ScheduleValue, Stands}
 use Rattle.jv_session.proofs.UsesLaws.{both_failures, failures_both}
 use Rattle.jv_cmd.specs.Run.{Beginning, IsKnownClock, StartsWhole, session_run, up_to}
@@ -89,15 +89,15 @@ OfNext-settled left before now after n text line s d start w e =
     OfNext-from n (record p { due = NoMore }) now.journal after.journal s now.devices here.line refl
     (Stands-settled p s now.devices here.stands) e
 
-pub Enters-goes : (p : Past) (more : List Line) (number asks : ℕ) (failed : Device → ℕ) (before after : List Act) (text : List ℕ)
-    (s : ScheduleValue) (k : Shared) → Goes p more number asks failed before after text s k
+pub Enters-goes : (p : Past) (more : List Line) (number asks : ℕ) (before after : List Act) (text : List ℕ)
+    (s : ScheduleValue) (k : Shared) → Goes p more number asks before after text s k
     → Enters p number before after
-Enters-goes p more number asks failed before after text s k g =
+Enters-goes p more number asks before after text s k g =
     record { acts = g.acts; grows = g.grows; allowed = g.allowed; line = g.at.line }
 
-pub Enters-cut : (p : Past) (more : List Line) (number asks : ℕ) (failed : Device → ℕ) (before after : StageValue) (s s' : ScheduleValue)
-    → Cut p more number asks failed (used before s) (used after s') → Enters p number before.journal after.journal
-Enters-cut p more number asks failed before after s s' c =
+pub Enters-cut : (p : Past) (more : List Line) (number asks : ℕ) (before after : StageValue) (s s' : ScheduleValue)
+    → Cut p more number asks (used before s) (used after s') → Enters p number before.journal after.journal
+Enters-cut p more number asks before after s s' c =
     record {
       acts = c.acts;
       grows = c.appends.grows;
@@ -115,7 +115,8 @@ up_to-now n before after o own = sym (up_to-all 0 n n before (omega arith) own)
     ∙ up_to-before n n before after o (omega arith)
 
 -- entries that were appended answer so often that a device failed
-pub failures_more : (journal acts after : List Act) (failed more : Device → ℕ) → after ≡ journal ++ acts
-    → AreFailures journal failed → AreFailures acts more → AreFailures after (both_failures failed more)
-failures_more journal acts after failed more grows first last =
-    subst (λ entries. AreFailures entries (both_failures failed more)) (sym grows) (failures_both journal acts failed more first last)
+pub failures_more : (journal after : List Act) (failed more : Device → ℕ) → AreFailures journal failed
+    → AnswersSo journal after more → AreFailures after (both_failures failed more)
+failures_more journal after failed more first last =
+    subst (λ entries. AreFailures entries (both_failures failed more)) (sym last.grows)
+    (failures_both journal last.acts failed more first last.failures)

@@ -93,11 +93,11 @@ Done-read left before now source n text s d = record {
   short = d.short;
   built = d.built;
   first = d.first;
-  uses = record { passes = d.uses.passes; stays = d.uses.stays; counts = d.uses.counts };
+  uses = record { passes = d.uses.passes; stays = d.uses.stays; counts = d.uses.counts; counted = d.uses.counted };
   limits = d.limits;
   whole = λ start w.
       let on = d.whole start w in
-      record { own = on.own; failures = on.failures; reaches = on.reaches };
+      record { own = on.own; reaches = on.reaches };
 }
 
 pub Going-read : (left : Option (List ℕ)) (before now : StageValue) (source : Stream) (n : ℕ) (s : ScheduleValue)

@@ -8,7 +8,6 @@ use Rattle.jv_model.specs.declared.op.Line.TheVariants.{Empty}
 use Rattle.jv_model.specs.journal.Legal.{Legal, AllAllowed, may_be_cut, may_stop}
 use Rattle.jv_model.specs.journal.Past.{Past, Setup, NoMore, is_over, at_start, begun, turned, begin_from, begin_next, begun_by, begun_to, past, reached, at_end, text_of}
 use Rattle.jv_laws.proofs.JournalGrowthLaws.{begun_to-twice, begun_to-next, past-append, AllAllowed-append, past-begun_to, AllAllowed-begun_to}
-use Rattle.jv_model.specs.declared.fault.Device.{Device}
 use Rattle.jv_shared.specs.Shared.{Shared}
 use Rattle.jv_outside.specs.Ticks.{Ticks}
 use Rattle.jv_session.specs.Lines.{LineState, LeavesAll, SaysLine, Cut}
@@ -49,12 +48,12 @@ joined n p journal (act ∷ acts) e before allowed =
     )
 
 -- one line more
-pub Reaches-more : (run : Setup) (line : Line) (more : List Line) (n asked asks : ℕ) (failed : Device → ℕ)
-    (text printed : List ℕ) (journal journal' : List Act) (s s' : ScheduleValue) (k k' : Shared)
+pub Reaches-more : (run : Setup) (line : Line) (more : List Line) (n asked asks : ℕ) (text printed : List ℕ)
+    (journal journal' : List Act) (s s' : ScheduleValue) (k k' : Shared)
     → Reaches run (line ∷ more) n asked text journal s k
-    → Goes (begun_to n (reached run journal)) more (n + 1) asks failed journal journal' printed s' k'
+    → Goes (begun_to n (reached run journal)) more (n + 1) asks journal journal' printed s' k'
     → Reaches run more (n + 1) (asked + asks) (text ++ printed) journal' s' k'
-Reaches-more run line more n asked asks failed text printed journal journal' s s' k k' r g =
+Reaches-more run line more n asked asks text printed journal journal' s s' k k' r g =
     let both = joined n (at_start run) journal g.acts r.at.line r.allowed g.allowed in
     let there : begun_to (n + 1) (past (begun_to n (reached run journal)) g.acts) ≡ begun_to (n + 1)
     (reached run journal') =
@@ -86,7 +85,6 @@ Advances-said line number before after s s' text says = record {
         acts = ran.acts;
         grows = a.grows;
         allowed = a.allowed;
-        failures = ran.failures;
         at = subst (λ q. IsAt q p.run more number (p.asked + says.asks) (length after.journal)
             (p.printed ++ p.said ++ text) s' after.devices) (sym a.reaches) (record {
               line = a.line;
@@ -140,7 +138,8 @@ pub Advances-quiet : (line : Line) (number : ℕ) (before after : StageValue) (s
 Advances-quiet line number before after s s' empty leaves = record {
   asks = 0;
   failed = no_failures;
-  uses = uses_nothing (used before s) (used after s') (ap (λ (ticks : Ticks). ticks.answers) leaves.clock) leaves.devices leaves.schedule;
+  uses = uses_nothing (used before s) (used after s') (ap (λ (ticks : Ticks). ticks.answers) leaves.clock) leaves.devices leaves.journal
+      leaves.schedule;
   goes = λ p more stands next rest count clock.
       let is : begun (turned p more) Empty ≡ begun_to number p =
       sym (begun_to-next number p next ∙ next_is p more (rest ∙ ap (λ (l : Line). l ∷ more) empty)) in
@@ -148,7 +147,6 @@ Advances-quiet line number before after s s' empty leaves = record {
         acts = [];
         grows = leaves.journal ∙ sym (append-nil before.journal);
         allowed = tt;
-        failures = λ device. refl;
         at = subst (λ q. IsAt q p.run more number (p.asked + 0) (length after.journal)
             (p.printed ++ p.said ++ []) s' after.devices) is (record {
               line = next;
@@ -192,9 +190,9 @@ pub Stands-reached : (run : Setup) (n asked : ℕ) (text : List ℕ) (journal : 
 Stands-reached run n asked text journal s k size r = (at_the_end run n asked text journal s k size r).stands
 
 -- the end of a run whose last line was cut off
-module _ (run : Setup) (line : Line) (n asked asks : ℕ) (failed : Device → ℕ) (text : List ℕ) (now later : LineState)
+module _ (run : Setup) (line : Line) (n asked asks : ℕ) (text : List ℕ) (now later : LineState)
     (size : length run.script ≡ n + 1) (r : Reaches run (line ∷ []) n asked text now.journal now.schedule now.devices)
-    (c : Cut (begun_to n (reached run now.journal)) [] (n + 1) asks failed now later) where
+    (c : Cut (begun_to n (reached run now.journal)) [] (n + 1) asks now later) where
   both : AllAllowed (at_start run) (now.journal ++ c.acts) ×
       (begun_to (n + 1) (past (begun_to n (reached run now.journal)) c.acts) ≡ begun_to (n + 1)
       (reached run (now.journal ++ c.acts)))

@@ -163,22 +163,22 @@ Prints ClockFailed start known before after lines = Gains before.out.content aft
 Prints OutOfMemory start known before after lines = PrintsUntil start known before after lines
 Prints ended start known before after lines = Gains before.out.content after.out.content (printed_by start known lines ended after.journal)
 
--- What a run over a whole volume comes to: the journal is legal for one POSIX tree, the lines' text was printed, each device failed as
--- often as operations were answered so, and the volume left is whole and has the tree reached.
-pub record RunsWhole (start : Beginning) (known : Option (ℕ → ℕ)) (answers : Device → ℕ) (before after : StageValue) (ended : Ended)
-    (lines : List Line) : Type 0 where
-  pub legal : Legal (session_run start known lines (status_of ended)) after.journal
-  pub printed : Prints ended start known before after lines
-  pub counted : AreFailures after.journal answers
-  pub leaves : Leaves after.devices (at_end (session_run start known lines (status_of ended)) after.journal).state.tree
+-- What a run over a whole volume comes to: the journal is legal for one POSIX tree, the lines' text was printed, and the volume left is
+-- whole and has the tree reached.
+pub record RunsWhole (start : Beginning) (known : Option (ℕ → ℕ)) (before after : StageValue) (ended : Ended) (lines : List Line) : Type 0
+  where
+    pub legal : Legal (session_run start known lines (status_of ended)) after.journal
+    pub printed : Prints ended start known before after lines
+    pub leaves : Leaves after.devices (at_end (session_run start known lines (status_of ended)) after.journal).state.tree
 
 -- The lines that were run: those before the end and, where out or the clock failed, a row was Bad, or memory ran out on a line, that
--- line as the last one, which may be cut off then. Each is built.
+-- line as the last one, which may be cut off then. Each is built. Whatever the rows are, so many entries answer that a device failed.
 pub record RunsLines (answers : Device → ℕ) (before after : StageValue) (ended : Ended) : Type 0 where
   pub texts : List (List ℕ)
   pub lines : List Line
   pub read : AreLines before.source.content texts lines
   pub built : All (IsBuilt before.limits) lines
   pub cause : EndsBy ended before after texts lines
+  pub counted : AreFailures after.journal answers
   pub whole : (start : Beginning) (known : Option (ℕ → ℕ)) → StartsWhole before start → IsKnownClock known before.clock after.clock
-      → RunsWhole start known answers before after ended lines
+      → RunsWhole start known before after ended lines

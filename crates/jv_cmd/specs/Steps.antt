@@ -46,20 +46,20 @@ abbrev pub AreBetween : ℕ → ℕ → List Act → Type 0
 AreBetween low high [] = Unit {0}
 AreBetween low high (act ∷ acts) = (low ≤ act.line) × (act.line ≤ high) × AreBetween low high acts
 
--- What these lines came to, whatever lines are to come, where the run began on a whole volume: so often the clock was asked, and so
--- often each device failed and an operation was answered so.
-pub record DoneOn (start : Beginning) (before now : StageValue) (lines : List Line) (done asked : ℕ) (failed : Device → ℕ)
-    (text : List ℕ) (s : ScheduleValue) : Type 0 where
+-- What these lines came to, whatever lines are to come, where the run began on a whole volume: so often the clock was asked.
+pub record DoneOn (start : Beginning) (before now : StageValue) (lines : List Line) (done asked : ℕ) (text : List ℕ)
+    (s : ScheduleValue) : Type 0 where
   pub own : AreBetween 0 done now.journal
-  pub failures : AreFailures now.journal failed
   pub reaches : (known : Option (ℕ → ℕ)) (more : List Line) (status : ℕ) → IsKnownClock known before.clock now.clock
       → Reaches (session_run start known (lines ++ more) status) more done asked text now.journal s now.devices
 
--- what was done with devices, whatever they hold: so often the clock was asked, and so often each device failed
+-- What was done with devices, whatever they hold: so often the clock was asked, and so often each device failed and an operation was
+-- answered so.
 pub record HasUsed (before now : StageValue) (asked : ℕ) (failed : Device → ℕ) : Type 0 where
   pub passes : Passes before.clock.answers now.clock.answers asked
   pub stays : StaysOpen before.devices now.devices
   pub counts : (device : Device) → RoseTimes (failed device) (faults_of device before.devices) (faults_of device now.devices)
+  pub counted : AreFailures now.journal failed
 
 -- `done` lines were run, and this is their text
 pub record Done (left : Option (List ℕ)) (before now : StageValue) (done : ℕ) (text : List ℕ)
@@ -76,7 +76,7 @@ pub record Done (left : Option (List ℕ)) (before now : StageValue) (done : ℕ
   pub first : IfSome before.source.content (λ all. IsSomeAnd left (λ rest. texts_of all ≡ texts ++ texts_of rest))
   pub uses : HasUsed before now asked failed
   pub limits : s.limits ≡ before.limits
-  pub whole : (start : Beginning) → StartsWhole before start → DoneOn start before now lines done asked failed text s
+  pub whole : (start : Beginning) → StartsWhole before start → DoneOn start before now lines done asked text s
 
 -- no device has failed that lines use, other than the keeper
 pub record AreCalm (before now : StageValue) : Type 0 where
@@ -104,14 +104,12 @@ abbrev pub Turns : Option (List ℕ) → StageValue → StageValue → ℕ → S
 Turns left before now done s (Ok unit) = Going left before now (done + 1) s
 Turns left before now done s (Err ended) = EndsLines before now ended
 
--- a line's entries after a journal: they are allowed, so many of them answer that a device failed, and the line is done and prints the
--- text
-pub record Goes (p : Past) (more : List Line) (number asks : ℕ) (failed : Device → ℕ) (before after : List Act) (text : List ℕ)
-    (s : ScheduleValue) (v : Shared) : Type 0 where
+-- a line's entries after a journal: they are allowed, and the line is done and prints the text
+pub record Goes (p : Past) (more : List Line) (number asks : ℕ) (before after : List Act) (text : List ℕ) (s : ScheduleValue)
+    (v : Shared) : Type 0 where
   pub acts : List Act
   pub grows : after ≡ before ++ acts
   pub allowed : AllAllowed p acts
-  pub failures : AreFailures acts failed
   pub at : IsAt (begun_to number (past p acts)) p.run more number (p.asked + asks) (length after)
       (p.printed ++ p.said ++ text) s v
 
@@ -126,7 +124,7 @@ pub record Advances (line : Line) (number : ℕ) (before after : StageValue) (s 
   pub failed : Device → ℕ
   pub uses : LineUses (used before s) (used after s') asks failed
   pub goes : FromThere line number (used before s) (used after s')
-      (λ p more. Goes p more number asks failed before.journal after.journal printed s' after.devices)
+      (λ p more. Goes p more number asks before.journal after.journal printed s' after.devices)
 
 -- a text that is no line, or a line that isn't built
 pub data IsOffText (text : List ℕ) (limits : Limits) : Type 0 where

@@ -1,5 +1,5 @@
 -- A transaction of an operation is that of the call which makes it, and its answer says what that returned.
-use Rattle.std.proofs.Common.{◌≡◌, ℕ, Bool, true, false, ◌&&◌, not, List, Option, None, Some, Result, Ok, Err, refl, sym, ap, subst, ◌∙◌}
+use Rattle.std.proofs.Common.{◌≡◌, ℕ, false, ◌&&◌, List, Option, None, Some, Result, Ok, Err, refl, sym, subst, ◌∙◌}
 use Rattle.std.specs.Prelude.{◌==◌}
 use Rattle.jv_model.specs.declared.basics.How.{How}
 use Rattle.jv_model.specs.declared.fault.Fault.{Fault}
@@ -11,7 +11,7 @@ use Rattle.jv_model.specs.declared.op.Op.TheVariants as op
 use Rattle.jv_model.specs.declared.op.Reply.{Reply}
 use Rattle.jv_model.specs.declared.op.Reply.TheVariants.{Done}
 use Rattle.jv_model.specs.rows.RowKeys.{RowMap}
-use Rattle.jv_model.specs.tree.Tree.{Tree, is_sustained}
+use Rattle.jv_model.specs.tree.Tree.{Tree}
 use Rattle.jv_model.specs.tree.TreeAct.{tree_act}
 use Rattle.jv_model.specs.tree.Caller.{Caller, Outcome, outcome}
 use Rattle.jv_model.specs.tree.Removing.{unlink}
@@ -25,7 +25,7 @@ use Rattle.jv_links.specs.declared.fates.Fate.TheVariants.{Linked, Trashed, Drop
 use Rattle.jv_links.specs.declared.fates.Removed.{Removed}
 use Rattle.jv_links.specs.Removals.{HoldsFiles, TellsSustained, removed_in, renamed_in, keeps_removed, is_kept}
 use Rattle.jv_metadata.specs.declared.answers.Answer.{Answer}
-use Rattle.jv_metadata.specs.Attempts.{mapped, kept_of, kept_by, is_inode, attempt, KeepsOne, TellsKept}
+use Rattle.jv_metadata.specs.Attempts.{AnswersPlainly, mapped, kept_of, kept_by, is_inode, is_refusal, attempt, TellsKept}
 
 -- what the tree does for an operation is its transaction
 pub tree_act-attempt : (t : Tree) (who : Caller) (o : Op) → tree_act t who o ≡ outcome t (attempt t who o)
@@ -101,6 +101,12 @@ module _ {A : Type 0} (held : List ℕ) (before after : Store) (reply : A → Re
   pub transacts-always : (made : Result A TxFault) → Transacts Always before after made reply act → (result : Result Answer TxFault) → result ≡ mapped f made
       → (next : Tree → Result Outcome Fault) → ((t : Tree) → next t ≡ act t) → Transacts (HoldsFiles held) before after result (λ answer. answer.reply) next
   transacts-always made t result is next acts = transacts-mapped Always (HoldsFiles held) before after reply act f (λ u l. tt) same made t result is next acts
+
+-- its answer is no refusal
+pub answers-mapped : {A : Type 0} (f : A → Answer) → ((x : A) → is_refusal (f x).reply ≡ false) → (made : Result A TxFault)
+    (result : Result Answer TxFault) → result ≡ mapped f made → AnswersPlainly result
+answers-mapped f none (Ok x) result is = subst AnswersPlainly (sym is) (none x)
+answers-mapped f none (Err fault) result is = subst AnswersPlainly (sym is) tt
 
 -- ---- the file that is kept
 

@@ -1,11 +1,11 @@
 -- The operations that are one transaction on metadata, what the model's transaction of each is, and what is told of it.
-use Rattle.std.specs.Prelude.{◌≡◌, ℕ, ◌<◌, Bool, true, false, ◌&&◌, ◌==◌, not, nat_lt, nat_le, List, length, Option, None, Some, Result, Ok, Err, IfOk, MatchBool}
+use Rattle.std.specs.Prelude.{◌≡◌, ℕ, Bool, true, false, ◌&&◌, ◌==◌, not, Option, None, Some, Result, Ok, Err, IfOk, MatchBool}
 use Rattle.jv_model.specs.declared.fault.Fault.{Fault}
 use Rattle.jv_model.specs.declared.fault.TxFault.{TxFault}
 use Rattle.jv_model.specs.declared.op.Op.{Op}
 use Rattle.jv_model.specs.declared.op.Op.TheVariants as op
 use Rattle.jv_model.specs.declared.op.Reply.{Reply}
-use Rattle.jv_model.specs.declared.op.Reply.TheVariants.{Done}
+use Rattle.jv_model.specs.declared.op.Reply.TheVariants.{Refused}
 use Rattle.jv_model.specs.rows.RowKeys.{RowMap}
 use Rattle.jv_model.specs.tree.Tree.{Tree, is_sustained}
 use Rattle.jv_model.specs.tree.Caller.{Caller, Outcome, outcome, done}
@@ -22,7 +22,7 @@ use Rattle.jv_volume.specs.Whole.{Whole}
 use Rattle.jv_links.specs.declared.fates.Fate.{Fate}
 use Rattle.jv_links.specs.declared.fates.Fate.TheVariants.{Linked, Trashed, Dropped, Sustained}
 use Rattle.jv_links.specs.declared.fates.Removed.{Removed}
-use Rattle.jv_links.specs.Removals.{HoldsFiles, TellsSustained}
+use Rattle.jv_links.specs.Removals.{HoldsFiles}
 use Rattle.jv_volume.specs.Holding.{takes_entries}
 pub use Rattle.jv_model.specs.script.Spelled.{is_spelled}
 use Rattle.jv_metadata.specs.declared.answers.Answer.{Answer}
@@ -35,6 +35,15 @@ mapped f (Err fault) = Err fault
 -- an answer that keeps no file
 abbrev pub plain : Reply → Answer
 plain reply = record { reply = reply; kept = None }
+
+-- whether a reply is a refusal
+abbrev pub is_refusal : Reply → Bool
+is_refusal (Refused fault) = true
+is_refusal _ = false
+
+-- an answer that was given is none
+abbrev pub AnswersPlainly : Result Answer TxFault → Type 0
+AnswersPlainly result = IfOk result (λ answer. is_refusal answer.reply ≡ false)
 
 abbrev pub kept_by : Fate → ℕ → Option ℕ
 kept_by Linked inode = None

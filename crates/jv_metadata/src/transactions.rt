@@ -1,6 +1,6 @@
 //! An operation's transaction.
 ghost use Rattle.std.specs.Prelude.{◌≡◌, IsTrue};
-ghost use Rattle.jv_metadata.specs.Attempts.{Asks, attempt, is_metadata, is_spelled, TellsKept};
+ghost use Rattle.jv_metadata.specs.Attempts.{AnswersPlainly, Asks, attempt, is_metadata, is_spelled, TellsKept};
 ghost use Rattle.jv_links.specs.Removals.{HoldsFiles};
 ghost use Rattle.jv_model.specs.tree.Caller.{Caller};
 ghost use Rattle.jv_rows.specs.Transactions.{IsFor, Transacts};
@@ -40,6 +40,7 @@ pub fn transact<K: Keeper>(
         result (λ answer. answer.reply) (λ t. attempt t caller op.now) }
     ensures tells { (caller : Caller) → IsFor who.entry.now caller
         → TellsKept caller op.now (K.seen k.old) result }
+    ensures answers { AnswersPlainly result }
 {
     match op {
         Op::Umount => done(close_session(alloc, k, who)),

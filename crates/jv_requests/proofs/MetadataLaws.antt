@@ -155,13 +155,7 @@ module _ (s : State) (client now : ℕ) (d : Doing) (busy : (s.clients client).d
         (λ start alone. transaction-refused start alone s client now d busy started at flushed makes fault does
         (replies-calm s.tree who d.op (reply.Refused fault) (ap (λ (done : Outcome). done.reply) does)))
 
-    -- neither answer is a failure
-    pub transaction-calm : (x : A) → Transacts {A = A} ready v.keeper keeper (Ok x) says act
-        → is_failure (told_of (says x)) ≡ false
-    transaction-calm x tx =
-        let made = transaction-request x tx in
-        replies-calm s.tree who d.op (says x) (ap (λ (done : Outcome). done.reply) made.1)
-
+    -- which is no failure
     pub transaction-not_made_calm : (fault : Fault)
         → Transacts {A = A} ready v.keeper keeper (Err (RefusedBy fault)) says act
         → is_failure (ToldRefused fault) ≡ false

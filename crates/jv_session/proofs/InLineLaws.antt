@@ -20,7 +20,7 @@ use Rattle.jv_model.specs.journal.Steps.{Start}
 use Rattle.jv_model.specs.journal.Past.{Past, Setup, Due, NoMore, OneStep, StepMade as StepTaken, is_over, ends_in_step, more_text}
 use Rattle.jv_model.specs.script.ReplyText.{printed_line}
 use Rattle.jv_model.specs.journal.Legal.{may_stop}
-use Rattle.jv_model.specs.journal.Stepping.{AllowsStep, stepped_by, entry_of}
+use Rattle.jv_model.specs.journal.Stepping.{stepped_by, entry_of}
 use Rattle.jv_laws.specs.OnLines.{IsNow}
 use Rattle.jv_laws.proofs.EntriesOfLines.{leads_none}
 use Rattle.jv_laws.proofs.EndedLines.{is_over_at, may_be_cut_at}
@@ -36,11 +36,11 @@ use Rattle.jv_session.specs.declared.line_end.LineEnd.TheVariants.{Broken as Lin
 use Rattle.jv_session.specs.declared.line_end.Stopped.{Stopped}
 use Rattle.jv_session.specs.declared.line_end.Stopped.TheVariants as stopped
 use Rattle.jv_session.specs.Stands.{ScheduleValue, IsState, IsClientAt, ClockFor, InLine}
-use Rattle.jv_session.specs.Lines.{LineState, LineUses, AreFailures}
+use Rattle.jv_session.specs.Lines.{LineState, LineUses}
 use Rattle.jv_session.specs.InLine.{Goes, Finish, Break, FromLine, LineGoes, LineSays, IsMomentOf, StopsBefore, HasStepped, MakesStep, StepsOnce, at_moment, end_of}
 use Rattle.jv_session.proofs.BeginLaws.{not_ending}
 use Rattle.jv_session.proofs.StateLaws.{client_at, state_moment, state_stepped}
-use Rattle.jv_session.proofs.UsesLaws.{failures_made, made_failures, no_failures, stopped_bad, uses_nothing, uses_step}
+use Rattle.jv_session.proofs.UsesLaws.{made_failures, no_failures, stopped_bad, uses_nothing, uses_step}
 
 -- the clock
 
@@ -105,14 +105,12 @@ Stepping number client before after made =
     MakesStep before.schedule after.schedule number client before.clock after.clock before.devices after.devices
     before.journal after.journal made
 
-pub record StepMade (due : Due) (q : Past) (client : ℕ) (failed : Device → ℕ) (before after : LineState)
-    (step : Step) : Type 0 where
+pub record StepMade (due : Due) (q : Past) (client : ℕ) (before after : LineState) (step : Step) : Type 0 where
   pub now : ℕ
   pub kinds : List ActKind
   pub end : Past
   pub on : StepsOn due q client now kinds step end
   pub goes : Goes q 1 before.journal after.journal (map (entry_of q.line now client) kinds) end
-  pub failures : AreFailures (map (entry_of q.line now client) kinds) failed
   pub in_line : InLine end after.schedule after.devices
 
 module _ (number client : ℕ) (before after : LineState) (step : Step) (m : Stepped number client before after step)
@@ -125,7 +123,8 @@ module _ (number client : ℕ) (before after : LineState) (step : Step) (m : Ste
     kinds_in = kinds_of m.steps.made
 
     pub stepped_uses : LineUses before after 1 failed_in
-    stepped_uses = uses_step before after m.now m.steps.made m.moment.answered.passes m.steps.devices
+    stepped_uses = uses_step before after number m.now m.old.id m.steps.made m.steps.appends m.steps.alone
+        m.moment.answered.passes m.steps.devices
         (ap (λ (s : ScheduleValue). s.at) m.same) (ap (λ (s : ScheduleValue). s.limits) m.same)
 
     -- from the past where the line stands
@@ -156,11 +155,6 @@ module _ (number client : ℕ) (before after : LineState) (step : Step) (m : Ste
           kinds_in step leads_own.tree leads_own.model leads_own.copied
       leads_to = subst (λ k. Request q.state at.known learned told after.devices k m.now (in_flight m.old)
           (in_flight m.new) kinds_in step leads_own.tree leads_own.model leads_own.copied) m.id leads_own.request
-
-      failures_in : AreFailures (map (entry_of q.line m.now client) kinds_in) failed_in
-      failures_in = failures_made q.line m.now client q.run.start true q.state m.steps.made
-          (subst (AllowsStep q.run.start true q.state client m.now kinds_in) m.steps.step_is
-          (leads_to.allows q.run.start true state_told.within)) leads_own.no_failure
 
       appended : q.line ≡ number → after.journal ≡ before.journal ++ map (entry_of q.line m.now client) kinds_in
       appended line =
@@ -225,7 +219,7 @@ module _ (number client : ℕ) (before after : LineState) (step : Step) (m : Ste
 
       pub step_made : (n : ℕ) (final : Option (ℕ → ℕ)) → RunsClient client due → q.due ≡ due → q.line ≡ number
           → Passes before.clock.answers final n
-          → ClockFor q.run.clock q.asked before.clock.answers final → StepMade due q client failed_in before after step
+          → ClockFor q.run.clock q.asked before.clock.answers final → StepMade due q client before after step
       step_made n final runs is line passes for =
           let now = is_now q before.schedule 0 m.now n before.clock after.clock final at.at at.last at.ticks m.moment
           passes for in
@@ -238,30 +232,26 @@ module _ (number client : ℕ) (before after : LineState) (step : Step) (m : Ste
             end = ran.0;
             on = ran.1;
             goes = goes_to ran.0 line ran.1;
-            failures = failures_in;
             in_line = in_line_after ran.0 ran.1;
           }
 
 -- a line that is done, and whose text there was memory for or not
 
-module _ (q : Past) (asks : ℕ) (failed : Device → ℕ) (before after : LineState) (text : List ℕ) where
-  breaks_after : Finish q asks failed before after text → Break q asks failed before after
+module _ (q : Past) (asks : ℕ) (before after : LineState) (text : List ℕ) where
+  breaks_after : Finish q asks before after text → Break q asks before after
   breaks_after f = record {
     acts = f.acts;
     end = f.end;
     goes = f.goes;
-    failures = f.failures;
     in_line = f.in_line;
     stops = or_left (is_over f.end) (may_stop f.end) f.over;
   }
 
-  finish_says : (said : List ℕ) → said ≡ text → Finish q asks failed before after text
-      → Finish q asks failed before after said
+  finish_says : (said : List ℕ) → said ≡ text → Finish q asks before after text → Finish q asks before after said
   finish_says said e f = record {
     acts = f.acts;
     end = f.end;
     goes = f.goes;
-    failures = f.failures;
     in_line = f.in_line;
     over = f.over;
     said = f.said ∙ sym e;
@@ -270,7 +260,7 @@ module _ (q : Past) (asks : ℕ) (failed : Device → ℕ) (before after : LineS
 pub says : (Where : Past → Type 0) (number asks : ℕ) (failed : Device → ℕ) (before after : LineState)
     (text : List ℕ) (printed : Result (List ℕ) AllocError) (end : LineEnd)
     → LineUses before after asks failed → after.clock.faults ≡ before.clock.faults
-    → FromLine Where number before after (λ q. Finish q asks failed before after text)
+    → FromLine Where number before after (λ q. Finish q asks before after text)
     → IfOk printed (λ t. t ≡ text) → LineSays printed end → LineGoes Where number before after end
 says Where number asks failed before after text (Ok t) end uses calm goes is said = subst
     (LineGoes Where number before after) (sym said) (record {
@@ -278,7 +268,7 @@ says Where number asks failed before after text (Ok t) end uses calm goes is sai
       failed = failed;
       uses = uses;
       calm = calm;
-      goes = λ q there line at count clock. finish_says q asks failed before after text t is
+      goes = λ q there line at count clock. finish_says q asks before after text t is
           (goes q there line at count clock);
     })
 says Where number asks failed before after text (Err e) end uses calm goes is said = subst
@@ -287,7 +277,7 @@ says Where number asks failed before after text (Err e) end uses calm goes is sa
         asks = asks;
         failed = failed;
         uses = uses;
-        goes = λ q there line at count clock. breaks_after q asks failed before after text
+        goes = λ q there line at count clock. breaks_after q asks before after text
             (goes q there line at count clock);
       },
       calm,
@@ -321,12 +311,11 @@ in_line-left q before after left h = subst (λ v. InLine q after.schedule v) (sy
 
 breaks_none : (q : Past) (before after : LineState) → q.state.count ≡ length before.journal
     → InLine q before.schedule before.devices → (is_over q || may_stop q) ≡ true
-    → LeavesRest before after → Break q 0 no_failures before after
+    → LeavesRest before after → Break q 0 before after
 breaks_none q before after count line stops left = record {
   acts = [];
   end = q;
   goes = subst (λ more. Goes q 0 before.journal more [] q) (sym left.journal) (goes_none q before.journal count);
-  failures = λ device. refl;
   in_line = in_line-left q before after left line;
   stops = stops;
 }
@@ -338,7 +327,7 @@ stops_at Where number before after stopped.Clock may h left = (
   record {
     asks = 0;
     failed = no_failures;
-    uses = uses_nothing before after h.0 left.devices left.schedule;
+    uses = uses_nothing before after h.0 left.devices left.journal left.schedule;
     goes = λ q there line at count clock. breaks_none q before after count line (may q there line) left;
   },
   h.1,
@@ -347,7 +336,7 @@ stops_at Where number before after stopped.Memory may h left = (
   record {
     asks = 0;
     failed = no_failures;
-    uses = uses_nothing before after (ap (λ (t : Ticks). t.answers) h) left.devices left.schedule;
+    uses = uses_nothing before after (ap (λ (t : Ticks). t.answers) h) left.devices left.journal left.schedule;
     goes = λ q there line at count clock. breaks_none q before after count line (may q there line) left;
   },
   ap (λ (t : Ticks). t.faults) h,
@@ -359,21 +348,20 @@ module _ (client number : ℕ) (before after : LineState) where
   once : (step : Step) (m : Stepped number client before after step) (q : Past) → StepsOnce client q
       → InLine q before.schedule before.devices → q.line ≡ number
       → q.state.count ≡ length before.journal → ClockFor q.run.clock q.asked before.clock.answers after.clock.answers
-      → StepMade (OneStep client) q client (failed_in number client before after step m) before after step
+      → StepMade (OneStep client) q client before after step
   once step m q due h line count clock =
       step_made number client before after step m (OneStep client) q h count 1 after.clock.answers (OneStepOnly refl)
       due line m.moment.answered.passes clock
 
   once_more : (m : Stepped number client before after More)
       → FromLine (StepsOnce client) number before after
-      (λ q. Finish q 1 (failed_in number client before after More m) before after more_text)
+      (λ q. Finish q 1 before after more_text)
   once_more m q due h line count clock =
       let made = once More m q due h line count clock in
       record {
         acts = map (entry_of q.line made.now client) made.kinds;
         end = made.end;
         goes = made.goes;
-        failures = made.failures;
         in_line = made.in_line;
         over = is_over_at made.end (StepTaken client) made.on.after.due_is made.on.after.goes_on;
         said = made.on.after.said_is;
@@ -381,15 +369,13 @@ module _ (client number : ℕ) (before after : LineState) where
 
   once_done : (reply : Reply) (m : Stepped number client before after (Done reply))
       → FromLine (StepsOnce client) number before after
-      (λ q. Finish q 1 (failed_in number client before after (Done reply) m) before after
-      (printed_line after.schedule.setting reply))
+      (λ q. Finish q 1 before after (printed_line after.schedule.setting reply))
   once_done reply m q due h line count clock =
       let made = once (Done reply) m q due h line count clock in
       record {
         acts = map (entry_of q.line made.now client) made.kinds;
         end = made.end;
         goes = made.goes;
-        failures = made.failures;
         in_line = made.in_line;
         over = is_over_at made.end NoMore made.on.after.due_is tt;
         said = made.on.after.said_is ∙ ap (λ (setting : Setting). printed_line setting reply) made.in_line.setting;

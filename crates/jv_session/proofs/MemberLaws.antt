@@ -1,10 +1,11 @@
 -- Eight clients, of which one changes.
 use Rattle.std.proofs.Common.{◌≡◌, ◌≢◌, ℕ, zero, suc, ◌<◌, ◌≤◌, IsTrue, List, [], ◌∷◌, length, slice_get, slice_set, Option, None, Some, Result, Ok, Err, refl, sym, ap, subst, ◌∙◌, inl, inr, arith, length-set}
-use Rattle.std.specs.Prelude.{IfSome, IsSome, OnOk, OnErr}
+use Rattle.std.specs.Prelude.{IfErr, IfSome, IsSome, OnOk, OnErr}
 use Rattle.std.proofs.lemmas.Bool.Decides.{eqb_tells}
 use Rattle.std.proofs.lemmas.Option.{same_Some}
 use Rattle.jv_model.specs.declared.limits.TheConstants.{LAST_MOMENT}
 use Rattle.jv_model.specs.declared.basics.Limits.{Limits}
+use Rattle.jv_model.specs.declared.act.Told.TheVariants.{Refused as ToldRefused}
 use Rattle.jv_model.specs.declared.fault.Fault.{Fault}
 use Rattle.jv_model.specs.declared.op.Op.{Op}
 use Rattle.jv_model.specs.client.ModelClient.{ModelClient}
@@ -14,6 +15,7 @@ use Rattle.jv_shared.specs.Shared.{Known, Shared}
 use Rattle.jv_client.specs.Built.{is_built_op}
 use Rattle.jv_client.specs.ClientValue.{ClientValue, crashed}
 use Rattle.jv_client.specs.Held.{IsClient, in_flight, refused_with}
+use Rattle.jv_client.specs.Makes.{IsCalm}
 use Rattle.jv_client.specs.UnderWay.{IsReady}
 use Rattle.jv_session.specs.Stands.{ScheduleValue, IsMember, IsSchedule, IsYardOf, AreApart}
 use Rattle.jv_session.specs.InLine.{HasBegun, Submits}
@@ -177,12 +179,13 @@ pub refuses_at : (s s' : ScheduleValue) (k : ℕ) (o : Op) (old new : ClientValu
     → slice_get s.clients k ≡ Some old → called ≡ Err refused
     → ((g : Known) (v : Shared) (m : ModelClient) (count : ℕ) → IsClient g v m count old
     → refused_with called ≡ submission m o)
-    → OnErr called (new ≡ old) → s' ≡ record s { clients = slice_set s.clients k new }
-    → Submits s s' k o (Err refused.1)
-refuses_at s s' k o old new called refused found is refusal err same = record {
+    → IfErr called (λ refused. IsCalm (ToldRefused refused.1)) → OnErr called (new ≡ old)
+    → s' ≡ record s { clients = slice_set s.clients k new } → Submits s s' k o (Err refused.1)
+refuses_at s s' k o old new called refused found is refusal calm err same = record {
   old = old;
   found = found;
   refused = λ g v m count h. sym (refusal g v m count h) ∙ ap refused_with is;
+  calm = subst (λ r. IfErr r (λ refused. IsCalm (ToldRefused refused.1))) is calm;
   same = same ∙ ap (λ (cs : List ClientValue). record s { clients = cs })
       (ap (slice_set s.clients k) (subst (λ r. OnErr r (new ≡ old)) is err) ∙ set_found s.clients k old found);
 }

@@ -1,5 +1,5 @@
 -- Lines of one entry: a refused submission, a crash and a tick. None uses a device.
-use Rattle.std.proofs.Common.{◌≡◌, ℕ, ◌+◌, ◌≤◌, min, List, [], ◌∷◌, ◌++◌, length, slice_get, slice_set, Option, None, Some, Result, Ok, Err, refl, sym, ap, subst, ◌∙◌, arith}
+use Rattle.std.proofs.Common.{◌≡◌, ℕ, ◌+◌, ◌≤◌, min, false, List, [], ◌∷◌, ◌++◌, length, slice_get, slice_set, Option, None, Some, Result, Ok, Err, refl, sym, ap, subst, ◌∙◌, arith}
 use Rattle.std.specs.Prelude.{codes, decimal, IfOk}
 use Rattle.std.specs.declared.alloc.AllocError.{AllocError}
 use Rattle.std.proofs.lemmas.List.{length_push}
@@ -9,6 +9,7 @@ use Rattle.jv_model.specs.declared.act.Act.{Act}
 use Rattle.jv_model.specs.declared.act.ActKind.{ActKind}
 use Rattle.jv_model.specs.declared.act.ActKind.TheVariants.{Crashed, Ticked, Answered}
 use Rattle.jv_model.specs.declared.act.Told.TheVariants.{Refused as ToldRefused}
+use Rattle.jv_model.specs.declared.fault.Device.{Device}
 use Rattle.jv_model.specs.declared.fault.Fault.{Fault}
 use Rattle.jv_model.specs.declared.op.Reply.TheVariants.{Refused}
 use Rattle.jv_model.specs.declared.setting.Setting.{Setting}
@@ -26,6 +27,7 @@ use Rattle.jv_outside.specs.Ticks.{Ticks}
 use Rattle.jv_shared.specs.Shared.{Known, Shared}
 use Rattle.jv_client.specs.ClientValue.{ClientValue, crashed}
 use Rattle.jv_client.specs.Held.{IsClient, Holds}
+use Rattle.jv_client.specs.Makes.{IsCalm, is_failure_entry}
 use Rattle.jv_client.proofs.HeldLaws.{holds-unmounted}
 use Rattle.jv_session.specs.declared.line_end.LineEnd.{LineEnd}
 use Rattle.jv_session.specs.declared.line_end.Stopped.{Stopped}
@@ -34,7 +36,7 @@ use Rattle.jv_session.specs.Lines.{LineState, LineUses, line_state}
 use Rattle.jv_session.specs.InLine.{Goes, Finish, FromLine, LineGoes, LineSays, IsMomentOf, HasNoted, Notes, IsRefused, Crashes, Passing, end_of}
 use Rattle.jv_session.proofs.MemberLaws.{slice_get_inside}
 use Rattle.jv_session.proofs.StateLaws.{state_noted, state_with}
-use Rattle.jv_session.proofs.UsesLaws.{failures_none, no_failures, refused_other, uses_clock}
+use Rattle.jv_session.proofs.UsesLaws.{failures_none, no_failures, uses_clock}
 use Rattle.jv_session.proofs.InLineLaws.{MayBreak, is_now, line_goes_on, says, stops_at}
 
 -- the moment, where no further second passes
@@ -123,7 +125,7 @@ module _ (v : Shared) (number : ℕ) (clock ticked : Ticks) (journal more : List
       → slice_get s.clients client ≡ Some c
       → Noted s' client (Answered (ToldRefused fault)) 0 now
       → FromLine (IsRefused client fault) number before (after s')
-      (λ q. Finish q 1 no_failures before (after s') (printed_line s'.setting (Refused fault)))
+      (λ q. Finish q 1 before (after s') (printed_line s'.setting (Refused fault)))
   refused_finish client now fault c s' found m q there h line count clock_for =
       let ran = refused_ran q client now fault there.op h.alone h.complete there.due there.refused
       (line_goes_on q s v client c h found)
@@ -131,13 +133,11 @@ module _ (v : Shared) (number : ℕ) (clock ticked : Ticks) (journal more : List
       let r = ran.0 in
       let n = ran.1.notes in
       let kind = Answered (ToldRefused fault) in
-      subst (λ (x : ScheduleValue). Finish q 1 no_failures before (after x) (printed_line x.setting (Refused fault)))
+      subst (λ (x : ScheduleValue). Finish q 1 before (after x) (printed_line x.setting (Refused fault)))
       (sym m.same) (record {
         acts = entry_of q.line now client kind ∷ [];
         end = r;
         goes = goes_one q r number now client kind _ journal more line count m.appends n;
-        failures = failures_none q.line now client kind
-            (refused_other (q.state.clients client) there.op fault there.refused);
         in_line = in_line_after q r s (record s { at = now }) v now client kind _ h n refl
             (low_now s 0 now clock ticked m.moment) (ap (min LAST_MOMENT) ran.1.ticks ∙ h.ticks) refl refl
             (state_noted q.run.start h.known q.state s.clients v h.state r.state n.tree
@@ -151,7 +151,7 @@ module _ (v : Shared) (number : ℕ) (clock ticked : Ticks) (journal more : List
       → Noted noted client Crashed 0 now
       → s' ≡ record noted { clients = slice_set noted.clients client (crashed c) }
       → FromLine (Crashes client) number before (after s')
-      (λ q. Finish q 1 no_failures before (after s') (with_feed (codes "crashed")))
+      (λ q. Finish q 1 before (after s') (with_feed (codes "crashed")))
   crash_finish client now c noted s' found m same q there h line count clock_for =
       let ran = crash_ran q client now h.alone h.complete there
       (plain_now q s v now clock ticked h m.moment clock_for) in
@@ -161,12 +161,11 @@ module _ (v : Shared) (number : ℕ) (clock ticked : Ticks) (journal more : List
       let is : s' ≡ last = same ∙ ap (λ (x : ScheduleValue). record x
       { clients = slice_set x.clients client (crashed c) }) m.same in
       let grew : q.state.count ≤ r.state.count = (let e = n.count in omega (arith, e)) in
-      subst (λ (x : ScheduleValue). Finish q 1 no_failures before (after x) (with_feed (codes "crashed"))) (sym is)
+      subst (λ (x : ScheduleValue). Finish q 1 before (after x) (with_feed (codes "crashed"))) (sym is)
       (record {
         acts = entry_of q.line now client Crashed ∷ [];
         end = r;
         goes = goes_one q r number now client Crashed _ journal more line count m.appends n;
-        failures = failures_none q.line now client Crashed (λ device. refl);
         in_line = in_line_after q r s last v now client Crashed _ h n refl
             (low_now s 0 now clock ticked m.moment) (ap (min LAST_MOMENT) ran.1.ticks ∙ h.ticks) refl refl
             (state_with q.run.start h.known q.state s.clients v h.state r.state client c (crashed c) found refl n.tree
@@ -184,7 +183,7 @@ module _ (v : Shared) (number : ℕ) (clock ticked : Ticks) (journal more : List
       → s' ≡ record noted { ticks = ticks }
       → ticks ≡ min LAST_MOMENT (s.ticks + by)
       → FromLine (Passing by) number before (after s')
-      (λ q. Finish q 1 no_failures before (after s') (with_feed (codes "now " ++ decimal now)))
+      (λ q. Finish q 1 before (after s') (with_feed (codes "now " ++ decimal now)))
   tick_finish by now ticks noted s' m same passed q there h line count clock_for =
       let ran = tick_ran q now by h.alone h.complete there
       (is_now q s by now 1 clock ticked ticked.answers h.at h.last h.ticks m.moment m.moment.answered.passes
@@ -195,12 +194,11 @@ module _ (v : Shared) (number : ℕ) (clock ticked : Ticks) (journal more : List
       let is : s' ≡ last = same ∙ ap (λ (x : ScheduleValue). record x { ticks = ticks }) m.same in
       let total = ran.1.ticks in
       let told = h.ticks in
-      subst (λ (x : ScheduleValue). Finish q 1 no_failures before (after x) (with_feed (codes "now " ++ decimal now))) (sym is)
+      subst (λ (x : ScheduleValue). Finish q 1 before (after x) (with_feed (codes "now " ++ decimal now))) (sym is)
       (record {
         acts = entry_of q.line now NO_CLIENT (Ticked by) ∷ [];
         end = r;
         goes = goes_one q r number now NO_CLIENT (Ticked by) _ journal more line count m.appends n;
-        failures = failures_none q.line now NO_CLIENT (Ticked by) (λ device. refl);
         in_line = in_line_after q r s last v now NO_CLIENT (Ticked by) _ h n refl
             (low_now s by now clock ticked m.moment) (omega (arith, total, told, passed)) refl refl
             (state_noted q.run.start h.known q.state s.clients v h.state r.state n.tree
@@ -212,11 +210,18 @@ module _ (v : Shared) (number : ℕ) (clock ticked : Ticks) (journal more : List
       })
 
   uses_entry : (client by now : ℕ) (kind : ActKind) (noted s' : ScheduleValue) → Noted noted client kind by now
+      → ((device : Device) → is_failure_entry device kind ≡ false)
       → s'.at ≡ noted.at → s'.limits ≡ noted.limits → LineUses before (after s') 1 no_failures
-  uses_entry client by now kind noted s' m at limits =
+  uses_entry client by now kind noted s' m other at limits =
       let is : noted.at ≡ now = ap (λ (x : ScheduleValue). x.at) m.same in
       let later = m.later in
-      uses_clock before (after s') 1 m.moment.answered.passes refl (omega (arith, later, at, is))
+      uses_clock before (after s') 1 m.moment.answered.passes refl
+      (record {
+        acts = entry_of number now client kind ∷ [];
+        grows = m.appends;
+        failures = failures_none number now client kind other;
+      })
+      (omega (arith, later, at, is))
       (limits ∙ ap (λ (x : ScheduleValue). x.limits) m.same)
 
   abbrev Noting : ScheduleValue → ℕ → ActKind → ℕ → Result ℕ Stopped → Type 0
@@ -227,15 +232,15 @@ module _ (v : Shared) (number : ℕ) (clock ticked : Ticks) (journal more : List
   the_client k eight low = slice_get_inside s.clients k (omega (arith, eight, low))
 
   pub refuse_says : (client : ℕ) (fault : Fault) (s' : ScheduleValue) (made : Result ℕ Stopped) (now : ℕ)
-      (printed : Result (List ℕ) AllocError) (end : LineEnd) → client ≤ 7
+      (printed : Result (List ℕ) AllocError) (end : LineEnd) → client ≤ 7 → IsCalm (ToldRefused fault)
       → Noting s' client (Answered (ToldRefused fault)) 0 made → made ≡ Ok now
       → IfOk printed (λ t. t ≡ printed_line s'.setting (Refused fault)) → LineSays printed end
       → LineGoes (IsRefused client fault) number before (after s') end
-  refuse_says client fault s' made now printed end low notes is text said =
+  refuse_says client fault s' made now printed end low calm notes is text said =
       let m = subst (Noting s' client (Answered (ToldRefused fault)) 0) is notes in
       let c = the_client client m.eight low in
       says (IsRefused client fault) number 1 no_failures before (after s') (printed_line s'.setting (Refused fault)) printed end
-      (uses_entry client 0 now (Answered (ToldRefused fault)) s' s' m refl refl) m.moment.answered.calm
+      (uses_entry client 0 now (Answered (ToldRefused fault)) s' s' m calm refl refl) m.moment.answered.calm
       (refused_finish client now fault c.0 s' c.1 m) text said
 
   pub tick_says : (by : ℕ) (noted s' : ScheduleValue) (ticks now : ℕ) (made : Result ℕ Stopped)
@@ -249,7 +254,7 @@ module _ (v : Shared) (number : ℕ) (clock ticked : Ticks) (journal more : List
       let before_ticks : ticks ≡ min LAST_MOMENT (s.ticks + by) = passed
       ∙ ap (λ (v : ScheduleValue). min LAST_MOMENT (v.ticks + by)) m.same in
       says (Passing by) number 1 no_failures before (after s') (with_feed (codes "now " ++ decimal now)) printed end
-      (uses_entry NO_CLIENT by now (Ticked by) noted s' m (ap (λ (x : ScheduleValue). x.at) same)
+      (uses_entry NO_CLIENT by now (Ticked by) noted s' m (λ device. refl) (ap (λ (x : ScheduleValue). x.at) same)
       (ap (λ (x : ScheduleValue). x.limits) same)) m.moment.answered.calm
       (tick_finish by now ticks noted s' m same before_ticks) text said
 
@@ -264,7 +269,7 @@ module _ (v : Shared) (number : ℕ) (clock ticked : Ticks) (journal more : List
       let here : slice_get s.clients client ≡ Some c = ap (λ (v : ScheduleValue). slice_get v.clients client)
       (sym m.same) ∙ found in
       says (Crashes client) number 1 no_failures before (after s') (with_feed (codes "crashed")) printed end
-      (uses_entry client 0 now Crashed noted s' m (ap (λ (x : ScheduleValue). x.at) same)
+      (uses_entry client 0 now Crashed noted s' m (λ device. refl) (ap (λ (x : ScheduleValue). x.at) same)
       (ap (λ (x : ScheduleValue). x.limits) same)) m.moment.answered.calm
       (crash_finish client now c noted s' here m same) text said
 

@@ -26,10 +26,10 @@ use Rattle.jv_session.specs.declared.line_end.LineEnd.TheVariants.{Broken as Lin
 use Rattle.jv_session.specs.declared.line_end.Stopped.{Stopped}
 use Rattle.jv_session.specs.declared.line_end.Stopped.TheVariants as stopped
 use Rattle.jv_session.specs.Stands.{ScheduleValue, ClockFor, InLine, IsYardOf, busy_in, client_is_busy}
-use Rattle.jv_session.specs.Lines.{LineState, LineUses, AreFailures}
+use Rattle.jv_session.specs.Lines.{LineState, LineUses}
 use Rattle.jv_session.specs.InLine.{Goes, Finish, Break, Breaks, FromLine, LineGoes, LineSays, StopsBefore, RunsToEnd, at_moment, end_of}
 use Rattle.jv_session.proofs.MemberLaws.{slice_get-set}
-use Rattle.jv_session.proofs.UsesLaws.{both_failures, failures_both, no_failures, stopped_bad, uses_none, uses_nothing, uses_still, uses_then}
+use Rattle.jv_session.proofs.UsesLaws.{both_failures, no_failures, stopped_bad, uses_none, uses_nothing, uses_still, uses_then}
 use Rattle.jv_session.proofs.InLineLaws.{LeavesRest, StepMade, Stepped, Stepping, clock_later, failed_in, goes_none, in_line-left, line_goes_on, says, step_made, stepped_uses}
 
 -- entries one after another
@@ -45,20 +45,19 @@ goes_then q r t m n before mid after xs ys h g = record {
 
 -- a client's operation that is run to its end, so far
 
-pub record SoFar (q : Past) (client asks : ℕ) (failed : Device → ℕ) (start now : LineState) : Type 0 where
+pub record SoFar (q : Past) (client asks : ℕ) (start now : LineState) : Type 0 where
   pub acts : List Act
   pub there : Past
   pub goes : Goes q asks start.journal now.journal acts there
-  pub failures : AreFailures acts failed
   pub in_line : InLine there now.schedule now.devices
   pub due : there.due ≡ ToAnswer client
 
 -- from each past where the line may stand, when the clock's answers from here on are those of the run's clock
-abbrev pub LeadsSoFar : (client number asks : ℕ) → (Device → ℕ) → LineState → LineState → Type 0
-LeadsSoFar client number asks failed start now = (final : Option (ℕ → ℕ)) (n : ℕ) (q : Past) → RunsToEnd client q
+abbrev pub LeadsSoFar : (client number asks : ℕ) → LineState → LineState → Type 0
+LeadsSoFar client number asks start now = (final : Option (ℕ → ℕ)) (n : ℕ) (q : Past) → RunsToEnd client q
     → InLine q start.schedule start.devices → q.line ≡ number
     → q.state.count ≡ length start.journal → ClockFor q.run.clock q.asked start.clock.answers final
-    → Passes now.clock.answers final n → SoFar q client asks failed start now
+    → Passes now.clock.answers final n → SoFar q client asks start now
 
 pub record Reached (client number : ℕ) (start now : LineState) : Type 0 where
   pub asks : ℕ
@@ -67,7 +66,7 @@ pub record Reached (client number : ℕ) (start now : LineState) : Type 0 where
   pub calm : now.clock.faults ≡ start.clock.faults
   pub busy : client_is_busy now.schedule client ≡ true
   pub yard : IsYardOf now.schedule now.devices.yard
-  pub leads : LeadsSoFar client number asks failed start now
+  pub leads : LeadsSoFar client number asks start now
 
 pub reached_none : (client number : ℕ) (start : LineState) → client_is_busy start.schedule client ≡ true
     → IsYardOf start.schedule start.devices.yard → Reached client number start start
@@ -83,7 +82,6 @@ reached_none client number start busy yard = record {
         acts = [];
         there = q;
         goes = goes_none q start.journal count;
-        failures = λ device. refl;
         in_line = h;
         due = due;
       };
@@ -121,8 +119,7 @@ module _ (client number : ℕ) (start now later : LineState) (h : Reached client
 
     step_more : (final : Option (ℕ → ℕ)) (n : ℕ) (q : Past) → q.line ≡ number
         → ClockFor q.run.clock q.asked start.clock.answers final → Passes now.clock.answers final n
-        → (f : SoFar q client h.asks h.failed start now)
-        → StepMade (ToAnswer client) f.there client (failed_in number client now later step m) now later step
+        → (f : SoFar q client h.asks start now) → StepMade (ToAnswer client) f.there client now later step
     step_more final n q line clock passes f =
         let there = f.there in
         let told : ClockFor q.run.clock (q.asked + h.asks) now.clock.answers final =
@@ -134,22 +131,17 @@ module _ (client number : ℕ) (start now later : LineState) (h : Reached client
         step_made number client now later step m (ToAnswer client) there f.in_line f.goes.count n final
         (ToItsEnd refl) f.due (f.goes.same.line ∙ line) passes told_there
 
-    module _ (q : Past) (f : SoFar q client h.asks h.failed start now)
-        (made : StepMade (ToAnswer client) f.there client (failed_in number client now later step m) now later step)
-      where
-        abbrev acts_then : List Act
-        acts_then = map (entry_of f.there.line made.now client) made.kinds
+    module _ (q : Past) (f : SoFar q client h.asks start now)
+        (made : StepMade (ToAnswer client) f.there client now later step) where
+      abbrev acts_then : List Act
+      acts_then = map (entry_of f.there.line made.now client) made.kinds
 
-        goes_more : Goes q (h.asks + 1) start.journal later.journal (f.acts ++ acts_then) made.end
-        goes_more = goes_then q f.there made.end h.asks 1 start.journal now.journal later.journal f.acts acts_then
-            f.goes made.goes
-
-        failures_more : AreFailures (f.acts ++ acts_then) failed_then
-        failures_more = failures_both f.acts acts_then h.failed (failed_in number client now later step m) f.failures
-            made.failures
+      goes_more : Goes q (h.asks + 1) start.journal later.journal (f.acts ++ acts_then) made.end
+      goes_more = goes_then q f.there made.end h.asks 1 start.journal now.journal later.journal f.acts acts_then
+          f.goes made.goes
 
   leads_more_steps : (m : Stepped number client now later More)
-      → LeadsSoFar client number (h.asks + 1) (failed_then More m) start later
+      → LeadsSoFar client number (h.asks + 1) start later
   leads_more_steps m final n q due line_at line count clock passes =
       let all = Passes-trans now.clock.answers later.clock.answers final 1 n m.moment.answered.passes passes in
       let f = h.leads final (1 + n) q due line_at line count clock all in
@@ -158,7 +150,6 @@ module _ (client number : ℕ) (start now later : LineState) (h : Reached client
         acts = f.acts ++ acts_then More m q f made;
         there = made.end;
         goes = goes_more More m q f made;
-        failures = failures_more More m q f made;
         in_line = made.in_line;
         due = made.on.after.due_is;
       }
@@ -178,8 +169,7 @@ module _ (client number : ℕ) (start now later : LineState) (h : Reached client
   -- its last step
   reached_done : (reply : Reply) (m : Stepped number client now later (Done reply))
       → FromLine (RunsToEnd client) number start later
-      (λ q. Finish q (h.asks + 1) (failed_then (Done reply) m) start later
-      (printed_line later.schedule.setting reply))
+      (λ q. Finish q (h.asks + 1) start later (printed_line later.schedule.setting reply))
   reached_done reply m q due line_at line count clock =
       let passes = m.moment.answered.passes in
       let f = h.leads later.clock.answers 1 q due line_at line count clock passes in
@@ -188,7 +178,6 @@ module _ (client number : ℕ) (start now later : LineState) (h : Reached client
         acts = f.acts ++ acts_then (Done reply) m q f made;
         end = made.end;
         goes = goes_more (Done reply) m q f made;
-        failures = failures_more (Done reply) m q f made;
         in_line = made.in_line;
         over = is_over_at made.end NoMore made.on.after.due_is tt;
         said = made.on.after.said_is ∙ ap (λ (setting : Setting). printed_line setting reply) made.in_line.setting;
@@ -206,14 +195,13 @@ module _ (client number : ℕ) (start now later : LineState) (h : Reached client
 
   break_there : (c : ClientValue) → slice_get now.schedule.clients client ≡ Some c
       → Passes now.clock.answers later.clock.answers 0 → LeavesRest now later
-      → FromLine (RunsToEnd client) number start later (λ q. Break q h.asks h.failed start later)
+      → FromLine (RunsToEnd client) number start later (λ q. Break q h.asks start later)
   break_there c found none left q due line_at line count clock =
       let f = h.leads later.clock.answers 0 q due line_at line count clock none in
       record {
         acts = f.acts;
         end = f.there;
         goes = subst (λ more. Goes q h.asks start.journal more f.acts f.there) (sym left.journal) f.goes;
-        failures = f.failures;
         in_line = in_line-left f.there now later left f.in_line;
         stops = may_be_cut_at f.there (ToAnswer client) f.due
             (line_goes_on f.there now.schedule now.devices client c f.in_line found);
@@ -223,11 +211,11 @@ module _ (client number : ℕ) (start now later : LineState) (h : Reached client
       → later.clock.answers ≡ now.clock.answers → LeavesRest now later
       → Breaks (RunsToEnd client) number start later
   breaks_there c found answers left =
-      let still = uses_nothing now later answers left.devices left.schedule in
+      let still = uses_nothing now later answers left.devices left.journal left.schedule in
       record {
         asks = h.asks;
         failed = h.failed;
-        uses = uses_still start now later h.asks h.failed h.uses still;
+        uses = uses_still start now later h.asks h.failed h.uses still left.journal;
         goes = break_there c found still.passes left;
       }
 

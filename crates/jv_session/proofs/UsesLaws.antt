@@ -1,28 +1,18 @@
 -- What a line uses: how often it asks the clock, and how often its entries say that a device failed.
-use Rattle.std.proofs.Common.{◌≡◌, ℕ, zero, suc, ◌+◌, ◌≤◌, cond, Bool, true, false, List, [], ◌∷◌, ◌++◌, map, Option, Some, refl, sym, ap, subst, ◌∙◌, arith, add-zero, add-suc, zero-add}
-use Rattle.std.specs.Prelude.{◌&&◌, ◌||◌, not, nat_le, nat_lt, is_some, IfSome}
+use Rattle.std.proofs.Common.{◌≡◌, ℕ, zero, suc, ◌+◌, ◌≤◌, cond, Bool, true, false, List, [], ◌∷◌, ◌++◌, Option, refl, sym, ap, subst, ◌∙◌, arith, add-zero, add-suc, zero-add}
+use Rattle.std.specs.Prelude.{IfSome}
+use Rattle.std.proofs.lemmas.List.{append-nil, append_assoc}
 use Rattle.std.proofs.lemmas.List.Sums.{sum_by-append}
-use Rattle.std.proofs.lemmas.Option.{same_Some}
 use Rattle.jv_model.specs.declared.act.Act.{Act}
 use Rattle.jv_model.specs.declared.act.ActKind.{ActKind}
 use Rattle.jv_model.specs.declared.act.ActKind.TheVariants.{Answered}
 use Rattle.jv_model.specs.declared.act.Told.{Told}
-use Rattle.jv_model.specs.declared.act.Told.TheVariants.{Refused as ToldRefused}
-use Rattle.jv_model.specs.declared.limits.TheConstants.{FILE_END, MAX_HANDLES}
 use Rattle.jv_model.specs.declared.fault.Device.{Device}
 use Rattle.jv_model.specs.declared.fault.Device.TheVariants.{Keeper, Depot, Shelf, Carrier}
-use Rattle.jv_model.specs.declared.fault.Fault.{Fault}
-use Rattle.jv_model.specs.declared.fault.Fault.TheVariants.{InProgress, NotConnected, BadHandle, TooManyHandles, FileTooLarge}
-use Rattle.jv_model.specs.declared.op.Op.{Op}
 use Rattle.jv_model.specs.declared.op.Step.TheVariants.{Broken}
 use Rattle.jv_model.specs.declared.row.RowKey.{RowKey}
 use Rattle.jv_model.specs.declared.setting.Setting.{Setting}
-use Rattle.jv_model.specs.client.ModelClient.{ModelClient, open_count}
-use Rattle.jv_model.specs.client.Profile.{profile}
-use Rattle.jv_model.specs.client.Submission.{first_refusal, is_mount, names_closed, submission}
-use Rattle.jv_model.specs.journal.State.{State}
-use Rattle.jv_model.specs.journal.Steps.{Start}
-use Rattle.jv_model.specs.journal.Stepping.{AllowsStep, GoesOn, AnswersAlone, AnswersAfter, entry_of, is_answer}
+use Rattle.jv_model.specs.journal.Stepping.{entry_of, is_answer}
 use Rattle.jv_outside.specs.Causes.{RoseIf, RoseTimes}
 use Rattle.jv_outside.specs.Ticks.{Passes}
 use Rattle.jv_outside.proofs.TicksLaws.{Passes-zero, Passes-trans}
@@ -32,9 +22,9 @@ use Rattle.jv_shared.specs.Lengths.{IsLength}
 use Rattle.jv_shared.specs.Shared.{Shared}
 use Rattle.jv_client.specs.declared.made.Made.{Made}
 use Rattle.jv_client.specs.declared.made.Made.TheVariants as made
-use Rattle.jv_client.specs.Makes.{HasNoFailure, TellsBad, UsesDevices, faults_of, is_failure_entry, is_failure_of, kinds_of, step_of, tells_failure}
+use Rattle.jv_client.specs.Makes.{FailsAlone, TellsBad, UsesDevices, entries_of, faults_of, is_failure_entry, is_failure_of, kinds_of, step_of, tells_failure}
 use Rattle.jv_session.specs.Stands.{ScheduleValue, IsYardOf}
-use Rattle.jv_session.specs.Lines.{LineState, LineUses, StaysOpen, AreFailures, device_failures}
+use Rattle.jv_session.specs.Lines.{AnswersSo, LineState, LineUses, StaysOpen, AreFailures, device_failures}
 use Rattle.jv_session.specs.InLine.{at_moment}
 
 -- how often a count rose
@@ -64,118 +54,6 @@ both_failures first second device = first device + second device
 -- those of one step
 abbrev pub made_failures : Made → Device → ℕ
 made_failures made device = times (tells_failure device made)
-
--- what a line uses
-
-stays_none : (v : Shared) → StaysOpen v v
-stays_none v = record { keeper_at = refl; carrier_at = refl; depot_at = refl; shelf_at = refl; setting = refl }
-
-pub stays_then : (first second third : Shared) → StaysOpen first second → StaysOpen second third → StaysOpen first third
-stays_then first second third a b = record {
-  keeper_at = b.keeper_at ∙ a.keeper_at;
-  carrier_at = b.carrier_at ∙ a.carrier_at;
-  depot_at = b.depot_at ∙ a.depot_at;
-  shelf_at = b.shelf_at ∙ a.shelf_at;
-  setting = b.setting ∙ a.setting;
-}
-
-pub uses_none : (s : LineState) → LineUses s s 0 no_failures
-uses_none s = record {
-  passes = Passes-zero s.clock.answers;
-  stays = stays_none s.devices;
-  counts = λ device. refl;
-  yard = λ h. h;
-  limits = refl;
-}
-
-pub uses_then : (start now later : LineState) (m n : ℕ) (f g : Device → ℕ) → LineUses start now m f
-    → LineUses now later n g → LineUses start later (m + n) (both_failures f g)
-uses_then start now later m n f g a b = record {
-  passes = Passes-trans start.clock.answers now.clock.answers later.clock.answers m n a.passes b.passes;
-  stays = stays_then start.devices now.devices later.devices a.stays b.stays;
-  counts = λ device. rose_times-then (f device) (g device) (faults_of device start.devices)
-      (faults_of device now.devices) (faults_of device later.devices) (a.counts device) (b.counts device);
-  yard = λ h. b.yard (a.yard h);
-  limits = b.limits ∙ a.limits;
-}
-
--- the clock was asked so often, and no device is used
-pub uses_clock : (before after : LineState) (asks : ℕ) → Passes before.clock.answers after.clock.answers asks
-    → after.devices ≡ before.devices → before.schedule.at ≤ after.schedule.at
-    → after.schedule.limits ≡ before.schedule.limits → LineUses before after asks no_failures
-uses_clock before after asks passes same later limits = record {
-  passes = passes;
-  stays = subst (StaysOpen before.devices) (sym same) (stays_none before.devices);
-  counts = λ device. ap (faults_of device) same;
-  yard = λ h. subst (λ (v : Shared). IsYardOf after.schedule v.yard) (sym same)
-      (record { block = h.block; last = (let last = h.last in omega (arith, last, later)) });
-  limits = limits;
-}
-
--- nor was the clock
-pub uses_nothing : (before after : LineState) → after.clock.answers ≡ before.clock.answers
-    → after.devices ≡ before.devices → after.schedule ≡ before.schedule → LineUses before after 0 no_failures
-uses_nothing before after answers same schedule =
-    uses_clock before after 0 (subst (λ (a : Option (ℕ → ℕ)). Passes before.clock.answers a 0) (sym answers)
-    (Passes-zero before.clock.answers)) same
-    (let at : after.schedule.at ≡ before.schedule.at = ap (λ (s : ScheduleValue). s.at) schedule in omega (arith, at))
-    (ap (λ (s : ScheduleValue). s.limits) schedule)
-
--- nothing more was used
-pub uses_still : (start now later : LineState) (m : ℕ) (f : Device → ℕ) → LineUses start now m f
-    → LineUses now later 0 no_failures → LineUses start later m f
-uses_still start now later m f a b = record {
-  passes = subst (Passes start.clock.answers later.clock.answers) (add-zero m)
-      (Passes-trans start.clock.answers now.clock.answers later.clock.answers m 0 a.passes b.passes);
-  stays = stays_then start.devices now.devices later.devices a.stays b.stays;
-  counts = λ device. subst (RoseTimes (f device) (faults_of device start.devices)) (sym (b.counts device))
-      (a.counts device);
-  yard = λ h. b.yard (a.yard h);
-  limits = b.limits ∙ a.limits;
-}
-
--- a device's count is the same once the yard knows of another moment
-faults_at : (now : ℕ) (v : Shared) (device : Device) → faults_of device (at_moment now v) ≡ faults_of device v
-faults_at now v Keeper = refl
-faults_at now v Depot = refl
-faults_at now v Shelf = refl
-faults_at now v Carrier = refl
-
--- a step
-pub uses_step : (before after : LineState) (now : ℕ) (made : Made)
-    → Passes before.clock.answers after.clock.answers 1
-    → UsesDevices made (at_moment now before.devices) after.devices → after.schedule.at ≡ now
-    → after.schedule.limits ≡ before.schedule.limits → LineUses before after 1 (made_failures made)
-uses_step before after now made passes uses at limits = record {
-  passes = passes;
-  stays = record {
-    keeper_at = uses.keeper_at;
-    carrier_at = uses.carrier_at;
-    depot_at = uses.depot_at;
-    shelf_at = uses.shelf_at;
-    setting = uses.setting;
-  };
-  counts = λ device. rose_times-if (tells_failure device made) (faults_of device before.devices)
-      (faults_of device after.devices)
-      (subst (λ n. RoseIf (tells_failure device made) n (faults_of device after.devices))
-      (faults_at now before.devices device) (uses.counts device));
-  yard = λ h. record {
-    block = subst (λ (s : Setting). IsLength s.block) (sym uses.setting) h.block;
-    last = (let last = uses.last in omega (arith, last, at));
-  };
-  limits = limits;
-}
-
--- a step that stopped at a row: it is Bad
-pub stopped_bad : (made : Made) (before after : Shared) (key : RowKey) (bytes : List ℕ)
-    → step_of made ≡ Broken key bytes → UsesDevices made before after
-    → IfSome after.keeper.rows (λ known. IsBad (typed known) key bytes)
-stopped_bad (made.Request kind) before after key bytes is h = absurd (cc is)
-stopped_bad (made.Answer told reply) before after key bytes is h = absurd (cc is)
-stopped_bad (made.Both kind told reply) before after key bytes is h = absurd (cc is)
-stopped_bad (made.Broken at found) before after key bytes is h =
-    subst (λ rows. IfSome rows (λ known. IsBad (typed known) key bytes)) (sym (h.rows refl))
-    (subst (TellsBad before) is h.bad)
 
 -- what entries say of devices
 
@@ -208,52 +86,153 @@ failures_two line now client kind told device first second =
     ap (λ b. 0 + times b + times (is_failure_of device told)) first ∙ ap (λ b. 0 + 0 + times b) second
 
 -- the entries of a step say that a device failed where it did
-module _ (line now client : ℕ) (start : Start) (alone : Bool) (s : State) where
-  abbrev Allows : Made → Type 0
-  Allows made = AllowsStep start alone s client now (kinds_of made) (step_of made)
+failures_made : (line now client : ℕ) (made : Made) → FailsAlone made
+    → AreFailures (entries_of line now client (kinds_of made)) (made_failures made)
+failures_made line now client (made.Request kind) asks device =
+    failures_one line now client kind device false (no_failure kind device asks)
+failures_made line now client (made.Answer told reply) alone device =
+    failures_one line now client (Answered told) device (is_failure_of device told) refl
+failures_made line now client (made.Both kind told reply) alone device =
+    failures_two line now client kind told device (no_failure kind device alone.0) (alone.1 device)
+failures_made line now client (made.Broken key bytes) alone device = refl
 
-  pub failures_made : (made : Made) → Allows made → HasNoFailure (kinds_of made)
-      → AreFailures (map (entry_of line now client) (kinds_of made)) (made_failures made)
-  failures_made (made.Request kind) (GoesOn asked kinds step entry asks goes) none device =
-      let same : kind ≡ asked = cc kinds in
-      failures_one line now client kind device false (no_failure kind device (ap is_answer same ∙ asks))
-  failures_made (made.Request kind) (AnswersAlone told reply kinds step entry says) none device = absurd (cc step)
-  failures_made (made.Request kind) (AnswersAfter asked told reply kinds step entry asks answers says) none device =
-      absurd (cc step)
-  failures_made (made.Answer told reply) allows none device =
-      failures_one line now client (Answered told) device (is_failure_of device told) refl
-  failures_made (made.Both kind told reply) (GoesOn asked kinds step entry asks goes) none device = absurd (cc step)
-  failures_made (made.Both kind told reply) (AnswersAlone single said kinds step entry says) none device =
-      absurd (cc kinds)
-  failures_made (made.Both kind told reply) (AnswersAfter asked last said kinds step entry asks answers says) none
-      device =
-      let same : kind ≡ asked = cc kinds in
-      failures_two line now client kind told device (no_failure kind device (ap is_answer same ∙ asks)) (none device)
-  failures_made (made.Broken key bytes) allows none device = refl
+-- entries that were appended
 
--- no refusal of a submission says so
+pub answers_none : (journal : List Act) → AnswersSo journal journal no_failures
+answers_none journal = record { acts = []; grows = sym (append-nil journal); failures = λ device. refl }
 
-abbrev IsOther : Fault → Type 0
-IsOther fault = (device : Device) → is_failure_of device (ToldRefused fault) ≡ false
+answers_then : (first second third : List Act) (f g : Device → ℕ) → AnswersSo first second f → AnswersSo second third g
+    → AnswersSo first third (both_failures f g)
+answers_then first second third f g a b = record {
+  acts = a.acts ++ b.acts;
+  grows = b.grows ∙ ap (λ journal. journal ++ b.acts) a.grows ∙ append_assoc first a.acts b.acts;
+  failures = failures_both a.acts b.acts f g a.failures b.failures;
+}
 
-refused_by : (busy mounted closed many large : Bool) (fault : Fault) → first_refusal (
-    (busy, InProgress)
-    ∷ (mounted, NotConnected)
-    ∷ (closed, BadHandle)
-    ∷ (many, TooManyHandles)
-    ∷ (large, FileTooLarge)
-    ∷ []) ≡ Some fault → IsOther fault
-refused_by true mounted closed many large fault is = subst IsOther (same_Some InProgress fault is) (λ device. refl)
-refused_by false true closed many large fault is = subst IsOther (same_Some NotConnected fault is) (λ device. refl)
-refused_by false false true many large fault is = subst IsOther (same_Some BadHandle fault is) (λ device. refl)
-refused_by false false false true large fault is = subst IsOther (same_Some TooManyHandles fault is) (λ device. refl)
-refused_by false false false false true fault is = subst IsOther (same_Some FileTooLarge fault is) (λ device. refl)
-refused_by false false false false false fault is = absurd (cc is)
+-- nothing was appended since
+answers_still : (first second third : List Act) (f : Device → ℕ) → AnswersSo first second f → third ≡ second
+    → AnswersSo first third f
+answers_still first second third f a same = record { acts = a.acts; grows = same ∙ a.grows; failures = a.failures }
 
-pub refused_other : (m : ModelClient) (o : Op) (fault : Fault) → submission m o ≡ Some fault
-    → (device : Device) → is_failure_entry device (Answered (ToldRefused fault)) ≡ false
-refused_other m o fault is =
-    let row = profile o in
-    refused_by (is_some m.doing || (is_mount row.does && is_some m.session))
-    (row.needs_mount && not (is_some m.session)) (names_closed m.handles row.handles)
-    (row.opens && nat_le MAX_HANDLES (open_count m.handles)) (nat_lt FILE_END row.end) fault is
+-- what a line uses
+
+stays_none : (v : Shared) → StaysOpen v v
+stays_none v = record { keeper_at = refl; carrier_at = refl; depot_at = refl; shelf_at = refl; setting = refl }
+
+pub stays_then : (first second third : Shared) → StaysOpen first second → StaysOpen second third → StaysOpen first third
+stays_then first second third a b = record {
+  keeper_at = b.keeper_at ∙ a.keeper_at;
+  carrier_at = b.carrier_at ∙ a.carrier_at;
+  depot_at = b.depot_at ∙ a.depot_at;
+  shelf_at = b.shelf_at ∙ a.shelf_at;
+  setting = b.setting ∙ a.setting;
+}
+
+pub uses_none : (s : LineState) → LineUses s s 0 no_failures
+uses_none s = record {
+  passes = Passes-zero s.clock.answers;
+  stays = stays_none s.devices;
+  counts = λ device. refl;
+  answers = answers_none s.journal;
+  yard = λ h. h;
+  limits = refl;
+}
+
+pub uses_then : (start now later : LineState) (m n : ℕ) (f g : Device → ℕ) → LineUses start now m f
+    → LineUses now later n g → LineUses start later (m + n) (both_failures f g)
+uses_then start now later m n f g a b = record {
+  passes = Passes-trans start.clock.answers now.clock.answers later.clock.answers m n a.passes b.passes;
+  stays = stays_then start.devices now.devices later.devices a.stays b.stays;
+  counts = λ device. rose_times-then (f device) (g device) (faults_of device start.devices)
+      (faults_of device now.devices) (faults_of device later.devices) (a.counts device) (b.counts device);
+  answers = answers_then start.journal now.journal later.journal f g a.answers b.answers;
+  yard = λ h. b.yard (a.yard h);
+  limits = b.limits ∙ a.limits;
+}
+
+-- the clock was asked so often, and no device is used, nor is one said to have failed
+pub uses_clock : (before after : LineState) (asks : ℕ) → Passes before.clock.answers after.clock.answers asks
+    → after.devices ≡ before.devices → AnswersSo before.journal after.journal no_failures → before.schedule.at ≤ after.schedule.at
+    → after.schedule.limits ≡ before.schedule.limits → LineUses before after asks no_failures
+uses_clock before after asks passes same answers later limits = record {
+  passes = passes;
+  stays = subst (StaysOpen before.devices) (sym same) (stays_none before.devices);
+  counts = λ device. ap (faults_of device) same;
+  answers = answers;
+  yard = λ h. subst (λ (v : Shared). IsYardOf after.schedule v.yard) (sym same)
+      (record { block = h.block; last = (let last = h.last in omega (arith, last, later)) });
+  limits = limits;
+}
+
+-- nor was the clock
+pub uses_nothing : (before after : LineState) → after.clock.answers ≡ before.clock.answers
+    → after.devices ≡ before.devices → after.journal ≡ before.journal → after.schedule ≡ before.schedule → LineUses before after 0 no_failures
+uses_nothing before after answers same journal schedule =
+    uses_clock before after 0 (subst (λ (a : Option (ℕ → ℕ)). Passes before.clock.answers a 0) (sym answers)
+    (Passes-zero before.clock.answers)) same
+    (answers_still before.journal before.journal after.journal no_failures (answers_none before.journal) journal)
+    (let at : after.schedule.at ≡ before.schedule.at = ap (λ (s : ScheduleValue). s.at) schedule in omega (arith, at))
+    (ap (λ (s : ScheduleValue). s.limits) schedule)
+
+-- nothing more was used
+pub uses_still : (start now later : LineState) (m : ℕ) (f : Device → ℕ) → LineUses start now m f
+    → LineUses now later 0 no_failures → later.journal ≡ now.journal → LineUses start later m f
+uses_still start now later m f a b same = record {
+  passes = subst (Passes start.clock.answers later.clock.answers) (add-zero m)
+      (Passes-trans start.clock.answers now.clock.answers later.clock.answers m 0 a.passes b.passes);
+  stays = stays_then start.devices now.devices later.devices a.stays b.stays;
+  counts = λ device. subst (RoseTimes (f device) (faults_of device start.devices)) (sym (b.counts device))
+      (a.counts device);
+  answers = answers_still start.journal now.journal later.journal f a.answers same;
+  yard = λ h. b.yard (a.yard h);
+  limits = b.limits ∙ a.limits;
+}
+
+-- a device's count is the same once the yard knows of another moment
+faults_at : (now : ℕ) (v : Shared) (device : Device) → faults_of device (at_moment now v) ≡ faults_of device v
+faults_at now v Keeper = refl
+faults_at now v Depot = refl
+faults_at now v Shelf = refl
+faults_at now v Carrier = refl
+
+-- a step
+pub uses_step : (before after : LineState) (line now client : ℕ) (made : Made)
+    → after.journal ≡ before.journal ++ entries_of line now client (kinds_of made) → FailsAlone made
+    → Passes before.clock.answers after.clock.answers 1
+    → UsesDevices made (at_moment now before.devices) after.devices → after.schedule.at ≡ now
+    → after.schedule.limits ≡ before.schedule.limits → LineUses before after 1 (made_failures made)
+uses_step before after line now client made appends alone passes uses at limits = record {
+  passes = passes;
+  stays = record {
+    keeper_at = uses.keeper_at;
+    carrier_at = uses.carrier_at;
+    depot_at = uses.depot_at;
+    shelf_at = uses.shelf_at;
+    setting = uses.setting;
+  };
+  counts = λ device. rose_times-if (tells_failure device made) (faults_of device before.devices)
+      (faults_of device after.devices)
+      (subst (λ n. RoseIf (tells_failure device made) n (faults_of device after.devices))
+      (faults_at now before.devices device) (uses.counts device));
+  answers = record {
+    acts = entries_of line now client (kinds_of made);
+    grows = appends;
+    failures = failures_made line now client made alone;
+  };
+  yard = λ h. record {
+    block = subst (λ (s : Setting). IsLength s.block) (sym uses.setting) h.block;
+    last = (let last = uses.last in omega (arith, last, at));
+  };
+  limits = limits;
+}
+
+-- a step that stopped at a row: it is Bad
+pub stopped_bad : (made : Made) (before after : Shared) (key : RowKey) (bytes : List ℕ)
+    → step_of made ≡ Broken key bytes → UsesDevices made before after
+    → IfSome after.keeper.rows (λ known. IsBad (typed known) key bytes)
+stopped_bad (made.Request kind) before after key bytes is h = absurd (cc is)
+stopped_bad (made.Answer told reply) before after key bytes is h = absurd (cc is)
+stopped_bad (made.Both kind told reply) before after key bytes is h = absurd (cc is)
+stopped_bad (made.Broken at found) before after key bytes is h =
+    subst (λ rows. IfSome rows (λ known. IsBad (typed known) key bytes)) (sym (h.rows refl))
+    (subst (TellsBad before) is h.bad)

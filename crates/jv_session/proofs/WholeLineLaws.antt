@@ -291,7 +291,7 @@ tick_enters number s by = record {
 -- a line that was entered, at its end
 
 module _ (p q : Past) (more : List Line) (number : ℕ) (due : Due) (said : List ℕ) (state : State) (asks : ℕ)
-    (failed : Device → ℕ) (before after : LineState) where
+    (before after : LineState) where
   appends : (acts : List Act) (r : Past) → p.line + 1 ≡ number → begun_to number p ≡ q
       → IsBegun p more due said state q
       → Goes q asks before.journal after.journal acts r
@@ -311,13 +311,11 @@ module _ (p q : Past) (more : List Line) (number : ℕ) (due : Due) (said : List
       }
 
   ran : (text : List ℕ) → p.line + 1 ≡ number → begun_to number p ≡ q → IsBegun p more due said state q
-      → Finish q asks failed before after text
-      → Ran p more number asks failed before after text
+      → Finish q asks before after text → Ran p more number asks before after text
   ran text next begins b f = record {
     acts = f.acts;
     end = f.end;
     appends = appends f.acts f.end next begins b f.goes;
-    failures = f.failures;
     stands = record {
       complete = f.in_line.complete;
       over = f.over;
@@ -334,12 +332,11 @@ module _ (p q : Past) (more : List Line) (number : ℕ) (due : Due) (said : List
   }
 
   cut : p.line + 1 ≡ number → begun_to number p ≡ q → IsBegun p more due said state q
-      → Break q asks failed before after → Cut p more number asks failed before after
+      → Break q asks before after → Cut p more number asks before after
   cut next begins b f = record {
     acts = f.acts;
     end = f.end;
     appends = appends f.acts f.end next begins b f.goes;
-    failures = f.failures;
     stands = f.in_line;
     stops = f.stops;
   }
@@ -371,28 +368,27 @@ module _ (line : Line) (number : ℕ) (before after : LineState) (s1 : ScheduleV
     passes = u.passes;
     stays = u.stays;
     counts = u.counts;
+    answers = u.answers;
     yard = λ h. u.yard (record { block = h.block; last = subst (λ n. before.devices.yard.last ≤ n) (sym i.at) h.last });
     limits = u.limits ∙ i.limits;
   }
 
-  finish_entered : (q : Past) (asks : ℕ) (failed : Device → ℕ) (text : List ℕ) → Finish q asks failed entered after text
-      → Finish q asks failed before after text
-  finish_entered q asks failed text f = record {
+  finish_entered : (q : Past) (asks : ℕ) (text : List ℕ) → Finish q asks entered after text
+      → Finish q asks before after text
+  finish_entered q asks text f = record {
     acts = f.acts;
     end = f.end;
     goes = f.goes;
-    failures = f.failures;
     in_line = f.in_line;
     over = f.over;
     said = f.said;
   }
 
-  break_entered : (q : Past) (asks : ℕ) (failed : Device → ℕ) → Break q asks failed entered after → Break q asks failed before after
-  break_entered q asks failed f = record {
+  break_entered : (q : Past) (asks : ℕ) → Break q asks entered after → Break q asks before after
+  break_entered q asks f = record {
     acts = f.acts;
     end = f.end;
     goes = f.goes;
-    failures = f.failures;
     in_line = f.in_line;
     stops = f.stops;
   }
@@ -406,9 +402,9 @@ module _ (line : Line) (number : ℕ) (before after : LineState) (s1 : ScheduleV
     runs = λ p more st next rest count clock.
         let e = i.enters before.devices p more st next rest in
         let q = begun_to number p in
-        ran p q more number e.due e.said e.state h.asks h.failed before after text next refl e.begun
-        (finish_entered q h.asks h.failed text (from_begun (λ q. Finish q h.asks h.failed entered after text) p more
-        h.goes e next count clock));
+        ran p q more number e.due e.said e.state h.asks before after text next refl e.begun
+        (finish_entered q h.asks text (from_begun (λ q. Finish q h.asks entered after text) p more h.goes e next count
+        clock));
   }
 
   cuts : Breaks Where number entered after → CutsLine line number before after
@@ -419,9 +415,8 @@ module _ (line : Line) (number : ℕ) (before after : LineState) (s1 : ScheduleV
     stops = λ p more st next rest count clock.
         let e = i.enters before.devices p more st next rest in
         let q = begun_to number p in
-        cut p q more number e.due e.said e.state h.asks h.failed before after next refl e.begun
-        (break_entered q h.asks h.failed (from_begun (λ q. Break q h.asks h.failed entered after) p more h.goes e next
-        count clock));
+        cut p q more number e.due e.said e.state h.asks before after next refl e.begun
+        (break_entered q h.asks (from_begun (λ q. Break q h.asks entered after) p more h.goes e next count clock));
   }
 
   finds_bad : (key : RowKey) (bytes : List ℕ) → FindsBad Where number entered after key bytes
@@ -472,7 +467,6 @@ module _ (text : List ℕ) (number : ℕ) (clock : Ticks) (v : Shared) (journal 
           acts = [];
           end = q;
           goes = goes_none q journal count;
-          failures = λ device. refl;
           in_line = i;
           over = alone.over;
           said = alone.said;
@@ -490,7 +484,6 @@ module _ (text : List ℕ) (number : ℕ) (clock : Ticks) (v : Shared) (journal 
             acts = [];
             end = q;
             goes = goes_none q journal count;
-            failures = λ device. refl;
             in_line = i;
             stops = or_left
                 (is_over q) (may_stop q) alone.over;

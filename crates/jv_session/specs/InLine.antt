@@ -3,6 +3,7 @@ use Rattle.std.specs.Prelude.{◌≡◌, ℕ, ◌+◌, ◌≤◌, min, max, true
 use Rattle.jv_model.specs.declared.limits.TheConstants.{LAST_MOMENT}
 use Rattle.jv_model.specs.declared.act.Act.{Act}
 use Rattle.jv_model.specs.declared.act.ActKind.{ActKind}
+use Rattle.jv_model.specs.declared.act.Told.TheVariants.{Refused as ToldRefused}
 use Rattle.jv_model.specs.declared.fault.Device.{Device}
 use Rattle.jv_model.specs.declared.fault.Fault.{Fault}
 use Rattle.jv_model.specs.declared.op.Op.{Op}
@@ -22,13 +23,13 @@ use Rattle.jv_rows.specs.Transactions.{IsBad}
 use Rattle.jv_volume.specs.TypedRows.{typed}
 use Rattle.jv_shared.specs.Shared.{Known, Shared}
 use Rattle.jv_client.specs.Held.{IsClient, in_flight}
-use Rattle.jv_client.specs.Makes.{Steps}
+use Rattle.jv_client.specs.Makes.{IsCalm, Steps}
 use Rattle.jv_session.specs.declared.line_end.LineEnd.{LineEnd}
 use Rattle.jv_session.specs.declared.line_end.LineEnd.TheVariants.{Said, Quiet, ClockFailed, Broken, Memory}
 use Rattle.jv_session.specs.declared.line_end.Stopped.{Stopped}
 use Rattle.jv_session.specs.declared.line_end.Stopped.TheVariants as stopped
 use Rattle.jv_session.specs.Stands.{ScheduleValue, InLine, ClockFor}
-use Rattle.jv_session.specs.Lines.{LineState, LineUses, AreFailures}
+use Rattle.jv_session.specs.Lines.{LineState, LineUses}
 
 -- entries of the line were appended; they are allowed, and lead there
 pub record Goes (q : Past) (asks : ℕ) (before after acts : List Act) (r : Past) : Type 0 where
@@ -39,21 +40,19 @@ pub record Goes (q : Past) (asks : ℕ) (before after acts : List Act) (r : Past
   pub asked : r.asked ≡ q.asked + asks
 
 -- the line is done and prints this
-pub record Finish (q : Past) (asks : ℕ) (failed : Device → ℕ) (before after : LineState) (text : List ℕ) : Type 0 where
+pub record Finish (q : Past) (asks : ℕ) (before after : LineState) (text : List ℕ) : Type 0 where
   pub acts : List Act
   pub end : Past
   pub goes : Goes q asks before.journal after.journal acts end
-  pub failures : AreFailures acts failed
   pub in_line : InLine end after.schedule after.devices
   pub over : is_over end ≡ true
   pub said : end.said ≡ text
 
 -- the run stopped on the line, and the schedule stands where it is then
-pub record Break (q : Past) (asks : ℕ) (failed : Device → ℕ) (before after : LineState) : Type 0 where
+pub record Break (q : Past) (asks : ℕ) (before after : LineState) : Type 0 where
   pub acts : List Act
   pub end : Past
   pub goes : Goes q asks before.journal after.journal acts end
-  pub failures : AreFailures acts failed
   pub in_line : InLine end after.schedule after.devices
   pub stops : (is_over end || may_stop end) ≡ true
 
@@ -71,13 +70,13 @@ pub record Finishes (Where : Past → Type 0) (number : ℕ) (before after : Lin
   pub failed : Device → ℕ
   pub uses : LineUses before after asks failed
   pub calm : after.clock.faults ≡ before.clock.faults
-  pub goes : FromLine Where number before after (λ q. Finish q asks failed before after text)
+  pub goes : FromLine Where number before after (λ q. Finish q asks before after text)
 
 pub record Breaks (Where : Past → Type 0) (number : ℕ) (before after : LineState) : Type 0 where
   pub asks : ℕ
   pub failed : Device → ℕ
   pub uses : LineUses before after asks failed
-  pub goes : FromLine Where number before after (λ q. Break q asks failed before after)
+  pub goes : FromLine Where number before after (λ q. Break q asks before after)
 
 -- the line stopped at a row that is Bad, as none is where a past is stood for
 pub record FindsBad (Where : Past → Type 0) (number : ℕ) (before after : LineState) (key : RowKey) (bytes : List ℕ) : Type 0 where
@@ -182,6 +181,7 @@ pub record HasRefused (s s' : ScheduleValue) (client : ℕ) (o : Op) (fault : Fa
   pub old : ClientValue
   pub found : slice_get s.clients client ≡ Some old
   pub refused : (g : Known) (v : Shared) (m : ModelClient) (count : ℕ) → IsClient g v m count old → submission m o ≡ Some fault
+  pub calm : IsCalm (ToldRefused fault)
   pub same : s' ≡ s
 
 abbrev pub Submits : ScheduleValue → ScheduleValue → ℕ → Op → Result (Unit {0}) Fault → Type 0

@@ -35,6 +35,12 @@ device_failures device = count_by (λ act. is_failure_entry device act.kind)
 abbrev pub AreFailures : List Act → (Device → ℕ) → Type 0
 AreFailures acts failed = (device : Device) → device_failures device acts ≡ failed device
 
+-- what was appended to a journal answers so often that a device failed
+pub record AnswersSo (before after : List Act) (failed : Device → ℕ) : Type 0 where
+  pub acts : List Act
+  pub grows : after ≡ before ++ acts
+  pub failures : AreFailures acts failed
+
 -- the entries of one line, which has this number, were appended and are allowed, and the clock was asked so often
 pub record Appends (p : Past) (more : List Line) (number asks : ℕ) (before after : List Act) (acts : List Act) (q : Past) : Type 0 where
   pub grows : after ≡ before ++ acts
@@ -48,21 +54,18 @@ pub record Appends (p : Past) (more : List Line) (number asks : ℕ) (before aft
   pub printed : q.printed ≡ p.printed ++ p.said
 
 -- the line is done and prints this
-pub record Ran (p : Past) (more : List Line) (number asks : ℕ) (failed : Device → ℕ) (before after : LineState) (text : List ℕ) : Type 0
-  where
-    pub acts : List Act
-    pub end : Past
-    pub appends : Appends p more number asks before.journal after.journal acts end
-    pub failures : AreFailures acts failed
-    pub stands : Stands end after.schedule after.devices
-    pub said : end.said ≡ text
-
--- the run stopped on the line, before a step or after its last one, and the schedule stands where it is then
-pub record Cut (p : Past) (more : List Line) (number asks : ℕ) (failed : Device → ℕ) (before after : LineState) : Type 0 where
+pub record Ran (p : Past) (more : List Line) (number asks : ℕ) (before after : LineState) (text : List ℕ) : Type 0 where
   pub acts : List Act
   pub end : Past
   pub appends : Appends p more number asks before.journal after.journal acts end
-  pub failures : AreFailures acts failed
+  pub stands : Stands end after.schedule after.devices
+  pub said : end.said ≡ text
+
+-- the run stopped on the line, before a step or after its last one, and the schedule stands where it is then
+pub record Cut (p : Past) (more : List Line) (number asks : ℕ) (before after : LineState) : Type 0 where
+  pub acts : List Act
+  pub end : Past
+  pub appends : Appends p more number asks before.journal after.journal acts end
   pub stands : InLine end after.schedule after.devices
   pub stops : (is_over end || may_stop end) ≡ true
 
@@ -79,12 +82,13 @@ pub record StaysOpen (before after : Shared) : Type 0 where
   pub shelf_at : after.yard.shelf.opened ≡ before.yard.shelf.opened
   pub setting : after.yard.setting ≡ before.yard.setting
 
--- What a line does to clock and devices, whatever these hold: how often the clock was asked, and how often each device failed. The
--- schedule has the same limits, and may go on with the yard.
+-- What a line does to clock and devices, whatever these hold: how often the clock was asked, and how often each device failed, which
+-- as many of its entries answer. The schedule has the same limits, and may go on with the yard.
 pub record LineUses (before after : LineState) (asks : ℕ) (failed : Device → ℕ) : Type 0 where
   pub passes : Passes before.clock.answers after.clock.answers asks
   pub stays : StaysOpen before.devices after.devices
   pub counts : (device : Device) → RoseTimes (failed device) (faults_of device before.devices) (faults_of device after.devices)
+  pub answers : AnswersSo before.journal after.journal failed
   pub yard : IsYardOf before.schedule before.devices.yard → IsYardOf after.schedule after.devices.yard
   pub limits : after.schedule.limits ≡ before.schedule.limits
 
@@ -94,14 +98,14 @@ pub record SaysLine (line : Line) (number : ℕ) (before after : LineState) (tex
   pub failed : Device → ℕ
   pub uses : LineUses before after asks failed
   pub calm : after.clock.faults ≡ before.clock.faults
-  pub runs : FromThere line number before after (λ p more. Ran p more number asks failed before after text)
+  pub runs : FromThere line number before after (λ p more. Ran p more number asks before after text)
 
 -- the line was cut off
 pub record CutsLine (line : Line) (number : ℕ) (before after : LineState) : Type 0 where
   pub asks : ℕ
   pub failed : Device → ℕ
   pub uses : LineUses before after asks failed
-  pub stops : FromThere line number before after (λ p more. Cut p more number asks failed before after)
+  pub stops : FromThere line number before after (λ p more. Cut p more number asks before after)
 
 -- The line stopped at a row that is Bad, which none is where the schedule stands for a past.
 pub record BreaksAt (line : Line) (number : ℕ) (before after : LineState) (key : RowKey) (bytes : List ℕ) : Type 0 where

@@ -2,8 +2,10 @@
 ghost use Rattle.std.specs.Prelude.{◌≡◌, ◌≢◌, ◌<◌, ◌≤◌, IsTrue, OnOk, length};
 ghost use Rattle.jv_model.specs.declared.op.Line.TheVariants as line;
 ghost use Rattle.jv_model.specs.declared.act.ActKind.TheVariants.{Crashed};
+ghost use Rattle.jv_model.specs.declared.act.Told.TheVariants.{Refused};
 ghost use Rattle.jv_shared.specs.Shared.{Shared};
 ghost use Rattle.jv_client.specs.Built.{is_built_op};
+ghost use Rattle.jv_client.specs.Makes.{IsCalm};
 ghost use Rattle.jv_client.specs.Shared.{shared};
 ghost use Rattle.jv_session.specs.Stands.{IsYardOf, client_is_busy};
 ghost use Rattle.jv_session.specs.Lines.{LineRuns, line_state};
@@ -102,7 +104,7 @@ impl Schedule {
         }
     }
 
-    /// Answers an operation that is refused at its submission.
+    /// Answers an operation that is refused at its submission, and never since a device failed.
     fn refuse<C: Clock>(
         &mut self,
         client: ClientId,
@@ -111,7 +113,7 @@ impl Schedule {
         clock: &mut C,
         journal: &mut Journal,
     ) -> LineEnd
-        ensures goes { (devices : Shared) → LineGoes (IsRefused client fault) number
+        ensures goes { (devices : Shared) → IsCalm (Refused fault) → LineGoes (IsRefused client fault) number
             (line_state (C.seen clock.old) devices journal.old.acts self.old)
             (line_state (C.seen clock.new) devices journal.new.acts self.new) result }
         ensures some { result ≢ LineEnd.Quiet }

@@ -76,7 +76,7 @@ module _ (s : State) (client now : ℕ) (d : Doing) (busy : (s.clients client).d
   may-by_gift start alone c (NewHandle handle inode) h = h
   may-by_gift start alone c Nothing h = h
 
-asks-by_gift : (gift : Gift) → is_answer (entry_of_gift gift) ≡ false
+pub asks-by_gift : (gift : Gift) → is_answer (entry_of_gift gift) ≡ false
 asks-by_gift (NewSession sid) = refl
 asks-by_gift (NewHandle handle inode) = refl
 asks-by_gift Nothing = refl

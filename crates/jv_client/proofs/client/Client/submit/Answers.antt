@@ -9,13 +9,20 @@ use Rattle.jv_client.specs.ClientValue.{ClientValue}
 use Rattle.jv_client.specs.Held.{IsClient, begun, flush_here}
 use Rattle.jv_client.specs.UnderWay.{IsReady}
 use Rattle.jv_client.proofs.ReadyLaws.{begun-ready}
-use Rattle.jv_client.proofs.SubmissionLaws.{refusal-by, begun-stands}
+use Rattle.jv_client.proofs.SubmissionLaws.{refusal-by, refusal-calm, begun-stands}
 use Rattle.jv_client.proofs.client.Client.submit.Goals as goal
 
 pub returns-in-Some-clause-refusal : goal.returns-in-Some-clause-refusal
 returns-in-Some-clause-refusal c g all m count h = sym c.in-Some.is
     ∙ refusal-by g all m count c.args.self.now c.args.op c.profile-row.result c.refusal.result h c.profile-row.ensures
     c.refusal.ensures
+
+pub returns-in-Some-clause-calm : goal.returns-in-Some-clause-calm
+returns-in-Some-clause-calm c =
+    let value : ClientValue = c.args.self.now in
+    let row = c.profile-row.result in
+    refusal-calm (is_some value.doing) (is_some value.session) (names_closed value.handles row.handles)
+    (open_count value.handles) row c.in-Some.fault (sym c.refusal.ensures ∙ c.in-Some.is)
 
 pub returns-clause-refusal : goal.returns-clause-refusal
 returns-clause-refusal c g all m count h = sym c.in_default.is

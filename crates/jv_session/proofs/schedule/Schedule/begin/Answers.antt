@@ -26,4 +26,4 @@ returns-in-Err-clause-runs g c v =
     (line_state (g.C.Clock.seen c.refuse.new.clock) v c.refuse.new.journal.acts c.refuse.new.self) s1
     (IsRefused c.args.client c.in-Err.fault)
     (begin_refused_enters c.args.number c.args.self.now s1 c.args.client c.args.op c.in-Err.fault c.in-Err.ensures)
-    c.refuse.result (c.refuse.ensures.goes v)
+    c.refuse.result (c.refuse.ensures.goes v c.in-Err.ensures.calm)

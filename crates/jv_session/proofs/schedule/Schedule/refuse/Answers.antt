@@ -6,7 +6,7 @@ use Rattle.jv_session.proofs.NoteLaws.{refuse_says, stops_noted, refusal_breaks}
 use Rattle.jv_session.proofs.schedule.Schedule.refuse.Goals as goal
 
 pub returns-in-Ok-clause-goes : goal.returns-in-Ok-clause-goes
-returns-in-Ok-clause-goes g c v =
+returns-in-Ok-clause-goes g c v calm =
     let clock = g.C.Clock.seen c.args.clock.now in
     let ticked = g.C.Clock.seen c.note.new.clock in
     let journal = c.args.journal.now.acts in
@@ -17,10 +17,10 @@ returns-in-Ok-clause-goes g c v =
     c.number.ensures.number
     (refuse_says v c.args.number clock ticked journal more s c.number.result c.args.fault c.note.new.self
     c.note.result c.in-Ok.field-0 c.print.result c.said.result
-    c.number.ensures.limit c.note.ensures.notes c.in-Ok.is c.print.ensures c.said.ensures)
+    c.number.ensures.limit calm c.note.ensures.notes c.in-Ok.is c.print.ensures c.said.ensures)
 
 pub returns-in-Err-clause-goes : goal.returns-in-Err-clause-goes
-returns-in-Err-clause-goes g c v =
+returns-in-Err-clause-goes g c v calm =
     let clock = g.C.Clock.seen c.args.clock.now in
     let journal = c.args.journal.now.acts in
     let s = c.args.self.now in

@@ -56,5 +56,5 @@ returns c =
           c.submit.ensures.begun c.submit.ensures.no_flight c.submit.ensures.busy same)
       | in-Err w ↦ subst (Submits s after k c.args.op) (sym w.result-is)
           (refuses_at s after k c.args.op old new c.submit.result _ found w.in-Err.is c.submit.ensures.refusal
-          c.submit.ensures.err same)
+          c.submit.ensures.calm c.submit.ensures.err same)
     ])
