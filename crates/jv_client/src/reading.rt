@@ -22,7 +22,7 @@ use crate::doing::{Doing, Progress};
 use crate::made::Made;
 use crate::step::go_on;
 use jv_cache::BlockCache;
-use jv_data::look_at;
+use jv_data::look;
 use jv_fetching::{Fetch, Need};
 use jv_handles::{View, Views, drop_view, inode_at, named, set_view};
 use jv_model::{ActKind, BlockId, Busy, Bytes, ClientId, Device, Fault, Moment, Reply};
@@ -170,7 +170,7 @@ impl Client {
         let handle = self.handle_in_use();
         let inode = inode_at(&self.handles, handle);
         let who = self.who(Moment(0));
-        let seen = match look_at(self.alloc, k, &who, inode, window) {
+        let seen = match look(self.alloc, k, &who, inode, window) {
             Ok(seen) => seen,
             Err(fault) => return self.unmade(ActKind::Quiet, fault),
         };

@@ -4,7 +4,6 @@ use Rattle.std.specs.Prelude.{◌==◌, nat_lt, max, OnOk, if◌then◌else◌}
 use Rattle.jv_model.specs.declared.fault.Fault.{Fault}
 use Rattle.jv_model.specs.declared.fault.Fault.TheVariants.{NoSpace, TimedOut}
 use Rattle.jv_model.specs.declared.fault.TxFault.{TxFault}
-use Rattle.jv_model.specs.declared.fault.TxFault.TheVariants.{Refused}
 use Rattle.jv_model.specs.declared.lifetimes.TheConstants.{UPLOAD_LIFE}
 use Rattle.jv_model.specs.declared.row.Node.{Node as NodeRow}
 use Rattle.jv_model.specs.declared.row.Row.TheVariants.{OfNode}
@@ -17,7 +16,7 @@ use Rattle.jv_model.specs.tree.Changes.{empty_content, overwritten, with_content
 use Rattle.jv_model.specs.tree.Tree.{Tree, Content, content_at, fits}
 use Rattle.jv_outside.specs.declared.batch.Change.{Change}
 use Rattle.jv_outside.specs.Store.{Store}
-use Rattle.jv_rows.proofs.TransactionLaws.{Past, past-start, past-as, past-looks, past-stops, past-ends, past-refuses, of_known}
+use Rattle.jv_rows.proofs.TransactionLaws.{Past, past-start, past-as, past-looks, past-ends, of_known}
 use Rattle.jv_volume.specs.TypedRows.{typed}
 use Rattle.jv_volume.specs.TreeOf.{content_of, tree_of}
 use Rattle.jv_volume.specs.Views.{row_in, node_in, node_row_at}
@@ -31,11 +30,6 @@ use Rattle.jv_data.specs.Resizing.{AreSized, ResizesFile}
 pub is_timely : (now started n s : ℕ) (young : Bool) → n ≡ now → s ≡ started → young ≡ nat_lt n (s + UPLOAD_LIFE) → young ≡ true
     → nat_lt now (started + UPLOAD_LIFE) ≡ true
 is_timely now started n s young now_is started_is young_is is = (λ i. nat_lt (sym now_is i) (sym started_is i + UPLOAD_LIFE)) ∙ sym young_is ∙ is
-
--- one that isn't
-pub is_late : (now started n s : ℕ) (young : Bool) → n ≡ now → s ≡ started → young ≡ nat_lt n (s + UPLOAD_LIFE) → young ≡ false
-    → nat_lt now (started + UPLOAD_LIFE) ≡ false
-is_late now started n s young now_is started_is young_is is = (λ i. nat_lt (sym now_is i) (sym started_is i + UPLOAD_LIFE)) ∙ sym young_is ∙ is
 
 -- one step after two is two steps after one
 pub binds : {A B C : Type 0} (r : Result A Fault) (f : A → Result B Fault) (g : B → Result C Fault) → (r >>= f) >>= g ≡ r >>= (λ x. f x >>= g)
@@ -80,27 +74,10 @@ module _ (sid now inode end started : ℕ) (before : Store) where
   start from patch = past-as before before before (act from patch) (act from patch) (past-start before (act from patch))
       (λ t. length_seen sid inode t >>= (λ length. in_time from patch t)) (λ known is whole bytes. act_is from patch (tree_of bytes (typed known)))
 
-  pub begin-no_file : (after : Store) (changes : List Change) (fault : TxFault) → HasFile sid inode before after (Err fault)
-      → BeginsCommit sid now inode end started before after changes (Err fault)
-  begin-no_file after changes fault h = record {
-    looks = λ from patch reaches. past-stops before before after (act from patch) (length_seen sid inode) (λ t length. in_time from patch t)
-        (start from patch) fault h.looks;
-    begun = tt;
-  }
-
   module _ (middle : Store) (was : NodeRow) (h : HasFile sid inode before middle (Ok was)) where
     seen : (from : ℕ) (patch : List ℕ) → Past before middle (act from patch) (in_time from patch)
     seen from patch = past-looks before before middle (act from patch) (length_seen sid inode) (λ t length. in_time from patch t)
         (start from patch) was.length h.looks
-
-    pub begin-late : (changes : List Change) → nat_lt now (started + UPLOAD_LIFE) ≡ false
-        → BeginsCommit sid now inode end started before middle changes (Err (Refused (TimedOut started now)))
-    begin-late changes late = record {
-      looks = λ from patch reaches. past-refuses before middle (act from patch) (TimedOut started now)
-          (past-as before middle middle (act from patch) (in_time from patch) (seen from patch) (λ t. Err (TimedOut started now)) (λ known is whole bytes.
-          let t = tree_of bytes (typed known) in ap (λ b. require b (TimedOut started now) >>= (λ unit. room from patch t)) late));
-      begun = tt;
-    }
 
     module _ (timely : nat_lt now (started + UPLOAD_LIFE) ≡ true) where
       -- what is put there, with the length that the file has then

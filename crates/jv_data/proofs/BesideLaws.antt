@@ -1,8 +1,12 @@
 -- Changes of lists, slices and dead slices alone: the tree is as before, and whole rows are whole again where slices and files are.
-use Rattle.std.proofs.Common.{◌≡◌, ℕ, Option, Some, refl, sym, subst, ◌∙◌}
+use Rattle.std.proofs.Common.{◌≡◌, ℕ, List, Option, Some, Ok, refl, sym, subst, ◌∙◌}
 use Rattle.std.specs.Prelude.{IsTrue}
+use Rattle.std.proofs.lemmas.Option.{same_Some}
+use Rattle.jv_model.specs.declared.row.Row.TheVariants.{OfList}
 use Rattle.jv_model.specs.declared.row.RowKey.{RowKey}
+use Rattle.jv_model.specs.declared.slice.Rec.{Rec}
 use Rattle.jv_model.specs.FiniteMap.{alter}
+use Rattle.jv_model.specs.rows.RowPlaces.{list_key}
 use Rattle.jv_volume.specs.TypedRows.{Cell, Rows}
 use Rattle.jv_volume.specs.TreeOf.{tree_of}
 use Rattle.jv_volume.specs.Stored.{Stored}
@@ -37,6 +41,10 @@ beside-alter rows key cell is row = record {
   stored = λ bytes s. stored-unseen bytes rows key cell is s;
   cells = λ cells. rows-alter rows key cell cells row;
 }
+
+-- a list's row may stand where it is put
+pub list_is_row : (inode window : ℕ) (records : List Rec) (x : Cell) → Some (Ok (OfList records)) ≡ Some x → IsRowAt (list_key inode window) x
+list_is_row inode window records x e = subst (IsRowAt (list_key inode window)) (same_Some _ _ e) (record { key_is = refl; cell_is = refl })
 
 -- rows that are a whole tree's, whatever their lists and slices
 pub record IsFormed (rows : Rows) : Type 0 where

@@ -374,12 +374,12 @@ module _ (sid now src dst from to len : ℕ) (due : Setting → ℕ) where
                     adjusted : Adjusted [] added 0 (drafted d2 known) left
                     adjusted = of_known (λ known. Adjusted [] added 0 (drafted d2 known) (drafted d3 known)) lists.rows known (at_lists known is) a.done
 
-                    few : n ≤ n
-                    few = omega arith
+                    enough : n ≤ n
+                    enough = omega arith
 
                     whole_left : Whole left
                     whole_left = whole-copied (typed known) course target t_sized.counters now length whole (target_there known is) g.file t_sized.there (small known is whole) refl
-                        (drafted d2 known) added (y known is whole) n 0 few left adjusted t_sized.given
+                        (drafted d2 known) added (y known is whole) n 0 enough left adjusted t_sized.given
 
                     changed : (told : Told) → Changed (makes n) known last.rows told (Count n) act
                     unfolding drafted
@@ -388,14 +388,14 @@ module _ (sid now src dst from to len : ℕ) (due : Setting → ℕ) where
                       is = commits.rows_are ∙ ap (option_map (applied d3)) (past_counted.rows_are ∙ is);
                       whole = whole_left;
                       others = others-copied (typed known) course target t_sized.counters now length whole (target_there known is) g.file t_sized.there (small known is whole) refl
-                          (drafted d2 known) added (y known is whole) n 0 few left adjusted t_sized.given;
+                          (drafted d2 known) added (y known is whole) n 0 enough left adjusted t_sized.given;
                       size = λ slice here. (let none = whole_left.slices.none in absurd (cc));
                       dies = λ setting set id slice here gone. absurd (lives-copied (typed known) course target t_sized.counters now length whole (target_there known is) g.file
-                          t_sized.there (small known is whole) refl (drafted d2 known) added (y known is whole) n 0 few left adjusted id slice here gone);
+                          t_sized.there (small known is whole) refl (drafted d2 known) added (y known is whole) n 0 enough left adjusted id slice here gone);
                       model = past_counted.goes_on known is whole (bytes_of told (typed known))
                           ∙ ap (λ (x : Tree). answered x (Count n)) (copied_is known is whole (bytes_of told (typed known))
                           ∙ sym (tree-copied_lists (typed known) course target t_sized.counters now length whole (target_there known is) g.file t_sized.there (small known is whole) refl
-                          (drafted d2 known) added (y known is whole) n 0 few left adjusted told source (source_there known is) h.file));
+                          (drafted d2 known) added (y known is whole) n 0 enough left adjusted told source (source_there known is) h.file));
                     }
 
                   pub copy-done : (last : Store) → Commits counted last (Ok tt) d3 → Ends before last (Ok n)

@@ -4,7 +4,6 @@ use Rattle.std.specs.Prelude.{◌==◌, ◌&&◌, ◌||◌, not, nat_le, nat_lt,
 use Rattle.std.specs.List.{AllByRecursion}
 use Rattle.std.proofs.lemmas.Bool.{cases_eq, cases_lt, cond-true, cond-false, lt-leb, le-leb, eq-eqb, ne_eqb}
 use Rattle.std.proofs.lemmas.List.{length-append}
-use Rattle.std.proofs.lemmas.Option.{same_Some}
 use Rattle.jv_model.specs.declared.limits.TheConstants.{WINDOW}
 use Rattle.jv_model.specs.declared.row.RowKey.{RowKey}
 use Rattle.jv_model.specs.declared.row.Row.TheVariants.{OfList}
@@ -15,10 +14,9 @@ use Rattle.jv_model.specs.rows.RowFields.{is_nil}
 use Rattle.jv_model.specs.rows.RowKeys.{row_key}
 use Rattle.jv_model.specs.rows.RowPlaces.{list_key}
 use Rattle.jv_rows.specs.Counts.{is_named, Recounted, Adjusted}
-use Rattle.jv_volume.specs.TypedRows.{Cell, Rows}
+use Rattle.jv_volume.specs.TypedRows.{Rows}
 use Rattle.jv_volume.specs.Views.{row_in, records_in, lists_of}
 use Rattle.jv_volume.specs.Slices.{listed, records_naming}
-use Rattle.jv_volume.specs.Whole.{IsRowAt}
 use Rattle.jv_volume.proofs.MapLaws.{get-alter-apart}
 use Rattle.jv_contents.specs.Counts.{HadSize}
 use Rattle.jv_contents.specs.Places.{Lists, with_list, zero_record, cut_list}
@@ -27,11 +25,8 @@ use Rattle.jv_contents.proofs.CountLaws.{ListsMove, move-list}
 use Rattle.jv_contents.proofs.CutLaws.{zero-is, all-push, cut_list-inside}
 use Rattle.jv_contents.proofs.PlaceLaws.{cut_list-below, cut_list-past}
 use Rattle.jv_data.specs.Truncating.{rows_ended}
-use Rattle.jv_data.proofs.BesideLaws.{Beside, beside-none, beside-alter}
+use Rattle.jv_data.proofs.BesideLaws.{Beside, beside-none, beside-alter, list_is_row}
 use Rattle.jv_data.proofs.ListRowLaws.{get-other, list_is, lists_of-list}
-
-pub list_is_row : (inode window : ℕ) (records : List Rec) (x : Cell) → Some (Ok (OfList records)) ≡ Some x → IsRowAt (list_key inode window) x
-list_is_row inode window records x e = subst (IsRowAt (list_key inode window)) (same_Some _ _ e) (record { key_is = refl; cell_is = refl })
 
 -- ---- the list that a length lies inside of
 

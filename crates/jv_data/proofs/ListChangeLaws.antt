@@ -22,7 +22,7 @@ use Rattle.jv_volume.proofs.QuietLaws.{quiet-slices}
 use Rattle.jv_contents.specs.Places.{put_over, cut_at}
 use Rattle.jv_contents.specs.Bytes.{Told, spot_byte, bytes_of, tree_with}
 use Rattle.jv_contents.specs.Counts.{KeepsOthers}
-use Rattle.jv_contents.proofs.ByteLaws.{byte-cut, byte-grown, byte-copied}
+use Rattle.jv_contents.proofs.ByteLaws.{byte-cut, byte-copied}
 use Rattle.jv_contents.proofs.KeepLaws.{keeps-stay_then}
 use Rattle.jv_contents.proofs.WholeLaws.{SlicesGo, keeps-go, slices-go, FileGoes, files-go}
 use Rattle.jv_data.proofs.BesideLaws.{Beside, formed-beside, whole-formed}
@@ -118,11 +118,6 @@ module _ (rows : Rows) (inode : ℕ) (was : NodeRow) (c : Counters) (now length 
     pub tree-cut : ((p : ℕ) → place_in (lists_of last inode) p ≡ cut_at places length p) → tree_with told last ≡ truncated t now inode length
     tree-cut shows = tree-changed rows inode was c now length whole there file counters last l.beside told (resized content length) refl l.others l.past
         (λ p. ap (spot_byte told) (shows p) ∙ byte-cut told was.length places past_was length p) ∙ sym truncated_is
-
-    -- a file that grows, or stays as long
-    pub tree-grown : was.length ≤ length → ((p : ℕ) → place_in (lists_of last inode) p ≡ places p) → tree_with told last ≡ truncated t now inode length
-    tree-grown longer shows = tree-changed rows inode was c now length whole there file counters last l.beside told (resized content length) refl l.others l.past
-        (λ p. ap (spot_byte told) (shows p) ∙ byte-grown told was.length places past_was length longer p) ∙ sym truncated_is
 
     -- a file with a range of a file, as that was
     pub tree-copied : (other : ℕ) (source : ℕ → Spot) → ((p : ℕ) → other ≤ p → source p ≡ Zero) → (from to len : ℕ) → max was.length (to + len) ≡ length

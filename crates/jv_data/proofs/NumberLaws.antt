@@ -25,7 +25,7 @@ use Rattle.jv_outside.specs.Store.{Store, Commits}
 use Rattle.jv_rows.specs.Drafts.{drafted, cell, Needs}
 use Rattle.jv_rows.specs.Transactions.{Agrees, Looks}
 use Rattle.jv_rows.proofs.NeedingLaws.{session_is, CountersNeeded, fails-needed, stands-needs}
-use Rattle.jv_rows.proofs.TransactionLaws.{Past, Fails, past-start, past-as, past-calm, past-looks, past-stops, past-fails, past-refuses, drafted-none}
+use Rattle.jv_rows.proofs.TransactionLaws.{Past, past-start, past-as, past-calm, past-looks, past-fails, past-refuses, drafted-none}
 use Rattle.jv_volume.specs.TypedRows.{Cell, Rows, typed}
 use Rattle.jv_volume.specs.Shape.{WholeShape, shape_of}
 use Rattle.jv_volume.specs.Views.{row_in, counters_in, counters_at, node_in, node_row_at, dropped_in, dropped_at, slice_in, slice_row_at, dead_in, dead_at, lists_of}
@@ -188,10 +188,6 @@ module _ (sid : ℕ) (before middle : Store) where
             (l.agrees other here whole no_bytes));
       })
 
-  pub number-no_session : (after : Store) (fault : TxFault) → Looks {A = Unit {0}} before after (Err fault) (session_is sid) → TakesNumber sid before after (Err fault)
-  number-no_session after fault l = number-refused after fault (λ rows is.
-      past-stops before before after (number_given sid rows) (session_is sid) (λ t unit. rest rows t) (past-start before (number_given sid rows)) fault l)
-
   module _ (session : Looks before middle (Ok tt) (session_is sid)) (none : List Change) (is_none : none ≡ []) where
     asked : (rows : Rows) → Past before middle (number_given sid rows) (rest rows)
     asked rows = past-looks before before middle (number_given sid rows) (session_is sid) (λ t unit. rest rows t)
@@ -224,11 +220,6 @@ module _ (sid : ℕ) (before middle : Store) where
           ap (λ b. require b NoSpace >>= (λ unit. Ok (next_slice rows)))
           (ap (λ n. nat_lt n FULL_COUNT) (ap (λ (r : Rows). next_slice r) (rows_are known is) ∙ next_is known is)
           ∙ le-ltb c.slice FULL_COUNT full))))
-
-      -- what comes after it fails
-      pub number-fails : (after : Store) (fault : TxFault) → Fails counted after fault → TakesNumber sid before after (Err fault)
-      number-fails after fault f = number-refused after fault (λ rows rows_are.
-          past-fails before counted after (number_given sid rows) (rest rows) (seen rows) fault f)
 
       pub number-done : (last : Store) (changes : List Change) (put : Counters) → put ≡ record c { slice = c.slice + 1 } → c.slice < FULL_COUNT
           → ((known : RowMap) → drafted changes known ≡ alter (drafted none known) counters_key (cell OfCounters (Some put)))

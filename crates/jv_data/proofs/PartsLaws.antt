@@ -29,8 +29,7 @@ use Rattle.jv_contents.proofs.PlaceLaws.{place_in-same}
 use Rattle.jv_data.specs.declared.copying.Course.{Course}
 use Rattle.jv_data.specs.Copying.{part_len, window_at, AreParts, rows_copied}
 use Rattle.jv_data.specs.Truncating.{HaveSlices, records_of}
-use Rattle.jv_data.proofs.BesideLaws.{Beside, beside-none, beside-then, beside-alter}
-use Rattle.jv_data.proofs.CutListsLaws.{list_is_row}
+use Rattle.jv_data.proofs.BesideLaws.{Beside, beside-none, beside-then, beside-alter, list_is_row}
 use Rattle.jv_data.proofs.ListRowLaws.{get-other, list_is, lists_of-list}
 
 -- ---- numbers

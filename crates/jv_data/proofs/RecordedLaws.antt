@@ -26,15 +26,12 @@ use Rattle.jv_contents.specs.Counts.{KeepsOthers}
 use Rattle.jv_contents.proofs.ByteLaws.{byte-committed, past-put_over}
 use Rattle.jv_contents.proofs.KeepLaws.{unknown-stay, slice_row-stay, keeps-stay_then}
 use Rattle.jv_contents.proofs.PlaceLaws.{place_in-same}
-use Rattle.jv_data.proofs.BesideLaws.{Beside, beside-alter, beside-then, formed-beside, whole-formed}
+use Rattle.jv_data.proofs.BesideLaws.{Beside, beside-alter, beside-then, formed-beside, list_is_row, whole-formed}
 use Rattle.jv_data.proofs.ChangedLaws.{tree-changed}
 use Rattle.jv_data.proofs.NewRecordLaws.{recorded_rows, slice_there, slices-recorded, others-recorded, files-recorded, places-recorded, places-beside, lives-recorded}
 use Rattle.jv_data.proofs.SizedLaws.{sized_rows, sized, formed-sized, quiet-sized, whole-sized, node-sized, content_was}
 
--- rows of lists and slices may stand where they are put
-list_is_row : (inode window : ℕ) (records : List Rec) (x : Cell) → Some (Ok (OfList records)) ≡ Some x → IsRowAt (list_key inode window) x
-list_is_row inode window records x e = subst (IsRowAt (list_key inode window)) (same_Some _ _ e) (record { key_is = refl; cell_is = refl })
-
+-- a slice's row may stand where it is put
 slice_is_row : (id : ℕ) (slice : SliceRow) (x : Cell) → Some (Ok (OfSlice slice)) ≡ Some x → IsRowAt (slice_key id) x
 slice_is_row id slice x e = subst (IsRowAt (slice_key id)) (same_Some _ _ e) (record { key_is = refl; cell_is = refl })
 

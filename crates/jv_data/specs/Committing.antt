@@ -1,12 +1,9 @@
--- What a look sees of a file, and what a commit of bytes does to a volume's rows. The bytes are where the tree of the rows has
--- them from.
-use Rattle.std.specs.Prelude.{◌≡◌, ◌≢◌, ℕ, ◌+◌, max, nat_lt, List, length, is_some, Option, Some, Result, Ok, Err, IfOk, IfErr, IfSome, OnOk, OnErr, IsTrue}
+-- What a session reads of a file's row, and how a commit of bytes begins.
+use Rattle.std.specs.Prelude.{◌≡◌, ℕ, ◌+◌, max, nat_lt, List, length, is_some, Some, Result, Ok, Err, IfOk, OnOk, IsTrue}
 use Rattle.jv_model.specs.declared.fault.Fault.{Fault}
 use Rattle.jv_model.specs.declared.fault.Fault.TheVariants.{NoSpace, Stale, TimedOut}
 use Rattle.jv_model.specs.declared.fault.Gone.TheVariants.{Session, Node as GoneNode}
-use Rattle.jv_model.specs.declared.fault.RowFault.TheVariants.{Bad, Failed, Memory}
 use Rattle.jv_model.specs.declared.fault.TxFault.{TxFault}
-use Rattle.jv_model.specs.declared.fault.TxFault.TheVariants.{Refused, Moved, Rows as OfRows}
 use Rattle.jv_model.specs.declared.lifetimes.TheConstants.{UPLOAD_LIFE}
 use Rattle.jv_model.specs.declared.row.Node.{Node}
 use Rattle.jv_model.specs.declared.row.Row.TheVariants.{OfNode}
@@ -15,17 +12,14 @@ use Rattle.jv_model.specs.rows.RowGrammar.{is_node}
 use Rattle.jv_model.specs.rows.RowKeys.{RowMap}
 use Rattle.jv_model.specs.rows.RowPlaces.{node_key}
 use Rattle.jv_model.specs.tree.Attempt.{◌>>=◌, require, some_or}
-use Rattle.jv_model.specs.tree.Tree.{Tree, Content, content_at, fits}
-use Rattle.jv_model.specs.tree.Changes.{overwritten}
+use Rattle.jv_model.specs.tree.Tree.{Tree, content_at, fits}
 use Rattle.jv_model.specs.tree.FileBytes.{committed}
 use Rattle.jv_outside.specs.declared.batch.Change.{Change}
 use Rattle.jv_outside.specs.Store.{Store}
 use Rattle.jv_rows.specs.Drafts.{drafted}
-use Rattle.jv_rows.specs.Transactions.{TransactionCounts, Looks, BadFault}
+use Rattle.jv_rows.specs.Transactions.{Looks}
 use Rattle.jv_rows.specs.Walks.{HasNodeRow}
 use Rattle.jv_volume.specs.TypedRows.{Rows, typed}
-use Rattle.jv_volume.specs.TreeOf.{tree_of}
-use Rattle.jv_volume.specs.Whole.{Whole, Quiet}
 use Rattle.jv_data.specs.Resizing.{AreSized}
 
 -- the length of a file, as a session sees it
@@ -67,35 +61,3 @@ pub record BeginsCommit (sid now inode end started : ℕ) (before after : Store)
   pub looks : (from : ℕ) (patch : List ℕ) → from + length patch ≡ end
       → Looks before after result (λ t. commit_of sid inode from patch started now t >>= (λ left. Ok tt))
   pub begun : OnOk result ((known : RowMap) → before.rows ≡ Some known → Begun (typed known) (drafted changes known) inode end now)
-
--- the bytes of all files, where one of them had bytes put into it
-pub record IsPatched (t : Tree) (bytes changed : ℕ → ℕ → ℕ) (inode from : ℕ) (patch : List ℕ) : Type 0 where
-  pub others : (other : ℕ) → other ≢ inode → changed other ≡ bytes other
-  pub own : (content : Content) → content_at t inode ≡ Some content → (position : ℕ) → changed inode position ≡ (overwritten content from patch).byte position
-
--- a commit that was made: the rows left are whole, and their tree, with the bytes changed, is the model's
-pub record Committed (known : RowMap) (after : Option RowMap) (changed : ℕ → ℕ → ℕ) (wanted : Result Tree Fault) : Type 0 where
-  pub left : RowMap
-  pub is : after ≡ Some left
-  pub whole : Whole (typed left)
-  pub quiet : Quiet (typed known) (typed left)
-  pub model : wanted ≡ Ok (tree_of changed (typed left))
-
-abbrev pub LandsAs : RowMap → Option RowMap → (ℕ → ℕ → ℕ) → Result (Unit {0}) TxFault → Result Tree Fault → Type 0
-LandsAs known after changed (Ok unit) model = Committed known after changed model
-LandsAs known after changed (Err (Refused fault)) model = model ≡ Err fault
-LandsAs known after changed (Err (Moved list)) model = ⊥
-LandsAs known after changed (Err (OfRows (Bad at bytes))) model = ⊥
-LandsAs known after changed (Err (OfRows Failed)) model = Unit {0}
-LandsAs known after changed (Err (OfRows Memory)) model = Unit {0}
-
--- A commit of bytes that end at a position: after an error the rows are as before, and over whole rows it does what the model's
--- does to their tree, whatever the bytes are.
-pub record CommitsLength (sid now inode end started : ℕ) (before after : Store) (result : Result (Unit {0}) TxFault) : Type 0 where
-  pub opened_at : after.opened ≡ before.opened
-  pub counts : TransactionCounts before.faults after.faults result
-  pub undone : OnErr result (after.rows ≡ before.rows)
-  pub lands : (known : RowMap) → before.rows ≡ Some known → Whole (typed known) → (bytes changed : ℕ → ℕ → ℕ)
-      → (from : ℕ) (patch : List ℕ) → from + length patch ≡ end → IsPatched (tree_of bytes (typed known)) bytes changed inode from patch
-      → LandsAs known after.rows changed result (commit_of sid inode from patch started now (tree_of bytes (typed known)))
-  pub bad : IfErr result (λ fault. IfSome before.rows (λ known. BadFault (typed known) fault))

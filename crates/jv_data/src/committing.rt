@@ -1,6 +1,6 @@
 //! Commits of bytes to files.
-ghost use Rattle.std.specs.Prelude.{◌≡◌, ◌≤◌, ◌+◌, ◌*◌, ◌<◌, [], nat_lt, IsTrue};
-ghost use Rattle.jv_data.specs.Committing.{BeginsCommit, CommitsLength};
+ghost use Rattle.std.specs.Prelude.{◌≡◌, ◌≤◌, ◌+◌, ◌*◌, ◌<◌, [], nat_lt};
+ghost use Rattle.jv_data.specs.Committing.{BeginsCommit};
 ghost use Rattle.jv_data.specs.Records.{CommitsRecord};
 ghost use Rattle.jv_model.specs.blocks.Slices.{IsRecord};
 ghost use Rattle.jv_model.specs.declared.limits.TheConstants.{FILE_END, WINDOW};
@@ -38,7 +38,8 @@ fn begin_commit<K: Keeper>(
 ) -> Result<(), TxFault>
     requires new { draft.old ≡ [] }
     requires small { end ≤ FILE_END }
-    ensures { BeginsCommit sid now inode end started (K.seen k.old) (K.seen k.new) draft.new result }
+    ensures { BeginsCommit sid now inode end started (K.seen k.old) (K.seen k.new)
+        draft.new result }
 {
     let was = file(alloc, k, sid, inode)?;
     let (now, started) = (now.seconds(), started.seconds());
@@ -47,34 +48,6 @@ fn begin_commit<K: Keeper>(
     }
     let length = was.length.max(end);
     resize(alloc, k, draft, inode, was, length, now)
-}
-
-/// Makes a file reach at least to a position, and sets its times, as a commit of bytes that end there does. Their block was
-/// begun at the moment `started`.
-///
-/// # Errors
-///
-/// Stale where the session is gone, or the inode isn't a file's; then TimedOut where the block is 3,600 seconds old or older;
-/// then NoSpace where the volume has no room. Bad for a malformed row, or without bytes where setting or counters are absent.
-/// Failed if the keeper failed. Memory.
-pub fn commit_length<K: Keeper>(
-    alloc: Global,
-    k: &mut K,
-    sid: u64,
-    now: Moment,
-    inode: u64,
-    end: u64,
-    started: Moment,
-) -> Result<(), TxFault>
-    requires { end ≤ FILE_END }
-    ensures { CommitsLength sid now inode end started (K.seen k.old) (K.seen k.new) result }
-{
-    let mut draft = Draft::new(alloc);
-    begin_commit(alloc, k, &mut draft, sid, now, inode, end, started)?;
-    match draft.commit(k) {
-        Ok(()) => Ok(()),
-        Err(down) => Err(TxFault::Rows(RowFault::from(down))),
-    }
 }
 
 /// Commits a new slice to a window of a file: appends the record that shows it, makes the slice's row with one record, makes

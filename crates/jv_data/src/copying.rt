@@ -33,9 +33,10 @@ struct Course {
 }
 
 /// Copies at most `len` bytes of the file `src` from the position `from` on, as far as it goes, to the position `to` of
-/// the file `dst`, which may be the same, and returns how many. The target's lists get records of the slices that show
-/// the bytes, and no block is read or written. The target reaches at least to the last byte copied, and its times are
-/// set. No slice dies. A copy of 0 bytes changes nothing.
+/// the file `dst`, which may be the same, and returns how many. The target's lists get one record for each visible piece
+/// of the range, holes among them, cut at the windows of both files: at most one for each byte copied. No block is read
+/// or written. The target reaches at least to the last byte copied, and its times are set. No slice dies. A copy of 0
+/// bytes changes nothing.
 ///
 /// # Errors
 ///

@@ -1,6 +1,7 @@
-//! Transactions on the bytes of files: looks, numbers for new slices, and commits of their records. Blocks lie elsewhere.
+//! Transactions on the bytes of files: looks, numbers for new slices, commits of their records, truncates and copies. No
+//! block is read or written.
 //!
-//! A refusal, a keeper that failed, and want of memory leave the rows as they were.
+//! After a refusal, after a keeper that failed, and out of memory the rows are as they were.
 #![tactic(auto)]
 
 mod committing;
@@ -10,8 +11,8 @@ mod numbering;
 mod resizing;
 mod truncating;
 
-pub use committing::{commit, commit_length};
+pub use committing::commit;
 pub use copying::copy_range;
-pub use looking::{View, look, look_at};
+pub use looking::{View, look};
 pub use numbering::next_id;
 pub use truncating::truncate;

@@ -1,7 +1,6 @@
-//! Looks at files and at their windows.
-ghost use Rattle.jv_data.specs.Committing.{length_seen, HasFile};
+//! Looks at the windows of files.
+ghost use Rattle.jv_data.specs.Committing.{HasFile};
 ghost use Rattle.jv_data.specs.Records.{LooksAt, HasRecords};
-ghost use Rattle.jv_rows.specs.Transactions.{Looks};
 
 use jv_model::{Fault, Gone, List, Node, TxFault, Who};
 use jv_outside::Keeper;
@@ -17,25 +16,13 @@ pub struct View {
     pub list: List,
 }
 
-/// The length of a file in bytes, as a session sees it now.
-///
-/// # Errors
-///
-/// Stale where the session is gone, or the inode isn't a file's. Bad for a malformed row. Failed if the keeper failed. Memory.
-pub fn look<K: Keeper>(alloc: Global, k: &mut K, sid: u64, inode: u64) -> Result<u64, TxFault>
-    ensures { Looks (K.seen k.old) (K.seen k.new) result (length_seen sid inode) }
-{
-    let file = file(alloc, k, sid, inode)?;
-    Ok(file.length)
-}
-
 /// The length of a file in bytes and the records of one of its windows, as the caller's session sees them now. A window
 /// without a list has no records.
 ///
 /// # Errors
 ///
 /// Stale where the session is gone, or the inode isn't a file's. Bad for a malformed row. Failed if the keeper failed. Memory.
-pub fn look_at<K: Keeper>(
+pub fn look<K: Keeper>(
     alloc: Global,
     k: &mut K,
     who: &Who,

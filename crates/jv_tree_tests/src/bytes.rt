@@ -8,7 +8,7 @@ const NEXT_DAY: u64 = 1_700_086_400;
 const WINDOW: u32 = 67_108_864;
 
 /// A record that shows a slice from its first byte on.
-fn whole(pos: u32, id: u64, len: u32) -> Rec {
+pub(crate) fn whole(pos: u32, id: u64, len: u32) -> Rec {
     Rec {
         pos,
         id,
@@ -47,7 +47,7 @@ fn shows(
     length: u64,
     records: &[Rec],
 ) -> Result<(), Fail> {
-    let view = volume.view(inode, window)?;
+    let view = volume.look(inode, window)?;
     if view.length != length || view.list.as_slice() != records {
         return Err(Fail::new(format_args!("{inode} {window} -> {view:?}")));
     }
@@ -93,7 +93,7 @@ fn a_window_shows_the_records_of_its_commits(rt: HostRuntime) -> Result<(), Fail
         Err(TxFault::Refused(late))
     );
     let gone = TxFault::Refused(Fault::Stale(Gone::Node(9)));
-    assert_eq!(rt; volume.view(9, 0), Err(gone));
+    assert_eq!(rt; volume.look(9, 0), Err(gone));
     Ok(())
 }
 

@@ -1,5 +1,5 @@
 //! A volume in memory, whose operations are lines of a script.
-use jv_data::{View, commit, commit_length, copy_range, look, look_at, next_id, truncate};
+use jv_data::{View, commit, copy_range, look, next_id, truncate};
 use jv_live::mount;
 use jv_metadata::{is_metadata, is_spelled, transact};
 use jv_model::{
@@ -91,19 +91,6 @@ impl Volume {
         Ok(())
     }
 
-    /// What a look at a file sees.
-    pub(crate) fn look(&mut self, inode: u64) -> Result<u64, TxFault> {
-        look(self.alloc, &mut self.keeper, self.who.sid, inode)
-    }
-
-    /// Commits bytes that end at a position, whose block is so many seconds old.
-    pub(crate) fn commit(&mut self, inode: u64, end: u64, age: u64) -> Result<(), TxFault> {
-        let (sid, now) = (self.who.sid, self.who.now);
-        let started = Moment(NOW.saturating_sub(age));
-        let end = end.min(FILE_END);
-        commit_length(self.alloc, &mut self.keeper, sid, now, inode, end, started)
-    }
-
     /// The number of the next slice.
     pub(crate) fn next_id(&mut self) -> Result<u64, TxFault> {
         next_id(self.alloc, &mut self.keeper, &self.who)
@@ -150,8 +137,13 @@ impl Volume {
     }
 
     /// What a look at a window sees.
-    pub(crate) fn view(&mut self, inode: u64, window: u32) -> Result<View, TxFault> {
-        look_at(self.alloc, &mut self.keeper, &self.who, inode, window)
+    pub(crate) fn look(&mut self, inode: u64, window: u32) -> Result<View, TxFault> {
+        look(self.alloc, &mut self.keeper, &self.who, inode, window)
+    }
+
+    /// The length of a file, as a look sees it.
+    pub(crate) fn length(&mut self, inode: u64) -> Result<u64, TxFault> {
+        Ok(self.look(inode, 0)?.length)
     }
 
     pub(crate) fn slice(&mut self, id: u64) -> Result<Option<SliceRow>, Fail> {

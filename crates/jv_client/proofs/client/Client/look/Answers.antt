@@ -18,7 +18,7 @@ returns-in-Err g c now yard carrier h ahead ready =
     let a = c.args in
     let r = c.requires in
     let before = g.K.Keeper.seen a.k.now in
-    let after = g.K.Keeper.seen c.look_at.new.k in
+    let after = g.K.Keeper.seen c.look.new.k in
     let sid = ap (λ who. who.sid) c.who-who.ensures in
     let handles = c.deref.ensures.value ∙ ap (λ (v : ClientValue). v.handles) c.self.view_is in
     looks-unmade now a.entry h a.self.now a.window (shared before yard carrier) ahead ready r.ready r.flushed r.needs after
@@ -34,7 +34,7 @@ returns-then-is_err g c now yard carrier h ahead ready =
     let r = c.requires in
     let i = c.self.inside in
     let before = g.K.Keeper.seen a.k.now in
-    let after = g.K.Keeper.seen c.look_at.new.k in
+    let after = g.K.Keeper.seen c.look.new.k in
     let looked : Looked = record { length = c.in-Ok.seen.length; list = c.in-Ok.seen.list } in
     let sid = ap (λ who. who.sid) c.who-who.ensures in
     let handles = c.deref.ensures.value ∙ ap (λ (v : ClientValue). v.handles) c.self.view_is in
@@ -68,7 +68,7 @@ returns-in-Ok-ahead g c now yard carrier h ahead ready =
     let r = c.requires in
     let i = c.self.inside in
     let before = g.K.Keeper.seen a.k.now in
-    let after = g.K.Keeper.seen c.look_at.new.k in
+    let after = g.K.Keeper.seen c.look.new.k in
     let handle = c.handle_in_use-handle.result in
     let looked : Looked = record { length = c.in-Ok.seen.length; list = c.in-Ok.seen.list } in
     let sid = ap (λ who. who.sid) c.who-who.ensures in
@@ -109,7 +109,7 @@ returns g c now yard carrier h ahead ready =
     let i = c.self.inside in
     let then = c.self-in-Err-ahead.inside in
     let before = g.K.Keeper.seen a.k.now in
-    let after = g.K.Keeper.seen c.look_at.new.k in
+    let after = g.K.Keeper.seen c.look.new.k in
     let handle = c.handle_in_use-handle.result in
     let looked : Looked = record { length = c.in-Ok.seen.length; list = c.in-Ok.seen.list } in
     let sid = ap (λ who. who.sid) c.who-who.ensures in

@@ -1,6 +1,6 @@
 use Rattle.std.proofs.lemmas.Result.{err_from_is_err_and}
 use Rattle.jv_data.proofs.RecordsLaws.{look-unread}
-use Rattle.jv_data.proofs.looking.look_at.Goals as goal
+use Rattle.jv_data.proofs.looking.look.Goals as goal
 
 pub returns-in_err-list : goal.returns-in_err-list
 returns-in_err-list g c =
