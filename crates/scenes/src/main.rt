@@ -59,36 +59,108 @@
 //! script. Where a call of the keeper, the depot, the carrier or the shelf fails inside an operation, exactly that operation
 //! is answered `err EIO` and the device's name, and the run goes on; if each line of the script is an operation that is run
 //! to its end, the other answers, the rows, and what is listed of them, are those of the run without that line. In a scene
-//! with `show blocks` rows aren't compared, but what is listed: they name slices by numbers, and a flush that fails has used
-//! one.
+//! with `show blocks` rows are compared but for numbers of slices, of which a flush that fails has used one: without the
+//! tables of lists, slices and dead slices, and of the counters without the next slice.
 //!
 //! A malformed line is refused with its number, and then nothing is run.
 #![tactic(auto)]
 
-mod device;
-mod objects;
-mod reader;
-mod report;
-mod rows;
-mod scene;
-mod stage;
-mod sweep;
-
-use reader::{BadLine, SceneReader};
-use report::{push_list, push_objects, push_played, push_then, push_try};
-use rows::rows_text;
-use scene::{Again, Further, Scene, Variant, bytes_of};
-use stage::Stage;
+use jv_cmd::{Finish, World, run};
+use jv_outside::{
+    Carrier, MemCarrier, MemClock, MemDepot, MemKeeper, MemShelf, MemSink, MemSource, NumberList,
+};
+use jv_scenes::{BadScenes, Scene, read_scenes};
+use jv_theatre::{Parts, Player, Stores, Streams, Theatre, push_scene};
 use std::alloc::{AllocError, Global};
 use std::io;
 use std::process::ExitCode;
-use sweep::{Stages, push_sweep};
+
+/// A world of devices in memory.
+type MemWorld = World<MemSource, MemSink, MemSink, MemKeeper, MemDepot, MemShelf, MemClock>;
+
+/// Runs words as the program does.
+#[derive(Clone, Copy)]
+struct Program;
+
+impl Player for Program {
+    fn run(
+        &self,
+        alloc: Global,
+        words: &[String],
+        parts: &mut Option<Parts>,
+        carrier: MemCarrier,
+    ) -> Result<u8, AllocError> {
+        let carrier = Box::new(alloc, carrier)?;
+        Ok(match parts.take() {
+            Some(taken) => {
+                let (status, left) = run_on(alloc, words, taken, carrier);
+                *parts = Some(left);
+                status
+            }
+            None => 0,
+        })
+    }
+}
+
+/// Runs words over what a world is made of, with this carrier. Returns the status, and what is left but for the carrier.
+fn run_on(alloc: Global, words: &[String], parts: Parts, sends: Box<dyn Carrier>) -> (u8, Parts) {
+    let Parts {
+        streams: Streams { source, out, err },
+        stores: Stores {
+            keeper,
+            depot,
+            shelf,
+        },
+        clock,
+        carrier,
+        journal,
+    } = parts;
+    let world = World {
+        source,
+        out,
+        err,
+        keeper,
+        depot,
+        shelf,
+        clock,
+        carrier: sends,
+        journal,
+    };
+    let Finish { status, world } = run(alloc, words, world);
+    (status, parts_of(world, carrier))
+}
+
+/// What a run left, but for its carrier.
+fn parts_of(world: MemWorld, carrier: NumberList) -> Parts {
+    let World {
+        source,
+        out,
+        err,
+        keeper,
+        depot,
+        shelf,
+        clock,
+        journal,
+        ..
+    } = world;
+    Parts {
+        streams: Streams { source, out, err },
+        stores: Stores {
+            keeper,
+            depot,
+            shelf,
+        },
+        clock,
+        carrier,
+        journal,
+    }
+}
 
 /// Why there is nothing more to print.
 #[derive(Clone, Copy)]
 enum Stop {
-    /// The line of this number, from 1, isn't one of a scene.
-    Line(u64, BadLine),
+    /// A line isn't one of a scene.
+    Scenes(BadScenes),
     /// Standard input isn't there or isn't text.
     NotRead,
     /// Standard output takes no more.
@@ -102,177 +174,19 @@ impl From<AllocError> for Stop {
     }
 }
 
-/// Reads all scenes.
-fn read_scenes(alloc: Global, text: &str) -> Result<Vec<Scene>, Stop> {
-    let mut reader = SceneReader::new(alloc);
-    let mut number = 0u64;
-    for line in text.split('\n') {
-        number = number.saturating_add(1);
-        if let Err(bad) = reader.line(line) {
-            return Err(Stop::Line(number, bad));
-        }
-    }
-    match reader.end() {
-        Ok(scenes) => Ok(scenes),
-        Err(bad) => Err(Stop::Line(number, bad)),
-    }
-}
-
-/// The stages of a scene: that of its runs, one for tries and sweeps, and one for the runs that list what is left.
-#[derive(Drop)]
-struct Theatre {
-    own: Stage,
-    tried: Stage,
-    listed: Stage,
-}
-
-impl Theatre {
-    /// The stages of sweeps.
-    fn sweeping(&mut self) -> Stages<'_> {
-        Stages {
-            run: &mut self.tried,
-            list: &mut self.listed,
-        }
-    }
-}
-
-/// Runs a scene, and adds what it came to.
-fn push_scene(
-    alloc: Global,
-    report: &mut String,
-    scene: &Scene,
-    theatre: &mut Theatre,
-) -> Result<(), AllocError> {
-    let name = scene.name.as_str();
-    writeln!(report, "scene {name}")?;
-    push_first(alloc, report, scene, theatre)?;
-    for further in scene.further.as_slice() {
-        push_further(alloc, report, scene, further, theatre)?;
-    }
-    push_objects(alloc, report, scene, &mut theatre.own)?;
-    if scene.shows_rows {
-        let rows = theatre.own.rows(alloc)?;
-        report.push_str(rows_text(alloc, &rows)?.as_str())?;
-    }
-    report.push_str("\n")
-}
-
-/// Makes a scene's first run, where it has words for one, and its sweeps, and adds what they came to.
-fn push_first(
-    alloc: Global,
-    report: &mut String,
-    scene: &Scene,
-    theatre: &mut Theatre,
-) -> Result<(), AllocError> {
-    theatre.own.set(alloc, scene, Variant::Same)?;
-    if scene.words.is_none() {
-        return Ok(());
-    }
-    let played = theatre.own.play(alloc, scene.words())?;
-    push_played(alloc, report, scene, &played, &theatre.own)?;
-    push_after_first(alloc, report, scene, theatre)
-}
-
-/// Lists what the first run left, makes the sweeps, and adds what they came to.
-fn push_after_first(
-    alloc: Global,
-    report: &mut String,
-    scene: &Scene,
-    theatre: &mut Theatre,
-) -> Result<(), AllocError> {
-    let rows = theatre.own.rows(alloc)?;
-    let objects = theatre.own.objects(alloc)?;
-    push_list(alloc, report, scene, rows, objects, &mut theatre.listed)?;
-    for sweep in scene.sweeps.as_slice() {
-        push_sweep(alloc, report, scene, *sweep, &mut theatre.sweeping())?;
-    }
-    Ok(())
-}
-
-/// Makes a further run, and adds what it came to.
-fn push_further(
-    alloc: Global,
-    report: &mut String,
-    scene: &Scene,
-    further: &Further,
-    theatre: &mut Theatre,
-) -> Result<(), AllocError> {
-    match further {
-        Further::Again(again) => push_again(alloc, report, scene, again, &mut theatre.own),
-        Further::Try(words) => try_words(
-            alloc,
-            report,
-            scene,
-            words.as_slice(),
-            &mut theatre.tried,
-        ),
-        Further::TryLine(line) => try_line(alloc, report, scene, line.as_str(), &mut theatre.tried),
-    }
-}
-
-/// Makes a run by these words on a world of its own.
-fn try_words(
-    alloc: Global,
-    report: &mut String,
-    scene: &Scene,
-    words: &[String],
-    stage: &mut Stage,
-) -> Result<(), AllocError> {
-    stage.set(alloc, scene, Variant::Same)?;
-    let played = stage.play(alloc, words)?;
-    push_try(report, words, &played)
-}
-
-/// Makes a run by the scene's words on a world of its own, whose script has one more line.
-fn try_line(
-    alloc: Global,
-    report: &mut String,
-    scene: &Scene,
-    line: &str,
-    stage: &mut Stage,
-) -> Result<(), AllocError> {
-    stage.set(alloc, scene, Variant::Line(line))?;
-    let played = stage.play(alloc, scene.words())?;
-    push_then(report, line, &played)
-}
-
-/// Makes a run on the world that the run before left.
-fn push_again(
-    alloc: Global,
-    report: &mut String,
-    scene: &Scene,
-    again: &Again,
-    stage: &mut Stage,
-) -> Result<(), AllocError> {
-    let words = match &again.words {
-        Some(words) => words.as_slice(),
-        None => scene.words(),
-    };
-    if !again.script.is_empty() {
-        stage.set_script(alloc, bytes_of(alloc, again.script.as_slice())?);
-    }
-    let played = stage.play(alloc, words)?;
-    report.push_str("again\n")?;
-    push_played(alloc, report, scene, &played, stage)
-}
-
 /// Runs the scenes of standard input, and prints what each came to.
 fn run_scenes(rt: &HostRuntime) -> Result<(), Stop> {
     let alloc = rt.alloc();
     let Ok(text) = io::read_to_string(alloc, rt.stdin()) else {
         return Err(Stop::NotRead);
     };
-    let scenes = read_scenes(alloc, text.as_str())?;
-    let mut theatre = Theatre {
-        own: Stage::new(),
-        tried: Stage::new(),
-        listed: Stage::new(),
-    };
+    let scenes = read_scenes(alloc, text.as_str()).map_err(Stop::Scenes)?;
+    let mut theatre = Theatre::new(Program);
     run_all(rt, scenes.as_slice(), &mut theatre)
 }
 
 /// Runs scenes one after the other, and prints what each came to.
-fn run_all(rt: &HostRuntime, scenes: &[Scene], theatre: &mut Theatre) -> Result<(), Stop> {
+fn run_all(rt: &HostRuntime, scenes: &[Scene], theatre: &mut Theatre<Program>) -> Result<(), Stop> {
     let alloc = rt.alloc();
     for scene in scenes {
         let mut report = String::new(alloc);
@@ -287,9 +201,9 @@ fn run_all(rt: &HostRuntime, scenes: &[Scene], theatre: &mut Theatre) -> Result<
 /// Says why there is nothing more to print. Returns the exit status.
 fn report_stop(rt: &HostRuntime, stop: Stop) -> u8 {
     let (status, why) = match stop {
-        Stop::Line(number, bad) => {
+        Stop::Scenes(BadScenes { number, why }) => {
             let _ = eprint!(rt; "scenes: line {number}: ");
-            (2, bad.text())
+            (2, why.text())
         }
         Stop::NotRead => (5, "scenes: standard input can't be read as text"),
         Stop::NotPrinted => (5, "scenes: standard output failed"),

@@ -1,17 +1,17 @@
 //! Runs of a scene in each of which one more call fails, and the rule that each of them keeps.
-use crate::device::{DEVICES, Device};
 use crate::report::{push_list, push_played};
-use crate::rows::rows_text;
-use crate::scene::{Scene, Sweep, Variant};
-use crate::stage::{Played, Stage, count_lines};
+use crate::rows::{rows_text, unnumbered_text};
+use crate::stage::{Played, Player, count_lines};
+use crate::theatre::Theatre;
+use jv_model::Rows;
+use jv_scenes::{DEVICES, Device, Scene, Sweep, Variant};
 use std::alloc::{AllocError, Global};
 use std::str;
 
 /// The status of a run that a device's fault ended.
 const FAILED: u8 = 5;
 
-/// What is in rows and objects: the rows, where the numbers in them tell nothing of how often a block was put, and what the
-/// scene lists.
+/// What is in rows and objects: the rows as they are compared, and what the scene lists.
 #[derive(Drop)]
 struct Left {
     rows: String,
@@ -33,23 +33,16 @@ struct Run {
     after: Left,
 }
 
-/// The stages of a sweep: that of its runs, and that of the runs which list what they leave.
-#[derive(Drop)]
-pub struct Stages<'a> {
-    pub run: &'a mut Stage,
-    pub list: &'a mut Stage,
-}
-
 /// Runs a sweep, and adds what it came to: each run that breaks the rule, and a sum for each device.
 pub fn push_sweep(
     alloc: Global,
     report: &mut String,
     scene: &Scene,
     sweep: Sweep,
-    stages: &mut Stages<'_>,
+    theatre: &mut Theatre<impl Player>,
 ) -> Result<(), AllocError> {
-    let base = show(alloc, scene, Variant::Same, stages)?;
-    push_devices(alloc, report, scene, &base, sweep, stages)
+    let base = show(alloc, scene, Variant::Same, theatre)?;
+    push_devices(alloc, report, scene, &base, sweep, theatre)
 }
 
 fn push_devices(
@@ -58,11 +51,11 @@ fn push_devices(
     scene: &Scene,
     base: &Run,
     sweep: Sweep,
-    stages: &mut Stages<'_>,
+    theatre: &mut Theatre<impl Player>,
 ) -> Result<(), AllocError> {
     for device in DEVICES {
         if sweep.is_of(scene, device) {
-            push_device(alloc, report, scene, base, sweep, device, stages)?;
+            push_device(alloc, report, scene, base, sweep, device, theatre)?;
         }
     }
     Ok(())
@@ -72,14 +65,14 @@ fn show(
     alloc: Global,
     scene: &Scene,
     variant: Variant<'_>,
-    stages: &mut Stages<'_>,
+    theatre: &mut Theatre<impl Player>,
 ) -> Result<Run, AllocError> {
-    stages.run.set(alloc, scene, variant)?;
-    let before = left_on(alloc, scene, stages)?;
-    let played = stages.run.play(alloc, scene.words())?;
+    theatre.tried.set(alloc, scene, variant)?;
+    let before = left_on(alloc, scene, theatre)?;
+    let played = theatre.tried.play(alloc, scene.words(), &theatre.player)?;
     let mut text = String::new(alloc);
-    push_played(alloc, &mut text, scene, &played, stages.run)?;
-    let after = left_on(alloc, scene, stages)?;
+    push_played(alloc, &mut text, scene, &played, &theatre.tried)?;
+    let after = left_on(alloc, scene, theatre)?;
     Ok(Run {
         played,
         text,
@@ -88,19 +81,36 @@ fn show(
     })
 }
 
-/// What is left on the stage of the runs. Where a scene shows blocks its rows aren't compared: they name slices by numbers,
-/// and a flush that fails has used one.
-fn left_on(alloc: Global, scene: &Scene, stages: &mut Stages<'_>) -> Result<Left, AllocError> {
-    let rows = stages.run.rows(alloc)?;
-    let text = if scene.shows_blocks {
-        String::new(alloc)
-    } else {
-        rows_text(alloc, &rows)?
-    };
-    let objects = stages.run.objects(alloc)?;
+/// What is left on the stage of tries.
+fn left_on(
+    alloc: Global,
+    scene: &Scene,
+    theatre: &mut Theatre<impl Player>,
+) -> Result<Left, AllocError> {
+    let rows = theatre.tried.rows(alloc)?;
+    let text = compared_text(alloc, scene, &rows)?;
+    let objects = theatre.tried.objects(alloc)?;
     let mut listed = String::new(alloc);
-    push_list(alloc, &mut listed, scene, rows, objects, stages.list)?;
+    push_list(
+        alloc,
+        &mut listed,
+        scene,
+        rows,
+        objects,
+        &mut theatre.listed,
+        &theatre.player,
+    )?;
     Ok(Left { rows: text, listed })
+}
+
+/// The rows as they are compared. Where a scene shows blocks that is without numbers of slices, since a flush that fails has
+/// used one.
+fn compared_text(alloc: Global, scene: &Scene, rows: &Rows) -> Result<String, AllocError> {
+    if scene.shows_blocks {
+        unnumbered_text(alloc, rows)
+    } else {
+        rows_text(alloc, rows)
+    }
 }
 
 /// What the runs of a sweep came to.
@@ -142,11 +152,11 @@ fn push_device(
     base: &Run,
     sweep: Sweep,
     device: Device,
-    stages: &mut Stages<'_>,
+    theatre: &mut Theatre<impl Player>,
 ) -> Result<(), AllocError> {
     let mut sum = Sum::NONE;
     for number in sweep.first..=sweep.last {
-        sum = push_run(alloc, report, scene, base, (device, number), sum, stages)?;
+        sum = push_run(alloc, report, scene, base, (device, number), sum, theatre)?;
     }
     push_sum(report, sweep, device, sum)
 }
@@ -159,10 +169,10 @@ fn push_run(
     base: &Run,
     failing: (Device, u64),
     sum: Sum,
-    stages: &mut Stages<'_>,
+    theatre: &mut Theatre<impl Player>,
 ) -> Result<Sum, AllocError> {
-    let now = show(alloc, scene, Variant::Fails(failing.0, failing.1), stages)?;
-    judge(alloc, report, scene, base, &now, failing, sum, stages)
+    let now = show(alloc, scene, Variant::Fails(failing.0, failing.1), theatre)?;
+    judge(alloc, report, scene, base, &now, failing, sum, theatre)
 }
 
 /// Adds what of the rule a run breaks. Returns the sum with it.
@@ -174,10 +184,10 @@ fn judge(
     now: &Run,
     failing: (Device, u64),
     sum: Sum,
-    stages: &mut Stages<'_>,
+    theatre: &mut Theatre<impl Player>,
 ) -> Result<Sum, AllocError> {
     let (device, number) = failing;
-    let broken = broken_by(alloc, scene, base, now, device, stages)?;
+    let broken = broken_by(alloc, scene, base, now, device, theatre)?;
     push_broken(report, number, device, broken)?;
     Ok(sum.with(&base.played, &now.played, device, broken.is_some()))
 }
@@ -245,7 +255,7 @@ fn broken_failure(
     now: &Run,
     device: Device,
     line: usize,
-    stages: &mut Stages<'_>,
+    theatre: &mut Theatre<impl Player>,
 ) -> Result<Option<&'static str>, AllocError> {
     if let Some(why) = broken_count(base, now, device) {
         return Ok(Some(why));
@@ -253,7 +263,7 @@ fn broken_failure(
     if !scene.is_plain() {
         return Ok(None);
     }
-    let without = show(alloc, scene, Variant::Without(line), stages)?;
+    let without = show(alloc, scene, Variant::Without(line), theatre)?;
     Ok(broken_rest(now, &without, line))
 }
 
@@ -300,10 +310,10 @@ fn broken_by(
     base: &Run,
     now: &Run,
     device: Device,
-    stages: &mut Stages<'_>,
+    theatre: &mut Theatre<impl Player>,
 ) -> Result<Option<&'static str>, AllocError> {
     match first_failure(base, now, device) {
-        Some(line) => broken_failure(alloc, scene, base, now, device, line, stages),
+        Some(line) => broken_failure(alloc, scene, base, now, device, line, theatre),
         None => Ok(broken_rule(base, now, device)),
     }
 }

@@ -63,6 +63,27 @@ impl<T: Drop> From<AllocFailed<T>> for BadLine {
     }
 }
 
+/// The first line that is no line of a scene.
+#[derive(Clone, Copy)]
+pub struct BadScenes {
+    /// Its number, from 1.
+    pub number: u64,
+    pub why: BadLine,
+}
+
+/// Reads all scenes of a text.
+pub fn read_scenes(alloc: Global, text: &str) -> Result<Vec<Scene>, BadScenes> {
+    let mut reader = SceneReader::new(alloc);
+    let mut number = 0u64;
+    for line in text.split('\n') {
+        number = number.saturating_add(1);
+        if let Err(why) = reader.line(line) {
+            return Err(BadScenes { number, why });
+        }
+    }
+    reader.end().map_err(|why| BadScenes { number, why })
+}
+
 /// Of which run a script is.
 #[derive(Clone, Copy)]
 enum Part {
@@ -73,7 +94,7 @@ enum Part {
 
 /// The scenes of the lines so far.
 #[derive(Drop)]
-pub struct SceneReader {
+struct SceneReader {
     alloc: Global,
     scenes: Vec<Scene>,
     /// The script whose lines these are, where they are those of one.
@@ -81,7 +102,7 @@ pub struct SceneReader {
 }
 
 impl SceneReader {
-    pub fn new(alloc: Global) -> SceneReader {
+    fn new(alloc: Global) -> SceneReader {
         SceneReader {
             alloc,
             scenes: Vec::new(alloc),
@@ -90,7 +111,7 @@ impl SceneReader {
     }
 
     /// Reads the next line.
-    pub fn line(&mut self, line: &str) -> Result<(), BadLine> {
+    fn line(&mut self, line: &str) -> Result<(), BadLine> {
         if let Some(part) = self.part {
             return self.script_line(part, line);
         }
@@ -107,7 +128,7 @@ impl SceneReader {
     }
 
     /// The scenes, after the last line.
-    pub fn end(self) -> Result<Vec<Scene>, BadLine> {
+    fn end(self) -> Result<Vec<Scene>, BadLine> {
         let SceneReader { scenes, part, .. } = self;
         if part.is_some() {
             return Err(BadLine::NoEnd);
@@ -166,32 +187,70 @@ fn part_of(scene: &Scene) -> Part {
 /// Reads a line by its key word.
 fn read_key(alloc: Global, scene: &mut Scene, key: &str, rest: &str) -> Result<(), BadLine> {
     match key {
-        "words" => scene.words = Some(words(alloc, rest)?),
-        "word" => add_word(alloc, scene, String::from_str(alloc, rest)?)?,
-        "long" => add_word(alloc, scene, long_word(alloc, rest)?)?,
-        "clock" => scene.clock = moment(rest)?,
-        "fail" => add_fails(scene, rest)?,
-        "in_pieces_of" => scene.most = most(rest)?,
+        "words" | "word" | "long" => read_words(alloc, scene, key, rest),
+        "lines" | "text" | "bytes" => read_piece(alloc, scene, key, rest),
+        "again" | "try" | "then" => read_run(alloc, scene, key, rest),
+        "rows" | "row" | "clock" | "fail" | "in_pieces_of" => read_device(alloc, scene, key, rest),
+        "show" => show(scene, rest),
+        "for" => {
+            scene.sweeps.push(sweep(rest)?)?;
+            Ok(())
+        }
+        _ => Err(BadLine::NoKey),
+    }
+}
+
+/// Reads a line about the words of the first run.
+fn read_words(alloc: Global, scene: &mut Scene, key: &str, rest: &str) -> Result<(), BadLine> {
+    match key {
+        "words" => {
+            scene.words = Some(words(alloc, rest)?);
+            Ok(())
+        }
+        "word" => add_word(alloc, scene, String::from_str(alloc, rest)?),
+        _ => add_word(alloc, scene, long_word(alloc, rest)?),
+    }
+}
+
+/// Reads a line about what a device holds, or how it answers.
+fn read_device(alloc: Global, scene: &mut Scene, key: &str, rest: &str) -> Result<(), BadLine> {
+    match key {
         "rows" => scene.is_fresh = is_fresh(rest)?,
         "row" => scene.rows.push(row(alloc, rest)?)?,
-        "lines" => {
-            let (count, text) = counted(alloc, rest)?;
-            scene.script.push(Piece::Lines(count, text))?;
-        }
-        "text" => {
-            let (count, text) = counted(alloc, rest)?;
-            scene.script.push(Piece::Text(count, text))?;
-        }
-        "bytes" => scene.script.push(Piece::Bytes(bytes(alloc, rest)?))?,
-        "show" => show(scene, rest)?,
-        "again" => scene.further.push(Further::Again(again(alloc, rest)?))?,
-        "try" => scene.further.push(Further::Try(words(alloc, rest)?))?,
-        "then" => scene
-            .further
-            .push(Further::TryLine(String::from_str(alloc, rest)?))?,
-        "for" => scene.sweeps.push(sweep(rest)?)?,
-        _ => return Err(BadLine::NoKey),
+        "clock" => scene.clock = moment(rest)?,
+        "fail" => add_fails(scene, rest)?,
+        _ => scene.most = most(rest)?,
     }
+    Ok(())
+}
+
+/// Reads a line that is a piece of the script.
+fn read_piece(alloc: Global, scene: &mut Scene, key: &str, rest: &str) -> Result<(), BadLine> {
+    let piece = piece(alloc, key, rest)?;
+    scene.script.push(piece)?;
+    Ok(())
+}
+
+fn piece(alloc: Global, key: &str, rest: &str) -> Result<Piece, BadLine> {
+    if key == "bytes" {
+        return Ok(Piece::Bytes(bytes(alloc, rest)?));
+    }
+    let (count, text) = counted(alloc, rest)?;
+    Ok(if key == "lines" {
+        Piece::Lines(count, text)
+    } else {
+        Piece::Text(count, text)
+    })
+}
+
+/// Reads a line about a further run.
+fn read_run(alloc: Global, scene: &mut Scene, key: &str, rest: &str) -> Result<(), BadLine> {
+    let run = match key {
+        "again" => Further::Again(again(alloc, rest)?),
+        "try" => Further::Try(words(alloc, rest)?),
+        _ => Further::TryLine(String::from_str(alloc, rest)?),
+    };
+    scene.further.push(run)?;
     Ok(())
 }
 

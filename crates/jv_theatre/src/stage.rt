@@ -1,33 +1,53 @@
 //! Stages: devices in memory, and runs over them.
-use crate::device::Device;
 use crate::objects::objects_of;
 use crate::rows::{rows, rows_of};
-use crate::scene::{Scene, Variant, bytes_of};
-use jv_cmd::{Finish, World, run};
 use jv_model::{Bytes, Journal, Rows, Sequence};
 use jv_outside::{
-    Carrier, Fails, MemCarrier, MemClock, MemDepot, MemKeeper, MemShelf, MemSink, MemSource,
-    NumberList, ObjectList,
+    Fails, MemCarrier, MemClock, MemDepot, MemKeeper, MemShelf, MemSink, MemSource, NumberList,
+    ObjectList,
 };
+use jv_scenes::{Device, Scene, Variant};
 use std::alloc::{AllocError, Global};
 use std::str;
 
-/// A world of devices in memory.
-type MemWorld = World<MemSource, MemSink, MemSink, MemKeeper, MemDepot, MemShelf, MemClock>;
+/// What a run reads and prints.
+#[derive(Drop)]
+pub struct Streams {
+    pub source: MemSource,
+    pub out: MemSink,
+    pub err: MemSink,
+}
+
+/// What holds a volume.
+#[derive(Drop)]
+pub struct Stores {
+    pub keeper: MemKeeper,
+    pub depot: MemDepot,
+    pub shelf: MemShelf,
+}
 
 /// What a world is made of for each run.
 #[derive(Drop)]
-struct Parts {
-    source: MemSource,
-    out: MemSink,
-    err: MemSink,
-    keeper: MemKeeper,
-    depot: MemDepot,
-    shelf: MemShelf,
-    clock: MemClock,
+pub struct Parts {
+    pub streams: Streams,
+    pub stores: Stores,
+    pub clock: MemClock,
     /// The calls of a run's carrier that fail.
-    carrier: NumberList,
-    journal: Journal,
+    pub carrier: NumberList,
+    pub journal: Journal,
+}
+
+/// Who runs words on a stage.
+pub trait Player {
+    /// Runs words over the parts of a stage, with this carrier, and puts back what is left of them. Returns the status. On
+    /// error nothing was run.
+    fn run(
+        &self,
+        alloc: Global,
+        words: &[String],
+        parts: &mut Option<Parts>,
+        carrier: MemCarrier,
+    ) -> Result<u8, AllocError>;
 }
 
 /// A place for the parts of one world at a time. They are dear to drop, so runs borrow their stage, and nobody else has them.
@@ -79,59 +99,54 @@ impl Played {
     }
 }
 
-/// What a world holds besides what every world has.
-#[derive(Drop)]
-pub struct Held {
-    pub script: Bytes,
-    pub rows: Rows,
-    pub objects: ObjectList,
+/// The streams of a variant of a scene.
+fn streams_of(alloc: Global, scene: &Scene, variant: Variant<'_>) -> Result<Streams, AllocError> {
+    let most = scene.most.max(1);
+    let script = scene.source(alloc, variant)?;
+    let source = scene.fails_of(alloc, Device::Source, variant)?;
+    let out = scene.fails_of(alloc, Device::Out, variant)?;
+    let err = scene.fails_of(alloc, Device::Err, variant)?;
+    Ok(Streams {
+        source: MemSource::new(script, source).in_pieces_of(most),
+        out: MemSink::new(Sequence::new(alloc), out).in_pieces_of(most),
+        err: MemSink::new(Sequence::new(alloc), err).in_pieces_of(most),
+    })
 }
 
-/// Which calls of each device fail.
-#[derive(Drop)]
-struct Failing {
-    source: Fails,
-    out: Fails,
-    err: Fails,
-    clock: Fails,
-    keeper: Fails,
-    depot: Fails,
-    carrier: Fails,
-    shelf: Fails,
-}
-
-fn never(alloc: Global) -> Fails {
-    Fails::At(Sequence::new(alloc))
-}
-
-/// No call fails.
-fn none_fails(alloc: Global) -> Failing {
-    Failing {
-        source: never(alloc),
-        out: never(alloc),
-        err: never(alloc),
-        clock: never(alloc),
-        keeper: never(alloc),
-        depot: never(alloc),
-        carrier: never(alloc),
-        shelf: never(alloc),
-    }
-}
-
-fn calls_that_fail(
+/// The stores of a variant of a scene, with these rows and objects.
+fn stores_with(
     alloc: Global,
     scene: &Scene,
     variant: Variant<'_>,
-) -> Result<Failing, AllocError> {
-    Ok(Failing {
-        source: scene.fails_of(alloc, Device::Source, variant)?,
-        out: scene.fails_of(alloc, Device::Out, variant)?,
-        err: scene.fails_of(alloc, Device::Err, variant)?,
-        clock: scene.fails_of(alloc, Device::Clock, variant)?,
-        keeper: scene.fails_of(alloc, Device::Keeper, variant)?,
-        depot: scene.fails_of(alloc, Device::Depot, variant)?,
-        carrier: scene.fails_of(alloc, Device::Carrier, variant)?,
-        shelf: scene.fails_of(alloc, Device::Shelf, variant)?,
+    rows: Rows,
+    objects: ObjectList,
+) -> Result<Stores, AllocError> {
+    let keeper = scene.fails_of(alloc, Device::Keeper, variant)?;
+    let depot = scene.fails_of(alloc, Device::Depot, variant)?;
+    let shelf = scene.fails_of(alloc, Device::Shelf, variant)?;
+    Ok(Stores {
+        keeper: MemKeeper::new(alloc, rows, keeper),
+        depot: MemDepot::new(alloc, objects, depot),
+        shelf: MemShelf::new(alloc, Sequence::new(alloc), shelf),
+    })
+}
+
+/// The parts of a variant of a scene, with these stores.
+fn parts_with(
+    alloc: Global,
+    scene: &Scene,
+    variant: Variant<'_>,
+    stores: Stores,
+) -> Result<Parts, AllocError> {
+    let clock = scene.fails_of(alloc, Device::Clock, variant)?;
+    let Fails::At(carrier) = scene.fails_of(alloc, Device::Carrier, variant)?;
+    let streams = streams_of(alloc, scene, variant)?;
+    Ok(Parts {
+        streams,
+        stores,
+        clock: MemClock::new(scene.clock, clock),
+        carrier,
+        journal: Journal::new(alloc),
     })
 }
 
@@ -148,70 +163,37 @@ impl Stage {
         scene: &Scene,
         variant: Variant<'_>,
     ) -> Result<(), AllocError> {
-        let held = Held {
-            script: scene.source(alloc, variant)?,
-            rows: rows(alloc, scene)?,
-            objects: Sequence::new(alloc),
-        };
-        let failing = calls_that_fail(alloc, scene, variant)?;
-        self.put(alloc, scene, held, failing);
-        Ok(())
+        let rows = rows(alloc, scene)?;
+        self.put(alloc, scene, variant, rows, Sequence::new(alloc))
     }
 
-    /// Sets the stage for the run that lists what rows and objects have. No call fails on it.
-    pub fn set_to_list(
+    /// Sets the stage for a variant of a scene with these rows and objects.
+    pub fn put(
         &mut self,
         alloc: Global,
         scene: &Scene,
+        variant: Variant<'_>,
         rows: Rows,
         objects: ObjectList,
     ) -> Result<(), AllocError> {
-        let held = Held {
-            script: bytes_of(alloc, scene.list.as_slice())?,
-            rows,
-            objects,
-        };
-        self.put(alloc, scene, held, none_fails(alloc));
+        let stores = stores_with(alloc, scene, variant, rows, objects)?;
+        let parts = parts_with(alloc, scene, variant, stores)?;
+        self.parts = Some(parts);
         Ok(())
-    }
-
-    fn put(&mut self, alloc: Global, scene: &Scene, held: Held, failing: Failing) {
-        let most = scene.most.max(1);
-        let Failing {
-            source,
-            out,
-            err,
-            clock,
-            keeper,
-            depot,
-            carrier,
-            shelf,
-        } = failing;
-        let Fails::At(carrier) = carrier;
-        self.parts = Some(Parts {
-            source: MemSource::new(held.script, source).in_pieces_of(most),
-            out: MemSink::new(Sequence::new(alloc), out).in_pieces_of(most),
-            err: MemSink::new(Sequence::new(alloc), err).in_pieces_of(most),
-            keeper: MemKeeper::new(alloc, held.rows, keeper),
-            depot: MemDepot::new(alloc, held.objects, depot),
-            shelf: MemShelf::new(alloc, Sequence::new(alloc), shelf),
-            clock: MemClock::new(scene.clock, clock),
-            carrier,
-            journal: Journal::new(alloc),
-        });
     }
 
     /// Has the source give another script, at no call of which it fails.
     pub fn set_script(&mut self, alloc: Global, script: Bytes) {
         if let Some(parts) = &mut self.parts {
-            parts.source = MemSource::new(script, never(alloc));
+            let never = Fails::At(Sequence::new(alloc));
+            parts.streams.source = MemSource::new(script, never);
         }
     }
 
     /// The rows of the keeper.
     pub fn rows(&mut self, alloc: Global) -> Result<Rows, AllocError> {
         match &mut self.parts {
-            Some(parts) => rows_of(alloc, &mut parts.keeper),
+            Some(parts) => rows_of(alloc, &mut parts.stores.keeper),
             None => Ok(Sequence::new(alloc)),
         }
     }
@@ -219,7 +201,7 @@ impl Stage {
     /// The objects of the depot.
     pub fn objects(&mut self, alloc: Global) -> Result<ObjectList, AllocError> {
         match &mut self.parts {
-            Some(parts) => objects_of(alloc, &mut parts.depot),
+            Some(parts) => objects_of(alloc, &mut parts.stores.depot),
             None => Ok(Sequence::new(alloc)),
         }
     }
@@ -230,18 +212,23 @@ impl Stage {
             return None;
         };
         match device {
-            Device::Keeper => parts.keeper.opened(),
-            Device::Depot => parts.depot.opened(),
-            Device::Shelf => parts.shelf.opened(),
+            Device::Keeper => parts.stores.keeper.opened(),
+            Device::Depot => parts.stores.depot.opened(),
+            Device::Shelf => parts.stores.shelf.opened(),
             _ => None,
         }
     }
 
     /// Runs words, and returns what that came to. Where a call of the carrier failed, none fails in later runs.
-    pub fn play(&mut self, alloc: Global, words: &[String]) -> Result<Played, AllocError> {
+    pub fn play(
+        &mut self,
+        alloc: Global,
+        words: &[String],
+        player: &impl Player,
+    ) -> Result<Played, AllocError> {
         let (taken, said) = self.lengths();
         let carrier = MemCarrier::new(alloc, self.failing_carrier(alloc)?);
-        let status = self.run_words(alloc, words, carrier)?;
+        let status = player.run(alloc, words, &mut self.parts, carrier)?;
         let played = self.played(alloc, status, taken, said)?;
         if played.faults(Device::Carrier) > 0 {
             self.mend_carrier(alloc);
@@ -266,28 +253,13 @@ impl Stage {
         }
     }
 
-    /// Runs words with this carrier. Returns the status.
-    fn run_words(
-        &mut self,
-        alloc: Global,
-        words: &[String],
-        carrier: MemCarrier,
-    ) -> Result<u8, AllocError> {
-        let carrier = Box::new(alloc, carrier)?;
-        Ok(match self.parts.take() {
-            Some(parts) => {
-                let (status, parts) = run_on(alloc, words, parts, carrier);
-                self.parts = Some(parts);
-                status
-            }
-            None => 0,
-        })
-    }
-
     /// How many bytes `out` and standard error have taken.
     fn lengths(&self) -> (usize, usize) {
         match &self.parts {
-            Some(parts) => (parts.out.taken().len(), parts.err.taken().len()),
+            Some(parts) => (
+                parts.streams.out.taken().len(),
+                parts.streams.err.taken().len(),
+            ),
             None => (0, 0),
         }
     }
@@ -321,14 +293,14 @@ impl Stage {
 
     fn gained_out(&self, alloc: Global, before: usize) -> Result<Vec<u8>, AllocError> {
         match &self.parts {
-            Some(parts) => gained(alloc, &parts.out, before),
+            Some(parts) => gained(alloc, &parts.streams.out, before),
             None => Ok(Vec::new(alloc)),
         }
     }
 
     fn gained_err(&self, alloc: Global, before: usize) -> Result<Vec<u8>, AllocError> {
         match &self.parts {
-            Some(parts) => gained(alloc, &parts.err, before),
+            Some(parts) => gained(alloc, &parts.streams.err, before),
             None => Ok(Vec::new(alloc)),
         }
     }
@@ -352,70 +324,16 @@ impl Stage {
             return Count::NONE;
         };
         let (made, faults) = match device {
-            Device::Source => (parts.source.made(), parts.source.faults()),
-            Device::Out => (parts.out.made(), parts.out.faults()),
-            Device::Err => (parts.err.made(), parts.err.faults()),
+            Device::Source => (parts.streams.source.made(), parts.streams.source.faults()),
+            Device::Out => (parts.streams.out.made(), parts.streams.out.faults()),
+            Device::Err => (parts.streams.err.made(), parts.streams.err.faults()),
             Device::Clock => (parts.clock.made(), parts.clock.faults()),
-            Device::Keeper => (parts.keeper.made(), parts.keeper.faults()),
-            Device::Depot => (parts.depot.made(), parts.depot.faults()),
-            Device::Shelf => (parts.shelf.made(), parts.shelf.faults()),
+            Device::Keeper => (parts.stores.keeper.made(), parts.stores.keeper.faults()),
+            Device::Depot => (parts.stores.depot.made(), parts.stores.depot.faults()),
+            Device::Shelf => (parts.stores.shelf.made(), parts.stores.shelf.faults()),
             Device::Carrier => (0, carrier),
         };
         Count { made, faults }
-    }
-}
-
-/// Runs words over what a world is made of, with this carrier. Returns the status, and what is left but for the carrier.
-fn run_on(alloc: Global, words: &[String], parts: Parts, sends: Box<dyn Carrier>) -> (u8, Parts) {
-    let Parts {
-        source,
-        out,
-        err,
-        keeper,
-        depot,
-        shelf,
-        clock,
-        carrier,
-        journal,
-    } = parts;
-    let world = World {
-        source,
-        out,
-        err,
-        keeper,
-        depot,
-        shelf,
-        clock,
-        carrier: sends,
-        journal,
-    };
-    let Finish { status, world } = run(alloc, words, world);
-    (status, parts_of(world, carrier))
-}
-
-/// What a run left, but for its carrier.
-fn parts_of(world: MemWorld, carrier: NumberList) -> Parts {
-    let World {
-        source,
-        out,
-        err,
-        keeper,
-        depot,
-        shelf,
-        clock,
-        journal,
-        ..
-    } = world;
-    Parts {
-        source,
-        out,
-        err,
-        keeper,
-        depot,
-        shelf,
-        clock,
-        carrier,
-        journal,
     }
 }
 

@@ -1,10 +1,10 @@
 //! What is printed of runs.
-use crate::device::{DEVICES, Device};
 use crate::objects::objects_text;
-use crate::scene::Scene;
-use crate::stage::{Played, Stage};
+use crate::rows::rows_text;
+use crate::stage::{Played, Player, Stage};
 use jv_model::Rows;
 use jv_outside::ObjectList;
+use jv_scenes::{DEVICES, Device, Scene, Variant};
 use std::alloc::{AllocError, Global};
 use std::str;
 
@@ -131,6 +131,20 @@ pub fn push_objects(
     report.push_str(objects_text(alloc, &objects)?.as_str())
 }
 
+/// Adds the rows of a keeper, where the scene shows them.
+pub fn push_rows(
+    alloc: Global,
+    report: &mut String,
+    scene: &Scene,
+    stage: &mut Stage,
+) -> Result<(), AllocError> {
+    if !scene.shows_rows {
+        return Ok(());
+    }
+    let rows = stage.rows(alloc)?;
+    report.push_str(rows_text(alloc, &rows)?.as_str())
+}
+
 /// Lists what is left in rows and objects, where the scene has a script for that, and adds the answers. The run is made
 /// on the stage.
 pub fn push_list(
@@ -140,12 +154,13 @@ pub fn push_list(
     rows: Rows,
     objects: ObjectList,
     stage: &mut Stage,
+    player: &impl Player,
 ) -> Result<(), AllocError> {
     if scene.list.is_empty() {
         return Ok(());
     }
-    stage.set_to_list(alloc, scene, rows, objects)?;
-    let played = stage.play(alloc, scene.words())?;
+    stage.put(alloc, scene, Variant::List, rows, objects)?;
+    let played = stage.play(alloc, scene.words(), player)?;
     push_listed(alloc, report, &played)
 }
 
@@ -166,7 +181,11 @@ pub fn push_try(report: &mut String, words: &[String], played: &Played) -> Resul
         report.push_str(" ")?;
         report.push_str(word.as_str())?;
     }
-    let text = said(played);
+    push_first_line(report, said(played))
+}
+
+/// Ends a line with the first line of a text, and the number of those behind it.
+fn push_first_line(report: &mut String, text: &str) -> Result<(), AllocError> {
     if let Some(first) = text.lines().next() {
         write!(report, " -> {first}")?;
     }

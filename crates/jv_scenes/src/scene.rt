@@ -46,6 +46,8 @@ pub enum Variant<'a> {
     Line(&'a str),
     /// The script lacks the piece of this number, from 0.
     Without(usize),
+    /// The script is that which lists what is left, and no call fails.
+    List,
 }
 
 /// Runs in each of which one more call fails.
@@ -124,15 +126,29 @@ impl Scene {
 
     /// The bytes of the script.
     pub fn source(&self, alloc: Global, variant: Variant<'_>) -> Result<Bytes, AllocError> {
+        match variant {
+            Variant::List => bytes_of(alloc, self.list.as_slice()),
+            Variant::Without(left_out) => self.source_without(alloc, left_out),
+            Variant::Line(line) => self.source_with(alloc, line),
+            Variant::Same | Variant::Fails(_, _) => bytes_of(alloc, self.script.as_slice()),
+        }
+    }
+
+    /// The bytes of the script without the piece of this number, from 0.
+    fn source_without(&self, alloc: Global, left_out: usize) -> Result<Bytes, AllocError> {
         let mut bytes = Vec::new(alloc);
         for (number, piece) in self.script.iter().enumerate() {
-            if !matches!(variant, Variant::Without(left_out) if left_out == number) {
+            if number != left_out {
                 extend_by(&mut bytes, piece)?;
             }
         }
-        if let Variant::Line(line) = variant {
-            extend(&mut bytes, 1, line, b"\n")?;
-        }
+        Ok(Sequence::from_vec(bytes))
+    }
+
+    /// The bytes of the script and of one more line.
+    fn source_with(&self, alloc: Global, line: &str) -> Result<Bytes, AllocError> {
+        let mut bytes = bytes_of(alloc, self.script.as_slice())?.into_vec();
+        extend(&mut bytes, 1, line, b"\n")?;
         Ok(Sequence::from_vec(bytes))
     }
 
@@ -154,6 +170,9 @@ impl Scene {
         variant: Variant<'_>,
     ) -> Result<Fails, AllocError> {
         let mut numbers = Sequence::new(alloc);
+        if matches!(variant, Variant::List) {
+            return Ok(Fails::At(numbers));
+        }
         for (failing, number) in self.fails.as_slice() {
             if *failing == device {
                 numbers.push(*number)?;

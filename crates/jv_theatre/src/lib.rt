@@ -1,0 +1,12 @@
+//! Runs of scenes over devices in memory, and what is printed of them. Who runs a command's words is handed in.
+#![tactic(auto)]
+
+mod objects;
+mod report;
+mod rows;
+mod stage;
+mod sweep;
+mod theatre;
+
+pub use stage::{Parts, Player, Stores, Streams};
+pub use theatre::{Theatre, push_scene};
