@@ -10,8 +10,9 @@ use Rattle.jv_model.specs.declared.limits.TheConstants.{MAX_DATA}
 use Rattle.jv_model.specs.script.Spelling.{is_hex_digit}
 use Rattle.jv_model.specs.script.Printed.{Repeated}
 use Rattle.jv_model.specs.script.Grammar.{repeated_of, part_of, bytes_of_parts, data_of}
+use Rattle.jv_script.proofs.PrintedDigitLaws.{decimal_read}
 use Rattle.jv_script.proofs.PartLaws.{part_of_with_x, some_bytes}
-use Rattle.jv_cmd.proofs.DrawnNumberLaws.{IsPair, decimal_past, decimal_read}
+use Rattle.jv_cmd.proofs.DrawnNumberLaws.{IsPair, decimal_past}
 use Rattle.jv_cmd.proofs.DrawnWordLaws.{IsWord, all_have, are_past, lacks}
 
 small_data : (n : ℕ) → n ≤ MAX_DATA → n < 2 ^ 64

@@ -1,14 +1,13 @@
 -- The text of a drawn script, line by line, and the totals of its answers, one by one.
-use Rattle.std.proofs.Common.{◌≡◌, ℕ, zero, suc, ◌+◌, ◌-◌, ◌<◌, List, [], ◌∷◌, ◌++◌, length, take, drop, fold, if◌then◌else◌, is_some, Option, None, Some, slice_get, codes, refl, sym, ap, ◌∙◌, arith}
+use Rattle.std.proofs.Common.{◌≡◌, ℕ, zero, suc, ◌+◌, ◌-◌, ◌<◌, List, [], ◌∷◌, ◌++◌, length, take, drop, fold, if◌then◌else◌, is_some, Option, None, Some, slice_get, refl, sym, ap, ◌∙◌, arith}
 use Rattle.std.specs.List.{flat_map, position}
 use Rattle.std.proofs.lemmas.List.{append_assoc, append-nil, length-drop, take_all, drop_all}
 use Rattle.jv_model.specs.declared.op.Line.{Line}
-use Rattle.jv_model.specs.script.Grammar.{line_of}
 use Rattle.jv_generator.specs.declared.accesses.TheConstants.{LINES}
 use Rattle.jv_generator.specs.Script.{Drawn, script}
 use Rattle.jv_generator.specs.Summary.{TotalsValue, with_reply}
 use Rattle.jv_generator.proofs.ScriptLaws.{script_length}
-use Rattle.jv_cmd.specs.Generating.{line_bytes, line_text, replies_said, reply_said, script_text, spelled_bytes, written}
+use Rattle.jv_cmd.specs.Generating.{line_text, replies_said, reply_said, script_text}
 use Rattle.jv_cmd.specs.Texts.{is_feed, texts_of}
 use Rattle.jv_cmd.proofs.TextLaws.{around_feed, no_feed, texts_of-feed, texts_of-last}
 
@@ -88,20 +87,6 @@ pub totals_whole : (t : TotalsValue) (seed k : ℕ) (said : List ℕ) → k ≡ 
 totals_whole t seed k said end =
     ap (λ (ls : List Line). fold with_reply t (replies_said ls (texts_of said)))
     (drop_all k (script seed) (omega (arith, end, script_length seed)))
-
--- ==== what an answer spells ====
-
-pub spelled_line : (digits text bytes : List ℕ) (line : Line) → text ≡ codes "A write 1 0 " ++ digits → line_of text ≡ Some line
-    → bytes ≡ line_bytes line → bytes ≡ spelled_bytes digits
-unfolding spelled_bytes
-spelled_line digits text bytes line text_is read is =
-    is ∙ sym (ap written read) ∙ ap (λ (t : List ℕ). written (line_of t)) text_is
-
-pub spelled_none : (digits text bytes : List ℕ) → text ≡ codes "A write 1 0 " ++ digits → line_of text ≡ None → bytes ≡ []
-    → bytes ≡ spelled_bytes digits
-unfolding spelled_bytes
-spelled_none digits text bytes text_is none is =
-    is ∙ sym (ap written none) ∙ ap (λ (t : List ℕ). written (line_of t)) text_is
 
 -- ==== the first answer ====
 

@@ -19,7 +19,8 @@ use Rattle.jv_client.specs.Built.{is_built_op}
 use Rattle.jv_cmd.specs.Generating.{operation_text, repeated_text}
 use Rattle.jv_cmd.specs.Texts.{has_feed}
 use Rattle.jv_cmd.proofs.DrawnDataLaws.{run_read, run_word}
-use Rattle.jv_cmd.proofs.DrawnNumberLaws.{decimal_read, decimal_word, pair_read}
+use Rattle.jv_script.proofs.PrintedDigitLaws.{decimal_read}
+use Rattle.jv_cmd.proofs.DrawnNumberLaws.{decimal_word, pair_read}
 use Rattle.jv_cmd.proofs.DrawnPathLaws.{file_read, file_spelled, file_word}
 use Rattle.jv_cmd.proofs.DrawnWordLaws.{AreWords, IsWord, length_joined, no_feed_joined, words_joined}
 

@@ -11,7 +11,8 @@ use Rattle.std.proofs.lemmas.List.Sums.{AllPass-from_list_all}
 use Rattle.jv_model.specs.script.Spelling.{is_decimal_digit}
 use Rattle.jv_model.specs.script.Grammar.{begins_with_slash, bytes_between, is_plain, path_of, unescaped}
 use Rattle.jv_model.specs.script.Spelled.{has_no_zero}
-use Rattle.jv_cmd.proofs.DrawnNumberLaws.{decimal_digits, decimal_word, digit_past}
+use Rattle.jv_script.proofs.PrintedDigitLaws.{decimal_digits}
+use Rattle.jv_cmd.proofs.DrawnNumberLaws.{decimal_word, digit_past}
 use Rattle.jv_cmd.proofs.DrawnWordLaws.{IsWord, all_have}
 
 -- a text without an escape

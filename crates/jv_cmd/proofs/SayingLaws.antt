@@ -1,5 +1,5 @@
 -- What was said, by one write after another.
-use Rattle.std.proofs.Common.{◌≡◌, ℕ, ◌+◌, ◌<◌, List, [], ◌∷◌, ◌++◌, append_assoc, length, get_or, suc, take, drop, Result, Ok, Err, IsErrAnd, sym, ap, subst, ◌∙◌, arith, length-append, refl}
+use Rattle.std.proofs.Common.{◌≡◌, ℕ, ◌+◌, ◌<◌, List, ◌∷◌, ◌++◌, append_assoc, length, get_or, suc, take, drop, Result, Ok, Err, IsErrAnd, sym, ap, subst, ◌∙◌, arith, length-append, refl}
 use Rattle.std.specs.List.{flat_map}
 use Rattle.std.proofs.lemmas.List.{take_at, drop_at, take-append-le}
 use Rattle.std.proofs.lemmas.List.Concat.{flat_map-cons}
@@ -11,7 +11,7 @@ use Rattle.jv_outside.specs.Stream.{Stream, Gains, HasAll, IsCut, FailsToWriteAl
 use Rattle.jv_outside.proofs.StreamLaws.{Gains-trans}
 use Rattle.jv_cmd.specs.Saying.{Says, Said, Cut}
 use Rattle.jv_cmd.specs.declared.ended.Ended.{Ended}
-use Rattle.jv_cmd.specs.Ends.{message_of, digits_or_dash}
+use Rattle.jv_cmd.specs.Ends.{message_of}
 use Rattle.jv_cmd.proofs.ReadingLaws.{Rose-since}
 
 -- whether a call failed or not
@@ -104,11 +104,6 @@ pub key_parts : (start tab space number digits end : List ℕ)
     → start ++ (tab ++ space ++ number ++ space ++ digits) ++ end ≡ start ++ tab ++ space ++ number ++ space ++ digits
     ++ end
 key_parts start tab space number digits end = simp append_assoc
-
--- bytes as pairs of digits, where there are some
-pub digits_there : (bytes : List ℕ) → 0 < length bytes → digits_or_dash bytes ≡ flat_map hex_pair bytes
-digits_there [] some = absurd (omega (arith, some))
-digits_there (byte ∷ bytes) some = refl
 
 -- those of the bytes before a place, of the one there, and of those behind it
 pub pairs_apart : (bytes : List ℕ) (i : ℕ) → i < length bytes

@@ -12,11 +12,6 @@ use Rattle.jv_cmd.specs.Steps.{EndsLines}
 use Rattle.jv_cmd.proofs.DrawnEndLaws.{drawn_runs}
 use Rattle.jv_cmd.proofs.GoingLaws.{EndsLines-none}
 
--- the script of the source
-pub EndsScript-source : (before after : StageValue) (ended : Ended) → EndsLines before after ended → EndsScript None before after ended
-EndsScript-source before after ended e =
-    record { answers = e.answers; runs = e.runs; faults = e.faults; stays = e.stays; counts = e.counts }
-
 all_calm : (said : Option (List ℕ)) (before after : Stream) (line : List ℕ → List ℕ) → IsSomeAnd said (λ text. HasAll before after (line text))
     → after.faults ≡ before.faults
 all_calm None before after line h = absurd h

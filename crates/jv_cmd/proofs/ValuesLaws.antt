@@ -1,5 +1,5 @@
 -- Numbers of a few digits, and lengths of blocks.
-use Rattle.std.proofs.Common.{◌≡◌, ℕ, ◌^◌, ◌+◌, ◌-◌, ◌*◌, ◌<◌, ◌≤◌, true, false, not, ◌==◌, nat_le, List, [], ◌∷◌, length, get_or, arith, refl, subst, Bool, zero, suc, None, inl, inr}
+use Rattle.std.proofs.Common.{◌≡◌, ℕ, ◌^◌, ◌-◌, ◌<◌, ◌≤◌, true, false, not, ◌==◌, nat_le, List, [], ◌∷◌, length, get_or, arith, refl, subst, Bool, zero, suc, None, inl, inr}
 use Rattle.std.specs.List.{AllByRecursion, list_all, list_any}
 use Rattle.std.specs.Prelude.{◌||◌}
 use Rattle.std.proofs.lemmas.Bool.{eqb-true}
@@ -10,14 +10,9 @@ use Rattle.jv_shared.specs.Lengths.{IsLength}
 use Rattle.jv_shared.proofs.SettingLaws.{both_true}
 use Rattle.std.proofs.lemmas.Bool.{and_parts, cases_lt, leb-true}
 use Rattle.std.proofs.lemmas.Bool.Decides.{nat_tests}
-use Rattle.std.proofs.lemmas.Grind.{pow_more}
 use Rattle.std.proofs.Math.Nat.{pow-le-pow_right}
 use Rattle.jv_model.specs.script.Spelling.{is_decimal_digit, is_numeral}
 use Rattle.jv_cmd.specs.Values.{as_block_size, is_block_size}
-
--- ten times more
-pub power_more : (n digit i : ℕ) → n < 10 ^ i → digit < 10 → n * 10 + digit < 10 ^ (i + 1)
-power_more n digit i below small = omega (arith, pow_more 10 i)
 
 -- 19 digits are few
 pub power_few : (i : ℕ) → i ≤ 19 → 10 ^ i ≤ 10000000000000000000

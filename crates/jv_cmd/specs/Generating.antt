@@ -1,5 +1,5 @@
 -- What a session is whose script is drawn from a seed: one that reads the script's text, but that prints a summary in place of answers.
-use Rattle.std.specs.Prelude.{◌≡◌, ◌≢◌, ℕ, Bool, true, false, ◌==◌, if◌then◌else◌, List, [], ◌∷◌, ◌++◌, length, drop, Option, None, Some, IsSomeAnd, codes, decimal}
+use Rattle.std.specs.Prelude.{◌≡◌, ◌≢◌, ℕ, Bool, true, false, ◌==◌, if◌then◌else◌, List, [], ◌∷◌, ◌++◌, length, drop, Option, None, Some, unwrap_or, IsSomeAnd, codes, decimal}
 use Rattle.std.specs.List.{flat_map}
 use Rattle.jv_model.specs.declared.fault.Device.{Device}
 use Rattle.jv_model.specs.declared.fault.Fault.TheVariants.{NotFound}
@@ -9,7 +9,7 @@ use Rattle.jv_model.specs.declared.op.Line.{Line}
 use Rattle.jv_model.specs.declared.op.Line.TheVariants.{Do}
 use Rattle.jv_model.specs.declared.op.Reply.{Reply}
 use Rattle.jv_model.specs.declared.op.Reply.TheVariants.{Refused, Data, Done}
-use Rattle.jv_model.specs.script.Grammar.{line_of}
+use Rattle.jv_model.specs.script.Grammar.{data_of}
 use Rattle.jv_model.specs.script.Printed.{hex_pair, number_word}
 use Rattle.jv_model.specs.script.ReplyText.{mode_digits}
 use Rattle.jv_outside.specs.Causes.{RoseTimes}
@@ -62,22 +62,9 @@ script_text seed = flat_map line_text (script seed)
 
 -- the summary of answers
 
-abbrev pub op_bytes : Op → List ℕ
-op_bytes (Write handle position bytes) = bytes
-op_bytes _ = []
-
-abbrev pub line_bytes : Line → List ℕ
-line_bytes (Do client operation) = op_bytes operation
-line_bytes _ = []
-
--- the bytes that a line writes
-abbrev pub written : Option Line → List ℕ
-written None = []
-written (Some line) = line_bytes line
-
--- the bytes that the DATA of an answer spells: those that a write of it writes
-unfoldable pub spelled_bytes : List ℕ → List ℕ
-spelled_bytes digits = written (line_of (codes "A write 1 0 " ++ digits))
+-- the bytes that the DATA of an answer spells
+abbrev pub spelled_bytes : List ℕ → List ℕ
+spelled_bytes digits = unwrap_or (data_of digits) []
 
 abbrev pub is_read_op : Op → Bool
 is_read_op (Read handle position size) = true

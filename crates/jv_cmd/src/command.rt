@@ -158,44 +158,26 @@ fn run_attached<S: Source, O: Sink, E: Sink, K: Keeper, D: Depot, H: Shelf, C: C
         RunsAttached options.now setting (seen world) (seen result.1) result.0 }
     ensures err { result.1.err ≡ world.err }
 {
-    let World {
-        source,
-        out,
-        err,
-        keeper,
-        depot,
-        shelf,
-        clock,
-        carrier,
-        journal,
-    } = world;
-    match Yard::start(alloc, depot, shelf, &setting) {
+    match Yard::start(alloc, world.depot, world.shelf, &setting) {
         Ok(yard) => {
-            let limits = limits_of(options, setting.block);
             let stage = Stage {
-                limits,
-                source,
-                out,
-                keeper,
+                limits: limits_of(options, setting.block),
+                source: world.source,
+                out: world.out,
+                keeper: world.keeper,
                 door: Alone::new(yard),
-                clock,
-                carrier,
-                journal,
+                clock: world.clock,
+                carrier: world.carrier,
+                journal: world.journal,
             };
             let (ended, stage) = run_staged(alloc, options.generate, setting, stage);
-            (ended, stage.into_world(err))
+            (ended, stage.into_world(world.err))
         }
         Err((depot, shelf, fault)) => {
             let world = World {
-                source,
-                out,
-                err,
-                keeper,
                 depot,
                 shelf,
-                clock,
-                carrier,
-                journal,
+                ..world
             };
             (ended_by_yard(fault), world)
         }

@@ -6,7 +6,7 @@ ghost use Rattle.jv_model.specs.script.Printed.{hex_pair, number_word};
 ghost use Rattle.jv_model.specs.script.ReplyText.{mode_digits};
 ghost use Rattle.jv_generator.specs.Summary.{totals_of, with_reply};
 ghost use Rattle.jv_generator.specs.Script.{script};
-ghost use Rattle.jv_cmd.specs.Generating.{EndsScript, PrintsSummary, SumsUp, create_words, is_read, is_read_op, line_bytes, line_text, op_bytes, operation_text, read_words, repeated_text, replies_said, reply_said, script_text, spelled_bytes, summary_of, write_words};
+ghost use Rattle.jv_cmd.specs.Generating.{EndsScript, PrintsSummary, SumsUp, create_words, is_read, is_read_op, line_text, operation_text, read_words, repeated_text, replies_said, reply_said, script_text, spelled_bytes, summary_of, write_words};
 ghost use Rattle.jv_cmd.specs.Stages.{IsFirst};
 ghost use Rattle.jv_cmd.specs.Texts.{texts_of};
 
@@ -18,7 +18,7 @@ use itoa::Buffer;
 use jv_generator::{Generator, Totals};
 use jv_model::{Bytes, Fault, Line, Op, Reply, Setting};
 use jv_outside::{Clock, Depot, Keeper, NeverSink, NeverSource, Shelf, Sink, Source, write_whole};
-use jv_script::{BadLine, read_line};
+use jv_script::{BadLine, read_data};
 use jv_yard::{Alone, YardDoor};
 use std::alloc::{AllocError, Global};
 
@@ -149,43 +149,12 @@ fn script_text(alloc: Global, seed: u64) -> Result<Bytes, AllocError>
     Ok(Bytes::from_vec(text))
 }
 
-/// The bytes of a write.
-fn op_bytes(alloc: Global, op: Op) -> Bytes
-    ensures { result ≡ op_bytes op }
-{
-    match op {
-        Op::Write { bytes, .. } => bytes,
-        _ => Bytes::new(alloc),
-    }
-}
-
-/// The bytes that a line writes.
-fn line_bytes(alloc: Global, line: Line) -> Bytes
-    ensures { result ≡ line_bytes line }
-{
-    match line {
-        Line::Do(_, op) => op_bytes(alloc, op),
-        _ => Bytes::new(alloc),
-    }
-}
-
-/// The text of a write of these digits.
-fn write_text(alloc: Global, digits: &[u8]) -> Result<Vec<u8>, AllocError>
-    ensures { IfOk result (λ text. text.items ≡ codes "A write 1 0 " ++ digits.now) }
-{
-    let mut text = Vec::new(alloc);
-    text.extend_from_slice(b"A write 1 0 ")?;
-    text.extend_from_slice(digits)?;
-    Ok(text)
-}
-
-/// The bytes that the digits of an answer spell. A line of a write has the same spelling.
+/// The bytes that the DATA of an answer spells.
 fn spelled_bytes(alloc: Global, digits: &[u8]) -> Result<Bytes, AllocError>
     ensures { IfOk result (λ bytes. bytes ≡ spelled_bytes digits.now) }
 {
-    let text = write_text(alloc, digits)?;
-    match read_line(alloc, text.as_slice()) {
-        Ok(line) => Ok(line_bytes(alloc, line)),
+    match read_data(alloc, digits) {
+        Ok(bytes) => Ok(bytes),
         Err(BadLine::Off) => Ok(Bytes::new(alloc)),
         Err(BadLine::Memory) => Err(AllocError),
     }
@@ -338,52 +307,31 @@ pub(crate) fn run_drawn<S: Source, O: Sink, K: Keeper, D: Depot, H: Shelf, C: Cl
     let Ok(text) = script_text(alloc, seed) else {
         return (Ended::OutOfMemory, stage);
     };
-    let Stage {
-        limits,
-        source,
-        out,
-        keeper,
-        door,
-        clock,
-        carrier,
-        journal,
-    } = stage;
     let script = NeverSource::new(text);
     let none = Bytes::new(alloc);
     let answers = NeverSink::new(none);
     let mut lines = Stage {
-        limits,
+        limits: stage.limits,
         source: script,
         out: answers,
-        keeper,
-        door,
-        clock,
-        carrier,
-        journal,
+        keeper: stage.keeper,
+        door: stage.door,
+        clock: stage.clock,
+        carrier: stage.carrier,
+        journal: stage.journal,
     };
     let ran = run_script(alloc, setting, &mut lines);
-    let mut out = out;
+    let mut out = stage.out;
     let ended = print_summary(alloc, seed, ran, &lines.out, &mut out);
-    let Stage {
-        limits,
-        keeper,
-        door,
-        clock,
-        carrier,
-        journal,
-        ..
-    } = lines;
-    (
-        ended,
-        Stage {
-            limits,
-            source,
-            out,
-            keeper,
-            door,
-            clock,
-            carrier,
-            journal,
-        },
-    )
+    let stage = Stage {
+        limits: lines.limits,
+        source: stage.source,
+        out,
+        keeper: lines.keeper,
+        door: lines.door,
+        clock: lines.clock,
+        carrier: lines.carrier,
+        journal: lines.journal,
+    };
+    (ended, stage)
 }

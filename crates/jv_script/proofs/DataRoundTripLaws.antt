@@ -1,45 +1,22 @@
 -- Bytes as they are printed are read as the same bytes.
-use Rattle.std.proofs.Common.{◌≡◌, ℕ, zero, suc, ◌+◌, ◌-◌, ◌*◌, ◌/◌, ◌%◌, ◌^◌, ◌<◌, ◌≤◌, ◌&&◌, ◌==◌, nat_lt, nat_le, Bool, true, false, not, cond, List, [], ◌∷◌, ◌++◌, length, get_or, map, replicate, Some, codes, bytes_eq, refl, sym, ap, ◌∙◌, arith, rules, fold}
+use Rattle.std.proofs.Common.{◌≡◌, ℕ, zero, suc, ◌+◌, ◌*◌, ◌/◌, ◌%◌, ◌^◌, ◌<◌, ◌≤◌, ◌&&◌, ◌==◌, nat_lt, nat_le, Bool, true, false, not, cond, List, [], ◌∷◌, ◌++◌, length, get_or, map, replicate, Some, codes, bytes_eq, refl, sym, ap, ◌∙◌, arith}
 use Rattle.std.specs.Prelude.{All}
 use Rattle.std.specs.List.{list_all, flat_map, join_with_byte}
 use Rattle.std.specs.Fmt.{decimal}
-use Rattle.std.proofs.lemmas.Fmt.{digits_decimal, digits_value-decimal, first_decimal}
-use Rattle.std.proofs.lemmas.Str.Parse.{IsNumeralModel, numerals_by_fold}
-use Rattle.std.proofs.lemmas.Bool.{ne_eqb, eqb-true, le-leb, lt-ltb, false≢true, false_from_ne_true, and_parts}
+use Rattle.std.proofs.lemmas.Bool.{eqb-true, le-leb, lt-ltb, false≢true, false_from_ne_true, and_parts}
 use Rattle.std.proofs.Math.Bool.{and-false}
 use Rattle.std.proofs.lemmas.List.{append_assoc, length-append, length-replicate}
 use Rattle.std.proofs.lemmas.List.Splits.{slice_split_at, slice_split_none}
 use Rattle.std.proofs.lemmas.List.Sums.{AllPass-from_list_all}
 use Rattle.jv_model.specs.declared.limits.TheConstants.{MAX_DATA}
-use Rattle.jv_model.specs.script.Spelling.{is_decimal_digit, is_hex_digit, hex_value, bytes_of_digits, value_of, is_numeral, number_of}
+use Rattle.jv_model.specs.script.Spelling.{is_decimal_digit, is_hex_digit, bytes_of_digits}
 use Rattle.jv_model.specs.script.Printed.{hex_digit, hex_pair, Run, with_byte, runs_of, Part, Plain, Repeated, with_short, parts_of, part_text, data_text}
-use Rattle.jv_model.specs.script.Grammar.{byte_of, parted, is_pairs, repeated_of, part_of, part_bytes, all_parts_of, data_of}
+use Rattle.jv_model.specs.script.Grammar.{parted, is_pairs, repeated_of, part_of, part_bytes, all_parts_of, data_of}
 use Rattle.jv_script.specs.Reading.{bytes_after}
 use Rattle.jv_script.specs.RoundTrips.{IsByte, DataIsReadAgain}
-use Rattle.jv_script.proofs.DigitLaws.{number_in}
+use Rattle.jv_script.proofs.PrintedDigitLaws.{high_is_hex, low_is_hex, pair_value, decimal_digits, decimal_read}
 use Rattle.jv_script.proofs.PartLaws.{part_of_pairs, part_of_other, some_bytes, bytes_of_parts-after}
 use Rattle.jv_script.proofs.RepeatLaws.{text_of, more_text, joined-cons}
-use Rattle.jv_script.proofs.RoundTripLaws.{all_at, counted_from, counted_at, map_at}
-
--- lower-case digits stand for their places
-
-lower_is_hex : (n : ℕ) → n < 16 → is_hex_digit (hex_digit n) ≡ true
-lower_is_hex n small = all_at is_hex_digit (codes "0123456789abcdef") n refl small
-
-lower_value : (n : ℕ) → n < 16 → hex_value (hex_digit n) ≡ n
-unfolding counted_from
-lower_value n small =
-    let values : map hex_value (codes "0123456789abcdef") ≡ counted_from 0 16 = refl in
-    sym (map_at hex_value (codes "0123456789abcdef") n small) ∙ ap (λ (xs : List ℕ). get_or xs n 0) values ∙ counted_at 0 16 n small ∙ omega arith
-
-high_is_hex : (c : ℕ) → IsByte c → is_hex_digit (hex_digit (c / 16)) ≡ true
-high_is_hex c byte = lower_is_hex (c / 16) (omega arith)
-
-low_is_hex : (c : ℕ) → is_hex_digit (hex_digit (c % 16)) ≡ true
-low_is_hex c = lower_is_hex (c % 16) (omega arith)
-
-pair_value : (c : ℕ) → IsByte c → byte_of (hex_digit (c / 16)) (hex_digit (c % 16)) ≡ c
-pair_value c byte = rw (lower_value (c / 16) (omega arith), lower_value (c % 16) (omega arith)) (omega arith)
 
 -- plain digits
 
@@ -58,21 +35,6 @@ digits_read (c ∷ bytes) all =
 length-digits : (bytes : List ℕ) → length (flat_map hex_pair bytes) ≡ 2 * length bytes
 length-digits [] = refl
 length-digits (c ∷ bytes) = omega (arith, length-digits bytes)
-
--- decimal numbers
-
-decimal_model : IsNumeralModel (λ digits. list_all is_decimal_digit digits ≡ true) (value_of 10)
-decimal_model = numerals_by_fold _ (search rules) (λ n digits. fold (λ n digit. n * 10 + (digit - 48)) n digits) (search rules)
-
-numeral : (digits : List ℕ) → list_all is_decimal_digit digits ≡ true → 48 < get_or digits 0 0 → is_numeral digits ≡ true
-numeral [] all first = absurd (omega arith)
-numeral (d ∷ []) all first = (and_parts (is_decimal_digit d) true all).0
-numeral (d ∷ e ∷ digits) all first = rw (ne_eqb d 48 (λ same. omega arith)) all
-
-number_read : (n : ℕ) → 0 < n → n < 2 ^ 64 → number_of (decimal n) ≡ Some n
-number_read n some small =
-    let value = digits_value-decimal decimal_model n small in
-    number_in (decimal n) (numeral (decimal n) (digits_decimal decimal_model n small) (first_decimal n some small)) (omega (arith, value)) ∙ ap (λ (n : ℕ). Some n) value
 
 -- parts as they are printed
 
@@ -101,7 +63,7 @@ part_read (Plain bytes) (all, some) =
     part_of_pairs (flat_map hex_pair bytes) pairs ∙ ap (λ (bytes : List ℕ). Some (Plain bytes)) (digits_read bytes all)
 part_read (Repeated run) (byte, some, small) =
     part_of_other (hex_pair run.byte ++ 120 ∷ decimal run.count) (no_pairs (hex_digit (run.byte / 16)) (hex_digit (run.byte % 16)) (decimal run.count))
-    ∙ rw (number_read run.count some small, high_is_hex run.byte byte, low_is_hex run.byte, lt-ltb 0 run.count some, pair_value run.byte byte) refl
+    ∙ rw (decimal_read run.count small, high_is_hex run.byte byte, low_is_hex run.byte, lt-ltb 0 run.count some, pair_value run.byte byte) refl
 
 -- no part has a `+` in it
 
@@ -125,7 +87,7 @@ unfolding IsSoundPart
 part_no_plus (Plain bytes) (all, some) = weaker is_hex_digit is_no_plus (flat_map hex_pair bytes) hex_no_plus (digits_are_hex bytes all)
 part_no_plus (Repeated run) (byte, some, small) =
     rw (hex_no_plus (hex_digit (run.byte / 16)) (high_is_hex run.byte byte), hex_no_plus (hex_digit (run.byte % 16)) (low_is_hex run.byte))
-    (weaker is_decimal_digit is_no_plus (decimal run.count) decimal_no_plus (digits_decimal decimal_model run.count small))
+    (weaker is_decimal_digit is_no_plus (decimal run.count) decimal_no_plus (decimal_digits run.count small))
 
 nowhere_plus : (text : List ℕ) → list_all is_no_plus text ≡ true → All (λ c. (c == 43) ≡ false) text
 nowhere_plus text all k d below = by_test (get_or text k d == 43) (AllPass-from_list_all is_no_plus text all k d below)

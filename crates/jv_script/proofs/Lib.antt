@@ -8,6 +8,7 @@ pub mod EscapeLaws
 pub mod HexTextLaws
 pub mod HexValueLaws
 pub mod PartLaws
+pub mod PrintedDigitLaws
 pub mod RepeatLaws
 pub mod RoundTripLaws
 pub mod ShortPartLaws

@@ -15,8 +15,14 @@ use std::alloc::{AllocError, Global};
 /// The least number of digits that are read faster in blocks than pair by pair.
 const MANY_DIGITS: usize = 32;
 
-/// Reads the bytes of a write. Malformed text is reported as such even where memory runs out before all of it is read.
-pub(crate) fn data(alloc: Global, text: &[u8]) -> Result<Bytes, BadLine>
+/// Reads the bytes of a write, as a line or an answer spells them.
+///
+/// # Errors
+///
+/// - `Off` where the text isn't DATA, or spells more than `MAX_DATA` bytes; reported even where memory runs out before
+///   all of the text is read.
+/// - `Memory` where it is DATA, and no memory is left for its bytes.
+pub fn read_data(alloc: Global, text: &[u8]) -> Result<Bytes, BadLine>
     ensures { Reads result (data_of text.now) }
 {
     if text == b"-".as_slice() {

@@ -5,7 +5,7 @@ ghost use Rattle.jv_model.specs.script.Grammar.{provided, operation_of, operatio
 ghost use Rattle.jv_script.specs.Reading.{Reads, words_left};
 
 use crate::bad_line::BadLine;
-use crate::data::data;
+use crate::data::read_data;
 use crate::escapes::{is_path, path, target};
 use crate::fields::{mode, number, number_up_to, read_length, short_number};
 use crate::word_cuts::next_word;
@@ -306,7 +306,7 @@ fn write(alloc: Global, first: &[u8], second: &[u8], third: &[u8]) -> Result<Op,
 {
     let handle = number(first).ok_or(BadLine::Off)?;
     let offset = number(second).ok_or(BadLine::Off)?;
-    let bytes = data(alloc, third)?;
+    let bytes = read_data(alloc, third)?;
     Ok(Op::Write {
         handle,
         offset,

@@ -1,6 +1,6 @@
 use Rattle.std.proofs.Common.{rules, ◌≡◌, bytes_eq, codes, true, false}
 use Rattle.jv_script.proofs.PartLaws.{no_bytes, some_bytes}
-use Rattle.jv_script.proofs.data.data.Goals as goal
+use Rattle.jv_script.proofs.data.read_data.Goals as goal
 
 pub returns-then-eq : goal.returns-then-eq
 returns-then-eq c =
