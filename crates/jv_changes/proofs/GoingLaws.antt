@@ -8,9 +8,7 @@ use Rattle.jv_model.specs.declared.row.Node.{Node as NodeRow}
 use Rattle.jv_model.specs.declared.row.Row.TheVariants.{OfCounters, OfSustained, OfDropped}
 use Rattle.jv_model.specs.declared.row.RowKey.{RowKey}
 use Rattle.jv_model.specs.FiniteMap.{get, insert, remove, alter}
-use Rattle.jv_model.specs.declared.fault.Fault.TheVariants.{NotPermitted}
 use Rattle.jv_model.specs.declared.fault.TxFault.{TxFault}
-use Rattle.jv_model.specs.declared.fault.TxFault.TheVariants.{Refused}
 use Rattle.jv_model.specs.rows.RowGrammar.{is_counters}
 use Rattle.jv_model.specs.rows.RowKeys.{row_key, RowMap}
 use Rattle.jv_model.specs.rows.RowPlaces.{counters_key, node_key, sustained_key, dropped_key}
@@ -40,7 +38,7 @@ use Rattle.jv_changes.specs.Drafting.{Minds, AreRows as AreRowsInMind, Led, Draf
 use Rattle.jv_changes.specs.Lowered.{space_taken, lowered, with_dropped, with_lowered}
 use Rattle.jv_changes.specs.Present.{Presents}
 use Rattle.jv_changes.specs.Ready.{MayGo, sustaining}
-use Rattle.jv_changes.proofs.DraftedLaws.{Drafted, are_rows-put, are_rows-drop, spare-node, Stays, stays-none, stays-then, stays-needs, needed-stands, drafting-lacking, drafting-refused, drafting-made}
+use Rattle.jv_changes.proofs.DraftedLaws.{Drafted, are_rows-put, are_rows-drop, spare-node, Stays, stays-none, stays-then, stays-needs, needed-stands, drafting-lacking, drafting-made}
 use Rattle.jv_changes.proofs.PresentLaws.{stays-present, drafting-absent, Sound, sound-minds, minds-sound}
 
 -- ---- rows of a tree that is about to change
@@ -268,14 +266,6 @@ are_rows-dropped : (was now : List Change) (inode length : ℕ) (file : Bool)
 are_rows-dropped was now inode length true put are = are_rows-put (dropped_key inode) was now
     (OfDropped (record { length = length })) put are
 are_rows-dropped was now inode length false same are = are_rows-same was now same are
-
--- the root and the trash don't go
-pub drop-top : (store : Store) (was : List Change) (inode : ℕ) → is_top inode ≡ true
-    → Drafting {A = Unit {0}} (λ t. MayGo t inode) was was store store (Err (Refused NotPermitted))
-    (λ t. Ok (drop_node t inode))
-drop-top store was inode top = drafting-refused {A = Unit {0}} (λ t. MayGo t inode) was was store store
-    (stays-none store) (λ t. Ok (drop_node t inode)) NotPermitted
-    (λ known is bytes t m may. absurd (true≢false (sym may.counted ∙ uncounted inode top)))
 
 -- the node wasn't read
 pub drop-absent : (before after : Store) (was : List Change) (inode : ℕ) (fault : TxFault)

@@ -1,5 +1,5 @@
 -- What an operation still has to commit: its next segment, and the slice in flight that this gets.
-use Rattle.std.proofs.Common.{◌≡◌, ℕ, zero, suc, ◌+◌, ◌≤◌, ◌<◌, Bool, true, false, List, [], ◌∷◌, length, filter}
+use Rattle.std.proofs.Common.{◌≡◌, ℕ, suc, ◌+◌, ◌≤◌, ◌<◌, Bool, true, false, List, [], ◌∷◌, length, filter}
 use Rattle.std.proofs.Common.{Option, None, Some, refl, sym, ap, subst, ◌∙◌, arith}
 use Rattle.std.specs.Prelude.{◌==◌, ◌%◌, if◌then◌else◌}
 use Rattle.jv_model.specs.client.Pending.{PendingByte, Segment, first_segment, pending_of, run_length, stands_at}
@@ -9,9 +9,9 @@ use Rattle.jv_model.specs.client.Submission.{next_segment, segment_of_files}
 use Rattle.jv_client.specs.declared.doing.Doing.{Doing}
 use Rattle.jv_client.specs.declared.doing.Flush.{Flush}
 use Rattle.jv_client.specs.declared.doing.Progress.{Progress}
-use Rattle.jv_client.specs.declared.doing.Progress.TheVariants.{Reading, Working}
+use Rattle.jv_client.specs.declared.doing.Progress.TheVariants.{Working}
 use Rattle.jv_client.specs.ClientValue.{ClientValue}
-use Rattle.jv_client.specs.Held.{flight_by, flight_from, flight_in, flight_of, flush_of_code, in_flight, number_of}
+use Rattle.jv_client.specs.Held.{flight_by, flight_from, flight_in, flight_of, flush_of_code}
 use Rattle.jv_client.specs.Held.{segment_left}
 use Rattle.jv_client.specs.UnderWay.{left, left_of}
 
@@ -100,17 +100,3 @@ pub flight-flying : (pending : List PendingByte) (first : Flush) (quiets put sta
     → flight_by pending first (Working quiets started id) ≡ flight_from put id pending (Some segment)
 flight-flying pending first quiets put started id segment some next =
     ap (λ n. flight_by pending first (Working n started id)) some ∙ ap (flight_from put id pending) next
-
-none-flying : (pending : List PendingByte) (first : Flush) (p : Progress) → segment_left first pending ≡ None
-    → flight_by pending first p ≡ None
-none-flying pending first (Working zero started id) none = refl
-none-flying pending first (Working (suc put) started id) none = ap (flight_from put id pending) none
-none-flying pending first (Reading fetch need) none = refl
-
--- An operation that has nothing left to commit has none.
-pub unflown : (h : ClientValue) → left h ≡ None → in_flight h ≡ 0
-unflown h none = ap number_of (by_doing h.doing none)
-  where
-    by_doing : (o : Option Doing) → left_of h.pending o ≡ None → flight_in h.pending o ≡ None
-    by_doing None none = refl
-    by_doing (Some d) none = none-flying h.pending d.flush d.progress none

@@ -1,14 +1,10 @@
 -- What was tried of an operation's transaction: by a mount, out of memory before it, and by a transaction on metadata.
-use Rattle.std.proofs.Common.{◌≡◌, ℕ, Bool, Option, None, Some, Result, Ok, Err, refl, sym, ap, subst, ◌∙◌}
-use Rattle.std.specs.Prelude.{IfSome}
+use Rattle.std.proofs.Common.{◌≡◌, ℕ, Bool, Result, Ok, Err, refl, sym, ap, subst, ◌∙◌}
 use Rattle.jv_model.specs.declared.basics.Who.{Who}
-use Rattle.jv_model.specs.declared.fault.RowFault.TheVariants.{Memory}
 use Rattle.jv_model.specs.declared.fault.TxFault.{TxFault}
-use Rattle.jv_model.specs.declared.fault.TxFault.TheVariants.{Rows as OfRows}
 use Rattle.jv_model.specs.declared.op.Op.{Op}
 use Rattle.jv_model.specs.declared.op.Op.TheVariants as op
 use Rattle.jv_model.specs.declared.op.Reply.TheVariants.{SessionMade}
-use Rattle.jv_model.specs.rows.RowKeys.{RowMap}
 use Rattle.jv_model.specs.tree.Caller.{Caller}
 use Rattle.jv_model.specs.tree.Sessions.{mount}
 use Rattle.jv_model.specs.client.ModelClient.{free_handle}
@@ -44,24 +40,6 @@ tried_mount h o writeback now before after made result is makes same = record {
   tells = λ who mine. subst (TellsKept who o before) (sym same) (mount-tells who o writeback before made is);
   answers = answers-mapped session_answer (λ sid. refl) made result same;
 }
-
--- nothing was tried
-pub tried_none : (h : ClientValue) (o : Op) (now : ℕ) (before : Store) → Attempts h o now before before (Err (OfRows Memory))
-tried_none h o now before = record {
-  does = λ who mine. record {
-    opened_at = refl;
-    counts = refl;
-    undone = refl;
-    lands = λ known is whole bytes readied. tt;
-    bad = none_bad before.rows;
-  };
-  tells = λ who mine. tt;
-  answers = tt;
-}
-  where
-    none_bad : (rows : Option RowMap) → IfSome rows (λ known. Unit {0})
-    none_bad None = tt
-    none_bad (Some known) = tt
 
 -- a transaction on metadata, in the name of the client
 pub tried_metadata : (h : ClientValue) (o : Op) (now : ℕ) (before after : Store) (result : Result Answer TxFault) (by : Who) (handle inode : ℕ)

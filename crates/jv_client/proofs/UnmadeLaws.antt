@@ -1,6 +1,6 @@
 -- Where a transaction wasn't made, the operation ends with its refusal, or out of memory, or with the keeper's failure; or the run
 -- stops at a row that is Bad, which is none where rows are known and whole.
-use Rattle.std.proofs.Common.{◌≡◌, ℕ, ◌+◌, Bool, true, false, IsTrue, [], ◌∷◌, Some, Result, Err}
+use Rattle.std.proofs.Common.{◌≡◌, ℕ, ◌+◌, Bool, true, false, IsTrue, [], ◌∷◌, Some, Err}
 use Rattle.std.proofs.Common.{refl, sym, subst, arith}
 use Rattle.std.specs.Prelude.{List}
 use Rattle.jv_model.specs.declared.act.ActKind.{ActKind}
@@ -16,13 +16,11 @@ use Rattle.jv_model.specs.declared.fault.TxFault.{TxFault}
 use Rattle.jv_model.specs.declared.fault.TxFault.TheVariants.{Refused, Moved, Rows as OfRows}
 use Rattle.jv_model.specs.declared.op.Reply.TheVariants.{Refused as RefusedReply}
 use Rattle.jv_model.specs.declared.op.Step.TheVariants.{Done}
-use Rattle.jv_model.specs.tree.Tree.{Tree}
 use Rattle.jv_model.specs.journal.State.{State, after_told}
 use Rattle.jv_model.specs.journal.Stepping.{is_answer}
 use Rattle.jv_model.specs.journal.Steps.{is_failure}
 use Rattle.jv_outside.specs.Causes.{RoseIf}
 use Rattle.jv_outside.specs.Store.{Store}
-use Rattle.jv_rows.specs.Transactions.{Looks}
 use Rattle.jv_data.specs.Records.{TakesNumber}
 use Rattle.jv_shared.specs.Shared.{HasStore, Known, Shared}
 use Rattle.jv_shared.proofs.SameLaws.{same-rows}
@@ -82,12 +80,6 @@ module _ (before : Shared) (keeper : Store) (done : Made) where
       by_device Carrier = calm (tells_failure Carrier done) before.carrier.faults only.2
 
 -- ---- which transactions weren't made
-
--- a part that reads
-pub not_looked : {A : Type 0} (before after : Store) (fault : TxFault) (finds : Tree → Result A Fault)
-    → Looks {A = A} before after (Err fault) finds → NotMade fault before after
-not_looked before after fault finds h =
-    record { rows_are = h.rows_are; opened_at = h.opened_at; counts = h.counts; bad = h.bad }
 
 -- the number of a slice
 pub not_taken : (sid : ℕ) (before after : Store) (fault : TxFault) → TakesNumber sid before after (Err fault)

@@ -35,8 +35,3 @@ pub behind-as : (rows : Rows) (gone added less more : List Rec) → Behind rows 
 behind-as rows gone added less more behind same = record {
   by = λ id some. (let was = behind.by id some in let e = same id some in omega (arith, was, e));
 }
-
--- lists that came for those that went name each slice as often
-pub behind-exact : (rows : Rows) (gone added : List Rec) → Behind rows gone added
-    → ((id : ℕ) → 0 < id → records_naming id gone ≡ records_naming id added) → (id : ℕ) → 0 < id → slice_count rows id ≡ named_by rows id
-behind-exact rows gone added behind same id some = (let was = behind.by id some in let e = same id some in omega (arith, was, e))

@@ -1,6 +1,6 @@
 -- Laws of blocks: what they tell stays when others are put, each place that a file shows has its block, and all blocks of slices with rows
 -- stay there.
-use Rattle.std.proofs.Common.{◌≡◌, ◌≢◌, ℕ, ◌+◌, ◌-◌, ◌/◌, ◌%◌, ◌<◌, ◌≤◌, ◌^◌, ◌⊎◌, Bool, true, false, cond, inl, inr, List, [], length, reverse, Option, None, Some, refl, sym, ap, subst, ◌∙◌, arith}
+use Rattle.std.proofs.Common.{◌≡◌, ◌≢◌, ℕ, ◌+◌, ◌-◌, ◌/◌, ◌%◌, ◌<◌, ◌≤◌, ◌^◌, Bool, true, false, cond, inl, inr, List, [], reverse, Option, None, Some, refl, sym, ap, subst, ◌∙◌, arith}
 use Rattle.std.specs.Prelude.{◌==◌, nat_lt, slice_index, unwrap_or, Contains, if◌then◌else◌}
 use Rattle.std.proofs.lemmas.Bool.{cases_eq, eq-eqb, eqb-false}
 use Rattle.std.proofs.lemmas.List.Elements.{All-from_recursion, All-contains, All-contains_itself}
@@ -25,9 +25,7 @@ use Rattle.jv_volume.specs.Slices.{listed, records_naming, named_by, count_in, s
 use Rattle.jv_contents.specs.Bytes.{spot_byte, bytes_of, tree_with}
 use Rattle.jv_contents.specs.Blocks.{Blocks, Grows, IsThere, HasBlocks, AreBelow, told_by}
 use Rattle.jv_contents.specs.Counts.{HadSize, KeepsOthers}
-use Rattle.jv_contents.specs.Flights.{Flight, InFlight, IsComplete}
 use Rattle.jv_contents.proofs.PlaceLaws.{record_inside, no_list}
-use Rattle.jv_contents.proofs.FlightLaws.{complete-there}
 
 -- ---- blocks that grow
 
@@ -162,12 +160,6 @@ module _ (rows : Rows) (w : WholeSlices rows) where
 
 -- ---- all blocks are there
 
-pub has_blocks-apart : (block : ℕ) (rows : Rows) (before after : Blocks) → ((b : BlockId) → slice_row_at rows b.id ≢ None → after b ≡ before b)
-    → HasBlocks block rows before → HasBlocks block rows after
-has_blocks-apart block rows before after same has id slice there index low =
-    let was = has id slice there index low in
-    record { bytes = was.bytes; is = same (block_at id slice.size block index) (λ none. absurd (cc)) ∙ was.is; long = was.long }
-
 pub has_blocks-grow : (block : ℕ) (rows : Rows) (before after : Blocks) → Grows before after → HasBlocks block rows before → HasBlocks block rows after
 has_blocks-grow block rows before after grows has id slice there index low =
     there-grows before after (block_at id slice.size block index) grows (has id slice there index low)
@@ -189,24 +181,7 @@ has_blocks-on block own more rows after blocks keeps those has id slice there in
       (has id had.slice had.is index (subst (λ n. index < block_count n block) (sym had.size_is) low))
 ]
 
--- which is a flight whose blocks were all put
-pub has_blocks-commit : (block more : ℕ) (rows after : Rows) (blocks : Blocks) (f : Flight) → InFlight block rows blocks f → IsComplete block f → 0 < block
-    → KeepsOthers f.id more rows after → ((slice : SliceRow) → slice_row_at after f.id ≡ Some slice → slice.size ≡ length f.bytes)
-    → HasBlocks block rows blocks → HasBlocks block after blocks
-has_blocks-commit block more rows after blocks f flies complete some keeps long has =
-    has_blocks-on block f.id more rows after blocks keeps (λ slice there index low.
-    subst (λ n. IsThere blocks (block_at f.id n block index)) (sym (long slice there))
-    (complete-there block rows blocks f flies complete some index (subst (λ n. index < block_count n block) (long slice there) low))) has
-
 -- ---- no block has a number that is still to be given
 
 pub below-rows : (rows after : Rows) (blocks : Blocks) → next_slice rows ≤ next_slice after → AreBelow rows blocks → AreBelow after blocks
 below-rows rows after blocks more below b bytes there = (let low = below b bytes there in omega (arith, low, more))
-
-pub below-put : (rows : Rows) (blocks after : Blocks)
-    → ((b : BlockId) (bytes : List ℕ) → after b ≡ Some bytes → (blocks b ≡ Some bytes) ⊎ (b.id < next_slice rows))
-    → AreBelow rows blocks → AreBelow rows after
-below-put rows blocks after those below b bytes there = elim (those b bytes there) [
-  | inl was ↦ below b bytes was
-  | inr low ↦ low
-]

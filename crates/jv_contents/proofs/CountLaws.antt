@@ -176,41 +176,6 @@ move-list rows middle gone added key cell table m records names = record {
       omega (arith, was, now, less, more));
 }
 
--- rows of other tables have changed, but for those of slices and the next slice
-pub move-others : (rows middle after : Rows) (gone added : List Rec) → ListsMove rows middle gone added
-    → ((key : RowKey) → ((key.tab == 4) || (key.tab == 5) || (key.tab == 9)) ≡ true → get after key ≡ get middle key) → next_slice after ≡ next_slice middle
-    → ListsMove rows after gone added
-move-others rows middle after gone added m same next = record {
-  next = next ∙ m.next;
-  slices = λ id. slices id ∙ m.slices id;
-  deads = λ id. ap (λ c. dead_in (row_in c)) (same (dead_key id) refl) ∙ m.deads id;
-  records = λ key. subst (AllByRecursion IsRecord) (sym (lists key)) (m.records key);
-  names = λ key. subst (AllByRecursion (λ r. r.id ≢ 0 → HadSize rows r.id r.size)) (sym (lists key)) (m.names key);
-  behind = record {
-    by = λ id some.
-        (let was = m.behind.by id some in
-        let count = ap count_in (slices id) in
-        let names = named_same id in
-        omega (arith, was, count, names));
-  };
-  count = (let was = m.count in let now = count_same in omega (arith, was, now));
-}
-  where
-    list_same : (key : RowKey) → (key.tab == 4) ≡ true → get after key ≡ get middle key
-    list_same key e = same key (ap (λ b. b || (key.tab == 5) || (key.tab == 9)) e)
-
-    slices : (id : ℕ) → slice_row_at after id ≡ slice_row_at middle id
-    slices id = ap (λ c. slice_in (row_in c)) (same (slice_key id) refl)
-
-    lists : (key : RowKey) → listed key (get after key) ≡ listed key (get middle key)
-    lists key = listed_same middle after list_same key
-
-    named_same : (id : ℕ) → named_by after id ≡ named_by middle id
-    named_same id = named-lists middle after list_same id
-
-    count_same : record_count after ≡ record_count middle
-    count_same = record_count-lists middle after list_same
-
 -- ---- counts have followed
 
 -- the count and the size of a row that is there where its count isn't 0

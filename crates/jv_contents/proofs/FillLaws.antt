@@ -1,6 +1,6 @@
 -- Laws of ranges that are put over others, and of records that fill a range: a list with them shows their places over it. The pieces of
 -- a plan give such records.
-use Rattle.std.proofs.Common.{◌≡◌, ◌≢◌, ℕ, suc, ◌+◌, ◌-◌, ◌*◌, ◌<◌, ◌≤◌, Bool, true, false, cond, List, [], ◌∷◌, ◌++◌, length, Option, Some, None, inl, inr, refl, sym, ap, subst, ◌∙◌, append_assoc, arith}
+use Rattle.std.proofs.Common.{◌≡◌, ◌≢◌, ℕ, ◌+◌, ◌-◌, ◌*◌, ◌<◌, ◌≤◌, Bool, true, false, cond, List, [], ◌∷◌, ◌++◌, length, Option, Some, None, inl, inr, refl, sym, ap, subst, ◌∙◌, append_assoc, arith}
 use Rattle.std.specs.Prelude.{nat_le, nat_lt, ◌==◌, ◌&&◌, All}
 use Rattle.std.proofs.lemmas.Bool.{and_parts, and_from, and_left, and_right, leb-true, ltb-true, cases_lt, cond-true, cond-false, lt-ltb, le-ltb, le-leb, lt-leb, eqb-false, ne_eqb}
 use Rattle.std.proofs.lemmas.List.{append-nil}
@@ -203,11 +203,6 @@ fills-name P places from to (r ∷ rs) (at, is, shows, rest) has = (
 
     rises : from + r.len ≤ to
     rises = fills-rises places (from + r.len) to rs rest
-
--- a plan gives a record for each of its pieces
-pub plan-length : (pieces : List Piece) (pos : ℕ) → length (records_of_plan pos pieces) ≡ length pieces
-plan-length [] pos = refl
-plan-length (piece ∷ pieces) pos = ap (λ n. suc n) (plan-length pieces (pos + piece.len))
 
 -- each record is of a position at least
 pub fills-few : (places : ℕ → Spot) (from to : ℕ) (rs : List Rec) → Fills places from to rs → from + length rs ≤ to

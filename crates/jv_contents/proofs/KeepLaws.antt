@@ -6,7 +6,7 @@ use Rattle.jv_model.specs.declared.row.RowKey.{RowKey}
 use Rattle.jv_model.specs.declared.row.SliceRow.{SliceRow}
 use Rattle.jv_model.specs.declared.slice.Rec.{Rec}
 use Rattle.jv_model.specs.declared.slice.BlockId.{BlockId}
-use Rattle.jv_model.specs.FiniteMap.{get, alter, retain_keys, sum_over}
+use Rattle.jv_model.specs.FiniteMap.{get, retain_keys, sum_over}
 use Rattle.jv_model.specs.rows.RowKeys.{row_key}
 use Rattle.jv_model.specs.rows.RowPlaces.{counters_key, list_key, slice_key, dead_key}
 use Rattle.jv_model.proofs.FiniteMapLaws.{get-retain_keys, same_maps}
@@ -14,7 +14,6 @@ use Rattle.jv_volume.specs.TypedRows.{Cell, Rows}
 use Rattle.jv_volume.specs.Views.{row_in, records_in, lists_of, slice_in, slice_row_at, dead_in, dead_at}
 use Rattle.jv_volume.specs.Slices.{IsUnknown, listed, named_by, next_slice, records_naming}
 use Rattle.jv_volume.specs.Whole.{is_of_slices, Quiet}
-use Rattle.jv_volume.proofs.MapLaws.{get-alter-apart}
 use Rattle.jv_volume.proofs.QuietLaws.{sum-retain_keys}
 use Rattle.jv_contents.specs.Bytes.{Told, spot_byte, bytes_of}
 use Rattle.jv_contents.specs.Blocks.{Blocks, Grows, HasBlocks, AreBelow}
@@ -29,17 +28,6 @@ abbrev is_list_key : RowKey → Bool
 is_list_key key = key.tab == 4
 
 -- ---- changes that leave lists and slices
-
-pub stay-none : (rows : Rows) → SlicesStay rows rows
-stay-none rows key is = refl
-
-pub stay-then : (rows middle after : Rows) → SlicesStay rows middle → SlicesStay middle after → SlicesStay rows after
-stay-then rows middle after first second key is = second key is ∙ first key is
-
--- a row of another table
-pub stay-alter : (rows : Rows) (q : RowKey) (cell : Option Cell) → is_of_slices q.tab ≡ false → SlicesStay rows (alter rows q cell)
-stay-alter rows q cell other key is = get-alter-apart row_key rows q cell key
-    (λ same. absurd (true≢false (sym is ∙ ap (λ (k : RowKey). is_of_slices k.tab) same ∙ other)))
 
 -- the counters' row alone
 pub stay-counters : (rows after : Rows) → ((key : RowKey) → (get after key ≡ get rows key) ⊎ (key ≡ counters_key)) → SlicesStay rows after
@@ -125,20 +113,6 @@ below-keeps own more rows after blocks keeps below = below-rows rows after block
 -- a change on metadata
 pub keeps-quiet : (rows after : Rows) → Quiet rows after → KeepsOthers 0 0 rows after
 keeps-quiet rows after q = keeps-stay rows after (λ key is. q.apart key is) 0 0 q.next
-
--- a transaction on lists, and a change that leaves them
-pub keeps-then_stay : (own more : ℕ) (rows middle after : Rows) → KeepsOthers own more rows middle → SlicesStay middle after
-    → next_slice after ≡ next_slice middle → KeepsOthers own more rows after
-keeps-then_stay own more rows middle after k stay next = record {
-  next = next ∙ k.next;
-  unknown = λ id some apart u. unknown-stay middle after stay id (k.unknown id some apart u);
-  had = λ id slice apart there. k.had id slice apart (sym (slice_row-stay middle after stay id) ∙ there);
-  dies = λ id slice there gone.
-      (let died = k.dies id slice there (sym (slice_row-stay middle after stay id) ∙ gone) in
-      record { dead = died.dead; is = dead-stay middle after stay id ∙ died.is; size_is = died.size_is });
-  dead = λ id dead there. dead-stay middle after stay id ∙ k.dead id dead there;
-  records = (let same = record_count-stay middle after stay in let few = k.records in omega (arith, same, few));
-}
 
 pub keeps-stay_then : (own more : ℕ) (rows middle after : Rows) → SlicesStay rows middle → next_slice middle ≡ next_slice rows
     → KeepsOthers own more middle after → KeepsOthers own more rows after

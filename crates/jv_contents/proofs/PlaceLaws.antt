@@ -100,13 +100,6 @@ place_in-window lists w q small = λ i. stored_place (lists (window i)) (within 
     within : (w * WINDOW + q) % WINDOW ≡ q
     within = omega (arith, small)
 
--- a list in place of itself
-pub with_list-self : (lists : Lists) (w : ℕ) (l : List Rec) → l ≡ lists w → (u : ℕ) → with_list w l lists u ≡ lists u
-with_list-self lists w l same u = elim (cases_eq u w) [
-  | inl e ↦ cond-true _ _ _ (eq-eqb u w e) ∙ same ∙ ap lists (sym e)
-  | inr apart ↦ cond-false _ _ _ (ne_eqb u w apart)
-]
-
 -- ---- a file that is cut
 
 pub no_list : (q : ℕ) → stored_place [] q ≡ Zero

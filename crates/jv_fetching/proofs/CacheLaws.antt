@@ -133,15 +133,6 @@ has_looks blocks views block before after looks h = record {
   has = λ window view seen. cached_looks blocks view.list block before after looks (h.has window view seen);
 }
 
--- and so does any growth of the blocks
-pub has_grows : (blocks later : Blocks) (views : SeenViews) (block : ℕ) (cache : Cached) → Grows blocks later
-    → HasCached blocks views block cache → HasCached later views block cache
-has_grows blocks later views block cache grows h = record {
-  has = λ window view seen. record {
-    has = λ b named bytes found. grows b bytes ((h.has window view seen).has b named bytes found);
-  };
-}
-
 -- ---- a block is kept
 
 taken : (test : BlockKey → Bool) (n : ℕ) (es : Pairs) (y : List ℕ) → lookup test (take n es) ≡ Some y

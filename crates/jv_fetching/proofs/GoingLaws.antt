@@ -26,7 +26,7 @@ use Rattle.jv_fetching.specs.Going.{CanFetch, HasBegun, HasRead, IsBegunBy, IsFe
 use Rattle.jv_fetching.specs.Calls.{Asks, CachedOf, HasCached, IsMissing, LooksUp, LooksUpFew, cache_key, first_seen}
 use Rattle.jv_fetching.specs.Calls.{first_unseen}
 use Rattle.jv_fetching.specs.Inside.{Ends, Fills, FillsBegun, FillsOne, FirstBegins, Goes, GoesOn, GoesTo, HasFilled}
-use Rattle.jv_fetching.specs.Inside.{IsFurther, Misses, Stops, Waits, Ended, ended, parts_after}
+use Rattle.jv_fetching.specs.Inside.{IsFurther, Misses, Waits, Ended, ended, parts_after}
 use Rattle.jv_fetching.proofs.CacheLaws.{few_none, few_one, few_then, has_looks, looks_keep, looks_one, looks_then}
 use Rattle.jv_fetching.proofs.CacheLaws.{missing_before}
 
@@ -156,10 +156,6 @@ state block read begun parts = record { block = block; parts = parts; begun = be
 after_less : (full : Bool) (parts : List Asked) → weight (parts_after full parts) ≤ weight (drop 1 parts)
 after_less true parts = omega arith
 after_less false parts = omega arith
-
-after_few : (full : Bool) (parts : List Asked) → length (parts_after full parts) ≤ length parts - 1
-after_few true parts = omega (arith, length-drop 1 parts)
-after_few false parts = omega arith
 
 module _ (views : SeenViews) (block : ℕ) where
   -- what is left of a part is of the same records
@@ -343,16 +339,6 @@ went_on views cache later f after begun result (Ended part fills none bytes are 
           (ends_goes views later f.block f.read f.parts begun' bytes are));
       ends = refl;
     }
-
-pub stops_on : (views : SeenViews) (cache later : Cached) (f after : Fetching) (begun : Begun) (result : Option Need)
-    → GoesOn begun cache later (record f { begun = None }) after result → Stops views f after result
-stops_on views cache later f after begun result (Waits part b missed is) = ap block_needed is ∙ missed.next
-stops_on views cache later f after begun result (Ended part fills none bytes are is) = (
-  ap (λ (g : Fetching). g.begun) is,
-  (let few : length after.parts ≡ length (parts_after begun.is_full f.parts) =
-      ap (λ (g : Fetching). length g.parts) is in
-      omega (arith, few, after_few begun.is_full f.parts)),
-)
 
 -- one step after another
 pub goes_to_then : (views : SeenViews) (c d e : Cached) (f g h : Fetching) (result : Option Need) → Goes views c d f g

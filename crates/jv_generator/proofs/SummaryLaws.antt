@@ -1,15 +1,11 @@
 -- What totals are of a list of answers: sums that saturate.
-use Rattle.std.proofs.Common.{◌≡◌, ℕ, ◌-◌, ◌^◌, ◌≤◌, Bool, true, false, not, cond, if◌then◌else◌, List, [], ◌∷◌, ◌++◌, length, fold, sum, sum_by, refl, ap, ◌∙◌, arith, lit≤, zero-add}
-use Rattle.std.proofs.lemmas.List.Sums.{fold-append, sum_by-cons}
+use Rattle.std.proofs.Common.{◌≡◌, ℕ, ◌-◌, ◌^◌, ◌≤◌, Bool, true, false, not, cond, if◌then◌else◌, List, [], ◌∷◌, length, fold, sum, sum_by, refl, ap, ◌∙◌, arith, lit≤, zero-add}
+use Rattle.std.proofs.lemmas.List.Sums.{sum_by-cons}
 use Rattle.jv_model.specs.declared.op.Reply.{Reply}
 use Rattle.jv_model.specs.journal.State.{is_refused}
 use Rattle.jv_model.specs.Counts.{counted}
-use Rattle.jv_generator.specs.Summary.{TotalsValue, no_totals, saturated, added, read_bytes, with_reply, totals_of}
+use Rattle.jv_generator.specs.Summary.{TotalsValue, no_totals, saturated, added, read_bytes, with_reply}
 use Rattle.jv_generator.specs.Laws.{TotalsAreSums}
-
--- the totals after one more answer
-pub totals-push : (replies : List Reply) (reply : Reply) → totals_of (replies ++ reply ∷ []) ≡ with_reply (totals_of replies) reply
-totals-push replies reply = fold-append with_reply no_totals replies (reply ∷ [])
 
 -- a total to which each answer adds an amount
 summed : (total : TotalsValue → ℕ) (amount : Reply → ℕ)

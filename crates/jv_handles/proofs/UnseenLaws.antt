@@ -20,12 +20,6 @@ unseen-own inode handle own = elim (eqb_tells handle.inode inode) [
   | inr other ↦ absurd (other.1 (sym own))
 ]
 
-pub unseen-other : (inode : ℕ) (handle : Handle) → (inode ≡ handle.inode → ⊥) → unseen inode (Some handle) ≡ Some handle
-unseen-other inode handle apart = elim (eqb_tells handle.inode inode) [
-  | inl same ↦ absurd (apart (sym same.1))
-  | inr other ↦ ap (λ b. if b then Some (record handle { views = no_views }) else Some handle) other.0
-]
-
 -- it stays open, on the same inode, since the same entry
 pub unseen-open : (inode : ℕ) (handle : Handle)
     → (later : Handle) × (unseen inode (Some handle) ≡ Some later) × (later.inode ≡ handle.inode)

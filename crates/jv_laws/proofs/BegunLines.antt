@@ -4,11 +4,10 @@ use Rattle.std.proofs.lemmas.Bool.{and_from}
 use Rattle.jv_model.specs.declared.fault.Fault.{Fault}
 use Rattle.jv_model.specs.declared.op.Op.{Op}
 use Rattle.jv_model.specs.declared.op.Line.{Line}
-use Rattle.jv_model.specs.declared.op.Line.TheVariants.{Empty, Do, Begin, Step, Run, Crash, Tick}
-use Rattle.jv_model.specs.client.ModelClient.{ModelClient}
+use Rattle.jv_model.specs.declared.op.Line.TheVariants.{Do, Begin, Step, Run, Crash, Tick}
 use Rattle.jv_model.specs.client.Submission.{submission, submitted}
 use Rattle.jv_model.specs.journal.State.{State, set_client}
-use Rattle.jv_model.specs.journal.Past.{Past, Due, NoMore, Refusal, MayLack, ToAnswer, OneStep, CrashEntry, TickEntry, begun, begun_by_due, begun_to, begin_next, begin_from, turned, is_busy, is_over, idle_text, with_feed, ends_in_step}
+use Rattle.jv_model.specs.journal.Past.{Past, Due, NoMore, Refusal, MayLack, ToAnswer, OneStep, CrashEntry, TickEntry, begun, begun_by_due, begun_to, begin_next, begin_from, turned, is_busy, is_over, idle_text, with_feed}
 use Rattle.jv_laws.proofs.JournalGrowthLaws.{begun_to-next}
 
 -- between two lines, of which the next one is this
@@ -59,14 +58,7 @@ begun_as p number line more due said state next h e = subst (IsBegun p more due 
 abbrev pub submitted_in : Past → ℕ → Op → State
 submitted_in p client o = set_client p.state client (submitted p.run.limits o (p.state.clients client))
 
--- it has made no request, and so needn't answer
-pub submitted_goes_on : (p : Past) (o : Op) (c : ModelClient) → ends_in_step (submitted p.run.limits o c) ≡ false
-submitted_goes_on p o c = refl
-
 -- each form of a line
-
-pub empty_begun : (p : Past) (number : ℕ) (more : List Line) → p.line + 1 ≡ number → IsNext p Empty more → IsBegun p more NoMore [] p.state (begun_to number p)
-empty_begun p number more next h = begun_as p number Empty more NoMore [] p.state next h refl
 
 pub do_begun : (p : Past) (number client : ℕ) (o : Op) (more : List Line) → p.line + 1 ≡ number → IsNext p (Do client o) more → submission (p.state.clients client) o ≡ None
     → IsBegun p more (ToAnswer client) [] (submitted_in p client o) (begun_to number p)

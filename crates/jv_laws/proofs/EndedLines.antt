@@ -114,7 +114,3 @@ joins p q r more number due said state acts next begins b h same =
       complete = same.complete ∙ b.complete;
       count = count_before p r number acts reaches;
     }
-
--- a line without an entry
-pub joins_none : (p q : Past) (more : List Line) (number : ℕ) (due : Due) (said : List ℕ) (state : State) → p.line + 1 ≡ number → begun_to number p ≡ q → IsBegun p more due said state q → Joins p more number [] q
-joins_none p q more number due said state next begins b = joins p q q more number due said state [] next begins b (record { allowed = tt; reaches = refl }) (record { line = refl; run = refl; rest = refl; printed = refl; complete = refl })

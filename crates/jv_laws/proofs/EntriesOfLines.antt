@@ -1,5 +1,5 @@
 -- Entries of the line that is present, where no uploading thread makes one: what they lead to.
-use Rattle.std.proofs.Common.{◌≡◌, ℕ, ◌+◌, ◌≤◌, min, max, Bool, true, false, if◌then◌else◌, MatchBool, MatchOption, List, [], ◌∷◌, ◌++◌, Option, refl, sym, ap, subst, ◌∙◌, arith}
+use Rattle.std.proofs.Common.{◌≡◌, ℕ, ◌+◌, ◌≤◌, Bool, true, false, if◌then◌else◌, MatchBool, List, [], ◌∷◌, ◌++◌, refl, sym, ap, subst, ◌∙◌, arith}
 use Rattle.jv_model.specs.declared.limits.TheConstants.{LAST_MOMENT}
 use Rattle.jv_model.specs.declared.act.Act.{Act}
 use Rattle.jv_model.specs.journal.State.{effect}
@@ -24,15 +24,6 @@ same_line-then q r s a b = record { line = b.line ∙ a.line; run = b.run ∙ a.
 
 pub alone_at : (p q : Past) → q.run ≡ p.run → IsAlone p → IsAlone q
 alone_at p q run alone = subst (λ (s : Setup). (n : ℕ) → s.by_worker n ≡ false) (sym run) alone
-
-abbrev NowBy : Option (ℕ → ℕ) → ℕ → ℕ → ℕ → ℕ → Type 0
-NowBy clock at asked ticks now = MatchOption clock ((at ≤ now) × (now ≤ LAST_MOMENT)) (λ answers. now ≡ min LAST_MOMENT (max at (answers asked + ticks)))
-
-pub now_at : (p q : Past) (ticks now : ℕ) → q.run ≡ p.run → q.at ≡ p.at → q.asked ≡ p.asked → IsNow p ticks now → IsNow q ticks now
-now_at p q ticks now run at asked h =
-    let by_asked : NowBy p.run.clock p.at q.asked ticks now = subst (λ n. NowBy p.run.clock p.at n ticks now) (sym asked) h in
-    let by_at : NowBy p.run.clock q.at q.asked ticks now = subst (λ n. NowBy p.run.clock n q.asked ticks now) (sym at) by_asked in
-    subst (λ (s : Setup). NowBy s.clock q.at q.asked ticks now) (sym run) by_at
 
 -- one entry
 

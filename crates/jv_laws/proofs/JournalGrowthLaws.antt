@@ -30,9 +30,6 @@ pub record Frame (p q : Past) : Type 0 where
   pub at : q.at ≡ p.at
   pub count : q.state.count ≡ p.state.count
 
-frame_self : (p : Past) → Frame p p
-frame_self p = record { run = refl; line = refl; printed = refl; complete = refl; lines = refl; at = refl; count = refl }
-
 frame_due : (due : Due) (p : Past) (client : ℕ) (o : Op) (fault : Option Fault) → Frame p (begun_by_due due p client o fault)
 frame_due due p client o None = record { run = refl; line = refl; printed = refl; complete = refl; lines = refl; at = refl; count = refl }
 frame_due due p client o (Some fault) = record { run = refl; line = refl; printed = refl; complete = refl; lines = refl; at = refl; count = refl }
@@ -40,9 +37,6 @@ frame_due due p client o (Some fault) = record { run = refl; line = refl; printe
 frame_idle : (p : Past) (due idle : Due) (said : List ℕ) (busy : Bool) → Frame p (if busy then record p { due = due } else record p { due = idle; said = said })
 frame_idle p due idle said true = record { run = refl; line = refl; printed = refl; complete = refl; lines = refl; at = refl; count = refl }
 frame_idle p due idle said false = record { run = refl; line = refl; printed = refl; complete = refl; lines = refl; at = refl; count = refl }
-
-frame_said : (p q : Past) (said : List ℕ) → Frame (record p { said = said }) q → Frame p q
-frame_said p q said f = record { run = f.run; line = f.line; printed = f.printed; complete = f.complete; lines = f.lines; at = f.at; count = f.count }
 
 pub frame_begun : (p : Past) (line : Line) → Frame p (begun p line)
 frame_begun p Empty = record { run = refl; line = refl; printed = refl; complete = refl; lines = refl; at = refl; count = refl }
@@ -101,12 +95,6 @@ begun_to-twice m n p low high =
     let steps : m - (begun_by (n - p.line) p).line ≡ m - n = omega (arith, at) in
     let all : (m - n) + (n - p.line) ≡ m - p.line = omega arith in
     ap (λ k. begun_by k (begun_by (n - p.line) p)) steps ∙ begun_by-twice (m - n) (n - p.line) p ∙ ap (λ k. begun_by k p) all
-
--- the next line, after those up to a number
-pub begun_to-more : (n : ℕ) (p : Past) → p.line ≤ n → begun_to (n + 1) p ≡ begin_next (begun_to n p)
-begun_to-more n p h =
-    let here = line-begun_to n p h in
-    sym (begun_to-twice (n + 1) n p h (omega arith)) ∙ begun_to-next (n + 1) (begun_to n p) (omega (arith, here))
 
 -- an entry of the present line
 pub advance-present : (p : Past) (act : Act) → p.line ≡ act.line → advance p act ≡ after p act

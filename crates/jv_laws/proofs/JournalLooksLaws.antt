@@ -241,9 +241,6 @@ module _ (run : Setup) (pre : List Act) (s : State) (act : Act) (count : s.count
     all_later run pre act act.client (s.clients act.client).views all (λ same file. ap (changes_file file) k),
   )
 
-either_tree : (b : Bool) (s : State) (client : ℕ) (c d : ModelClient) → (set_client s client (if b then c else d)).tree ≡ s.tree
-either_tree b s client c d = refl
-
 look_other : (s : State) (act : Act) (inode window : ℕ) (o : Option Doing) → (of_doing s (of_kind act (Look inode window)) o).tree ≡ s.tree
 look_other s act inode window None = refl
 look_other s act inode window (Some d) = refl

@@ -1,5 +1,5 @@
 -- A step of a client's operation, on a line that runs it: its entries are allowed, and what they leave of the line.
-use Rattle.std.proofs.Common.{◌≡◌, ℕ, ◌+◌, ◌==◌, Bool, true, false, List, [], ◌∷◌, ◌++◌, map, Option, None, Some, refl, sym, ap, subst, subst₂, ◌∙◌, add-zero, add_assoc}
+use Rattle.std.proofs.Common.{◌≡◌, ℕ, ◌+◌, ◌==◌, Bool, true, false, List, [], ◌∷◌, map, Option, None, Some, refl, sym, ap, subst, subst₂, ◌∙◌, add-zero}
 use Rattle.jv_model.specs.declared.act.Act.{Act}
 use Rattle.jv_model.specs.declared.act.ActKind.{ActKind}
 use Rattle.jv_model.specs.declared.act.ActKind.TheVariants.{Mounted, Crashed, Ticked, Answered}
@@ -17,7 +17,7 @@ use Rattle.jv_model.specs.script.ReplyText.{printed_line}
 use Rattle.jv_laws.proofs.JournalGrowthLaws.{others_kept}
 use Rattle.jv_laws.proofs.JournalLineLaws.{is_aside, not_aside}
 use Rattle.jv_laws.specs.OnLines.{IsAlone, IsNow, Leads, SameLine}
-use Rattle.jv_laws.proofs.EntriesOfLines.{leads_none, leads_more, same_line-then, moment_asked, moment_kept, stands_on, entered, after_asking, after_kept, leads_one}
+use Rattle.jv_laws.proofs.EntriesOfLines.{leads_more, moment_asked, moment_kept, stands_on, entered, after_asking, after_kept, leads_one}
 
 -- what an entry does, on any line
 
@@ -259,15 +259,3 @@ pub record StepsSoFar (q : Past) (asks : ℕ) (acts : List Act) (r : Past) : Typ
   pub same : SameLine q r
   pub ticks : r.ticks ≡ q.ticks
   pub asked : r.asked ≡ q.asked + asks
-
-pub steps_none : (q : Past) → StepsSoFar q 0 [] q
-steps_none q = record { leads = leads_none q; same = record { line = refl; run = refl; rest = refl; printed = refl; complete = refl }; ticks = refl; asked = sym (add-zero q.asked) }
-
-pub steps_more : (q r t : Past) (asks line client now : ℕ) (acts : List Act) (kinds : List ActKind) (step : Step) (due : Due) → r.line ≡ line → StepsSoFar q asks acts r → StepsOn due r client now kinds step t
-    → StepsSoFar q (asks + 1) (acts ++ map (entry_of line now client) kinds) t
-steps_more q r t asks line client now acts kinds step due at h g = record {
-  leads = leads_more q r t acts (map (entry_of line now client) kinds) h.leads (subst (λ n. Leads r (map (entry_of n now client) kinds) t) at g.leads);
-  same = same_line-then q r t h.same g.same;
-  ticks = g.ticks ∙ h.ticks;
-  asked = g.asked ∙ ap (λ n. n + 1) h.asked ∙ add_assoc q.asked asks 1;
-}

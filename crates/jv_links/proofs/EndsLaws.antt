@@ -33,9 +33,8 @@ use Rattle.jv_volume.specs.Whole.{Whole}
 use Rattle.jv_volume.proofs.StoredLaws.{whole-shape}
 use Rattle.jv_volume.proofs.WalkShapeLaws.{went_on, required, was_some, entry_within, same_Ok}
 use Rattle.jv_volume.proofs.EntryNameLaws.{entry_of-name}
-use Rattle.jv_links.specs.declared.ends.Ends.{Ends}
 use Rattle.jv_links.specs.Removals.{has_no_zero}
-use Rattle.jv_links.specs.Moves.{Move, IsMove, place_of, move_asked, Stands, StandsDirectory, EndsStand, FindsEnds}
+use Rattle.jv_links.specs.Moves.{Move, IsMove, place_of, move_asked, FindsEnds}
 
 -- ---- rows that stay
 
@@ -43,29 +42,6 @@ pub has_row-on : (before after : Store) (inode : ℕ) (node : Node) → after.ro
     → HasNodeRow before inode node → HasNodeRow after inode node
 has_row-on before after inode node same h =
     subst (λ o. IfSome o (λ known. get (typed known) (node_key inode) ≡ Some (Ok (OfNode node)))) (sym same) h
-
-pub stands-on : (before after : Store) (place : Place) → after.rows ≡ before.rows → Stands before place
-    → Stands after place
-stands-on before after place same h =
-    record { row = has_row-on before after place.inode place.node same h.row; allowed = h.allowed; low = h.low }
-
-pub stands_dir-on : (before after : Store) (place : Place) → after.rows ≡ before.rows → StandsDirectory before place
-    → StandsDirectory after place
-stands_dir-on before after place same h =
-    record {
-      row = has_row-on before after place.inode place.node same h.row;
-      allowed = h.allowed;
-      directory =
-          h.directory;
-    }
-
-pub ends_stand-on : (before after : Store) (ends : Ends) → after.rows ≡ before.rows → EndsStand before ends
-    → EndsStand after ends
-ends_stand-on before after ends same h = record {
-  from = stands_dir-on before after ends.from.dir same h.from;
-  to = stands_dir-on before after ends.to.dir same h.to;
-  source = stands-on before after ends.source same h.source;
-}
 
 -- ---- what an entry names
 

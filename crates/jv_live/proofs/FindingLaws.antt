@@ -1,33 +1,31 @@
 -- What a scan of one row behind a file's finds: the next file that the session keeps.
-use Rattle.std.proofs.Common.{◌≡◌, ℕ, ◌<◌, ◌≤◌, ◌^◌, Bool, true, false, ◌⊎◌, cond, List, [], ◌∷◌, length, take, inl, inr, Option, None, Some, Result, Ok, Err, refl, sym, ap, subst, ◌∙◌, arith, true≢false, eq-eqb, eqb-true}
-use Rattle.std.specs.Prelude.{◌==◌, ◌&&◌, if◌then◌else◌, filter, IfSome, IsTrue, ok_or}
+use Rattle.std.proofs.Common.{◌≡◌, ℕ, ◌<◌, ◌≤◌, ◌^◌, Bool, true, false, ◌⊎◌, List, [], ◌∷◌, length, inl, inr, Option, None, Some, Result, Ok, Err, refl, sym, ap, subst, ◌∙◌, arith, true≢false, eq-eqb, eqb-true}
+use Rattle.std.specs.Prelude.{◌==◌, if◌then◌else◌, IfSome, IsTrue, ok_or}
 use Rattle.std.specs.Int.{w64, from_be_bytes}
 use Rattle.std.specs.Option.{option_map}
-use Rattle.std.specs.declared.cmp.Ordering.{Ordering}
-use Rattle.std.specs.declared.cmp.Ordering.TheVariants.{Less, Equal, Greater}
+use Rattle.std.specs.declared.cmp.Ordering.TheVariants.{Less}
 use Rattle.std.specs.Ordering.{is_lt}
 use Rattle.std.proofs.lemmas.Bool.{cases_order, ltb-true, ltb-false}
 use Rattle.jv_model.specs.declared.fault.Fault.{Fault}
 use Rattle.jv_model.specs.declared.fault.RowFault.{RowFault}
-use Rattle.jv_model.specs.declared.fault.RowFault.TheVariants.{Memory}
 use Rattle.jv_model.specs.declared.fault.TxFault.TheVariants.{Rows as OfRows}
 use Rattle.jv_model.specs.declared.row.Row.{Row}
 use Rattle.jv_model.specs.declared.row.Row.TheVariants.{OfSustained}
 use Rattle.jv_model.specs.declared.row.RowKey.{RowKey}
-use Rattle.jv_model.specs.FiniteMap.{get, first_passing, first_where}
+use Rattle.jv_model.specs.FiniteMap.{get}
 use Rattle.jv_model.proofs.FiniteMapLaws.{first_where-found}
 use Rattle.jv_model.specs.rows.RowFields.{long}
 use Rattle.jv_model.specs.rows.RowGrammar.{row_of, sustained_of}
 use Rattle.jv_model.specs.rows.RowKeys.{RowMap, row_key, row_cmp}
 use Rattle.jv_model.specs.rows.RowPlaces.{sustained_key}
 use Rattle.jv_model.specs.tree.Tree.{Tree}
-use Rattle.jv_outside.specs.Rows.{is_after, rows_after}
+use Rattle.jv_outside.specs.Rows.{rows_after}
 use Rattle.jv_outside.specs.Store.{Store}
-use Rattle.jv_rows.specs.Scans.{row_then, rows_read, ScansRows}
+use Rattle.jv_rows.specs.Scans.{rows_read, ScansRows}
 use Rattle.jv_rows.specs.Tables.{sustained_row}
 use Rattle.jv_rows.proofs.ScannedLaws.{fails-scan, number-rises}
 use Rattle.jv_rows.proofs.NextRowLaws.{not_both, not_itself, first_where-least, passes, IsRead, ReadsOne, NoRow, OneRow, reads-one, tab_of}
-use Rattle.jv_rows.proofs.TransactionLaws.{of_known, if_known, fails-memory, fails-looks}
+use Rattle.jv_rows.proofs.TransactionLaws.{of_known, if_known, fails-looks}
 use Rattle.jv_volume.specs.TypedRows.{cell_of, typed, is_key}
 use Rattle.jv_volume.specs.Views.{row_in, sustained_in, sustained_at}
 use Rattle.jv_volume.specs.Whole.{Whole}
@@ -50,16 +48,6 @@ module _ (sid : ℕ) (after : Option ℕ) (last : RowKey) (before now : Store) w
     there = tt;
     least = tt;
   }
-
--- memory ran out
-pub finds-memory : (sid : ℕ) (after : Option ℕ) (store : Store) → FindsKept sid after store store (Err (OfRows Memory))
-finds-memory sid after store = record {
-  looks = fails-looks store store finds (OfRows Memory) (fails-memory store);
-  past = tt;
-  small = tt;
-  there = tt;
-  least = tt;
-}
 
 -- ---- the file that was found
 

@@ -1,5 +1,5 @@
 -- What several writes in a row do to the bytes of a sink.
-use Rattle.std.proofs.Common.{◌≡◌, ℕ, ◌+◌, ◌-◌, List, [], ◌++◌, length, take, drop, Option, Some, None, sym, ap, subst, ◌∙◌, append_assoc, append-nil}
+use Rattle.std.proofs.Common.{ℕ, ◌+◌, ◌-◌, List, [], ◌++◌, length, take, drop, Option, Some, None, sym, ap, ◌∙◌, append_assoc, append-nil}
 use Rattle.std.proofs.Math.Seq.{take-add}
 use Rattle.std.proofs.lemmas.List.{take_rest}
 use Rattle.jv_outside.specs.Stream.{Gains}
@@ -23,7 +23,3 @@ pub Gains-more : (a b c : Option (List ℕ)) (bytes : List ℕ) (at count : ℕ)
 Gains-more a b c bytes at count p q =
     let rest : Gains b c (take count (drop at bytes)) = rw take_rest at q in
     rw take-add (Gains-trans a b c _ _ p rest)
-
--- what was gained is gained where the bytes are the same in the end
-pub Gains-kept : (a b c : Option (List ℕ)) (bytes : List ℕ) → Gains a b bytes → c ≡ b → Gains a c bytes
-Gains-kept a b c bytes g same = subst (λ after. Gains a after bytes) (sym same) g

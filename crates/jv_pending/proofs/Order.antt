@@ -26,17 +26,9 @@ pub InOrder-append : (low : ℕ) (xs ys : List Run) → InOrder low xs → InOrd
 InOrder-append low [] ys o p = p
 InOrder-append low (x ∷ xs) ys o p = (o.0, o.1, InOrder-append (end_place x) xs ys o.2 p)
 
-pub end_after-append : (low : ℕ) (xs ys : List Run) → end_after low (xs ++ ys) ≡ end_after (end_after low xs) ys
-end_after-append low [] ys = refl
-end_after-append low (x ∷ xs) ys = end_after-append (end_place x) xs ys
-
 pub end_after_by : (low n : ℕ) (rs : List Run) → low ≤ n → EndBy n rs → end_after low rs ≤ n
 end_after_by low n [] h e = h
 end_after_by low n (r ∷ rs) h e = end_after_by (end_place r) n rs e.0 e.1
-
-pub end_after_least : (low : ℕ) (rs : List Run) → InOrder low rs → low ≤ end_after low rs
-end_after_least low [] o = omega arith
-end_after_least low (r ∷ rs) o = omega (arith, end_after_least (end_place r) rs o.2)
 
 pub end_after_mono : (m n : ℕ) (rs : List Run) → m ≤ n → end_after m rs ≤ end_after n rs
 end_after_mono m n [] h = h

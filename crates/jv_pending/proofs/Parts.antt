@@ -76,10 +76,6 @@ pub Rise-append : (low n : ℕ) (xs ys : List Run) → low ≤ n → Rise low xs
 Rise-append low n [] ys h r b s = Rise-weaker n low ys h s
 Rise-append low n (x ∷ xs) ys h r b s = (r.0, r.1, Rise-append (start_place x + 1) n xs ys (let l = b.0 in omega arith) r.2 b.1 s)
 
-pub Rise-left : (low : ℕ) (xs ys : List Run) → Rise low (xs ++ ys) → Rise low xs
-Rise-left low [] ys r = tt
-Rise-left low (x ∷ xs) ys r = (r.0, r.1, Rise-left (start_place x + 1) xs ys r.2)
-
 pub whole : (n low : ℕ) (rs : List Run) → Rise low rs → runs_before n rs ++ runs_from n rs ≡ rs
 whole n low [] r = refl
 whole n low (x ∷ rs) r =

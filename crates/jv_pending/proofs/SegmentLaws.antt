@@ -1,8 +1,8 @@
 -- An inode's first segment, and what is left without it.
-use Rattle.std.proofs.Common.{◌≡◌, ℕ, ◌+◌, ◌%◌, ◌<◌, ◌≤◌, Bool, true, false, not, cond, eqb, ◌==◌, List, [], ◌∷◌, filter, length, Option, Some, None, refl, sym, ap, subst, ◌∙◌, ⊎_elim, arith}
-use Rattle.std.proofs.lemmas.Bool.{cases_Bool, true≢false, cases_eq, cond-true, cond-false, cond_both, and_parts, eqb-true, eq-eqb, ne_eqb}
+use Rattle.std.proofs.Common.{◌≡◌, ℕ, ◌+◌, ◌%◌, ◌<◌, ◌≤◌, true, false, not, cond, eqb, ◌==◌, List, [], ◌∷◌, length, Some, None, refl, sym, ap, subst, ◌∙◌, ⊎_elim, arith}
+use Rattle.std.proofs.lemmas.Bool.{cases_eq, cond-true, cond-false, cond_both, and_parts, eqb-true, eq-eqb, ne_eqb}
 use Rattle.std.proofs.lemmas.Bool.Decides.{nat_tests}
-use Rattle.std.proofs.lemmas.Option.{none-some, same_Some}
+use Rattle.std.proofs.lemmas.Option.{none-some}
 use Rattle.jv_model.specs.client.Pending.{PendingByte, Segment, comes_before, all_after, is_rising, stands_at, is_in_range, without_range, pending_of, pending_of_others, pending_end, end_of, run_length, first_segment, window_size, byte_set, written}
 use Rattle.jv_pending.proofs.Outcomes.{some_same}
 
@@ -104,106 +104,6 @@ rises i bs r = rises_of i 0 bs r (above_none i bs)
 ends_after : (i low : ℕ) (b : PendingByte) (bs : List PendingByte) → RiseFrom i low (b ∷ bs) → b.position < pending_end (b ∷ bs)
 ends_after i low b [] r = omega arith
 ends_after i low b (c ∷ cs) r = let l = ends_after i (b.position + 1) c cs r.2 in let m = r.2.1 in omega arith
-
-stands_tells : (j p : ℕ) (b : PendingByte) → stands_at j p b ≡ true → b.position ≡ p
-stands_tells j p b h = grind (arith, nat_tests)
-
--- and a run of them ends where they end, or before
-run_ends : (i low j p : ℕ) (bs : List PendingByte) → RiseFrom i low bs → p ≤ pending_end bs → p + run_length j p bs ≤ pending_end bs
-run_ends i low j p [] r h = omega arith
-run_ends i low j p (b ∷ []) r h =
-    cond_both (stands_at j p b) (cond ((p + 1) % window_size == 0) 1 (1 + 0)) 0 (λ n. p + n ≤ pending_end (b ∷ []))
-    (λ e. let same = stands_tells j p b e in cond_both ((p + 1) % window_size == 0) 1 (1 + 0) (λ n. p + n ≤ pending_end (b ∷ [])) (λ _. omega arith) (λ _. omega arith))
-    (λ e. omega arith)
-run_ends i low j p (b ∷ c ∷ cs) r h =
-    cond_both (stands_at j p b) (cond ((p + 1) % window_size == 0) 1 (1 + run_length j (p + 1) (c ∷ cs))) 0 (λ n. p + n ≤ pending_end (c ∷ cs))
-    (λ e.
-    let same = stands_tells j p b e in
-    let after = r.2.1 in
-    let ends = ends_after i (b.position + 1) c cs r.2 in
-    let rest = run_ends i (b.position + 1) j (p + 1) (c ∷ cs) r.2 (omega arith) in
-    cond_both ((p + 1) % window_size == 0) 1 (1 + run_length j (p + 1) (c ∷ cs)) (λ n. p + n ≤ pending_end (c ∷ cs)) (λ _. omega arith) (λ _. omega arith))
-    (λ e. omega arith)
-
-segment_ends : (i from len : ℕ) (bs : List PendingByte) → RiseFrom i 0 bs → first_segment bs ≡ Some (record { inode = i; from = from; len = len }) → from + len ≤ pending_end bs
-segment_ends i from len [] r e = absurd (let f : ◌≡◌ {A = Option Segment} None (Some (record { inode = i; from = from; len = len })) = e in cc)
-segment_ends i from len (b ∷ bs) r e =
-    let same = same_Some (record { inode = b.inode; from = b.position; len = run_length b.inode b.position (b ∷ bs) }) (record { inode = i; from = from; len = len }) e in
-    let begins : b.position ≡ from = ap (λ (s : Segment). s.from) same in
-    let long : run_length b.inode b.position (b ∷ bs) ≡ len = ap (λ (s : Segment). s.len) same in
-    let ends = ends_after i 0 b bs r in
-    let run = run_ends i 0 b.inode b.position (b ∷ bs) r (omega arith) in
-    omega arith
-
--- what passes two tests passes them in either order
-filter_swap : (p q : PendingByte → Bool) (bs : List PendingByte) → filter p (filter q bs) ≡ filter q (filter p bs)
-filter_swap p q [] = refl
-filter_swap p q (b ∷ bs) =
-    ⊎_elim
-    (λ e. ⊎_elim
-    (λ f. ap (filter p) (first q bs f) ∙ first p (filter q bs) e ∙ ap (λ (t : List PendingByte). b ∷ t) (filter_swap p q bs) ∙ sym (ap (filter q) (first p bs e) ∙ first q (filter p bs) f))
-    (λ f. ap (filter p) (behind q bs f) ∙ filter_swap p q bs ∙ sym (ap (filter q) (first p bs e) ∙ behind q (filter p bs) f))
-    (cases_Bool (q b)))
-    (λ e. ⊎_elim
-    (λ f. ap (filter p) (first q bs f) ∙ behind p (filter q bs) e ∙ filter_swap p q bs ∙ sym (ap (filter q) (behind p bs e)))
-    (λ f. ap (filter p) (behind q bs f) ∙ filter_swap p q bs ∙ sym (ap (filter q) (behind p bs e)))
-    (cases_Bool (q b)))
-    (cases_Bool (p b))
-  where
-    first : (t : PendingByte → Bool) (xs : List PendingByte) → t b ≡ true → filter t (b ∷ xs) ≡ b ∷ filter t xs
-    first t xs e = cond-true (t b) (b ∷ filter t xs) (filter t xs) e
-
-    behind : (t : PendingByte → Bool) (xs : List PendingByte) → t b ≡ false → filter t (b ∷ xs) ≡ filter t xs
-    behind t xs e = cond-false (t b) (b ∷ filter t xs) (filter t xs) e
-
-last_ends : (n : ℕ) (b : PendingByte) (bs : List PendingByte) → b.position < n → pending_end bs ≤ n → pending_end (b ∷ bs) ≤ n
-last_ends n b [] h l = omega arith
-last_ends n b (c ∷ cs) h l = l
-
-ends_behind : (b : PendingByte) (bs : List PendingByte) → pending_end bs ≤ pending_end (b ∷ bs)
-ends_behind b [] = omega arith
-ends_behind b (c ∷ cs) = omega arith
-
--- fewer bytes end there or before
-filter_ends : (q : PendingByte → Bool) (i low : ℕ) (bs : List PendingByte) → RiseFrom i low bs → pending_end (filter q bs) ≤ pending_end bs
-filter_ends q i low [] r = omega arith
-filter_ends q i low (b ∷ bs) r =
-    let rest = filter_ends q i (b.position + 1) bs r.2 in
-    let behind = ends_behind b bs in
-    let ends = ends_after i low b bs r in
-    cond_both (q b) (b ∷ filter q bs) (filter q bs) (λ kept. pending_end kept ≤ pending_end (b ∷ bs))
-    (λ _. last_ends (pending_end (b ∷ bs)) b (filter q bs) ends (omega arith))
-    (λ _. omega arith)
-
--- the segment that a flush commits first ends where the pending bytes of the file end, or before
-pub first_segment-ends : (inode from len : ℕ) (pending : List PendingByte) → is_rising pending ≡ true
-    → first_segment (pending_of inode pending) ≡ Some (record { inode = inode; from = from; len = len }) → from + len ≤ end_of inode pending
-first_segment-ends inode from len pending rising first = segment_ends inode from len (pending_of inode pending) (rises inode pending rising) first
-
--- without it, they end there or before
-pub end_of-without : (inode from len : ℕ) (pending : List PendingByte) → is_rising pending ≡ true → end_of inode (without_range inode from len pending) ≤ end_of inode pending
-end_of-without inode from len pending rising =
-    subst (λ (t : List PendingByte). pending_end t ≤ end_of inode pending)
-    (filter_swap (λ b. not (is_in_range inode from len b)) (λ b. b.inode == inode) pending)
-    (filter_ends (λ b. not (is_in_range inode from len b)) inode 0 (pending_of inode pending) (rises inode pending rising))
-
--- a run of bytes ends where its window ends, or before
-run_in_window : (i p : ℕ) (bs : List PendingByte) → p % window_size + run_length i p bs ≤ window_size
-run_in_window i p [] = omega arith
-run_in_window i p (b ∷ bs) =
-    let rest = run_in_window i (p + 1) bs in
-    cond_both (stands_at i p b) (cond ((p + 1) % window_size == 0) 1 (1 + run_length i (p + 1) bs)) 0 (λ n. p % window_size + n ≤ window_size)
-    (λ _. cond_both ((p + 1) % window_size == 0) 1 (1 + run_length i (p + 1) bs) (λ n. p % window_size + n ≤ window_size)
-    (λ _. omega arith)
-    (λ apart. let n : (p + 1) % window_size ≡ 0 → ⊥ = λ e. true≢false (sym (eq-eqb ((p + 1) % window_size) 0 e) ∙ apart) in ⊎_elim (λ e. absurd (n e)) (λ _. omega arith) (cases_eq ((p + 1) % window_size) 0)))
-    (λ _. omega arith)
-
--- a first segment lies in one window
-pub segment-in_window : (bytes : List PendingByte) (s : Segment) → first_segment bytes ≡ Some s → s.from % window_size + s.len ≤ window_size
-segment-in_window [] s h = absurd (none-some s h)
-segment-in_window (b ∷ bytes) s h =
-    let same = some_same _ s h in
-    subst (λ (t : Segment). t.from % window_size + t.len ≤ window_size) same (run_in_window b.inode b.position (b ∷ bytes))
 
 -- the others' bytes stay
 pub others_stay : (i f n : ℕ) (bytes : List PendingByte) → pending_of_others i (without_range i f n bytes) ≡ pending_of_others i bytes

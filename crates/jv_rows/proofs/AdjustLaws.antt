@@ -1,6 +1,6 @@
 -- Recounting slice after slice, as a loop does.
-use Rattle.std.proofs.Common.{◌≡◌, ◌≢◌, ℕ, zero, suc, ◌+◌, ◌-◌, Bool, true, false, cond, eqb, List, [], ◌∷◌, Option, None, Some, Result, Ok, Err, refl, sym, ap, subst, ◌∙◌, arith, inl, inr, ◌⊎◌, true≢false}
-use Rattle.std.specs.Prelude.{◌||◌, ◌&&◌, not, ◌==◌, unwrap_or, is_some, IfOk, IfErr, IfSome, OnOk, IsTrue}
+use Rattle.std.proofs.Common.{◌≡◌, ◌≢◌, ℕ, ◌+◌, ◌-◌, Bool, true, false, cond, List, [], ◌∷◌, Option, None, Some, Result, Ok, Err, refl, sym, ap, subst, ◌∙◌, arith, inl, inr, true≢false}
+use Rattle.std.specs.Prelude.{◌||◌, ◌&&◌, not, ◌==◌, unwrap_or, is_some, IfSome, IsTrue}
 use Rattle.std.specs.List.{list_any}
 use Rattle.std.specs.Option.{option_or}
 use Rattle.std.specs.Ordering.{nat_cmp, eq_by_cmp}
@@ -23,13 +23,13 @@ use Rattle.jv_model.specs.rows.RowKeys.{RowMap, row_key, row_cmp}
 use Rattle.jv_model.specs.rows.RowPlaces.{slice_key, dead_key}
 use Rattle.jv_outside.specs.declared.batch.Change.{Change}
 use Rattle.jv_outside.specs.Store.{Store, IsSame}
-use Rattle.jv_volume.specs.TypedRows.{Cell, Rows, typed}
+use Rattle.jv_volume.specs.TypedRows.{Cell, Rows}
 use Rattle.jv_volume.specs.Slices.{records_naming}
 use Rattle.jv_volume.proofs.MapLaws.{get-alter-here, get-alter-apart}
 use Rattle.jv_volume.proofs.ShapeMapLaws.{tied_apart}
-use Rattle.jv_rows.specs.Counts.{stored_count, is_named, recounted, may_become, slice_cell, dead_cell, Recounted, is_of_slice, Adjusted, IsFull, RefusesRecount, FailsToRecount, RefusesAdjust, Adjusts, with_count, LeavesStored, LeavesOthers, Recounts}
+use Rattle.jv_rows.specs.Counts.{stored_count, is_named, recounted, may_become, slice_cell, dead_cell, Recounted, is_of_slice, Adjusted, IsFull, RefusesRecount, RefusesAdjust, Adjusts, with_count, LeavesStored, LeavesOthers, Recounts}
 use Rattle.jv_rows.specs.Drafts.{key_in, last_change, drafted, cell, RefusesCell, Sees, Needs, IsNoRow, RefusesNeeded}
-use Rattle.jv_rows.specs.Transactions.{TransactionCounts, FaultCause}
+use Rattle.jv_rows.specs.Transactions.{FaultCause}
 use Rattle.jv_rows.proofs.CountsLaws.{at_key}
 use Rattle.jv_rows.proofs.DraftLaws.{stored-below}
 use Rattle.jv_rows.proofs.TransactionLaws.{of_known, if_known, drafted-none}
@@ -459,9 +459,6 @@ all_adjusted gone added due fewer more start now changes changed h none = record
   where
     none_left : (id : ℕ) → is_left fewer more id ≡ false
     none_left id = ap (λ o. is_some o || is_some (more id)) (none id).0 ∙ ap is_some (none id).1
-
-pub adjust-memory : (gone added : List Rec) (due : ℕ) (start : Store) (changes : List Change) → Adjusts gone added due start start changes changes (Err (OfRows Memory))
-adjust-memory gone added due start changes = record { rows_are = refl; opened_at = refl; counts = refl; done = tt; refused = tt }
 
 module _ (gone added : List Rec) (id : ℕ) (changes between : List Change) (rows : Option RowMap) (named : IsTrue (is_named gone added id))
     (stands : (known : RowMap) → get (drafted between known) (slice_key id) ≡ get (drafted changes known) (slice_key id)) where

@@ -187,12 +187,6 @@ module _ {start now : Store} {asked : Tree → Result ℕ Fault} (left : ℕ) (f
       let is : left ≡ suc (left - 1) = omega arith in
       in_other_words (goes_again from rest goes) (λ known rows_are whole bytes. ap (λ n. again n (tree_of bytes (typed known)) follow from.inode rest) is)
 
--- a walk from the root begins there
-pub walk_begins : {before after : Store} (left : ℕ) (follow : Bool) (names : List (List ℕ)) (place : Place) → Comes before after (Ok place) (λ t. Ok root)
-    → Past before after (λ t. walk left t follow root names) (λ t. walk left t follow place.inode names)
-walk_begins {before = before} left follow names place comes =
-    found_part (λ inode t. walk left t follow inode names) place.inode (past-start before (λ t. walk left t follow root names)) comes.looks
-
 pub walk_begins_nowhere : {before after : Store} (left : ℕ) (follow : Bool) (names : List (List ℕ)) (fault : TxFault) → Comes before after (Err fault) (λ t. Ok root)
     → Comes before after (Err fault) (λ t. walk left t follow root names)
 walk_begins_nowhere {before = before} left follow names fault comes =

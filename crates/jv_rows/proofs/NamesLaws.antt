@@ -45,17 +45,6 @@ from_parts (b ∷ bs) name = from_byte name b bs (b == 47) (from_parts bs)
 pub names_from_start : (path : List ℕ) → names_from [] path ≡ names_of path
 names_from_start path = sym (from_parts path []) ∙ nothing_joined (parts_between 47 path)
 
--- a slash ends a name
-pub at_slash : (found : List (List ℕ)) (name bs all : List ℕ) (b : ℕ) → (b == 47) ≡ true → found ++ names_from name (b ∷ bs) ≡ names_of all → (found ++ one_name name) ++ names_from [] bs ≡ names_of all
-at_slash found name bs all b is so_far =
-    append_assoc found (one_name name) (names_from [] bs)
-    ∙ ap (λ slash. found ++ (if slash then one_name name ++ names_from [] bs else names_from (name ++ b ∷ []) bs)) (sym is) ∙ so_far
-
--- another byte is one of a name
-pub at_byte : (found : List (List ℕ)) (name bs all : List ℕ) (b : ℕ) → (b == 47) ≡ false → found ++ names_from name (b ∷ bs) ≡ names_of all → found ++ names_from (name ++ b ∷ []) bs ≡ names_of all
-at_byte found name bs all b is so_far =
-    ap (λ slash. found ++ (if slash then one_name name ++ names_from [] bs else names_from (name ++ b ∷ []) bs)) (sym is) ∙ so_far
-
 -- ---- the last name
 
 last_in : (names : List (List ℕ)) (name : List ℕ) → last_name (names ++ name ∷ []) ≡ Some name

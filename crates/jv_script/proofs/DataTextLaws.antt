@@ -1,12 +1,11 @@
 -- What is printed of DATA so far, and the text of the bytes to come.
-use Rattle.std.proofs.Common.{nat_le, ◌≡◌, ℕ, ◌<◌, ◌==◌, Bool, true, false, not, cond, List, [], ◌∷◌, ◌++◌, length, get_or, drop, replicate, refl, sym, ap, ◌∙◌, arith}
+use Rattle.std.proofs.Common.{nat_le, ◌≡◌, ℕ, ◌<◌, ◌==◌, Bool, true, false, not, cond, List, [], ◌∷◌, ◌++◌, length, replicate, refl, sym, ap, ◌∙◌, arith}
 use Rattle.std.specs.List.{flat_map}
 use Rattle.std.proofs.lemmas.Bool.{ne_eqb}
 use Rattle.std.proofs.lemmas.List.{append-nil, append_assoc}
-use Rattle.std.proofs.lemmas.Grind.{flat_map-append}
 use Rattle.jv_model.specs.script.Printed.{hex_pair, Run, runs_of, Part, Plain, Repeated, with_short, parts_of, part_text}
-use Rattle.jv_script.specs.Printing.{begins_long, joint, joined, parts_text, rest_text}
-use Rattle.jv_script.proofs.RepeatLaws.{with_byte-first, short_first}
+use Rattle.jv_script.specs.Printing.{joint, joined, parts_text, rest_text}
+use Rattle.jv_script.proofs.RepeatLaws.{with_byte-first}
 
 -- between parts
 at_start : (parts : List Part) → parts_text parts false ≡ joined parts
@@ -71,19 +70,3 @@ plain_printed old first new bytes plain rest printed closed parts was =
     ∙ append_assoc (old ++ flat_map hex_pair plain) after more
     ∙ append_assoc old (flat_map hex_pair plain) (after ++ more)
     ∙ ap (λ (text : List ℕ). old ++ text) (sym (joined_before (Plain plain) rest) ∙ sym (ap (λ (parts : List Part). parts_text parts was) parts))
-
--- short runs go into the part after them
-short_text : (bytes : List ℕ) (parts : List Part) (was : Bool) → parts_text (with_short bytes parts) was ≡ flat_map hex_pair bytes ++ parts_text parts true
-short_text bytes [] was = sym (append-nil (flat_map hex_pair bytes))
-short_text bytes (Plain more ∷ []) was = flat_map-append hex_pair bytes more
-short_text bytes (Plain more ∷ next ∷ parts) was =
-    ap (λ (text : List ℕ). text ++ 43 ∷ joined (next ∷ parts)) (flat_map-append hex_pair bytes more)
-    ∙ append_assoc (flat_map hex_pair bytes) (flat_map hex_pair more) (43 ∷ joined (next ∷ parts))
-short_text bytes (Repeated run ∷ parts) was = refl
-
--- one byte of a plain part is printed
-pub byte_printed : (old bytes : List ℕ) → 0 < length bytes → begins_long bytes ≡ false → (was : Bool) → (old ++ hex_pair (get_or bytes 0 0)) ++ rest_text (drop 1 bytes) true ≡ old ++ rest_text bytes was
-byte_printed old [] some short was = absurd (omega arith)
-byte_printed old (byte ∷ bytes) some short was =
-    append_assoc old (hex_pair byte) (rest_text bytes true)
-    ∙ ap (λ (text : List ℕ). old ++ text) (sym (ap (λ (parts : List Part). parts_text parts was) (short_first byte bytes short) ∙ short_text (byte ∷ []) (parts_of (runs_of bytes)) was))

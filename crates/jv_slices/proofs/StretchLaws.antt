@@ -1,14 +1,14 @@
 -- Laws of stretches.
-use Rattle.std.proofs.Common.{◌≡◌, ◌≢◌, ℕ, suc, zero, ◌+◌, ◌-◌, ◌<◌, ◌≤◌, List, [], ◌∷◌, ◌++◌, length, get_or, set, drop, Option, Some, None, refl, sym, ap, ◌∙◌, subst, arith, ⊎_elim}
+use Rattle.std.proofs.Common.{◌≡◌, ◌≢◌, ℕ, suc, zero, ◌+◌, ◌-◌, ◌<◌, ◌≤◌, Bool, true, false, cond, List, [], ◌∷◌, ◌++◌, length, get_or, set, drop, Option, Some, None, refl, sym, ap, ◌∙◌, subst, arith, ⊎_elim}
 use Rattle.std.specs.Option.{option_or}
-use Rattle.std.proofs.lemmas.Bool.{cases_lt, lt-leb, le-leb, lt-ltb, le-ltb}
-use Rattle.std.proofs.lemmas.List.{drop_more, drop_all, reverse-append}
+use Rattle.std.proofs.lemmas.Bool.{cases_lt, false≢true, lt-leb, le-leb, lt-ltb, le-ltb}
+use Rattle.std.proofs.lemmas.List.{append_assoc, append-nil, drop_more, drop_all, reverse-append}
 use Rattle.std.proofs.lemmas.List.Folds.{find-append}
-use Rattle.std.specs.Prelude.{find, reverse}
+use Rattle.std.specs.Prelude.{filter, find, reverse}
 use Rattle.jv_model.specs.declared.slice.Rec.{Rec}
 use Rattle.jv_model.specs.blocks.Slices.{covers, visible}
 use Rattle.jv_slices.specs.declared.layout.Stretch.{Stretch}
-use Rattle.jv_slices.specs.Stretches.{IsSeen, Shows, Turns, Differ, IsLayout}
+use Rattle.jv_slices.specs.Stretches.{IsSeen, Shows, Turns, Differ, IsLayout, touches}
 
 -- the same over two ranges that touch
 pub seen_join : (all : ℕ → Option Rec) (from at to : ℕ) (r : Option Rec) → IsSeen all from at r → IsSeen all at to r → IsSeen all from to r
@@ -49,13 +49,6 @@ differ_grow (stretch ∷ next ∷ stretches) (suc (suc k)) v d l (turns, more) e
     turns_on : (r : Option Rec) (next : Stretch) (stretches : List Stretch) (k : ℕ) (v : Stretch) → Turns r (next ∷ stretches) → Turns r (set (next ∷ stretches) (suc k) v)
     turns_on r next stretches k v h = h
 
--- what is left of stretches from a position on, in the first of them
-pub shows_stay : (all : ℕ → Option Rec) (from at to : ℕ) (stretch : Stretch) (stretches : List Stretch) → Shows all from to (stretch ∷ stretches) → from ≤ at → at < stretch.end → Shows all at to (stretch ∷ stretches)
-shows_stay all from at to stretch stretches (up, seen, rest) low high = (high, λ q l h. seen q (omega arith) h, rest)
-
-pub shows_go : (all : ℕ → Option Rec) (from at to : ℕ) (stretch : Stretch) (stretches : List Stretch) → Shows all from to (stretch ∷ stretches) → at ≡ stretch.end → Shows all at to stretches
-shows_go all from at to stretch stretches (up, seen, rest) e = let P : ℕ → Type 0 = λ n. Shows all n to stretches in subst P (sym e) rest
-
 pub shows_drop : (all : ℕ → Option Rec) (from to : ℕ) (stretches : List Stretch) (k : ℕ) (d : Stretch) → k < length stretches → Shows all from to (drop k stretches) → Shows all from to (get_or stretches k d ∷ drop (k + 1) stretches)
 shows_drop all from to stretches k d below h = let P : List Stretch → Type 0 = λ rs. Shows all from to rs in subst P (drop_more stretches k d below) h
 
@@ -73,6 +66,21 @@ layout_same f g same from to stretches h = record { shows = shows_same f g same 
 -- later records lie over earlier ones
 pub visible-append : (xs ys : List Rec) (position : ℕ) → visible (xs ++ ys) position ≡ option_or (visible ys position) (visible xs position)
 visible-append xs ys position = ap (find (covers position)) (reverse-append xs ys) ∙ find-append (covers position) (reverse ys) (reverse xs)
+
+-- stretches end behind where they begin
+shows_within : (all : ℕ → Option Rec) (from to : ℕ) (stretches : List Stretch) → Shows all from to stretches → from ≤ to
+shows_within all from to [] e = omega (arith, e)
+shows_within all from to (stretch ∷ stretches) (up, seen, rest) = omega (arith, up, shows_within all stretch.end to stretches rest)
+
+-- the same of a range alone
+shows_in : (f g : ℕ → Option Rec) (low high from : ℕ) (stretches : List Stretch) → ((q : ℕ) → low ≤ q → q < high → f q ≡ g q) → low ≤ from → Shows f from high stretches → Shows g from high stretches
+shows_in f g low high from [] same above h = h
+shows_in f g low high from (stretch ∷ stretches) same above (up, seen, rest) =
+    let ends = shows_within f stretch.end high stretches rest in
+    (up, λ q l h. sym (same q (omega arith) (omega arith)) ∙ seen q l h, shows_in f g low high stretch.end stretches same (omega arith) rest)
+
+pub layout_in : (f g : ℕ → Option Rec) (from to : ℕ) (stretches : List Stretch) → ((q : ℕ) → from ≤ q → q < to → f q ≡ g q) → IsLayout f from to stretches → IsLayout g from to stretches
+layout_in f g from to stretches same h = record { shows = shows_in f g from to from stretches same (omega arith) h.shows; differ = h.differ }
 
 -- the last stretch grows
 pub layout_grow : (all : ℕ → Option Rec) (from at to n : ℕ) (r : Option Rec) (stretches : List Stretch) (last : Stretch) → n ≡ length stretches → 0 < length stretches → IsLayout all from at stretches → at ≤ to → IsSeen all at to r → last.seen ≡ r → last ≡ get_or stretches (n - 1) last → IsLayout all from to (set stretches (n - 1) (record { end = to; seen = last.seen }))
@@ -107,3 +115,46 @@ only_behind only q high = rw (le-leb only.pos q (omega arith), le-ltb q (only.po
 
 pub shows_end : (all : ℕ → Option Rec) (from to : ℕ) (stretches : List Stretch) (k : ℕ) → length stretches ≤ k → Shows all from to (drop k stretches) → from ≡ to
 shows_end all from to stretches k past h = let P : List Stretch → Type 0 = λ rs. Shows all from to rs in subst P (drop_all k stretches past) h
+
+or_none : (o : Option Rec) → option_or o None ≡ o
+or_none None = refl
+or_none (Some r) = refl
+
+far_behind : (from to q : ℕ) (r : Rec) → from ≤ q → q < to → r.pos ≤ q → touches from to r ≡ false → r.pos + r.len ≤ q
+far_behind from to q r low high begun off = ⊎_elim
+    (λ inside. absurd (false≢true (sym off ∙ rw (lt-ltb r.pos to (omega (arith, begun, high)), lt-ltb from (r.pos + r.len) inside) refl)))
+    (λ past. omega (arith, past, low)) (cases_lt from (r.pos + r.len))
+
+-- a record that doesn't touch a range shows nothing there
+far_off : (from to q : ℕ) (r : Rec) → from ≤ q → q < to → touches from to r ≡ false → visible (r ∷ []) q ≡ None
+far_off from to q r low high off = ⊎_elim
+    (λ before. only_before r q before)
+    (λ begun. only_behind r q (far_behind from to q r low high begun off)) (cases_lt q r.pos)
+
+-- what a range shows, the records show that touch it
+pub visible-touching : (from to q : ℕ) (records : List Rec) → from ≤ q → q < to → visible (filter (touches from to) records) q ≡ visible records q
+visible-touching from to q [] low high = refl
+visible-touching from to q (r ∷ records) low high = by_test (touches from to r) refl (visible-touching from to q records low high)
+  where
+    by_test : (v : Bool) → touches from to r ≡ v → visible (filter (touches from to) records) q ≡ visible records q → visible (cond v (r ∷ filter (touches from to) records) (filter (touches from to) records)) q ≡ visible (r ∷ records) q
+    by_test true e rest =
+        visible-append (r ∷ []) (filter (touches from to) records) q ∙ ap (λ (o : Option Rec). option_or o (visible (r ∷ []) q)) rest
+        ∙ sym (visible-append (r ∷ []) records q)
+    by_test false e rest =
+        rest ∙ sym (or_none (visible records q)) ∙ ap (λ (o : Option Rec). option_or (visible records q) o) (sym (far_off from to q r low high e))
+        ∙ sym (visible-append (r ∷ []) records q)
+
+-- one record more was looked at, and is kept where it passes
+pub kept-more : (p : Rec → Bool) (all near near' : List Rec) (k : ℕ) (d : Rec) → k < length all → filter p all ≡ near ++ filter p (drop k all)
+    → near' ≡ cond (p (get_or all k d)) (near ++ get_or all k d ∷ []) near → filter p all ≡ near' ++ filter p (drop (k + 1) all)
+kept-more p all near near' k d below e is =
+    let x = get_or all k d in
+    let rest = filter p (drop (k + 1) all) in
+    e ∙ ap (λ (xs : List Rec). near ++ filter p xs) (drop_more all k d below) ∙ by_test (p x) x rest is
+  where
+    by_test : (v : Bool) (x : Rec) (rest : List Rec) → near' ≡ cond v (near ++ x ∷ []) near → near ++ cond v (x ∷ rest) rest ≡ near' ++ rest
+    by_test true x rest same = sym (append_assoc near (x ∷ []) rest) ∙ ap (λ (xs : List Rec). xs ++ rest) (sym same)
+    by_test false x rest same = ap (λ (xs : List Rec). xs ++ rest) (sym same)
+
+pub kept-all : (p : Rec → Bool) (all near : List Rec) (k : ℕ) → length all ≤ k → filter p all ≡ near ++ filter p (drop k all) → near ≡ filter p all
+kept-all p all near k past e = sym (append-nil near) ∙ ap (λ (xs : List Rec). near ++ filter p xs) (sym (drop_all k all past)) ∙ sym e

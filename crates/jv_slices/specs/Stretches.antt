@@ -1,9 +1,13 @@
 -- Stretches: positions in a row that one record shows, or none.
-use Rattle.std.specs.Prelude.{◌≡◌, ◌≢◌, ℕ, ◌-◌, ◌<◌, ◌≤◌, List, [], ◌∷◌, Option}
+use Rattle.std.specs.Prelude.{◌≡◌, ◌≢◌, ℕ, ◌+◌, ◌-◌, ◌<◌, ◌≤◌, Bool, nat_lt, ◌&&◌, List, [], ◌∷◌, Option}
 use Rattle.jv_model.specs.declared.slice.Rec.{Rec}
 use Rattle.jv_model.specs.declared.slice.Piece.{Piece}
 use Rattle.jv_model.specs.blocks.Slices.{place_by}
 use Rattle.jv_slices.specs.declared.layout.Stretch.{Stretch}
+
+-- a record begins before `to` and ends behind `from`
+abbrev pub touches : ℕ → ℕ → Rec → Bool
+touches from to r = nat_lt r.pos to && nat_lt from (r.pos + r.len)
 
 -- what is seen is the same at all positions from one to another
 abbrev pub IsSeen : (ℕ → Option Rec) → ℕ → ℕ → Option Rec → Type 0

@@ -1,9 +1,9 @@
 //! What records show of a range, as stretches of positions.
-ghost use Rattle.std.specs.Prelude.{◌≡◌, ◌≢◌, ◌↔◌, ℕ, [], ◌∷◌, ◌+◌, ◌-◌, ◌<◌, ◌≤◌, false, IsTrue, All, drop, length, Option, OnOk, IfOk, slice_index_or};
+ghost use Rattle.std.specs.Prelude.{◌≡◌, ◌≢◌, ◌↔◌, ℕ, [], ◌∷◌, ◌+◌, ◌-◌, ◌<◌, ◌≤◌, false, IsTrue, All, drop, filter, length, Option, OnOk, IfOk, slice_index_or};
 ghost use Rattle.std.specs.Option.{option_or};
 ghost use Rattle.jv_model.specs.declared.slice.Rec.{Rec as RecSeen};
 ghost use Rattle.jv_model.specs.blocks.Slices.{IsRecord, visible};
-ghost use Rattle.jv_slices.specs.Stretches.{IsSeen, Shows, IsLayout};
+ghost use Rattle.jv_slices.specs.Stretches.{IsSeen, Shows, IsLayout, touches};
 ghost use Rattle.jv_slices.specs.declared.layout.Stretch.{Stretch as StretchSeen};
 
 use jv_model::Rec;
@@ -16,14 +16,44 @@ pub(crate) struct Stretch {
     pub(crate) seen: Option<Rec>,
 }
 
-/// What records show from one position to another, in as few stretches as there can be. The two halves of the records are laid
-/// out each for itself, and then the later one over the earlier one, so that the time is that of a merge sort.
-pub(crate) fn layout(
+/// What records show from one position to another, in as few stretches as there can be, laid out by those alone that touch these
+/// positions.
+pub(crate) fn show_range(
     alloc: Global,
     records: &[Rec],
     from: u32,
     to: u32,
 ) -> Result<Vec<Stretch>, AllocError>
+    requires records { All IsRecord records.now }
+    requires rising { from ≤ to }
+    ensures { IfOk result (λ stretches. IsLayout (visible records.now) from to stretches.items) }
+{
+    let near = touching(alloc, records, from, to)?;
+    layout(alloc, &near, from, to)
+}
+
+/// The records that touch the positions from one to another, in their order.
+fn touching(alloc: Global, records: &[Rec], from: u32, to: u32) -> Result<Vec<Rec>, AllocError>
+    ensures { IfOk result (λ near. near.items ≡ filter (touches from to) records.now) }
+{
+    let mut near = Vec::new(alloc);
+    for record in records {
+        if touches(from, to, *record) {
+            near.push(*record)?;
+        }
+    }
+    Ok(near)
+}
+
+fn touches(from: u32, to: u32, part: Rec) -> bool
+    ensures { result ≡ touches from to part }
+{
+    part.pos < to && (from < part.pos || from - part.pos < part.len)
+}
+
+/// The same by all of these records. The two halves of the records are laid out each for itself, and then the later one over
+/// the earlier one, so that the time is that of a merge sort.
+fn layout(alloc: Global, records: &[Rec], from: u32, to: u32) -> Result<Vec<Stretch>, AllocError>
     requires records { All IsRecord records.now }
     requires rising { from ≤ to }
     ensures { IfOk result (λ stretches. IsLayout (visible records.now) from to stretches.items) }

@@ -3,7 +3,7 @@ ghost use Rattle.jv_model.specs.blocks.Slices.{IsRecord, IsPart, IsPlan, IsAsSto
 ghost use Rattle.jv_slices.specs.Stretches.{piece_of};
 ghost use Rattle.jv_slices.specs.Shown.{IsOfRecord, EndsBy};
 
-use crate::layout::{Stretch, layout};
+use crate::layout::{Stretch, show_range};
 use jv_model::{List, Piece, Pieces, Rec, Spot, WINDOW};
 use std::alloc::{AllocError, Global};
 
@@ -60,7 +60,7 @@ pub fn plan(alloc: Global, list: &List, from: u32, to: u32) -> Result<Pieces, Al
     ensures ends { IfOk result (λ pieces. All (EndsBy to) pieces) }
     ensures named { IfOk result (λ pieces. All (IsOfRecord list.now) pieces) }
 {
-    let stretches = layout(alloc, list.as_slice(), from, to)?;
+    let stretches = show_range(alloc, list.as_slice(), from, to)?;
     let mut pieces = Vec::with_capacity(alloc, stretches.len())?;
     let mut at = from;
     for stretch in stretches.as_slice() {

@@ -1,17 +1,14 @@
 -- The tests of a commit in their order, as a transaction makes them: where they pass the commit may stand, and the
 -- first one that fails refuses it.
-use Rattle.std.proofs.Common.{◌≡◌, ℕ, ◌+◌, ◌≤◌, ◌<◌, Bool, true, false, not, List, [], ◌∷◌}
+use Rattle.std.proofs.Common.{◌≡◌, ℕ, ◌+◌, ◌≤◌, ◌<◌, Bool, true, false, not, List}
 use Rattle.std.proofs.Common.{Option, None, Some, Result, Ok, Err, refl, sym, ap}
 use Rattle.std.specs.Prelude.{is_some, nat_lt, IsTrue}
 use Rattle.std.proofs.lemmas.Bool.{ltb-false, ltb-true, or_right}
 use Rattle.jv_model.specs.declared.lifetimes.TheConstants.{UPLOAD_LIFE}
-use Rattle.jv_model.specs.declared.act.ActKind.TheVariants.{Answered, Quiet}
-use Rattle.jv_model.specs.declared.act.Told.TheVariants.{Refused as ToldRefused}
 use Rattle.jv_model.specs.declared.fault.Fault.{Fault}
 use Rattle.jv_model.specs.declared.fault.Fault.TheVariants.{NoSpace, Stale, TimedOut}
 use Rattle.jv_model.specs.declared.fault.Gone.TheVariants.{Session, Node as GoneNode}
-use Rattle.jv_model.specs.declared.op.Reply.TheVariants.{Done, Refused}
-use Rattle.jv_model.specs.declared.op.Step.TheVariants.{Done as StepDone}
+use Rattle.jv_model.specs.declared.op.Reply.TheVariants.{Done}
 use Rattle.jv_model.specs.FiniteMap.{get}
 use Rattle.jv_model.specs.tree.Attempt.{◌>>=◌, require, some_or}
 use Rattle.jv_model.specs.tree.Caller.{Outcome, done}
@@ -20,12 +17,10 @@ use Rattle.jv_model.specs.tree.FileBytes.{committed}
 use Rattle.jv_model.specs.client.Pending.{Segment, bytes_in_range}
 use Rattle.jv_model.specs.client.Submission.{next_segment}
 use Rattle.jv_model.specs.client.ModelClient.{ModelClient, Doing, Working, session_of}
-use Rattle.jv_model.specs.journal.State.{State, after_told, has_session}
+use Rattle.jv_model.specs.journal.State.{State, has_session}
 use Rattle.jv_model.specs.journal.Steps.{Start, Commits, is_crowded}
-use Rattle.jv_steps.specs.IsStep.{IsStep}
 use Rattle.jv_steps.specs.RefusesCommit.{RefusesCommit, Late, NoFile, NoRoom, NoSession}
 use Rattle.jv_steps.proofs.CommitStepLaws.{commits-may}
-use Rattle.jv_steps.proofs.RefusalStepLaws.{commit-refused}
 
 -- the length of a file, as a session sees it
 abbrev length_tested : ℕ → ℕ → Tree → Result ℕ Fault
@@ -152,17 +147,3 @@ module _ (s : State) (now : ℕ) (c : ModelClient) (segment : Segment) (started 
     tests-refuse fault e file =
         refused_by (has_session s.tree c) (content_at s.tree segment.inode) (nat_lt now (started + UPLOAD_LIFE))
         (fits s.tree left_by) fault refl refl refl refl file e
-
--- the step of a commit that its tests refuse
-pub commit-undone : (start : Start) (alone : Bool) (s : State) (client now : ℕ) (d : Doing)
-    → (s.clients client).doing ≡ Some d → (segment : Segment)
-    → next_segment d.flush (s.clients client).pending ≡ Some segment
-    → (quiets started : ℕ) → d.stage ≡ Working quiets started → 2 ≤ quiets → (fault : Fault)
-    → commit_tested (session_of (s.clients client)) segment.inode segment.from
-    (bytes_in_range segment.inode segment.from segment.len (s.clients client).pending) started now s.tree ≡ Err fault
-    → (content_at s.tree segment.inode ≡ None → node_at s.tree segment.inode ≡ None)
-    → IsStep start alone s client now (Quiet ∷ Answered (ToldRefused fault) ∷ []) (StepDone (Refused fault)) s.tree
-    (after_told d.op (ToldRefused fault) (s.clients client)) s.copied
-commit-undone start alone s client now d busy segment next quiets started at asked fault e file =
-    commit-refused start alone s client now d busy segment next quiets started at asked fault
-    (tests-refuse s now (s.clients client) segment started start fault e file)

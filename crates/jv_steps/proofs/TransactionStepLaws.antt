@@ -1,7 +1,7 @@
 -- Steps that are one metadata transaction with its answer.
-use Rattle.std.proofs.Common.{◌≡◌, ℕ, ◌+◌, Bool, true, false, List, [], ◌∷◌, ◌++◌, None, Some, refl, sym, ap, subst}
+use Rattle.std.proofs.Common.{◌≡◌, ℕ, ◌+◌, Bool, true, false, List, [], ◌∷◌, ◌++◌, Some, refl, sym, ap, subst}
 use Rattle.std.proofs.Common.{◌∙◌}
-use Rattle.std.specs.Prelude.{◌&&◌, filter, is_some, not, if◌then◌else◌}
+use Rattle.std.specs.Prelude.{◌&&◌, filter, not, if◌then◌else◌}
 use Rattle.jv_model.specs.declared.act.ActKind.{ActKind}
 use Rattle.jv_model.specs.declared.act.ActKind.TheVariants.{Answered, Meta}
 use Rattle.jv_model.specs.declared.act.Told.{Told}
@@ -13,8 +13,7 @@ use Rattle.jv_model.specs.declared.profile.Does.TheVariants as does
 use Rattle.jv_model.specs.tree.Tree.{Tree, is_sustained}
 use Rattle.jv_model.specs.tree.Caller.{Outcome}
 use Rattle.jv_model.specs.client.ModelClient.{ModelClient, Doing, Stage, Working, Replying, with_stage, held_inodes}
-use Rattle.jv_model.specs.client.ModelClient.{is_last_of_removed, session_of}
-use Rattle.jv_model.specs.client.Profile.{handle_of}
+use Rattle.jv_model.specs.client.ModelClient.{session_of}
 use Rattle.jv_model.specs.client.Submission.{is_flushed}
 use Rattle.jv_model.specs.journal.State.{State, Gift, NewSession, NewHandle, Nothing, after_told, after_transaction}
 use Rattle.jv_model.specs.journal.State.{gift_of, newly_sustained, transacted, with_client}
@@ -30,18 +29,6 @@ use Rattle.jv_steps.proofs.ReadyLaws.{ready-at}
 use Rattle.jv_steps.proofs.StepFormLaws.{leaves-one, requested, step-answered, with_stage-doing}
 
 -- ---- operations that make a transaction
-
-pub transacts-mount : (c : ModelClient) (d : Doing) (writeback : Bool) → d.does ≡ does.Mounts writeback
-    → transacts c d ≡ true
-transacts-mount c d writeback e = ap (λ does. transacts c (record d { does = does })) e
-
-pub transacts-plain : (c : ModelClient) (d : Doing) → d.does ≡ does.Transacts → transacts c d ≡ true
-transacts-plain c d e = ap (λ does. transacts c (record d { does = does })) e
-
-pub transacts-close : (c : ModelClient) (d : Doing) → d.does ≡ does.Releases
-    → is_last_of_removed c (handle_of d.op) ≡ true → transacts c d ≡ true
-transacts-close c d e last = ap (λ does. transacts c (record d { does = does })) e
-    ∙ ap (λ b. not (is_some (if b then None else Some reply.Done))) last
 
 -- ---- files that the client removed while it had them open
 

@@ -12,9 +12,6 @@ pub change_node-there : (t : Tree) (inode : ℕ) (change : Node → Node) (node 
     → change_node t inode change ≡ put_node t inode (change node)
 change_node-there t inode change node there = ap (λ o. set_node t inode (option_map change o)) there
 
-pub change_node-none : (t : Tree) (inode : ℕ) (change : Node → Node) → node_at t inode ≡ None → change_node t inode change ≡ t
-change_node-none t inode change none = ap (λ o. set_node t inode (option_map change o)) none
-
 pub put_entry-there : (t : Tree) (now : ℕ) (place : EntryKey) (inode : ℕ) (dir : Node) → node_at t place.dir ≡ Some dir
     → put_entry t now place inode ≡ record t { nodes = insert t.nodes place.dir (touched now dir); entries = insert t.entries place inode }
 put_entry-there t now place inode dir there = ap (λ (u : Tree). record u { entries = insert t.entries place inode })

@@ -87,9 +87,6 @@ in_era_few day = omega arith
 in_year_few : (day : ℕ) → in_year day ≤ 365
 in_year_few day = omega (arith, year_ends (in_era day) (in_era_few day))
 
-date_is : (day : ℕ) → date_of day ≡ date_in_era (era_of day) (year_in_era (in_era day)) (month_in_year (in_year day)) (in_month day)
-date_is day = refl
-
 -- days that have one date are one
 date_injective : (day other : ℕ) → (date_of day).year ≡ (date_of other).year → (date_of day).month ≡ (date_of other).month
     → (date_of day).day ≡ (date_of other).day → day ≡ other

@@ -1,14 +1,14 @@
 -- The link counts of a tree after each of its small changes. They are a function of the tree's shape.
-use Rattle.std.proofs.Common.{◌≡◌, ◌≢◌, ℕ, ◌+◌, ◌<◌, Bool, true, false, cond, ◌&&◌, inl, inr, Option, None, Some, refl, sym, ap, subst, ◌∙◌, arith, ne_eqb, eq-eqb, eqb-true}
+use Rattle.std.proofs.Common.{◌≡◌, ◌≢◌, ℕ, ◌+◌, ◌<◌, Bool, true, false, cond, ◌&&◌, inl, inr, Option, None, Some, refl, sym, ap, ◌∙◌, arith, ne_eqb, eq-eqb, eqb-true}
 use Rattle.std.specs.Prelude.{◌==◌, is_some, if◌then◌else◌}
 use Rattle.std.specs.Option.{option_map}
 use Rattle.std.proofs.lemmas.Bool.{cases_eq, false≢true}
 use Rattle.jv_model.specs.FiniteMap.{number_key, get, insert, remove, sum_over}
 use Rattle.jv_model.specs.tree.Tree.{Tree, Node, Kind, File, Directory, Symlink, EntryKey, entry_key, root, trash_root, node_at, is_directory, link_count, parent_of}
 use Rattle.jv_model.specs.tree.Changes.{put_node, drop_node, change_node, put_entry, take_entry, with_node}
-use Rattle.jv_model.specs.tree.Renaming.{kind_under, moved_node, move_in, moved, exchanged}
+use Rattle.jv_model.specs.tree.Renaming.{kind_under, moved_node, move_in, moved}
 use Rattle.jv_volume.specs.Shape.{Regular, Link, Dir, Shape, form_of, is_there, is_dir, naming, WholeShape, shape_of}
-use Rattle.jv_volume.proofs.ChangeLaws.{change_node-entries, change_node-here, change_node-apart, move_in-entries}
+use Rattle.jv_volume.proofs.ChangeLaws.{change_node-entries, change_node-here, change_node-apart}
 use Rattle.jv_volume.proofs.MapLaws.{sum-new, sum-over, sum-gone, sum-nothing, sum-agree}
 use Rattle.jv_volume.proofs.ShapeMapLaws.{naming_same, naming_apart, was_kept, get-inserted, get-insert_apart, get-remove_apart, Entries, count_of, count-insert, count-remove, count_none, shape-put_entry, shape-take_entry, is_dir-form}
 -- a tree's directories are its shape's
@@ -378,22 +378,3 @@ module _ (t : Tree) (now : ℕ) (from : EntryKey) (inode : ℕ) (to : EntryKey) 
       ∙ is) (is_directory-take_entry t now from to.dir ∙ after) in
       let taken = link_count-take_entry-dir t now from inode j there is before in
       omega (arith, put, taken)
-
--- two inodes that change places: each entry takes what it gave by the one inode, and gives what it adds by the other
-pub link_count-exchanged : (t : Tree) (now : ℕ) (from : EntryKey) (source : ℕ) (to : EntryKey) (other : ℕ) (j : ℕ) → get t.entries from ≡ Some source
-    → get t.entries to ≡ Some other → from ≢ to
-    → let dirs = dirs_of (shape_of t) in
-    link_count (exchanged t now from source to other) j + link_share dirs from source j + link_share dirs to other j
-    ≡ link_count t j + link_share dirs to source j + link_share dirs from other j
-link_count-exchanged t now from source to other j there others apart =
-    let dirs = dirs_of (shape_of t) in
-    let u = move_in t now to source in
-    let first = ap (λ n. n + link_share dirs to other j) (link_count-move_in t now to source j) ∙ link_count-put_over t now to source j other others in
-    let still : get u.entries from ≡ Some source = ap (λ m. get m from) (move_in-entries t now to source)
-    ∙ get-insert_apart entry_key t.entries to source from apart ∙ there in
-    let same : dirs_of (shape_of u) ≡ dirs = (λ i k. (sym (dirs-shape u k) ∙ is_directory-move_in t now to source k ∙ dirs-shape t k) i) in
-    let second = ap (λ n. n + link_share (dirs_of (shape_of u)) from source j) (link_count-move_in u now from other j)
-    ∙ link_count-put_over u now from other j source still in
-    let again : link_count (move_in u now from other) j + link_share dirs from source j ≡ link_count u j + link_share dirs from other j =
-    subst (λ d. link_count (move_in u now from other) j + link_share d from source j ≡ link_count u j + link_share d from other j) same second in
-    omega (arith, first, again)

@@ -1,9 +1,9 @@
 -- Nodes and their rows: the row of a node has that node again, and a changed row has the changed node.
-use Rattle.std.proofs.Common.{◌≡◌, ℕ, Bool, true, false, List, refl, sym, ap, subst, arith, le-ltb}
-use Rattle.std.specs.Prelude.{◌==◌, nat_lt, if◌then◌else◌}
+use Rattle.std.proofs.Common.{◌≡◌, ℕ, Bool, true, false, refl, sym, ap, subst, arith, le-ltb}
+use Rattle.std.specs.Prelude.{◌==◌, if◌then◌else◌}
 use Rattle.jv_model.specs.declared.row.Node.{Node as NodeRow}
-use Rattle.jv_model.specs.tree.Tree.{Node, Kind, File, Directory, Symlink, new_node}
-use Rattle.jv_model.specs.tree.Changes.{touched, status_changed, empty_content}
+use Rattle.jv_model.specs.tree.Tree.{File, Directory, Symlink, new_node}
+use Rattle.jv_model.specs.tree.Changes.{empty_content}
 use Rattle.jv_model.specs.tree.Renaming.{kind_under, moved_node}
 use Rattle.jv_volume.specs.TreeOf.{content_of, node_of}
 use Rattle.jv_volume.specs.Stored.{node_row}
@@ -12,33 +12,10 @@ use Rattle.jv_volume.specs.Stored.{node_row}
 abbrev pub IsNodeRow : ℕ → (ℕ → ℕ) → NodeRow → Type 0
 IsNodeRow links byte row = row ≡ node_row links (node_of byte row)
 
--- the row of a node is one
-pub node_row-again : (links : ℕ) (byte : ℕ → ℕ) (node : Node) → IsNodeRow links byte (node_row links node)
-node_row-again links byte node = by_kind node.kind
-  where
-    by_kind : (kind : Kind) → node_row links (record node { kind = kind }) ≡ node_row links (node_of byte (node_row links (record node { kind = kind })))
-    by_kind (File content) = refl
-    by_kind (Directory parent) = refl
-    by_kind (Symlink target) = refl
-
--- bytes matter only below the length
-pub same_content : (length : ℕ) (byte other : ℕ → ℕ)
-    → ((position : ℕ) → (if nat_lt position length then byte position else 0) ≡ (if nat_lt position length then other position else 0))
-    → content_of length byte ≡ content_of length other
-same_content length byte other same = λ i. record { length = length; byte = λ position. same position i }
-
 pub content_of-empty : (byte : ℕ → ℕ) → content_of 0 byte ≡ empty_content
 content_of-empty byte = λ i. record { length = 0; byte = λ position. ap (λ b. if b then byte position else 0) (le-ltb position 0 (omega arith)) i }
 
 -- the node of a directory's row, of a symlink's, and of an empty file's
-
-pub node_of-directory : (byte : ℕ → ℕ) (links parent mode now : ℕ)
-    → node_of byte (node_row links (new_node (Directory parent) mode now)) ≡ new_node (Directory parent) mode now
-node_of-directory byte links parent mode now = refl
-
-pub node_of-symlink : (byte : ℕ → ℕ) (links : ℕ) (target : List ℕ) (mode now : ℕ)
-    → node_of byte (node_row links (new_node (Symlink target) mode now)) ≡ new_node (Symlink target) mode now
-node_of-symlink byte links target mode now = refl
 
 pub node_of-empty_file : (byte : ℕ → ℕ) (links mode now : ℕ)
     → node_of byte (node_row links (new_node (File empty_content) mode now)) ≡ new_node (File empty_content) mode now
@@ -46,21 +23,9 @@ node_of-empty_file byte links mode now = ap (λ content. new_node (File content)
 
 -- the node of a row with other times, links and attributes
 
-pub node_of-touched : (byte : ℕ → ℕ) (row : NodeRow) (now links : ℕ)
-    → node_of byte (record row { mtime = now; ctime = now; nlink = links }) ≡ touched now (node_of byte row)
-node_of-touched byte row now links = refl
-
-pub node_of-status_changed : (byte : ℕ → ℕ) (row : NodeRow) (now links : ℕ)
-    → node_of byte (record row { ctime = now; nlink = links }) ≡ status_changed now (node_of byte row)
-node_of-status_changed byte row now links = refl
-
 pub IsNodeRow-touched : (byte : ℕ → ℕ) (row : NodeRow) (now before links : ℕ) → IsNodeRow before byte row
     → IsNodeRow links byte (record row { mtime = now; ctime = now; nlink = links })
 IsNodeRow-touched byte row now before links is = ap (λ (r : NodeRow). record r { mtime = now; ctime = now; nlink = links }) is
-
-pub IsNodeRow-status_changed : (byte : ℕ → ℕ) (row : NodeRow) (now before links : ℕ) → IsNodeRow before byte row
-    → IsNodeRow links byte (record row { ctime = now; nlink = links })
-IsNodeRow-status_changed byte row now before links is = ap (λ (r : NodeRow). record r { ctime = now; nlink = links }) is
 
 -- the row of a file with another length
 pub IsNodeRow-length : (byte : ℕ → ℕ) (row : NodeRow) (now before links length : ℕ) → row.kind ≡ 1 → IsNodeRow before byte row

@@ -7,15 +7,13 @@ use Rattle.jv_model.specs.declared.row.Counters.{Counters}
 use Rattle.jv_model.specs.declared.row.Node.{Node as NodeRow}
 use Rattle.jv_model.specs.declared.row.Edge.{Edge}
 use Rattle.jv_model.specs.declared.row.Session.{Session}
-use Rattle.jv_model.specs.declared.row.Dropped.{Dropped}
-use Rattle.jv_model.specs.declared.row.Row.TheVariants.{OfSetting, OfSustained, OfDropped}
-use Rattle.jv_model.specs.declared.setting.Setting.{Setting}
+use Rattle.jv_model.specs.declared.row.Row.TheVariants.{OfSustained}
 use Rattle.jv_model.specs.FiniteMap.{get, alter}
 use Rattle.jv_model.specs.rows.RowKeys.{row_key}
-use Rattle.jv_model.specs.rows.RowPlaces.{setting_key, counters_key, node_key, edge_key, session_key, sustained_key, dropped_key}
+use Rattle.jv_model.specs.rows.RowPlaces.{setting_key, counters_key, node_key, edge_key, session_key, sustained_key}
 use Rattle.jv_model.specs.tree.Tree.{Tree, EntryKey}
 use Rattle.jv_volume.specs.TypedRows.{Cell, Rows}
-use Rattle.jv_volume.specs.Views.{row_in, setting_in, setting_at, counters_in, counters_at, node_in, node_row_at, edge_in, edge_at, session_in, session_at, sustained_at, dropped_in, dropped_at}
+use Rattle.jv_volume.specs.Views.{row_in, counters_in, counters_at, node_in, node_row_at, edge_at, session_in, session_at, sustained_at}
 use Rattle.jv_volume.specs.Stored.{Stored}
 use Rattle.jv_volume.specs.Whole.{IsRowAt}
 use Rattle.jv_volume.proofs.ShapeMapLaws.{same_or_apart}
@@ -31,14 +29,6 @@ node-seen rows inode found e = ap (λ c. node_in (row_in c)) e ∙ back found
     back None = refl
     back (Some row) = refl
 
-pub edge-seen : (rows : Rows) (dir : ℕ) (name : List ℕ) (found : Option Edge) → get rows (edge_key dir name) ≡ option_map of_edge found
-    → edge_at rows dir name ≡ found
-edge-seen rows dir name found e = ap (λ c. edge_in (row_in c)) e ∙ back found
-  where
-    back : (o : Option Edge) → edge_in (row_in (option_map of_edge o)) ≡ o
-    back None = refl
-    back (Some edge) = refl
-
 pub session-seen : (rows : Rows) (sid : ℕ) (found : Option Session) → get rows (session_key sid) ≡ option_map of_session found → session_at rows sid ≡ found
 session-seen rows sid found e = ap (λ c. session_in (row_in c)) e ∙ back found
   where
@@ -52,27 +42,6 @@ counters-seen rows found e = ap (λ c. counters_in (row_in c)) e ∙ back found
     back : (o : Option Counters) → counters_in (row_in (option_map of_counters o)) ≡ o
     back None = refl
     back (Some counters) = refl
-
-abbrev pub of_setting : Setting → Cell
-of_setting setting = Ok (OfSetting setting)
-
-pub setting-seen : (rows : Rows) (found : Option Setting) → get rows setting_key ≡ option_map of_setting found → setting_at rows ≡ found
-setting-seen rows found e = ap (λ c. setting_in (row_in c)) e ∙ back found
-  where
-    back : (o : Option Setting) → setting_in (row_in (option_map of_setting o)) ≡ o
-    back None = refl
-    back (Some setting) = refl
-
-abbrev pub of_dropped : Dropped → Cell
-of_dropped dropped = Ok (OfDropped dropped)
-
-pub dropped-seen : (rows : Rows) (inode : ℕ) (found : Option Dropped) → get rows (dropped_key inode) ≡ option_map of_dropped found
-    → dropped_at rows inode ≡ found
-dropped-seen rows inode found e = ap (λ c. dropped_in (row_in c)) e ∙ back found
-  where
-    back : (o : Option Dropped) → dropped_in (row_in (option_map of_dropped o)) ≡ o
-    back None = refl
-    back (Some dropped) = refl
 
 -- ---- a stored row is never malformed
 

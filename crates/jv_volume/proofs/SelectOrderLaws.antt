@@ -1,22 +1,21 @@
 -- A table's rows as a map of their own have the order of the rows: a scan of the table goes over the map.
-use Rattle.std.proofs.Common.{◌≡◌, ℕ, Bool, true, false, T, ◌&&◌, List, [], ◌∷◌, Option, None, Some, refl, sym, ap, ◌∙◌}
+use Rattle.std.proofs.Common.{◌≡◌, Bool, true, false, T, ◌&&◌, List, [], ◌∷◌, Option, None, Some, refl, ap, ◌∙◌}
 use Rattle.std.proofs.lemmas.Option.{same_Some}
 use Rattle.std.specs.declared.cmp.Ordering.{Ordering}
 use Rattle.std.specs.declared.cmp.Ordering.TheVariants.{Less, Equal, Greater}
-use Rattle.std.specs.Ordering.{is_lt, nat_cmp, ordering_then}
-use Rattle.std.specs.Cmp.{nat_cmp_total, tied_itself}
+use Rattle.std.specs.Ordering.{is_lt}
 use Rattle.std.specs.FinMap.Entries.{put, by_order, below_all, is_sorted}
 use Rattle.jv_model.specs.declared.row.RowKey.{RowKey}
 use Rattle.jv_model.specs.declared.row.Row.{Row}
-use Rattle.jv_model.specs.FiniteMap.{KeyOrder, number_key, first_passing, first_where, insert, map_of}
+use Rattle.jv_model.specs.FiniteMap.{KeyOrder, first_passing, first_where, insert, map_of}
 use Rattle.jv_model.specs.rows.RowKeys.{row_cmp}
 use Rattle.jv_model.specs.rows.RowPlaces.{edge_key}
 use Rattle.jv_model.specs.tree.Tree.{entry_key}
 use Rattle.jv_volume.specs.TypedRows.{Cell, Rows}
 use Rattle.jv_volume.specs.Views.{row_in}
-use Rattle.jv_volume.specs.TreeOf.{entry_selected, entries_selected, selected, number_of, entry_of_key}
+use Rattle.jv_volume.specs.TreeOf.{entry_selected, entries_selected, selected, entry_of_key}
 use Rattle.jv_volume.proofs.MapLaws.{first_of_both, second_of_both}
-use Rattle.jv_volume.proofs.TableLaws.{number_table, entry_table}
+use Rattle.jv_volume.proofs.TableLaws.{entry_table}
 
 -- rows of the table have the order of their keys there
 abbrev pub Rises : {K : Type 0} → KeyOrder K → (RowKey → Option K) → Type 0
@@ -91,19 +90,6 @@ module _ {K X : Type 0} (order : KeyOrder K) (key_of : RowKey → Option K) (val
   first_where-selected test rows = ap (first_passing test) (selected-list rows)
 
 -- ---- tables in order
-
-then_less : (o : Ordering) → ordering_then o Equal ≡ Less → o ≡ Less
-then_less Less e = refl
-then_less Equal e = e
-then_less Greater e = e
-
--- rows of a table whose keys are numbers have the order of numbers
-pub number_rises : (tab : ℕ) → Rises number_key (number_of tab)
-number_rises tab q r k j is also less =
-    let as_number : record { tab = tab; a = k; b = [] } ≡ q = same_Some _ _ ((number_table tab).there q k is) in
-    let other : record { tab = tab; a = j; b = [] } ≡ r = same_Some _ _ ((number_table tab).there r j also) in
-    let both : row_cmp (record { tab = tab; a = k; b = [] }) (record { tab = tab; a = j; b = [] }) ≡ Less = (λ i. row_cmp (as_number i) (other i)) ∙ less in
-    then_less (nat_cmp k j) (sym (ap (λ o. ordering_then o (ordering_then (nat_cmp k j) Equal)) (tied_itself nat_cmp_total tab)) ∙ both)
 
 -- edges have the order of their directories, and then of their names
 pub entry_rises : Rises entry_key entry_of_key

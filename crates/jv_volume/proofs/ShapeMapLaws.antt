@@ -349,13 +349,6 @@ shape-take_entry t now place = ap (λ (s : Shape). with_entries s (remove t.entr
 
 -- forms by nodes
 
--- an inode is there or absent
-pub there_or_absent : (f : Form) → (f ≡ Absent) ⊎ IsTrue (is_there f)
-there_or_absent Absent = inl refl
-there_or_absent Regular = inr refl
-there_or_absent Link = inr refl
-there_or_absent (Dir parent) = inr refl
-
 -- a node of another kind
 abbrev of_kind : Node → Kind → Option Node
 of_kind node kind = Some (record node { kind = kind })

@@ -89,19 +89,11 @@ pub used_space-put_over : (t : Tree) (inode : ℕ) (old node : Node) → node_at
     → used_space (put_node t inode node) + node_space inode old ≡ used_space t + node_space inode node
 used_space-put_over t inode old node there = sum-over number_key node_space t.nodes inode old node there
 
-pub used_space-change_node : (t : Tree) (inode : ℕ) (change : Node → Node) → ((node : Node) → kind_space (change node).kind ≡ kind_space node.kind)
-    → used_space (change_node t inode change) ≡ used_space t
-used_space-change_node = sum-change_node node_space space_by_kind
-
 pub used_space-put_entry : (t : Tree) (now : ℕ) (place : EntryKey) (inode : ℕ) → used_space (put_entry t now place inode) ≡ used_space t
 used_space-put_entry = sum-put_entry node_space space_by_kind
 
 pub used_space-take_entry : (t : Tree) (now : ℕ) (place : EntryKey) → used_space (take_entry t now place) ≡ used_space t
 used_space-take_entry = sum-take_entry node_space space_by_kind
-
-pub used_space-with_node : (t : Tree) (now : ℕ) (place : EntryKey) (inode : ℕ) (node : Node) → node_at t inode ≡ None
-    → used_space (with_node t now place inode node) ≡ used_space t + node_space inode node
-used_space-with_node = sum-with_node node_space space_by_kind
 
 pub used_space-with_next : (t : Tree) (now : ℕ) (place : EntryKey) (node : Node) → node_at t t.next_inode ≡ None
     → used_space (with_next t now place node) ≡ used_space t + node_space t.next_inode node
@@ -110,13 +102,6 @@ used_space-with_next = sum-with_next node_space space_by_kind
 pub used_space-drop_node : (t : Tree) (inode : ℕ) (node : Node) → node_at t inode ≡ Some node
     → used_space (drop_node t inode) + node_space inode node ≡ used_space t
 used_space-drop_node = sum-drop_node node_space space_by_kind
-
-pub used_space-moved : (t : Tree) (now : ℕ) (from : EntryKey) (inode : ℕ) (to : EntryKey) → used_space (moved t now from inode to) ≡ used_space t
-used_space-moved = sum-moved node_space space_by_kind
-
-pub used_space-exchanged : (t : Tree) (now : ℕ) (from : EntryKey) (source : ℕ) (to : EntryKey) (other : ℕ)
-    → used_space (exchanged t now from source to other) ≡ used_space t
-used_space-exchanged = sum-exchanged node_space space_by_kind
 
 -- a file with other bytes
 pub used_space-with_content : (t : Tree) (now inode : ℕ) (node : Node) (content : Content) → node_at t inode ≡ Some node
@@ -156,10 +141,6 @@ used_inodes-put_entry = sum-put_entry node_count count_by_kind
 pub used_inodes-take_entry : (t : Tree) (now : ℕ) (place : EntryKey) → used_inodes (take_entry t now place) ≡ used_inodes t
 used_inodes-take_entry = sum-take_entry node_count count_by_kind
 
-pub used_inodes-with_node : (t : Tree) (now : ℕ) (place : EntryKey) (inode : ℕ) (node : Node) → node_at t inode ≡ None
-    → used_inodes (with_node t now place inode node) ≡ used_inodes t + node_count inode node
-used_inodes-with_node = sum-with_node node_count count_by_kind
-
 pub used_inodes-with_next : (t : Tree) (now : ℕ) (place : EntryKey) (node : Node) → node_at t t.next_inode ≡ None
     → used_inodes (with_next t now place node) ≡ used_inodes t + node_count t.next_inode node
 used_inodes-with_next = sum-with_next node_count count_by_kind
@@ -167,13 +148,6 @@ used_inodes-with_next = sum-with_next node_count count_by_kind
 pub used_inodes-drop_node : (t : Tree) (inode : ℕ) (node : Node) → node_at t inode ≡ Some node
     → used_inodes (drop_node t inode) + node_count inode node ≡ used_inodes t
 used_inodes-drop_node = sum-drop_node node_count count_by_kind
-
-pub used_inodes-moved : (t : Tree) (now : ℕ) (from : EntryKey) (inode : ℕ) (to : EntryKey) → used_inodes (moved t now from inode to) ≡ used_inodes t
-used_inodes-moved = sum-moved node_count count_by_kind
-
-pub used_inodes-exchanged : (t : Tree) (now : ℕ) (from : EntryKey) (source : ℕ) (to : EntryKey) (other : ℕ)
-    → used_inodes (exchanged t now from source to other) ≡ used_inodes t
-used_inodes-exchanged = sum-exchanged node_count count_by_kind
 
 pub used_inodes-with_content : (t : Tree) (now inode : ℕ) (content : Content) → used_inodes (with_content t now inode content) ≡ used_inodes t
 used_inodes-with_content t now inode content = used_inodes-change_node t inode (λ (node : Node). record (touched now node) { kind = File content })

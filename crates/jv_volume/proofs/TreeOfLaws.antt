@@ -177,9 +177,6 @@ pub tree_of-insert-unseen : (bytes : ℕ → ℕ → ℕ) (rows : Rows) (q : Row
     → tree_of bytes (insert rows q cell) ≡ tree_of bytes rows
 tree_of-insert-unseen bytes rows q cell is = tree_of-unseen rows q (Some cell) bytes (unseen q is)
 
-pub tree_of-remove-unseen : (bytes : ℕ → ℕ → ℕ) (rows : Rows) (q : RowKey) → IsTrue (is_unseen q.tab) → tree_of bytes (remove rows q) ≡ tree_of bytes rows
-tree_of-remove-unseen bytes rows q is = tree_of-unseen rows q None bytes (unseen q is)
-
 -- ---- one law for each table that the tree has
 
 -- a node of the row of an inode

@@ -1,9 +1,9 @@
 -- Rows by their types, key by key: what stands at a key, and what a put or a delete does.
-use Rattle.std.proofs.Common.{◌≡◌, ℕ, Bool, true, false, cond, List, Option, None, Some, Ok, ok_or, option_map, refl, sym, ap, ◌∙◌}
+use Rattle.std.proofs.Common.{◌≡◌, ℕ, Bool, true, false, cond, List, Option, Some, Ok, ok_or, option_map, refl, sym, ap, ◌∙◌}
 use Rattle.std.specs.Ordering.{eq_by_cmp}
 use Rattle.jv_model.specs.declared.row.RowKey.{RowKey}
 use Rattle.jv_model.specs.declared.row.Row.{Row}
-use Rattle.jv_model.specs.FiniteMap.{get, insert, remove, alter}
+use Rattle.jv_model.specs.FiniteMap.{get, insert, alter}
 use Rattle.jv_model.specs.rows.RowGrammar.{row_of}
 use Rattle.jv_model.specs.rows.RowKeys.{row_key, row_cmp, RowMap}
 use Rattle.jv_model.proofs.FiniteMapLaws.{get-alter, get-map_of, same_maps}
@@ -33,9 +33,6 @@ typed-alter rows key bytes =
 
 pub typed-insert : (rows : RowMap) (key : RowKey) (bytes : List ℕ) → typed (insert rows key bytes) ≡ insert (typed rows) key (cell_of key bytes)
 typed-insert rows key bytes = typed-alter rows key (Some bytes)
-
-pub typed-remove : (rows : RowMap) (key : RowKey) → typed (remove rows key) ≡ remove (typed rows) key
-typed-remove rows key = typed-alter rows key None
 
 -- the bytes of a row put at its key
 pub typed-insert-row : (rows : RowMap) (key : RowKey) (bytes : List ℕ) (row : Row) → row_of key.tab bytes ≡ Some row

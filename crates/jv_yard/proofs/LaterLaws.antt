@@ -149,10 +149,6 @@ Later-refl yard = record {
   };
 }
 
--- the same yard
-pub Later-same : (before after : YardValue) → after ≡ before → Later before after
-Later-same before after same = subst (Later before) (sym same) (Later-refl before)
-
 publish_left : (setting : Setting) (notes more : List Note) (client : ℕ) (name : List ℕ) → HasPublish setting notes client name → HasPublish setting (notes ++ more) client name
 publish_left setting notes more client name h = record {
   note = h.note;

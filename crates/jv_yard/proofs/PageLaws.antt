@@ -27,9 +27,6 @@ use Rattle.jv_yard.specs.YardValue.{NamesBlock}
 no_name : (name : List ℕ) → Contains [] name → ⊥
 no_name name h = absurd (omega (arith, h.1))
 
-pub adds-none : (setting : Setting) (m : ClientStaging) → AddsNames setting [] m m
-adds-none setting m = record { added = λ name among named. absurd (no_name name among); others = λ name. inl refl }
-
 tie_is : (o : Ordering) → is_eq o ≡ true → o ≡ Equal
 tie_is Less h = absurd (cc)
 tie_is Equal h = refl
