@@ -25,6 +25,7 @@ use Rattle.jv_volume.proofs.StoredLaws.{found_node, whole-stored}
 use Rattle.jv_rows.specs.Drafts.{drafted}
 use Rattle.jv_data.specs.Committing.{HasFile, Begun, BeginsCommit, commit_of, length_seen}
 use Rattle.jv_data.specs.Resizing.{AreSized, ResizesFile}
+use Rattle.jv_data.specs.Truncating.{LeaveSlices}
 
 -- a block that is young enough at the moments of the arguments
 pub is_timely : (now started n s : ℕ) (young : Bool) → n ≡ now → s ≡ started → young ≡ nat_lt n (s + UPLOAD_LIFE) → young ≡ true
@@ -114,11 +115,17 @@ module _ (sid now inode end started : ℕ) (before : Store) where
             ap (λ b. require b (TimedOut started now) >>= (λ unit. room from patch t)) timely
             ∙ ap (λ (u : Tree). require (fits t u) NoSpace) (committed_is from patch reaches known is whole bytes)))
             result (r.looks (content from patch) (λ t. refl));
+        leaves = leaves result r.leaves;
         begun = begun result r.sized;
       }
         where
+          leaves : (result : Result (Unit {0}) TxFault) → OnOk result (LeaveSlices middle.rows changes) → OnOk result (LeaveSlices before.rows changes)
+          leaves (Err fault) l = tt
+          leaves (Ok unit) l = λ known is key of. l known (h.looks.rows_are ∙ is) key of
+
           begun : (result : Result (Unit {0}) TxFault)
-              → OnOk result ((known : RowMap) → middle.rows ≡ Some known → AreSized (typed known) (drafted changes known) inode was (max was.length end) now)
-              → OnOk result ((known : RowMap) → before.rows ≡ Some known → Begun (typed known) (drafted changes known) inode end now)
+              → OnOk result ((known : RowMap) → middle.rows ≡ Some known → Whole (typed known)
+              → AreSized (typed known) (drafted changes known) inode was (max was.length end) now)
+              → OnOk result ((known : RowMap) → before.rows ≡ Some known → Whole (typed known) → Begun (typed known) (drafted changes known) inode end now)
           begun (Err fault) s = tt
-          begun (Ok unit) s = λ known is. record { was = was; there = was_stands known is; file = h.file; sized = s known (h.looks.rows_are ∙ is) }
+          begun (Ok unit) s = λ known is whole. record { was = was; there = was_stands known is; file = h.file; sized = s known (h.looks.rows_are ∙ is) whole }

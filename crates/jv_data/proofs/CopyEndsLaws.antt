@@ -52,7 +52,6 @@ use Rattle.jv_data.proofs.CommitLaws.{looks-any}
 use Rattle.jv_data.proofs.CopiedLaws.{crowded-copied, lives-copied, whole-copied, others-copied, tree-copied_lists}
 use Rattle.jv_data.proofs.PartsLaws.{get-copied, have-copied}
 use Rattle.jv_data.proofs.RefusedLaws.{changes-refused}
-use Rattle.jv_data.proofs.ResizingLaws.{leave-resized}
 use Rattle.jv_data.proofs.SizedLaws.{sized_rows}
 use Rattle.jv_data.proofs.TruncateLaws.{has_named}
 
@@ -278,8 +277,8 @@ module _ (sid now src dst from to len : ℕ) (due : Setting → ℕ) where
                 before_lists : (known : RowMap) → lists.rows ≡ Some known → before.rows ≡ Some known
                 before_lists known is = sym past_lists.rows_are ∙ is
 
-                are_sized : (known : RowMap) → before.rows ≡ Some known → AreSized (typed known) (drafted d1 known) dst target length now
-                are_sized known is = r.sized known (at_both known is)
+                are_sized : (known : RowMap) → before.rows ≡ Some known → Whole (typed known) → AreSized (typed known) (drafted d1 known) dst target length now
+                are_sized known is whole = r.sized known (at_both known is) whole
 
                 -- each slice that is named has a row
                 have : (known : RowMap) → lists.rows ≡ Some known → (id : ℕ) → id ≢ 0 → 0 < records_naming id added → HasSlice (drafted d2 known) id
@@ -292,7 +291,7 @@ module _ (sid now src dst from to len : ℕ) (due : Setting → ℕ) where
                       slice = row.slice;
                       is = ap (λ (rows : Rows). get rows (slice_key id)) y.is
                           ∙ get-copied (typed known) course (drafted d1 known) y.parts (slice_key id) refl
-                          ∙ leave-resized (typed known) (drafted d1 known) dst target length now (are_sized known here) (slice_key id) refl
+                          ∙ r.leaves known (at_both known here) (slice_key id) refl
                           ∙ row.is;
                     }
 
@@ -305,7 +304,7 @@ module _ (sid now src dst from to len : ℕ) (due : Setting → ℕ) where
 
                 module _ (known : RowMap) (is : before.rows ≡ Some known) (whole : Whole (typed known)) where
                   abbrev s : AreSized (typed known) (drafted d1 known) dst target length now
-                  s = are_sized known is
+                  s = are_sized known is whole
 
                   abbrev sized_known : Rows
                   sized_known = sized_rows (typed known) dst target s.counters now length whole (target_there known is) g.file s.there
@@ -369,7 +368,7 @@ module _ (sid now src dst from to len : ℕ) (due : Setting → ℕ) where
                     left = drafted d3 known
 
                     abbrev t_sized : AreSized (typed known) (drafted d1 known) dst target length now
-                    t_sized = are_sized known is
+                    t_sized = are_sized known is whole
 
                     adjusted : Adjusted [] added 0 (drafted d2 known) left
                     adjusted = of_known (λ known. Adjusted [] added 0 (drafted d2 known) (drafted d3 known)) lists.rows known (at_lists known is) a.done

@@ -4,6 +4,7 @@ pub mod BesideLaws
 pub mod ListRowLaws
 pub mod NewRecordLaws
 pub mod SizedLaws
+pub mod CountersLaws
 pub mod ChangedLaws
 pub mod RecordedLaws
 pub mod ResizingLaws

@@ -1,10 +1,11 @@
 -- How a commit of a record ends: each of its exits, by how it began, what was read and what was changed.
-use Rattle.std.proofs.Common.{◌≡◌, ℕ, ◌+◌, ◌*◌, ◌<◌, ◌≤◌, ◌^◌, true, inl, List, [], ◌∷◌, ◌++◌, Option, Some, Result, Ok, Err, sym, ap, subst, ◌∙◌, arith}
+use Rattle.std.proofs.Common.{◌≡◌, ℕ, ◌+◌, ◌*◌, ◌<◌, ◌≤◌, ◌^◌, true, inl, List, [], ◌∷◌, ◌++◌, Option, Some, Result, Ok, Err, refl, sym, ap, subst, ◌∙◌, arith}
 use Rattle.std.specs.Prelude.{◌&&◌, not, max, IsTrue}
 use Rattle.std.specs.List.{AllByRecursion, list_all}
-use Rattle.std.specs.Option.{option_map}
+use Rattle.std.specs.Option.{option_map, unwrap_or}
 use Rattle.jv_model.specs.declared.fault.Down.{Down}
 use Rattle.jv_model.specs.declared.fault.Fault.{Fault}
+use Rattle.jv_model.specs.declared.fault.RowFault.{RowFault}
 use Rattle.jv_model.specs.declared.fault.RowFault.TheVariants.{Bad, Failed, Memory}
 use Rattle.jv_model.specs.declared.fault.TxFault.{TxFault}
 use Rattle.jv_model.specs.declared.fault.TxFault.TheVariants.{Refused, Moved, Rows as OfRows}
@@ -14,7 +15,7 @@ use Rattle.jv_model.specs.declared.row.Row.TheVariants.{OfList, OfSlice}
 use Rattle.jv_model.specs.declared.row.SliceRow.{SliceRow}
 use Rattle.jv_model.specs.declared.setting.Setting.{Setting}
 use Rattle.jv_model.specs.declared.slice.Rec.{Rec}
-use Rattle.jv_model.specs.FiniteMap.{alter}
+use Rattle.jv_model.specs.FiniteMap.{alter, get}
 use Rattle.jv_model.specs.blocks.Slices.{IsRecord, is_record}
 use Rattle.jv_model.specs.rows.RowFaults.{row_fault}
 use Rattle.jv_model.specs.rows.RowGrammar.{is_list}
@@ -27,6 +28,7 @@ use Rattle.jv_model.specs.tree.Tree.{Tree}
 use Rattle.jv_outside.specs.declared.batch.Change.{Change}
 use Rattle.jv_outside.specs.Rows.{applied}
 use Rattle.jv_outside.specs.Store.{Store, Commits}
+use Rattle.jv_rows.specs.Appending.{Appends}
 use Rattle.jv_rows.specs.Drafts.{drafted, cell}
 use Rattle.jv_rows.specs.Transactions.{FaultCause, Agrees, Looks}
 use Rattle.jv_rows.proofs.TransactionLaws.{Fails, FailsBy, of_known, fails-memory, fails-commit}
@@ -40,6 +42,7 @@ use Rattle.jv_data.specs.Committing.{BeginsCommit, Begun, commit_of}
 use Rattle.jv_data.specs.Resizing.{rows_sized}
 use Rattle.jv_data.specs.Records.{HasRecords, IsNew, CommitsRecord, committing}
 use Rattle.jv_data.proofs.CommitLaws.{RefusedBy, began, commit-unbegun, commit-reads, commit-fails}
+use Rattle.jv_data.proofs.RecordsLaws.{records-unread, records-seen_in}
 use Rattle.jv_data.proofs.RecordedLaws.{last, lives-last, whole-last, others-last, size-last, tree-last}
 
 -- a reading, and then something that fails
@@ -110,10 +113,21 @@ module _ (sid now inode window : ℕ) (rec : Rec) (started : ℕ) where
   record-unbegun before after changes fault b = record-refused before after fault (commit-unbegun sid now inode end started before after changes fault b)
 
   module _ (before middle : Store) (begun_by : List Change) (b : BeginsCommit sid now inode end started before middle begun_by (Ok tt)) where
-    -- the list wasn't read
-    pub record-unread : (after : Store) (fault : TxFault) → HasRecords inode window middle after (Err fault)
-        → CommitsRecord sid now inode window rec started before after (Err fault)
-    record-unread after fault r = record-refused before after fault (commit-reads sid now inode end started before middle begun_by b after fault r.looks)
+    -- the changes so far leave the list as it was
+    unchanged : (known : RowMap) → middle.rows ≡ Some known → get (drafted begun_by known) (list_key inode window) ≡ get (typed known) (list_key inode window)
+    unchanged known here =
+        b.leaves known (sym (b.looks end [] (omega arith)).rows_are ∙ here) (list_key inode window) refl
+
+    module _ (low : window < 2 ^ 32) (left : List Change) (after : Store) where
+      -- the list wasn't read, or the record didn't get behind it
+      pub record-unread : (fault : RowFault) → Appends inode window rec begun_by left middle after (Err fault)
+          → CommitsRecord sid now inode window rec started before after (Err (OfRows fault))
+      record-unread fault a = record-refused before after (OfRows fault) (commit-reads sid now inode end started before middle begun_by b after (OfRows fault)
+          (records-unread inode window low middle after begun_by unchanged fault a.sees).looks)
+
+      -- the records that were there
+      pub record-read : (a : Appends inode window rec begun_by left middle after (Ok tt)) → HasRecords inode window middle after (Ok (unwrap_or a.found []))
+      record-read a = records-seen_in inode window low middle after begun_by unchanged a.found a.sees
 
     -- what comes after the list was read fails
     pub record-fails : (read after : Store) (list : List Rec) (fault : TxFault) → HasRecords inode window middle read (Ok list) → Fails read after fault
@@ -134,12 +148,12 @@ module _ (sid now inode window : ℕ) (rec : Rec) (started : ℕ) where
   module _ (low : window < 2 ^ 32) (is_rec : IsRecord rec) (some : 0 < rec.id) (small : rec.size ≤ WINDOW) (within : end ≤ FILE_END)
       (before middle read : Store) (begun_by : List Change) (b : BeginsCommit sid now inode end started before middle begun_by (Ok tt))
       (list : List Rec) (r : HasRecords inode window middle read (Ok list)) where
-    module _ (after : List Rec) (slice : SliceRow) (d1 d2 : List Change) (after_is : after ≡ list ++ rec ∷ []) (slice_is : slice ≡ record { size = rec.size; count = 1 })
-        (one : (known : RowMap) → drafted d1 known ≡ alter (drafted begun_by known) (list_key inode window) (cell OfList (Some after)))
+    module _ (slice : SliceRow) (d1 d2 : List Change) (slice_is : slice ≡ record { size = rec.size; count = 1 })
+        (one : (known : RowMap) → drafted d1 known ≡ alter (drafted begun_by known) (list_key inode window) (cell OfList (Some (list ++ rec ∷ []))))
         (two : (known : RowMap) → drafted d2 known ≡ alter (drafted d1 known) (slice_key rec.id) (cell OfSlice (Some slice))) where
       module _ (known : RowMap) (is : before.rows ≡ Some known) (whole : Whole (typed known)) where
         abbrev begun : Begun (typed known) (drafted begun_by known) inode end now
-        begun = b.begun known is
+        begun = b.begun known is whole
 
         there : node_row_at (typed known) inode ≡ Some begun.was
         there = ap (λ o. node_in (row_in o)) begun.there
@@ -153,9 +167,9 @@ module _ (sid now inode window : ℕ) (rec : Rec) (started : ℕ) where
         rows_are : drafted d2 known ≡ left
         rows_are = two known
             ∙ ap (λ (rows : Rows). alter rows (slice_key rec.id) (cell OfSlice (Some slice)))
-            (one known ∙ ap (λ (rows : Rows). alter rows (list_key inode window) (cell OfList (Some after))) begun.sized.is)
+            (one known ∙ ap (λ (rows : Rows). alter rows (list_key inode window) (cell OfList (Some (list ++ rec ∷ [])))) begun.sized.is)
             ∙ (λ i. alter (alter (rows_sized (typed known) inode begun.was begun.sized.counters (max begun.was.length end) now) (list_key inode window)
-            (cell OfList (Some (after_is i)))) (slice_key rec.id) (cell OfSlice (Some (slice_is i))))
+            (cell OfList (Some (list ++ rec ∷ [])))) (slice_key rec.id) (cell OfSlice (Some (slice_is i))))
 
         changed : (told : Told) (bytes : List ℕ) (due : Setting → ℕ) → IsNew rec bytes (typed known) told → (last_rows : Option RowMap) → last_rows ≡ Some (applied d2 known)
             → Changed (makes due) known last_rows told Done (committing sid inode from bytes started now)

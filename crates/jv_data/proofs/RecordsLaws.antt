@@ -2,6 +2,7 @@
 use Rattle.std.proofs.Common.{◌≡◌, ℕ, ◌<◌, ◌^◌, List, [], ◌∷◌, Option, None, Some, Result, Ok, Err, refl, sym, ap, subst, ◌∙◌, lt-ltb}
 use Rattle.std.specs.Prelude.{IsTrue}
 use Rattle.std.specs.List.{AllByRecursion, list_all}
+use Rattle.std.specs.Option.{unwrap_or}
 use Rattle.std.proofs.lemmas.Bool.{and_parts, cond-true}
 use Rattle.jv_model.specs.declared.fault.RowFault.{RowFault}
 use Rattle.jv_model.specs.declared.fault.TxFault.{TxFault}
@@ -14,6 +15,7 @@ use Rattle.jv_model.specs.blocks.Slices.{IsRecord, is_record}
 use Rattle.jv_model.specs.rows.RowGrammar.{is_list, list_of, list_bytes}
 use Rattle.jv_model.specs.rows.RowKeys.{RowMap}
 use Rattle.jv_model.specs.rows.RowPlaces.{list_key}
+use Rattle.jv_outside.specs.declared.batch.Change.{Change}
 use Rattle.jv_outside.specs.Store.{Store}
 use Rattle.jv_volume.specs.TypedRows.{Rows, Cell, typed}
 use Rattle.jv_volume.specs.Views.{row_in, records_in, lists_of}
@@ -43,37 +45,38 @@ module _ (inode window : ℕ) (low : window < 2 ^ 32) (before after : Store) whe
       sees_stored OfList list_of 4 list_row (list_key inode window) refl list_bytes is_list [] before after seen refl
       (subst (ReadsRow list_of list_bytes is_list (list_key inode window) before after) is r)
 
-  unchanged : (known : RowMap) → before.rows ≡ Some known → get (drafted [] known) (list_key inode window) ≡ get (typed known) (list_key inode window)
+  pub unchanged : (known : RowMap) → before.rows ≡ Some known → get (drafted [] known) (list_key inode window) ≡ get (typed known) (list_key inode window)
   unchanged known is = ap (λ rows. get rows (list_key inode window)) (drafted-none known)
-
-  pub records-unread : (fault : RowFault) → Sees OfList is_list (list_key inode window) [] before after (Err fault)
-      → HasRecords inode window before after (Err (OfRows fault))
-  records-unread fault s = record {
-    looks = fails-looks before after (λ t. Ok tt) (OfRows fault) (fails-sees OfList is_list (list_key inode window) [] before after unchanged fault s);
-    list = tt;
-    records = tt;
-  }
 
   lists_as : (rows : Rows) (c : Option Cell) → get rows (list_key inode window) ≡ c → records_in (row_in c) ≡ lists_of rows inode window
   unfolding lists_of
   lists_as rows c is = ap (λ c. records_in (row_in c)) (sym is) ∙ sym (cond-true _ _ _ (lt-ltb window (2 ^ 32) low))
 
-  pub records-found : (found : Option (List Rec)) (records : List Rec) → records_in (row_in (cell OfList found)) ≡ records
-      → Sees OfList is_list (list_key inode window) [] before after (Ok found) → AllByRecursion IsRecord records
-      → HasRecords inode window before after (Ok records)
-  records-found found records is s all = record {
-    looks = record { rows_are = s.rows_are; opened_at = s.opened_at; counts = s.counts; agrees = λ known here whole bytes. refl; bad = tt };
-    list = if_known (λ known. records ≡ lists_of (typed known) inode window) before.rows (λ known here.
-        sym is ∙ lists_as (typed known) (cell OfList found) (stands-sees OfList is_list (list_key inode window) [] before after unchanged found s known here));
-    records = all;
-  }
+  -- readings over changes that leave the list as it was
+  module _ (changes : List Change) (same : (known : RowMap) → before.rows ≡ Some known → get (drafted changes known) (list_key inode window) ≡ get (typed known) (list_key inode window)) where
+    pub records-unread : (fault : RowFault) → Sees OfList is_list (list_key inode window) changes before after (Err fault)
+        → HasRecords inode window before after (Err (OfRows fault))
+    records-unread fault s = record {
+      looks = fails-looks before after (λ t. Ok tt) (OfRows fault) (fails-sees OfList is_list (list_key inode window) changes before after same fault s);
+      list = tt;
+      records = tt;
+    }
 
-  pub records-none : Sees OfList is_list (list_key inode window) [] before after (Ok None) → HasRecords inode window before after (Ok [])
-  records-none s = records-found None [] refl s tt
+    records-found : (found : Option (List Rec)) (records : List Rec) → records_in (row_in (cell OfList found)) ≡ records
+        → Sees OfList is_list (list_key inode window) changes before after (Ok found) → AllByRecursion IsRecord records
+        → HasRecords inode window before after (Ok records)
+    records-found found records is s all = record {
+      looks = record { rows_are = s.rows_are; opened_at = s.opened_at; counts = s.counts; agrees = λ known here whole bytes. refl; bad = tt };
+      list = if_known (λ known. records ≡ lists_of (typed known) inode window) before.rows (λ known here.
+          sym is ∙ lists_as (typed known) (cell OfList found) (stands-sees OfList is_list (list_key inode window) changes before after same found s known here));
+      records = all;
+    }
 
-  pub records-some : (records : List Rec) → Sees OfList is_list (list_key inode window) [] before after (Ok (Some records))
-      → HasRecords inode window before after (Ok records)
-  records-some records s = records-found (Some records) records refl s (listed_records records s.allowed)
+    -- the records of the row that was found, none where there is no row
+    pub records-seen_in : (found : Option (List Rec)) → Sees OfList is_list (list_key inode window) changes before after (Ok found)
+        → HasRecords inode window before after (Ok (unwrap_or found []))
+    records-seen_in None s = records-found None [] refl s tt
+    records-seen_in (Some records) s = records-found (Some records) records refl s (listed_records records s.allowed)
 
 -- a look whose list couldn't be read
 pub look-unread : (sid inode window : ℕ) (before middle after : Store) (was : NodeRow) (fault : TxFault) → HasFile sid inode before middle (Ok was)

@@ -38,7 +38,6 @@ use Rattle.jv_volume.proofs.QuietLaws.{quiet-lists_of}
 use Rattle.jv_volume.specs.Slices.{place_in}
 use Rattle.jv_data.proofs.BesideLaws.{beside-none}
 use Rattle.jv_data.proofs.ChangedLaws.{tree-changed}
-use Rattle.jv_data.proofs.ResizingLaws.{leave-resized}
 use Rattle.jv_data.proofs.RefusedLaws.{changes-refused}
 use Rattle.jv_data.proofs.SizedLaws.{sized_rows, quiet-sized, whole-sized}
 use Rattle.jv_data.proofs.TruncatedLaws.{dies-cut, whole-cut, others-cut, tree-cut_lists}
@@ -169,7 +168,7 @@ module _ (sid now inode len : ℕ) where
         past_sized = past-looks before seen sized act (λ t. require (fits t (with_content t now inode (content t))) NoSpace) (λ t unit. last_step t) past_fits tt (r.looks content long)
 
         pub leave-sized : LeaveSlices sized.rows d1
-        leave-sized known is key of = leave-resized (typed known) (drafted d1 known) inode was len now (r.sized known (sym (r.looks content long).rows_are ∙ is)) key of
+        leave-sized known is key of = r.leaves known (sym (r.looks content long).rows_are ∙ is) key of
 
         pub truncate-unread_lists : (after : Store) (d2 : List Change) (fault : TxFault) → Shortens inode was.length len now sized after d1 d2 (Err fault) → Ends before after (Err fault)
         truncate-unread_lists after d2 fault z = changes-refused (makes now) Never (λ unit. Done) before after act fault
@@ -191,7 +190,7 @@ module _ (sid now inode len : ℕ) where
             at_sized = (r.looks content long).rows_are ∙ at_seen
 
             abbrev s : AreSized (typed known) (drafted d1 known) inode was len now
-            s = r.sized known at_seen
+            s = r.sized known at_seen whole
 
             abbrev sized_known : Rows
             sized_known = sized_rows (typed known) inode was s.counters now len whole (there known is) h.file s.there

@@ -20,7 +20,9 @@ use Rattle.jv_rows.specs.Drafts.{drafted}
 use Rattle.jv_rows.specs.Transactions.{Looks}
 use Rattle.jv_rows.specs.Walks.{HasNodeRow}
 use Rattle.jv_volume.specs.TypedRows.{Rows, typed}
+use Rattle.jv_volume.specs.Whole.{Whole}
 use Rattle.jv_data.specs.Resizing.{AreSized}
+use Rattle.jv_data.specs.Truncating.{LeaveSlices}
 
 -- the length of a file, as a session sees it
 abbrev pub length_seen : ℕ → ℕ → Tree → Result ℕ Fault
@@ -56,8 +58,10 @@ pub record Begun (rows after : Rows) (inode end now : ℕ) : Type 0 where
   pub sized : AreSized rows after inode was (max was.length end) now
 
 -- The beginning of a commit of bytes that end at a position: over whole rows it is refused where the model's commit is, whatever
--- the bytes are. The changes are that the file reaches there.
+-- the bytes are. The changes leave lists and slices alone, and over whole rows they are that the file reaches there.
 pub record BeginsCommit (sid now inode end started : ℕ) (before after : Store) (changes : List Change) (result : Result (Unit {0}) TxFault) : Type 0 where
   pub looks : (from : ℕ) (patch : List ℕ) → from + length patch ≡ end
       → Looks before after result (λ t. commit_of sid inode from patch started now t >>= (λ left. Ok tt))
-  pub begun : OnOk result ((known : RowMap) → before.rows ≡ Some known → Begun (typed known) (drafted changes known) inode end now)
+  pub leaves : OnOk result (LeaveSlices before.rows changes)
+  pub begun : OnOk result ((known : RowMap) → before.rows ≡ Some known → Whole (typed known)
+      → Begun (typed known) (drafted changes known) inode end now)

@@ -19,6 +19,8 @@ use Rattle.jv_rows.specs.Transactions.{Looks}
 use Rattle.jv_volume.specs.TypedRows.{Rows, typed}
 use Rattle.jv_volume.specs.Slices.{next_slice}
 use Rattle.jv_volume.specs.Views.{counters_at}
+use Rattle.jv_volume.specs.Whole.{Whole}
+use Rattle.jv_data.specs.Truncating.{LeaveSlices}
 
 -- the space that so many bytes take
 abbrev pub paged_space : ℕ → ℕ
@@ -50,8 +52,10 @@ pub record AreSized (rows after : Rows) (inode : ℕ) (was : Node) (length now :
   pub given : 0 < next_slice rows
 
 -- A file gets another length, and both times: over whole rows, whatever bytes it then has, it is refused where the model's volume has no
--- room for them. The changes are of its row and of the counters.
+-- room for them. The changes leave lists and slices alone, and over whole rows they are of the file's row and of the counters.
 pub record ResizesFile (inode : ℕ) (was : Node) (length now : ℕ) (before after : Store) (changes : List Change) (result : Result (Unit {0}) TxFault) : Type 0 where
   pub looks : (content : Tree → Content) → ((t : Tree) → (content t).length ≡ length)
       → Looks before after result (λ t. require (fits t (with_content t now inode (content t))) NoSpace)
-  pub sized : OnOk result ((known : RowMap) → before.rows ≡ Some known → AreSized (typed known) (drafted changes known) inode was length now)
+  pub leaves : OnOk result (LeaveSlices before.rows changes)
+  pub sized : OnOk result ((known : RowMap) → before.rows ≡ Some known → Whole (typed known)
+      → AreSized (typed known) (drafted changes known) inode was length now)

@@ -5,7 +5,7 @@ ghost use Rattle.jv_data.specs.Records.{CommitsRecord};
 ghost use Rattle.jv_model.specs.blocks.Slices.{IsRecord};
 ghost use Rattle.jv_model.specs.declared.limits.TheConstants.{FILE_END, WINDOW};
 
-use crate::looking::{file, records};
+use crate::looking::file;
 use crate::resizing::resize;
 use jv_model::lifetimes::UPLOAD_LIFE;
 use jv_model::{Fault, Moment, Rec, RowFault, SliceRow, TxFault, WINDOW, Who};
@@ -57,8 +57,8 @@ fn begin_commit<K: Keeper>(
 /// # Errors
 ///
 /// Stale where the session is gone, or the inode isn't a file's; then TimedOut where the block is 3,600 seconds old or older;
-/// then NoSpace where the volume has no room. Bad for a malformed row, or without bytes where setting or counters are absent.
-/// Failed if the keeper failed. Memory.
+/// then NoSpace where the volume has no room. Bad for a malformed row, or without bytes where setting or counters are needed
+/// and absent. Failed if the keeper failed. Memory.
 pub fn commit<K: Keeper>(
     alloc: Global,
     k: &mut K,
@@ -78,9 +78,7 @@ pub fn commit<K: Keeper>(
     let end = u64::from(window) * WINDOW + u64::from(rec.pos) + u64::from(rec.len);
     let mut draft = Draft::new(alloc);
     begin_commit(alloc, k, &mut draft, who.sid, who.now, inode, end, started)?;
-    let mut list = records(alloc, k, inode, window)?;
-    list.push(rec)?;
-    draft.put_list(inode, window, &list)?;
+    draft.append_record(k, inode, window, &rec)?;
     let slice = SliceRow {
         size: rec.size,
         count: 1,

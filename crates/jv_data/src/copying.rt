@@ -44,7 +44,7 @@ struct Course {
 /// are one file and the ranges have a position in common; then FileTooLarge where the target's range would end past
 /// 2^40; then NoSpace where the volume has no room, or a slice would be named more than 2^62 times. Bad for a malformed
 /// row, for a list of the source that names a slice without a row, or without bytes where setting or counters are
-/// absent. Failed if the keeper failed. Memory.
+/// needed and absent. Failed if the keeper failed. Memory.
 pub fn copy_range<K: Keeper>(
     alloc: Global,
     k: &mut K,

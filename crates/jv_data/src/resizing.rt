@@ -1,6 +1,6 @@
 //! A file of another length: its row, and what it adds to used space.
 ghost use Rattle.std.specs.Prelude.{◌≡◌, [], IsTrue};
-ghost use Rattle.jv_data.specs.Resizing.{Resizes, ResizesFile, paged_space};
+ghost use Rattle.jv_data.specs.Resizing.{Resizes, ResizesFile, paged_space, row_sized};
 ghost use Rattle.jv_model.specs.rows.RowGrammar.{is_node, is_setting};
 ghost use Rattle.jv_rows.specs.Walks.{HasNodeRow};
 
@@ -33,14 +33,50 @@ fn resized(setting: &Setting, counters: &Counters, before: u64, after: u64) -> O
     })
 }
 
+/// The row of a file with another length, and both times at a moment.
+fn sized(was: Node, length: u64, now: u64) -> Node
+    ensures { result ≡ row_sized was length now }
+{
+    Node {
+        length,
+        mtime: now,
+        ctime: now,
+        ..was
+    }
+}
+
 /// Adds to a new draft that a file has a length in bytes, and both times at a moment in seconds, with what that makes of
-/// used space. After an error the draft is of no use.
+/// used space. Setting and counters are read only where the file takes more or less space than before. After an error the
+/// draft is of no use.
 ///
 /// # Errors
 ///
-/// NoSpace where the volume has no room. Bad for a malformed row, or without bytes where setting or counters are absent.
-/// Failed if the keeper failed. Memory.
+/// NoSpace where the volume has no room. Bad for a malformed row, or without bytes where setting or counters are needed
+/// and absent. Failed if the keeper failed. Memory.
 pub(crate) fn resize<K: Keeper>(
+    alloc: Global,
+    k: &mut K,
+    draft: &mut Draft,
+    inode: u64,
+    was: Node,
+    length: u64,
+    now: u64,
+) -> Result<(), TxFault>
+    requires new { draft.old ≡ [] }
+    requires there { HasNodeRow (K.seen k.old) inode was }
+    requires file { was.kind ≡ 1 }
+    requires allowed { IsTrue (is_node was) }
+    ensures { ResizesFile inode was length now (K.seen k.old) (K.seen k.new) draft.new result }
+{
+    if paged(was.length) != paged(length) {
+        return resize_counted(alloc, k, draft, inode, was, length, now);
+    }
+    draft.put_node(inode, &sized(was, length, now))?;
+    Ok(())
+}
+
+/// Does what [`resize`] does, over setting and counters.
+fn resize_counted<K: Keeper>(
     alloc: Global,
     k: &mut K,
     draft: &mut Draft,
@@ -60,13 +96,7 @@ pub(crate) fn resize<K: Keeper>(
     let Some(after) = resized(&setting, &counters, was.length, length) else {
         return Err(TxFault::Refused(Fault::NoSpace));
     };
-    let node = Node {
-        length,
-        mtime: now,
-        ctime: now,
-        ..was
-    };
-    draft.put_node(inode, &node)?;
+    draft.put_node(inode, &sized(was, length, now))?;
     draft.put_counters(&after)?;
     Ok(())
 }

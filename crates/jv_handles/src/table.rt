@@ -39,7 +39,7 @@ pub fn inode_at(handles: &[Option<Handle>], handle: u64) -> u64
 pub fn held(alloc: Global, handles: &[Option<Handle>]) -> Result<InodeList, AllocError>
     ensures { IfOk result (λ inodes. inodes ≡ held_here handles.now) }
 {
-    let mut inodes = Vec::new(alloc);
+    let mut inodes = Vec::with_capacity(alloc, handles.len())?;
     for open in handles {
         if let Some(handle) = open {
             inodes.push(handle.inode)?;

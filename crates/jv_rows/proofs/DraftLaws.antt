@@ -135,7 +135,7 @@ stored-below changes known key none = cell_left changes known key None none ∙ 
 -- a table's grammar: what rows' bytes spell there
 module _ {A : Type 0} (row : A → Row) (read : List ℕ → Option A) (tab : ℕ) (reads : (bytes : List ℕ) → row_of tab bytes ≡ option_map row (read bytes))
     (key : RowKey) (at : key.tab ≡ tab) where
-  spelled_cell : (bytes : List ℕ) (o : Option A) → read bytes ≡ o → cell_of key bytes ≡ ok_or (option_map row o) bytes
+  pub spelled_cell : (bytes : List ℕ) (o : Option A) → read bytes ≡ o → cell_of key bytes ≡ ok_or (option_map row o) bytes
   spelled_cell bytes o is = ap (λ t. ok_or (row_of t bytes) bytes) at ∙ ap (λ r. ok_or r bytes) (reads bytes) ∙ ap (λ r. ok_or (option_map row r) bytes) is
 
   -- nothing changed the key

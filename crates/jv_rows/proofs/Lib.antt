@@ -23,3 +23,4 @@ pub mod ArrivalLaws
 pub mod AdjustLaws
 pub mod NextRowLaws
 pub mod ListsLaws
+pub mod AppendingLaws

@@ -10,3 +10,4 @@ pub mod FreshRows
 pub mod Drafts
 pub mod Transactions
 pub mod Walks
+pub mod Appending

@@ -26,7 +26,7 @@ use std::alloc::{AllocError, Global};
 use std::marker::Model;
 
 // The last change of a key.
-fn last_of<'a>(key: &RowKey, changes: &'a [Change]) -> Option<&'a Change>
+pub(crate) fn last_of<'a>(key: &RowKey, changes: &'a [Change]) -> Option<&'a Change>
     ensures { option_copied result ≡ last_change key.now changes.now }
 {
     let mut rest = changes.len();
@@ -82,8 +82,8 @@ fn read_put<R: Grammar>(alloc: Global, key: RowKey, bytes: &[u8]) -> Result<Opti
 /// alone, and the changes are then as before.
 #[derive(Debug, Drop)]
 pub struct Draft {
-    batch: Batch,
-    alloc: Global,
+    pub(crate) batch: Batch,
+    pub(crate) alloc: Global,
 }
 
 impl Model for Draft {

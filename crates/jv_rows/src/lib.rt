@@ -3,6 +3,7 @@
 
 mod adjusting;
 mod allowed;
+mod appending;
 mod drafts;
 mod fields;
 mod fresh;

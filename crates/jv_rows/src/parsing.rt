@@ -119,7 +119,7 @@ pub fn parse_edge(bytes: &[u8]) -> Result<Edge, Misread>
 
 /// A record at the front of bytes, and the bytes after it.
 #[tactic(auto, unfolding(jv_model::specs::rows::RowGrammar::record_at))]
-fn take_record(bytes: &[u8]) -> Result<(Rec, &[u8]), Misread>
+pub(crate) fn take_record(bytes: &[u8]) -> Result<(Rec, &[u8]), Misread>
     ensures { Takes (λ x. (x.0, x.1.now)) result (record_at bytes.now) }
 {
     let (pos, rest) = take_word(bytes)?;
@@ -143,7 +143,7 @@ fn take_record(bytes: &[u8]) -> Result<(Rec, &[u8]), Misread>
 fn take_records(alloc: Global, count: usize, bytes: &[u8]) -> Result<(Vec<Rec>, &[u8]), Misread>
     ensures { Takes (λ x. (x.0.items, x.1.now)) result (records_at count bytes.now) }
 {
-    let mut records = Vec::new(alloc);
+    let mut records = Vec::with_capacity(alloc, count)?;
     let mut rest = bytes;
     for _ in 0..count {
         let (record, after) = take_record(rest)?;

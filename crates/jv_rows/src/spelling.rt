@@ -7,6 +7,23 @@ use jv_model::{
 };
 use std::alloc::{AllocError, Global};
 
+// How many bytes a row of a table has; a node's without its target's, and a list's for each record.
+const COUNTERS_LEN: usize = 40;
+
+const NODE_LEN: usize = 47;
+
+const EDGE_LEN: usize = 9;
+
+pub(crate) const RECORD_LEN: usize = 24;
+
+const SLICE_LEN: usize = 12;
+
+const SESSION_LEN: usize = 9;
+
+const DROPPED_LEN: usize = 8;
+
+const DEAD_LEN: usize = 12;
+
 /// The bytes of a setting.
 #[tactic(auto, unfolding(jv_model::specs::rows::RowGrammar::setting_bytes))]
 pub fn spell_setting(alloc: Global, s: &Setting) -> Result<Bytes, AllocError>
@@ -32,7 +49,7 @@ pub fn spell_setting(alloc: Global, s: &Setting) -> Result<Bytes, AllocError>
 pub fn spell_counters(alloc: Global, c: &Counters) -> Result<Bytes, AllocError>
     ensures { IfOk result (λ bytes. bytes ≡ counters_bytes c.now) }
 {
-    let mut out = Vec::new(alloc);
+    let mut out = Vec::with_capacity(alloc, COUNTERS_LEN)?;
     out.extend_from_slice(&c.inode.to_be_bytes())?;
     out.extend_from_slice(&c.slice.to_be_bytes())?;
     out.extend_from_slice(&c.session.to_be_bytes())?;
@@ -46,7 +63,7 @@ pub fn spell_counters(alloc: Global, c: &Counters) -> Result<Bytes, AllocError>
 pub fn spell_node(alloc: Global, node: &Node) -> Result<Bytes, AllocError>
     ensures { IfOk result (λ bytes. bytes ≡ node_bytes node.now) }
 {
-    let mut out = Vec::new(alloc);
+    let mut out = Vec::with_capacity(alloc, NODE_LEN + node.target.len())?;
     out.push(node.kind)?;
     out.extend_from_slice(&node.mode.to_be_bytes())?;
     out.extend_from_slice(&node.uid.to_be_bytes())?;
@@ -65,7 +82,7 @@ pub fn spell_node(alloc: Global, node: &Node) -> Result<Bytes, AllocError>
 pub fn spell_edge(alloc: Global, edge: &Edge) -> Result<Bytes, AllocError>
     ensures { IfOk result (λ bytes. bytes ≡ edge_bytes edge.now) }
 {
-    let mut out = Vec::new(alloc);
+    let mut out = Vec::with_capacity(alloc, EDGE_LEN)?;
     out.push(edge.kind)?;
     out.extend_from_slice(&edge.inode.to_be_bytes())?;
     Ok(Sequence::from_vec(out))
@@ -73,7 +90,7 @@ pub fn spell_edge(alloc: Global, edge: &Edge) -> Result<Bytes, AllocError>
 
 /// Adds the bytes of a record at the end.
 #[tactic(auto, unfolding(jv_model::specs::rows::RowGrammar::record_bytes))]
-fn put_record(out: &mut Vec<u8>, r: &Rec) -> Result<(), AllocError>
+pub(crate) fn put_record(out: &mut Vec<u8>, r: &Rec) -> Result<(), AllocError>
     ensures { OnOk result (out.new.items ≡ out.old.items ++ record_bytes r.now) }
 {
     out.extend_from_slice(&r.pos.to_be_bytes())?;
@@ -89,7 +106,7 @@ fn put_record(out: &mut Vec<u8>, r: &Rec) -> Result<(), AllocError>
 pub fn spell_list(alloc: Global, list: &List) -> Result<Bytes, AllocError>
     ensures { IfOk result (λ bytes. bytes ≡ list_bytes list.now) }
 {
-    let mut out = Vec::new(alloc);
+    let mut out = Vec::with_capacity(alloc, list.len().saturating_mul(RECORD_LEN))?;
     for record in list.as_slice() {
         put_record(&mut out, record)?;
     }
@@ -101,7 +118,7 @@ pub fn spell_list(alloc: Global, list: &List) -> Result<Bytes, AllocError>
 pub fn spell_slice(alloc: Global, slice: &SliceRow) -> Result<Bytes, AllocError>
     ensures { IfOk result (λ bytes. bytes ≡ slice_bytes slice.now) }
 {
-    let mut out = Vec::new(alloc);
+    let mut out = Vec::with_capacity(alloc, SLICE_LEN)?;
     out.extend_from_slice(&slice.size.to_be_bytes())?;
     out.extend_from_slice(&slice.count.to_be_bytes())?;
     Ok(Sequence::from_vec(out))
@@ -112,7 +129,7 @@ pub fn spell_slice(alloc: Global, slice: &SliceRow) -> Result<Bytes, AllocError>
 pub fn spell_session(alloc: Global, session: &Session) -> Result<Bytes, AllocError>
     ensures { IfOk result (λ bytes. bytes ≡ session_bytes session.now) }
 {
-    let mut out = Vec::new(alloc);
+    let mut out = Vec::with_capacity(alloc, SESSION_LEN)?;
     out.push(session.client)?;
     out.extend_from_slice(&session.expiry.to_be_bytes())?;
     Ok(Sequence::from_vec(out))
@@ -123,7 +140,7 @@ pub fn spell_session(alloc: Global, session: &Session) -> Result<Bytes, AllocErr
 pub fn spell_dropped(alloc: Global, dropped: &Dropped) -> Result<Bytes, AllocError>
     ensures { IfOk result (λ bytes. bytes ≡ dropped_bytes dropped.now) }
 {
-    let mut out = Vec::new(alloc);
+    let mut out = Vec::with_capacity(alloc, DROPPED_LEN)?;
     out.extend_from_slice(&dropped.length.to_be_bytes())?;
     Ok(Sequence::from_vec(out))
 }
@@ -133,7 +150,7 @@ pub fn spell_dropped(alloc: Global, dropped: &Dropped) -> Result<Bytes, AllocErr
 pub fn spell_dead(alloc: Global, dead: &Dead) -> Result<Bytes, AllocError>
     ensures { IfOk result (λ bytes. bytes ≡ dead_bytes dead.now) }
 {
-    let mut out = Vec::new(alloc);
+    let mut out = Vec::with_capacity(alloc, DEAD_LEN)?;
     out.extend_from_slice(&dead.size.to_be_bytes())?;
     out.extend_from_slice(&dead.due.to_be_bytes())?;
     Ok(Sequence::from_vec(out))

@@ -50,7 +50,7 @@ pub(crate) fn has_list_widths(list: &List)
     }
 }
 
-fn has_record_widths(r: &Rec)
+pub(crate) fn has_record_widths(r: &Rec)
     ensures { RecordWidths r.now }
 {
     let _pos = r.pos;
@@ -106,6 +106,6 @@ fn has_target_widths(node: &Node)
     are_bytes(node.target.as_slice());
 }
 
-fn are_bytes(bytes: &[u8])
+pub(crate) fn are_bytes(bytes: &[u8])
     ensures { AreBytes bytes.now }
 {}

@@ -1,7 +1,7 @@
 -- Repeats of bytes, and the parts that they are printed as.
 use Rattle.std.proofs.Common.{◌≡◌, ◌≢◌, ℕ, zero, suc, ◌+◌, ◌-◌, add-zero, ◌<◌, ◌≤◌, ◌&&◌, ◌==◌, inl, inr, Bool, true, false, cond, eqb, List, [], ◌∷◌, ◌++◌, length, get_or, take, drop, replicate, map, refl, sym, ap, ◌∙◌, arith}
 use Rattle.std.specs.List.{flat_map, join_with_byte}
-use Rattle.std.proofs.lemmas.Bool.{eq-eqb, eqb-true, ne_eqb, le-leb, lt-leb, cases_lt, false≢true}
+use Rattle.std.proofs.lemmas.Bool.{eq-eqb, eqb-true, ne_eqb, le-leb, lt-leb, cases_lt, false≢true, false_from_ne_true}
 use Rattle.std.proofs.lemmas.List.{append-nil, append_assoc, take-append-drop, length-take, length-take-le, length-drop, length-replicate, get_or-take, get_or-drop, get_or-replicate, drop-drop}
 use Rattle.std.proofs.lemmas.Grind.{same_number_lists}
 use Rattle.jv_model.specs.script.Printed.{Run, with_byte, runs_of, Part, Plain, Repeated, with_short, parts_of, part_text, data_text}
@@ -251,6 +251,17 @@ long_same (a ∷ b ∷ c ∷ d ∷ ys) long (suc zero) below = (omega arith, (al
 long_same (a ∷ b ∷ c ∷ d ∷ ys) long (suc (suc zero)) below = (omega arith, (all_equal a b c d long).1)
 long_same (a ∷ b ∷ c ∷ d ∷ ys) long (suc (suc (suc zero))) below = (omega arith, (all_equal a b c d long).2)
 long_same (a ∷ b ∷ c ∷ d ∷ ys) long (suc (suc (suc (suc k)))) below = absurd (omega arith)
+
+-- no long repeat begins at the last three bytes
+pub no_long_at_end : (bytes : List ℕ) (k : ℕ) → length bytes ≤ k + 3 → begins_long (drop k bytes) ≡ false
+no_long_at_end bytes k end = false_from_ne_true (begins_long (drop k bytes)) (λ long. omega (arith, length-drop k bytes, (long_same (drop k bytes) long 3 (omega arith)).0))
+
+-- nor among all of them, if at none before the last three
+pub no_long_in_all : (bytes : List ℕ) → HasNoLongBefore (length bytes - 3) bytes → HasNoLongBefore (length bytes) bytes
+no_long_in_all bytes none k below = elim (cases_lt k (length bytes - 3)) [
+  | inl less ↦ none k less
+  | inr ge ↦ no_long_at_end bytes k (omega arith)
+]
 
 -- a long repeat that ends among the bytes after its first four
 pub long_count : (bytes few : List ℕ) (n : ℕ) → begins_long bytes ≡ true → IsFrontCount (get_or bytes 0 0) few n → n < length few → ((k : ℕ) → k < length few → (4 + k < length bytes) × (get_or few k 0 ≡ get_or bytes (4 + k) 0)) → IsFirstRepeat bytes (4 + n)

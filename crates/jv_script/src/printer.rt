@@ -11,11 +11,19 @@ use crate::numbers::push_numbers;
 use jv_model::{Bytes, Reply, Sequence, Setting};
 use std::alloc::{AllocError, Global};
 
+/// As many bytes as most answers that aren't DATA have at most.
+const SHORT: usize = 64;
+
 /// The printed line of an answer on a volume with this setting, with its line feed. The only error is out of memory.
 pub fn print_reply(alloc: Global, setting: &Setting, reply: &Reply) -> Result<Bytes, AllocError>
     ensures { IfOk result (λ line. line ≡ printed_line setting.now reply.now) }
 {
-    let mut line = Vec::new(alloc);
+    // No part of DATA has more than two bytes for each of its own, the `+` before the next one included.
+    let likely = match reply {
+        Reply::Data(bytes) => bytes.len().saturating_mul(2).saturating_add(8),
+        _ => SHORT,
+    };
+    let mut line = Vec::with_capacity(alloc, likely)?;
     push_reply(alloc, &mut line, setting, reply)?;
     line.push(b'\n')?;
     Ok(Sequence::from_vec(line))
@@ -101,8 +109,6 @@ fn push_read_bytes(text: &mut Vec<u8>, bytes: &[u8]) -> Result<(), AllocError>
     ensures { OnOk result
         (text.new.items ≡ text.old.items ++ (codes "ok " ++ data_text bytes.now)) }
 {
-    // No part has more than two bytes for each of its own, the `+` before the next one included.
-    text.reserve(bytes.len().saturating_mul(2).saturating_add(8))?;
     text.extend_from_slice(b"ok ")?;
     push_data(text, bytes)
 }

@@ -89,7 +89,8 @@ pub(crate) fn plain_length(bytes: &[u8]) -> usize
     bytes.len()
 }
 
-// How many of the bytes from a place on are known to be plain by one test: a block at each 64th place, or one byte.
+// How many of the bytes from a place on are known to be plain by one test: a block at each 64th place, all of the last few
+// there or at the first place, or one byte.
 fn plain_step(place: usize, bytes: &[u8]) -> usize
     requires some { 0 < length bytes.now }
     requires plain { begins_long bytes.now ≡ false }
@@ -97,11 +98,21 @@ fn plain_step(place: usize, bytes: &[u8]) -> usize
     ensures within { result ≤ length bytes.now }
     ensures plain { HasNoLongBefore result bytes.now }
 {
-    if place % BLOCK == BLOCK - 1 && is_plain_block(bytes) {
+    let is_next_block = place % BLOCK == BLOCK - 1;
+    if is_next_block && is_plain_block(bytes) {
         BLOCK
+    } else if (is_next_block || place == 1) && is_plain_end(bytes) {
+        bytes.len()
     } else {
         1
     }
+}
+
+// Whether these are so few bytes that one test goes over all, and no long repeat begins among them.
+fn is_plain_end(bytes: &[u8]) -> bool
+    ensures { result ≡ true → HasNoLongBefore (length bytes.now) bytes.now }
+{
+    bytes.len() <= BLOCK + BEYOND && !may_have_long_repeat(bytes)
 }
 
 // Whether no long repeat begins in the block at the front, and there are bytes after it.

@@ -99,10 +99,10 @@ impl Schedule {
             IsSomeAnd (given door.new) (IsYardOf self.new) }
         ensures quiet { (result ≡ LineEnd.Quiet) ↔ (line ≡ Empty) }
     {
-        let mut yard = door.take();
-        let end = self.run_line(line, number, k, &mut yard, carrier, clock, journal);
-        door.give(yard);
-        end
+        match &mut door.yard {
+            Some(yard) => self.run_line(line, number, k, yard, carrier, clock, journal),
+            None => unreachable!(),
+        }
     }
 
     /// Runs a line over a yard.

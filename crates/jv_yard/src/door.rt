@@ -32,7 +32,8 @@ pub trait YardDoor<D: Depot, H: Shelf> {
 /// A door of main's alone: no worker ever has the yard.
 #[derive(Drop)]
 pub struct Alone<D, H> {
-    yard: Option<Yard<D, H>>,
+    /// The yard while it is in. A step that needs no worker between may work on it here, without taking it.
+    pub yard: Option<Yard<D, H>>,
 }
 
 impl<D: Depot, H: Shelf> Alone<D, H> {

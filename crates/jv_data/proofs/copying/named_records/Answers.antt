@@ -1,6 +1,6 @@
-use Rattle.std.proofs.Common.{None, Some, Ok, Err, refl, ap}
+use Rattle.std.proofs.Common.{[], None, Some, Ok, Err, refl, ap}
 use Rattle.std.proofs.lemmas.Result.{err_from_is_err_and}
-use Rattle.jv_data.proofs.RecordsLaws.{records-seen, records-unread, records-none, records-some}
+use Rattle.jv_data.proofs.RecordsLaws.{records-seen, unchanged, records-unread, records-seen_in}
 use Rattle.jv_data.proofs.ShownLaws.{named-there, named-read}
 use Rattle.jv_data.proofs.copying.named_records.Goals as goal
 
@@ -9,6 +9,7 @@ returns-in_err-list-clause-read g c =
     let p = err_from_is_err_and c.from_residual.result c.from_residual.ensures.1 in
     rw (p.1, p.2)
     (records-unread c.args.inode c.args.window c.ranges.window.fits (g.K.Keeper.seen c.args.k.now) (g.K.Keeper.seen c.read_list.new.k)
+    [] (unchanged c.args.inode c.args.window c.ranges.window.fits (g.K.Keeper.seen c.args.k.now) (g.K.Keeper.seen c.read_list.new.k))
     c.in_err-list.field-0.0
     (records-seen c.args.inode c.args.window c.ranges.window.fits (g.K.Keeper.seen c.args.k.now) (g.K.Keeper.seen c.read_list.new.k)
     (Err c.in_err-list.field-0.0) (Err c.in_err-list.field-0.0) refl c.in_err-list.ensures))
@@ -24,12 +25,14 @@ returns-in_ok-check_slices-in-Some-clause-read g c =
     let s = records-seen c.args.inode c.args.window c.ranges.window.fits (g.K.Keeper.seen c.args.k.now) (g.K.Keeper.seen c.read_list.new.k)
     (Ok c.in_ok-list.field-0) (Ok (Some c.in-Some.list)) (ap (λ o. Ok o) c.in-Some.is) c.in_ok-list.ensures in
     named-read c.args.inode c.args.window c.ranges.window.fits (g.K.Keeper.seen c.args.k.now) (g.K.Keeper.seen c.read_list.new.k) c.in-Some.list s
-    (records-some c.args.inode c.args.window c.ranges.window.fits (g.K.Keeper.seen c.args.k.now) (g.K.Keeper.seen c.read_list.new.k) c.in-Some.list s)
+    (records-seen_in c.args.inode c.args.window c.ranges.window.fits (g.K.Keeper.seen c.args.k.now) (g.K.Keeper.seen c.read_list.new.k)
+    [] (unchanged c.args.inode c.args.window c.ranges.window.fits (g.K.Keeper.seen c.args.k.now) (g.K.Keeper.seen c.read_list.new.k)) (Some c.in-Some.list) s)
     (g.K.Keeper.seen c.check_slices.new.k) c.in_ok-check_slices-in-Some.ensures
 
 pub returns-in-None-clause-read : goal.returns-in-None-clause-read
 returns-in-None-clause-read g c =
     rw c.new.ensures
-    (records-none c.args.inode c.args.window c.ranges.window.fits (g.K.Keeper.seen c.args.k.now) (g.K.Keeper.seen c.read_list.new.k)
+    (records-seen_in c.args.inode c.args.window c.ranges.window.fits (g.K.Keeper.seen c.args.k.now) (g.K.Keeper.seen c.read_list.new.k)
+    [] (unchanged c.args.inode c.args.window c.ranges.window.fits (g.K.Keeper.seen c.args.k.now) (g.K.Keeper.seen c.read_list.new.k)) None
     (records-seen c.args.inode c.args.window c.ranges.window.fits (g.K.Keeper.seen c.args.k.now) (g.K.Keeper.seen c.read_list.new.k)
     (Ok c.in_ok-list.field-0) (Ok None) (ap (λ o. Ok o) c.in-None.is) c.in_ok-list.ensures))

@@ -1,6 +1,6 @@
-use Rattle.std.proofs.Common.{None, Some, Ok, Err, refl, ap}
+use Rattle.std.proofs.Common.{[], None, Some, Ok, Err, refl, ap}
 use Rattle.std.proofs.lemmas.Result.{err_from_is_err_and}
-use Rattle.jv_data.proofs.RecordsLaws.{records-seen, records-unread, records-none, records-some}
+use Rattle.jv_data.proofs.RecordsLaws.{records-seen, unchanged, records-unread, records-seen_in}
 use Rattle.jv_data.proofs.looking.records.Goals as goal
 
 pub returns-in_err-list : goal.returns-in_err-list
@@ -8,19 +8,22 @@ returns-in_err-list g c =
     let p = err_from_is_err_and c.from_residual.result c.from_residual.ensures.1 in
     rw (p.1, p.2)
     (records-unread c.args.inode c.args.window c.ranges.window.fits (g.K.Keeper.seen c.args.k.now) (g.K.Keeper.seen c.read_list.new.k)
+    [] (unchanged c.args.inode c.args.window c.ranges.window.fits (g.K.Keeper.seen c.args.k.now) (g.K.Keeper.seen c.read_list.new.k))
     c.in_err-list.field-0.0
     (records-seen c.args.inode c.args.window c.ranges.window.fits (g.K.Keeper.seen c.args.k.now) (g.K.Keeper.seen c.read_list.new.k)
     (Err c.in_err-list.field-0.0) (Err c.in_err-list.field-0.0) refl c.in_err-list.ensures))
 
 pub returns-in-Some : goal.returns-in-Some
 returns-in-Some g c =
-    records-some c.args.inode c.args.window c.ranges.window.fits (g.K.Keeper.seen c.args.k.now) (g.K.Keeper.seen c.read_list.new.k) c.in-Some.list
+    records-seen_in c.args.inode c.args.window c.ranges.window.fits (g.K.Keeper.seen c.args.k.now) (g.K.Keeper.seen c.read_list.new.k)
+    [] (unchanged c.args.inode c.args.window c.ranges.window.fits (g.K.Keeper.seen c.args.k.now) (g.K.Keeper.seen c.read_list.new.k)) (Some c.in-Some.list)
     (records-seen c.args.inode c.args.window c.ranges.window.fits (g.K.Keeper.seen c.args.k.now) (g.K.Keeper.seen c.read_list.new.k)
     (Ok c.in_ok-list.field-0) (Ok (Some c.in-Some.list)) (ap (λ o. Ok o) c.in-Some.is) c.in_ok-list.ensures)
 
 pub returns-in-None : goal.returns-in-None
 returns-in-None g c =
     rw c.new.ensures
-    (records-none c.args.inode c.args.window c.ranges.window.fits (g.K.Keeper.seen c.args.k.now) (g.K.Keeper.seen c.read_list.new.k)
+    (records-seen_in c.args.inode c.args.window c.ranges.window.fits (g.K.Keeper.seen c.args.k.now) (g.K.Keeper.seen c.read_list.new.k)
+    [] (unchanged c.args.inode c.args.window c.ranges.window.fits (g.K.Keeper.seen c.args.k.now) (g.K.Keeper.seen c.read_list.new.k)) None
     (records-seen c.args.inode c.args.window c.ranges.window.fits (g.K.Keeper.seen c.args.k.now) (g.K.Keeper.seen c.read_list.new.k)
     (Ok c.in_ok-list.field-0) (Ok None) (ap (λ o. Ok o) c.in-None.is) c.in_ok-list.ensures))

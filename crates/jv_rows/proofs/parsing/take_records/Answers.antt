@@ -5,7 +5,7 @@ use Rattle.jv_rows.proofs.parsing.take_records.Goals as goal
 
 pub returns-in_err-record : goal.returns-in_err-record
 returns-in_err-record c =
-    let p = err_from_is_err_and c.from_residual.result c.from_residual.ensures.1 in
+    let p = err_from_is_err_and c.from_residual-in_err-record.result c.from_residual-in_err-record.ensures.1 in
     rw (p.1, p.2) (ends c.in_err-record.field-0.0 c.loop.records.items c.args.count c.loop.counter c.loop.rest.now (records_at c.args.count c.args.bytes.now) c.loop-test.true c.in_err-record.ensures c.loop.invariant)
 
 pub loop-preserved : goal.loop-preserved

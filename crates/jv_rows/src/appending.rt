@@ -1,0 +1,121 @@
+//! One more record in the list of a window: its bytes go behind those of the row, which are gone over and not made a list.
+ghost use Rattle.std.specs.Prelude.{◌≡◌, ◌++◌, ◌∷◌, [], IfOk, OnOk, OnErr, IsTrue};
+ghost use Rattle.jv_model.specs.blocks.Slices.{IsRecord};
+ghost use Rattle.jv_model.specs.rows.RowGrammar.{record_bytes, list_of};
+ghost use Rattle.jv_outside.specs.declared.batch.Change.TheVariants.{Put};
+ghost use Rattle.jv_rows.specs.Appending.{Judges, FindsLeft, AppendsTo, Appends};
+
+use crate::allowed::allows_record;
+use crate::drafts::{Draft, last_of};
+use crate::keys::key_of_list;
+use crate::misread::Misread;
+use crate::parsing::take_record;
+use crate::spelling::{RECORD_LEN, put_record};
+use crate::widths::{are_bytes, has_record_widths};
+use jv_model::{Bytes, Down, Rec, RowFault, RowKey, Sequence, copied};
+use jv_outside::{Change, Keeper};
+use std::alloc::AllocError;
+
+/// Goes over the records that the bytes spell, and returns whether they are a list.
+fn judge_list(bytes: &[u8]) -> Result<(), Misread>
+    ensures { Judges result (list_of bytes.now) }
+{
+    let count = bytes.len() / RECORD_LEN;
+    if count == 0 {
+        return Err(Misread::Malformed);
+    }
+    let mut rest = bytes;
+    for _ in 0..count {
+        let (record, after) = take_record(rest)?;
+        let allowed = allows_record(&record);
+        if !allowed {
+            return Err(Misread::Malformed);
+        }
+        rest = after;
+    }
+    let over = rest.is_empty();
+    if over {
+        Ok(())
+    } else {
+        Err(Misread::Malformed)
+    }
+}
+
+/// The bytes with those of a record behind them.
+fn with_record(bytes: Bytes, rec: &Rec) -> Result<Bytes, AllocError>
+    ensures { IfOk result (λ longer. longer ≡ bytes ++ record_bytes rec.now) }
+{
+    let mut out = bytes.into_vec();
+    out.reserve_exact(RECORD_LEN)?;
+    put_record(&mut out, rec)?;
+    Ok(Sequence::from_vec(out))
+}
+
+impl Draft {
+    /// Adds that the window of the file has one record more, behind those that it has. The draft reads its own changes.
+    ///
+    /// # Errors
+    ///
+    /// [`RowFault::Bad`] where the row's bytes are malformed, [`RowFault::Failed`] if the keeper failed, and
+    /// [`RowFault::Memory`] out of memory. On error nothing has changed.
+    pub fn append_record<K: Keeper>(
+        &mut self,
+        k: &mut K,
+        inode: u64,
+        window: u32,
+        rec: &Rec,
+    ) -> Result<(), RowFault>
+        requires { IsRecord rec.now }
+        ensures { Appends inode window rec.now self.old self.new (K.seen k.old) (K.seen k.new) result }
+    {
+        let key = key_of_list(self.alloc, inode, window)?;
+        match self.bytes_at(k, &key)? {
+            Some(bytes) => self.put_behind(key, bytes, rec),
+            None => {
+                has_record_widths(rec);
+                self.put_longer(key, Bytes::new(self.alloc), rec)?;
+                Ok(())
+            }
+        }
+    }
+
+    // The bytes at a key once the changes are made.
+    fn bytes_at<K: Keeper>(&self, k: &mut K, key: &RowKey) -> Result<Option<Bytes>, Down>
+        ensures { FindsLeft self.now key.now (K.seen k.old) (K.seen k.new) result }
+    {
+        match last_of(key, self.batch.as_slice()) {
+            None => k.get(key),
+            Some(Change::Put(_, bytes)) => Ok(Some(copied(self.alloc, bytes.as_slice())?)),
+            Some(Change::Del(_)) => Ok(None),
+        }
+    }
+
+    // Adds that a list, which these bytes spell, has one record more.
+    fn put_behind(&mut self, key: RowKey, bytes: Bytes, rec: &Rec) -> Result<(), RowFault>
+        requires tab { key.tab ≡ 4 }
+        requires record { IsRecord rec.now }
+        ensures { AppendsTo key bytes rec.now self.old self.new result }
+    {
+        has_record_widths(rec);
+        let spelled = bytes.as_slice();
+        are_bytes(spelled);
+        match judge_list(spelled) {
+            Ok(()) => {
+                self.put_longer(key, bytes, rec)?;
+                Ok(())
+            }
+            Err(Misread::Malformed) => Err(RowFault::Bad(key, bytes)),
+            Err(Misread::Memory) => Err(RowFault::Memory),
+        }
+    }
+
+    // Adds that the row at a key has these bytes and those of a record behind them.
+    fn put_longer(&mut self, key: RowKey, bytes: Bytes, rec: &Rec) -> Result<(), AllocError>
+        ensures ok { OnOk result (self.new ≡ self.old
+            ++ Put key (bytes ++ record_bytes rec.now) ∷ []) }
+        ensures err { OnErr result (self.new ≡ self.old) }
+    {
+        let longer = with_record(bytes, rec)?;
+        self.batch.put(key, longer)
+    }
+}
