@@ -1,7 +1,6 @@
 -- How a commit of a record ends: each of its exits, by how it began, what was read and what was changed.
-use Rattle.std.proofs.Common.{◌≡◌, ℕ, ◌+◌, ◌*◌, ◌<◌, ◌≤◌, ◌^◌, true, inl, List, [], ◌∷◌, ◌++◌, Option, Some, Result, Ok, Err, refl, sym, ap, subst, ◌∙◌, arith}
-use Rattle.std.specs.Prelude.{◌&&◌, not, max, IsTrue}
-use Rattle.std.specs.List.{AllByRecursion, list_all}
+use Rattle.std.proofs.Common.{◌≡◌, ℕ, ◌+◌, ◌*◌, ◌<◌, ◌≤◌, ◌^◌, inl, List, [], ◌∷◌, ◌++◌, Option, Some, Result, Ok, Err, refl, sym, ap, subst, ◌∙◌, arith}
+use Rattle.std.specs.Prelude.{max}
 use Rattle.std.specs.Option.{option_map, unwrap_or}
 use Rattle.jv_model.specs.declared.fault.Down.{Down}
 use Rattle.jv_model.specs.declared.fault.Fault.{Fault}
@@ -16,10 +15,8 @@ use Rattle.jv_model.specs.declared.row.SliceRow.{SliceRow}
 use Rattle.jv_model.specs.declared.setting.Setting.{Setting}
 use Rattle.jv_model.specs.declared.slice.Rec.{Rec}
 use Rattle.jv_model.specs.FiniteMap.{alter, get}
-use Rattle.jv_model.specs.blocks.Slices.{IsRecord, is_record}
+use Rattle.jv_model.specs.blocks.Slices.{IsRecord}
 use Rattle.jv_model.specs.rows.RowFaults.{row_fault}
-use Rattle.jv_model.specs.rows.RowGrammar.{is_list}
-use Rattle.jv_model.specs.rows.RowFields.{is_nil}
 use Rattle.jv_model.specs.rows.RowKeys.{RowMap}
 use Rattle.jv_model.specs.rows.RowPlaces.{list_key, slice_key}
 use Rattle.jv_model.specs.tree.Attempt.{◌>>=◌}
@@ -54,18 +51,6 @@ fails-after before middle after x fault act l f = record {
   cause = subst (λ n. FaultCause n after.faults fault) l.counts f.cause;
   why = subst (λ o. FailsBy o fault) l.rows_are f.why;
 }
-
--- a list with one more record is one that the grammar allows
-pub is_list-push : (list : List Rec) (rec : Rec) → AllByRecursion IsRecord list → IsRecord rec → IsTrue (is_list (list ++ rec ∷ []))
-is_list-push list rec all is = some list (records list all)
-  where
-    records : (list : List Rec) → AllByRecursion IsRecord list → list_all is_record (list ++ rec ∷ []) ≡ true
-    records [] all = ap (λ b. b && true) is
-    records (r ∷ rs) all = (λ i. all.0 i && records rs all.1 i)
-
-    some : (list : List Rec) → list_all is_record (list ++ rec ∷ []) ≡ true → (not (is_nil (list ++ rec ∷ [])) && list_all is_record (list ++ rec ∷ [])) ≡ true
-    some [] e = e
-    some (r ∷ rs) e = e
 
 module _ (sid now inode window : ℕ) (rec : Rec) (started : ℕ) where
   abbrev from : ℕ
