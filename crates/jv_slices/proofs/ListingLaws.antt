@@ -1,11 +1,12 @@
 -- Laws of the set of listed blocks.
-use Rattle.std.proofs.Common.{◌≡◌, ℕ, ◌<◌, Bool, true, false, cond, List, [], ◌∷◌, ◌++◌, refl, sym, ap, ◌∙◌, arith, ⊎_elim}
+use Rattle.std.proofs.Common.{◌≡◌, ℕ, ◌<◌, Bool, true, false, cond, List, [], ◌∷◌, ◌++◌, refl, sym, ap, ◌∙◌, arith, ⊎_elim, subst, not}
 use Rattle.std.specs.Prelude.{◌||◌, ◌&&◌, ◌==◌}
+use Rattle.std.specs.Bool.{OnFalse}
 use Rattle.std.specs.List.{list_any}
 use Rattle.std.specs.declared.cmp.Ordering.{Ordering}
 use Rattle.std.specs.Ordering.{nat_cmp, ordering_then, is_eq}
 use Rattle.std.specs.BTreeMap.{is_at}
-use Rattle.std.proofs.lemmas.Bool.{cases_order, lt-ltb, le-ltb, eq-eqb, ne_eqb}
+use Rattle.std.proofs.lemmas.Bool.{cases_order, lt-ltb, le-ltb, eq-eqb, ne_eqb, not-true, not-false}
 use Rattle.std.specs.Cmp.{nat_eq_equiv}
 use Rattle.std.proofs.lemmas.List.Folds.{list_any-append}
 use Rattle.jv_model.specs.declared.slice.BlockId.{BlockId}
@@ -58,3 +59,12 @@ with_new keys block e = rw e refl
 
 pub with_listed : (keys : List BlockId) (block : BlockId) → list_any (is_same_block block) keys ≡ true → with_block keys block ≡ keys
 with_listed keys block e = rw e refl
+
+-- the set after a block was put into it, which says whether it was new
+pub lists_with : (keys : List BlockId) (block : BlockId) (old new : List Listed) (added : Bool) → Lists keys old → ((q : Listed) → list_any (is_at (listed_cmp q)) new ≡ cond (is_at (listed_cmp (listed_of block)) q) true (list_any (is_at (listed_cmp q)) old)) → added ≡ not (list_any (is_at (listed_cmp (listed_of block))) old) → OnFalse added (new ≡ old) → Lists (with_block keys block) new
+lists_with keys block old new true same update e unchanged =
+    let fresh : list_any (is_same_block block) keys ≡ false = not-true (list_any (is_same_block block) keys) (ap not (sym (same block)) ∙ sym e) in
+    subst (λ (bs : List BlockId). Lists bs new) (sym (with_new keys block fresh)) (lists_push keys block old new same update)
+lists_with keys block old new false same update e unchanged =
+    let known : list_any (is_same_block block) keys ≡ true = not-false (list_any (is_same_block block) keys) (ap not (sym (same block)) ∙ sym e) in
+    subst (λ (bs : List BlockId). Lists bs new) (sym (with_listed keys block known)) (subst (λ (ls : List Listed). Lists keys ls) (sym unchanged) same)

@@ -1,8 +1,9 @@
 //! Blocks of slices, and which of them pieces need.
-ghost use Rattle.std.specs.Prelude.{◌≡◌, ℕ, ◌<◌, ◌≤◌, ◌/◌, ◌+◌, ◌-◌, ◌++◌, All, IfOk, OnOk, sum, fold};
+ghost use Rattle.std.specs.Prelude.{◌≡◌, ℕ, ◌<◌, ◌≤◌, ◌/◌, ◌+◌, ◌-◌, ◌++◌, [], All, IfOk, OnOk, not, sum, fold};
+ghost use Rattle.std.specs.List.{list_any};
 ghost use Rattle.jv_model.specs.declared.slice.BlockId.{BlockId as BlockSeen};
-ghost use Rattle.jv_slices.specs.Listing.{Lists};
-ghost use Rattle.jv_model.specs.blocks.Slices.{IsPart, block_count, block_length, block_lengths, needed_blocks, with_block, blocks_of_piece};
+ghost use Rattle.jv_slices.specs.Listing.{ListsIn};
+ghost use Rattle.jv_model.specs.blocks.Slices.{IsPart, is_same_block, block_count, block_length, block_lengths, needed_blocks, with_block, blocks_of_piece};
 
 use jv_model::{BlockId, BlockKeys, Piece, Pieces, Spot};
 use std::alloc::{AllocError, Global};
@@ -35,11 +36,30 @@ pub fn needs(alloc: Global, pieces: &Pieces, block: u32) -> Result<BlockKeys, Al
     ensures { IfOk result (λ keys. keys ≡ needed_blocks block pieces.now) }
 {
     let mut keys = Vec::new(alloc);
-    let mut listed = BTreeSet::new(alloc);
+    let mut listed = no_blocks(alloc, pieces.as_slice(), block);
     for piece in pieces.as_slice() {
         add_piece(&mut keys, &mut listed, *piece, block)?;
     }
     Ok(BlockKeys::from_vec(keys))
+}
+
+/// At most this many pieces, none longer than a block, need at most twice as many blocks. Looking through these takes
+/// less time than a set.
+const FEW: usize = 8;
+
+/// The set of the listed blocks, still empty, or no set where they will be few.
+fn no_blocks(alloc: Global, pieces: &[Piece], block: u32) -> Option<BTreeSet<Listed>>
+    ensures { ListsIn [] result }
+{
+    if pieces.len() <= FEW && are_short(pieces, block) {
+        None
+    } else {
+        Some(BTreeSet::new(alloc))
+    }
+}
+
+fn are_short(pieces: &[Piece], block: u32) -> bool {
+    pieces.iter().all(|piece| piece.len <= block)
 }
 
 /// A block in the order of the set of those that are listed.
@@ -52,14 +72,14 @@ struct Listed {
 
 fn add_piece(
     keys: &mut Vec<BlockId>,
-    listed: &mut BTreeSet<Listed>,
+    listed: &mut Option<BTreeSet<Listed>>,
     piece: Piece,
     block: u32,
 ) -> Result<(), AllocError>
     requires some { 0 < block }
     requires part { IsPart piece }
-    requires listed { Lists keys.old.items listed.old.keys }
-    ensures listed { OnOk result (Lists keys.new.items listed.new.keys) }
+    requires listed { ListsIn keys.old.items listed.old }
+    ensures listed { OnOk result (ListsIn keys.new.items listed.new) }
     ensures keys { OnOk result
         (keys.new.items ≡ fold with_block keys.old.items (blocks_of_piece block piece)) }
 {
@@ -77,16 +97,38 @@ fn add_piece(
 
 fn add_block(
     keys: &mut Vec<BlockId>,
-    listed: &mut BTreeSet<Listed>,
+    listed: &mut Option<BTreeSet<Listed>>,
     block: BlockId,
 ) -> Result<(), AllocError>
-    requires listed { Lists keys.old.items listed.old.keys }
-    ensures listed { OnOk result (Lists keys.new.items listed.new.keys) }
+    requires listed { ListsIn keys.old.items listed.old }
+    ensures listed { OnOk result (ListsIn keys.new.items listed.new) }
     ensures keys { OnOk result (keys.new.items ≡ with_block keys.old.items block) }
 {
-    let BlockId { id, index, size } = block;
-    if listed.insert(Listed { id, index, size })? {
+    if is_new(keys, listed, block)? {
         keys.push(block)?;
     }
     Ok(())
+}
+
+/// Whether a block isn't among the keys. The set has it afterwards, where there is one.
+fn is_new(
+    keys: &[BlockId],
+    listed: &mut Option<BTreeSet<Listed>>,
+    block: BlockId,
+) -> Result<bool, AllocError>
+    requires listed { ListsIn keys.now listed.old }
+    ensures listed { OnOk result (ListsIn (with_block keys.now block) listed.new) }
+    ensures new { IfOk result (λ new. new ≡ not (list_any (is_same_block block) keys.now)) }
+{
+    let Some(set) = listed else {
+        return Ok(!has_block(keys, block));
+    };
+    let BlockId { id, index, size } = block;
+    Ok(set.insert(Listed { id, index, size })?)
+}
+
+fn has_block(keys: &[BlockId], block: BlockId) -> bool
+    ensures { result ≡ list_any (is_same_block block) keys.now }
+{
+    keys.contains(&block)
 }
