@@ -3,8 +3,9 @@ use Rattle.std.proofs.Common.{◌≡◌, ◌≢◌, ℕ, suc, zero, ◌+◌, ◌
 use Rattle.std.specs.Option.{option_or}
 use Rattle.std.proofs.lemmas.Bool.{cases_lt, false≢true, lt-leb, le-leb, lt-ltb, le-ltb}
 use Rattle.std.proofs.lemmas.List.{append_assoc, append-nil, drop_more, drop_all, reverse-append}
+use Rattle.std.proofs.lemmas.List.Elements.{All-cons, All-tail}
 use Rattle.std.proofs.lemmas.List.Folds.{find-append}
-use Rattle.std.specs.Prelude.{filter, find, reverse}
+use Rattle.std.specs.Prelude.{filter, find, reverse, All}
 use Rattle.jv_model.specs.declared.slice.Rec.{Rec}
 use Rattle.jv_model.specs.blocks.Slices.{covers, visible}
 use Rattle.jv_slices.specs.declared.layout.Stretch.{Stretch}
@@ -66,6 +67,11 @@ layout_same f g same from to stretches h = record { shows = shows_same f g same 
 -- later records lie over earlier ones
 pub visible-append : (xs ys : List Rec) (position : ℕ) → visible (xs ++ ys) position ≡ option_or (visible ys position) (visible xs position)
 visible-append xs ys position = ap (find (covers position)) (reverse-append xs ys) ∙ find-append (covers position) (reverse ys) (reverse xs)
+
+-- what holds of all records holds of those before the last one
+pub all_before : (P : Rec → Type 0) (before : List Rec) (last : Rec) → All P (before ++ last ∷ []) → All P before
+all_before P [] last h = λ k d low. absurd (omega (arith, low))
+all_before P (r ∷ before) last h = All-cons P r before (h 0 r (omega arith)) (all_before P before last (All-tail P r (before ++ last ∷ []) h))
 
 -- stretches end behind where they begin
 shows_within : (all : ℕ → Option Rec) (from to : ℕ) (stretches : List Stretch) → Shows all from to stretches → from ≤ to

@@ -13,6 +13,10 @@ touches from to r = nat_lt r.pos to && nat_lt from (r.pos + r.len)
 abbrev pub IsSeen : (ℕ → Option Rec) → ℕ → ℕ → Option Rec → Type 0
 IsSeen seen from to r = (position : ℕ) → from ≤ position → position < to → seen position ≡ r
 
+-- the same is seen at each position from one to another
+abbrev pub IsAlike : (ℕ → Option Rec) → (ℕ → Option Rec) → ℕ → ℕ → Type 0
+IsAlike seen other from to = (position : ℕ) → from ≤ position → position < to → seen position ≡ other position
+
 -- stretches that say what is seen from one position to another, one after the other
 abbrev pub Shows : (ℕ → Option Rec) → ℕ → ℕ → List Stretch → Type 0
 Shows seen from to [] = from ≡ to

@@ -3,7 +3,7 @@ ghost use Rattle.std.specs.Prelude.{◌≡◌, ◌≢◌, ◌↔◌, ℕ, [], �
 ghost use Rattle.std.specs.Option.{option_or};
 ghost use Rattle.jv_model.specs.declared.slice.Rec.{Rec as RecSeen};
 ghost use Rattle.jv_model.specs.blocks.Slices.{IsRecord, visible};
-ghost use Rattle.jv_slices.specs.Stretches.{IsSeen, Shows, IsLayout, touches};
+ghost use Rattle.jv_slices.specs.Stretches.{IsSeen, IsAlike, Shows, IsLayout, touches};
 ghost use Rattle.jv_slices.specs.declared.layout.Stretch.{Stretch as StretchSeen};
 
 use jv_model::Rec;
@@ -16,8 +16,11 @@ pub(crate) struct Stretch {
     pub(crate) seen: Option<Rec>,
 }
 
-/// What records show from one position to another, in as few stretches as there can be, laid out by those alone that touch these
-/// positions.
+/// Up to this many records are shown one by one, which takes one list. More are laid out by halves.
+const FEW: usize = 8;
+
+/// What records show from one position to another, in as few stretches as there can be. Where they are many, only those
+/// that touch these positions are laid out.
 pub(crate) fn show_range(
     alloc: Global,
     records: &[Rec],
@@ -28,6 +31,9 @@ pub(crate) fn show_range(
     requires rising { from ≤ to }
     ensures { IfOk result (λ stretches. IsLayout (visible records.now) from to stretches.items) }
 {
+    if records.len() <= FEW {
+        return lay_few(alloc, records, from, to);
+    }
     let near = touching(alloc, records, from, to)?;
     layout(alloc, &near, from, to)
 }
@@ -51,46 +57,56 @@ fn touches(from: u32, to: u32, part: Rec) -> bool
     part.pos < to && (from < part.pos || from - part.pos < part.len)
 }
 
-/// The same by all of these records. The two halves of the records are laid out each for itself, and then the later one over
-/// the earlier one, so that the time is that of a merge sort.
+/// The same by all of these records. Where they are many, the two halves are laid out each for itself, and then the
+/// later one over the earlier one, so that the time is that of a merge sort.
 fn layout(alloc: Global, records: &[Rec], from: u32, to: u32) -> Result<Vec<Stretch>, AllocError>
     requires records { All IsRecord records.now }
     requires rising { from ≤ to }
     ensures { IfOk result (λ stretches. IsLayout (visible records.now) from to stretches.items) }
 {
-    match records {
-        [] => lay_none(alloc, from, to),
-        [only] => lay_one(alloc, *only, from, to),
-        _ => {
-            let (earlier, later) = records.split_at(records.len() / 2);
-            let lower = layout(alloc, earlier, from, to)?;
-            let upper = layout(alloc, later, from, to)?;
-            lay_over(alloc, from, &lower, &upper)
-        }
+    if records.len() <= FEW {
+        return lay_few(alloc, records, from, to);
     }
+    let (earlier, later) = records.split_at(records.len() / 2);
+    let lower = layout(alloc, earlier, from, to)?;
+    let upper = layout(alloc, later, from, to)?;
+    lay_over(alloc, from, &lower, &upper)
 }
 
-fn lay_none(alloc: Global, from: u32, to: u32) -> Result<Vec<Stretch>, AllocError>
-    requires { from ≤ to }
-    ensures { IfOk result (λ stretches. IsLayout (visible []) from to stretches.items) }
-{
-    let mut stretches = Vec::new(alloc);
-    show(&mut stretches, from, to, None)?;
-    Ok(stretches)
-}
-
-fn lay_one(alloc: Global, only: Rec, from: u32, to: u32) -> Result<Vec<Stretch>, AllocError>
-    requires part { IsRecord only }
+fn lay_few(alloc: Global, records: &[Rec], from: u32, to: u32) -> Result<Vec<Stretch>, AllocError>
+    requires records { All IsRecord records.now }
     requires rising { from ≤ to }
-    ensures { IfOk result (λ stretches. IsLayout (visible (only ∷ [])) from to stretches.items) }
+    ensures { IfOk result (λ stretches. IsLayout (visible records.now) from to stretches.items) }
 {
-    let start = only.pos.clamp(from, to);
-    let end = (only.pos + only.len).clamp(from, to);
-    let mut stretches = Vec::new(alloc);
-    show(&mut stretches, from, start, None)?;
-    show(&mut stretches, start, end, Some(only))?;
-    show(&mut stretches, end, to, None)?;
+    let mut stretches = Vec::with_capacity(alloc, 2 * records.len() + 1)?;
+    show_records(&mut stretches, records, from, to)?;
     Ok(stretches)
+}
+
+/// Adds what records show from one position to another to stretches that end where these begin: what the last record
+/// shows, and what the others show before and behind it.
+fn show_records(
+    stretches: &mut Vec<Stretch>,
+    records: &[Rec],
+    from: u32,
+    to: u32,
+) -> Result<(), AllocError>
+    requires { All IsRecord records.now }
+    ensures { OnOk result ((all : ℕ → Option RecSeen) (start : ℕ) →
+        IsLayout all start from stretches.old.items → from ≤ to →
+        IsAlike all (visible records.now) from to → IsLayout all start to stretches.new.items) }
+{
+    if from >= to {
+        return Ok(());
+    }
+    let Some((last, before)) = records.split_last() else {
+        return show(stretches, from, to, None);
+    };
+    let start = last.pos.clamp(from, to);
+    let end = (last.pos + last.len).clamp(from, to);
+    show_records(stretches, before, from, start)?;
+    show(stretches, start, end, Some(*last))?;
+    show_records(stretches, before, end, to)
 }
 
 /// What the upper stretches see, and where they see nothing, what the lower ones see.
