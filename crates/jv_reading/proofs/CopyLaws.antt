@@ -1,5 +1,5 @@
 -- Laws of what is copied from a block.
-use Rattle.std.proofs.Common.{◌≡◌, ℕ, zero, suc, ◌+◌, ◌-◌, ◌<◌, ◌≤◌, Bool, true, false, List, [], ◌∷◌, ◌++◌, length, take, drop, get_or, slice_index, refl, sym, ap, ◌∙◌, ⊎_elim, ◌⊎◌, inl, inr, arith}
+use Rattle.std.proofs.Common.{◌≡◌, ℕ, zero, suc, ◌+◌, ◌-◌, ◌<◌, ◌≤◌, Bool, true, false, List, [], ◌∷◌, ◌++◌, length, take, drop, get_or, slice_index, refl, sym, ap, ◌∙◌, subst, ⊎_elim, ◌⊎◌, inl, inr, arith}
 use Rattle.std.specs.Prelude.{◌||◌, nat_le, nat_lt}
 use Rattle.std.specs.List.{between, list_any}
 use Rattle.std.proofs.lemmas.Bool.{cases_lt, and_parts, leb-true, ltb-true, false≢true}
@@ -81,19 +81,23 @@ module _ (byte : ℕ → ℕ) (bytes part block : List ℕ) (o : Overlap) (n : �
   }
 
 -- and one more
+pub copied_push : (byte : ℕ → ℕ) (overlaps : List Overlap) (o : Overlap) (before now after : List ℕ)
+    → length now ≡ length before → IsCopied byte overlaps before now → IsCopied byte (o ∷ []) now after → IsCopied byte (overlaps ++ o ∷ []) before after
+copied_push byte overlaps o before now after long first more = record {
+  kept = λ k below h. more.kept k (omega (arith, below, long)) (first.kept k below h);
+  copied = λ k below h.
+      let there : k < length now = omega (arith, below, long) in
+      ⊎_elim (λ (e : list_any (reaches k) overlaps ≡ true). more.kept k there (first.copied k below e))
+      (λ (e : list_any (reaches k) (o ∷ []) ≡ true). more.copied k there e)
+      (any_two (reaches k) overlaps o h);
+}
+
 pub copied_more : (byte : ℕ → ℕ) (overlaps : List Overlap) (i : ℕ) (d : Overlap) (before now after : List ℕ) → i < length overlaps
     → length now ≡ length before → IsCopied byte (take i overlaps) before now → IsCopied byte (get_or overlaps i d ∷ []) now after → IsCopied byte (take (i + 1) overlaps) before after
 copied_more byte overlaps i d before now after inside long first more =
     let o : Overlap = get_or overlaps i d in
-    let front : take (i + 1) overlaps ≡ take i overlaps ++ o ∷ [] = take_more overlaps i d inside in
-    record {
-      kept = λ k below h. more.kept k (omega (arith, below, long)) (first.kept k below h);
-      copied = λ k below h.
-          let there : k < length now = omega (arith, below, long) in
-          ⊎_elim (λ (e : list_any (reaches k) (take i overlaps) ≡ true). more.kept k there (first.copied k below e))
-          (λ (e : list_any (reaches k) (o ∷ []) ≡ true). more.copied k there e)
-          (any_two (reaches k) (take i overlaps) o (sym (ap (list_any (reaches k)) front) ∙ h));
-    }
+    subst (λ (os : List Overlap). IsCopied byte os before after) (sym (take_more overlaps i d inside))
+    (copied_push byte (take i overlaps) o before now after long first more)
 
 pub copied_none : (byte : ℕ → ℕ) (bytes : List ℕ) → IsCopied byte [] bytes bytes
 copied_none byte bytes = record { kept = λ k below h. h; copied = λ k below h. absurd (false≢true h) }

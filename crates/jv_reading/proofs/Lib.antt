@@ -1,4 +1,5 @@
 -- Lemmas.
 pub mod CopyLaws
+pub mod FewLaws
 pub mod OverlapLaws
 pub mod PartLaws

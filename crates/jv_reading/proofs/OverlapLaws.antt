@@ -21,7 +21,7 @@ use Rattle.jv_slices.proofs.ListingLaws.{then_eq, is_eq_nat, and_assoc}
 use Rattle.jv_slices.proofs.NeedLaws.{equal_if_same, same_self}
 use Rattle.jv_reading.specs.declared.table.BlockKey.{BlockKey}
 use Rattle.jv_reading.specs.declared.copying.Overlap.{Overlap}
-use Rattle.jv_reading.specs.Overlaps.{BeginsBy, HasOverlaps, IsByteOf, IsListed, IsOverlap, Overlaps, ShowsPiece, Table, key_cmp, key_of, or_none, overlaps_at, reaches, with_overlap}
+use Rattle.jv_reading.specs.Overlaps.{BeginsBy, HasOverlaps, IsByteOf, IsListed, IsOverlap, Entries, Overlaps, ShowsPiece, key_cmp, key_of, or_none, overlaps_under, reaches, with_overlap}
 
 -- the table's order takes blocks as equal exactly where they are the same
 pub same_at : (a b : BlockId) → is_at (key_cmp (key_of a)) (key_of b) ≡ is_same_block a b
@@ -34,20 +34,20 @@ pub with_own : (t : Overlaps) (b : BlockId) (o : Overlap) → with_overlap t b o
 with_own t b o = rw (same_self b) refl
 
 -- a block's overlaps were taken out, and put back with one more
-pub put_back : (before without after : Table) (block : BlockId) (o : Overlap) (v : Vec Overlap) → v.items ≡ overlaps_at before block ++ o ∷ []
+pub put_back : (before without after : Entries) (block : BlockId) (o : Overlap) (v : Vec Overlap) → v.items ≡ overlaps_under before block ++ o ∷ []
     → ((q : BlockKey) → lookup (is_at (key_cmp q)) without ≡ cond (is_at (key_cmp (key_of block)) q) None (lookup (is_at (key_cmp q)) before))
     → ((q : BlockKey) → lookup (is_at (key_cmp q)) after ≡ cond (is_at (key_cmp (key_of block)) q) (Some v) (lookup (is_at (key_cmp q)) without))
-    → (b : BlockId) → overlaps_at after b ≡ with_overlap (overlaps_at before) block o b
+    → (b : BlockId) → overlaps_under after b ≡ with_overlap (overlaps_under before) block o b
 put_back before without after block o v is taken put b =
-    let there : overlaps_at after b ≡ or_none (cond (is_same_block block b) (Some v) (lookup (is_at (key_cmp (key_of b))) without)) =
+    let there : overlaps_under after b ≡ or_none (cond (is_same_block block b) (Some v) (lookup (is_at (key_cmp (key_of b))) without)) =
     ap or_none (put (key_of b)) ∙ ap (λ (x : Bool). or_none (cond x (Some v) (lookup (is_at (key_cmp (key_of b))) without))) (same_at block b) in
     let gone : lookup (is_at (key_cmp (key_of b))) without ≡ cond (is_same_block block b) None (lookup (is_at (key_cmp (key_of b))) before) =
     taken (key_of b) ∙ ap (λ (x : Bool). cond x None (lookup (is_at (key_cmp (key_of b))) before)) (same_at block b) in
     there ∙ go (is_same_block block b) refl gone
   where
     go : (same : Bool) → is_same_block block b ≡ same → lookup (is_at (key_cmp (key_of b))) without ≡ cond same None (lookup (is_at (key_cmp (key_of b))) before)
-        → or_none (cond same (Some v) (lookup (is_at (key_cmp (key_of b))) without)) ≡ cond same (overlaps_at before b ++ o ∷ []) (overlaps_at before b)
-    go true e gone = is ∙ ap (λ (x : BlockId). overlaps_at before x ++ o ∷ []) (equal_if_same block b e)
+        → or_none (cond same (Some v) (lookup (is_at (key_cmp (key_of b))) without)) ≡ cond same (overlaps_under before b ++ o ∷ []) (overlaps_under before b)
+    go true e gone = is ∙ ap (λ (x : BlockId). overlaps_under before x ++ o ∷ []) (equal_if_same block b e)
     go false e gone = ap or_none gone
 
 -- what was in a list is in a longer one

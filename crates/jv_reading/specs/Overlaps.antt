@@ -1,6 +1,6 @@
 -- Where the bytes of blocks are shown in a part of a window. Positions are counted from the part's first.
 use Rattle.std.specs.Prelude.{◌≡◌, ℕ, ◌+◌, ◌/◌, ◌%◌, ◌<◌, ◌≤◌, Bool, true, ◌&&◌, nat_le, nat_lt, List, [], ◌∷◌, ◌++◌, if◌then◌else◌, Option, None, Some, All}
-use Rattle.std.specs.List.{list_any}
+use Rattle.std.specs.List.{filter_map, list_any}
 use Rattle.std.specs.Global.{Vec}
 use Rattle.std.specs.declared.cmp.Ordering.{Ordering}
 use Rattle.std.specs.Ordering.{nat_cmp, ordering_then}
@@ -13,6 +13,9 @@ use Rattle.jv_model.specs.declared.slice.Spot.TheVariants.{Zero, Slice}
 use Rattle.jv_model.specs.blocks.Slices.{block_at, is_same_block, place_after}
 use Rattle.jv_reading.specs.declared.table.BlockKey.{BlockKey}
 use Rattle.jv_reading.specs.declared.copying.Overlap.{Overlap}
+use Rattle.jv_reading.specs.declared.copying.Shown.{Shown}
+use Rattle.jv_reading.specs.declared.table.Table.{Table}
+use Rattle.jv_reading.specs.declared.table.Table.TheVariants.{Few, Many}
 
 abbrev pub key_of : BlockId → BlockKey
 key_of b = record { id = b.id; index = b.index; size = b.size }
@@ -25,12 +28,23 @@ abbrev pub or_none : Option (Vec Overlap) → List Overlap
 or_none None = []
 or_none (Some overlaps) = overlaps.items
 
--- the overlaps of a block by a table, and by a function
-abbrev pub Table : Type 0
-Table = List (BlockKey × Vec Overlap)
+-- the overlap that is shown, if the block is this one
+abbrev pub shown_of : BlockId → Shown → Option Overlap
+shown_of b shown = (if is_same_block shown.block b then Some shown.overlap else None)
+
+-- the overlaps of a block: by a few, in their order, by many under their keys, by a table, and by a function
+abbrev pub overlaps_in : List Shown → BlockId → List Overlap
+overlaps_in few b = filter_map (shown_of b) few
+
+abbrev pub Entries : Type 0
+Entries = List (BlockKey × Vec Overlap)
+
+abbrev pub overlaps_under : Entries → BlockId → List Overlap
+overlaps_under many b = or_none (lookup (is_at (key_cmp (key_of b))) many)
 
 abbrev pub overlaps_at : Table → BlockId → List Overlap
-overlaps_at table b = or_none (lookup (is_at (key_cmp (key_of b))) table)
+overlaps_at (Few few) b = overlaps_in few.items b
+overlaps_at (Many many) b = overlaps_under many.entries b
 
 abbrev pub Overlaps : Type 0
 Overlaps = BlockId → List Overlap

@@ -1,6 +1,9 @@
 //! Bytes copied from a block to the positions that show them.
 ghost use Rattle.std.specs.Prelude.{ℕ, [], ◌∷◌, length, All};
 ghost use Rattle.jv_reading.specs.Copies.{Fits, HasBytes, IsCopied};
+ghost use Rattle.jv_reading.specs.Overlaps.{overlaps_in};
+
+use jv_model::BlockId;
 
 /// Positions in a row of a part that show bytes in a row of a block.
 #[derive(Clone, Copy, Debug, Drop, PartialEq, Eq)]
@@ -11,6 +14,26 @@ pub(crate) struct Overlap {
     pub(crate) place: u32,
     /// How many positions.
     pub(crate) len: u32,
+}
+
+/// An overlap, and the block whose bytes it shows.
+#[derive(Clone, Copy, Debug, Drop, PartialEq, Eq)]
+pub(crate) struct Shown {
+    pub(crate) block: BlockId,
+    pub(crate) overlap: Overlap,
+}
+
+/// Copies the bytes of a block, `id`, to those of a few overlaps that are its own.
+pub(crate) fn copy_few(bytes: &mut [u8], few: &[Shown], id: BlockId, block: &[u8])
+    requires { All (Fits (length block.now) (length bytes.old)) (overlaps_in few.now id) }
+    ensures { (byte : ℕ → ℕ) → All (HasBytes byte block.now) (overlaps_in few.now id) →
+        IsCopied byte (overlaps_in few.now id) bytes.old bytes.new }
+{
+    for shown in few {
+        if shown.block == id {
+            copy_overlap(bytes, shown.overlap, block);
+        }
+    }
 }
 
 /// Copies the bytes of a block to all its overlaps with a part.

@@ -6,8 +6,7 @@ ghost use Rattle.jv_model.specs.journal.Reading.{bytes_from};
 ghost use Rattle.jv_contents.specs.Bytes.{Told};
 ghost use Rattle.jv_reading.specs.Parts.{IsPartOf, IsNamed, FillsIn, ReadsAs, window_byte};
 
-use crate::copying::copy_overlaps;
-use crate::table::{Table, overlaps_of, table_of};
+use crate::table::{Table, copy_shown, table_of};
 use jv_model::{BlockId, Bytes, List};
 use jv_slices::{needs, plan};
 use std::alloc::{AllocError, Global};
@@ -95,7 +94,7 @@ impl WindowRead {
         ensures reads { FillsIn bytes.now self.old self.new }
     {
         let block = self.needed[self.filled];
-        copy_overlaps(&mut self.bytes, overlaps_of(&self.table, block), bytes);
+        copy_shown(&self.table, block, &mut self.bytes, bytes);
         self.filled += 1;
     }
 

@@ -10,7 +10,7 @@ use Rattle.jv_reading.proofs.table.add_piece.Goals as goal
 
 pub returns-in_default : goal.returns-in_default
 returns-in_default c = λ places len shows fits h.
-    has_zeros c.args.block places len (overlaps_at c.args.table.now.entries) c.args.start (c.args.start + c.args.piece.len) h
+    has_zeros c.args.block places len (overlaps_at c.args.table.now) c.args.start (c.args.start + c.args.piece.len) h
     (λ n low high.
     let k : ℕ = n - c.args.start in
     let place : n ≡ c.args.start + k = omega (arith, low) in
@@ -36,7 +36,7 @@ loop-done-preserved c =
     record {
       within = part;
       has = λ places len shows fits h.
-          has_more block places len (overlaps_at c.loop-done.table.entries) (overlaps_at c.add_overlap.new.table.entries) b o c.in_ok-add_overlap.ensures
+          has_more block places len (overlaps_at c.loop-done.table) (overlaps_at c.add_overlap.new.table) b o c.in_ok-add_overlap.ensures
           (c.args.start + done) (c.args.start + (done + count)) (c.loop-done.invariant.has places len shows fits h)
           (slice_overlap block places len c.args.start c.args.piece id size at done count b c.in-Slice.is inside is shows fits part small)
           refl (omega arith);
@@ -45,4 +45,4 @@ loop-done-preserved c =
 pub returns : goal.returns
 returns c = λ places len shows fits h.
     let all : c.loop-done.done ≡ c.args.piece.len = omega (arith, c.loop-done.invariant.within) in
-    subst (λ (n : ℕ). HasOverlaps c.args.block places len (c.args.start + n) (overlaps_at c.loop-done.table.entries)) all (c.loop-done.invariant.has places len shows fits h)
+    subst (λ (n : ℕ). HasOverlaps c.args.block places len (c.args.start + n) (overlaps_at c.loop-done.table)) all (c.loop-done.invariant.has places len shows fits h)

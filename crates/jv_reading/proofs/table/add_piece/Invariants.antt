@@ -7,8 +7,8 @@ abbrev pub invariant-loop-done : goal.invariant-loop-done
 invariant-loop-done l = record {
   within : l.done ≤ l.piece.len;
   has : (places : ℕ → Spot) (len : ℕ) → ShowsPiece places l.start l.piece → l.start + l.piece.len ≤ len
-      → HasOverlaps l.block places len l.start (overlaps_at l.initial.table.entries)
-      → HasOverlaps l.block places len (l.start + l.done) (overlaps_at l.table.entries);
+      → HasOverlaps l.block places len l.start (overlaps_at l.initial.table)
+      → HasOverlaps l.block places len (l.start + l.done) (overlaps_at l.table);
 }
 
 abbrev pub decreases-loop-done : goal.decreases-loop-done

@@ -8,9 +8,9 @@ use Rattle.jv_reading.proofs.table.overlaps_of.Goals as goal
 pub returns-in-Some : goal.returns-in-Some
 returns-in-Some c =
     c.as_slice.ensures.value ∙ ap or_none c.in-Some.ensures.value
-    ∙ ap (λ (key : BlockKey). or_none (lookup (is_at (key_cmp key)) c.args.table.now.entries)) c.key_of.ensures
+    ∙ ap (λ (key : BlockKey). or_none (lookup (is_at (key_cmp key)) c.args.many.now.entries)) c.key_of.ensures
 
 pub returns-in-None : goal.returns-in-None
 returns-in-None c =
     ap or_none c.in-None.ensures.value
-    ∙ ap (λ (key : BlockKey). or_none (lookup (is_at (key_cmp key)) c.args.table.now.entries)) c.key_of.ensures
+    ∙ ap (λ (key : BlockKey). or_none (lookup (is_at (key_cmp key)) c.args.many.now.entries)) c.key_of.ensures

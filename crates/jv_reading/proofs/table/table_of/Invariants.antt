@@ -8,4 +8,4 @@ use Rattle.jv_reading.proofs.table.table_of.Given as goal
 
 abbrev pub invariant-loop-piece : goal.invariant-loop-piece
 invariant-loop-piece l = (list : List Rec) → IsPlan list l.from l.to l.piece-items → All (IsAsStored list) l.piece-items
-    → IsLaid list l.from l.to l.block (drop l.piece-index l.piece-items) (overlaps_at l.table.entries)
+    → IsLaid list l.from l.to l.block (drop l.piece-index l.piece-items) (overlaps_at l.table)

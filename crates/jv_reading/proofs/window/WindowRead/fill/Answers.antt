@@ -5,13 +5,13 @@ use Rattle.jv_model.specs.declared.slice.BlockId.{BlockId}
 use Rattle.jv_model.specs.blocks.Slices.{stored_place}
 use Rattle.jv_reading.specs.declared.copying.Overlap.{Overlap}
 use Rattle.jv_reading.specs.Copies.{Fits, HasBytes, IsCopied}
-use Rattle.jv_reading.specs.Overlaps.{IsOverlap, overlaps_at}
+use Rattle.jv_reading.specs.Overlaps.{overlaps_at}
 use Rattle.jv_reading.specs.Parts.{IsToldOf, Part, ReadsAs}
 use Rattle.jv_reading.proofs.PartLaws.{fill_reads, next_below, next_has, overlaps_fit}
 use Rattle.jv_reading.proofs.window.WindowRead.fill.Goals as goal
 
-pub copy_overlaps-requires : goal.copy_overlaps-requires
-copy_overlaps-requires c =
+pub copy_shown-requires : goal.copy_shown-requires
+copy_shown-requires c =
     let w = c.self.inside in
     let b = c.index-block.result.now in
     let len : ℕ = w.to - w.from in
@@ -19,27 +19,24 @@ copy_overlaps-requires c =
     let asks : Part → Type 0 = λ p. IsSomeAnd (slice_get p.left 0) (λ (q : BlockId). length c.args.bytes.now ≡ q.size) in
     let long : length c.args.bytes.now ≡ b.size =
     next_has w.needed.items w.filled b (λ (q : BlockId). length c.args.bytes.now ≡ q.size) c.index-block.ensures (subst asks (sym c.self.view_is) c.requires) in
-    let own : All (IsOverlap w.block places len b) c.overlaps_of.result.now =
-    subst (λ (os : List Overlap). All (IsOverlap w.block places len b) os) (sym c.overlaps_of.ensures) (c.self.invariant.has.each b) in
     let whole : len ≡ length c.deref_mut.result.now = sym c.self.invariant.long ∙ ap (length {A = ℕ}) (sym c.deref_mut.ensures.value) in
-    subst (λ (n : ℕ). All (Fits (length c.args.bytes.now) n) c.overlaps_of.result.now) whole
-    (overlaps_fit w.block places b len (length c.args.bytes.now) c.overlaps_of.result.now long own)
+    subst (λ (n : ℕ). All (Fits (length c.args.bytes.now) n) (overlaps_at w.table b)) whole
+    (overlaps_fit w.block places b len (length c.args.bytes.now) (overlaps_at w.table b) long (c.self.invariant.has.each b))
 
 pub returns-clause-reads : goal.returns-clause-reads
 returns-clause-reads c = λ told is_told reads.
     let w = c.self.inside in
     let b = c.index-block.result.now in
-    let after = c.copy_overlaps.new.bytes in
+    let after = c.copy_shown.new.part in
     let asks : Part → Type 0 = λ p. IsSomeAnd (slice_get p.left 0) (λ (q : BlockId). length c.args.bytes.now ≡ q.size) in
     let below = next_below w.needed.items w.filled (λ (q : BlockId). length c.args.bytes.now ≡ q.size) (subst asks (sym c.self.view_is) c.requires) in
     let is_told' = subst (λ (p : Part). IfSome (slice_get p.left 0) (IsToldOf told p.block c.args.bytes.now)) (sym c.self.view_is) is_told in
     let reads' = subst (λ (p : Part). ReadsAs told p) (sym c.self.view_is) reads in
-    let copied : (byte : ℕ → ℕ) → All (HasBytes byte c.args.bytes.now) (overlaps_at w.table.entries b) → IsCopied byte (overlaps_at w.table.entries b) w.bytes.items after =
+    let copied : (byte : ℕ → ℕ) → All (HasBytes byte c.args.bytes.now) (overlaps_at w.table b) → IsCopied byte (overlaps_at w.table b) w.bytes.items after =
     let C : List Overlap → List ℕ → Type 0 = λ os xs. (byte : ℕ → ℕ) → All (HasBytes byte c.args.bytes.now) os → IsCopied byte os xs after in
-    subst (λ (xs : List ℕ). C (overlaps_at w.table.entries b) xs) c.deref_mut.ensures.value
-    (subst (λ (os : List Overlap). C os c.deref_mut.result.now) c.overlaps_of.ensures c.copy_overlaps.ensures) in
-    let kept : length after ≡ w.bytes.len = c.copy_overlaps.auto.bytes ∙ c.deref_mut.ensures.len in
+    subst (λ (xs : List ℕ). C (overlaps_at w.table b) xs) c.deref_mut.ensures.value c.copy_shown.ensures in
+    let kept : length after ≡ w.bytes.len = c.copy_shown.auto.part ∙ c.deref_mut.ensures.len in
     let with_bytes : List ℕ → Part = λ xs. record { list = w.list.value; from = w.from; to = w.to; block = w.block; left = drop (w.filled + 1) w.needed.items; bytes = xs } in
     subst (λ (xs : List ℕ). ReadsAs told (with_bytes xs)) (sym (with_items_is w.bytes after kept))
-    (fill_reads told w.list.value w.from w.to w.block w.needed.items w.filled b c.args.bytes.now w.bytes.items after (overlaps_at w.table.entries)
+    (fill_reads told w.list.value w.from w.to w.block w.needed.items w.filled b c.args.bytes.now w.bytes.items after (overlaps_at w.table)
     c.index-block.ensures below c.self.invariant.has copied c.self.invariant.long is_told' reads')

@@ -29,7 +29,7 @@ invariant_of-result c =
     record {
       long = c.in_ok-bytes.ensures.length;
       named = subst (λ (records : List Rec). All (IsNamed records block) c.into_vec-needed.result.items) seen named';
-      has = subst (λ (records : List Rec). HasOverlaps block (λ n. stored_place records (from + n)) (to - from) (to - from) (overlaps_at c.in_ok-table.table.entries)) seen
+      has = subst (λ (records : List Rec). HasOverlaps block (λ n. stored_place records (from + n)) (to - from) (to - from) (overlaps_at c.in_ok-table.table)) seen
           (c.in_ok-table.ensures list c.in_ok-pieces.ensures.plan c.in_ok-pieces.ensures.says);
     }
 
