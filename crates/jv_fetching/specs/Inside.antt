@@ -44,7 +44,12 @@ reads_of (Some first) None = first ∷ []
 reads_of (Some first) (Some second) = first ∷ second ∷ []
 
 abbrev pub fetching_of : Inside → Fetching
-fetching_of f = record { block = f.block; parts = parts_of f.parts; begun = f.begun; read = reads_of f.first f.second }
+fetching_of f = let course = f.course.value in record {
+  block = f.block;
+  parts = parts_of course.parts;
+  begun = course.begun;
+  read = reads_of course.first course.second;
+}
 
 -- a part lies in its window
 pub record IsWithin (asked : Asked) : Type 0 where
@@ -56,10 +61,10 @@ pub record IsWithin (asked : Asked) : Type 0 where
 -- first
 pub record IsSound (f : Inside) : Type 0 where
   pub wide : 0 < f.block
-  pub in_order : f.first ≡ None → f.second ≡ None
-  pub within : AllByRecursion IsWithin (parts_of f.parts)
-  pub few : length (reads_of f.first f.second) + length (parts_of f.parts) ≤ 2
-  pub some : IfSome f.begun (λ begun. 1 ≤ length (parts_of f.parts))
+  pub in_order : f.course.value.first ≡ None → f.course.value.second ≡ None
+  pub within : AllByRecursion IsWithin (parts_of f.course.value.parts)
+  pub few : length (reads_of f.course.value.first f.course.value.second) + length (parts_of f.course.value.parts) ≤ 2
+  pub some : IfSome f.course.value.begun (λ begun. 1 ≤ length (parts_of f.course.value.parts))
 
 -- ---- a part begins
 

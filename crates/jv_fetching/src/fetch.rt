@@ -13,20 +13,26 @@ use jv_model::{BlockId, Bytes};
 use std::alloc::{AllocError, Global};
 use std::marker::Model;
 
-/// A reading of a range of at most a window's length, which touches at most two windows. It goes from left to right;
-/// where the file ends inside a part, the part after it isn't read. Its memory is that of the bytes read and of one
-/// window's pieces.
+/// How far a reading is.
 #[derive(Drop)]
-pub struct Fetch {
-    alloc: Global,
-    /// The length of the volume's blocks.
-    block: u32,
+struct Course {
     /// The parts that aren't read yet.
     parts: Spans,
     /// The first of them, once it has begun.
     begun: Option<Begun>,
     first: Option<Read>,
     second: Option<Read>,
+}
+
+/// A reading of a range of at most a window's length, which touches at most two windows. It goes from left to right;
+/// where the file ends inside a part, the part after it isn't read. Its memory is that of the bytes read and of one
+/// window's pieces. A box has how far it is: the operation that it is a part of moves at each step, and most read nothing.
+#[derive(Drop)]
+pub struct Fetch {
+    alloc: Global,
+    /// The length of the volume's blocks.
+    block: u32,
+    course: Box<Course>,
 }
 
 impl Model for Fetch {
@@ -52,21 +58,24 @@ impl Fetch {
     ghost use Rattle.jv_fetching.specs.Inside.{FillsBegun, FitsNext, GoesOn, GoesTo, StartsFrom, Stops, ended};
 
     /// The reading of `len` bytes from `offset` on, 1 to 67,108,864 of them, over a volume whose blocks have `block`
-    /// bytes, at least 1. Nothing is read yet. Takes no memory.
-    pub fn new(alloc: Global, offset: u64, len: u32, block: u32) -> Fetch
+    /// bytes, at least 1. Nothing is read yet.
+    pub fn new(alloc: Global, offset: u64, len: u32, block: u32) -> Result<Fetch, AllocError>
         requires some { 0 < block }
         requires low { offset < FILE_END }
         requires len { (0 < len) × (len ≤ WINDOW) }
-        ensures { result ≡ begins block (asked_parts offset len) }
+        ensures { IfOk result (λ fetch. fetch ≡ begins block (asked_parts offset len)) }
     {
-        Fetch {
-            alloc,
-            block,
+        let course = Course {
             parts: spans_of(offset, len),
             begun: None,
             first: None,
             second: None,
-        }
+        };
+        Ok(Fetch {
+            alloc,
+            block,
+            course: Box::new(alloc, course)?,
+        })
     }
 
     /// Goes on as far as views and cached blocks reach, and returns what it needs then: a look at the window of the
@@ -122,9 +131,9 @@ impl Fetch {
         ensures taken { self.new ≡ record self.old { begun = None } }
         ensures starts { IfOk result (StartsFrom views.now self.old) }
     {
-        match self.begun.take() {
+        match self.course.begun.take() {
             Some(begun) => Ok(Start::Begun(begun)),
-            None => begin_first(self.alloc, self.block, &self.parts, views),
+            None => begin_first(self.alloc, self.block, &self.course.parts, views),
         }
     }
 
@@ -136,7 +145,7 @@ impl Fetch {
         let mut begun = begun;
         match fill_cached(&mut begun.part, cache) {
             Some(block) => {
-                self.begun = Some(begun);
+                self.wait(begun);
                 Some(Need::Block(block))
             }
             None => {
@@ -147,18 +156,27 @@ impl Fetch {
         }
     }
 
+    /// Keeps the first of the parts, which waits for a block.
+    fn wait(&mut self, begun: Begun)
+        requires { 1 ≤ length self.old.parts }
+        ensures { self.new ≡ record self.old { begun = Some begun } }
+    {
+        self.course.begun = Some(begun);
+    }
+
     /// Keeps the bytes of the first of the parts. Where the file has all of them, the other part is next.
     fn end(&mut self, entry: u64, is_full: bool, bytes: Bytes)
         requires { 1 ≤ length self.old.parts }
         ensures { self.new ≡ ended entry is_full bytes self.old }
     {
-        self.begun = None;
-        self.parts = after(self.parts, is_full);
+        let course = &mut *self.course;
+        course.begun = None;
+        course.parts = after(course.parts, is_full);
         let read = Some(Read { entry, bytes });
-        if self.first.is_none() {
-            self.first = read;
+        if course.first.is_none() {
+            course.first = read;
         } else {
-            self.second = read;
+            course.second = read;
         }
     }
 
@@ -184,11 +202,11 @@ impl Fetch {
         requires { FitsNext bytes.now self.old.begun }
         ensures { FillsBegun bytes.now self.old self.new }
     {
-        match self.begun.take() {
+        match self.course.begun.take() {
             Some(begun) => {
                 let mut begun = begun;
                 begun.part.fill(bytes);
-                self.begun = Some(begun);
+                self.course.begun = Some(begun);
             }
             None => unreachable!(),
         }
@@ -201,10 +219,8 @@ impl Fetch {
         ensures parts { IfOk result (λ parts. parts ≡ fetched_of self) }
         ensures moved { length self.read ≤ 1 → IsOk result }
     {
-        let alloc = self.alloc;
-        let first = self.first;
-        let second = self.second;
-        parts_read(alloc, first, second)
+        let course = Box::into_inner(self.course);
+        parts_read(self.alloc, course.first, course.second)
     }
 }
 

@@ -1,7 +1,6 @@
-use Rattle.std.proofs.Common.{Option, ap, subst}
+use Rattle.std.proofs.Common.{Option, subst}
 use Rattle.jv_model.specs.declared.slice.BlockId.{BlockId}
-use Rattle.jv_fetching.specs.Fetching.{Fetching}
-use Rattle.jv_fetching.specs.Inside.{FillsUp, Waits, Ended, waiting}
+use Rattle.jv_fetching.specs.Inside.{FillsUp, Waits, Ended}
 use Rattle.jv_fetching.proofs.fetch.Fetch.go_on.Goals as goal
 
 pub returns-in-Some : goal.returns-in-Some
@@ -9,7 +8,7 @@ returns-in-Some c =
     let part = c.fill_cached.new.part in
     let missed = subst (λ (o : Option BlockId). FillsUp c.args.cache.now c.fill_cached.new.cache c.args.begun.part part
     o) c.in-Some.is c.fill_cached.ensures in
-    Waits part c.in-Some.block missed (ap (λ (f : Fetching). waiting c.args.begun part f) c.self.view_is)
+    Waits part c.in-Some.block missed c.wait.ensures
 
 pub returns-in-None : goal.returns-in-None
 returns-in-None c =
