@@ -100,7 +100,7 @@ fn is_as_wanted(bytes: &[u8], from: u64) -> bool
 fn read(alloc: Global, length: u64, cache: &mut BlockCache) -> Result<Run, AllocError> {
     let mut views = Views::new(alloc);
     let mut asked = Vec::new(alloc);
-    let mut fetch = Fetch::new(alloc, WINDOW - 100, 200, BLOCK);
+    let mut fetch = Fetch::new(alloc, WINDOW - 100, 200, BLOCK)?;
     for _ in 0..16 {
         let need = fetch.advance(&views, cache)?;
         asked.push(need)?;
