@@ -209,10 +209,14 @@ fn cache_numbers(cache: &Option<BlockCache>) -> (u64, u64, u64)
     }
 }
 
-/// The first handle that an operation names, 0 where it names none.
+/// The first handle that an operation names, 0 where it names none. A read asks at each of its steps, so it is found without
+/// the whole profile.
 pub(crate) fn handle_of(op: &Op) -> u64
     ensures { result ≡ handle_of op.now }
 {
+    if let Op::Read { handle, .. } = op {
+        return *handle;
+    }
     match op.profile().handles {
         Handles::None => 0,
         Handles::One(handle) => handle,

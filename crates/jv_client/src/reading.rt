@@ -50,8 +50,8 @@ enum Ahead {
 }
 
 impl Client {
-    /// Makes the next request of a reading, whose file has nothing pending, or answers where it wants none.
-    pub(crate) fn read_on<K: Keeper, D: Depot, H: Shelf>(
+    /// Begins a reading, whose file has nothing pending: makes its first request, or answers where it wants none.
+    pub(crate) fn read<K: Keeper, D: Depot, H: Shelf>(
         &mut self,
         offset: u64,
         len: u32,
@@ -62,6 +62,7 @@ impl Client {
         requires reads { does_of self.old.doing ≡ Some (Reads offset len) }
         requires ready { IsReady self.old }
         requires flushed { left self.old ≡ None }
+        requires first { need_in self.old.doing ≡ None }
         requires block { let seen = ⟦<Yard<D, H> as ObservedYard>⟧.seen in
             IsLength (seen yard.old).setting.block }
         ensures { let seen = ⟦<Yard<D, H> as ObservedYard>⟧.seen in
@@ -69,9 +70,6 @@ impl Client {
             (shared (K.seen k.old) (seen yard.old) carrier)
             (shared (K.seen k.new) (seen yard.new) carrier) result }
     {
-        if let Some(need) = self.need() {
-            return self.ask(need, k, yard, entry);
-        }
         match self.begin_reading(offset, len, yard.setting().block) {
             Ok(Some(found)) => self.show(None, found),
             Ok(None) => match self.need() {
@@ -83,7 +81,7 @@ impl Client {
     }
 
     /// What a reading that has begun needs next.
-    fn need(&self) -> Option<Need>
+    pub(crate) fn need(&self) -> Option<Need>
         ensures { result ≡ need_in self.now.doing }
     {
         match &self.doing {
@@ -93,7 +91,7 @@ impl Client {
     }
 
     /// Asks for what a reading needs.
-    fn ask<K: Keeper, D: Depot, H: Shelf>(
+    pub(crate) fn ask<K: Keeper, D: Depot, H: Shelf>(
         &mut self,
         need: Need,
         k: &mut K,
@@ -133,8 +131,9 @@ impl Client {
         ensures ok { IfOk result (Begins offset len block self.old self.new) }
         ensures err { OnErr result (IsCachedAs self.old self.new) }
     {
+        let fetch = Fetch::new(self.alloc, offset, len, block)?;
         make_cache(self.alloc, self.limits.entries, &mut self.cache)?;
-        match self.ahead(Fetch::new(self.alloc, offset, len, block))? {
+        match self.ahead(fetch)? {
             Ahead::Read(found) => Ok(Some(found)),
             Ahead::Needs(fetch, need) => {
                 read_from(&mut self.doing, fetch, need);

@@ -62,13 +62,16 @@ impl Client {
             (shared (K.seen k.old) (seen yard.old) ((way carrier.old.0).seen carrier.old.1))
             (shared (K.seen k.new) (seen yard.new) ((way carrier.new.0).seen carrier.new.1)) result }
     {
+        if let Some(need) = self.need() {
+            return self.ask(need, k, yard, entry);
+        }
         if let Some(at) = self.segment_left() {
             return self.flush_on(at, k, yard, carrier, now);
         }
         match self.does() {
             Does::Mounts(_) | Does::Transacts => self.transact(k, now, entry),
             Does::Releases => self.close(k, now, entry),
-            Does::Reads(offset, len) => self.read_on(offset, len, k, yard, entry),
+            Does::Reads(offset, len) => self.read(offset, len, k, yard, entry),
             Does::Truncates | Does::Copies => self.change(k, now),
             Does::Answers(Answer::Count(_)) => self.write(),
             Does::Answers(Answer::CacheStats) => self.tell_stats(),

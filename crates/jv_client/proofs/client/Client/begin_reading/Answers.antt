@@ -8,13 +8,16 @@ use Rattle.jv_client.specs.Reading.{IsCachedAs, IsMade, put_at}
 use Rattle.jv_client.proofs.ReadingLaws.{ahead-cached, begins-none, begins-some, on_err, same-cached}
 use Rattle.jv_client.proofs.client.Client.begin_reading.Goals as goal
 
+pub returns-in_err-fetch-clause-err : goal.returns-in_err-fetch-clause-err
+returns-in_err-fetch-clause-err c = on_err c.from_residual.result _ (same-cached c.args.self.now)
+
 pub returns-in_err-make_cache-clause-err : goal.returns-in_err-make_cache-clause-err
 returns-in_err-make_cache-clause-err c =
     let h : ClientValue = c.args.self.now in
     let none = c.in_err-make_cache.ensures.err in
     let is : record h { cache = c.make_cache.new.cache } ≡ h =
     ap (λ (cache : Option Cached). record h { cache = cache }) (none ∙ ap (λ (h : ClientValue). h.cache) c.self.view_is) in
-    on_err c.from_residual.result _
+    on_err c.from_residual-in_err-make_cache.result _
     (subst (λ (after : ClientValue). IsCachedAs h after)
     (sym (ap (λ (h : ClientValue). record h { cache = c.make_cache.new.cache }) c.self.view_is ∙ is)) (same-cached h))
 
@@ -22,7 +25,7 @@ pub returns-in_err-found-clause-err : goal.returns-in_err-found-clause-err
 returns-in_err-found-clause-err c =
     let made = c.make_cache.new.cache in
     on_err c.from_residual-in_err-found.result _
-    (ahead-cached c.args.self.now _ c.ahead-2.new.self made
+    (ahead-cached c.args.self.now _ c.ahead.new.self made
     (subst (λ (o : Option Cached). IsMade o made) (ap (λ (h : ClientValue). h.cache) c.self.view_is)
     c.in_ok-make_cache.ensures.made)
     (ap (λ (h : ClientValue). record h { cache = made }) c.self.view_is) c.in_err-found.ensures.looks)
@@ -30,22 +33,22 @@ returns-in_err-found-clause-err c =
 pub returns-in-Read-clause-ok : goal.returns-in-Read-clause-ok
 returns-in-Read-clause-ok c =
     let made = c.make_cache.new.cache in
-    begins-some c.args.self.now _ c.ahead-2.new.self made
+    begins-some c.args.self.now _ c.ahead.new.self made
     (subst (λ (o : Option Cached). IsMade o made) (ap (λ (h : ClientValue). h.cache) c.self.view_is)
     c.in_ok-make_cache.ensures.made)
     (ap (λ (h : ClientValue). record h { cache = made }) c.self.view_is) c.in_ok-found.ensures.looks
     c.args.offset c.args.len c.args.block c.requires.reads c.requires.ready c.requires.flushed c.requires.first
-    c.new.result c.in_ok-found.field-0 c.in-Read.found c.new.ensures c.in-Read.is c.in_ok-found.ensures.comes
+    c.in_ok-fetch.fetch c.in_ok-found.field-0 c.in-Read.found c.in_ok-fetch.ensures c.in-Read.is c.in_ok-found.ensures.comes
 
 pub returns-in-Needs-clause-ok : goal.returns-in-Needs-clause-ok
 returns-in-Needs-clause-ok c =
     let made = c.make_cache.new.cache in
-    begins-none c.args.self.now _ c.ahead-2.new.self made
+    begins-none c.args.self.now _ c.ahead.new.self made
     (subst (λ (o : Option Cached). IsMade o made) (ap (λ (h : ClientValue). h.cache) c.self.view_is)
     c.in_ok-make_cache.ensures.made)
     (ap (λ (h : ClientValue). record h { cache = made }) c.self.view_is) c.in_ok-found.ensures.looks
     c.args.offset c.args.len c.args.block c.requires.reads c.requires.ready c.requires.flushed c.requires.first
-    c.new.result c.in_ok-found.field-0 c.in-Needs.fetch c.in-Needs.need c.new.ensures c.in-Needs.is
+    c.in_ok-fetch.fetch c.in_ok-found.field-0 c.in-Needs.fetch c.in-Needs.need c.in_ok-fetch.ensures c.in-Needs.is
     c.in_ok-found.ensures.comes c.read_from.new.doing _
     (c.read_from.ensures
     ∙ ap (λ (h : ClientValue). option_map (put_at (Reading c.in-Needs.fetch c.in-Needs.need)) h.doing) c.self-2.view_is)

@@ -3,24 +3,18 @@ use Rattle.std.proofs.Common.{sym, ap, ◌∙◌}
 use Rattle.jv_model.specs.declared.setting.Setting.{Setting}
 use Rattle.jv_client.proofs.ReadingLaws.{ahead-already}
 use Rattle.jv_client.proofs.ShowLaws.{begun-ahead, begun-fails, begun-shows}
-use Rattle.jv_client.proofs.client.Client.read_on.Goals as goal
-
-pub returns-in-Some : goal.returns-in-Some
-returns-in-Some g c = λ now carrier.
-    c.ask.ensures now carrier c.args.self.now
-    (ahead-already c.args.self.now c.args.yard.now.setting.block c.in-Some.need c.requires.ready
-    (sym c.need.ensures ∙ c.in-Some.is)) c.requires.ready
+use Rattle.jv_client.proofs.client.Client.read.Goals as goal
 
 pub returns-in-Ok-Some : goal.returns-in-Ok-Some
 returns-in-Ok-Some g c = λ now carrier.
     begun-shows c.args.offset c.args.len c.setting.result.now.block c.args.self.now c.begin_reading.new.self
     c.in-Ok-Some.field-0 c.in-Ok-Some.ensures.ok now c.args.entry c.show.new.self _ c.show.result c.in-Ok-Some.found
-    c.requires.reads c.requires.ready c.requires.flushed (sym c.need.ensures ∙ c.in_default.is)
+    c.requires.reads c.requires.ready c.requires.flushed c.requires.first
     (ap (λ (setting : Setting). setting.block) c.setting.ensures) c.in-Ok-Some.field-0-is c.show.ensures
 
-pub returns-in-Some-need : goal.returns-in-Some-need
-returns-in-Some-need g c = λ now carrier.
-    c.ask-in-Some-need.ensures now carrier c.args.self.now
+pub returns-in-Some : goal.returns-in-Some
+returns-in-Some g c = λ now carrier.
+    c.ask.ensures now carrier c.args.self.now
     (begun-ahead c.args.offset c.args.len c.setting.result.now.block c.args.self.now c.begin_reading.new.self
     c.in-Ok-None.field-0 c.in-Ok-None.ensures.ok c.args.yard.now.setting.block
     (ap (λ (setting : Setting). setting.block) c.setting.ensures) c.in-Ok-None.field-0-is) c.requires.ready
