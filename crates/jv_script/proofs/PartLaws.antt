@@ -5,10 +5,12 @@ use Rattle.std.proofs.lemmas.List.{append_assoc, append-nil, length-append, leng
 use Rattle.std.proofs.lemmas.Bool.{le-leb, lt-leb, lt-ltb, and_parts, false≢true, false_from_ne_true}
 use Rattle.std.proofs.Math.Bool.{and-false}
 use Rattle.std.proofs.lemmas.List.Sums.{sum_by-cons}
+use Rattle.std.proofs.lemmas.List.Folds.{list_all_at}
 use Rattle.jv_model.specs.declared.limits.TheConstants.{MAX_DATA}
 use Rattle.jv_model.specs.script.Spelling.{is_hex_digit, number_of, ◌>>=◌, at_most, bytes_of_digits}
 use Rattle.jv_model.specs.script.Printed.{Part, Plain, Repeated}
 use Rattle.jv_model.specs.script.Grammar.{provided, byte_of, parted, is_pairs, repeated_of, part_of, part_length, part_bytes, all_parts_of, bytes_of_parts, data_of}
+use Rattle.jv_script.proofs.CutLaws.{parted_none}
 use Rattle.jv_script.specs.Reading.{has_x, pairs_of, limited_bytes, bytes_after, Appends, Leaves, IsShortPart}
 
 -- lengths
@@ -276,3 +278,18 @@ leaves_short before text bytes rest after new first next more left short joined 
 pub no_value : {T : Type 0} (o : Option T) → is_some o ≡ false → o ≡ None
 no_value None e = refl
 no_value (Some x) e = cc
+
+-- no digit is a `+`, so that pairs of digits are one part
+pub plain_whole : (digits : List ℕ) → is_pairs digits ≡ true → bytes_of_parts (parted 43 digits) ≡ limited_bytes (bytes_of_digits digits)
+plain_whole digits pairs =
+    ap bytes_of_parts (parted_none 43 digits nowhere)
+    ∙ bytes_of_parts-after (digits ∷ [])
+    ∙ bytes_after-more [] (bytes_of_digits digits) digits [] (ap (option_map (λ p. [] ++ part_bytes p)) (part_of_pairs digits pairs))
+    ∙ bytes_after-none (bytes_of_digits digits)
+  where
+    all : list_all is_hex_digit digits ≡ true
+    all = (and_parts (nat_lt 0 (length digits) && (length digits % 2 == 0)) (list_all is_hex_digit digits) pairs).1
+
+    nowhere : (k : ℕ) → 0 ≤ k → k < length digits → (get_or digits k 0 == 43) ≡ true → ⊥
+    nowhere k low high is =
+        false≢true (sym (list_all_at is_hex_digit digits k 0 high (ap is_hex_digit (eqb-true (get_or digits k 0) 43 is))) ∙ all)

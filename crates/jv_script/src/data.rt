@@ -1,7 +1,8 @@
 //! Reads DATA, the bytes of a write: `-` for none, or parts joined by `+`.
-ghost use Rattle.std.specs.Prelude.{◌≡◌, is_some, IfOk, option_map};
+ghost use Rattle.std.specs.Prelude.{◌≡◌, true, is_some, IfOk, option_map};
+ghost use Rattle.jv_model.specs.script.Spelling.{bytes_of_digits};
 ghost use Rattle.jv_model.specs.script.Printed.{Repeated};
-ghost use Rattle.jv_model.specs.script.Grammar.{parted, repeated_of, part_of, part_length, bytes_of_parts, data_of};
+ghost use Rattle.jv_model.specs.script.Grammar.{is_pairs, parted, repeated_of, part_of, part_length, bytes_of_parts, data_of};
 ghost use Rattle.jv_script.specs.Reading.{has_x, pairs_of, Reads, Appends};
 
 use crate::bad_line::BadLine;
@@ -28,10 +29,38 @@ pub fn read_data(alloc: Global, text: &[u8]) -> Result<Bytes, BadLine>
     if text == b"-".as_slice() {
         return Ok(Sequence::new(alloc));
     }
+    if is_pairs(text) {
+        return plain(alloc, text);
+    }
     match joined(alloc, text) {
         Ok(bytes) => bytes.ok_or(BadLine::Off),
         Err(_) => Err(out_of_memory(text)),
     }
+}
+
+// Reads DATA that is one plain part, as that of most writes is.
+fn plain(alloc: Global, digits: &[u8]) -> Result<Bytes, BadLine>
+    requires { is_pairs digits.now ≡ true }
+    ensures { Reads result (bytes_of_parts (parted 43 digits.now)) }
+{
+    let count = digits.len() / 2;
+    if count as u64 > MAX_DATA {
+        return Err(BadLine::Off);
+    }
+    match decoded(alloc, digits) {
+        Ok(bytes) => Ok(Sequence::from_vec(bytes)),
+        Err(_) => Err(out_of_memory(digits)),
+    }
+}
+
+// The bytes of pairs of digits.
+fn decoded(alloc: Global, digits: &[u8]) -> Result<Vec<u8>, AllocError>
+    requires { is_pairs digits.now ≡ true }
+    ensures { IfOk result (λ bytes. bytes.items ≡ bytes_of_digits digits.now) }
+{
+    let mut bytes = vec![in alloc; 0; digits.len() / 2]?;
+    decode_into(digits, &mut bytes[0..]);
+    Ok(bytes)
 }
 
 // Why the parts weren't read where memory ran out: the text may be malformed behind the place that was reached.

@@ -16,3 +16,8 @@ pub returns-in-Err : goal.returns-in-Err
 returns-in-Err c =
     let other : bytes_eq c.args.text.now (codes "-") ≡ false = search rules in
     rw (some_bytes c.args.text.now other) c.out_of_memory.ensures
+
+pub returns-then-is_pairs : goal.returns-then-is_pairs
+returns-then-is_pairs c =
+    let other : bytes_eq c.args.text.now (codes "-") ≡ false = search rules in
+    rw (some_bytes c.args.text.now other) c.plain.ensures
