@@ -46,6 +46,11 @@ abbrev pub overlaps_at : Table → BlockId → List Overlap
 overlaps_at (Few few) b = overlaps_in few.items b
 overlaps_at (Many many) b = overlaps_under many.entries b
 
+-- the overlaps are in one list
+abbrev pub IsFew : Table → Type 0
+IsFew (Few few) = Unit {0}
+IsFew (Many many) = ⊥
+
 abbrev pub Overlaps : Type 0
 Overlaps = BlockId → List Overlap
 

@@ -1,18 +1,19 @@
 //! Which positions of a part show which bytes of which block.
-ghost use Rattle.std.specs.Prelude.{◌≡◌, ℕ, ◌+◌, ◌-◌, ◌<◌, ◌≤◌, List, [], length, IfOk, OnOk, All};
+ghost use Rattle.std.specs.Prelude.{◌≡◌, ℕ, ◌+◌, ◌-◌, ◌<◌, ◌≤◌, List, [], length, IfOk, OnOk, All, ◌↔◌};
 ghost use Rattle.jv_model.specs.declared.slice.Rec.{Rec as RecSeen};
 ghost use Rattle.jv_model.specs.declared.slice.BlockId.{BlockId as BlockSeen};
 ghost use Rattle.jv_model.specs.declared.slice.Spot.{Spot as SpotSeen};
 ghost use Rattle.jv_model.specs.blocks.Slices.{IsPart, IsPlan, IsAsStored, stored_place};
+ghost use Rattle.jv_slices.specs.Listing.{AreFew};
 ghost use Rattle.jv_slices.specs.Shown.{EndsBy};
 ghost use Rattle.jv_model.specs.declared.limits.TheConstants.{WINDOW};
 ghost use Rattle.jv_reading.specs.Copies.{Fits, HasBytes, IsCopied};
-ghost use Rattle.jv_reading.specs.Overlaps.{HasOverlaps, ShowsPiece, BeginsBy};
+ghost use Rattle.jv_reading.specs.Overlaps.{HasOverlaps, IsFew, ShowsPiece, BeginsBy};
 ghost use Rattle.jv_reading.specs.Overlaps.{key_of, overlaps_at, overlaps_under, with_overlap};
 
 use crate::copying::{Overlap, Shown, copy_few, copy_overlaps};
 use jv_model::{BlockId, Piece, Pieces, Spot};
-use jv_slices::block_len;
+use jv_slices::{are_few, block_len};
 use std::alloc::{AllocError, Global};
 use std::collections::BTreeMap;
 
@@ -35,9 +36,6 @@ pub(crate) enum Table {
     /// Many of them, by block.
     Many(ByBlock),
 }
-
-/// The most pieces whose overlaps are few.
-const FEW_PIECES: usize = 8;
 
 fn key_of(block: BlockId) -> BlockKey
     ensures { result ≡ key_of block }
@@ -141,9 +139,10 @@ fn add_piece(
 
 /// A table for the overlaps of these pieces, with none of them yet.
 fn new_table(alloc: Global, pieces: &[Piece], block: u32) -> Result<Table, AllocError>
-    ensures { IfOk result (λ table. (b : BlockSeen) → overlaps_at table b ≡ []) }
+    ensures none { IfOk result (λ table. (b : BlockSeen) → overlaps_at table b ≡ []) }
+    ensures few { IfOk result (λ table. IsFew table ↔ AreFew block pieces.now) }
 {
-    if pieces.len() <= FEW_PIECES && pieces.iter().all(|piece| piece.len <= block) {
+    if are_few(pieces, block) {
         // A piece no longer than a block shows two blocks at most.
         Ok(Table::Few(Vec::with_capacity(alloc, 2 * pieces.len())?))
     } else {

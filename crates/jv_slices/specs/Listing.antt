@@ -1,5 +1,5 @@
 -- Which blocks are listed.
-use Rattle.std.specs.Prelude.{◌≡◌, List, Option, None, Some}
+use Rattle.std.specs.Prelude.{◌≡◌, ℕ, ◌≤◌, All, List, length, Option, None, Some}
 use Rattle.std.specs.List.{list_any}
 use Rattle.std.specs.declared.cmp.Ordering.{Ordering}
 use Rattle.std.specs.Ordering.{nat_cmp, ordering_then}
@@ -7,7 +7,13 @@ use Rattle.std.specs.BTreeMap.{is_at}
 use Rattle.std.specs.BTreeSet.{BTreeSet}
 use Rattle.jv_model.specs.declared.slice.BlockId.{BlockId}
 use Rattle.jv_model.specs.blocks.Slices.{is_same_block}
+use Rattle.jv_model.specs.declared.slice.Piece.{Piece}
 use Rattle.jv_slices.specs.declared.blocks.Listed.{Listed}
+use Rattle.jv_slices.specs.declared.blocks.TheConstants.{FEW}
+
+-- few pieces, none longer than a block
+abbrev pub AreFew : ℕ → List Piece → Type 0
+AreFew block pieces = (length pieces ≤ FEW) × All (λ piece. piece.len ≤ block) pieces
 
 abbrev pub listed_of : BlockId → Listed
 listed_of b = record { id = b.id; index = b.index; size = b.size }

@@ -1,8 +1,8 @@
 //! Blocks of slices, and which of them pieces need.
-ghost use Rattle.std.specs.Prelude.{◌≡◌, ℕ, ◌<◌, ◌≤◌, ◌/◌, ◌+◌, ◌-◌, ◌++◌, [], All, IfOk, OnOk, not, sum, fold};
+ghost use Rattle.std.specs.Prelude.{◌≡◌, ℕ, ◌<◌, ◌≤◌, ◌/◌, ◌+◌, ◌-◌, ◌++◌, ◌↔◌, [], All, IfOk, IsNone, IsTrue, OnOk, not, sum, fold};
 ghost use Rattle.std.specs.List.{list_any};
 ghost use Rattle.jv_model.specs.declared.slice.BlockId.{BlockId as BlockSeen};
-ghost use Rattle.jv_slices.specs.Listing.{ListsIn};
+ghost use Rattle.jv_slices.specs.Listing.{AreFew, ListsIn};
 ghost use Rattle.jv_model.specs.blocks.Slices.{IsPart, is_same_block, block_count, block_length, block_lengths, needed_blocks, with_block, blocks_of_piece};
 
 use jv_model::{BlockId, BlockKeys, Piece, Pieces, Spot};
@@ -43,23 +43,27 @@ pub fn needs(alloc: Global, pieces: &Pieces, block: u32) -> Result<BlockKeys, Al
     Ok(BlockKeys::from_vec(keys))
 }
 
-/// At most this many pieces, none longer than a block, need at most twice as many blocks. Looking through these takes
-/// less time than a set.
+/// The most pieces that are few. Where none is longer than a block, they need at most twice as many blocks, and to look
+/// through these takes less time than a set.
 const FEW: usize = 8;
 
 /// The set of the listed blocks, still empty, or no set where they will be few.
 fn no_blocks(alloc: Global, pieces: &[Piece], block: u32) -> Option<BTreeSet<Listed>>
-    ensures { ListsIn [] result }
+    ensures listed { ListsIn [] result }
+    ensures few { IsNone result ↔ AreFew block pieces.now }
 {
-    if pieces.len() <= FEW && are_short(pieces, block) {
+    if are_few(pieces, block) {
         None
     } else {
         Some(BTreeSet::new(alloc))
     }
 }
 
-fn are_short(pieces: &[Piece], block: u32) -> bool {
-    pieces.iter().all(|piece| piece.len <= block)
+/// Whether pieces are so few and short that to look through their blocks takes less time than a set or a map of these.
+pub fn are_few(pieces: &[Piece], block: u32) -> bool
+    ensures { IsTrue result ↔ AreFew block pieces.now }
+{
+    pieces.len() <= FEW && pieces.iter().all(|piece| piece.len <= block)
 }
 
 /// A block in the order of the set of those that are listed.

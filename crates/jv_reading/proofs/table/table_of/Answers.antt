@@ -18,7 +18,7 @@ loop-piece-init c = λ list plan stored.
       plan = plan;
       has = subst (λ (n : ℕ). HasOverlaps c.args.block (λ n. stored_place list (from + n)) (c.args.to - from) n (overlaps_at c.in_ok-table.table)) none
           (has_none c.args.block (λ n. stored_place list (from + n)) (c.args.to - from) (overlaps_at c.in_ok-table.table)
-          c.in_ok-table.ensures);
+          c.in_ok-table.ensures.none);
     }
 
 pub loop-piece-preserved : goal.loop-piece-preserved
