@@ -1,4 +1,4 @@
-ghost use Rattle.std.specs.Prelude.{◌≡◌, ℕ, ◌+◌, ◌-◌, ◌<◌, ◌≤◌, ◌==◌, nat_le, if◌then◌else◌, [], length, take, drop, slice_range, vec_len, false, IfOk, OnOk};
+ghost use Rattle.std.specs.Prelude.{◌≡◌, ℕ, ◌+◌, ◌-◌, ◌<◌, ◌≤◌, ◌==◌, nat_le, if◌then◌else◌, [], length, take, drop, slice_range, vec_capacity, vec_len, false, IfOk, OnOk};
 ghost use Rattle.std.specs.List.{position};
 ghost use Rattle.std.specs.Io.KnownBytes.{prepend_known};
 ghost use Rattle.jv_outside.specs.Stream.{Reads};
@@ -10,8 +10,11 @@ use jv_outside::Source;
 use std::alloc::{AllocError, Global};
 use std::marker::Model;
 
+/// The bytes that are held at first, enough for the lines of most scripts.
+const FIRST_ROOM: usize = 65_536;
+
 /// The bytes that are held at most: the longest line, and 64 KiB after it.
-const ROOM: usize = MAX_LINE + 65_536;
+const ROOM: usize = MAX_LINE + FIRST_ROOM;
 
 /// What comes next in a source.
 #[derive(Clone, Copy, Debug, PartialEq, Eq)]
@@ -24,7 +27,8 @@ pub(crate) enum Next {
     End,
 }
 
-/// Bytes of a source that no line has taken yet.
+/// Bytes of a source that no line has taken yet. It has room for the longest line from the start, so that no line finds
+/// memory wanting, and touches that room once a line is so long.
 #[derive(Drop)]
 pub(crate) struct LineReader {
     buffer: Vec<u8>,
@@ -33,14 +37,15 @@ pub(crate) struct LineReader {
 }
 
 impl Model for LineReader {
-    ghost use Rattle.std.specs.Prelude.{◌≡◌, ℕ, ◌-◌, ◌≤◌, List, take, drop, vec_len};
+    ghost use Rattle.std.specs.Prelude.{ℕ, ◌-◌, ◌≤◌, List, take, drop, vec_len, vec_capacity};
     ghost use Rattle.jv_cmd.specs.declared.reader.TheConstants.{ROOM};
 
     ghost Value = { List ℕ };
 
     ghost view = { λ r. take (r.end - r.start) (drop r.start r.buffer.items) };
 
-    ghost invariant = { λ r. (r.start ≤ r.end) × (r.end ≤ ROOM) × (vec_len r.buffer ≡ ROOM) };
+    ghost invariant = { λ r. (r.start ≤ r.end) × (r.end ≤ vec_len r.buffer) × (vec_len r.buffer ≤ ROOM)
+        × (ROOM ≤ vec_capacity r.buffer) };
 }
 
 /// The place of the first line feed.
@@ -57,8 +62,10 @@ impl LineReader {
     pub(crate) fn new(alloc: Global) -> Result<LineReader, AllocError>
         ensures { IfOk result (λ reader. reader ≡ []) }
     {
+        let mut buffer = Vec::with_capacity(alloc, ROOM)?;
+        buffer.resize(FIRST_ROOM, 0)?;
         Ok(LineReader {
-            buffer: vec![in alloc; 0u8; ROOM]?,
+            buffer,
             start: 0,
             end: 0,
         })
@@ -105,7 +112,7 @@ impl LineReader {
         ensures small { OnOk result (length self.new ≤ ROOM) }
         ensures counts { CountsRead (S.seen source.old).faults (S.seen source.new).faults result }
     {
-        let (start, end) = moved_to_front(&mut self.buffer, self.start, self.end);
+        let (start, end) = make_room(&mut self.buffer, self.start, self.end);
         self.start = start;
         self.end = end;
         let count = read_behind(source, &mut self.buffer, end)?;
@@ -145,20 +152,27 @@ impl LineReader {
     }
 }
 
-/// Moves the bytes between two places to the front if there is no room behind them, and returns their places.
-fn moved_to_front(buffer: &mut Vec<u8>, start: usize, end: usize) -> (usize, usize)
+/// Makes room behind the bytes between two places if there is none, and returns their places: they are moved to the front,
+/// or where they stand there already, the buffer takes all of its room.
+fn make_room(buffer: &mut Vec<u8>, start: usize, end: usize) -> (usize, usize)
     requires order { start ≤ end }
     requires within { end ≤ vec_len buffer.old }
-    requires size { vec_len buffer.old ≡ ROOM }
+    requires size { vec_len buffer.old ≤ ROOM }
+    requires capacity { ROOM ≤ vec_capacity buffer.old }
     ensures same { slice_range buffer.new.items result.0 result.1 ≡ slice_range buffer.old.items
         start end }
     ensures order { result.0 ≤ result.1 }
-    ensures within { result.1 ≤ ROOM }
-    ensures room { end - start ≤ MAX_LINE → result.1 < ROOM }
-    ensures size { vec_len buffer.new ≡ ROOM }
+    ensures within { result.1 ≤ vec_len buffer.new }
+    ensures room { end - start ≤ MAX_LINE → result.1 < vec_len buffer.new }
+    ensures size { vec_len buffer.new ≤ ROOM }
+    ensures capacity { ROOM ≤ vec_capacity buffer.new }
 {
-    if end < ROOM {
+    if end < buffer.len() {
         return (start, end);
+    }
+    if start == 0 {
+        buffer.resize(ROOM, 0).unwrap();
+        return (0, end);
     }
     buffer.copy_within(start..end, 0);
     (0, end - start)
@@ -168,6 +182,7 @@ fn moved_to_front(buffer: &mut Vec<u8>, start: usize, end: usize) -> (usize, usi
 fn read_behind<S: Source>(source: &mut S, buffer: &mut Vec<u8>, end: usize) -> Result<usize, Down>
     requires room { end < vec_len buffer.old }
     ensures size { vec_len buffer.new ≡ vec_len buffer.old }
+    ensures capacity { vec_capacity buffer.new ≡ vec_capacity buffer.old }
     ensures front { take end buffer.new.items ≡ take end buffer.old.items }
     ensures reads { Reads (S.seen source.old) (S.seen source.new) result (drop end buffer.new.items) }
 {

@@ -7,11 +7,11 @@ use Rattle.jv_cmd.proofs.reader.LineReader.fill.Goals as goal
 pub returns-clause-filled : goal.returns-clause-filled
 returns-clause-filled g c =
     let i = c.self.inside in
-    let m = c.moved_to_front-start in
+    let m = c.make_room-start in
     let n = c.in_ok-count.count in
     let v = c.read_behind.new.buffer in
     let held : take (m.result.1 - m.result.0) (drop m.result.0 m.new.buffer.items) ≡ c.args.self.now = m.ensures.same ∙ c.self.view_is in
-    let fits : m.result.1 + n ≤ length v.items = omega (arith, c.in_ok-count.ensures.reads.within, length-drop m.result.1 v.items, c.in_ok-count.ensures.size, m.ensures.size, m.ensures.within, v.ok.0) in
+    let fits : m.result.1 + n ≤ length v.items = omega (arith, c.in_ok-count.ensures.reads.within, length-drop m.result.1 v.items, c.in_ok-count.ensures.size, m.ensures.within, v.ok.0) in
     let order = m.ensures.order in
     let view : take (i.end - i.start) (drop i.start i.buffer.items) ≡ c.args.self.now = c.self.view_is in
     let small : i.end - i.start ≤ MAX_LINE = omega (arith, c.requires, ap length view, length-take (i.end - i.start) (drop i.start i.buffer.items), length-drop i.start i.buffer.items, i.buffer.ok.0) in
