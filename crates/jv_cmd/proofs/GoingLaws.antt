@@ -1,12 +1,15 @@
 -- What a run has come to after a text, or where the source gave none.
-use Rattle.std.proofs.Common.{◌≡◌, ℕ, ◌+◌, ◌≤◌, ◌<◌, IfSome, true, List, [], ◌∷◌, ◌++◌, length, take, drop, Option, Result, Ok, Err, refl, sym, ap, subst, ◌∙◌, arith}
+use Rattle.std.proofs.Common.{◌≡◌, ℕ, ◌+◌, ◌≤◌, ◌<◌, IfSome, if◌then◌else◌, true, List, [], ◌∷◌, ◌++◌, length, take, drop, Option, Some, Result, Ok, Err, refl, sym, ap, subst, ◌∙◌, arith}
 use Rattle.std.proofs.lemmas.List.{length-take-le}
 use Rattle.std.specs.Io.KnownBytes.{prepend_known}
 use Rattle.jv_model.specs.declared.limits.TheConstants.{MAX_LINE, MAX_LINES}
 use Rattle.jv_model.specs.declared.op.Line.{Line}
+use Rattle.jv_model.specs.declared.op.Line.TheVariants.{Empty}
 use Rattle.jv_model.specs.declared.setting.Setting.{Setting}
 use Rattle.jv_model.specs.journal.Legal.{may_be_cut}
 use Rattle.jv_model.specs.journal.Past.{at_end, text_of}
+use Rattle.jv_model.specs.script.Grammar.{command_of, line_of}
+use Rattle.jv_model.specs.script.Spelling.{is_silent, words}
 use Rattle.jv_outside.specs.Causes.{Rose}
 use Rattle.jv_outside.specs.Stream.{Stream, Gains}
 use Rattle.jv_outside.specs.Ticks.{Ticks}
@@ -23,6 +26,7 @@ use Rattle.jv_cmd.specs.Steps.{Advances, BeforeLine, Done, EndsLines, Going, Lin
 use Rattle.jv_cmd.specs.Texts.{texts_of}
 use Rattle.jv_cmd.proofs.DoneLaws.{Done-more, Done-start, DoneMore}
 use Rattle.jv_cmd.proofs.EndLaws.{EndsLines-bad, EndsLines-last, EndsLines-next, IsIdle, IsOff-text, RunsWhole-cut, StopsAt-from, all_printed, gains_before, text_done}
+use Rattle.jv_cmd.proofs.StepLaws.{PrintsLine-empty}
 use Rattle.jv_cmd.proofs.ReadingLaws.{BeginsWith-cut, IsKnownClock-earlier, Rose-since, all_read}
 
 -- out of memory before the first line
@@ -57,6 +61,16 @@ TextEnds-from_reads number text stage s KeeperFailed h = absurd h
 TextEnds-from_reads number text stage s DepotFailed h = absurd h
 TextEnds-from_reads number text stage s CarrierFailed h = absurd h
 TextEnds-from_reads number text stage s ShelfFailed h = absurd h
+
+-- a text that is empty or a comment is the line that does nothing
+pub TextEnds-silent : (number : ℕ) (text : List ℕ) (stage : StageValue) (s : ScheduleValue) → is_silent text ≡ true
+    → TextEnds number text stage stage s s (Ok tt)
+unfolding line_of
+TextEnds-silent number text stage s silent = (
+  Empty,
+  record { read = ap (λ b. if b then Some Empty else command_of (words text)) silent; built = refl },
+  PrintsLine-empty number stage s,
+)
 
 -- the line of a text was run, or cut off
 pub TextEnds-from_line : (number : ℕ) (text : List ℕ) (line : Line) (before after : StageValue) (s s' : ScheduleValue)

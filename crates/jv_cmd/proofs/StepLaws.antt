@@ -10,10 +10,11 @@ use Rattle.jv_model.specs.journal.Past.{Past, Setup, NoMore, is_over, at_start, 
 use Rattle.jv_laws.proofs.JournalGrowthLaws.{begun_to-twice, begun_to-next, past-append, AllAllowed-append, past-begun_to, AllAllowed-begun_to}
 use Rattle.jv_shared.specs.Shared.{Shared}
 use Rattle.jv_outside.specs.Ticks.{Ticks}
+use Rattle.jv_outside.proofs.StreamLaws.{Gains-nil}
 use Rattle.jv_session.specs.Lines.{LineState, LeavesAll, SaysLine, Cut}
 use Rattle.jv_session.specs.Stands.{InLine, ScheduleValue, Stands}
 use Rattle.jv_session.proofs.UsesLaws.{no_failures, uses_nothing}
-use Rattle.jv_cmd.specs.Steps.{IsAt, Reaches, Goes, Advances, used}
+use Rattle.jv_cmd.specs.Steps.{IsAt, Reaches, Goes, Advances, PrintsLine, used}
 use Rattle.jv_cmd.specs.Stages.{StageValue}
 
 -- a past that comes to a line wasn't past it
@@ -160,6 +161,16 @@ Advances-quiet line number before after s s' empty leaves = record {
               text = refl;
             });
       };
+}
+
+-- a line that does nothing prints nothing
+pub PrintsLine-empty : (number : ℕ) (world : StageValue) (s : ScheduleValue) → PrintsLine Empty number world world s s
+PrintsLine-empty number world s = record {
+  printed = [];
+  runs = Advances-quiet Empty number world world s s refl
+      (record { clock = refl; devices = refl; journal = refl; schedule = refl });
+  writes = record { gains = Gains-nil world.out.content; calm = refl };
+  clock = refl;
 }
 
 -- the end of a run all of whose lines were run

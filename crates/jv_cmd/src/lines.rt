@@ -13,7 +13,7 @@ use crate::reader::{LineReader, Next};
 use crate::stage::{ObservedStage, Stage};
 use jv_model::{Line, MAX_LINES, Setting};
 use jv_outside::{Clock, Depot, Keeper, Shelf, Sink, Source, write_whole};
-use jv_script::{BadLine, read_line};
+use jv_script::{BadLine, is_silent, read_line};
 use jv_session::{LineEnd, Schedule};
 use jv_yard::{Alone, YardDoor};
 use std::alloc::Global;
@@ -115,6 +115,10 @@ fn run_text<S: Source, O: Sink, K: Keeper, D: Depot, H: Shelf, C: Clock>(
     ensures yard { let given = ⟦<Alone<D, H> as YardDoor<D, H>>⟧.given in
         IsSomeAnd (given stage.new.door) (IsYardOf schedule.new) }
 {
+    // Such a line isn't made, since that costs more than to read it.
+    if is_silent(text) {
+        return Ok(());
+    }
     match read_built(alloc, number, text, schedule) {
         Ok(line) => run_line(line, number, schedule, stage),
         Err(ended) => Err(ended),

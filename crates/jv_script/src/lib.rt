@@ -25,5 +25,5 @@ pub use fields::is_numeral;
 pub use laws::{
     data_is_read_again, names_are_read_again, paths_are_read_again, targets_are_read_again,
 };
-pub use line_reader::read_line;
+pub use line_reader::{is_silent, read_line};
 pub use printer::print_reply;

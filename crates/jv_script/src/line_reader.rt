@@ -25,7 +25,8 @@ pub fn read_line(alloc: Global, text: &[u8]) -> Result<Line, BadLine>
     command(alloc, text)
 }
 
-fn is_silent(text: &[u8]) -> bool
+/// Whether a line is empty or a comment, and so does nothing.
+pub fn is_silent(text: &[u8]) -> bool
     ensures { result ≡ is_silent text.now }
 {
     match text.first() {
