@@ -5,6 +5,9 @@ ghost use Rattle.jv_script.specs.Printing.{begins_long, HasNoLongBefore, IsFirst
 /// The bytes that are tested together for a long repeat.
 const BLOCK: usize = 64;
 
+/// Half the places of a block.
+const HALF: usize = 32;
+
 /// The bytes of the shortest long repeat.
 const LONG: usize = 4;
 
@@ -112,7 +115,7 @@ fn plain_step(place: usize, bytes: &[u8]) -> usize
 fn is_plain_end(bytes: &[u8]) -> bool
     ensures { result ≡ true → HasNoLongBefore (length bytes.now) bytes.now }
 {
-    bytes.len() <= BLOCK + BEYOND && !may_have_long_repeat(bytes)
+    bytes.len() <= BLOCK + BEYOND && !end_may_have_long_repeat(bytes)
 }
 
 // Whether no long repeat begins in the block at the front, and there are bytes after it.
@@ -125,6 +128,20 @@ fn is_plain_block(bytes: &[u8]) -> bool
     }
     let (seen, _) = bytes.split_at(BLOCK + BEYOND);
     !may_have_long_repeat(seen)
+}
+
+// As `may_have_long_repeat`, where the compiler doesn't know the length and would test up to 31 places one by one. Tests two
+// halves of a known length, the first bytes and the last ones, which overlap where there are fewer.
+fn end_may_have_long_repeat(bytes: &[u8]) -> bool
+    requires { length bytes.now ≤ 67 }
+    ensures { result ≡ false → HasNoLongBefore (length bytes.now - 3) bytes.now }
+{
+    if bytes.len() < HALF + BEYOND {
+        return may_have_long_repeat(bytes);
+    }
+    let (first, _) = bytes.split_at(HALF + BEYOND);
+    let (_, last) = bytes.split_at(bytes.len() - (HALF + BEYOND));
+    may_have_long_repeat(first) | may_have_long_repeat(last)
 }
 
 // False only where no four bytes side by side are equal. Tests each four: the compiler then takes many at a time.
