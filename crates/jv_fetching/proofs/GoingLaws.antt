@@ -1,7 +1,7 @@
 -- Laws of a reading that goes on: it begins with a part, fills in its blocks, and ends with it.
 use Rattle.std.proofs.Common.{◌≡◌, ℕ, ◌+◌, ◌-◌, ◌<◌, ◌≤◌, Bool, true, false, List, [], ◌∷◌, ◌++◌, length, drop, Option}
 use Rattle.std.proofs.Common.{None, Some, inl, inr, refl, sym, ap, subst, ◌∙◌, arith, length-drop}
-use Rattle.std.specs.Prelude.{◌⊎◌, All, IfSome, is_some, slice_get}
+use Rattle.std.specs.Prelude.{◌⊎◌, All, IfSome, IsSomeAnd, is_some, slice_get}
 use Rattle.std.proofs.lemmas.Bool.{le-leb, lt-leb}
 use Rattle.std.proofs.lemmas.List.{drop-drop}
 use Rattle.std.proofs.lemmas.List.Elements.{All-drop}
@@ -25,8 +25,9 @@ use Rattle.jv_fetching.specs.Shows.{shown_len}
 use Rattle.jv_fetching.specs.Going.{CanFetch, HasBegun, HasRead, IsBegunBy, IsFetching, IsShown}
 use Rattle.jv_fetching.specs.Calls.{Asks, CachedOf, HasCached, IsMissing, LooksUp, LooksUpFew, cache_key, first_seen}
 use Rattle.jv_fetching.specs.Calls.{first_unseen}
-use Rattle.jv_fetching.specs.Inside.{Ends, Fills, FillsBegun, FillsOne, FirstBegins, Goes, GoesOn, GoesTo, HasFilled}
-use Rattle.jv_fetching.specs.Inside.{IsFurther, Misses, Waits, Ended, ended, parts_after}
+use Rattle.jv_fetching.specs.Inside.{BeginsPart, HadBegun, BeginsNow, IsOver, LooksFirst, Ends, EndsPart, Fills, FillsBegun}
+use Rattle.jv_fetching.specs.Inside.{FillsFrom, FillsOne, FirstBegins, Goes, GoesOn, GoesOnAny, GoesTo, HasFilled}
+use Rattle.jv_fetching.specs.Inside.{IsFurther, Misses, Stops, Waits, Ended, ended, parts_after, waiting}
 use Rattle.jv_fetching.proofs.CacheLaws.{few_none, few_one, few_then, has_looks, looks_keep, looks_one, looks_then}
 use Rattle.jv_fetching.proofs.CacheLaws.{missing_before}
 
@@ -313,6 +314,11 @@ module _ (views : SeenViews) (cache : Cached) (block : ℕ) (read : List Read) w
     };
   }
 
+fewer_after : (full : Bool) (parts : List Asked) → length (parts_after full parts) ≤ length parts - 1
+fewer_after true [] = omega arith
+fewer_after true (asked ∷ others) = omega arith
+fewer_after false parts = omega arith
+
 -- ---- a reading goes on with a part
 
 abbrev with_begun : Fetching → Begun → Fetching
@@ -372,6 +378,16 @@ goes_on views cache later f after begun result (inr (none, first)) on =
     goes_to_then views cache cache later f (with_begun f begun) after result begins
     (went_on views cache later f after begun result on)
 
+-- what it waits for it wants, and with a part that was read it has one less
+stops_on : (views : SeenViews) (cache later : Cached) (f after : Fetching) (begun : Begun) (result : Option Need)
+    → GoesOn begun cache later (record f { begun = None }) after result → Stops views f after result
+stops_on views cache later f after begun result (Waits part b missed is) = ap block_needed is ∙ missed.next
+stops_on views cache later f after begun result (Ended part fills none bytes are is) =
+    let fewer : length (parts_after begun.is_full f.parts) ≤ length f.parts - 1 = fewer_after begun.is_full f.parts in (
+      ap (λ (g : Fetching). g.begun) is,
+      subst (λ (g : Fetching). length g.parts ≤ length f.parts - 1) (sym is) fewer,
+    )
+
 -- where it was done with a part it goes on
 pub goes_twice : (views : SeenViews) (c d e : Cached) (f g h : Fetching) (result : Option Need)
     → GoesTo views c d f g None → GoesTo views d e g h result → GoesTo views c e f h result
@@ -403,27 +419,62 @@ nothing_left first second [] few less lesser = refl
 nothing_left first second (asked ∷ others) few less lesser = absurd (omega (arith, few, less, lesser))
 
 -- it can't begin
-module _ (views : SeenViews) (cache : Cached) (f after : Fetching) (none : f.begun ≡ None)
-    (is : after ≡ record f { begun = None }) where
-  pub stays : after ≡ f
-  stays = is ∙ ap (λ (o : Option Begun). let g : Fetching = record f { begun = o } in g) (sym none)
-
-  pub goes_over : f.parts ≡ [] → GoesTo views cache cache f after None
+module _ (views : SeenViews) (cache : Cached) (f : Fetching) where
+  goes_over : f.parts ≡ [] → GoesTo views cache cache f f None
   goes_over over = record {
     middle = cache;
-    goes = subst (λ (g : Fetching). Goes views cache cache f g) (sym stays)
-        (goes_nowhere views cache f (λ e. over_seen views f.parts over));
+    goes = goes_nowhere views cache f (λ e. over_seen views f.parts over);
     ends = refl;
   }
 
-  pub goes_look : (window : ℕ) → first_unseen views f.parts window
-      → GoesTo views cache cache f after (Some (Look window))
+  goes_look : (window : ℕ) → first_unseen views f.parts window
+      → GoesTo views cache cache f f (Some (Look window))
   goes_look window unseen = record {
     middle = cache;
-    goes = subst (λ (g : Fetching). Goes views cache cache f g) (sym stays)
-        (goes_nowhere views cache f (λ e. unseen_seen views f.parts window unseen));
+    goes = goes_nowhere views cache f (λ e. unseen_seen views f.parts window unseen);
     ends = refl;
   }
+
+-- the window of its first part is looked at
+pub goes_first : (views : SeenViews) (cache : Cached) (f after : Fetching) (window : ℕ)
+    → BeginsPart views f after (Some window) → GoesTo views cache cache f after (Some (Look window))
+goes_first views cache f after window (LooksFirst first none unseen is) =
+    subst (λ (g : Fetching). GoesTo views cache cache f g (Some (Look window))) (sym is)
+    (goes_look views cache f window unseen)
+
+-- ---- where it had begun or begins now, it goes on; where it is over, nothing is done
+
+module _ (views : SeenViews) (cache later : Cached) (f middle after : Fetching) (result : Option Need) where
+  abbrev OnBy : Fetching → Option Begun → Type 0
+  OnBy g o = GoesOnAny cache later g after o result
+
+  pub goes_by_begun : BeginsPart views f middle None → OnBy middle middle.begun → GoesTo views cache later f after result
+  goes_by_begun (HadBegun begun was is) on =
+      let now : OnBy f f.begun = subst (λ (g : Fetching). OnBy g g.begun) is on in
+      goes_on views cache later f after begun result (inl was) (subst (λ (o : Option Begun). OnBy f o) was now)
+  goes_by_begun (BeginsNow begun none first is) on =
+      let now : OnBy (with_begun f begun) (Some begun) = subst (λ (g : Fetching). OnBy g g.begun) is on in
+      goes_on views cache later f after begun result (inr (none, first)) now
+  goes_by_begun (IsOver none over is) on =
+      let now : OnBy f None = subst (λ (o : Option Begun). OnBy f o) none (subst (λ (g : Fetching). OnBy g g.begun) is on)
+      in
+      subst (λ (o : Option Need). GoesTo views cache later f after o) (sym now.0)
+      (subst (λ (g : Fetching). GoesTo views cache later f g None) (sym now.1)
+      (subst (λ (c : Cached). GoesTo views cache c f f None) (sym now.2) (goes_over views cache f over)))
+
+  pub stops_by_begun : BeginsPart views f middle None → OnBy middle middle.begun → Stops views f after result
+  stops_by_begun (HadBegun begun was is) on =
+      let now : OnBy f f.begun = subst (λ (g : Fetching). OnBy g g.begun) is on in
+      stops_on views cache later f after begun result (subst (λ (o : Option Begun). OnBy f o) was now)
+  stops_by_begun (BeginsNow begun none first is) on =
+      let now : OnBy (with_begun f begun) (Some begun) = subst (λ (g : Fetching). OnBy g g.begun) is on in
+      stops_on views cache later f after begun result now
+  stops_by_begun (IsOver none over is) on =
+      let now : OnBy f None = subst (λ (o : Option Begun). OnBy f o) none (subst (λ (g : Fetching). OnBy g g.begun) is on)
+      in
+      subst (λ (o : Option Need). Stops views f after o) (sym now.0)
+      (subst (λ (g : Fetching). Stops views f g None) (sym now.1)
+      (none, subst (λ (parts : List Asked). length parts ≤ length parts - 1) (sym over) (omega arith)))
 
 -- ---- a block that came is filled in
 
@@ -464,3 +515,38 @@ module _ (bytes : List ℕ) (before after : Fetching) (fills : FillsBegun bytes 
           fills = reads_go_on.filled blocks b bytes fills.begun.part fills.part own next_begun fills.fills.part.block_is
               fills.fills.reads reads;
         })
+
+-- ---- a part that has begun goes on as far as the cache has its blocks
+
+module _ (cache later : Cached) (before middle : Fetching) where
+  abbrev AnyBy : Fetching → Option Begun → Option Need → Type 0
+  AnyBy after o result = GoesOnAny cache later before after o result
+
+  pub waits_on : (b : BlockId) → FillsFrom cache later before middle (Some b)
+      → GoesOnAny cache later before middle before.begun (Some (Block b))
+  waits_on b from = subst (λ (o : Option Begun). AnyBy middle o (Some (Block b))) (sym from.was)
+      (Waits from.part b from.fills from.is)
+
+  pub ends_on : (after : Fetching) → FillsFrom cache later before middle None → EndsPart middle after
+      → GoesOnAny cache later before after before.begun None
+  ends_on after from ends =
+      let now : EndsPart (waiting from.begun from.part before) after =
+      subst (λ (g : Fetching). EndsPart g after) from.is ends in
+      subst (λ (o : Option Begun). AnyBy after o None) (sym from.was) (ended_on after from now)
+    where
+      some_is : (x y : Begun) → Some x ≡ Some y → x ≡ y
+      some_is x y e = cc
+
+      ended_on : (after : Fetching) (from : FillsFrom cache later before middle None)
+          → EndsPart (waiting from.begun from.part before) after
+          → GoesOn from.begun cache later (record before { begun = None }) after None
+      ended_on after from now =
+          let same = some_is (record from.begun { part = from.part }) now.begun now.was in
+          Ended from.part from.fills.0 from.fills.1 now.bytes
+          (subst (λ (begun : Begun). (told : Told) → ReadsAs told begun.part
+          → now.bytes ≡ bytes_from (window_byte told begun.part.list) begun.part.from (begun.part.to - begun.part.from))
+          (sym same) now.are)
+          (subst (λ (begun : Begun). after ≡ ended begun.entry begun.is_full now.bytes before) (sym same) now.is)
+
+  pub is_filled : FillsFrom cache later before middle None → IsSomeAnd middle.begun (λ begun. begun.part.left ≡ [])
+  is_filled from = subst (λ (g : Fetching). IsSomeAnd g.begun (λ begun. begun.part.left ≡ [])) (sym from.is) from.fills.1

@@ -1,5 +1,5 @@
 -- What a reading keeps, and what the functions within do.
-use Rattle.std.specs.Prelude.{◌≡◌, ◌⊎◌, ℕ, ◌+◌, ◌-◌, ◌<◌, ◌≤◌, Bool, true, false, List, [], ◌∷◌, ◌++◌, drop, length}
+use Rattle.std.specs.Prelude.{◌≡◌, ℕ, ◌+◌, ◌-◌, ◌<◌, ◌≤◌, Bool, true, false, List, [], ◌∷◌, ◌++◌, drop, length}
 use Rattle.std.specs.Prelude.{slice_get, Option, None, Some, IfSome, IsSomeAnd}
 use Rattle.std.specs.List.{AllByRecursion}
 use Rattle.jv_model.specs.declared.limits.TheConstants.{WINDOW}
@@ -85,12 +85,14 @@ Starts views block parts StartOver = parts ≡ []
 Starts views block parts (StartLook window) = first_unseen views parts window
 Starts views block parts (StartBegun begun) = FirstBegins views block parts begun
 
--- and so a reading, unless it has begun before
-abbrev pub StartsFrom : SeenViews → Fetching → Start → Type 0
-StartsFrom views f StartOver = (f.begun ≡ None) × (f.parts ≡ [])
-StartsFrom views f (StartLook window) = (f.begun ≡ None) × first_unseen views f.parts window
-StartsFrom views f (StartBegun begun) =
-    (1 ≤ length f.parts) × ((f.begun ≡ Some begun) ⊎ ((f.begun ≡ None) × FirstBegins views f.block f.parts begun))
+-- and so a reading, unless it has begun before or is done
+pub data BeginsPart (views : SeenViews) (before after : Fetching) : Option ℕ → Type 0 where
+  HadBegun : (begun : Begun) → before.begun ≡ Some begun → after ≡ before → BeginsPart views before after None
+  BeginsNow : (begun : Begun) → before.begun ≡ None → FirstBegins views before.block before.parts begun
+      → after ≡ record before { begun = Some begun } → BeginsPart views before after None
+  IsOver : before.begun ≡ None → before.parts ≡ [] → after ≡ before → BeginsPart views before after None
+  LooksFirst : (window : ℕ) → before.begun ≡ None → first_unseen views before.parts window → after ≡ before
+      → BeginsPart views before after (Some window)
 
 -- ---- blocks are filled in
 
@@ -172,6 +174,29 @@ pub data GoesOn (begun : Begun) (cache later : Cached) (before after : Fetching)
       → ((told : Told) → ReadsAs told part
       → bytes ≡ bytes_from (window_byte told part.list) part.from (part.to - part.from))
       → after ≡ ended begun.entry begun.is_full bytes before → GoesOn begun cache later before after None
+
+-- where one has begun; and nothing happens where none has
+abbrev pub GoesOnAny : Cached → Cached → Fetching → Fetching → Option Begun → Option Need → Type 0
+GoesOnAny cache later before after None result = (result ≡ None) × (after ≡ before) × (later ≡ cache)
+GoesOnAny cache later before after (Some begun) result =
+    GoesOn begun cache later (record before { begun = None }) after result
+
+-- what the cache has of the part that has begun is filled in
+pub record FillsFrom (cache later : Cached) (before after : Fetching) (result : Option BlockId) : Type 0 where
+  pub begun : Begun
+  pub part : Part
+  pub was : before.begun ≡ Some begun
+  pub fills : FillsUp cache later begun.part part result
+  pub is : after ≡ waiting begun part before
+
+-- a part that was read is kept
+pub record EndsPart (before after : Fetching) : Type 0 where
+  pub begun : Begun
+  pub bytes : List ℕ
+  pub was : before.begun ≡ Some begun
+  pub are : (told : Told) → ReadsAs told begun.part
+      → bytes ≡ bytes_from (window_byte told begun.part.list) begun.part.from (begun.part.to - begun.part.from)
+  pub is : after ≡ ended begun.entry begun.is_full bytes before
 
 -- a reading goes on by views and cache
 pub record Goes (views : SeenViews) (cache later : Cached) (before after : Fetching) : Type 0 where

@@ -1,5 +1,5 @@
 //! A reading of a range of a file, window by window.
-ghost use Rattle.std.specs.Prelude.{◌≡◌, ◌≤◌, ◌++◌, IfOk, IsOk, length};
+ghost use Rattle.std.specs.Prelude.{◌≡◌, ◌≤◌, ◌++◌, IfOk, IsOk, IsSome, IsSomeAnd, length};
 ghost use Rattle.jv_fetching.specs.Calls.{Keeps};
 ghost use Rattle.jv_fetching.specs.Fetching.{bytes_read, entry_at};
 ghost use Rattle.jv_fetching.specs.Inside.{parts_after, parts_of, reads_of};
@@ -55,7 +55,7 @@ impl Fetch {
     ghost use Rattle.jv_fetching.specs.Fetching.{begins, block_needed, fetch_left, fetched_of};
     ghost use Rattle.jv_fetching.specs.Going.{CanFetch, IsFetching};
     ghost use Rattle.jv_fetching.specs.Calls.{Asks, HasCached, LooksUp, Wants, first_seen};
-    ghost use Rattle.jv_fetching.specs.Inside.{FillsBegun, FitsNext, GoesOn, GoesTo, StartsFrom, Stops, ended};
+    ghost use Rattle.jv_fetching.specs.Inside.{BeginsPart, EndsPart, FillsBegun, FillsFrom, FitsNext, GoesOnAny, GoesTo, Stops, ended};
 
     /// The reading of `len` bytes from `offset` on, 1 to 67,108,864 of them, over a volume whose blocks have `block`
     /// bytes, at least 1. Nothing is read yet. The only error is that memory is wanting for the box that has how far it is.
@@ -118,50 +118,74 @@ impl Fetch {
         ensures cache { LooksUp cache.old cache.new }
         ensures goes { IfOk result (GoesTo views.now cache.old cache.new self.old self.new) }
     {
-        match self.take_start(views)? {
-            Start::Over => Ok(None),
-            Start::Look(window) => Ok(Some(Need::Look(window))),
-            Start::Begun(begun) => Ok(self.go_on(begun, cache)),
+        if let Some(window) = self.begin_part(views)? {
+            return Ok(Some(Need::Look(window)));
         }
+        Ok(self.go_on(cache))
     }
 
-    /// Takes the part that has begun, or begins with the first of the parts.
-    fn take_start(&mut self, views: &Views) -> Result<Start, AllocError>
+    /// Begins with the first of the parts, unless one has begun or none is left. Returns the window that is looked at
+    /// first.
+    fn begin_part(&mut self, views: &Views) -> Result<Option<u32>, AllocError>
         ensures few { length self.old.parts ≤ 2 }
-        ensures taken { self.new ≡ record self.old { begun = None } }
-        ensures starts { IfOk result (StartsFrom views.now self.old) }
+        ensures block { self.new.block ≡ self.old.block }
+        ensures begins { IfOk result (BeginsPart views.now self.old self.new) }
     {
-        match self.course.begun.take() {
-            Some(begun) => Ok(Start::Begun(begun)),
-            None => begin_first(self.alloc, self.block, &self.course.parts, views),
+        if self.course.begun.is_some() {
+            return Ok(None);
         }
-    }
-
-    /// Goes on with a part by the cache's blocks.
-    fn go_on(&mut self, begun: Begun, cache: &mut BlockCache) -> Option<Need>
-        requires { 1 ≤ length self.old.parts }
-        ensures { GoesOn begun cache.old cache.new self.old self.new result }
-    {
-        let mut begun = begun;
-        match fill_cached(&mut begun.part, cache) {
-            Some(block) => {
+        match begin_first(self.alloc, self.block, &self.course.parts, views)? {
+            Start::Over => Ok(None),
+            Start::Look(window) => Ok(Some(window)),
+            Start::Begun(begun) => {
                 self.wait(begun);
-                Some(Need::Block(block))
-            }
-            None => {
-                let bytes = begun.part.into_bytes();
-                self.end(begun.entry, begun.is_full, bytes);
-                None
+                Ok(None)
             }
         }
     }
 
-    /// Keeps the first of the parts, which waits for a block.
+    /// Keeps the first of the parts, which has begun.
     fn wait(&mut self, begun: Begun)
         requires { 1 ≤ length self.old.parts }
         ensures { self.new ≡ record self.old { begun = Some begun } }
     {
         self.course.begun = Some(begun);
+    }
+
+    /// Goes on with the part that has begun by the cache's blocks, where one has.
+    fn go_on(&mut self, cache: &mut BlockCache) -> Option<Need>
+        ensures { GoesOnAny cache.old cache.new self.old self.new self.old.begun result }
+    {
+        if self.course.begun.is_none() {
+            return None;
+        }
+        if let Some(block) = self.fill_from(cache) {
+            return Some(Need::Block(block));
+        }
+        self.end_part();
+        None
+    }
+
+    /// Fills in what the cache has of the part that has begun, and returns the block that it lacks.
+    fn fill_from(&mut self, cache: &mut BlockCache) -> Option<BlockId>
+        requires { IsSome self.old.begun }
+        ensures { FillsFrom cache.old cache.new self.old self.new result }
+    {
+        match &mut self.course.begun {
+            Some(begun) => fill_cached(&mut begun.part, cache),
+            None => unreachable!(),
+        }
+    }
+
+    /// Ends the part that has begun, whose blocks are all filled in.
+    fn end_part(&mut self)
+        requires { IsSomeAnd self.old.begun (λ begun. begun.part.left ≡ []) }
+        ensures { EndsPart self.old self.new }
+    {
+        match self.course.begun.take() {
+            Some(begun) => self.end(begun.entry, begun.is_full, begun.part.into_bytes()),
+            None => unreachable!(),
+        }
     }
 
     /// Keeps the bytes of the first of the parts. Where the file has all of them, the other part is next.
@@ -202,12 +226,8 @@ impl Fetch {
         requires { FitsNext bytes.now self.old.begun }
         ensures { FillsBegun bytes.now self.old self.new }
     {
-        match self.course.begun.take() {
-            Some(begun) => {
-                let mut begun = begun;
-                begun.part.fill(bytes);
-                self.course.begun = Some(begun);
-            }
+        match &mut self.course.begun {
+            Some(begun) => begun.part.fill(bytes),
             None => unreachable!(),
         }
     }

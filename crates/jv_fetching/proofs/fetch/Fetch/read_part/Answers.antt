@@ -1,41 +1,31 @@
-use Rattle.std.proofs.Common.{◌≤◌, length, subst, sym}
-use Rattle.jv_fetching.specs.declared.begun.Start.{Start}
-use Rattle.jv_fetching.specs.Fetching.{Fetching}
-use Rattle.jv_fetching.specs.Inside.{GoesOn, StartsFrom}
-use Rattle.jv_fetching.proofs.GoingLaws.{goes_look, goes_on, goes_over, looks_to}
+use Rattle.std.proofs.Common.{Option, ℕ, subst}
+use Rattle.jv_fetching.specs.Inside.{BeginsPart}
+use Rattle.jv_fetching.proofs.GoingLaws.{goes_by_begun, goes_first, looks_to, stops_by_begun}
 use Rattle.jv_fetching.proofs.fetch.Fetch.read_part.Goals as goal
 
-pub go_on-requires : goal.go_on-requires
-go_on-requires c =
-    let from = subst (λ (s : Start). StartsFrom c.args.views.now c.args.self.now s) c.in-Begun.is
-    c.in_ok-take_start.ensures.starts in
-    subst (λ (f : Fetching). 1 ≤ length f.parts) (sym c.take_start.ensures.taken) from.0
+pub returns-in-Some-clause-goes : goal.returns-in-Some-clause-goes
+returns-in-Some-clause-goes c =
+    goes_first c.args.views.now c.args.cache.now c.args.self.now c.begin_part.new.self c.in-Some.window
+    (subst (λ (o : Option ℕ). BeginsPart c.args.views.now c.args.self.now c.begin_part.new.self o) c.in-Some.is
+    c.in_ok-window.ensures.begins)
 
-pub returns-in-Over-clause-goes : goal.returns-in-Over-clause-goes
-returns-in-Over-clause-goes c =
-    let from = subst (λ (s : Start). StartsFrom c.args.views.now c.args.self.now s) c.in-Over.is
-    c.in_ok-take_start.ensures.starts in
-    goes_over c.args.views.now c.args.cache.now c.args.self.now c.take_start.new.self from.0 c.take_start.ensures.taken
-    from.1
+pub returns-clause-goes : goal.returns-clause-goes
+returns-clause-goes c =
+    goes_by_begun c.args.views.now c.args.cache.now c.go_on.new.cache c.args.self.now c.begin_part.new.self
+    c.go_on.new.self c.go_on.result
+    (subst (λ (o : Option ℕ). BeginsPart c.args.views.now c.args.self.now c.begin_part.new.self o) c.in_default.is
+    c.in_ok-window.ensures.begins)
+    c.go_on.ensures
 
-pub returns-in-Look-clause-goes : goal.returns-in-Look-clause-goes
-returns-in-Look-clause-goes c =
-    let from = subst (λ (s : Start). StartsFrom c.args.views.now c.args.self.now s) c.in-Look.is
-    c.in_ok-take_start.ensures.starts in
-    goes_look c.args.views.now c.args.cache.now c.args.self.now c.take_start.new.self from.0 c.take_start.ensures.taken
-    c.in-Look.window from.1
+pub returns-clause-stops : goal.returns-clause-stops
+returns-clause-stops c =
+    stops_by_begun c.args.views.now c.args.cache.now c.go_on.new.cache c.args.self.now c.begin_part.new.self
+    c.go_on.new.self c.go_on.result
+    (subst (λ (o : Option ℕ). BeginsPart c.args.views.now c.args.self.now c.begin_part.new.self o) c.in_default.is
+    c.in_ok-window.ensures.begins)
+    c.go_on.ensures
 
-pub returns-in-Begun-clause-goes : goal.returns-in-Begun-clause-goes
-returns-in-Begun-clause-goes c =
-    let from = subst (λ (s : Start). StartsFrom c.args.views.now c.args.self.now s) c.in-Begun.is
-    c.in_ok-take_start.ensures.starts in
-    let begun = c.in-Begun.begun in
-    goes_on c.args.views.now c.args.cache.now c.go_on.new.cache c.args.self.now c.go_on.new.self begun c.go_on.result
-    from.1
-    (subst (λ (f : Fetching). GoesOn begun c.args.cache.now c.go_on.new.cache f c.go_on.new.self c.go_on.result)
-    c.take_start.ensures.taken c.go_on.ensures)
-
-pub returns-in-Begun-clause-cache : goal.returns-in-Begun-clause-cache
-returns-in-Begun-clause-cache c =
+pub returns-clause-cache : goal.returns-clause-cache
+returns-clause-cache c =
     looks_to c.args.views.now c.args.cache.now c.go_on.new.cache c.args.self.now c.go_on.new.self c.go_on.result
-    (returns-in-Begun-clause-goes c)
+    (returns-clause-goes c)
