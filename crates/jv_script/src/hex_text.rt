@@ -1,5 +1,5 @@
 //! Bytes as pairs of hexadecimal digits, printed.
-ghost use Rattle.std.specs.Prelude.{◌≡◌, ◌<◌, ◌++◌, OnOk};
+ghost use Rattle.std.specs.Prelude.{◌≡◌, ◌*◌, ◌<◌, ◌++◌, OnOk, length};
 ghost use Rattle.std.specs.List.{flat_map};
 ghost use Rattle.jv_model.specs.script.Printed.{hex_digit, hex_pair};
 
@@ -36,8 +36,20 @@ fn push_all_digits(text: &mut Vec<u8>, bytes: &[u8]) -> Result<(), AllocError>
     let digits = bytes.len().checked_mul(2).ok_or(AllocError)?;
     let end = start.checked_add(digits).ok_or(AllocError)?;
     text.resize(end, 0)?;
-    hex::encode_to_slice(bytes, &mut text[start..]).unwrap();
+    encode_into(bytes, &mut text[start..]);
     Ok(())
+}
+
+// `hex::encode_to_slice` looks up each digit, which takes several times as long as computing many at a time.
+/// Writes bytes as pairs of digits.
+fn encode_into(bytes: &[u8], digits: &mut [u8])
+    requires { length digits.old ≡ 2 * length bytes.now }
+    ensures { digits.new ≡ flat_map hex_pair bytes.now }
+{
+    for i in 0..bytes.len() {
+        digits[2 * i] = hex_digit(bytes[i] / 16);
+        digits[2 * i + 1] = hex_digit(bytes[i] % 16);
+    }
 }
 
 /// The two digits of a byte.
@@ -51,5 +63,9 @@ fn hex_digit(value: u8) -> u8
     requires { value < 16 }
     ensures { result ≡ hex_digit value }
 {
-    b"0123456789abcdef"[value as usize]
+    if value < 10 {
+        b'0' + value
+    } else {
+        b'a' - 10 + value
+    }
 }

@@ -1,5 +1,5 @@
 -- One plain part, whose digits are pairs.
-use Rattle.std.proofs.Common.{arith, rules, length, sym, ap, ◌∙◌}
+use Rattle.std.proofs.Common.{arith, rules, length}
 use Rattle.std.proofs.lemmas.Bool.{le-leb, lt-leb}
 use Rattle.jv_model.specs.declared.limits.TheConstants.{MAX_DATA}
 use Rattle.jv_model.specs.script.Spelling.{bytes_of_digits}
