@@ -1,9 +1,12 @@
 -- How bytes are cut into texts.
-use Rattle.std.proofs.Common.{◌≡◌, ℕ, suc, ◌+◌, ◌<◌, ◌≤◌, Bool, true, false, not, cond, ltb, List, [], ◌∷◌, ◌++◌, length, get_or, take, drop, zero, Some, None, inl, inr, refl, sym, ap, ◌∙◌, arith}
+use Rattle.std.proofs.Common.{◌≡◌, ℕ, suc, ◌+◌, ◌<◌, ◌≤◌, Bool, true, false, not, cond, ltb, List, [], ◌∷◌, ◌++◌, length, get_or, take, drop, zero, Option, Some, None, inl, inr, refl, sym, ap, ◌∙◌, arith}
 use Rattle.std.proofs.lemmas.Bool.{or_parts, or_from, cond-true, cond-false, eqb-true, ltb-false, ltb-true, lt-ltb, le-ltb, cases_Bool}
+use Rattle.std.proofs.lemmas.Bool.{false_from_ne_true}
 use Rattle.std.proofs.lemmas.List.{take-append-drop, drop_more, get_or-take, length-take, length-drop}
 use Rattle.std.proofs.lemmas.List.Quantifiers.{position-Some}
+use Rattle.std.proofs.lemmas.List.Sums.{position_or_len_is}
 use Rattle.std.specs.List.{position, position_or_len, prefix_len}
+use Rattle.memchr.specs.Find.{IsFirstByte, is_byte}
 use Rattle.jv_cmd.specs.Texts.{is_feed, has_feed, with_first, texts_of}
 
 -- a text that a line feed ends
@@ -76,6 +79,19 @@ length_after (suc seen) (x ∷ xs) h none =
     let one : position_or_len is_feed (x ∷ xs) ≡ 1 + position_or_len is_feed xs = ap (λ b. cond (not b) (1 + position_or_len is_feed xs) 0) parts.0 in
     let later = length_after seen xs (omega arith) parts.1 in
     omega (arith, one, later)
+
+-- what a search for the byte finds
+pub first_feed : (xs : List ℕ) (found : Option ℕ) → IsFirstByte (is_byte 10) xs found → found ≡ position is_feed xs
+first_feed xs None nowhere =
+    let past = position_or_len_is is_feed xs (length xs) 0 (omega arith)
+    (λ k below. false_from_ne_true _ (nowhere k (omega arith) below)) (λ never. absurd (omega (arith, never))) in
+    sym (cond-false _ (Some (position_or_len is_feed xs)) None
+    (le-ltb (position_or_len is_feed xs) (length xs) (omega (arith, past))))
+first_feed xs (Some k) (none, here) =
+    let place = position_or_len_is is_feed xs k 0 (omega (arith, none.high))
+    (λ j below. false_from_ne_true _ (none.before j (omega arith) below)) (λ within. here) in
+    sym (cond-true _ (Some (position_or_len is_feed xs)) None
+    (lt-ltb (position_or_len is_feed xs) (length xs) (omega (arith, none.high, place))) ∙ ap Some place)
 
 -- a search that begins behind bytes without a line feed
 pub position_after-none : (xs : List ℕ) (seen : ℕ) → seen ≤ length xs → has_feed (take seen xs) ≡ false → position is_feed (drop seen xs) ≡ None → position is_feed xs ≡ None

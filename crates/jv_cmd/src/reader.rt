@@ -7,6 +7,7 @@ ghost use Rattle.jv_cmd.specs.Texts.{is_feed, has_feed};
 
 use jv_model::{Down, MAX_LINE};
 use jv_outside::Source;
+use memchr::memchr;
 use std::alloc::{AllocError, Global};
 use std::marker::Model;
 
@@ -52,7 +53,7 @@ impl Model for LineReader {
 pub(crate) fn feed_in(bytes: &[u8]) -> Option<usize>
     ensures { result ≡ position is_feed bytes.now }
 {
-    bytes.iter().position(|byte| *byte == b'\n')
+    memchr(b'\n', bytes)
 }
 
 impl LineReader {
