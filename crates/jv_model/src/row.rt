@@ -8,7 +8,7 @@ use crate::slice::List;
 use std::alloc::{AllocError, Global};
 
 /// The key of a row: its table and two parts, of which some tables use one. Keys go by table, number and bytes.
-#[derive(Debug, Drop, PartialEq, Eq, PartialOrd, Ord)]
+#[derive(Debug, Drop, PartialEq, Eq, PartialOrd, Ord, Hash)]
 pub struct RowKey {
     pub tab: u8,
     pub a: u64,

@@ -3,6 +3,7 @@ ghost use Rattle.std.specs.Prelude.{◌≡◌, ℕ, ◌+◌, ◌-◌, ◌<◌, �
 
 use std::alloc::{AllocError, Global};
 use std::cmp::Ordering;
+use std::hash::{Hash, Hasher};
 use std::marker::Model;
 
 /// Values in a row, which contracts see as a list. It is made from a `Vec` and turned back into one without taking memory.
@@ -115,6 +116,18 @@ impl<T: Ord> Ord for Sequence<T> {
 
     fn cmp(&self, other: &Self) -> Ordering {
         self.items.cmp(&other.items)
+    }
+}
+
+impl<T: Hash> Hash for Sequence<T> {
+    ghost use Rattle.std.specs.Hash.{items_Alike, slice};
+
+    ghost hash_input = { slice T.hash_input };
+
+    ghost respects_eq = { (items_Alike (record { fed = T.respects_eq })).fed };
+
+    fn hash<H: Hasher>(&self, state: &mut H) {
+        self.items.hash(state);
     }
 }
 

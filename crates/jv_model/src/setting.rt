@@ -1,6 +1,7 @@
 //! A volume's setting, and what `stat` and `statfs` return.
-use crate::bytes::Text;
+use crate::bytes::{Text, copied};
 use crate::limits::{FULL_COUNT, GIB};
+use std::alloc::{AllocError, Global};
 
 /// What a volume was formatted with.
 #[derive(Debug, Drop, PartialEq, Eq)]
@@ -24,8 +25,24 @@ pub struct Setting {
 }
 
 impl Setting {
-    ghost use Rattle.std.specs.Prelude.{◌≡◌};
+    ghost use Rattle.std.specs.Prelude.{◌≡◌, IfOk};
     ghost use Rattle.jv_model.specs.tree.Tree.{space_limit, inode_limit};
+
+    /// A copy of the setting.
+    pub fn copied(&self, alloc: Global) -> Result<Setting, AllocError>
+        ensures { IfOk result (λ copy. copy ≡ self.now) }
+    {
+        Ok(Setting {
+            version: self.version,
+            block: self.block,
+            trash_days: self.trash_days,
+            capacity: self.capacity,
+            inodes: self.inodes,
+            hash: self.hash,
+            name: copied(alloc, self.name.as_slice())?,
+            bucket: copied(alloc, self.bucket.as_slice())?,
+        })
+    }
 
     /// The greatest used space in bytes.
     pub fn space_limit(&self) -> u128

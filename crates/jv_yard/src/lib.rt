@@ -6,7 +6,6 @@ mod faults;
 mod finding;
 mod laws;
 mod note;
-mod setting;
 mod staging;
 mod yard;
 

@@ -9,7 +9,6 @@ ghost use Rattle.jv_yard.specs.Staging.{staged_since};
 use crate::faults::{YardFault, depot_fault, shelf_fault};
 use crate::finding::find_staged;
 use crate::note::{MAIN, Note, What};
-use crate::setting::copied_setting;
 use crate::staging::ClientBlocks;
 use jv_model::{Bytes, ClientId, Moment, Name, Sequence, Setting, push_in_room};
 use jv_outside::{Depot, Parcel, Shelf};
@@ -61,7 +60,7 @@ impl<D: Depot, H: Shelf> Yard<D, H> {
         ensures depot { IfErr result (λ back. back.0 ≡ depot) }
         ensures shelf { IfErr result (λ back. ShelfRefuses (H.seen shelf) (H.seen back.1) back.2) }
     {
-        let Ok(setting) = copied_setting(alloc, s) else {
+        let Ok(setting) = s.copied(alloc) else {
             return Err((depot, shelf, YardFault::Memory));
         };
         match find_staged(alloc, &mut shelf, s) {
