@@ -115,7 +115,7 @@ fn run_text<S: Source, O: Sink, K: Keeper, D: Depot, H: Shelf, C: Clock>(
     ensures yard { let given = ⟦<Alone<D, H> as YardDoor<D, H>>⟧.given in
         IsSomeAnd (given stage.new.door) (IsYardOf schedule.new) }
 {
-    // Such a line isn't made, since that costs more than to read it.
+    // A line that does nothing is read but not made, since that costs more.
     if is_silent(text) {
         return Ok(());
     }

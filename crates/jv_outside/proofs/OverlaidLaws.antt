@@ -8,6 +8,7 @@ use Rattle.jv_model.proofs.FiniteMapLaws.{get-insert, get-remove, get-empty_map,
 use Rattle.jv_outside.specs.declared.block_store.BlockStore.{BlockStore}
 use Rattle.jv_outside.specs.declared.object_store.ObjectStore.{ObjectStore}
 use Rattle.jv_outside.specs.Blocks.{key_of, bytes_of}
+use Rattle.jv_outside.specs.LazyTrees.{entries_in}
 use Rattle.jv_outside.specs.Objects.{name_of, value_of}
 use Rattle.jv_outside.specs.Overlaid.{overlaid}
 use Rattle.jv_outside.specs.StoredBlocks.{blocks_in}
@@ -100,9 +101,9 @@ module _ {K X : Type 0} (order : KeyOrder K) where
   map_of-without q es =
       map_of-overlaid _ ∙ overlaid-without order (λ e. e.0) (λ e. e.1) q es empty_map empty_map (sym (remove-empty X order q)) ∙ ap (λ m. remove m q) (sym (map_of-overlaid es))
 
--- objects that are all in order
-pub objects-settled : (store : ObjectStore) → store.listed.items ≡ [] → objects_in store ≡ map_of store.sorted.entries
-objects-settled store h = ap (λ objects. overlaid name_of value_of objects (map_of store.sorted.entries)) h
+-- objects that are all in the tree
+pub objects-settled : (store : ObjectStore) → store.listed.items ≡ [] → objects_in store ≡ map_of (entries_in store.tree)
+objects-settled store h = ap (λ objects. overlaid name_of value_of objects (map_of (entries_in store.tree))) h
 
 -- blocks that are all in order
 pub blocks-settled : (store : BlockStore) → store.listed.items ≡ [] → blocks_in store ≡ map_of store.sorted.entries

@@ -12,6 +12,7 @@ pub mod Carriage
 pub mod Blocks
 pub mod Calls
 pub mod InMemory
+pub mod LazyTrees
 pub mod Stored
 pub mod StoredObjects
 pub mod StoredBlocks

@@ -6,13 +6,14 @@ use Rattle.std.specs.Ordering.{is_le}
 use Rattle.jv_model.specs.declared.row.RowKey.{RowKey}
 use Rattle.jv_model.specs.rows.RowKeys.{RowMap, row_map, row_cmp}
 use Rattle.jv_outside.specs.declared.store.RowStore.{RowStore}
+use Rattle.jv_outside.specs.LazyTrees.{entries_in}
 use Rattle.jv_outside.specs.Rows.{applied}
 
--- the rows: those in order, before them those that aren't in order yet, and on both the changes that wait
+-- the rows: those in the tree, before them those that aren't there yet, and on both the changes that wait
 abbrev pub stored : RowStore → RowMap
-stored store = applied store.waiting.items (row_map (store.listed.items ++ store.sorted.entries))
+stored store = applied store.waiting.items (row_map (store.listed.items ++ entries_in store.tree))
 
--- all rows are in order, and no change waits
+-- all rows are in the tree, and no change waits
 pub record IsSettled (store : RowStore) : Type 0 where
   pub listed : store.listed.items ≡ []
   pub waiting : store.waiting.items ≡ []

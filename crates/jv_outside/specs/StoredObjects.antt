@@ -4,12 +4,13 @@ use Rattle.std.specs.declared.ops.Bound.{Bound}
 use Rattle.std.specs.declared.ops.Bound.TheVariants.{Excluded, Unbounded}
 use Rattle.jv_model.specs.FiniteMap.{map_of}
 use Rattle.jv_outside.specs.declared.object_store.ObjectStore.{ObjectStore}
+use Rattle.jv_outside.specs.LazyTrees.{entries_in}
 use Rattle.jv_outside.specs.Objects.{ObjectMap, name_of, value_of}
 use Rattle.jv_outside.specs.Overlaid.{overlaid}
 
--- the objects: those in order, and over them those that aren't in order yet
+-- the objects: those in the tree, and over them those that aren't there yet
 abbrev pub objects_in : ObjectStore → ObjectMap
-objects_in store = overlaid name_of value_of store.listed.items (map_of store.sorted.entries)
+objects_in store = overlaid name_of value_of store.listed.items (map_of (entries_in store.tree))
 
 -- where a listing begins: after a name, or at the first
 abbrev pub list_start : Option (List ℕ) → Bound (List ℕ)

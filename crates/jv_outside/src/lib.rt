@@ -10,6 +10,7 @@ mod counts;
 mod depot;
 mod keeper;
 mod law;
+mod lazy_tree;
 mod mem_carrier;
 mod mem_clock;
 mod mem_depot;

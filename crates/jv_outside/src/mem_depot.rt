@@ -1,6 +1,7 @@
-//! Depots in memory. Their `get`, `publish` and `remove` take time logarithmic in the number of objects, and `list` that
-//! and a time linear in the objects that it returns; the first call after `new`, which brings the objects into order,
-//! takes that for each object.
+//! Depots in memory. A `get` takes constant time on average for an object that was published since the last `list`, as does
+//! each `publish`, and else time logarithmic in their number, as a `remove` does. A `list` takes that for each object
+//! published since the last one, and a time linear in the objects that it returns. The first call after `new` looks at each
+//! object.
 ghost use Rattle.std.specs.Prelude.{◌≡◌, ◌↔◌, ◌||◌, IsTrue, IfErr, None, false};
 ghost use Rattle.std.specs.Option.{option_copied};
 ghost use Rattle.jv_model.specs.declared.fault.Down.TheVariants.{Failed, Memory};

@@ -1,6 +1,6 @@
-//! Keepers in memory. Their `get` and `commit` take time logarithmic in the number of rows, and `scan` that and a time
-//! linear in the rows that it returns; the first call after `new`, which brings the rows into order, takes that for each
-//! row.
+//! Keepers in memory. A `get` takes constant time on average for a row that was put since the last `scan`, and else time
+//! logarithmic in their number, as a `commit` does for each row that it removes. A `scan` takes that for each row put since
+//! the last one, and a time linear in the rows that it returns. The first call after `new` looks at each row.
 ghost use Rattle.std.specs.Prelude.{◌≡◌, ◌↔◌, IsTrue, IfErr, None};
 ghost use Rattle.std.specs.Option.{option_copied};
 ghost use Rattle.jv_model.specs.declared.fault.Down.TheVariants.{Failed, Memory};

@@ -1,26 +1,27 @@
-//! Objects in memory, in the order of their names.
+//! Objects in memory, by their names.
 ghost use Rattle.std.specs.Prelude.{◌≡◌, [], map, take, IfOk, IfErr, OnOk, OnErr};
 ghost use Rattle.std.specs.Option.{option_copied};
 ghost use Rattle.std.specs.Range.Bound.{bound_map};
 ghost use Rattle.jv_model.specs.declared.fault.Down.TheVariants.{Memory};
 ghost use Rattle.jv_model.specs.FiniteMap.{map_of, text_key};
+ghost use Rattle.jv_outside.specs.LazyTrees.{entries_in};
 ghost use Rattle.jv_outside.specs.Objects.{as_seen, bytes_at, object_map, seen_after, with_object, without};
 ghost use Rattle.jv_outside.specs.Parcels.{parcel_of};
 ghost use Rattle.jv_outside.specs.StoredObjects.{list_start, objects_in};
 
+use crate::lazy_tree::LazyTree;
 use crate::object::{Object, ObjectList};
 use crate::parcel::Parcel;
 use jv_model::{Bytes, Down, Moment, Name, Seen, SeenList, Sequence, copied, push_in_room};
 use std::alloc::{AllocError, Global};
-use std::collections::BTreeMap;
 use std::collections::btree_map::Range;
 use std::ops::Bound;
 
-/// Objects in the order of their names. Those that aren't in order yet are brought there by the next call.
+/// Objects by their names. Those that it was given are brought into its tree by the next call.
 #[derive(Debug, Drop)]
 pub(crate) struct ObjectStore {
-    sorted: BTreeMap<Name, (Bytes, Moment)>,
-    // Objects that aren't in order yet. Of objects with one name the first stands, and before one in order.
+    tree: LazyTree<Name, (Bytes, Moment)>,
+    // Objects that aren't in the tree yet. Of objects with one name the first stands, and before one in the tree.
     listed: Vec<Object>,
     alloc: Global,
 }
@@ -31,7 +32,7 @@ impl ObjectStore {
         ensures { objects_in result ≡ object_map objects }
     {
         ObjectStore {
-            sorted: BTreeMap::new(alloc),
+            tree: LazyTree::new(alloc),
             listed: objects.into_vec(),
             alloc,
         }
@@ -43,7 +44,7 @@ impl ObjectStore {
         ensures value { IfOk result (λ value. value ≡ bytes_at name.now (objects_in self.old)) }
     {
         self.settle()?;
-        match self.sorted.get(name) {
+        match self.tree.get(name) {
             Some(object) => Ok(Some(copied(self.alloc, object.0.as_slice())?)),
             None => Ok(None),
         }
@@ -57,7 +58,7 @@ impl ObjectStore {
         ensures back { IfErr result (λ refused. refused ≡ object) }
     {
         match self.settle() {
-            Ok(()) => insert(&mut self.sorted, object),
+            Ok(()) => insert(&mut self.tree, object),
             Err(_) => Err(object),
         }
     }
@@ -81,7 +82,7 @@ impl ObjectStore {
         ensures err { OnErr result (objects_in self.new ≡ objects_in self.old) }
     {
         self.settle()?;
-        self.sorted.remove(name);
+        self.tree.remove(name);
         Ok(())
     }
 
@@ -92,17 +93,18 @@ impl ObjectStore {
             found ≡ seen_after (option_copied after.entry) n (objects_in self.old)) }
     {
         self.settle()?;
-        let objects = self.sorted.range((start(after), Bound::Unbounded));
+        self.tree.sort()?;
+        let objects = self.tree.sorted.range((start(after), Bound::Unbounded));
         seen_of(self.alloc, objects, n)
     }
 
-    /// Brings the listed objects into order. Out of memory, some of them wait still.
+    /// Brings the listed objects into the tree. Out of memory, some of them wait still.
     fn settle(&mut self) -> Result<(), AllocError>
         ensures same { objects_in self.new ≡ objects_in self.old }
         ensures settled { OnOk result (self.new.listed.items ≡ []) }
     {
         while let Some(object) = self.listed.pop() {
-            if let Err(refused) = insert(&mut self.sorted, object) {
+            if let Err(refused) = insert(&mut self.tree, object) {
                 push_in_room(&mut self.listed, refused);
                 return Err(AllocError);
             }
@@ -111,19 +113,16 @@ impl ObjectStore {
     }
 }
 
-/// Puts an object among objects in order. Out of memory, nothing has changed, and it returns the object.
-fn insert(sorted: &mut BTreeMap<Name, (Bytes, Moment)>, object: Object) -> Result<(), Object>
-    ensures ok { OnOk result (map_of {order = text_key} sorted.new.entries
-        ≡ with_object object.name object.bytes object.at (map_of sorted.old.entries)) }
-    ensures err { OnErr result (sorted.new.entries ≡ sorted.old.entries) }
+/// Puts an object into a tree. Out of memory, nothing has changed, and it returns the object.
+fn insert(tree: &mut LazyTree<Name, (Bytes, Moment)>, object: Object) -> Result<(), Object>
+    ensures ok { OnOk result (map_of {order = text_key} (entries_in tree.new)
+        ≡ with_object object.name object.bytes object.at (map_of (entries_in tree.old))) }
+    ensures err { OnErr result (entries_in tree.new ≡ entries_in tree.old) }
     ensures back { IfErr result (λ refused. refused ≡ object) }
 {
-    match sorted.insert(object.name, (object.bytes, object.at)) {
-        Ok(_) => Ok(()),
-        Err(refused) => {
-            let (name, (bytes, at)) = refused.value;
-            Err(Object { name, bytes, at })
-        }
+    match tree.insert(object.name, (object.bytes, object.at)) {
+        Ok(()) => Ok(()),
+        Err((name, (bytes, at))) => Err(Object { name, bytes, at }),
     }
 }
 

@@ -1,26 +1,28 @@
-//! Rows in memory, in the order of their keys.
+//! Rows in memory, by their keys.
 ghost use Rattle.std.specs.Prelude.{◌≡◌, ◌==◌, [], take, take_while, IfOk, IfErr, OnOk, OnErr};
 ghost use Rattle.std.specs.Option.{option_copied};
 ghost use Rattle.std.specs.Range.Bound.{bound_map};
 ghost use Rattle.jv_model.specs.FiniteMap.{get, insert};
 ghost use Rattle.jv_model.specs.rows.RowKeys.{row_map};
+ghost use Rattle.jv_outside.specs.LazyTrees.{entries_in};
 ghost use Rattle.jv_outside.specs.Rows.{after_change, applied, rows_after};
 ghost use Rattle.jv_outside.specs.Stored.{stored, IsSettled, scan_start};
 
 use crate::batch::{Batch, Change};
+use crate::lazy_tree::LazyTree;
 use jv_model::{Bytes, RowKey, Rows, Sequence, copied, push_in_room};
 use std::alloc::{AllocError, Global};
+use std::collections::VecDeque;
 use std::collections::btree_map::Range;
-use std::collections::{BTreeMap, VecDeque};
 use std::ops::Bound;
 
-/// Rows in the order of their keys. What isn't in order yet is brought there by the next call.
+/// Rows by their keys. Those that it was given and changes that wait are brought into its tree by the next call.
 #[derive(Debug, Drop)]
 pub(crate) struct RowStore {
-    sorted: BTreeMap<RowKey, Bytes>,
-    // Rows that aren't in order yet. Of rows with one key the first stands, and before one in order.
+    tree: LazyTree<RowKey, Bytes>,
+    // Rows that aren't in the tree yet. Of rows with one key the first stands, and before one in the tree.
     listed: Vec<(RowKey, Bytes)>,
-    // Changes that were made and aren't among the rows yet.
+    // Changes that were made and aren't in the tree yet.
     waiting: VecDeque<Change>,
     alloc: Global,
 }
@@ -31,7 +33,7 @@ impl RowStore {
         ensures { stored result ≡ row_map rows }
     {
         RowStore {
-            sorted: BTreeMap::new(alloc),
+            tree: LazyTree::new(alloc),
             listed: rows.into_vec(),
             waiting: VecDeque::new(alloc),
             alloc,
@@ -44,7 +46,7 @@ impl RowStore {
         ensures value { IfOk result (λ value. value ≡ get (stored self.old) key.now) }
     {
         self.settle()?;
-        match self.sorted.get(key) {
+        match self.tree.get(key) {
             Some(bytes) => Ok(Some(copied(self.alloc, bytes.as_slice())?)),
             None => Ok(None),
         }
@@ -62,12 +64,16 @@ impl RowStore {
             found ≡ rows_after (stored self.old) tab (option_copied after.entry) n) }
     {
         self.settle()?;
+        self.tree.sort()?;
         let first = RowKey {
             tab,
             a: 0,
             b: Sequence::new(self.alloc),
         };
-        let rows = self.sorted.range((start(&first, after), Bound::Unbounded));
+        let rows = self
+            .tree
+            .sorted
+            .range((start(&first, after), Bound::Unbounded));
         copied_rows(self.alloc, rows, tab, n)
     }
 
@@ -83,22 +89,22 @@ impl RowStore {
         Ok(())
     }
 
-    /// Brings all rows into order and makes what waits. Out of memory, some of it waits still.
+    /// Brings all rows into the tree and makes what waits. Out of memory, some of it waits still.
     fn settle(&mut self) -> Result<(), AllocError>
         ensures same { stored self.new ≡ stored self.old }
         ensures settled { OnOk result (IsSettled self.new) }
     {
-        self.sort_listed()?;
+        self.settle_listed()?;
         self.make_waiting()
     }
 
-    /// Brings the listed rows into order.
-    fn sort_listed(&mut self) -> Result<(), AllocError>
+    /// Brings the listed rows into the tree.
+    fn settle_listed(&mut self) -> Result<(), AllocError>
         ensures same { stored self.new ≡ stored self.old }
-        ensures sorted { OnOk result (self.new.listed.items ≡ []) }
+        ensures settled { OnOk result (self.new.listed.items ≡ []) }
     {
         while let Some((key, bytes)) = self.listed.pop() {
-            if let Err(refused) = put(&mut self.sorted, key, bytes) {
+            if let Err(refused) = self.tree.insert(key, bytes) {
                 push_in_room(&mut self.listed, refused);
                 return Err(AllocError);
             }
@@ -113,7 +119,7 @@ impl RowStore {
         ensures settled { OnOk result (IsSettled self.new) }
     {
         while let Some(change) = self.waiting.pop_front() {
-            if let Err(refused) = make(&mut self.sorted, change) {
+            if let Err(refused) = make(&mut self.tree, change) {
                 self.waiting.push_front(refused).unwrap();
                 return Err(AllocError);
             }
@@ -122,37 +128,20 @@ impl RowStore {
     }
 }
 
-/// Puts a row among rows in order. Out of memory, nothing has changed, and it returns the row.
-fn put(
-    sorted: &mut BTreeMap<RowKey, Bytes>,
-    key: RowKey,
-    bytes: Bytes,
-) -> Result<(), (RowKey, Bytes)>
-    ensures ok { OnOk result (row_map sorted.new.entries ≡ insert (row_map sorted.old.entries) key
-        bytes) }
-    ensures err { OnErr result (sorted.new.entries ≡ sorted.old.entries) }
-    ensures back { IfErr result (λ row. row ≡ (key, bytes)) }
-{
-    match sorted.insert(key, bytes) {
-        Ok(_) => Ok(()),
-        Err(refused) => Err(refused.value),
-    }
-}
-
-/// Makes a change among rows in order. Out of memory, nothing has changed, and it returns the change.
-fn make(sorted: &mut BTreeMap<RowKey, Bytes>, change: Change) -> Result<(), Change>
-    ensures ok { OnOk result (row_map sorted.new.entries
-        ≡ after_change change (row_map sorted.old.entries)) }
-    ensures err { OnErr result (sorted.new.entries ≡ sorted.old.entries) }
+/// Makes a change in a tree. Out of memory, nothing has changed, and it returns the change.
+fn make(tree: &mut LazyTree<RowKey, Bytes>, change: Change) -> Result<(), Change>
+    ensures ok { OnOk result (row_map (entries_in tree.new)
+        ≡ after_change change (row_map (entries_in tree.old))) }
+    ensures err { OnErr result (entries_in tree.new ≡ entries_in tree.old) }
     ensures back { IfErr result (λ refused. refused ≡ change) }
 {
     match change {
-        Change::Put(key, bytes) => match put(sorted, key, bytes) {
+        Change::Put(key, bytes) => match tree.insert(key, bytes) {
             Ok(()) => Ok(()),
             Err((key, bytes)) => Err(Change::Put(key, bytes)),
         },
         Change::Del(key) => {
-            sorted.remove(&key);
+            tree.remove(&key);
             Ok(())
         }
     }

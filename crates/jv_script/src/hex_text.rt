@@ -40,7 +40,7 @@ fn push_all_digits(text: &mut Vec<u8>, bytes: &[u8]) -> Result<(), AllocError>
     Ok(())
 }
 
-// `hex::encode_to_slice` looks up each digit, which takes several times as long as computing many at a time.
+// `hex::encode_to_slice` looks up each digit, which takes more than twice the instructions of computing many at a time.
 /// Writes bytes as pairs of digits.
 fn encode_into(bytes: &[u8], digits: &mut [u8])
     requires { length digits.old ≡ 2 * length bytes.now }

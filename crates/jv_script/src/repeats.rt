@@ -1,5 +1,6 @@
 //! Repeats, which are equal bytes in a row. A long one has four bytes or more, and is printed as a part of its own.
-ghost use Rattle.std.specs.Prelude.{◌≡◌, ◌<◌, ◌≤◌, ◌-◌, false, true, length};
+ghost use Rattle.std.specs.Prelude.{◌≡◌, ◌+◌, ◌<◌, ◌≤◌, ◌-◌, false, true, length};
+ghost use Rattle.jv_script.specs.declared.repeats.TheConstants.{BLOCK, BEYOND};
 ghost use Rattle.jv_script.specs.Printing.{begins_long, HasNoLongBefore, IsFirstRepeat, IsFrontCount, IsPlainFront};
 
 /// The bytes that are tested together for a long repeat.
@@ -120,8 +121,8 @@ fn is_plain_end(bytes: &[u8]) -> bool
 
 // Whether no long repeat begins in the block at the front, and there are bytes after it.
 fn is_plain_block(bytes: &[u8]) -> bool
-    ensures more { result ≡ true → 64 < length bytes.now }
-    ensures plain { result ≡ true → HasNoLongBefore 64 bytes.now }
+    ensures more { result ≡ true → BLOCK < length bytes.now }
+    ensures plain { result ≡ true → HasNoLongBefore BLOCK bytes.now }
 {
     if bytes.len() <= BLOCK + BEYOND {
         return false;
@@ -133,8 +134,8 @@ fn is_plain_block(bytes: &[u8]) -> bool
 // As `may_have_long_repeat`, where the compiler doesn't know the length and would test up to 31 places one by one. Tests two
 // halves of a known length, the first bytes and the last ones, which overlap where there are fewer.
 fn end_may_have_long_repeat(bytes: &[u8]) -> bool
-    requires { length bytes.now ≤ 67 }
-    ensures { result ≡ false → HasNoLongBefore (length bytes.now - 3) bytes.now }
+    requires { length bytes.now ≤ BLOCK + BEYOND }
+    ensures { result ≡ false → HasNoLongBefore (length bytes.now - BEYOND) bytes.now }
 {
     if bytes.len() < HALF + BEYOND {
         return may_have_long_repeat(bytes);
@@ -146,7 +147,7 @@ fn end_may_have_long_repeat(bytes: &[u8]) -> bool
 
 // False only where no four bytes side by side are equal. Tests each four: the compiler then takes many at a time.
 fn may_have_long_repeat(bytes: &[u8]) -> bool
-    ensures { result ≡ false → HasNoLongBefore (length bytes.now - 3) bytes.now }
+    ensures { result ≡ false → HasNoLongBefore (length bytes.now - BEYOND) bytes.now }
 {
     let mut found = false;
     for i in BEYOND..bytes.len() {

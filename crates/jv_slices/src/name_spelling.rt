@@ -5,8 +5,8 @@ use crate::digits::{push_decimal, upper_pair};
 use jv_model::{Name, Setting};
 use std::alloc::{AllocError, Global};
 
-/// Room for all of a name but the volume's.
-const ROOM: usize = 128;
+/// Room for all of a name but the volume's, where the slice's number is below a million.
+const ROOM: usize = 32;
 
 /// The name of a block as an object: of the block at `index` of the slice `id`, which has `size` bytes. Any numbers are
 /// spelled, also those of no block.

@@ -1,6 +1,6 @@
 use Rattle.std.proofs.Common.{◌≡◌, length}
 use Rattle.jv_outside.specs.Stored.{stored}
-use Rattle.jv_outside.proofs.store.RowStore.sort_listed.Given as goal
+use Rattle.jv_outside.proofs.store.RowStore.settle_listed.Given as goal
 
 abbrev pub invariant-loop-key : goal.invariant-loop-key
 invariant-loop-key l = stored l.self ≡ stored l.initial.self

@@ -1,6 +1,0 @@
-use Rattle.jv_model.specs.rows.RowKeys.{row_key}
-use Rattle.jv_outside.proofs.StoredLaws.{map_of-updated}
-use Rattle.jv_outside.proofs.store.put.Goals as goal
-
-pub returns-in-Ok-clause-ok : goal.returns-in-Ok-clause-ok
-returns-in-Ok-clause-ok c = map_of-updated row_key _ _ _ _ c.in-Ok.ensures.updates.0
