@@ -7,6 +7,7 @@ use Rattle.clap.specs.Words.{Row, Text, Kinds, fault_of, first_of, subcommand_of
 use Rattle.clap.specs.declared.parser.matches.ArgMatches.{ArgMatches}
 use Rattle.jv_cmd.specs.declared.words.request.Command.{Command}
 use Rattle.jv_cmd.specs.declared.words.request.Command.TheVariants.{Format, Session}
+use Rattle.jv_cmd.specs.declared.words.request.TheConstants.{MAX_BUFFER, MAX_CACHE, MAX_UPLOADS, MIN_BUFFER}
 use Rattle.jv_cmd.specs.declared.words.request.WordsFault.{WordsFault}
 use Rattle.jv_cmd.specs.declared.words.request.WordsFault.TheVariants.{Refused, Memory}
 use Rattle.std.proofs.lemmas.Bool.{leb-true}
@@ -95,8 +96,8 @@ number_in_range least most text = all_then (number_of_digits text) (within least
 value_in_range : (least most : ℕ) (id : Text) (rows : List Row) → IfSome (value_in (number_within least most) id rows) (InRange least most)
 value_in_range least most id rows = all_then (first_of id rows) (number_within least most) (InRange least most) (number_in_range least most)
 
-options_made : (staged : Bool) (cache buffer uploads : Option ℕ) (folder : Option Text) (seed : Option (Option ℕ)) → IfSome cache (InRange 0 256)
-    → IfSome buffer (InRange 8 256)
+options_made : (staged : Bool) (cache buffer uploads : Option ℕ) (folder : Option Text) (seed : Option (Option ℕ)) → IfSome cache (InRange 0 MAX_CACHE)
+    → IfSome buffer (InRange MIN_BUFFER MAX_BUFFER)
     → IfSome (option_and_then (λ c. option_and_then (λ b. option_and_then (λ u. option_and_then (λ f. option_and_then (λ g.
     Some (record { cache = c; buffer = b; uploads = u; writeback = staged; cache_dir = f; generate = g })) seed) folder) uploads) buffer) cache)
     AreAllowed
@@ -110,10 +111,10 @@ options_made staged (Some c) (Some b) (Some u) (Some f) (Some g) small range = r
 options_allowed : (rows : List Row) → IfSome (options_in rows) AreAllowed
 unfolding options_in
 options_allowed rows =
-    options_made (is_given (codes "writeback") rows) (value_in (number_within 0 256) (codes "cache-size") rows)
-    (value_in (number_within 8 256) (codes "buffer-size") rows) (value_in (number_within 0 64) (codes "max-uploads") rows)
-    (first_of (codes "cache-dir") rows) (seed_of (first_of (codes "generate") rows)) (value_in_range 0 256 (codes "cache-size") rows)
-    (value_in_range 8 256 (codes "buffer-size") rows)
+    options_made (is_given (codes "writeback") rows) (value_in (number_within 0 MAX_CACHE) (codes "cache-size") rows)
+    (value_in (number_within MIN_BUFFER MAX_BUFFER) (codes "buffer-size") rows) (value_in (number_within 0 MAX_UPLOADS) (codes "max-uploads") rows)
+    (first_of (codes "cache-dir") rows) (seed_of (first_of (codes "generate") rows)) (value_in_range 0 MAX_CACHE (codes "cache-size") rows)
+    (value_in_range MIN_BUFFER MAX_BUFFER (codes "buffer-size") rows)
 
 session_allowed : (rows : List Row) → IfSome (session_in rows) IsAllowedCommand
 unfolding session_in

@@ -3,6 +3,7 @@ use Rattle.std.specs.Prelude.{ℕ, zero, suc, ◌*◌, ◌/◌, ◌≤◌, max, 
 use Rattle.jv_model.specs.declared.basics.Limits.{Limits}
 use Rattle.jv_model.specs.declared.limits.TheConstants.{MIB}
 use Rattle.jv_cmd.specs.declared.words.request.SessionOptions.{SessionOptions}
+use Rattle.jv_cmd.specs.declared.words.request.TheConstants.{MAX_BUFFER, MAX_CACHE, MIN_BUFFER}
 
 -- the blocks of this length that a client's cache of so many MiB holds: one at least, and none where it is empty
 abbrev pub cache_entries : ℕ → ℕ → ℕ
@@ -15,6 +16,6 @@ limits_of options block = record { buffer = options.buffer * MIB; entries = cach
 
 -- the sizes are in their ranges
 pub record AreAllowed (options : SessionOptions) : Type 0 where
-  pub cache : options.cache ≤ 256
-  pub least : 8 ≤ options.buffer
-  pub most : options.buffer ≤ 256
+  pub cache : options.cache ≤ MAX_CACHE
+  pub least : MIN_BUFFER ≤ options.buffer
+  pub most : options.buffer ≤ MAX_BUFFER

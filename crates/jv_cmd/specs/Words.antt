@@ -12,6 +12,7 @@ use Rattle.jv_model.specs.script.Spelling.{number_of}
 use Rattle.jv_cmd.specs.declared.words.request.Command.{Command}
 use Rattle.jv_cmd.specs.declared.words.request.Command.TheVariants.{Format, Session}
 use Rattle.jv_cmd.specs.declared.words.request.SessionOptions.{SessionOptions}
+use Rattle.jv_cmd.specs.declared.words.request.TheConstants.{MAX_BUFFER, MAX_CACHE, MAX_UPLOADS, MIN_BUFFER}
 use Rattle.jv_cmd.specs.declared.words.request.WordsFault.{WordsFault}
 use Rattle.jv_cmd.specs.declared.words.request.WordsFault.TheVariants.{Refused, Memory}
 use Rattle.jv_cmd.specs.declared.words.read.BadValue.{BadValue}
@@ -65,9 +66,9 @@ seed_of (Some text) = option_map Some (number_of text)
 
 unfoldable pub options_in : List Row → Option SessionOptions
 options_in rows = do
-  cache ← value_in (number_within 0 256) (codes "cache-size") rows
-  buffer ← value_in (number_within 8 256) (codes "buffer-size") rows
-  uploads ← value_in (number_within 0 64) (codes "max-uploads") rows
+  cache ← value_in (number_within 0 MAX_CACHE) (codes "cache-size") rows
+  buffer ← value_in (number_within MIN_BUFFER MAX_BUFFER) (codes "buffer-size") rows
+  uploads ← value_in (number_within 0 MAX_UPLOADS) (codes "max-uploads") rows
   folder ← first_of (codes "cache-dir") rows
   generate ← seed_of (first_of (codes "generate") rows)
   Some (record { cache = cache; buffer = buffer; uploads = uploads; writeback = is_given (codes "writeback") rows; cache_dir = folder; generate = generate })

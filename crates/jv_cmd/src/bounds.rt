@@ -1,13 +1,14 @@
 //! What the options of a session bound.
 ghost use Rattle.std.specs.Prelude.{◌≡◌, ◌<◌, ◌≤◌};
 ghost use Rattle.jv_cmd.specs.Bounds.{AreAllowed, cache_entries, limits_of};
+ghost use Rattle.jv_cmd.specs.declared.words.request.TheConstants.{MAX_CACHE};
 
 use crate::words::SessionOptions;
 use jv_model::{Limits, MIB};
 
 /// The blocks of a length that a client's cache of so many MiB holds: at least one, unless the cache is empty.
 fn cache_entries(cache: u64, block: u32) -> usize
-    requires few { cache ≤ 256 }
+    requires few { cache ≤ MAX_CACHE }
     requires some { 0 < block }
     ensures { result ≡ cache_entries cache block }
 {

@@ -8,8 +8,8 @@ use jv_outside::Keeper;
 use jv_rows::read_setting;
 use std::alloc::Global;
 
-/// The version of the rows that is known.
-const VERSION: u32 = 1;
+/// The version of the rows that is known, and that `format` writes.
+pub(crate) const VERSION: u32 = 1;
 
 /// Opens the keeper at a place.
 fn attach<K: Keeper>(keeper: &mut K, place: &Text) -> Result<(), Ended>

@@ -10,6 +10,7 @@ use crate::allowed::{
 };
 use crate::fields::{take_byte, take_front, take_half, take_long, take_word};
 use crate::misread::Misread;
+use crate::spelling::RECORD_LEN;
 use jv_model::{
     Counters, Dead, Dropped, Edge, List, Node, Rec, Sequence, Session, Setting, SliceRow, copied,
 };
@@ -158,7 +159,7 @@ fn take_records(alloc: Global, count: usize, bytes: &[u8]) -> Result<(Vec<Rec>, 
 pub fn parse_list(alloc: Global, bytes: &[u8]) -> Result<List, Misread>
     ensures { ReadsAs result (list_of bytes.now) }
 {
-    let (records, rest) = take_records(alloc, bytes.len() / 24, bytes)?;
+    let (records, rest) = take_records(alloc, bytes.len() / RECORD_LEN, bytes)?;
     let list = Sequence::from_vec(records);
     let allowed = allows_list(&list);
     settled(list, allowed, rest)

@@ -22,7 +22,7 @@ fn all_hex_digits(digits: &[u8]) -> bool
     all
 }
 
-// Tests all three ranges, each by `&` and not by `matches!`: branches would often go another way than the processor guesses.
+// Tests all three ranges by `&`, so that the loop above has no branch.
 pub(crate) fn is_hex_digit(c: u8) -> bool
     ensures { result ≡ is_hex_digit c }
 {

@@ -8,15 +8,15 @@ ghost use Rattle.jv_cmd.specs.Words.{Answers, Parses, Reads, Refuses, asked, com
 
 use super::program::program;
 use super::refusal::{refused, told};
-use super::request::{Command, SessionOptions, WordsFault};
+use super::request::{
+    Command, MAX_BUFFER, MAX_CACHE, MAX_UPLOADS, MIN_BUFFER, SessionOptions, WordsFault,
+};
 use super::values::{block_size, number_within, place, seed};
+use crate::volume::VERSION;
 use clap::ArgMatches;
 use jv_model::{FULL_COUNT, MAX_CAPACITY, MAX_TRASH_DAYS, Setting, Text, copied};
 use jv_rows::allows_setting;
 use std::alloc::{AllocError, Global};
-
-/// The version of the rows that are written.
-const VERSION: u32 = 1;
 
 /// Why matched words are no command.
 #[derive(Clone, Copy, Debug, PartialEq, Eq)]
@@ -147,9 +147,9 @@ fn where_allowed(setting: Setting) -> Result<Setting, BadValue>
 fn options(alloc: Global, values: &ArgMatches<'_>) -> Result<SessionOptions, BadValue>
     ensures { Reads result (options_in (rows_of (found_of values.now))) }
 {
-    let cache = number_in(values, "cache-size", 0, 256)?;
-    let buffer = number_in(values, "buffer-size", 8, 256)?;
-    let uploads = number_in(values, "max-uploads", 0, 64)? as u32;
+    let cache = number_in(values, "cache-size", 0, MAX_CACHE)?;
+    let buffer = number_in(values, "buffer-size", MIN_BUFFER, MAX_BUFFER)?;
+    let uploads = number_in(values, "max-uploads", 0, MAX_UPLOADS)? as u32;
     let cache_dir = copied_in(alloc, values, "cache-dir")?;
     let generate = seed_in(values)?;
     Ok(SessionOptions {

@@ -24,14 +24,26 @@ pub enum Command {
     },
 }
 
+/// The largest cache of a client, in MiB.
+pub const MAX_CACHE: u64 = 256;
+
+/// The least bound on pending bytes, in MiB.
+pub const MIN_BUFFER: u64 = 8;
+
+/// The greatest bound on pending bytes, in MiB.
+pub const MAX_BUFFER: u64 = 256;
+
+/// The most uploads at once.
+pub const MAX_UPLOADS: u64 = 64;
+
 /// The options of a session.
 #[derive(Debug, Drop, PartialEq, Eq)]
 pub struct SessionOptions {
-    /// Each client's cache in MiB, 0 to 256; 0 keeps no block.
+    /// Each client's cache in MiB, at most [`MAX_CACHE`]; 0 keeps no block.
     pub cache: u64,
-    /// The most pending bytes in MiB, 8 to 256.
+    /// The most pending bytes in MiB, from [`MIN_BUFFER`] to [`MAX_BUFFER`].
     pub buffer: u64,
-    /// Uploads at once, 0 to 64; with 0 there are none but those that a script line asks for.
+    /// Uploads at once, at most [`MAX_UPLOADS`]; with 0 there are none but those that a script line asks for.
     pub uploads: u32,
     /// Written blocks are staged first, and uploaded later.
     pub writeback: bool,
