@@ -47,12 +47,12 @@ fn encode_into(bytes: &[u8], digits: &mut [u8])
     ensures { digits.new ≡ flat_map hex_pair bytes.now }
 {
     for i in 0..bytes.len() {
-        digits[2 * i] = hex_digit(bytes[i] / 16);
-        digits[2 * i + 1] = hex_digit(bytes[i] % 16);
+        digits[2 * i] = computed_digit(bytes[i] / 16);
+        digits[2 * i + 1] = computed_digit(bytes[i] % 16);
     }
 }
 
-/// The two digits of a byte.
+/// The two digits of a byte, each looked up: for few bytes that is the fastest.
 pub(crate) fn hex_pair(byte: u8) -> [u8; 2]
     ensures { result ≡ hex_pair byte }
 {
@@ -60,6 +60,14 @@ pub(crate) fn hex_pair(byte: u8) -> [u8; 2]
 }
 
 fn hex_digit(value: u8) -> u8
+    requires { value < 16 }
+    ensures { result ≡ hex_digit value }
+{
+    b"0123456789abcdef"[usize::from(value)]
+}
+
+// A digit that isn't looked up, so that the compiler computes many at a time.
+fn computed_digit(value: u8) -> u8
     requires { value < 16 }
     ensures { result ≡ hex_digit value }
 {

@@ -3,7 +3,7 @@ use Rattle.jv_script.proofs.HexTextLaws.{digits_from_places, one_pair_more}
 use Rattle.jv_script.proofs.hex_text.encode_into.Goals as goal
 
 pub loop-i-preserved : goal.loop-i-preserved
-loop-i-preserved c = rw (c.hex_digit.ensures, c.hex_digit-in-loop-i.ensures)
+loop-i-preserved c = rw (c.computed_digit.ensures, c.computed_digit-in-loop-i.ensures)
     (one_pair_more c.args.bytes.now c.loop-i.digits c.loop-i.i (omega arith) c.loop-i.invariant)
 
 pub returns : goal.returns
