@@ -1,5 +1,5 @@
 -- Parts of the bytes of a write, one after another.
-use Rattle.std.proofs.Common.{subst, ◌≡◌, ◌==◌, ◌&&◌, ◌%◌, ℕ, ◌+◌, ◌/◌, ◌<◌, ◌≤◌, Bool, true, false, List, [], ◌∷◌, ◌++◌, length, get_or, Option, Some, None, IfSome, option_map, is_some, sum_by, refl, sym, ap, ◌∙◌, arith, cond, codes, bytes_eq, eqb-true, nat_lt, nat_le, replicate}
+use Rattle.std.proofs.Common.{subst, ◌≡◌, ◌==◌, ◌&&◌, ◌%◌, ℕ, ◌+◌, ◌/◌, ◌<◌, ◌≤◌, Bool, true, false, List, [], ◌∷◌, ◌++◌, length, get_or, Option, Some, None, IfSome, option_map, is_some, sum_by, refl, sym, ap, ◌∙◌, arith, cond, codes, bytes_eq, eqb-true, nat_lt, nat_le}
 use Rattle.std.specs.List.{flat_map, list_all}
 use Rattle.std.proofs.lemmas.List.{append_assoc, append-nil, length-append, length-replicate}
 use Rattle.std.proofs.lemmas.Bool.{le-leb, lt-leb, lt-ltb, and_parts, false≢true, false_from_ne_true}
@@ -11,7 +11,7 @@ use Rattle.jv_model.specs.script.Spelling.{is_hex_digit, number_of, ◌>>=◌, a
 use Rattle.jv_model.specs.script.Printed.{Part, Plain, Repeated}
 use Rattle.jv_model.specs.script.Grammar.{provided, byte_of, parted, is_pairs, repeated_of, part_of, part_length, part_bytes, all_parts_of, bytes_of_parts, data_of}
 use Rattle.jv_script.proofs.CutLaws.{parted_none}
-use Rattle.jv_script.specs.Reading.{has_x, pairs_of, limited_bytes, bytes_after, Appends, Leaves, IsShortPart}
+use Rattle.jv_script.specs.Reading.{has_x, pairs_of, limited_bytes, bytes_after, Appends, Leaves, IsFirstPart}
 
 -- lengths
 
@@ -266,13 +266,19 @@ onto : (before bytes : List ℕ) (part : Option Part) → option_map part_bytes 
 onto before bytes None e = cc
 onto before bytes (Some part) e = let same : part_bytes part ≡ bytes = cc in ap (λ (bytes : List ℕ). Some (before ++ bytes)) same
 
-pub leaves_short : (before text bytes rest after new : List ℕ) (first next more : ℕ) → Leaves before text bytes rest → IsShortPart rest first next more after
-    → new ≡ bytes ++ first ∷ replicate more next → Leaves before text new after
-leaves_short before text bytes rest after new first next more left short joined = record {
-  whole = left.whole ∙ ap (bytes_after bytes) short.parts
-      ∙ bytes_after-more bytes (bytes ++ first ∷ replicate more next) short.part (parted 43 after) (onto bytes (first ∷ replicate more next) (part_of short.part) short.bytes)
+pub leaves_first : (before text bytes rest after new spelled : List ℕ) → Leaves before text bytes rest → IsFirstPart rest spelled after → new ≡ bytes ++ spelled → Leaves before text new after
+leaves_first before text bytes rest after new spelled left first joined = record {
+  whole = left.whole ∙ ap (bytes_after bytes) first.parts
+      ∙ bytes_after-more bytes (bytes ++ spelled) first.part (parted 43 after) (onto bytes spelled (part_of first.part) first.bytes)
       ∙ ap (λ (bytes : List ℕ). bytes_after bytes (parted 43 after)) (sym joined);
-  no_more = omega (arith, left.no_more, ap length short.parts);
+  no_more = omega (arith, left.no_more, ap length first.parts);
+}
+
+-- parts after others
+pub leaves_then : (before text bytes rest after tail : List ℕ) → Leaves before text bytes rest → Leaves bytes rest after tail → Leaves before text after tail
+leaves_then before text bytes rest after tail left next = record {
+  whole = left.whole ∙ next.whole;
+  no_more = omega (arith, left.no_more, next.no_more);
 }
 
 pub no_value : {T : Type 0} (o : Option T) → is_some o ≡ false → o ≡ None

@@ -68,9 +68,21 @@ Leaves before text after rest = record {
   no_more : length (parted 43 rest) ≤ length (parted 43 text);
 }
 
--- the first part of a text is a byte and then `more` times the next one, and the others are those of the rest
-pub record IsShortPart (text : List ℕ) (first next more : ℕ) (rest : List ℕ) : Type 0 where
+-- the bytes that the first part of a text spells, and the text after it
+pub record IsFirstPart (text spelled rest : List ℕ) : Type 0 where
   pub part : List ℕ
-  pub bytes : option_map part_bytes (part_of part) ≡ Some (first ∷ replicate more next)
-  pub few : more ≤ 8
+  pub bytes : option_map part_bytes (part_of part) ≡ Some spelled
   pub parts : parted 43 text ≡ part ∷ parted 43 rest
+
+-- a part of a byte and then `more` times the next one
+abbrev pub IsShortestPart : List ℕ → ℕ → ℕ → ℕ → List ℕ → Type 0
+IsShortestPart text first next more rest = record {
+  part : IsFirstPart text (first ∷ replicate more next) rest;
+  few : more ≤ 8;
+}
+
+-- bytes with those of a text's first part after them
+pub record AppendsFirst (before text after rest : List ℕ) : Type 0 where
+  pub spelled : List ℕ
+  pub part : IsFirstPart text spelled rest
+  pub bytes : after ≡ before ++ spelled
