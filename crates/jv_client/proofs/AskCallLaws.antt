@@ -34,9 +34,10 @@ use Rattle.jv_client.specs.declared.made.Made.{Made}
 use Rattle.jv_client.specs.declared.reading.Ahead.{Ahead}
 use Rattle.jv_client.specs.ClientValue.{ClientValue, session_here}
 use Rattle.jv_client.specs.Ending.{ended}
-use Rattle.jv_client.specs.Getting.{Fills, HasFilled, ReadsBlock, Unread}
+use Rattle.jv_client.specs.Getting.{Fills, HasFilled, IsMissed, IsMissedBy, IsUnread, ReadsBlock}
 use Rattle.jv_client.specs.Makes.{Makes}
-use Rattle.jv_client.specs.Reading.{ClientComesTo, GoesOnAfter, IsAhead, OnlyLooksUp, fetch_in, need_at, need_in}
+use Rattle.jv_client.specs.Reading.{ClientComesTo, GoesOnAfter, IsAhead, OnlyLooksUp, fetch_at, fetch_in, need_at}
+use Rattle.jv_client.specs.Reading.{need_in}
 use Rattle.jv_client.specs.Reading.{put_at}
 use Rattle.jv_client.specs.Transacting.{EndsUnmade, Fails}
 use Rattle.jv_client.specs.UnderWay.{IsAt, IsReady, IsUnderWay, left, names_open}
@@ -45,7 +46,7 @@ use Rattle.jv_client.proofs.ReaderLaws.{Asking, asking, is_asking}
 use Rattle.jv_client.proofs.GoneOnLaws.{over}
 use Rattle.jv_client.proofs.LookLaws.{seen_handles, seen_opened, view_of}
 use Rattle.jv_client.proofs.UnlookedLaws.{cached-here, look-out, look-unmade}
-use Rattle.jv_client.proofs.GotLaws.{get-unread}
+use Rattle.jv_client.proofs.GotLaws.{get-missed, get-unread}
 use Rattle.jv_client.proofs.ReadCallLaws.{get-came, get-lost, look-came, look-lost, taken_out}
 
 -- the client with another table of handles, whose reading was taken out
@@ -199,9 +200,25 @@ module _ (now entry : ℕ) (h c : ClientValue) (b : BlockId) (before : Shared)
       makes-as now entry h after (over h.handles wanted.cache h) before yard_used yard_used done _
       (fails.after_is ∙ ap ended wanted.is) refl fails.made_is
       (get-unread now entry length_of h wanted.d wanted.offset wanted.len wanted.cache wanted.fetch b wanted.asks before
-      refl id_low yard fault (subst (λ n. Unread n b before.yard yard fault) same_id unread))
+      refl id_low yard fault (subst (λ n. IsUnread n b before.yard yard fault) same_id unread))
 
-  module _ (bytes : List ℕ) (gets : ReadsBlock v.id b before.yard yard (Ok bytes)) (fetch filled : Fetching)
+  -- it isn't there
+  pub gets-missed : (found : Option (List ℕ)) (after : ClientValue) (done : Made) → found ≡ None
+      → ReadsBlock v.id b before.yard yard (Ok found)
+      → IfSome c.doing (λ d. IsMissedBy c d (fetch_at d.progress) after done)
+      → Makes now entry h after before yard_used done
+  gets-missed found after done none gets ends =
+      let missed = subst (λ found. ReadsBlock v.id b before.yard yard (Ok found)) none gets in
+      let refuses =
+      subst (λ (x : ClientValue). IfSome x.doing (λ d. IsMissedBy x d (fetch_at d.progress) after done))
+      wanted.is ends in
+      makes-as now entry h after (over h.handles wanted.cache h) before yard_used yard_used done _ refuses.after_is refl
+      refuses.made_is
+      (get-missed now entry length_of h wanted.d wanted.offset wanted.len wanted.cache wanted.fetch b wanted.asks before
+      refl id_low yard _ _ (subst (λ n. IsMissed n b before.yard yard) same_id missed))
+
+  module _ (bytes : List ℕ) (found : Option (List ℕ)) (found_is : found ≡ Some bytes)
+      (gets : ReadsBlock v.id b before.yard yard (Ok found)) (fetch filled : Fetching)
       (taken : fetch_in v.doing ≡ Some fetch) (cache : Option Cached)
       (fills : HasFilled b bytes fetch filled v.cache cache) (doing : Option Doing)
       (left_is : doing ≡ option_map (put_at (Working 0 0 0)) v.doing) (then : ClientValue)
@@ -226,7 +243,9 @@ module _ (now entry : ℕ) (h c : ClientValue) (b : BlockId) (before : Shared)
         }) (same_v ∙ wanted.is)
 
     in_name : GetsBlock h.id (name_in before.yard.setting b) before.yard yard (Ok (Some bytes))
-    in_name = subst (λ n. GetsBlock n (name_in before.yard.setting b) before.yard yard (Ok (Some bytes))) same_id gets.0
+    in_name =
+        let came = subst (λ found. ReadsBlock v.id b before.yard yard (Ok found)) found_is gets in
+        subst (λ n. GetsBlock n (name_in before.yard.setting b) before.yard yard (Ok (Some bytes))) same_id came.0
 
     in_place : Fills b bytes wanted.fetch filled wanted.cache fills.kept
     in_place =

@@ -2,14 +2,13 @@
 use Rattle.std.proofs.Common.{◌≡◌, ◌≢◌, ℕ, ◌+◌, ◌≤◌, false, true, List, [], ◌∷◌, length, Option, Some, Ok, Err, refl}
 use Rattle.std.proofs.Common.{sym, ap}
 use Rattle.std.proofs.Common.{subst, ◌∙◌, arith}
-use Rattle.jv_model.specs.declared.act.ActKind.TheVariants.{Answered, Quiet}
+use Rattle.jv_model.specs.declared.act.ActKind.TheVariants.{Answered, Miss, Quiet}
 use Rattle.jv_model.specs.declared.act.Told.TheVariants.{Refused as ToldRefused}
-use Rattle.jv_model.specs.declared.fault.Busy.TheVariants.{Misses}
 use Rattle.jv_model.specs.declared.fault.Device.{Device}
 use Rattle.jv_model.specs.declared.fault.Device.TheVariants.{Keeper as TheKeeper, Depot as TheDepot}
 use Rattle.jv_model.specs.declared.fault.Device.TheVariants.{Shelf as TheShelf, Carrier as TheCarrier}
 use Rattle.jv_model.specs.declared.fault.Fault.{Fault}
-use Rattle.jv_model.specs.declared.fault.Fault.TheVariants.{Contended, NoMemory}
+use Rattle.jv_model.specs.declared.fault.Fault.TheVariants.{NoMemory, TryAgain}
 use Rattle.jv_model.specs.declared.op.Reply.TheVariants.{Data, Refused as RefusedReply}
 use Rattle.jv_model.specs.declared.op.Step.TheVariants.{More, Done}
 use Rattle.jv_model.specs.declared.setting.Setting.{Setting}
@@ -56,7 +55,7 @@ use Rattle.jv_client.specs.declared.made.Made.{Made}
 use Rattle.jv_client.specs.declared.made.Made.TheVariants as made
 use Rattle.jv_client.specs.declared.reading.Found.{Found}
 use Rattle.jv_client.specs.ClientValue.{ClientValue}
-use Rattle.jv_client.specs.Getting.{Fills, Missing, Refused, Unread, yard_fault}
+use Rattle.jv_client.specs.Getting.{Fills, IsMissed, IsUnread, yard_fault}
 use Rattle.jv_client.specs.Held.{Holds, IsClient, IsHeld, in_flight}
 use Rattle.jv_client.specs.Makes.{Makes, StepsTo, TellsBad, UsesDevices, faults_of, step_of, tells_failure}
 use Rattle.jv_client.specs.Reading.{GoesAhead, read_of, told_read}
@@ -67,7 +66,7 @@ use Rattle.jv_client.proofs.KeptLaws.{cache-goes, held-goes}
 use Rattle.jv_client.proofs.ReaderLaws.{IsAsking, busy_in, file_by, handle_in, may_get, none_flying, opened_in}
 use Rattle.jv_client.proofs.GoneOnLaws.{client-on, client-over, falls-on, going_on, none-kept, over, reading-is}
 use Rattle.jv_client.proofs.GoneOnLaws.{ready-on}
-use Rattle.jv_client.proofs.ReadFailedLaws.{failed, failed-by}
+use Rattle.jv_client.proofs.ReadFailedLaws.{failed}
 
 -- ---- devices
 
@@ -360,21 +359,28 @@ module _ (now entry block : ℕ) (h : ClientValue) (d : Doing) (offset len : ℕ
 
   -- ---- it didn't come
 
-  pub get-unread : (fault : Fault) → Unread h.id b before.yard yard fault
+  pub get-unread : (fault : Fault) → IsUnread h.id b before.yard yard fault
       → Makes now entry h (over h.handles cache h) before used (made.Answer (ToldRefused fault) (RefusedReply fault))
-  get-unread fault (Refused why refused is) =
+  get-unread fault unread =
       subst (λ fault. Makes now entry h (over h.handles cache h) before used
-      (made.Answer (ToldRefused fault) (RefusedReply fault))) (sym is)
+      (made.Answer (ToldRefused fault) (RefusedReply fault))) (sym unread.is)
       (failed now entry block h d offset len cache fetch (NeedsBlock b) asks before used
-      (same-gets before yard h.id name (Err why) refused) (yard_fault why) cache cached-before (fails-unread why)
-      (uses-unread why before yard refused))
-  get-unread fault (Missing value gets none is) =
-      subst (λ fault. Makes now entry h (over h.handles cache h) before used
-      (made.Answer (ToldRefused fault) (RefusedReply fault))) (sym is)
-      (failed-by now entry block h d offset len cache fetch (NeedsBlock b) asks before used
-      (same-gets before yard h.id name (Ok value) gets) (Contended (Misses 1)) cache cached-before
-      (uses-got (made.Answer (ToldRefused (Contended (Misses 1))) (RefusedReply (Contended (Misses 1)))) before yard
-      (λ device. refl) gets.0 tt)
-      (λ s g number has holds client.
-      let is = got s g has client value gets in
-      absurd (none is.bytes is.is is.long)))
+      (same-gets before yard h.id name (Err unread.why) unread.gets) (yard_fault unread.why) cache cached-before
+      (fails-unread unread.why) (uses-unread unread.why before yard unread.gets))
+
+  -- it isn't there, which no volume has whose blocks are all there
+  pub get-missed : (inode window : ℕ) → IsMissed h.id b before.yard yard
+      → Makes now entry h (over h.handles cache h) before used
+      (made.Both (Miss inode window) (ToldRefused (TryAgain 0)) (RefusedReply (TryAgain 0)))
+  get-missed inode window missed = record {
+    id = refl;
+    limits = refl;
+    ready = record { buffer = asks.buffer; doing = tt };
+    devices = uses-got (made.Both (Miss inode window) (ToldRefused (TryAgain 0)) (RefusedReply (TryAgain 0))) before
+        yard (λ device. refl) missed.gets.0 tt;
+    alone = (refl, λ device. refl);
+    falls = refl;
+    leads = λ s g number has holds client.
+        let is = got s g has client missed.value missed.gets in
+        absurd (missed.none is.bytes is.is is.long);
+  }

@@ -1,22 +1,29 @@
 -- What a client gets of a block that it asks for.
-use Rattle.std.specs.Prelude.{◌≡◌, ◌≢◌, ℕ, ◌<◌, List, length, Option, Some, Result, Ok, Err}
-use Rattle.jv_model.specs.declared.fault.Busy.TheVariants.{Misses}
+use Rattle.std.specs.Prelude.{◌≡◌, ◌≢◌, ℕ, ◌<◌, List, length, Option, None, Some, IfSome, Result, Ok, Err}
+use Rattle.jv_model.specs.declared.act.ActKind.{ActKind}
+use Rattle.jv_model.specs.declared.act.ActKind.TheVariants.{Miss}
 use Rattle.jv_model.specs.declared.fault.Device.TheVariants.{Depot as TheDepot, Shelf as TheShelf}
 use Rattle.jv_model.specs.declared.fault.Fault.{Fault}
-use Rattle.jv_model.specs.declared.fault.Fault.TheVariants.{Contended, DeviceFailed, NoMemory}
+use Rattle.jv_model.specs.declared.fault.Fault.TheVariants.{DeviceFailed, NoMemory, TryAgain}
 use Rattle.jv_model.specs.declared.slice.BlockId.{BlockId}
+use Rattle.jv_model.specs.client.Profile.{handle_of}
 use Rattle.jv_model.specs.journal.Reading.{Asked}
 use Rattle.jv_cache.specs.Cached.{Cached}
 use Rattle.jv_contents.specs.Blocks.{Blocks}
+use Rattle.jv_handles.specs.Handles.{inode_here}
 use Rattle.jv_handles.specs.Views.{SeenViews}
 use Rattle.jv_fetching.specs.Calls.{Keeps}
-use Rattle.jv_fetching.specs.Fetching.{Fetching, fetch_left}
+use Rattle.jv_fetching.specs.Fetching.{Fetching, fetch_left, first_window}
 use Rattle.jv_fetching.specs.Going.{CanFetch, IsFetching}
 use Rattle.jv_yard.specs.declared.faults.YardFault.{YardFault}
 use Rattle.jv_yard.specs.declared.faults.YardFault.TheVariants.{Depot, Shelf, Memory}
 use Rattle.jv_yard.specs.BlockCalls.{GetsBlock}
 use Rattle.jv_yard.specs.Contents.{name_in}
 use Rattle.jv_yard.specs.YardValue.{YardValue}
+use Rattle.jv_client.specs.declared.doing.Doing.{Doing}
+use Rattle.jv_client.specs.declared.made.Made.{Made}
+use Rattle.jv_client.specs.ClientValue.{ClientValue}
+use Rattle.jv_client.specs.Transacting.{Refuses}
 
 -- what the fault of a yard is to the client
 abbrev pub yard_fault : YardFault → Fault
@@ -28,24 +35,37 @@ yard_fault Memory = NoMemory
 abbrev pub IsNone : BlockId → Option (List ℕ) → Type 0
 IsNone b value = (bytes : List ℕ) → value ≡ Some bytes → length bytes ≢ b.size
 
--- why a block's bytes didn't come: a device failed or memory ran out, or the block isn't there
-pub data Unread (client : ℕ) (b : BlockId) (before after : YardValue) (fault : Fault) : Type 0 where
-  Refused : (why : YardFault) → GetsBlock client (name_in before.setting b) before after (Err why)
-      → fault ≡ yard_fault why → Unread client b before after fault
-  Missing : (value : Option (List ℕ)) → GetsBlock client (name_in before.setting b) before after (Ok value)
-      → IsNone b value → fault ≡ Contended (Misses 1) → Unread client b before after fault
+-- a device failed or memory ran out before a block's bytes came
+pub record IsUnread (client : ℕ) (b : BlockId) (before after : YardValue) (fault : Fault) : Type 0 where
+  pub why : YardFault
+  pub gets : GetsBlock client (name_in before.setting b) before after (Err why)
+  pub is : fault ≡ yard_fault why
+
+-- the block isn't there
+pub record IsMissed (client : ℕ) (b : BlockId) (before after : YardValue) : Type 0 where
+  pub value : Option (List ℕ)
+  pub gets : GetsBlock client (name_in before.setting b) before after (Ok value)
+  pub none : IsNone b value
 
 -- reading a block, by the result
-abbrev pub ReadsBlock : ℕ → BlockId → YardValue → YardValue → Result (List ℕ) Fault → Type 0
-ReadsBlock client b before after (Ok bytes) =
+abbrev pub ReadsBlock : ℕ → BlockId → YardValue → YardValue → Result (Option (List ℕ)) Fault → Type 0
+ReadsBlock client b before after (Ok (Some bytes)) =
     GetsBlock client (name_in before.setting b) before after (Ok (Some bytes)) × (length bytes ≡ b.size)
-ReadsBlock client b before after (Err fault) = Unread client b before after fault
+ReadsBlock client b before after (Ok None) = IsMissed client b before after
+ReadsBlock client b before after (Err fault) = IsUnread client b before after fault
 
 -- what was read at the name of a block of this size, by the result
-abbrev pub IsBlockIn : ℕ → Option (List ℕ) → Result (List ℕ) Fault → Type 0
-IsBlockIn size value (Ok bytes) = (value ≡ Some bytes) × (length bytes ≡ size)
-IsBlockIn size value (Err fault) =
-    ((bytes : List ℕ) → value ≡ Some bytes → length bytes ≢ size) × (fault ≡ Contended (Misses 1))
+abbrev pub IsBlockIn : ℕ → Option (List ℕ) → Option (List ℕ) → Type 0
+IsBlockIn size value (Some bytes) = (value ≡ Some bytes) × (length bytes ≡ size)
+IsBlockIn size value None = (bytes : List ℕ) → value ≡ Some bytes → length bytes ≢ size
+
+-- the entry of a request for a block that isn't there: of the file and the window that are read
+abbrev pub missed : ClientValue → Doing → Fetching → ActKind
+missed h d fetch = Miss (inode_here h.handles (handle_of d.op)) (first_window fetch.parts)
+
+-- the read is over, and its answer names no commit that the block waits for
+abbrev pub IsMissedBy : ClientValue → Doing → Option Fetching → ClientValue → Made → Type 0
+IsMissedBy h d fetch after done = IfSome fetch (λ fetch. Refuses (missed h d fetch) (TryAgain 0) h after done)
 
 -- A reading got the block that it needs, which the cache keeps or not.
 pub record Fills (b : BlockId) (bytes : List ℕ) (before after : Fetching) (cache kept : Cached) : Type 0 where

@@ -7,13 +7,13 @@ ghost use Rattle.jv_outside.specs.Store.{Store};
 ghost use Rattle.jv_yard.specs.YardValue.{YardValue};
 ghost use Rattle.jv_shared.specs.Lengths.{IsLength};
 ghost use Rattle.jv_fetching.specs.Calls.{LooksUp};
-ghost use Rattle.jv_fetching.specs.Fetching.{block_needed};
+ghost use Rattle.jv_fetching.specs.Fetching.{block_needed, first_window};
 ghost use Rattle.jv_client.specs.declared.doing.Progress.TheVariants.{Reading, Working};
 ghost use Rattle.jv_client.specs.ClientValue.{ClientValue};
 ghost use Rattle.jv_client.specs.Shared.{shared};
 ghost use Rattle.jv_client.specs.UnderWay.{IsReady, does_of, left, names_open};
 ghost use Rattle.jv_client.specs.Makes.{Makes};
-ghost use Rattle.jv_client.specs.Getting.{HasFilled, IsBlockIn, ReadsBlock, yard_fault};
+ghost use Rattle.jv_client.specs.Getting.{HasFilled, IsBlockIn, IsMissedBy, ReadsBlock, yard_fault};
 ghost use Rattle.jv_client.specs.Reading.{Begins, ClientComesTo, ComesTo, GoesOnAfter, IsAhead, IsCachedAs, IsMade, OnlyLooksUp, Shows, fetch_at, fetch_in, need_at, need_in, put_at};
 
 use crate::answers::looks;
@@ -25,7 +25,7 @@ use jv_cache::BlockCache;
 use jv_data::look;
 use jv_fetching::{Fetch, Need};
 use jv_handles::{View, Views, drop_view, inode_at, named, set_view};
-use jv_model::{ActKind, BlockId, Busy, Bytes, ClientId, Device, Fault, Moment, Reply};
+use jv_model::{ActKind, BlockId, Bytes, ClientId, Device, Fault, Moment, Reply};
 use jv_outside::{Depot, Keeper, Shelf};
 use jv_slices::block_name;
 use jv_yard::{ObservedYard, Yard, YardFault};
@@ -191,7 +191,8 @@ impl Client {
         }
     }
 
-    /// Gets a block that the cache doesn't have. Fails where the depot or the shelf does.
+    /// Gets a block that the cache doesn't have. Fails where the depot or the shelf does. Where the block isn't there, which
+    /// no whole volume has, the read is refused with `TryAgain`, and no commit is named.
     fn get<D: Depot, H: Shelf>(&mut self, block: BlockId, yard: &mut Yard<D, H>) -> Made
         requires ready { IsReady self.old }
         requires flushed { left self.old ≡ None }
@@ -205,7 +206,8 @@ impl Client {
             (shared keeper (seen yard.new) carrier) result }
     {
         let bytes = match read_block(self.alloc, yard, self.id, block) {
-            Ok(bytes) => bytes,
+            Ok(Some(bytes)) => bytes,
+            Ok(None) => return self.miss(),
             Err(fault) => return self.fail(fault),
         };
         let mut fetch = take_fetch(&mut self.doing);
@@ -214,6 +216,20 @@ impl Client {
             Ok(ahead) => self.go_on_reading(ActKind::Quiet, ahead),
             Err(AllocError) => self.fail(Fault::NoMemory),
         }
+    }
+
+    /// Ends a read whose block isn't there.
+    fn miss(&mut self) -> Made
+        requires { IsSome (fetch_in self.old.doing) }
+        ensures { IfSome self.old.doing (λ d.
+            IsMissedBy self.old d (fetch_at d.progress) self.new result) }
+    {
+        let inode = inode_at(&self.handles, self.handle_in_use());
+        let window = window_of(&self.doing);
+        self.refuse(
+            ActKind::Miss { inode, window },
+            Fault::TryAgain { commit: 0 },
+        )
     }
 
     /// Goes on after a request, or answers with it where the reading wants nothing more.
@@ -281,6 +297,28 @@ fn read_from(doing: &mut Option<Doing>, fetch: Fetch, need: Need)
     }
 }
 
+/// The window that an operation reads.
+fn window_of(doing: &Option<Doing>) -> u32
+    requires { IsSome (fetch_in doing.now) }
+    ensures { IfSome (fetch_in doing.now) (λ fetch. result ≡ first_window fetch.parts) }
+{
+    match doing {
+        Some(doing) => window_at(&doing.progress),
+        None => unreachable!(),
+    }
+}
+
+/// The window that is read in the progress of an operation that reads.
+fn window_at(progress: &Progress) -> u32
+    requires { IsSome (fetch_at progress.now) }
+    ensures { IfSome (fetch_at progress.now) (λ fetch. result ≡ first_window fetch.parts) }
+{
+    match progress {
+        Progress::Reading { fetch, .. } => fetch.window(),
+        Progress::Working { .. } => unreachable!(),
+    }
+}
+
 /// Takes the reading out of an operation that reads.
 fn take_fetch(doing: &mut Option<Doing>) -> Fetch
     requires { IsSome (fetch_in doing.old) }
@@ -323,13 +361,13 @@ fn read_ahead(mut fetch: Fetch, views: &Views, cache: &mut BlockCache) -> Result
     }
 }
 
-/// The bytes of a block. It is missing where it isn't there, or has another length than its name says.
+/// The bytes of a block, or `None` where it isn't there, or has another length than its name says.
 fn read_block<D: Depot, H: Shelf>(
     alloc: Global,
     yard: &mut Yard<D, H>,
     client: ClientId,
     block: BlockId,
-) -> Result<Bytes, Fault>
+) -> Result<Option<Bytes>, Fault>
     ensures low { client ≤ 7 }
     ensures read { let seen = ⟦<Yard<D, H> as ObservedYard>⟧.seen in
         ReadsBlock client block (seen yard.old) (seen yard.new) result }
@@ -339,18 +377,18 @@ fn read_block<D: Depot, H: Shelf>(
         return Err(Fault::NoMemory);
     };
     match yard.get_block(client, &name) {
-        Ok(value) => block_in(value, size),
+        Ok(value) => Ok(block_in(value, size)),
         Err(fault) => Err(fault_of(fault)),
     }
 }
 
 /// The bytes of a block of this size, by what was read at its name.
-fn block_in(value: Option<Bytes>, size: u32) -> Result<Bytes, Fault>
+fn block_in(value: Option<Bytes>, size: u32) -> Option<Bytes>
     ensures { IsBlockIn size value result }
 {
     match value {
-        Some(bytes) if bytes.len() == size as usize => Ok(bytes),
-        _ => Err(Fault::Contended(Busy::Misses(1))),
+        Some(bytes) if bytes.len() == size as usize => Some(bytes),
+        _ => None,
     }
 }
 

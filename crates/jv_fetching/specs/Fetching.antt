@@ -12,6 +12,11 @@ pub record Fetching : Type 0 where
   pub begun : Option Begun
   pub read : List Read
 
+-- the window of the first part that isn't read yet, 0 where all are
+abbrev pub first_window : List Asked → ℕ
+first_window [] = 0
+first_window (asked ∷ others) = asked.window
+
 -- before anything is read
 abbrev pub begins : ℕ → List Asked → Fetching
 begins block parts = record { block = block; parts = parts; begun = None; read = [] }

@@ -52,7 +52,7 @@ impl Fetch {
     ghost use Rattle.jv_model.specs.journal.Reading.{Asked, asked_parts};
     ghost use Rattle.jv_contents.specs.Blocks.{Blocks};
     ghost use Rattle.jv_handles.specs.Views.{SeenViews};
-    ghost use Rattle.jv_fetching.specs.Fetching.{begins, block_needed, fetch_left, fetched_of};
+    ghost use Rattle.jv_fetching.specs.Fetching.{begins, block_needed, fetch_left, fetched_of, first_window};
     ghost use Rattle.jv_fetching.specs.Going.{CanFetch, IsFetching};
     ghost use Rattle.jv_fetching.specs.Calls.{Asks, HasCached, LooksUp, Wants, first_seen};
     ghost use Rattle.jv_fetching.specs.Inside.{BeginsPart, EndsPart, FillsBegun, FillsFrom, FitsNext, GoesOnAny, GoesTo, Stops, ended};
@@ -201,6 +201,16 @@ impl Fetch {
             course.first = read;
         } else {
             course.second = read;
+        }
+    }
+
+    /// The window of the part that is being read, or of the next one. 0 where all was read.
+    pub fn window(&self) -> u32
+        ensures { result ≡ first_window self.now.parts }
+    {
+        match self.course.parts {
+            Spans::Over => 0,
+            Spans::Last(span) | Spans::Two(span, _) => span.window,
         }
     }
 

@@ -1,12 +1,11 @@
 use Rattle.std.proofs.Common.{refl, ap, ◌∙◌}
 use Rattle.jv_yard.specs.declared.faults.YardFault.TheVariants.{Memory}
 use Rattle.jv_yard.specs.Contents.{name_in}
-use Rattle.jv_client.specs.Getting.{Refused}
 use Rattle.jv_client.proofs.GettingLaws.{reads-refused, reads-value}
 use Rattle.jv_client.proofs.reading.read_block.Goals as goal
 
 pub returns-in_default-clause-read : goal.returns-in_default-clause-read
-returns-in_default-clause-read g c = Refused Memory refl refl
+returns-in_default-clause-read g c = record { why = Memory; gets = refl; is = refl }
 
 pub returns-in-Ok-get_block-clause-read : goal.returns-in-Ok-get_block-clause-read
 returns-in-Ok-get_block-clause-read g c =
