@@ -3,10 +3,7 @@ ghost use Rattle.std.specs.Prelude.{◌≡◌};
 ghost use Rattle.jv_links.specs.Removals.{has_no_zero};
 ghost use Rattle.jv_metadata.specs.Attempts as model;
 
-use jv_model::Op;
-
-/// Permission bits of four octal digits.
-const ALL_MODES: u16 = 0o7777;
+use jv_model::{MAX_MODE, Op};
 
 /// Whether an operation is one transaction on metadata and no more.
 pub fn is_metadata(op: &Op) -> bool
@@ -52,9 +49,9 @@ pub fn is_spelled(op: &Op) -> bool
 {
     match op {
         Op::Mkdir { path, mode } | Op::Create { path, mode } => {
-            has_no_zero(path.as_slice()) && *mode <= ALL_MODES
+            has_no_zero(path.as_slice()) && *mode <= MAX_MODE
         }
-        Op::Chmod { mode, .. } => *mode <= ALL_MODES,
+        Op::Chmod { mode, .. } => *mode <= MAX_MODE,
         Op::Symlink { target, path } => {
             has_no_zero(target.as_slice()) && !target.is_empty() && has_no_zero(path.as_slice())
         }

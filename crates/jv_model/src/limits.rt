@@ -54,6 +54,15 @@ pub const MAX_MISSES: u32 = 10;
 /// The most items that one `clean` takes.
 pub const MAX_ITEMS: u64 = 65_536;
 
+/// All permission bits of a mode, and so the greatest one: four octal digits.
+pub const MAX_MODE: u16 = 0o7777;
+
+/// The shortest name of a volume in bytes.
+pub const MIN_VOLUME_NAME: usize = 3;
+
+/// The longest name of a volume in bytes.
+pub const MAX_VOLUME_NAME: usize = 63;
+
 /// The longest text in bytes that says where the objects lie.
 pub const MAX_BUCKET: usize = 1_024;
 

@@ -47,7 +47,7 @@ pub struct Counters {
 pub struct Node {
     /// 1 for a file, 2 for a directory, 3 for a symlink.
     pub kind: u8,
-    /// Permission bits, at most 0o7777.
+    /// Permission bits, at most [`crate::MAX_MODE`].
     pub mode: u16,
     pub uid: u32,
     pub gid: u32,

@@ -18,7 +18,7 @@ pub struct Setting {
     pub inodes: u64,
     /// 1 where object names have the hash prefix, else 0.
     pub hash: u8,
-    /// The volume's name, 3 to 63 bytes.
+    /// The volume's name, [`crate::MIN_VOLUME_NAME`] to [`crate::MAX_VOLUME_NAME`] bytes.
     pub name: Text,
     /// Where the objects lie, 1 to 1,024 bytes.
     pub bucket: Text,
@@ -80,7 +80,7 @@ pub enum FileKind {
 pub struct Attr {
     pub inode: u64,
     pub kind: FileKind,
-    /// Permission bits, at most 0o7777.
+    /// Permission bits, at most [`crate::MAX_MODE`].
     pub mode: u16,
     pub nlink: u32,
     pub uid: u32,

@@ -5,6 +5,7 @@ use Rattle.std.specs.Str.{IsUtf8, is_utf8}
 use Rattle.std.proofs.lemmas.Str.{is_utf8-from_IsUtf8, IsUtf8-from_is_utf8}
 use Rattle.std.proofs.lemmas.Bool.{false_from_ne_true}
 use Rattle.std.proofs.lemmas.Bool.Decides.{nat_tests}
+use Rattle.jv_model.specs.declared.limits.TheConstants.{MAX_BUCKET, MAX_VOLUME_NAME, MIN_VOLUME_NAME}
 use Rattle.jv_model.specs.declared.setting.Setting.{Setting}
 use Rattle.jv_model.specs.rows.RowGrammar.{is_volume_name, is_bucket, is_setting}
 
@@ -22,15 +23,15 @@ both_hold false b h = absurd cc
 pub le_true : {m n : ℕ} → IsTrue (nat_le m n) → m ≤ n
 le_true {m} {n} h = grind (arith, nat_tests)
 
-pub bucket_bound : (s : Setting) → IsTrue (is_setting s) → length s.bucket ≤ 1024
+pub bucket_bound : (s : Setting) → IsTrue (is_setting s) → length s.bucket ≤ MAX_BUCKET
 bucket_bound s h =
     let bucket : IsTrue (is_bucket s.bucket) = (both_hold _ _ h).1 in
-    let sized : IsTrue (nat_le 1 (length s.bucket) && nat_le (length s.bucket) 1024) = (both_hold _ _ bucket).0 in
-    let below : IsTrue (nat_le (length s.bucket) 1024) = (both_hold _ _ sized).1 in
+    let sized : IsTrue (nat_le 1 (length s.bucket) && nat_le (length s.bucket) MAX_BUCKET) = (both_hold _ _ bucket).0 in
+    let below : IsTrue (nat_le (length s.bucket) MAX_BUCKET) = (both_hold _ _ sized).1 in
     le_true below
 
-pub name_bound : (s : Setting) → IsTrue (is_setting s) → length s.name ≤ 63
+pub name_bound : (s : Setting) → IsTrue (is_setting s) → length s.name ≤ MAX_VOLUME_NAME
 name_bound s h =
     let name : IsTrue (is_volume_name s.name) = (both_hold _ _ (both_hold _ _ h).0).1 in
-    let sized : IsTrue (nat_le 3 (length s.name) && nat_le (length s.name) 63) = (both_hold _ _ (both_hold _ _ (both_hold _ _ name).0).0).0 in
+    let sized : IsTrue (nat_le MIN_VOLUME_NAME (length s.name) && nat_le (length s.name) MAX_VOLUME_NAME) = (both_hold _ _ (both_hold _ _ (both_hold _ _ name).0).0).0 in
     le_true (both_hold _ _ sized).1

@@ -6,8 +6,9 @@ ghost use Rattle.jv_model.specs.rows.RowGrammar.{is_setting, is_block, is_volume
 ghost use Rattle.jv_model.specs.blocks.Slices.{is_record, is_part};
 
 use jv_model::{
-    Counters, Edge, FULL_COUNT, List, MAX_BLOCK, MAX_BUCKET, MAX_CAPACITY, MAX_PATH,
-    MAX_TRASH_DAYS, MIN_BLOCK, Node, Rec, SPACE_UNIT, Session, Setting, SliceRow, WINDOW,
+    Counters, Edge, FULL_COUNT, List, MAX_BLOCK, MAX_BUCKET, MAX_CAPACITY, MAX_MODE, MAX_PATH,
+    MAX_TRASH_DAYS, MAX_VOLUME_NAME, MIN_BLOCK, MIN_VOLUME_NAME, Node, Rec, SPACE_UNIT, Session,
+    Setting, SliceRow, WINDOW,
 };
 use std::str::from_utf8;
 
@@ -24,7 +25,8 @@ const BLOCK_SIZES: [u32; 9] = [
     MAX_BLOCK,
 ];
 
-fn is_block_size(size: u32) -> bool
+/// Whether blocks may have this length.
+pub fn allows_block(size: u32) -> bool
     ensures { result ≡ is_block size }
 {
     BLOCK_SIZES.contains(&size)
@@ -48,8 +50,8 @@ fn allows_name_bytes(name: &[u8]) -> bool
 pub fn allows_name(name: &[u8]) -> bool
     ensures { result ≡ is_volume_name name.now }
 {
-    3 <= name.len()
-        && name.len() <= 63
+    MIN_VOLUME_NAME <= name.len()
+        && name.len() <= MAX_VOLUME_NAME
         && allows_name_bytes(name)
         && name[0] != b'-'
         && name[name.len() - 1] != b'-'
@@ -73,7 +75,7 @@ pub fn allows_setting(s: &Setting) -> bool
     ensures { result ≡ is_setting s.now }
 {
     1 <= s.version
-        && is_block_size(s.block)
+        && allows_block(s.block)
         && s.trash_days <= MAX_TRASH_DAYS
         && s.capacity <= MAX_CAPACITY
         && s.inodes <= FULL_COUNT
@@ -121,7 +123,7 @@ fn fits_kind(node: &Node) -> bool
 pub fn allows_node(node: &Node) -> bool
     ensures { result ≡ is_node node.now }
 {
-    node.mode <= 0o7777 && fits_kind(node)
+    node.mode <= MAX_MODE && fits_kind(node)
 }
 
 /// Whether an entry names a kind of node.

@@ -2,7 +2,7 @@
 use Rattle.std.proofs.Common.{◌≡◌, ℕ, ◌+◌, ◌≤◌, ◌<◌, Bool, true, false, ◌&&◌, List, None, Some, Result, Ok, Err, refl, sym, ap, ◌∙◌, arith}
 use Rattle.std.specs.Prelude.{◌==◌, nat_le, nat_lt, length, if◌then◌else◌}
 use Rattle.std.proofs.lemmas.Bool.{and_parts, false≢true, leb-true, le-leb, lt-leb, ltb-true, eqb-true}
-use Rattle.jv_model.specs.declared.limits.TheConstants.{FILE_END, FULL_COUNT, MAX_LINKS, SPACE_UNIT}
+use Rattle.jv_model.specs.declared.limits.TheConstants.{FILE_END, FULL_COUNT, MAX_LINKS, MAX_MODE, MAX_PATH, SPACE_UNIT}
 use Rattle.jv_model.specs.declared.fault.Fault.{Fault}
 use Rattle.jv_model.specs.declared.fault.Fault.TheVariants.{NoSpace}
 use Rattle.jv_model.specs.declared.op.Reply.{Reply}
@@ -43,10 +43,10 @@ record IsNewNode (byte : ℕ → ℕ) (dir : ℕ) (kind : Kind) (mode now : ℕ)
 short_target : (mode now : ℕ) (target : List ℕ) → is_node (new_row (Symlink target) mode now) ≡ true → length target ≤ FILE_END
 short_target mode now target h =
     let row = new_row (Symlink target) mode now in
-    let kind = and_parts (nat_le mode 4095) (is_symlink row) h in
+    let kind = and_parts (nat_le mode MAX_MODE) (is_symlink row) h in
     let parts = and_parts (length target == length target) (is_target target) kind.1 in
-    let bytes = and_parts (nat_le 1 (length target) && nat_le (length target) 4096) _ parts.1 in
-    let less = leb-true (length target) 4096 (and_parts (nat_le 1 (length target)) (nat_le (length target) 4096) bytes.0).1 in
+    let bytes = and_parts (nat_le 1 (length target) && nat_le (length target) MAX_PATH) _ parts.1 in
+    let less = leb-true (length target) MAX_PATH (and_parts (nat_le 1 (length target)) (nat_le (length target) MAX_PATH) bytes.0).1 in
     omega (arith, less)
 
 is_new_node : (byte : ℕ → ℕ) (dir : ℕ) (kind : Kind) (mode now : ℕ) → IsNewKind dir kind → is_node (new_row kind mode now) ≡ true → IsNewNode byte dir kind mode now

@@ -1,5 +1,6 @@
 //! Changes of attributes, by POSIX.1-2017's "fchmodat", "fchownat" and "utimensat".
 ghost use Rattle.std.specs.Prelude.{◌≡◌, ◌≤◌, IsTrue};
+ghost use Rattle.jv_model.specs.declared.limits.TheConstants.{MAX_MODE};
 ghost use Rattle.jv_model.specs.declared.op.Reply.TheVariants as reply;
 ghost use Rattle.jv_model.specs.tree.Caller.{Caller};
 ghost use Rattle.jv_model.specs.tree.Reading as model;
@@ -37,7 +38,7 @@ fn store<K: Keeper>(alloc: Global, k: &mut K, inode: u64, node: &Node) -> Result
     Ok(())
 }
 
-/// Sets the permission bits of what a path leads to, at most 0o7777.
+/// Sets the permission bits of what a path leads to, at most [`jv_model::MAX_MODE`].
 ///
 /// # Errors
 ///
@@ -50,7 +51,7 @@ pub fn chmod<K: Keeper>(
     path: &Path,
     mode: u16,
 ) -> Result<(), TxFault>
-    requires { mode ≤ 4095 }
+    requires { mode ≤ MAX_MODE }
     ensures { (caller : Caller) → IsFor who.entry.now caller
         → Transacts Always (K.seen k.old) (K.seen k.new)
         result (λ unit. reply.Done) (λ t. model.chmod t caller path.now mode) }

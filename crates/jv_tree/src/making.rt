@@ -1,5 +1,6 @@
 //! New entries, by POSIX.1-2017's "mkdirat", "openat" with O_CREAT and O_EXCL, and "symlinkat".
 ghost use Rattle.std.specs.Prelude.{◌≡◌, ◌≤◌, ◌<◌, ℕ, [], length, IsTrue};
+ghost use Rattle.jv_model.specs.declared.limits.TheConstants.{MAX_MODE};
 ghost use Rattle.jv_model.specs.declared.op.Reply.TheVariants.{Found, FileOpened};
 ghost use Rattle.jv_model.specs.tree.Caller.{Caller};
 ghost use Rattle.jv_model.specs.declared.op.Reply.{Reply};
@@ -143,7 +144,7 @@ fn new_node(alloc: Global, kind: u8, mode: u16, now: Moment) -> Node
     }
 }
 
-/// Makes an empty directory with these permission bits, at most 0o7777, and returns its inode.
+/// Makes an empty directory with these permission bits, at most [`jv_model::MAX_MODE`], and returns its inode.
 ///
 /// # Errors
 ///
@@ -157,7 +158,7 @@ pub fn mkdir<K: Keeper>(
     path: &Path,
     mode: u16,
 ) -> Result<u64, TxFault>
-    requires mode { mode ≤ 4095 }
+    requires mode { mode ≤ MAX_MODE }
     requires path { IsTrue (has_no_zero path.now) }
     ensures { (caller : Caller) → IsFor who.entry.now caller
         → Transacts Always (K.seen k.old) (K.seen k.new)
@@ -174,7 +175,7 @@ pub fn mkdir<K: Keeper>(
     enter(alloc, k, who.now, &mut place, &node)
 }
 
-/// Makes an empty file with these permission bits, at most 0o7777, and returns its inode.
+/// Makes an empty file with these permission bits, at most [`jv_model::MAX_MODE`], and returns its inode.
 ///
 /// # Errors
 ///
@@ -186,7 +187,7 @@ pub fn create<K: Keeper>(
     path: &Path,
     mode: u16,
 ) -> Result<u64, TxFault>
-    requires mode { mode ≤ 4095 }
+    requires mode { mode ≤ MAX_MODE }
     requires path { IsTrue (has_no_zero path.now) }
     ensures { (caller : Caller) → IsFor who.entry.now caller
         → Transacts Always (K.seen k.old) (K.seen k.new)

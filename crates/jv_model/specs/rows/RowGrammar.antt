@@ -1,9 +1,9 @@
 -- The grammar of rows, version 1: what a value of each table may be, its one spelling, and the value that bytes spell, if they do.
-use Rattle.std.specs.Prelude.{ℕ, ◌-◌, ◌/◌, zero, suc, Bool, true, ◌&&◌, ◌||◌, not, ◌==◌, nat_le, if◌then◌else◌, List, [], ◌∷◌, ◌++◌, length, slice_index, Option, None, Some}
+use Rattle.std.specs.Prelude.{ℕ, ◌-◌, ◌*◌, ◌/◌, zero, suc, Bool, true, ◌&&◌, ◌||◌, not, ◌==◌, nat_le, if◌then◌else◌, List, [], ◌∷◌, ◌++◌, length, slice_index, Option, None, Some}
 use Rattle.std.specs.List.{flat_map, list_all, list_any}
 use Rattle.std.specs.Option.{option_map}
 use Rattle.std.specs.Str.{is_utf8}
-use Rattle.jv_model.specs.declared.limits.TheConstants.{MAX_BUCKET, MAX_TRASH_DAYS, MAX_CAPACITY, FULL_COUNT, SPACE_UNIT, MAX_PATH}
+use Rattle.jv_model.specs.declared.limits.TheConstants.{MIN_BLOCK, MAX_BLOCK, MIN_VOLUME_NAME, MAX_VOLUME_NAME, MAX_BUCKET, MAX_TRASH_DAYS, MAX_CAPACITY, FULL_COUNT, SPACE_UNIT, MAX_PATH, MAX_MODE}
 use Rattle.jv_model.specs.declared.setting.Setting.{Setting}
 use Rattle.jv_model.specs.declared.slice.Rec.{Rec}
 use Rattle.jv_model.specs.declared.row.Counters.{Counters}
@@ -22,7 +22,7 @@ use Rattle.jv_model.specs.rows.RowFields.{◌>>=◌, byte, half, word, long, byt
 
 -- the powers of two from 64 KiB to 16 MiB
 abbrev pub block_sizes : List ℕ
-block_sizes = 65536 ∷ 131072 ∷ 262144 ∷ 524288 ∷ 1048576 ∷ 2097152 ∷ 4194304 ∷ 8388608 ∷ 16777216 ∷ []
+block_sizes = MIN_BLOCK ∷ 2 * MIN_BLOCK ∷ 4 * MIN_BLOCK ∷ 8 * MIN_BLOCK ∷ 16 * MIN_BLOCK ∷ 32 * MIN_BLOCK ∷ 64 * MIN_BLOCK ∷ 128 * MIN_BLOCK ∷ MAX_BLOCK ∷ []
 
 abbrev pub is_block : ℕ → Bool
 is_block size = list_any (λ n. n == size) block_sizes
@@ -33,7 +33,7 @@ is_name_byte c = (nat_le 97 c && nat_le c 122) || (nat_le 48 c && nat_le c 57) |
 
 -- a volume's name has 3 to 63 of these, and `-` neither first nor last
 abbrev pub is_volume_name : List ℕ → Bool
-is_volume_name name = nat_le 3 (length name) && nat_le (length name) 63 && list_all is_name_byte name && not (slice_index name 0 == 45) && not (slice_index name (length name - 1) == 45)
+is_volume_name name = nat_le MIN_VOLUME_NAME (length name) && nat_le (length name) MAX_VOLUME_NAME && list_all is_name_byte name && not (slice_index name 0 == 45) && not (slice_index name (length name - 1) == 45)
 
 abbrev pub is_bucket : List ℕ → Bool
 is_bucket bucket = nat_le 1 (length bucket) && nat_le (length bucket) MAX_BUCKET && is_utf8 bucket
@@ -96,7 +96,7 @@ abbrev pub is_of_kind : Node → Bool
 is_of_kind n = if n.kind == 1 then is_file n else if n.kind == 2 then is_directory n else n.kind == 3 && is_symlink n
 
 abbrev pub is_node : Node → Bool
-is_node n = nat_le n.mode 4095 && is_of_kind n
+is_node n = nat_le n.mode MAX_MODE && is_of_kind n
 
 unfoldable pub node_bytes : Node → List ℕ
 node_bytes n = byte n.kind ++ half n.mode ++ word n.uid ++ word n.gid ++ word n.nlink ++ long n.mtime ++ long n.ctime ++ long n.length ++ long n.parent ++ n.target
