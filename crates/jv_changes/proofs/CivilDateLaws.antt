@@ -17,14 +17,9 @@ use Rattle.jv_model.specs.declared.limits.TheConstants.{LAST_MOMENT}
 use Rattle.jv_model.specs.declared.lifetimes.TheConstants.{HOUR}
 use Rattle.jv_changes.specs.CivilDates.{IsDateOf}
 use Rattle.jv_model.specs.tree.HourNames.{day_hours, hour_at, hour_name, date_text, two_digits, year_in_era, days_before_year, month_in_year, days_before_month, date_of, era_days, days_before_1970}
+use Rattle.jv_volume.proofs.HourNameLaws.{year_begins, year_few, month_begins, era_of, in_era, in_year, in_era_few}
 
 -- A day of an era: its year, and its day in that year, which is within the year from March on to the end of February.
-
-year_few : (day : ℕ) → day < era_days → year_in_era day ≤ 399
-year_few day less = omega arith
-
-year_begins : (day : ℕ) → day < era_days → days_before_year (year_in_era day) ≤ day
-year_begins day less = omega arith
 
 year_ends : (day : ℕ) → day < era_days
     → day < 365 * (year_in_era day + 1) + (year_in_era day + 1) / 4 - (year_in_era day + 1) / 100 +
@@ -53,22 +48,6 @@ month_from_march day = omega arith
 
 months_before : (month : ℕ) → march_months (month + 3) ≡ days_before_month month
 months_before month = omega arith
-
-month_begins : (day : ℕ) → days_before_month (month_in_year day) ≤ day
-month_begins day = omega arith
-
--- the parts of a day
-abbrev era_of : ℕ → ℕ
-era_of day = (day + days_before_1970) / era_days
-
-abbrev in_era : ℕ → ℕ
-in_era day = (day + days_before_1970) % era_days
-
-abbrev in_year : ℕ → ℕ
-in_year day = in_era day - days_before_year (year_in_era (in_era day))
-
-in_era_few : (day : ℕ) → in_era day < era_days
-in_era_few day = omega arith
 
 day_parts : (day : ℕ) → day + days_before_1970 ≡ era_days * era_of day + in_era day
 day_parts day = omega arith

@@ -35,10 +35,7 @@ pub record Presents (inode : ℕ) (changes : List Change) (before after : Store)
     pub allowed : IfOk result (λ node. IsTrue (is_node node))
     pub refused : IfErr result (RefusesNode inode changes before.rows)
 
--- what an entry of an inode of this kind adds to the link count of its directory, and to that of the inode
-abbrev pub to_directory : ℕ → ℕ
-to_directory kind = (if kind == 2 then 1 else 0)
-
+-- what an entry of an inode of this kind adds to the link count of that inode
 abbrev pub to_node : ℕ → ℕ
 to_node kind = (if kind == 2 then 0 else 1)
 

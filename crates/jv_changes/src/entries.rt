@@ -1,7 +1,8 @@
 //! Entries that come and go, with the times and the link counts of their directories and their nodes.
 ghost use Rattle.std.specs.Prelude.{◌≡◌, ◌-◌, IsTrue, Ok};
 ghost use Rattle.jv_changes.specs.Drafting.{Drafting};
-ghost use Rattle.jv_changes.specs.Present.{to_directory, to_node, directory_touched, linked_row, Rises};
+ghost use Rattle.jv_changes.specs.Present.{to_node, directory_touched, linked_row, Rises};
+ghost use Rattle.jv_volume.specs.Stored.{links_by};
 ghost use Rattle.jv_changes.specs.Ready.{StandsAt, MayStandAt, entry_put};
 ghost use Rattle.jv_model.specs.tree.Changes as model;
 
@@ -12,7 +13,7 @@ use jv_rows::Draft;
 
 // What an entry of an inode of this kind adds to the link count of its directory.
 fn links_of_directory(kind: u8) -> u32
-    ensures { result ≡ to_directory kind }
+    ensures { result ≡ links_by kind }
 {
     if kind == 2 { 1 } else { 0 }
 }
@@ -38,7 +39,7 @@ fn touched(parent: Node, now: Moment, nlink: u32) -> Node
 
 // A directory that an entry of an inode of this kind left at a moment.
 fn without_entry(parent: Node, now: Moment, kind: u8) -> Node
-    ensures { result ≡ directory_touched now (parent.nlink - to_directory kind) parent }
+    ensures { result ≡ directory_touched now (parent.nlink - links_by kind) parent }
 {
     let nlink = parent.nlink.saturating_sub(links_of_directory(kind));
     touched(parent, now, nlink)
@@ -56,7 +57,7 @@ fn unlinked(node: Node) -> Node
 
 // A directory that gets an entry of an inode of this kind at a moment; refused where its link count is full.
 fn with_entry(parent: Node, now: Moment, kind: u8) -> Result<Node, Fault>
-    ensures { Rises parent (to_directory kind) (λ links. directory_touched now links parent) result }
+    ensures { Rises parent (links_by kind) (λ links. directory_touched now links parent) result }
 {
     let nlink = parent.nlink.checked_add(links_of_directory(kind));
     Ok(touched(parent, now, nlink.ok_or(Fault::NoSpace)?))

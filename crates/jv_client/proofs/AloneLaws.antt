@@ -1,8 +1,9 @@
 -- A write over nothing: its bytes, one after the other, are all that is pending.
-use Rattle.std.proofs.Common.{◌≡◌, ℕ, suc, ◌+◌, true, false, List, [], ◌∷◌, length, refl, ap, ◌∙◌, arith}
+use Rattle.std.proofs.Common.{◌≡◌, ℕ, ◌+◌, true, false, List, [], ◌∷◌, length, refl, ap, ◌∙◌, arith}
 use Rattle.std.specs.Prelude.{if◌then◌else◌}
 use Rattle.std.proofs.lemmas.Bool.Decides.{nat_tests}
 use Rattle.jv_model.specs.client.Pending.{PendingByte, byte_set, comes_before, stands_at, written}
+use Rattle.jv_pending.proofs.Order.{length-placed}
 
 abbrev placed : (inode from : ℕ) → List ℕ → List PendingByte
 placed inode from [] = []
@@ -26,10 +27,6 @@ written-placed : (inode from : ℕ) (bytes : List ℕ) → written inode from by
 written-placed inode from [] = refl
 written-placed inode from (byte ∷ bytes) =
     ap (byte_set inode from byte) (written-placed inode (from + 1) bytes) ∙ set-first inode from byte bytes
-
-length-placed : (inode from : ℕ) (bytes : List ℕ) → length (placed inode from bytes) ≡ length bytes
-length-placed inode from [] = refl
-length-placed inode from (byte ∷ bytes) = ap suc (length-placed inode (from + 1) bytes)
 
 pub length-alone : (inode from : ℕ) (bytes : List ℕ) → length (written inode from bytes []) ≡ length bytes
 length-alone inode from bytes = ap length (written-placed inode from bytes) ∙ length-placed inode from bytes

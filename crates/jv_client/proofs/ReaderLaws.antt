@@ -32,11 +32,12 @@ use Rattle.jv_client.specs.Held.{IsClient, flight_by, flight_in, flush_of_code, 
 use Rattle.jv_client.specs.Held.{stage_of}
 use Rattle.jv_client.specs.Reading.{IsAhead, need_in, put_at}
 use Rattle.jv_client.specs.UnderWay.{IsForm}
-use Rattle.jv_client.specs.UnderWay.{IsAt, IsReading, IsReady, IsUnderWay, has_segment, left, left_of, steps_left}
+use Rattle.jv_client.specs.UnderWay.{IsAt, IsReading, IsReady, IsUnderWay, has_segment, left, steps_left}
 use Rattle.jv_client.specs.UnderWay.{steps_of}
 use Rattle.jv_client.specs.Held.{segment_left}
 use Rattle.jv_client.proofs.HeldLaws.{client-doing, doing_of}
 use Rattle.jv_client.proofs.ReadingLaws.{reads-file}
+use Rattle.jv_client.proofs.FormLaws.{none_left}
 
 -- ---- its form
 
@@ -72,10 +73,6 @@ reads_by h d offset len form is =
 -- an open file of the model, as a handle has it
 abbrev pub file_by : Handle → OpenFile
 file_by handle = record { inode = handle.inode; opened = handle.opened }
-
--- no segment is in its way
-pub none_left : (h : ClientValue) (d : Doing) → h.doing ≡ Some d → left h ≡ None → has_segment h d ≡ false
-none_left h d busy none = ap is_some (ap (left_of h.pending) (sym busy) ∙ none)
 
 no_quiets : (h : ClientValue) (d : Doing) (quiets started id : ℕ) → IsAt h d (Working quiets started id)
     → has_segment h d ≡ false → quiets ≡ 0

@@ -1,5 +1,5 @@
 -- A write that there is room for is answered in its only step; or memory ran out.
-use Rattle.std.proofs.Common.{◌≡◌, ℕ, ◌+◌, ◌≤◌, true, false, List, [], ◌∷◌, length, Option, None, Some, refl, sym, ap, subst, ◌∙◌, arith}
+use Rattle.std.proofs.Common.{◌≡◌, ℕ, ◌+◌, ◌≤◌, true, false, List, length, Option, None, Some, refl, sym, ap, subst, ◌∙◌, arith}
 use Rattle.std.specs.Prelude.{is_some}
 use Rattle.jv_model.specs.declared.limits.TheConstants.{FILE_END}
 use Rattle.jv_model.specs.declared.act.Told.TheVariants.{Fine}
@@ -9,8 +9,9 @@ use Rattle.jv_model.specs.declared.op.Reply.TheVariants.{Count}
 use Rattle.jv_model.specs.declared.profile.Answer.TheVariants as answer
 use Rattle.jv_model.specs.declared.profile.Does.{Does}
 use Rattle.jv_model.specs.declared.profile.Does.TheVariants as does
-use Rattle.jv_model.specs.client.Pending.{PendingByte, first_segment, written}
+use Rattle.jv_model.specs.client.Pending.{first_segment, written}
 use Rattle.jv_model.specs.client.ModelClient.{file_of}
+use Rattle.jv_model.proofs.PendingLaws.{no_first_segment}
 use Rattle.jv_pending.specs.Held.{PendingValue}
 use Rattle.jv_steps.proofs.AnswerStepLaws.{written-at_once}
 use Rattle.jv_handles.specs.declared.handle.Handle.{Handle}
@@ -77,10 +78,6 @@ module _ (h : ClientValue) (d : Doing) (kept : keeps d.does ≡ true) where
 
 -- ---- a write that has nothing left to commit
 
-none_pending : (pending : List PendingByte) → first_segment pending ≡ None → pending ≡ []
-none_pending [] none = refl
-none_pending (b ∷ bytes) none = absurd (cc none)
-
 module _ (h : ClientValue) (d : Doing) (busy : h.doing ≡ Some d) (ready : IsReady h) (kept : keeps d.does ≡ true)
     (flushed : left h ≡ None) where
   the_write : IsWrite h d
@@ -96,7 +93,7 @@ module _ (h : ClientValue) (d : Doing) (busy : h.doing ≡ Some d) (ready : IsRe
       by_room (Alone is fits) =
           let none : first_segment h.pending ≡ None =
           sym (ap (λ first. segment_left first h.pending) is) ∙ sym (ap (left_of h.pending) busy) ∙ flushed in
-          let empty = ap length (none_pending h.pending none) in
+          let empty = ap length (no_first_segment h.pending none) in
           omega (arith, fits, empty)
 
   pub may_keep : (handles : List (Option Handle)) (pending : PendingValue) → handles ≡ h.handles

@@ -3,6 +3,7 @@ use Rattle.std.proofs.Common.{◌≡◌, ◌≢◌, ℕ, ◌≤◌, nat_le, Bool
 use Rattle.std.specs.Prelude.{◌&&◌, if◌then◌else◌, IfSome, option_and_then, option_map}
 use Rattle.jv_model.specs.declared.setting.Setting.{Setting}
 use Rattle.jv_model.specs.rows.RowGrammar.{is_setting}
+use Rattle.jv_model.proofs.TestLaws.{then_all}
 use Rattle.clap.specs.Words.{Row, Text, Kinds, fault_of, first_of, subcommand_of, subcommand_rows_of}
 use Rattle.clap.specs.declared.parser.matches.ArgMatches.{ArgMatches}
 use Rattle.jv_cmd.specs.declared.words.request.Command.{Command}
@@ -52,10 +53,6 @@ Refuses-own words Memory h = tt
 
 -- what is asked for is allowed
 
-all_then : {A B : Type 0} (o : Option A) (f : A → Option B) (P : B → Type 0) → ((a : A) → IfSome (f a) P) → IfSome (option_and_then f o) P
-all_then None f P h = tt
-all_then (Some a) f P h = h a
-
 all_mapped : {A B : Type 0} (o : Option A) (f : A → B) (P : B → Type 0) → IfSome o (λ a. P (f a)) → IfSome (option_map f o) P
 all_mapped None f P h = tt
 all_mapped (Some a) f P h = h
@@ -66,7 +63,7 @@ if_allowed false setting e = tt
 
 stored_allowed : (rows : List Row) → IfSome (stored_setting_in rows) (λ s. IsTrue (is_setting s))
 unfolding stored_setting_in
-stored_allowed rows = all_then (setting_fields_in rows) where_allowed (λ s. IsTrue (is_setting s)) (λ setting. if_allowed (is_setting setting) setting refl)
+stored_allowed rows = then_all (setting_fields_in rows) where_allowed (λ s. IsTrue (is_setting s)) (λ setting. if_allowed (is_setting setting) setting refl)
 
 setting_allowed : (built : Bool) (rows : List Row) → IfSome (if built then stored_setting_in rows else None) (λ s. IsTrue (is_setting s))
 setting_allowed true rows = stored_allowed rows
@@ -74,7 +71,7 @@ setting_allowed false rows = tt
 
 format_allowed : (rows : List Row) → IfSome (format_in rows) IsAllowedCommand
 unfolding format_in
-format_allowed rows = all_then (value_in place_of (codes "url") rows) (λ place. option_map (Format place) (setting_in rows)) IsAllowedCommand (λ place. all_mapped (setting_in rows) (Format place) IsAllowedCommand (setting_allowed (is_built_store rows) rows))
+format_allowed rows = then_all (value_in place_of (codes "url") rows) (λ place. option_map (Format place) (setting_in rows)) IsAllowedCommand (λ place. all_mapped (setting_in rows) (Format place) IsAllowedCommand (setting_allowed (is_built_store rows) rows))
 
 -- a number that is read is in its range
 
@@ -90,11 +87,11 @@ within_range least most n false high a b = tt
 
 number_in_range : (least most : ℕ) (text : List ℕ) → IfSome (number_within least most text) (InRange least most)
 unfolding number_within
-number_in_range least most text = all_then (number_of_digits text) (within least most) (InRange least most)
+number_in_range least most text = then_all (number_of_digits text) (within least most) (InRange least most)
     (λ n. within_range least most n (nat_le least n) (nat_le n most) refl refl)
 
 value_in_range : (least most : ℕ) (id : Text) (rows : List Row) → IfSome (value_in (number_within least most) id rows) (InRange least most)
-value_in_range least most id rows = all_then (first_of id rows) (number_within least most) (InRange least most) (number_in_range least most)
+value_in_range least most id rows = then_all (first_of id rows) (number_within least most) (InRange least most) (number_in_range least most)
 
 options_made : (staged : Bool) (cache buffer uploads : Option ℕ) (folder : Option Text) (seed : Option (Option ℕ)) → IfSome cache (InRange 0 MAX_CACHE)
     → IfSome buffer (InRange MIN_BUFFER MAX_BUFFER)
@@ -118,7 +115,7 @@ options_allowed rows =
 
 session_allowed : (rows : List Row) → IfSome (session_in rows) IsAllowedCommand
 unfolding session_in
-session_allowed rows = all_then (value_in place_of (codes "url") rows) (λ place. option_map (Session place) (options_in rows)) IsAllowedCommand (λ place. all_mapped (options_in rows) (Session place) IsAllowedCommand (options_allowed rows))
+session_allowed rows = then_all (value_in place_of (codes "url") rows) (λ place. option_map (Session place) (options_in rows)) IsAllowedCommand (λ place. all_mapped (options_in rows) (Session place) IsAllowedCommand (options_allowed rows))
 
 by_name : (is_format is_session : Bool) (rows : List Row) → IfSome (if is_format then format_in rows else (if is_session then session_in rows else None)) IsAllowedCommand
 by_name true is_session rows = format_allowed rows
@@ -126,7 +123,7 @@ by_name false true rows = session_allowed rows
 by_name false false rows = tt
 
 read_allowed : (kinds : Kinds) (stop : Option (Text × List Row)) → IfSome (read_by kinds stop) IsAllowedCommand
-read_allowed [] stop = all_then stop (λ p. command_in p.0 p.1) IsAllowedCommand (λ p. by_name (bytes_eq p.0 (codes "format")) (bytes_eq p.0 (codes "session")) p.1)
+read_allowed [] stop = then_all stop (λ p. command_in p.0 p.1) IsAllowedCommand (λ p. by_name (bytes_eq p.0 (codes "format")) (bytes_eq p.0 (codes "session")) p.1)
 read_allowed (k ∷ ks) stop = tt
 
 pub asked_allowed : (words : List Text) (command : Command) → asked words ≡ Some command → IsAllowedCommand command

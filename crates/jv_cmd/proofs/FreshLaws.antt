@@ -1,5 +1,5 @@
 -- Where a run starts.
-use Rattle.std.proofs.Common.{◌≡◌, ℕ, zero, suc, ◌<◌, List, Option, Some, IfSome, slice_get, refl, sym, ap, subst, ◌∙◌, arith}
+use Rattle.std.proofs.Common.{◌≡◌, ℕ, zero, suc, ◌<◌, List, Option, IfSome, slice_get, refl, sym, ap, subst, ◌∙◌, arith}
 use Rattle.jv_model.specs.declared.op.Line.{Line}
 use Rattle.jv_model.specs.declared.basics.Limits.{Limits}
 use Rattle.jv_model.specs.declared.setting.Setting.{Setting}
@@ -7,6 +7,7 @@ use Rattle.jv_model.specs.rows.RowKeys.{RowMap}
 use Rattle.jv_model.specs.journal.Past.{at_start}
 use Rattle.jv_model.specs.journal.State.{state_at_start}
 use Rattle.jv_model.specs.tree.Tree.{Tree}
+use Rattle.jv_model.proofs.TestLaws.{some_same}
 use Rattle.jv_outside.specs.Objects.{ObjectMap}
 use Rattle.jv_volume.specs.TypedRows.{typed}
 use Rattle.jv_contents.specs.Blocks.{told_by}
@@ -24,9 +25,6 @@ use Rattle.jv_client.specs.Held.{in_flight}
 use Rattle.jv_session.specs.Stands.{AreApart, IsClientAt, Stands, fresh_schedule}
 use Rattle.jv_cmd.specs.Run.{Beginning, StartsWhole, session_run, start_of}
 use Rattle.jv_cmd.specs.Stages.{StageValue}
-
-some_same : {A : Type 0} (a b : A) → Some a ≡ Some b → a ≡ b
-some_same a b e = cc
 
 -- The depot's blocks tell what all blocks tell that are known.
 told_same : (v : Shared) (fresh : IsFresh v) (g : Known) (t : Tree) → HasStore t g v

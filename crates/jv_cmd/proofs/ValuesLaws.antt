@@ -1,18 +1,13 @@
 -- Numbers of a few digits, and lengths of blocks.
-use Rattle.std.proofs.Common.{◌≡◌, ℕ, ◌^◌, ◌-◌, ◌<◌, ◌≤◌, true, false, not, ◌==◌, nat_le, List, [], ◌∷◌, length, get_or, arith, refl, subst, Bool, zero, suc, None, inl, inr}
-use Rattle.std.specs.List.{AllByRecursion, list_all, list_any}
-use Rattle.std.specs.Prelude.{◌||◌}
-use Rattle.std.proofs.lemmas.Bool.{eqb-true}
-use Rattle.jv_model.specs.declared.limits.TheConstants.{MAX_BLOCK, MIN_BLOCK}
-use Rattle.jv_model.specs.declared.setting.Setting.{Setting}
-use Rattle.jv_model.specs.rows.RowGrammar.{block_sizes, is_setting}
-use Rattle.jv_shared.specs.Lengths.{IsLength}
-use Rattle.jv_shared.proofs.SettingLaws.{both_true}
+use Rattle.std.proofs.Common.{◌≡◌, ℕ, ◌^◌, ◌-◌, ◌<◌, ◌≤◌, true, false, not, ◌==◌, nat_le, List, [], ◌∷◌, length, get_or, arith, refl, zero, suc, None, inl, inr}
+use Rattle.std.specs.List.{list_all}
+use Rattle.jv_model.specs.declared.limits.TheConstants.{MAX_BLOCK}
+use Rattle.jv_model.specs.rows.RowGrammar.{is_block}
 use Rattle.std.proofs.lemmas.Bool.{and_parts, cases_lt, leb-true}
 use Rattle.std.proofs.lemmas.Bool.Decides.{nat_tests}
 use Rattle.std.proofs.Math.Nat.{pow-le-pow_right}
 use Rattle.jv_model.specs.script.Spelling.{is_decimal_digit, is_numeral}
-use Rattle.jv_cmd.specs.Values.{as_block_size, is_block_size}
+use Rattle.jv_cmd.specs.Values.{as_block_size}
 
 -- 19 digits are few
 pub power_few : (i : ℕ) → i ≤ 19 → 10 ^ i ≤ 10000000000000000000
@@ -32,65 +27,15 @@ digit_at_all (digit ∷ digits) (suc i) h below = digit_at_all digits i (and_par
 pub digit_at : (text : List ℕ) (i : ℕ) → is_numeral text ≡ true → i < length text → get_or text i 0 - 48 < 10
 digit_at text i h below = omega (arith, digit_at_all text i (numeral_digits text h) below)
 
--- no block is longer than 16 MiB
-pub large_is_no_block : (bytes : ℕ) → 16777216 < bytes → is_block_size bytes ≡ false
-unfolding is_block_size
+-- no block is longer than the longest
+pub large_is_no_block : (bytes : ℕ) → MAX_BLOCK < bytes → is_block bytes ≡ false
 large_is_no_block bytes large = grind (arith, nat_tests)
 
 pub no_block : (bytes : ℕ) → 2 ^ 64 ≤ bytes → as_block_size bytes ≡ None
 no_block bytes large = rw (large_is_no_block bytes (omega arith)) refl
 
-pub block_is_small : (bytes : ℕ) → is_block_size bytes ≡ true → bytes ≤ 16777216
-block_is_small bytes h = elim (cases_lt 16777216 bytes) [
+pub block_is_small : (bytes : ℕ) → is_block bytes ≡ true → bytes ≤ MAX_BLOCK
+block_is_small bytes h = elim (cases_lt MAX_BLOCK bytes) [
   | inl above ↦ let no = large_is_no_block bytes above in cc
   | inr small ↦ small
 ]
-
--- a setting that rows may have has blocks of a length that is allowed
-
-one_of : (block : ℕ) (sizes : List ℕ) → AllByRecursion IsLength sizes → list_any (λ n. n == block) sizes ≡ true → IsLength block
-one_of block [] all h = absurd (cc)
-one_of block (size ∷ sizes) all h = by_test (size == block) refl h (one_of block sizes all.1)
-  where
-    by_test : (b : Bool) → (size == block) ≡ b → (b || list_any (λ n. n == block) sizes) ≡ true
-        → (list_any (λ n. n == block) sizes ≡ true → IsLength block) → IsLength block
-    by_test true e h later = subst IsLength (eqb-true size block e) all.0
-    by_test false e h later = later h
-
-a_length : (n : ℕ) → MIN_BLOCK ≤ n → n ≤ MAX_BLOCK → IsLength n
-a_length n least most = record { least = least; most = most }
-
-lengths : AllByRecursion IsLength block_sizes
-lengths = (
-  a_length _ (omega arith) (omega arith),
-  (
-    a_length _ (omega arith) (omega arith),
-    (
-      a_length _ (omega arith) (omega arith),
-      (
-        a_length _ (omega arith) (omega arith),
-        (
-          a_length _ (omega arith) (omega arith),
-          (
-            a_length _ (omega arith) (omega arith),
-            (
-              a_length _ (omega arith) (omega arith),
-              (
-                a_length _ (omega arith) (omega arith),
-                (
-                  a_length _ (omega arith) (omega arith),
-                  tt,
-                ),
-              ),
-            ),
-          ),
-        ),
-      ),
-    ),
-  ),
-)
-
-pub allowed_length : (setting : Setting) → is_setting setting ≡ true → IsLength setting.block
-allowed_length setting h =
-    one_of setting.block block_sizes lengths (both_true _ _ (both_true _ _ (both_true _ _ (both_true _ _ (both_true _ _ (both_true _ _
-    (both_true _ _ h).0).0).0).0).0).0).1

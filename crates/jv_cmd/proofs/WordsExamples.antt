@@ -4,7 +4,7 @@ use Rattle.clap.proofs.OnLiterals.{clap_on_literals}
 use Rattle.jv_cmd.specs.declared.words.request.Command.TheVariants.{Format, Session}
 use Rattle.jv_model.specs.script.Spelling.{number_of}
 use Rattle.jv_cmd.specs.Program.{program_app}
-use Rattle.jv_cmd.specs.Values.{number_of_digits, number_within, digits_of, unit_of, is_block_size, block_size_of, place_of}
+use Rattle.jv_cmd.specs.Values.{number_of_digits, number_within, digits_of, unit_of, block_size_of, place_of}
 use Rattle.jv_cmd.specs.Words.{asked, format_in, options_in, session_in, setting_fields_in, stored_setting_in, where_allowed}
 
 session_by_default : asked (codes "session" ∷ codes "sqlite3://v" ∷ []) ≡ Some (Session (codes "v") (record { cache = 64; buffer = 32; uploads = 20; writeback = false; cache_dir = codes "juicevol-cache"; generate = None }))
@@ -20,7 +20,7 @@ unfolding clap_on_literals program_app asked session_in options_in number_within
 seed_of_65_bits = refl
 
 format_by_default : asked (codes "format" ∷ codes "sqlite3://v" ∷ codes "vol" ∷ codes "--bucket" ∷ codes "b" ∷ []) ≡ option_map (Format (codes "v")) (where_allowed (record { version = 1; block = 4194304; trash_days = 1; capacity = 0; inodes = 0; hash = 0; name = codes "vol"; bucket = codes "b" }))
-unfolding clap_on_literals program_app asked format_in setting_fields_in stored_setting_in number_within number_of_digits digits_of unit_of is_block_size block_size_of place_of
+unfolding clap_on_literals program_app asked format_in setting_fields_in stored_setting_in number_within number_of_digits digits_of unit_of block_size_of place_of
 format_by_default = refl
 
 another_scheme : asked (codes "session" ∷ codes "mysql://x" ∷ []) ≡ None
@@ -32,7 +32,7 @@ unfolding clap_on_literals program_app asked format_in place_of
 compressed = refl
 
 no_power_of_two : asked (codes "format" ∷ codes "sqlite3://v" ∷ codes "vol" ∷ codes "--bucket" ∷ codes "b" ∷ codes "--block-size" ∷ codes "100" ∷ []) ≡ None
-unfolding clap_on_literals program_app asked format_in setting_fields_in stored_setting_in number_of_digits digits_of unit_of is_block_size block_size_of place_of
+unfolding clap_on_literals program_app asked format_in setting_fields_in stored_setting_in number_of_digits digits_of unit_of block_size_of place_of
 no_power_of_two = refl
 
 no_words : asked [] ≡ None

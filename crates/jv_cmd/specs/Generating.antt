@@ -25,6 +25,7 @@ use Rattle.jv_cmd.specs.Faults.{CountsFaults, on_stage}
 use Rattle.jv_cmd.specs.Run.{RunsLines}
 use Rattle.jv_cmd.specs.Stages.{StageValue}
 use Rattle.jv_cmd.specs.Texts.{texts_of}
+use Rattle.jv_outside.specs.InMemory.{never_failing}
 
 -- the script as text
 
@@ -97,12 +98,9 @@ summary_of seed said = summary_line (totals_of (replies_said (script seed) (text
 
 -- the run
 
-abbrev pub known_stream : Option (List ℕ) → Stream
-known_stream content = record { content = content; faults = 0 }
-
 -- a stage whose source has these bytes left, and whose out has taken those
 abbrev pub with_streams : Option (List ℕ) → Option (List ℕ) → StageValue → StageValue
-with_streams left taken stage = record stage { source = known_stream left; out = known_stream taken }
+with_streams left taken stage = record stage { source = never_failing left; out = never_failing taken }
 
 -- The summary of a whole run was printed, or out failed after a proper prefix of it, or there was no memory for what the lines print or
 -- for the summary, and nothing was printed.

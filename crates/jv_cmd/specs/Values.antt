@@ -1,8 +1,8 @@
 -- The values of a command line, each as what its text stands for. A text is bytes.
-use Rattle.std.specs.Prelude.{ℕ, ◌-◌, ◌*◌, ◌^◌, Bool, false, ◌&&◌, ◌||◌, ◌==◌, nat_lt, nat_le, if◌then◌else◌, List, [], ◌∷◌, length, take, drop, slice_get, Option, None, Some, option_and_then, codes, bytes_eq}
-use Rattle.std.specs.List.{list_any}
+use Rattle.std.specs.Prelude.{ℕ, ◌-◌, ◌*◌, Bool, false, ◌&&◌, ◌||◌, ◌==◌, nat_lt, nat_le, if◌then◌else◌, List, length, take, drop, slice_get, Option, None, Some, option_and_then, codes, bytes_eq}
 use Rattle.std.specs.Option.{option_map_or}
 use Rattle.jv_model.specs.declared.limits.TheConstants.{KIB, MIB}
+use Rattle.jv_model.specs.rows.RowGrammar.{is_block}
 use Rattle.jv_model.specs.script.Spelling.{is_numeral, value_of}
 
 -- a number: decimal digits without a leading zero, at most 19 of them
@@ -28,12 +28,8 @@ digits_of text = (if ends_with 75 text || ends_with 77 text then take (length te
 unfoldable pub unit_of : List ℕ → ℕ
 unit_of text = (if ends_with 77 text then MIB else KIB)
 
--- a power of two from 64 KiB to 16 MiB
-unfoldable pub is_block_size : ℕ → Bool
-is_block_size bytes = list_any (λ k. 2 ^ k == bytes) (16 ∷ 17 ∷ 18 ∷ 19 ∷ 20 ∷ 21 ∷ 22 ∷ 23 ∷ 24 ∷ [])
-
 abbrev pub as_block_size : ℕ → Option ℕ
-as_block_size bytes = (if is_block_size bytes then Some bytes else None)
+as_block_size bytes = (if is_block bytes then Some bytes else None)
 
 -- the length of a block, in bytes
 unfoldable pub block_size_of : List ℕ → Option ℕ

@@ -25,7 +25,8 @@ use Rattle.jv_volume.specs.Slices.{listed, records_naming, named_by, count_in, s
 use Rattle.jv_contents.specs.Bytes.{spot_byte, bytes_of, tree_with}
 use Rattle.jv_contents.specs.Blocks.{Blocks, Grows, IsThere, HasBlocks, AreBelow, told_by}
 use Rattle.jv_contents.specs.Counts.{HadSize, KeepsOthers}
-use Rattle.jv_contents.proofs.PlaceLaws.{record_inside, no_list}
+use Rattle.jv_contents.proofs.PlaceLaws.{record_inside}
+use Rattle.jv_volume.proofs.FilesLaws.{nothing_shows}
 
 -- ---- blocks that grow
 
@@ -125,7 +126,7 @@ module _ (rows : Rows) (w : WholeSlices rows) where
       by_test : (b : Bool) → stored_place (if b then records_in (row_in (get rows (list_key inode (p / WINDOW)))) else []) (p % WINDOW) ≡ Slice id size at
           → HadSize rows id size × (at < size)
       by_test true f = shown_has_row (list_key inode (p / WINDOW)) (p % WINDOW) id size at f
-      by_test false f = let never : Zero ≡ Slice id size at = sym (no_list (p % WINDOW)) ∙ f in absurd (cc)
+      by_test false f = let never : Zero ≡ Slice id size at = sym (nothing_shows (p % WINDOW)) ∙ f in absurd (cc)
 
   -- the bytes of files stay when blocks are put
   pub bytes-grow : (block : ℕ) (before after : Blocks) → 0 < block → HasBlocks block rows before → Grows before after

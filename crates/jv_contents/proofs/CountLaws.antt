@@ -15,11 +15,11 @@ use Rattle.jv_model.specs.declared.row.SliceRow.{SliceRow}
 use Rattle.jv_model.specs.declared.row.Dead.{Dead}
 use Rattle.jv_model.specs.declared.slice.Rec.{Rec}
 use Rattle.jv_model.specs.FiniteMap.{get, alter, retain_keys, sum_over, total_over}
-use Rattle.jv_model.specs.rows.RowFields.{is_nil}
 use Rattle.jv_model.specs.rows.RowKeys.{row_key, row_cmp}
 use Rattle.jv_model.specs.rows.RowPlaces.{counters_key, slice_key, dead_key}
 use Rattle.jv_model.specs.blocks.Slices.{IsRecord}
 use Rattle.jv_model.proofs.FiniteMapLaws.{share, get-alter, get-retain_keys, same_maps, sum-insert, sum-remove}
+use Rattle.jv_model.specs.Lists.{is_nil}
 use Rattle.jv_volume.specs.TypedRows.{Cell, Rows}
 use Rattle.jv_volume.specs.Views.{row_in, records_in, counters_in, slice_in, slice_row_at, dead_in, dead_at}
 use Rattle.jv_volume.specs.TreeOf.{or_no_counters}

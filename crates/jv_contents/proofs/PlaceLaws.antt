@@ -11,6 +11,7 @@ use Rattle.jv_model.specs.declared.slice.Spot.TheVariants.{Zero}
 use Rattle.jv_model.specs.blocks.Slices.{IsRecord, is_part, covers, visible, place_by, stored_place}
 use Rattle.jv_volume.specs.Slices.{place_in}
 use Rattle.jv_contents.specs.Places.{Lists, with_list, shown, put_over, cut_at, zero_record, cut_list}
+use Rattle.jv_volume.proofs.FilesLaws.{nothing_shows}
 
 -- a record has a position
 pub record_some : (r : Rec) → IsRecord r → 1 ≤ r.len
@@ -102,15 +103,11 @@ place_in-window lists w q small = λ i. stored_place (lists (window i)) (within 
 
 -- ---- a file that is cut
 
-pub no_list : (q : ℕ) → stored_place [] q ≡ Zero
-unfolding stored_place
-no_list q = refl
-
 -- the window of a position, and where the position lies in it
 module _ (len w q p : ℕ) (is : p ≡ w * WINDOW + q) (small : q < WINDOW) where
   cut_some : (r : Rec) (rs : List Rec) → stored_place (cut_list len w (r ∷ rs)) q ≡ cond (nat_lt p len) (stored_place (r ∷ rs) q) Zero
   cut_some r rs = elim (cases_lt (w * WINDOW) len) [
-    | inr past ↦ ap (λ l. stored_place l q) (cond-true _ _ _ (le-leb len (w * WINDOW) past)) ∙ no_list q
+    | inr past ↦ ap (λ l. stored_place l q) (cond-true _ _ _ (le-leb len (w * WINDOW) past)) ∙ nothing_shows q
         ∙ sym (cond-false _ _ _ (le-ltb p len (omega (arith, is, past))))
     | inl begun ↦ ap (λ l. stored_place l q) (cond-false _ _ _ (lt-leb len (w * WINDOW) begun)) ∙ elim (cases_lt len (w * WINDOW + WINDOW)) [
       | inr whole ↦ ap (λ l. stored_place l q) (cond-false _ _ _ (le-ltb len (w * WINDOW + WINDOW) whole))
@@ -125,10 +122,10 @@ module _ (len w q p : ℕ) (is : p ≡ w * WINDOW + q) (small : q < WINDOW) wher
       turned base old begun at = grind (arith, nat_tests)
 
   cut_any : (l : List Rec) → stored_place (cut_list len w l) q ≡ cond (nat_lt p len) (stored_place l q) Zero
-  cut_any [] = no_list q ∙ either (nat_lt p len)
+  cut_any [] = nothing_shows q ∙ either (nat_lt p len)
     where
       either : (b : Bool) → Zero ≡ cond b (stored_place [] q) Zero
-      either true = sym (no_list q)
+      either true = sym (nothing_shows q)
       either false = refl
   cut_any (r ∷ rs) = cut_some r rs
 

@@ -1,18 +1,20 @@
 -- The counters of whole rows: they stand there, and so they do once a row of a file with as many pages is put.
 use Rattle.std.proofs.Common.{Bool, true, false, ◌≡◌, inl, inr, ℕ, ◌+◌, ◌-◌, ◌<◌, List, Option, None, Some, refl, sym, ap, ◌∙◌, arith, le-leb}
-use Rattle.std.specs.Prelude.{◌&&◌, if◌then◌else◌, nat_le, IfSome, option_and_then, ok_or}
+use Rattle.std.specs.Prelude.{◌&&◌, if◌then◌else◌, nat_le, IfSome, ok_or}
 use Rattle.std.specs.Option.{option_map}
 use Rattle.std.proofs.lemmas.Bool.{and_parts, leb-true, or_right}
 use Rattle.jv_model.specs.declared.row.Counters.{Counters}
 use Rattle.jv_model.specs.declared.row.Row.{Row}
 use Rattle.jv_model.specs.declared.row.Row.TheVariants.{OfCounters}
 use Rattle.jv_model.specs.FiniteMap.{KeyOrder, Map, get, insert}
-use Rattle.jv_model.specs.rows.RowFields.{is_nil, long_at, whole}
+use Rattle.jv_model.specs.rows.RowFields.{long_at, whole}
 use Rattle.jv_model.specs.rows.RowGrammar.{is_counters, counters_of, row_of}
 use Rattle.jv_model.specs.rows.RowKeys.{RowMap}
 use Rattle.jv_model.specs.rows.RowPlaces.{counters_key}
 use Rattle.jv_model.specs.tree.Tree.{paged, sum_fits}
 use Rattle.jv_model.proofs.FiniteMapLaws.{same_maps}
+use Rattle.jv_model.proofs.TestLaws.{then_all}
+use Rattle.jv_model.specs.Lists.{is_nil}
 use Rattle.jv_volume.specs.TypedRows.{cell_of, typed}
 use Rattle.jv_volume.specs.TreeOf.{or_no_counters}
 use Rattle.jv_volume.specs.Slices.{next_slice}
@@ -46,10 +48,6 @@ pub fits-same : (limit used : ℕ) → sum_fits limit used used ≡ true
 fits-same limit used = or_right (nat_le used limit) (nat_le used used) (le-leb used used (omega arith))
 
 -- ---- the next slice
-
-then_all : {A B : Type 0} (o : Option A) (f : A → Option B) (P : B → Type 0) → ((a : A) → IfSome (f a) P) → IfSome (option_and_then f o) P
-then_all None f P h = tt
-then_all (Some a) f P h = h a
 
 allowed_next : (c : Counters) → is_counters c ≡ true → 0 < c.slice
 allowed_next c h =

@@ -1,7 +1,7 @@
 -- A file of another length whose lists have changed, with slices that are counted anew: rows are whole again, other slices are kept, and
 -- the tree is that of the model's truncate or copy.
-use Rattle.std.proofs.Common.{◌≡◌, ◌≢◌, ℕ, ◌+◌, ◌<◌, ◌≤◌, ◌⊎◌, true, false, None, Some, refl, sym, ap, subst, ◌∙◌, eq-eqb}
-use Rattle.std.specs.Prelude.{◌==◌, max}
+use Rattle.std.proofs.Common.{◌≡◌, ◌≢◌, ℕ, ◌+◌, ◌<◌, ◌≤◌, ◌⊎◌, false, None, Some, refl, sym, ap, subst, ◌∙◌}
+use Rattle.std.specs.Prelude.{max}
 use Rattle.jv_model.specs.declared.limits.TheConstants.{FILE_END}
 use Rattle.jv_model.specs.declared.row.Counters.{Counters}
 use Rattle.jv_model.specs.declared.row.Node.{Node as NodeRow}
@@ -28,9 +28,7 @@ use Rattle.jv_contents.proofs.WholeLaws.{SlicesGo, keeps-go, slices-go, FileGoes
 use Rattle.jv_data.proofs.BesideLaws.{Beside, formed-beside, whole-formed}
 use Rattle.jv_data.proofs.ChangedLaws.{tree-changed}
 use Rattle.jv_data.proofs.SizedLaws.{sized_rows, sized, formed-sized, quiet-sized, node-sized, kept-sized, counters-sized, content_was}
-
-apart_tab : (k q : RowKey) → (k.tab == q.tab) ≡ false → k ≢ q
-apart_tab k q other same = (let both : true ≡ false = sym (eq-eqb k.tab q.tab (ap (λ (x : RowKey). x.tab) same)) ∙ other in absurd (cc))
+use Rattle.jv_volume.proofs.FileStepLaws.{other_tab}
 
 module _ (rows : Rows) (inode : ℕ) (was : NodeRow) (c : Counters) (now length : ℕ) (whole : Whole rows)
     (there : node_row_at rows inode ≡ Some was) (file : was.kind ≡ 1) (counters : counters_at rows ≡ Some c) where
@@ -55,11 +53,11 @@ module _ (rows : Rows) (inode : ℕ) (was : NodeRow) (c : Counters) (now length 
 
     node_beside : (i : ℕ) → i ≢ inode → node_row_at last i ≡ node_row_at rows i
     node_beside i apart = node_then i ∙ ap (λ o. node_in (row_in o)) (kept-sized rows inode was c now length whole there file counters (node_key i)
-        (λ same. apart (ap (λ (k : RowKey). k.a) same)) (apart_tab (node_key i) counters_key refl))
+        (λ same. apart (ap (λ (k : RowKey). k.a) same)) (other_tab (node_key i) counters_key refl))
 
     dropped_then : (i : ℕ) → dropped_at last i ≡ dropped_at rows i
     dropped_then i = ap (λ o. dropped_in (row_in o)) (l.rest (dropped_key i) refl ∙ kept-sized rows inode was c now length whole there file counters (dropped_key i)
-        (apart_tab (dropped_key i) (node_key inode) refl) (apart_tab (dropped_key i) counters_key refl))
+        (other_tab (dropped_key i) (node_key inode) refl) (other_tab (dropped_key i) counters_key refl))
 
     next_then : (counters_of last).inode ≡ (counters_of rows).inode
     next_then = ap (λ o. (or_no_counters (counters_in (row_in o))).inode) (l.rest counters_key refl)

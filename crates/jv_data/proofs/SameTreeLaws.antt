@@ -1,16 +1,17 @@
 -- Rows that differ in lists, slices and dead slices alone have the same tree; so have those whose counts have followed.
-use Rattle.std.proofs.Common.{◌≡◌, ℕ, ◌^◌, Bool, true, false, inl, inr, List, [], ◌∷◌, Option, None, Some, Ok, option_map, refl, sym, ap, subst, ◌∙◌}
+use Rattle.std.proofs.Common.{◌≡◌, ℕ, ◌^◌, Bool, true, false, inl, inr, List, [], Option, None, Some, Ok, option_map, refl, sym, ap, subst, ◌∙◌}
 use Rattle.std.specs.Prelude.{◌==◌, ◌&&◌, ◌||◌, if◌then◌else◌}
-use Rattle.std.proofs.lemmas.Bool.{cases_lt, or_parts, eqb-true}
+use Rattle.std.proofs.lemmas.Bool.{cases_lt, or_parts, eqb-true, and_parts}
 use Rattle.std.proofs.lemmas.Option.{same_Some}
 use Rattle.jv_model.specs.declared.row.RowKey.{RowKey}
 use Rattle.jv_model.specs.declared.row.Row.TheVariants.{OfSlice, OfDead}
 use Rattle.jv_model.specs.declared.slice.Rec.{Rec}
 use Rattle.jv_model.specs.FiniteMap.{get}
-use Rattle.jv_model.specs.rows.RowFields.{is_nil}
 use Rattle.jv_model.specs.rows.RowPlaces.{setting_key, counters_key, node_key, edge_key, session_key, sustained_key, slice_key, dead_key}
 use Rattle.jv_model.specs.tree.Tree.{SustainedFile}
 use Rattle.jv_model.proofs.FiniteMapLaws.{same_maps}
+use Rattle.jv_model.proofs.TestLaws.{nil_is}
+use Rattle.jv_model.specs.Lists.{is_nil}
 use Rattle.jv_rows.specs.Counts.{is_named, recounted, Recounted, is_of_slice, Adjusted}
 use Rattle.jv_volume.specs.TypedRows.{Cell, Rows}
 use Rattle.jv_volume.specs.Views.{row_in, setting_in, counters_in, node_in, edge_in, session_in, sustained_in}
@@ -61,14 +62,6 @@ module _ (rows after : Rows) (same : (key : RowKey) → is_unseen key.tab ≡ fa
 
 -- ---- counts have followed
 
-both_true : (a b : Bool) → (a && b) ≡ true → (a ≡ true) × (b ≡ true)
-both_true true b e = (refl, e)
-both_true false b e = absurd (cc)
-
-nil : (l : List ℕ) → is_nil l ≡ true → l ≡ []
-nil [] e = refl
-nil (x ∷ l) e = absurd (cc)
-
 module _ (gone added : List Rec) (due : ℕ) (rows after : Rows) (a : Adjusted gone added due rows after) where
   seen_same : (key : RowKey) → is_unseen key.tab ≡ false → get after key ≡ get rows key
   seen_same key seen =
@@ -116,9 +109,9 @@ module _ (gone added : List Rec) (due : ℕ) (rows after : Rows) (a : Adjusted g
       by_named : (c : Bool) → is_of_slice (is_named gone added) key ≡ c → IsRowAt key x
       by_named false n = all key x (sym (a.others key n) ∙ e)
       by_named true n =
-          let p = both_true (((key.tab == 5) || (key.tab == 9)) && is_nil key.b) (is_named gone added key.a) n in
-          let q = both_true ((key.tab == 5) || (key.tab == 9)) (is_nil key.b) p.0 in
-          named_cell all key.tab key.a key.b x e q.0 (nil key.b q.1) (a.named key.a p.1)
+          let p = and_parts (((key.tab == 5) || (key.tab == 9)) && is_nil key.b) (is_named gone added key.a) n in
+          let q = and_parts ((key.tab == 5) || (key.tab == 9)) (is_nil key.b) p.0 in
+          named_cell all key.tab key.a key.b x e q.0 (nil_is key.b q.1) (a.named key.a p.1)
 
   pub beside-adjusted : Beside rows after
   beside-adjusted = record { tree = tree_of-same rows after seen_same; stored = stored-same rows after seen_same; cells = cells-adjusted }

@@ -17,6 +17,7 @@ use Rattle.jv_model.specs.rows.RowPlaces.{counters_key, node_key}
 use Rattle.jv_model.specs.tree.Tree.{Tree, Node, Kind, File, Directory, Symlink, Content, node_at, content_at, is_counted, paged, node_space, kind_space, used_space, used_inodes, space_limit, inode_limit, sum_fits, fits, root, trash_root}
 use Rattle.jv_model.specs.tree.Changes.{touched, put_node, set_node, with_content}
 use Rattle.jv_model.proofs.FiniteMapLaws.{same_maps}
+use Rattle.jv_model.proofs.TestLaws.{and_true}
 use Rattle.jv_volume.specs.TypedRows.{Rows}
 use Rattle.jv_volume.specs.Views.{row_in, counters_in, counters_at, node_in, node_row_at, setting_at}
 use Rattle.jv_volume.specs.TreeOf.{content_of, node_of, tree_of}
@@ -255,10 +256,6 @@ module _ (rows : Rows) (inode : ℕ) (was : NodeRow) (c : Counters) (now length 
         or_true : (b : Bool) → (b || true) ≡ true
         or_true true = refl
         or_true false = refl
-
-        and_true : (b : Bool) → (b && true) ≡ b
-        and_true true = refl
-        and_true false = refl
 
         same_inodes : (b : Bool) (limit n : ℕ) → (b && sum_fits limit n n) ≡ b
         same_inodes b limit n = ap (λ x. b && (nat_le n limit || x)) (le-leb n n (omega arith)) ∙ ap (λ x. b && x) (or_true (nat_le n limit)) ∙ and_true b

@@ -13,13 +13,13 @@ use Rattle.jv_model.specs.rows.RowPlaces.{list_key}
 use Rattle.jv_outside.specs.declared.batch.Change.{Change}
 use Rattle.jv_outside.specs.Store.{Store}
 use Rattle.jv_rows.specs.Drafts.{drafted}
-use Rattle.jv_rows.specs.Transactions.{Looks}
+use Rattle.jv_rows.specs.Transactions.{Looks, without_answer}
 use Rattle.jv_volume.specs.TypedRows.{Rows, typed}
 use Rattle.jv_volume.specs.Views.{lists_of}
 use Rattle.jv_volume.specs.Slices.{place_in}
 use Rattle.jv_contents.specs.Fills.{Fills}
 use Rattle.jv_data.specs.declared.copying.Course.{Course}
-use Rattle.jv_data.specs.Truncating.{HaveSlices, no_answer, records_of}
+use Rattle.jv_data.specs.Truncating.{HaveSlices, records_of}
 
 -- the lengths of pieces together
 abbrev pub pieces_len : List Piece → ℕ
@@ -33,7 +33,7 @@ pub record IsShown (rows : Rows) (inode from pos len : ℕ) (shown : List Rec) :
 
 -- A reading of a range of a file, as records at a position of a window that show it.
 pub record ShowsRange (inode from pos len : ℕ) (before after : Store) (result : Result (List Rec) TxFault) : Type 0 where
-  pub looks : Looks before after (no_answer result) (λ t. Ok tt)
+  pub looks : Looks before after (without_answer result) (λ t. Ok tt)
   pub records : IfOk result (AllByRecursion IsRecord)
   pub some : IfOk result (λ shown. 0 < len → 0 < length shown)
   pub shows : IfOk result (λ shown. (known : RowMap) → before.rows ≡ Some known → IsShown (typed known) inode from pos len shown)
@@ -58,7 +58,7 @@ rows_added rows c done shown middle =
 
 -- The changes add a part to a window's list; the answer is its records.
 pub record CopiesPart (c : Course) (done : ℕ) (before after : Store) (changes changed : List Change) (result : Result (List Rec) TxFault) : Type 0 where
-  pub looks : Looks before after (no_answer result) (λ t. Ok tt)
+  pub looks : Looks before after (without_answer result) (λ t. Ok tt)
   pub shows : IfOk result (λ shown. (known : RowMap) → before.rows ≡ Some known → ShowPart (typed known) c done shown)
   pub added : IfOk result (λ shown. (known : RowMap) → before.rows ≡ Some known
       → drafted changed known ≡ rows_added (typed known) c done shown (drafted changes known))
@@ -81,6 +81,6 @@ pub record Copying (c : Course) (done : ℕ) (rows middle after : Rows) (added :
 
 -- The changes add all parts; the answer is their records.
 pub record CopiesLists (c : Course) (before after : Store) (changes changed : List Change) (result : Result (List Rec) TxFault) : Type 0 where
-  pub looks : Looks before after (no_answer result) (λ t. Ok tt)
+  pub looks : Looks before after (without_answer result) (λ t. Ok tt)
   pub copied : IfOk result (λ added. (known : RowMap) → before.rows ≡ Some known
       → Copying c c.len (typed known) (drafted changes known) (drafted changed known) added)

@@ -20,7 +20,7 @@ use Rattle.jv_model.specs.tree.Attempt.{◌>>=◌, require}
 use Rattle.jv_model.specs.tree.Caller.{Outcome, done}
 use Rattle.jv_model.specs.tree.Tree.{Tree}
 use Rattle.jv_outside.specs.Store.{Store}
-use Rattle.jv_rows.specs.Transactions.{TransactionCounts, Looks, BadFault}
+use Rattle.jv_rows.specs.Transactions.{TransactionCounts, Looks, BadFault, without_answer}
 use Rattle.jv_volume.specs.TypedRows.{Rows, typed}
 use Rattle.jv_volume.specs.Views.{lists_of}
 use Rattle.jv_volume.specs.TreeOf.{tree_of}
@@ -31,10 +31,6 @@ use Rattle.jv_contents.specs.Bytes.{Told, spot_byte}
 use Rattle.jv_data.specs.declared.looking.View.{View}
 use Rattle.jv_data.specs.Committing.{length_seen, commit_of}
 use Rattle.jv_data.specs.Changing.{Changes, Never}
-
-abbrev pub without_answer : {A : Type 0} → Result A TxFault → Result (Unit {0}) TxFault
-without_answer (Ok x) = Ok tt
-without_answer (Err fault) = Err fault
 
 -- A reading of a window's records, none where there is no list: over whole rows it succeeds, as far as keeper and memory go.
 pub record HasRecords (inode window : ℕ) (before after : Store) (result : Result (List Rec) TxFault) : Type 0 where

@@ -1,5 +1,5 @@
 -- What a truncate does to a file's lists: the one that its length lies inside of reads zero from there on, and those behind it are dropped.
-use Rattle.std.specs.Prelude.{◌≡◌, ◌≢◌, ℕ, ◌+◌, ◌*◌, ◌/◌, ◌%◌, ◌<◌, ◌≤◌, ◌^◌, true, ◌==◌, ◌||◌, nat_le, if◌then◌else◌, List, [], ◌∷◌, ◌++◌, Option, None, Some, Result, Ok, Err, IfOk, OnOk, IsTrue}
+use Rattle.std.specs.Prelude.{◌≡◌, ◌≢◌, ℕ, ◌+◌, ◌*◌, ◌/◌, ◌%◌, ◌<◌, ◌≤◌, ◌^◌, true, ◌==◌, ◌||◌, nat_le, if◌then◌else◌, List, [], ◌∷◌, ◌++◌, Option, None, Some, Result, Ok, IfOk, OnOk, IsTrue}
 use Rattle.std.specs.List.{AllByRecursion}
 use Rattle.jv_model.specs.declared.fault.TxFault.{TxFault}
 use Rattle.jv_model.specs.declared.lifetimes.TheConstants.{DAY}
@@ -17,7 +17,7 @@ use Rattle.jv_outside.specs.Store.{Store}
 use Rattle.jv_rows.specs.Counts.{Adjusted}
 use Rattle.jv_rows.specs.Drafts.{drafted}
 use Rattle.jv_rows.specs.Lists.{is_past, HasNoList, HaveWindows}
-use Rattle.jv_rows.specs.Transactions.{Looks}
+use Rattle.jv_rows.specs.Transactions.{Looks, without_answer}
 use Rattle.jv_volume.specs.TypedRows.{Rows, typed}
 use Rattle.jv_volume.specs.Views.{lists_of, setting_at}
 use Rattle.jv_volume.specs.Whole.{is_of_slices}
@@ -111,13 +111,9 @@ abbrev pub LeaveSlices : Option RowMap → List Change → Type 0
 LeaveSlices rows changes = (known : RowMap) → rows ≡ Some known → (key : RowKey) → IsTrue ((key.tab == 0) || is_of_slices key.tab)
     → get (drafted changes known) key ≡ get (typed known) key
 
-abbrev pub no_answer : {A : Type 0} → Result A TxFault → Result (Unit {0}) TxFault
-no_answer (Ok x) = Ok tt
-no_answer (Err fault) = Err fault
-
 -- The moment when slices that die at a moment are due.
 pub record TellsDue (now : ℕ) (before after : Store) (result : Result ℕ TxFault) : Type 0 where
-  pub looks : Looks before after (no_answer result) (λ t. Ok tt)
+  pub looks : Looks before after (without_answer result) (λ t. Ok tt)
   pub due : IfOk result (λ due. (known : RowMap) → before.rows ≡ Some known → IsDue now (typed known) due)
 
 -- The changes end the list that a length lies inside of.
@@ -138,7 +134,7 @@ pub record ChecksSlices (list : List Rec) (before after : Store) (result : Resul
 
 -- The changes drop all lists of a file after a window; the answer is their records.
 pub record DropsLists (inode : ℕ) (last : Option ℕ) (before after : Store) (changes changed : List Change) (result : Result (List Rec) TxFault) : Type 0 where
-  pub looks : Looks before after (no_answer result) (λ t. Ok tt)
+  pub looks : Looks before after (without_answer result) (λ t. Ok tt)
   pub dropped : IfOk result (λ gone. (known : RowMap) → before.rows ≡ Some known
       → Dropped inode last (typed known) (drafted changes known) (drafted changed known) gone)
 

@@ -44,6 +44,7 @@ use Rattle.jv_laws.specs.Laws.{NothingPending, HasCommitted, flushed_handles, is
 use Rattle.jv_laws.proofs.JournalGrowthLaws.{AllAllowed-parts, own_client, others_kept}
 use Rattle.jv_laws.proofs.JournalStates.{Entry, Steps, RefusedSubmission, LacksMemory, Crashes, Publishes, OfDrain, Ticks, entry_of, holds_on, of_kind}
 pub use Rattle.jv_model.proofs.ClientsLaws.{doing_given}
+use Rattle.jv_model.proofs.PendingLaws.{no_first_segment}
 
 -- tests
 
@@ -553,10 +554,6 @@ module _ (limits : Limits) (start : Start) (alone : Bool) (s : State) (client no
 
 -- nothing left to commit is nothing pending
 
-no_segment : (pending : List PendingByte) → first_segment pending ≡ None → pending ≡ []
-no_segment [] e = refl
-no_segment (b ∷ bs) e = absurd (cc)
-
 abbrev first_or : Option Segment → Option Segment → Option Segment
 first_or o rest = elim o [ None ↦ rest | Some segment ↦ Some segment ]
 
@@ -579,7 +576,7 @@ none_pending : (inodes : List ℕ) (pending : List PendingByte) → IsTrue (not 
 none_pending [] pending h = tt
 none_pending (inode ∷ inodes) pending h =
     let b = both_none (first_segment (pending_of inode pending)) (segment_of_files inodes pending) h in
-    (no_segment (pending_of inode pending) b.first, none_pending inodes pending (not_some (segment_of_files inodes pending) b.others))
+    (no_first_segment (pending_of inode pending) b.first, none_pending inodes pending (not_some (segment_of_files inodes pending) b.others))
 
 pub none_some : {X : Type 0} (o : Option X) → IsTrue (not (is_some o)) → o ≡ None
 none_some None h = refl
@@ -602,7 +599,7 @@ its_files c _ h = tt
 committed_all : (limits : Limits) (c : ModelClient) (d : Doing) → Sound limits c.handles c.pending d → IsTrue (is_flushed d.flush c.pending) → HasCommitted c d.op
 committed_all limits c d h f = record {
   files = its_files c d.op (λ its. none_pending (map (inode_at c) (handle_list (profile d.op).handles)) c.pending (subst (λ flush. IsTrue (is_flushed flush c.pending)) (h.files its) f));
-  all = λ e. no_segment c.pending (none_some (first_segment c.pending) (subst (λ flush. IsTrue (is_flushed flush c.pending)) (h.all (ap (λ o. (profile o).flushes) e)) f));
+  all = λ e. no_first_segment c.pending (none_some (first_segment c.pending) (subst (λ flush. IsTrue (is_flushed flush c.pending)) (h.all (ap (λ o. (profile o).flushes) e)) f));
 }
 
 -- the entry that says so

@@ -31,7 +31,8 @@ use Rattle.jv_model.specs.journal.Steps.{Start, is_ready, cleaning_in, CleansIte
 use Rattle.jv_model.specs.journal.Past.{Setup, Past, at_start, begun_to, reached}
 use Rattle.jv_model.specs.journal.Legal.{Allowed, AllAllowed, Refuses as RefusesSubmission, LacksMemory as RefusalLacks}
 use Rattle.jv_model.specs.journal.Looks.{entry_at}
-use Rattle.jv_laws.specs.Laws.{CleansWhatIsDue, MayEndCleaning, HadMost, HadFewer, FoundNoneDue, FoundNothing, NoSessionDue, NoHourDue, ends_operation, is_answer}
+use Rattle.jv_model.specs.journal.Stepping.{is_answer}
+use Rattle.jv_laws.specs.Laws.{CleansWhatIsDue, MayEndCleaning, HadMost, HadFewer, FoundNoneDue, FoundNothing, NoSessionDue, NoHourDue, ends_operation}
 use Rattle.jv_laws.proofs.JournalGrowthLaws.{AllAllowed-parts, own_client, others_kept}
 use Rattle.jv_laws.proofs.JournalStates.{Entry, Steps, RefusedSubmission, LacksMemory, Crashes, Publishes as OfPublish, OfDrain, Ticks, entry_of, entry_before, entry_last, entry_past, entry_within, holds_on}
 use Rattle.jv_laws.proofs.JournalDoingLaws.{Sound, SoundIf, IsSettled, IsRefusedReply, IsDoneReply, StageOk, sound, doing_given, fine_not_refused, none_some}

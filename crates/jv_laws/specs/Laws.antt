@@ -29,6 +29,7 @@ use Rattle.jv_model.specs.declared.fault.Fault.{Fault}
 use Rattle.jv_model.specs.declared.op.Line.{Line}
 use Rattle.jv_model.specs.declared.op.Line.TheVariants.{Empty, Do, Begin, Step, Run, Crash, Drain, Tick}
 use Rattle.jv_model.specs.journal.Looks.{entry_at, IsFreshLook}
+use Rattle.jv_model.specs.journal.Stepping.{is_answer}
 
 -- growth
 
@@ -283,10 +284,6 @@ ReadsCiteLooks = (run : Setup) (journal : List Act) (act : Act) → AllAllowed (
     → (handle offset len : ℕ) → d.op ≡ op.Read handle offset len → IsTrue (is_fine_answer act.kind) → CitesLooks act.kind
 
 -- lines
-
-abbrev pub is_answer : ActKind → Bool
-is_answer (Answered told) = true
-is_answer _ = false
 
 -- the line with a number, the first one being 1
 abbrev pub line_at : List Line → ℕ → Option Line

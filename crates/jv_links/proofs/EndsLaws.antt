@@ -1,6 +1,6 @@
 -- How the ends of a rename are found: the session, both entries, whether they may go and come, and what the first one
 -- names.
-use Rattle.std.proofs.Common.{◌≡◌, ℕ, true, false, true≢false, ◌&&◌, List, Option, None, Some, is_some, Result, Ok, Err, refl, sym, ap, subst, ◌∙◌}
+use Rattle.std.proofs.Common.{◌≡◌, ℕ, true, false, true≢false, ◌&&◌, List, Option, None, Some, Result, Ok, Err, refl, sym, ap, subst, ◌∙◌}
 use Rattle.std.specs.Prelude.{IsTrue, IfSome}
 use Rattle.std.proofs.lemmas.Bool.{and_parts}
 use Rattle.jv_model.specs.declared.basics.How.{How}
@@ -35,6 +35,7 @@ use Rattle.jv_volume.proofs.WalkShapeLaws.{went_on, required, was_some, entry_wi
 use Rattle.jv_volume.proofs.EntryNameLaws.{entry_of-name}
 use Rattle.jv_links.specs.Removals.{has_no_zero}
 use Rattle.jv_links.specs.Moves.{Move, IsMove, place_of, move_asked, FindsEnds}
+use Rattle.jv_rows.proofs.NeedingLaws.{session_is}
 
 -- ---- rows that stay
 
@@ -79,9 +80,6 @@ by_pair : {B : Type 0} (r : Result EntryKey Fault) (next : EntryKey → Result B
 by_pair (Ok place) next = refl
 by_pair (Err fault) next = refl
 
-abbrev session_there : ℕ → Tree → Result (Unit {0}) Fault
-session_there sid t = require (is_some (get t.sessions sid)) (Stale (Session sid))
-
 abbrev at_last : Tree → EntryKey → EntryKey → Result Move Fault
 at_last t from to = some_or (get t.entries from) NotFound >>=
     (λ source. Ok (record { from = from; source = source; to = to }))
@@ -96,27 +94,27 @@ abbrev at_session : How → List ℕ → List ℕ → Tree → Result Move Fault
 at_session how path to t = entry_pair t path >>= (λ p. at_from how to t (key_of p))
 
 asked-is : (t : Tree) (sid : ℕ) (path to : List ℕ) (how : How)
-    → move_asked t sid path to how ≡ (session_there sid t >>= (λ _. at_session how path to t))
+    → move_asked t sid path to how ≡ (session_is sid t >>= (λ _. at_session how path to t))
 asked-is t sid path to how =
     let inner = λ (from : EntryKey). by_pair (entry_of t to) (λ target. at_both how t from target) in
     let outer = by_pair (entry_of t path) (λ from. entry_of t to >>= (λ target. at_both how t from target)) in
-    (λ i. session_there sid t >>= (λ _. outer i))
-    ∙ (λ i. session_there sid t >>= (λ _. entry_pair t path >>= (λ p. inner (key_of p) i)))
+    (λ i. session_is sid t >>= (λ _. outer i))
+    ∙ (λ i. session_is sid t >>= (λ _. entry_pair t path >>= (λ p. inner (key_of p) i)))
 
 -- ---- the ends are found
 
 module _ (before middle : Store) (sid : ℕ) (path to : List ℕ) (how : How)
-    (l : Looks before middle (Ok tt) (session_there sid)) where
+    (l : Looks before middle (Ok tt) (session_is sid)) where
   abbrev act : Tree → Result Move Fault
   act t = move_asked t sid path to how
 
-  started : Past before before act (λ t. session_there sid t >>= (λ _. at_session how path to t))
+  started : Past before before act (λ t. session_is sid t >>= (λ _. at_session how path to t))
   started = past-as before before before act act (past-start before act)
-      (λ t. session_there sid t >>= (λ _. at_session how path to t))
+      (λ t. session_is sid t >>= (λ _. at_session how path to t))
       (λ known is whole bytes. asked-is (tree_of bytes (typed known)) sid path to how)
 
   in_it : Past before middle act (at_session how path to)
-  in_it = past-looks before before middle act (session_there sid) (λ t _. at_session how path to t) started tt l
+  in_it = past-looks before before middle act (session_is sid) (λ t _. at_session how path to t) started tt l
 
   -- the first entry wasn't walked to
   pub ends-no_from : (after : Store) (fault : TxFault) → ComesToEntry middle after (Err fault) (λ t. entry_pair t path)
@@ -211,7 +209,7 @@ module _ (before middle : Store) (sid : ℕ) (path to : List ℕ) (how : How)
 pub rename-is : (t : Tree) (who : Caller) (path to : List ℕ) (how : How)
     → rename t who path to how ≡ (move_asked t who.sid path to how >>= (λ m. renamed_by how t who m.from m.source m.to))
 unfolding rename
-rename-is t who path to how = by_parts (session_there who.sid t) (entry_of t path) (entry_of t to)
+rename-is t who path to how = by_parts (session_is who.sid t) (entry_of t path) (entry_of t to)
   where
     by_source : (from target : EntryKey) (o : Option ℕ)
         → (some_or o NotFound >>= (λ source. renamed_by how t who from source target))
@@ -243,7 +241,7 @@ pub is_move : (t : Tree) (sid : ℕ) (path to : List ℕ) (how : How) (m : Move)
     → IsTrue (has_no_zero to) → move_asked t sid path to how ≡ Ok m → IsMove t sid how m
 is_move t sid path to how m whole plain h =
     let next = λ (from : EntryKey). entry_of t to >>= (λ target. at_both how t from target) in
-    let inside = went_on (session_there sid t) (λ _. entry_of t path >>= next) m h in
+    let inside = went_on (session_is sid t) (λ _. entry_of t path >>= next) m h in
     let from = went_on (entry_of t path) next m inside.2 in
     let target = went_on (entry_of t to) (λ target. at_both how t from.0 target) m from.2 in
     let tests = went_on (require (may_leave how from.0 && may_be_new target.0) NotPermitted)

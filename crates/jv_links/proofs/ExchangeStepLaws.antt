@@ -26,7 +26,7 @@ use Rattle.jv_volume.proofs.ShapeMapLaws.{naming_same, naming_apart, get-insert_
 use Rattle.jv_volume.proofs.WalkShapeLaws.{went_on, same_Ok}
 use Rattle.jv_links.specs.Exchanges.{MayExchange, entry_moved, exchanged_within}
 use Rattle.jv_links.proofs.ExchangeTreeLaws.{there-change_node, exchanged-taken}
-use Rattle.jv_links.proofs.MoveEntryLaws.{apart_first, entry_apart, le_of_test}
+use Rattle.jv_links.proofs.MoveEntryLaws.{apart_first, entry_apart, le_of_test, required_then}
 use Rattle.jv_changes.proofs.StepLaws.{drafting-as, drafting-ready, then-stops, then-on}
 
 -- ---- what an entry gives to a link count
@@ -393,11 +393,6 @@ module _ (now : ℕ) (from : EntryKey) (source : ℕ) (to : EntryKey) (other : �
 
 -- ---- an entry of an inode from elsewhere
 
-by_test : (b : Bool) (u : Tree) (change : Tree → Result Tree Fault) → ((require b NoSpace >>= (λ _. Ok u)) >>= change)
-    ≡ (require b NoSpace >>= (λ _. change u))
-by_test true u change = refl
-by_test false u change = refl
-
 module _ (now : ℕ) (place : EntryKey) (inode : ℕ) (was put : List Change) (before middle : Store) where
   abbrev may_come : Tree → Type 0
   may_come t = MayStandAt t place inode
@@ -407,7 +402,7 @@ module _ (now : ℕ) (place : EntryKey) (inode : ℕ) (was put : List Change) (b
 
   moved-is : (t : Tree) → (entry_put now place inode t >>= last_change) ≡ entry_moved now place inode t
   moved-is t = (let u = put_entry t now place inode in
-      by_test (links_fit u place.dir && links_fit u inode) u last_change)
+      required_then (links_fit u place.dir && links_fit u inode) u last_change)
 
   pub enter-not_put : {A : Type 0} (fault : TxFault)
       → Drafting {A = A} may_come was put before middle (Err fault) (entry_put now place inode)

@@ -13,8 +13,9 @@ use Rattle.jv_model.specs.rows.RowKeys.{RowMap}
 use Rattle.jv_model.specs.tree.Attempt.{◌>>=◌, require, some_or}
 use Rattle.jv_model.specs.tree.Making.{is_trashed}
 use Rattle.jv_model.specs.tree.Tree.{Tree, EntryKey, entry_key, root, trash_root, in_trash, parent_at, is_directory, trash_entry}
-use Rattle.jv_model.specs.tree.Walk.{is_absolute, is_empty, names_of, is_dot, is_dot_dot, is_trash, named_from, stepped, way_on, walk_names, walk, inode_by, last_name, all_but_last, entry_of}
+use Rattle.jv_model.specs.tree.Walk.{is_absolute, names_of, is_dot, is_dot_dot, is_trash, named_from, stepped, way_on, walk_names, walk, inode_by, last_name, all_but_last, entry_of}
 use Rattle.jv_model.proofs.FiniteMapLaws.{IsFound, first_where-found}
+use Rattle.jv_model.specs.Lists.{is_nil}
 use Rattle.jv_outside.specs.Store.{Store}
 use Rattle.jv_rows.specs.declared.walking.EntryPlace.{EntryPlace}
 use Rattle.jv_rows.specs.declared.walking.Place.{Place}
@@ -48,7 +49,7 @@ append_more : (xs ys : List (List ℕ)) (z : List ℕ) → xs ++ (ys ++ (z ∷ [
 append_more [] ys z = refl
 append_more (x ∷ xs) ys z = ap (λ r. x ∷ r) (append_more xs ys z)
 
-not_last : (names : List (List ℕ)) (last : List ℕ) → is_empty (names ++ (last ∷ [])) ≡ false
+not_last : (names : List (List ℕ)) (last : List ℕ) → is_nil (names ++ (last ∷ [])) ≡ false
 not_last [] last = refl
 not_last (name ∷ names) last = refl
 

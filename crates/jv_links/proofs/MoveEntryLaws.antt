@@ -12,6 +12,7 @@ use Rattle.jv_model.specs.tree.Attempt.{◌>>=◌, require}
 use Rattle.jv_model.specs.tree.Changes.{change_node, take_entry, put_entry}
 use Rattle.jv_model.specs.tree.Renaming.{moved, moved_node}
 use Rattle.jv_model.specs.tree.Tree.{Tree, EntryKey, entry_key, node_at, is_directory, link_count, links_fit}
+use Rattle.jv_model.proofs.TestLaws.{and_true}
 use Rattle.jv_outside.specs.declared.batch.Change.{Change}
 use Rattle.jv_outside.specs.Store.{Store}
 use Rattle.jv_changes.specs.Drafting.{Drafting}
@@ -41,10 +42,6 @@ entry_apart s at inode whole is same =
 
 pub le_of_test : (m n : ℕ) → nat_le m n ≡ true → m ≤ n
 le_of_test m n h = grind (arith, nat_tests)
-
-and_true : (b : Bool) → (b && true) ≡ b
-and_true true = refl
-and_true false = refl
 
 standing_most : (dir : ℕ) (at : EntryKey) → standing dir at ≤ 1
 standing_most dir at = by_test (at.dir == dir)
@@ -137,10 +134,11 @@ module _ (t : Tree) (now : ℕ) (from : EntryKey) (source : ℕ) (to : EntryKey)
 abbrev last_change : ℕ → ℕ → EntryKey → Tree → Result Tree Fault
 last_change now source to u = Ok (change_node u source (moved_node now to.dir))
 
-by_test : (b : Bool) (u : Tree) (change : Tree → Result Tree Fault)
+-- a change that is refused for want of room is, whatever comes after it
+pub required_then : (b : Bool) (u : Tree) (change : Tree → Result Tree Fault)
     → ((require b NoSpace >>= (λ _. Ok u)) >>= change) ≡ (require b NoSpace >>= (λ _. change u))
-by_test true u change = refl
-by_test false u change = refl
+required_then true u change = refl
+required_then false u change = refl
 
 abbrev two_changes : ℕ → ℕ → EntryKey → Tree → Result Tree Fault
 two_changes now source to u = entry_put now to source u >>= last_change now source to
@@ -149,7 +147,7 @@ all-is : (t : Tree) (now : ℕ) (from : EntryKey) (source : ℕ) (to : EntryKey)
     → two_changes now source to (take_entry t now from) ≡ moved_within now from source to t
 all-is t now from source to m =
     let put = put_entry (take_entry t now from) now to source in
-    by_test (links_fit put to.dir && links_fit put source) put (last_change now source to)
+    required_then (links_fit put to.dir && links_fit put source) put (last_change now source to)
     ∙ ap (λ b. require b NoSpace >>= (λ _. Ok (moved t now from source to))) (tests t now from source to m)
 
 -- each exit of the move

@@ -1,5 +1,5 @@
 -- How a rename over another entry ends: each of its exits, by what was read, removed and moved.
-use Rattle.std.proofs.Common.{◌≡◌, ◌≢◌, ℕ, ◌≤◌, Bool, true, false, not, ◌&&◌, ◌||◌, ◌==◌, List, [], Option, is_some, Result, Ok, Err, refl, sym, ap, subst, ◌∙◌, arith, ne_eqb}
+use Rattle.std.proofs.Common.{◌≡◌, ◌≢◌, ℕ, ◌≤◌, true, false, not, ◌&&◌, ◌||◌, ◌==◌, List, [], Option, is_some, Result, Ok, Err, refl, sym, ap, subst, ◌∙◌, arith, ne_eqb}
 use Rattle.std.proofs.lemmas.Bool.{not-true, or_parts}
 use Rattle.jv_model.specs.declared.basics.How.{How}
 use Rattle.jv_model.specs.declared.limits.TheConstants.{MAX_LINKS, LAST_MOMENT}
@@ -59,9 +59,6 @@ by_tests (Ok u) (Ok v) (Err fault) d r = refl
 by_tests (Ok u) (Ok v) (Ok w) d r = refl
 
 -- what was found where they pass
-not_false : (b : Bool) → not b ≡ true → b ≡ false
-not_false b h = not-true b h
-
 allowed : (t : Tree) (dir source other : ℕ) → may_replace t dir source other ≡ Ok tt
     → (is_inside t dir source ≡ false) × ((is_directory t other && has_entries t other) ≡ false)
 allowed t dir source other h =
@@ -74,7 +71,7 @@ allowed t dir source other h =
     let b = went_on (require (not (is_directory t source && not (is_directory t other))) NotADirectory) third tt a.2 in
     let c = went_on (require (not (not (is_directory t source) && is_directory t other)) IsADirectory)
     (λ _. last) tt b.2 in
-    (not_false _ (required _ Invalid a.0 a.1), not_false _ (required _ DirectoryNotEmpty tt c.2))
+    (not-true _ (required _ Invalid a.0 a.1), not-true _ (required _ DirectoryNotEmpty tt c.2))
 
 module _ (who : Caller) (how : How) (ends : Ends) (place : Place) (before : Store) (stand : EndsStand before ends)
     (there : Stands before place)

@@ -15,11 +15,11 @@ use Rattle.jv_model.specs.tree.Making.{may_be_new}
 use Rattle.jv_model.specs.tree.Renaming.{may_leave, moved, is_inside, renamed, renamed_over, unless_same, exchanging}
 use Rattle.jv_model.specs.tree.Caller.{Caller, Outcome}
 use Rattle.jv_outside.specs.Store.{Store}
-use Rattle.jv_rows.specs.declared.walking.EntryPlace.{EntryPlace}
 use Rattle.jv_rows.specs.declared.walking.Place.{Place}
 use Rattle.jv_model.specs.rows.RowGrammar.{is_node}
 use Rattle.jv_rows.specs.Transactions.{Looks, Transacts}
 use Rattle.jv_rows.specs.Walks.{HasNodeRow}
+pub use Rattle.jv_tree.specs.Entering.{place_of}
 use Rattle.jv_volume.specs.Shape.{WholeShape, is_top, shape_of}
 use Rattle.jv_volume.specs.TypedRows.{is_entry_name}
 use Rattle.jv_links.specs.declared.ends.Ends.{Ends}
@@ -31,10 +31,6 @@ pub record Move : Type 0 where
   pub from : EntryKey
   pub source : ℕ
   pub to : EntryKey
-
--- the place of an entry that was walked to
-abbrev pub place_of : EntryPlace → EntryKey
-place_of entry = record { dir = entry.dir.inode; name = entry.name }
 
 abbrev pub move_of : Ends → Move
 move_of ends = record { from = place_of ends.from; source = ends.source.inode; to = place_of ends.to }

@@ -24,6 +24,7 @@ use Rattle.jv_model.specs.tree.Caller.{Caller, Outcome, done}
 use Rattle.jv_model.specs.tree.Changes.{drop_node}
 use Rattle.jv_model.specs.tree.Sessions.{release, released}
 use Rattle.jv_model.specs.tree.Tree.{Tree, node_at, root, trash_root, is_counted, is_sustained}
+use Rattle.jv_model.proofs.TestLaws.{none_if}
 use Rattle.jv_outside.specs.declared.batch.Change.{Change}
 use Rattle.jv_outside.specs.Store.{Store, Commits}
 use Rattle.jv_rows.specs.Drafts.{drafted, cell, Sees}
@@ -32,7 +33,7 @@ use Rattle.jv_rows.specs.Tables.{node_row}
 use Rattle.jv_rows.specs.Transactions.{IsFor, IsBad, NamesNone, is_key_of, Looks, Transacts, Always}
 use Rattle.jv_rows.proofs.DraftLaws.{sees_stored}
 use Rattle.jv_rows.proofs.NeedingLaws.{session_is}
-use Rattle.jv_rows.proofs.TransactionLaws.{of_known, if_known, Past, past-start, past-as, past-calm, past-looks, past-stops, past-fails, fails-looks, fails-sees, stands-sees, transacts-refused, transacts-answers}
+use Rattle.jv_rows.proofs.TransactionLaws.{of_known, if_known, Past, past-start, past-as, past-calm, past-looks, past-stops, past-fails, fails-looks, fails-sees, stands-sees, transacts-refused, transacts-answers, none_kept}
 use Rattle.jv_volume.specs.TypedRows.{Rows, typed}
 use Rattle.jv_volume.specs.TreeOf.{tree_of}
 use Rattle.jv_volume.specs.Shape.{Form, Regular, Dir, WholeShape, Keeps, form_of, is_there, shape_of}
@@ -40,14 +41,14 @@ use Rattle.jv_volume.specs.Views.{row_in, node_in, sustained_in}
 use Rattle.jv_volume.specs.Whole.{Whole, no_bytes}
 use Rattle.jv_volume.proofs.ReleaseLaws.{released_tree, released-kept, released-other}
 use Rattle.jv_volume.proofs.SessionShapeLaws.{whole-released}
-use Rattle.jv_volume.proofs.ShapeMapLaws.{none_if, tied_here, is_there-form, uncounted}
+use Rattle.jv_volume.proofs.ShapeMapLaws.{tied_here, is_there-form, uncounted}
 use Rattle.jv_volume.proofs.StoredLaws.{whole-shape, no_node}
 use Rattle.jv_volume.proofs.TreeOfLaws.{is_sustained-tree_of}
 use Rattle.jv_changes.specs.Drafting.{Drafting}
 use Rattle.jv_changes.specs.Ready.{MayGo}
 use Rattle.jv_changes.proofs.DraftingLaws.{PastSteps, steps-on, steps-stop, steps-commit}
 use Rattle.jv_live.specs.Steps.{letting_go, HasPair}
-use Rattle.jv_live.proofs.SessionLaws.{fresh_kept, fresh-steps, not_made, steps-fell}
+use Rattle.jv_live.proofs.SessionLaws.{fresh-steps, not_made, steps-fell}
 
 -- ---- a file that a session keeps
 
@@ -121,7 +122,7 @@ module _ (sid inode : ℕ) (small : inode < 2 ^ 64) (before after : Store) (pair
   -- it wasn't read
   pub node-unread : (fault : RowFault) → ReadsNode (Err fault) → Looks {A = Unit {0}} before after (Err (OfRows fault)) finds
   node-unread fault r = fails-looks before after finds (OfRows fault)
-      (fails-sees OfNode is_node (node_key inode) [] before after (λ known is. fresh_kept [] (node_key inode) refl known) fault (seen_node (Err fault) r))
+      (fails-sees OfNode is_node (node_key inode) [] before after (λ known is. none_kept [] (node_key inode) refl known) fault (seen_node (Err fault) r))
 
   -- it is there
   pub node-there : (found : Option NodeRow) → ReadsNode (Ok found) → Looks before after (Ok tt) finds
@@ -148,7 +149,7 @@ module _ (sid inode : ℕ) (small : inode < 2 ^ 64) (before after : Store) (pair
     opened_at = r.opened_at;
     cause = r.counts;
     why = λ known is. (let gone : get (typed known) (node_key inode) ≡ None = stands-sees OfNode is_node (node_key inode) [] before after
-        (λ known is. fresh_kept [] (node_key inode) refl known) found (seen_node (Ok found) r) known is ∙ ap (cell OfNode) (none_if found lost) in (
+        (λ known is. none_kept [] (node_key inode) refl known) found (seen_node (Ok found) r) known is ∙ ap (cell OfNode) (none_if found lost) in (
           subst (λ k. IsBad (typed known) k bytes) (sym key_is) (NamesNone OfSustained (node_key inode) (pair_there known is) none named_is gone),
           no_whole known is gone,
         ));
@@ -159,7 +160,7 @@ pub has-pair : (sid inode : ℕ) (changes : List Change) → changes ≡ [] → 
     → Sees (λ unit. OfSustained) (λ unit. true) (sustained_key sid inode) changes before after (Ok (Some unit)) → HasPair after sid inode
 has-pair sid inode changes none before after unit s = if_known (λ known. get (typed known) (sustained_key sid inode) ≡ Some (Ok OfSustained)) after.rows
     (λ known is. stands-sees (λ unit. OfSustained) (λ unit. true) (sustained_key sid inode) changes before after
-    (λ known is. fresh_kept changes (sustained_key sid inode) none known) (Some unit) s known (sym s.rows_are ∙ is))
+    (λ known is. none_kept changes (sustained_key sid inode) none known) (Some unit) s known (sym s.rows_are ∙ is))
 
 -- ---- release
 
@@ -197,7 +198,7 @@ module _ (who : Who) (caller : Caller) (asks : IsFor who caller) (inode : ℕ) (
     SeesPair result = Sees (λ unit. OfSustained) (λ unit. true) (sustained_key who.sid inode) changes s1 s2 result
 
     pair_kept : (known : RowMap) → get (drafted changes known) (sustained_key who.sid inode) ≡ get (typed known) (sustained_key who.sid inode)
-    pair_kept known = fresh_kept changes (sustained_key who.sid inode) none known
+    pair_kept known = none_kept changes (sustained_key who.sid inode) none known
 
     -- the pair wasn't read
     pub release-unread : (fault : RowFault) → SeesPair (Err fault) → Transacts {A = Unit {0}} Always before s2 (Err (OfRows fault)) reply releases

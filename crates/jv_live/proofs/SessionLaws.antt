@@ -13,7 +13,6 @@ use Rattle.jv_model.specs.declared.fault.TxFault.TheVariants.{Refused, Rows as O
 use Rattle.jv_model.specs.declared.op.Reply.{Reply}
 use Rattle.jv_model.specs.declared.op.Reply.TheVariants.{Done, SessionMade}
 use Rattle.jv_model.specs.declared.row.Counters.{Counters}
-use Rattle.jv_model.specs.declared.row.RowKey.{RowKey}
 use Rattle.jv_model.specs.declared.row.Row.TheVariants.{OfCounters, OfSession}
 use Rattle.jv_model.specs.declared.row.Session.{Session}
 use Rattle.jv_model.specs.FiniteMap.{get, insert}
@@ -26,10 +25,10 @@ use Rattle.jv_model.specs.tree.Sessions.{mount, with_session, beat, kept_alive}
 use Rattle.jv_model.specs.tree.Tree.{Tree, SessionEntry, full_count}
 use Rattle.jv_outside.specs.declared.batch.Change.{Change}
 use Rattle.jv_outside.specs.Store.{Store, Commits}
-use Rattle.jv_rows.specs.Drafts.{drafted, Sees, Needs}
+use Rattle.jv_rows.specs.Drafts.{Sees, Needs}
 use Rattle.jv_rows.specs.Transactions.{IsFor, Transacts, Always}
 use Rattle.jv_rows.proofs.NeedingLaws.{CountersNeeded, fails-needed, stands-needs}
-use Rattle.jv_rows.proofs.TransactionLaws.{Past, past-start, past-as, past-calm, past-refuses, fails-looks, fails-sees, stands-sees, transacts-refused, drafted-none}
+use Rattle.jv_rows.proofs.TransactionLaws.{Past, past-start, past-as, past-calm, past-refuses, fails-looks, fails-sees, stands-sees, transacts-refused, none_kept}
 use Rattle.jv_volume.specs.TypedRows.{typed}
 use Rattle.jv_volume.specs.TreeOf.{tree_of, session_of}
 use Rattle.jv_volume.specs.Shape.{WholeShape, shape_of}
@@ -42,10 +41,6 @@ use Rattle.jv_changes.proofs.DraftedLaws.{Drafted, are_rows-put}
 use Rattle.jv_changes.proofs.DraftingLaws.{PastSteps, minds-none, are_rows-none, steps-start, steps-on, steps-stop, steps-commit}
 use Rattle.jv_live.specs.Steps.{keeping_session}
 use Rattle.jv_live.proofs.MindLaws.{minds-counted}
-
--- over no changes stands what the keeper has
-pub fresh_kept : (changes : List Change) (key : RowKey) → changes ≡ [] → (known : RowMap) → get (drafted changes known) key ≡ get (typed known) key
-fresh_kept changes key none known = ap (λ ch. get (drafted ch known) key) none ∙ ap (λ rows. get rows key) (drafted-none known)
 
 -- what is in mind at first
 pub minds-fresh : (changes : List Change) → changes ≡ [] → (known : RowMap) (bytes : ℕ → ℕ → ℕ) → Whole (typed known)
@@ -99,7 +94,7 @@ module _ (caller : Caller) (before middle : Store) (changes : List Change) (none
   pub mount-uncounted : (fault : TxFault) → Needs OfCounters is_counters counters_key changes before middle (Err fault)
       → Transacts {A = ℕ} Always before middle (Err fault) made mounts
   mount-uncounted fault n = transacts-refused Always before middle made mounts fault (fails-looks before middle mounts fault
-      (fails-needed OfCounters is_counters counters_key changes before middle (λ known is. fresh_kept changes counters_key none known)
+      (fails-needed OfCounters is_counters counters_key changes before middle (λ known is. none_kept changes counters_key none known)
       (CountersNeeded refl) fault n))
 
   module _ (c : Counters) (n : Needs OfCounters is_counters counters_key changes before middle (Ok c)) where
@@ -108,7 +103,7 @@ module _ (caller : Caller) (before middle : Store) (changes : List Change) (none
 
     counters_there : (known : RowMap) → before.rows ≡ Some known → get (typed known) counters_key ≡ Some (Ok (OfCounters c))
     counters_there known is = stands-needs OfCounters is_counters counters_key changes before middle
-        (λ known is. fresh_kept changes counters_key none known) c n known is
+        (λ known is. none_kept changes counters_key none known) c n known is
 
     next_is : (known : RowMap) → before.rows ≡ Some known → Whole (typed known) → (bytes : ℕ → ℕ → ℕ) → (tree_of bytes (typed known)).next_session ≡ c.session
     next_is known is whole bytes = (found_counters bytes (typed known) (whole-stored bytes (typed known) whole) c
@@ -135,7 +130,7 @@ module _ (caller : Caller) (before middle : Store) (changes : List Change) (none
         calm = counted.calm;
         formed = are_rows-put counters_key changes d1 (OfCounters (record c { session = c.session + 1 })) one (subst AreRows (sym none) are_rows-none);
         minds = λ known is whole bytes ready. minds-counted known changes d1 bytes (tree_of bytes (typed known)) (minds-fresh changes none known bytes whole)
-            c (c.session + 1) (fresh_kept changes counters_key none known ∙ counters_there known is) one;
+            c (c.session + 1) (none_kept changes counters_key none known ∙ counters_there known is) one;
         goes_on = λ known is whole bytes ready. refl;
       }
 
@@ -199,7 +194,7 @@ module _ (who : Who) (caller : Caller) (asks : IsFor who caller) (before middle 
   pub beat-unread : (fault : RowFault) → Sees OfSession is_session (session_key who.sid) changes before middle (Err fault)
       → Transacts Always before middle (Err (OfRows fault)) beaten beats
   beat-unread fault s = transacts-refused Always before middle beaten beats (OfRows fault) (fails-looks before middle beats (OfRows fault)
-      (fails-sees OfSession is_session (session_key who.sid) changes before middle (λ known is. fresh_kept changes (session_key who.sid) none known) fault s))
+      (fails-sees OfSession is_session (session_key who.sid) changes before middle (λ known is. none_kept changes (session_key who.sid) none known) fault s))
 
   seen_past : (found : Option Session) → Sees OfSession is_session (session_key who.sid) changes before middle (Ok found) → Past before middle beats beats
   seen_past found s = past-calm before before middle beats beats (past-start before beats) s.rows_are s.opened_at s.counts
@@ -211,7 +206,7 @@ module _ (who : Who) (caller : Caller) (asks : IsFor who caller) (before middle 
       (past-refuses before middle beats (Stale (GoneSession who.sid))
       (past-as before middle middle beats beats (seen_past None s) (λ t. Err (Stale (GoneSession who.sid))) (λ known is whole bytes.
       let row = stands-sees OfSession is_session (session_key who.sid) changes before middle
-      (λ known is. fresh_kept changes (session_key who.sid) none known) None s known is in
+      (λ known is. none_kept changes (session_key who.sid) none known) None s known is in
       beat-by (tree_of bytes (typed known)) None (no_session bytes (typed known) who.sid (ap (λ o. session_in (row_in o)) row)))))
 
   module _ (session after_session : Session) (s : Sees OfSession is_session (session_key who.sid) changes before middle (Ok (Some session)))
@@ -229,7 +224,7 @@ module _ (who : Who) (caller : Caller) (asks : IsFor who caller) (before middle 
         (session_of session)
     session_there known is bytes = found_session bytes (typed known) who.sid session (ap (λ o. session_in (row_in o))
         (stands-sees OfSession is_session (session_key who.sid) changes before middle
-        (λ known is. fresh_kept changes (session_key who.sid) none known) (Some session) s known is))
+        (λ known is. none_kept changes (session_key who.sid) none known) (Some session) s known is))
 
     alive_is : (t : Tree) → kept_alive t caller (session_of session) ≡ keeping_session who.sid after_session t
     alive_is t = ap (λ sid. keeping_session sid (record session { expiry = caller.now + SESSION_LIFE }) t) asks.sid

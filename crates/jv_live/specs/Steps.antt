@@ -1,5 +1,5 @@
 -- What changes of a draft do to a tree: sessions that come and go, and files that a session lets go.
-use Rattle.std.specs.Prelude.{◌≡◌, ℕ, ◌<◌, ◌^◌, Bool, true, false, ◌==◌, nat_lt, if◌then◌else◌, List, [], ◌∷◌, length, Option, None, Some, Result, Ok, Err, IfOk, IfSome}
+use Rattle.std.specs.Prelude.{◌≡◌, ℕ, ◌<◌, ◌^◌, Bool, true, false, ◌==◌, nat_lt, if◌then◌else◌, List, [], ◌∷◌, length, Option, None, Some, Result, Ok, IfOk, IfSome}
 use Rattle.std.specs.Int.{w64, from_be_bytes}
 use Rattle.jv_model.specs.declared.fault.TxFault.{TxFault}
 use Rattle.jv_model.specs.declared.row.Row.{Row}
@@ -13,7 +13,7 @@ use Rattle.jv_model.specs.rows.RowPlaces.{sustained_key}
 use Rattle.jv_model.specs.tree.Tree.{Tree}
 use Rattle.jv_outside.specs.Store.{Store}
 pub use Rattle.jv_rows.specs.Lists.{is_past, is_ahead}
-use Rattle.jv_rows.specs.Transactions.{Looks}
+use Rattle.jv_rows.specs.Transactions.{Looks, without_answer}
 use Rattle.jv_volume.specs.TypedRows.{Rows, typed}
 use Rattle.jv_volume.specs.TreeOf.{session_of}
 use Rattle.jv_volume.specs.Views.{sustained_at}
@@ -65,14 +65,9 @@ IsSpelled (r ∷ rows) = IfSome (number_in r.0.b) (λ number. r.0.b ≡ long num
 abbrev pub KeepsNone : Rows → ℕ → Option ℕ → Option ℕ → Type 0
 KeepsNone rows sid after next = (inode : ℕ) → inode < 2 ^ 64 → is_past after inode ≡ true → is_ahead next inode ≡ true → sustained_at rows sid inode ≡ false
 
--- whether there was an answer
-abbrev pub unit_of : {A : Type 0} → Result A TxFault → Result (Unit {0}) TxFault
-unit_of (Ok x) = Ok tt
-unit_of (Err fault) = Err fault
-
 -- A reading of the next file that a session keeps, after one or from the first on.
 pub record FindsKept (sid : ℕ) (after : Option ℕ) (before now : Store) (result : Result (Option ℕ) TxFault) : Type 0 where
-  pub looks : Looks before now (unit_of result) (λ t. Ok tt)
+  pub looks : Looks before now (without_answer result) (λ t. Ok tt)
   pub past : IfOk result (λ found. IfSome found (λ inode. is_past after inode ≡ true))
   pub small : IfOk result (λ found. IfSome found (λ inode. inode < 2 ^ 64))
   pub there : IfOk result (λ found. IfSome found (HasPair before sid))

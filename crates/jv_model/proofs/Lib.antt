@@ -2,8 +2,10 @@
 pub mod PrintedExamples
 pub mod GrammarExamples
 pub mod ReplyTextExamples
+pub mod TestLaws
 pub mod FiniteMapLaws
 pub mod ClientsLaws
+pub mod PendingLaws
 pub mod TreeComputes
 pub mod BlockNamesExamples
 pub mod SlicesExamples

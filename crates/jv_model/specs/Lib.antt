@@ -2,6 +2,7 @@
 pub mod FiniteMap
 pub mod Optional
 pub mod Counts
+pub mod Lists
 pub mod tree
 pub mod script
 pub mod client

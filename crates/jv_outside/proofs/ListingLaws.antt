@@ -10,11 +10,12 @@ use Rattle.std.specs.List.Sorted.{IsStrictlySortedBy}
 use Rattle.std.specs.Map.{keys_of}
 use Rattle.std.specs.Cmp.Lexicographic.{slice_cmp}
 use Rattle.std.specs.BTreeMap.Range.{entries_between, range_contains}
+use Rattle.jv_model.proofs.TestLaws.{lt_is, and_true}
 use Rattle.jv_outside.specs.Blocks.{staged_cmp}
 use Rattle.jv_outside.specs.Objects.{is_later}
 use Rattle.jv_outside.specs.StoredBlocks.{key_start, name_or_least}
 use Rattle.jv_outside.specs.StoredObjects.{list_start}
-use Rattle.jv_outside.proofs.ScanLaws.{and_true, front, least_bytes, lt_is, table_rises}
+use Rattle.jv_outside.proofs.ScanLaws.{front, least_bytes, table_rises}
 
 -- ---- objects after a name
 

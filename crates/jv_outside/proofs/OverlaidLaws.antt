@@ -1,10 +1,10 @@
 -- Things in a list over a map, when one goes into the map, and when all of one key are removed.
 use Rattle.std.proofs.Common.{◌≡◌, Bool, true, false, cond, not, List, [], ◌∷◌, ◌++◌, filter, None, Some, refl, sym, ap, subst, ◌∙◌}
-use Rattle.std.specs.declared.cmp.Ordering.{Ordering}
-use Rattle.std.specs.declared.cmp.Ordering.TheVariants.{Less, Equal, Greater}
-use Rattle.std.specs.Ordering.{eq_by_cmp, is_eq}
+use Rattle.std.specs.Ordering.{eq_by_cmp}
+use Rattle.std.proofs.lemmas.Bool.{not-true, not-false}
 use Rattle.jv_model.specs.FiniteMap.{KeyOrder, Map, empty_map, get, insert, remove, map_of}
 use Rattle.jv_model.proofs.FiniteMapLaws.{get-insert, get-remove, get-empty_map, same_maps}
+use Rattle.jv_model.proofs.TestLaws.{tie_is}
 use Rattle.jv_outside.specs.declared.block_store.BlockStore.{BlockStore}
 use Rattle.jv_outside.specs.declared.object_store.ObjectStore.{ObjectStore}
 use Rattle.jv_outside.specs.Blocks.{key_of, bytes_of}
@@ -13,11 +13,6 @@ use Rattle.jv_outside.specs.Objects.{name_of, value_of}
 use Rattle.jv_outside.specs.Overlaid.{overlaid}
 use Rattle.jv_outside.specs.StoredBlocks.{blocks_in}
 use Rattle.jv_outside.specs.StoredObjects.{objects_in}
-
-tie_is : (o : Ordering) → is_eq o ≡ true → o ≡ Equal
-tie_is Less h = cc
-tie_is Equal h = refl
-tie_is Greater h = cc
 
 -- choices by two tests in either order, where not both hold
 either_order : {A : Type 0} (b c : Bool) (x y z : A) → (b ≡ true → c ≡ true → ⊥) → cond b x (cond c y z) ≡ cond c y (cond b x z)
@@ -64,14 +59,6 @@ module _ {K : Type 0} (X : Type 0) (order : KeyOrder K) where
       same_maps _ _ (λ x. get-remove empty_map q x ∙ ap (cond (eq_by_cmp order.cmp x q) None) (get-empty_map order x)
       ∙ alike (eq_by_cmp order.cmp x q) None ∙ sym (get-empty_map order x))
 
-turned_true : (b : Bool) → not b ≡ true → b ≡ false
-turned_true true h = cc
-turned_true false h = refl
-
-turned_false : (b : Bool) → not b ≡ false → b ≡ true
-turned_false true h = refl
-turned_false false h = cc
-
 module _ {E K X : Type 0} (order : KeyOrder K) (key : E → K) (value : E → X) where
   -- a thing that is brought from the end of the list into the map
   pub overlaid-moved : (es : List E) (e : E) (m n : Map order X) → n ≡ insert m (key e) (value e) → overlaid key value es n ≡ overlaid key value (es ++ e ∷ []) m
@@ -81,8 +68,8 @@ module _ {E K X : Type 0} (order : KeyOrder K) (key : E → K) (value : E → X)
   without_by : (q : K) (e : E) (es : List E) (m n : Map order X) (b : Bool) → not (eq_by_cmp order.cmp q (key e)) ≡ b
       → overlaid key value es n ≡ remove m q → overlaid key value (cond b (e ∷ es) es) n ≡ remove (insert m (key e) (value e)) q
   without_by q e es m n true apart rest =
-      ap (λ o. insert o (key e) (value e)) rest ∙ sym (remove-insert_apart m (key e) q (value e) (turned_true _ apart))
-  without_by q e es m n false tied rest = rest ∙ sym (remove-insert_tied m (key e) q (value e) (turned_false _ tied))
+      ap (λ o. insert o (key e) (value e)) rest ∙ sym (remove-insert_apart m (key e) q (value e) (not-true _ apart))
+  without_by q e es m n false tied rest = rest ∙ sym (remove-insert_tied m (key e) q (value e) (not-false _ tied))
 
   -- without the things of one key, over the map without that key
   pub overlaid-without : (q : K) (es : List E) (m n : Map order X) → n ≡ remove m q

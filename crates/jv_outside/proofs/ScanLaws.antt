@@ -17,6 +17,7 @@ use Rattle.jv_model.specs.declared.row.RowKey.{RowKey}
 use Rattle.jv_model.specs.FiniteMap.{KeyOrder, Map, get, map_of}
 use Rattle.jv_model.specs.rows.RowKeys.{row_cmp, row_cmp_total}
 use Rattle.jv_model.proofs.FiniteMapLaws.{get-map_of, same_map}
+use Rattle.jv_model.proofs.TestLaws.{lt_is, and_true}
 use Rattle.jv_outside.specs.Rows.{is_after}
 use Rattle.jv_outside.specs.Stored.{scan_start}
 
@@ -150,10 +151,6 @@ table_ends tab q y from other less =
     let later : y.tab ≢ tab = omega arith in
     ne_eqb y.tab tab later
 
-pub and_true : (b : Bool) → (b && true) ≡ b
-and_true true = refl
-and_true false = refl
-
 -- a test that follows from another adds nothing to it
 and_implied : (b c : Bool) → (b ≡ true → c ≡ true) → b ≡ (b && (c && true))
 and_implied true c h = sym (ap (λ x. x && true) (h refl))
@@ -162,11 +159,6 @@ and_implied false c h = refl
 and_both : (a b c : Bool) → (a ≡ true → b ≡ true) → (a ≡ true → c ≡ true) → (a && b) ≡ (a && (c && true))
 and_both true b c h k = h refl ∙ sym (ap (λ x. x && true) (k refl))
 and_both false b c h k = refl
-
-pub lt_is : (o : Ordering) → is_lt o ≡ true → o ≡ Less
-lt_is Less h = refl
-lt_is Equal h = cc
-lt_is Greater h = cc
 
 not_le_is : (o : Ordering) → is_le o ≡ false → o ≡ Greater
 not_le_is Less h = cc

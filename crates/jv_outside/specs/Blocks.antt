@@ -1,13 +1,13 @@
 -- What a shelf holds, and what its calls do to that.
 use Rattle.std.specs.Prelude.{◌≡◌, ℕ, ◌==◌, ◌&&◌, List, filter, map, take, Option}
 use Rattle.std.specs.Coded.{Coded, coded×, coded_list, coded_ℕ}
-use Rattle.std.proofs.Common.{refl, sym, subst, T}
 use Rattle.std.specs.declared.cmp.Ordering.{Ordering}
-use Rattle.std.specs.declared.cmp.Ordering.TheVariants.{Less, Equal, Greater}
-use Rattle.std.specs.Ordering.{nat_cmp, ordering_then, is_eq}
+use Rattle.std.specs.declared.cmp.Ordering.TheVariants.{Equal}
+use Rattle.std.specs.Ordering.{nat_cmp, ordering_then}
 use Rattle.std.specs.Cmp.{IsTotalOrder, nat_cmp_total, on_total, then_total}
 use Rattle.std.specs.Cmp.Lexicographic.{slice_cmp, nat_list_cmp_total}
 use Rattle.jv_model.specs.FiniteMap.{KeyOrder, Map, number_key, text_key, empty_map, get, insert, remove, map_code}
+use Rattle.jv_model.specs.rows.RowKeys.{both_tie}
 use Rattle.jv_outside.specs.declared.object.Staged.{Staged}
 use Rattle.jv_outside.specs.Objects.{is_later}
 use Rattle.jv_outside.specs.Overlaid.{overlaid}
@@ -18,12 +18,6 @@ staged_cmp x y = ordering_then (nat_cmp x.0 y.0) (slice_cmp nat_cmp x.1 y.1)
 
 pub staged_cmp_total : IsTotalOrder staged_cmp
 staged_cmp_total = then_total (on_total (λ (k : ℕ × List ℕ). k.0) nat_cmp_total) (on_total (λ (k : ℕ × List ℕ). k.1) nat_list_cmp_total)
-
--- both parts tie where one after the other does
-both_tie : (o p : Ordering) → ordering_then o p ≡ Equal → (o ≡ Equal) × (p ≡ Equal)
-both_tie Less p h = absurd (subst (λ r. T (is_eq r)) (sym h) tt)
-both_tie Equal p h = (refl, h)
-both_tie Greater p h = absurd (subst (λ r. T (is_eq r)) (sym h) tt)
 
 -- only equal keys tie
 pub staged_cmp_same : (x y : ℕ × List ℕ) → staged_cmp x y ≡ Equal → x ≡ y

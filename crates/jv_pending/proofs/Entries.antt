@@ -1,6 +1,6 @@
 -- What a map's calls do to its list of runs.
 use Rattle.std.proofs.Common.{◌≡◌, ℕ, ◌+◌, ◌<◌, ◌≤◌, Bool, true, false, not, ◌&&◌, eqb, ltb, leb, cond, if◌then◌else◌, List, [], ◌∷◌, ◌++◌, Option, Some, None, refl, sym, ap, subst, ◌∙◌, ⊎_elim, arith}
-use Rattle.std.proofs.lemmas.Bool.{cases_lt, cases_order, cond-true, cond-false, lt-ltb, le-ltb, le-leb, lt-leb, eq-eqb, ne_eqb}
+use Rattle.std.proofs.lemmas.Bool.{cases_lt, cases_order, cond-true, cond-false, le-ltb, le-leb, lt-leb, eq-eqb, ne_eqb}
 use Rattle.std.proofs.lemmas.Option.{none-some}
 use Rattle.std.specs.declared.cmp.Ordering.TheVariants.{Less, Equal, Greater}
 use Rattle.std.specs.declared.ops.Bound.TheVariants.{Included, Excluded, Unbounded}
@@ -9,15 +9,12 @@ use Rattle.std.specs.BTreeMap.{is_at, insert_entry}
 use Rattle.std.specs.BTreeMap.Range.{entries_between}
 use Rattle.std.proofs.lemmas.List.Elements.{filter-append}
 use Rattle.std.specs.Map.{lookup, remove_entry, set_value}
+use Rattle.jv_model.proofs.TestLaws.{some_same, nat_less}
 use Rattle.jv_pending.specs.declared.run.RunStart.{RunStart}
 use Rattle.jv_pending.specs.Runs.{Run, start_cmp, bytes_at, place_of, start_place, Rise, runs_before, runs_from, runs_within, with_runs, without_run, given_back}
-use Rattle.jv_pending.proofs.Outcomes.{some_same}
 use Rattle.jv_pending.proofs.Parts.{before_yes, before_no, from_yes, from_no, before_none, from_all, Rise-from, whole, within_is, cut_before, cut_rest, cut_rise, with_before, with_from, with_here, with_rise, with_with}
 
 -- starts go as their places do
-cmp_less : (m n : ℕ) → m < n → nat_cmp m n ≡ Less
-cmp_less m n h = cond-true (ltb m n) Less (cond (eqb m n) Equal Greater) (lt-ltb m n h)
-
 cmp_equal : (m n : ℕ) → m ≡ n → nat_cmp m n ≡ Equal
 cmp_equal m n e = cond-false (ltb m n) Less (cond (eqb m n) Equal Greater) (le-ltb m n (omega arith)) ∙ cond-true (eqb m n) Equal Greater (eq-eqb m n e)
 
@@ -27,8 +24,8 @@ cmp_greater m n h = cond-false (ltb m n) Less (cond (eqb m n) Equal Greater) (le
 pub starts_less : (s t : RunStart) → s.from ≤ 1099511627776 → t.from < 1099511627776 → place_of s < place_of t → start_cmp s t ≡ Less
 starts_less s t a b h =
     ⊎_elim
-    (λ e. ap (λ o. ordering_then o (nat_cmp s.from t.from)) (cmp_equal s.inode t.inode e) ∙ cmp_less s.from t.from (omega arith))
-    (λ o. ⊎_elim (λ l. ap (λ o. ordering_then o (nat_cmp s.from t.from)) (cmp_less s.inode t.inode l)) (λ g. absurd (omega arith)) o)
+    (λ e. ap (λ o. ordering_then o (nat_cmp s.from t.from)) (cmp_equal s.inode t.inode e) ∙ nat_less s.from t.from (omega arith))
+    (λ o. ⊎_elim (λ l. ap (λ o. ordering_then o (nat_cmp s.from t.from)) (nat_less s.inode t.inode l)) (λ g. absurd (omega arith)) o)
     (cases_order s.inode t.inode)
 
 pub starts_greater : (s t : RunStart) → s.from ≤ 1099511627776 → t.from < 1099511627776 → place_of t < place_of s → start_cmp s t ≡ Greater
@@ -57,7 +54,7 @@ starts_le s t a b =
     (λ l. ap is_le (starts_greater s t a b l) ∙ sym (lt-leb (place_of s) (place_of t) l))
     (λ e. ⊎_elim
     (λ in_file. ap is_le (starts_equal s t in_file b (omega arith)) ∙ sym (le-leb (place_of s) (place_of t) (omega arith)))
-    (λ past. ap is_le (ap (λ o. ordering_then o (nat_cmp s.from t.from)) (cmp_less s.inode t.inode (omega arith))) ∙ sym (le-leb (place_of s) (place_of t) (omega arith)))
+    (λ past. ap is_le (ap (λ o. ordering_then o (nat_cmp s.from t.from)) (nat_less s.inode t.inode (omega arith))) ∙ sym (le-leb (place_of s) (place_of t) (omega arith)))
     (cases_lt s.from 1099511627776))
     (cases_lt (place_of t) (place_of s)))
     (cases_lt (place_of s) (place_of t))

@@ -19,6 +19,3 @@ some_value (Some v) h = (v, refl)
 pub some_copied : (o : Option (Bor (List ℕ))) (v : List ℕ) → option_copied o ≡ Some v → is_some o ≡ true
 some_copied None v h = absurd (none-some v h)
 some_copied (Some x) v h = refl
-
-pub some_same : {A : Type 0} (a b : A) → Some a ≡ Some b → a ≡ b
-some_same a b h = cc

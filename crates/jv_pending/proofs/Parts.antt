@@ -4,7 +4,7 @@ use Rattle.std.proofs.lemmas.Bool.{cases_lt, cond-true, cond-false, lt-ltb, le-l
 use Rattle.std.proofs.lemmas.List.{append-nil}
 use Rattle.std.proofs.lemmas.Option.{none-some}
 use Rattle.std.proofs.lemmas.List.Elements.{filter-append}
-use Rattle.jv_pending.proofs.Outcomes.{some_same}
+use Rattle.jv_model.proofs.TestLaws.{some_same}
 use Rattle.jv_pending.specs.Runs.{Run, Before, start_place, end_place, Rise, InOrder, runs_before, runs_from, runs_within, first_of, last_of, first_place, with_runs}
 
 pub before_yes : (n : ℕ) (r : Run) (rs : List Run) → start_place r < n → runs_before n (r ∷ rs) ≡ r ∷ runs_before n rs

@@ -4,7 +4,7 @@ use Rattle.std.proofs.lemmas.Bool.{cases_eq, cond-true, cond-false, cond_both, a
 use Rattle.std.proofs.lemmas.Bool.Decides.{nat_tests}
 use Rattle.std.proofs.lemmas.Option.{none-some}
 use Rattle.jv_model.specs.client.Pending.{PendingByte, Segment, comes_before, all_after, is_rising, stands_at, is_in_range, without_range, pending_of, pending_of_others, pending_end, end_of, run_length, first_segment, window_size, byte_set, written}
-use Rattle.jv_pending.proofs.Outcomes.{some_same}
+use Rattle.jv_model.proofs.TestLaws.{some_same}
 
 -- an inode's first segment is its own, and its first byte lies in it
 out_of_range : (i f n : ℕ) (b : PendingByte) → (b.inode ≡ i → ⊥) → is_in_range i f n b ≡ false

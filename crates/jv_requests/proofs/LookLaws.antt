@@ -27,12 +27,12 @@ use Rattle.jv_model.specs.client.Profile.{handle_of}
 use Rattle.jv_model.specs.journal.Reading.{asked_parts, reading}
 use Rattle.jv_model.specs.journal.State.{State, after_told, or_empty}
 use Rattle.jv_model.specs.journal.Steps.{file_in_use, is_failure, must_answer, window_to_look}
+use Rattle.jv_model.proofs.TestLaws.{known_is}
 use Rattle.jv_outside.specs.Store.{Store}
 use Rattle.jv_volume.specs.TypedRows.{typed}
 use Rattle.jv_volume.specs.Views.{lists_of}
 use Rattle.jv_volume.specs.Holding.{IsHoldable}
 use Rattle.jv_volume.specs.Shape.{Regular, form_of, is_there}
-use Rattle.jv_yard.proofs.CallLaws.{known_is}
 use Rattle.jv_data.specs.declared.looking.View.{View}
 use Rattle.jv_data.specs.Committing.{length_seen}
 use Rattle.jv_data.specs.Records.{LooksAt}

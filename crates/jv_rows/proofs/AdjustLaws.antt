@@ -17,10 +17,10 @@ use Rattle.jv_model.specs.declared.row.Row.TheVariants.{OfSlice, OfDead}
 use Rattle.jv_model.specs.declared.row.SliceRow.{SliceRow}
 use Rattle.jv_model.specs.declared.slice.Rec.{Rec}
 use Rattle.jv_model.specs.FiniteMap.{get, insert, remove}
-use Rattle.jv_model.specs.rows.RowFields.{is_nil}
 use Rattle.jv_model.specs.rows.RowGrammar.{is_slice}
 use Rattle.jv_model.specs.rows.RowKeys.{RowMap, row_key, row_cmp}
 use Rattle.jv_model.specs.rows.RowPlaces.{slice_key, dead_key}
+use Rattle.jv_model.specs.Lists.{is_nil}
 use Rattle.jv_outside.specs.declared.batch.Change.{Change}
 use Rattle.jv_outside.specs.Store.{Store, IsSame}
 use Rattle.jv_volume.specs.TypedRows.{Cell, Rows}

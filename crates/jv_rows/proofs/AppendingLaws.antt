@@ -18,10 +18,12 @@ use Rattle.jv_model.specs.declared.slice.Rec.{Rec}
 use Rattle.jv_model.specs.FiniteMap.{get}
 use Rattle.jv_model.specs.blocks.Slices.{IsRecord, is_record}
 use Rattle.jv_model.specs.rows.RowFaults.{row_fault}
-use Rattle.jv_model.specs.rows.RowFields.{◌>>=◌, is_nil, whole}
+use Rattle.jv_model.specs.rows.RowFields.{◌>>=◌, whole}
 use Rattle.jv_model.specs.rows.RowGrammar.{record_at, record_bytes, records_at, is_list, list_bytes, list_of, row_of}
 use Rattle.jv_model.specs.rows.RowKeys.{RowMap}
 use Rattle.jv_model.specs.rows.RowPlaces.{list_key}
+use Rattle.jv_model.proofs.TestLaws.{some_of}
+use Rattle.jv_model.specs.Lists.{is_nil}
 use Rattle.jv_outside.specs.declared.batch.Change.{Change}
 use Rattle.jv_outside.specs.declared.batch.Change.TheVariants.{Put}
 use Rattle.jv_outside.specs.Rows.{applied}
@@ -179,10 +181,6 @@ row-push : (list : List Rec) (rec : Rec) → ListWidths list → IsTrue (list_al
 row-push list rec widths all low is =
     ap (row_of 4) (sym (bytes-push list rec)) ∙ list_row (list_bytes (list ++ rec ∷ []))
     ∙ ap (option_map OfList) (list_exact.again (list ++ rec ∷ []) (widths-push list rec widths low) (is_list-push list rec all is))
-
-some_of : {A : Type 0} (o : Option A) → IsSome o → (x : A) × (o ≡ Some x)
-some_of None h = absurd (cc)
-some_of (Some x) h = (x, refl)
 
 -- ---- what becomes of the draft
 

@@ -9,7 +9,8 @@ use Rattle.jv_model.specs.declared.fault.TxFault.{TxFault}
 use Rattle.jv_model.specs.declared.fault.TxFault.TheVariants.{Refused}
 use Rattle.jv_model.specs.tree.Attempt.{◌>>=◌}
 use Rattle.jv_model.specs.tree.Tree.{Tree, root}
-use Rattle.jv_model.specs.tree.Walk.{names_of, is_absolute, is_empty, stepped, way_on, walk_names, walk}
+use Rattle.jv_model.specs.tree.Walk.{names_of, is_absolute, stepped, way_on, walk_names, walk}
+use Rattle.jv_model.specs.Lists.{is_nil}
 use Rattle.jv_outside.specs.Store.{Store}
 use Rattle.jv_volume.specs.TypedRows.{typed}
 use Rattle.jv_volume.specs.TreeOf.{tree_of}
@@ -83,40 +84,40 @@ module _ {start now after : Store} {asked : Tree → Result Course Fault} (follo
       found_part (λ inode t. behind_name follow place.inode inode behind t (way_on t follow behind inode)) next.inode
       (in_other_words left (λ known rows_are whole bytes. ap (course (tree_of bytes (typed known)) follow place.inode) is)) comes.looks
 
-  after_target : Past start after asked (λ t. behind_name follow place.inode next.inode behind t (followed (follow || not (is_empty behind)) (next.node.kind == 3) next.node.target))
+  after_target : Past start after asked (λ t. behind_name follow place.inode next.inode behind t (followed (follow || not (is_nil behind)) (next.node.kind == 3) next.node.target))
   after_target =
       in_other_words after_name (λ known rows_are whole bytes.
-      ap (λ target. behind_name follow place.inode next.inode behind (tree_of bytes (typed known)) (if follow || not (is_empty behind) then target else None))
+      ap (λ target. behind_name follow place.inode next.inode behind (tree_of bytes (typed known)) (if follow || not (is_nil behind) then target else None))
       (node_is after comes.stands known (after_name.rows_are ∙ rows_are) whole bytes).target)
 
   -- it leads to a symlink, which is followed
-  pub to_symlink : ((follow || not (is_empty behind)) && (next.node.kind == 3)) ≡ true → Past start after asked (λ t. Ok (onward place.inode next.node.target behind))
+  pub to_symlink : ((follow || not (is_nil behind)) && (next.node.kind == 3)) ≡ true → Past start after asked (λ t. Ok (onward place.inode next.node.target behind))
   to_symlink here =
       in_other_words after_target (λ known rows_are whole bytes. ap (behind_name follow place.inode next.inode behind (tree_of bytes (typed known)))
-      (followed_some (follow || not (is_empty behind)) (next.node.kind == 3) next.node.target here))
+      (followed_some (follow || not (is_nil behind)) (next.node.kind == 3) next.node.target here))
 
   -- it leads elsewhere
-  pub to_node : ((follow || not (is_empty behind)) && (next.node.kind == 3)) ≡ false → Past start after asked (λ t. course t follow next.inode behind)
+  pub to_node : ((follow || not (is_nil behind)) && (next.node.kind == 3)) ≡ false → Past start after asked (λ t. course t follow next.inode behind)
   to_node elsewhere =
       in_other_words after_target (λ known rows_are whole bytes. ap (behind_name follow place.inode next.inode behind (tree_of bytes (typed known)))
-      (followed_none (follow || not (is_empty behind)) (next.node.kind == 3) next.node.target elsewhere))
+      (followed_none (follow || not (is_nil behind)) (next.node.kind == 3) next.node.target elsewhere))
 
 -- the name at an index, and those behind it
 pub next_name : (names : List (List ℕ)) (index : ℕ) (name : List ℕ) → index < length names → name ≡ get_or names index name → drop index names ≡ name ∷ drop (index + 1) names
 next_name names index name within is = drop-cons names index name within ∙ ap (λ first. first ∷ drop (suc index) names) (sym is) ∙ ap (λ n. name ∷ drop n names) (sym (add-one index))
 
-not_empty : {A : Type 0} (xs : List A) → 0 < length xs → is_empty xs ≡ false
+not_empty : {A : Type 0} (xs : List A) → 0 < length xs → is_nil xs ≡ false
 not_empty [] h = absurd (omega arith)
 not_empty (x ∷ xs) h = refl
 
-last_by : (names : List (List ℕ)) (index : ℕ) (last : Bool) → index < length names → (index + 1 == length names) ≡ last → is_empty (drop (index + 1) names) ≡ last
-last_by names index true within e = ap (λ n. is_empty (drop n names)) (eqb-true (index + 1) (length names) e) ∙ ap is_empty (drop-length names)
+last_by : (names : List (List ℕ)) (index : ℕ) (last : Bool) → index < length names → (index + 1 == length names) ≡ last → is_nil (drop (index + 1) names) ≡ last
+last_by names index true within e = ap (λ n. is_nil (drop n names)) (eqb-true (index + 1) (length names) e) ∙ ap is_nil (drop-length names)
 last_by names index false within e =
     let apart : index + 1 ≢ length names = λ same. true≢false (sym (eq-eqb (index + 1) (length names) same) ∙ e) in
     not_empty (drop (index + 1) names) (omega (arith, length-drop (index + 1) names, apart))
 
 -- whether a name is the last of names
-pub is_last : (names : List (List ℕ)) (index : ℕ) → index < length names → is_empty (drop (index + 1) names) ≡ (index + 1 == length names)
+pub is_last : (names : List (List ℕ)) (index : ℕ) → index < length names → is_nil (drop (index + 1) names) ≡ (index + 1 == length names)
 is_last names index within = last_by names index (index + 1 == length names) within refl
 
 -- ---- from symlink to symlink

@@ -1,7 +1,8 @@
 -- The names of a path, found byte by byte.
 use Rattle.std.proofs.Common.{◌≡◌, ℕ, Bool, true, false, List, [], ◌∷◌, ◌++◌, filter, Some, refl, sym, ap, ◌∙◌, append_assoc, append-nil}
 use Rattle.std.specs.Prelude.{if◌then◌else◌, not, ◌==◌}
-use Rattle.jv_model.specs.tree.Walk.{before_part, parts_between, is_empty, names_of, all_but_last, last_name}
+use Rattle.jv_model.specs.tree.Walk.{before_part, parts_between, names_of, all_but_last, last_name}
+use Rattle.jv_model.specs.Lists.{is_nil}
 use Rattle.jv_rows.specs.Walks.{one_name}
 
 -- the names of a path that is left, behind the part of a name
@@ -10,7 +11,7 @@ names_from name [] = one_name name
 names_from name (b ∷ bs) = (if b == 47 then one_name name ++ names_from [] bs else names_from (name ++ b ∷ []) bs)
 
 abbrev only_names : List (List ℕ) → List (List ℕ)
-only_names parts = filter (λ name. not (is_empty name)) parts
+only_names parts = filter (λ name. not (is_nil name)) parts
 
 -- parts, the first of which goes on from the part of a name
 abbrev joined : List ℕ → List (List ℕ) → List (List ℕ)

@@ -5,12 +5,12 @@ use Rattle.std.specs.Int.{w32, w64, from_be_bytes}
 use Rattle.std.specs.List.{AllByRecursion}
 use Rattle.std.specs.declared.cmp.Ordering.{Ordering}
 use Rattle.std.specs.declared.cmp.Ordering.TheVariants.{Less, Equal, Greater}
-use Rattle.std.specs.Ordering.{is_eq, is_lt, nat_cmp, ordering_then, ordering_reverse, eq_by_cmp}
+use Rattle.std.specs.Ordering.{is_lt, nat_cmp, ordering_then, ordering_reverse, eq_by_cmp}
 use Rattle.std.specs.Cmp.{nat_cmp_total, tied_itself}
 use Rattle.std.specs.Cmp.Lexicographic.{slice_cmp}
 use Rattle.std.specs.FinMap.Entries.{find, below_all, is_sorted}
 use Rattle.std.proofs.Math.Nat.{mul-le-mul_right}
-use Rattle.std.proofs.lemmas.Bool.{cases_order, lt-ltb}
+use Rattle.std.proofs.lemmas.Bool.{cases_order}
 use Rattle.std.proofs.lemmas.Nat.{from_be_bytes-to_be_bytes_4, from_be_bytes-to_be_bytes_8}
 use Rattle.jv_model.specs.declared.row.Row.{Row}
 use Rattle.jv_model.specs.declared.row.RowKey.{RowKey}
@@ -18,10 +18,9 @@ use Rattle.jv_model.specs.FiniteMap.{KeyOrder, Map, get, first_passing, first_wh
 use Rattle.jv_model.specs.rows.RowFields.{word, long}
 use Rattle.jv_model.specs.rows.RowGrammar.{row_of}
 use Rattle.jv_model.specs.rows.RowKeys.{RowMap, row_cmp, row_cmp_total}
+use Rattle.jv_model.proofs.TestLaws.{first_of_both, second_of_both, less_is, tie_is, nat_less}
 use Rattle.jv_outside.specs.Rows.{is_after, rows_after}
-use Rattle.jv_volume.proofs.MapLaws.{first_of_both, second_of_both}
 use Rattle.jv_rows.specs.Scans.{row_then, rows_read}
-use Rattle.jv_rows.proofs.ScannedLaws.{less_by}
 
 -- ---- numbers and their bytes
 
@@ -57,9 +56,6 @@ greater-no x y s v w lv lw less more =
   where
     succ_times : (a b : ℕ) → (a + 1) * b ≡ a * b + b
     succ_times a b = omega arith
-
-nat_less : (a b : ℕ) → a < b → nat_cmp a b ≡ Less
-nat_less a b less = rw (lt-ltb a b less) refl
 
 -- numbers of as many digits go as their digits do
 digits-less : (xs ys : List ℕ) → length xs ≡ length ys → AreDigits xs → AreDigits ys → value xs < value ys → slice_cmp nat_cmp xs ys ≡ Less
@@ -132,21 +128,16 @@ not_itself x p = not_both x x p p
 
 -- ---- the first row that passes is the least
 
-equal_by : (o : Ordering) → is_eq o ≡ true → o ≡ Equal
-equal_by Less p = absurd (true≢false (sym p))
-equal_by Equal p = refl
-equal_by Greater p = absurd (true≢false (sym p))
-
 module _ {K X : Type 0} (order : KeyOrder K) where
   above_at : (x k : K) (e : K × X) (es : List (K × X)) (y : X) (b : Bool) → eq_by_cmp order.cmp k e.0 ≡ b → order.cmp x e.0 ≡ Less
       → (find order.cmp k es ≡ Some y → order.cmp x k ≡ Less) → cond b (Some e.1) (find order.cmp k es) ≡ Some y → order.cmp x k ≡ Less
-  above_at x k e es y true is less rest h = ap (order.cmp x) (order.same k e.0 (equal_by (order.cmp k e.0) is)) ∙ less
+  above_at x k e es y true is less rest h = ap (order.cmp x) (order.same k e.0 (tie_is (order.cmp k e.0) is)) ∙ less
   above_at x k e es y false is less rest h = rest h
 
   -- what is found among entries above a key is above it
   found-above : (x k : K) (es : List (K × X)) (y : X) → T (below_all order.cmp x es) → find order.cmp k es ≡ Some y → order.cmp x k ≡ Less
   found-above x k [] y below h = absurd (cc)
-  found-above x k (e ∷ es) y below h = above_at x k e es y (eq_by_cmp order.cmp k e.0) refl (less_by (order.cmp x e.0) (first_of_both _ _ below))
+  found-above x k (e ∷ es) y below h = above_at x k e es y (eq_by_cmp order.cmp k e.0) refl (less_is (order.cmp x e.0) (first_of_both _ _ below))
       (found-above x k es y (second_of_both _ _ below)) h
 
   module _ (test : K → X → Bool) where
@@ -156,12 +147,12 @@ module _ {K X : Type 0} (order : KeyOrder K) where
         → (elim b as (λ _. Option (K × X)) [ true ↦ Some e | false ↦ first_passing test es ]) ≡ Some found
         → cond c (Some e.1) (find order.cmp k es) ≡ Some y → test k y ≡ true → (k ≡ found.0) ⊎ (order.cmp found.0 k ≡ Less)
     least_at e found es k y true true t is below rest first h passes =
-        let same : e ≡ found = cc in inl (order.same k e.0 (equal_by (order.cmp k e.0) is) ∙ ap (λ (p : K × X). p.0) same)
+        let same : e ≡ found = cc in inl (order.same k e.0 (tie_is (order.cmp k e.0) is) ∙ ap (λ (p : K × X). p.0) same)
     least_at e found es k y true false t is below rest first h passes =
         let same : e ≡ found = cc in inr (ap (λ (p : K × X). order.cmp p.0 k) (sym same) ∙ found-above e.0 k es y below h)
     least_at e found es k y false true t is below rest first h passes =
         let value_is : e.1 ≡ y = cc in
-        absurd (true≢false (sym passes ∙ (λ i. test (order.same k e.0 (equal_by (order.cmp k e.0) is) i) (sym value_is i)) ∙ t))
+        absurd (true≢false (sym passes ∙ (λ i. test (order.same k e.0 (tie_is (order.cmp k e.0) is) i) (sym value_is i)) ∙ t))
     least_at e found es k y false false t is below rest first h passes = rest first h
 
     least_in : (es : List (K × X)) (found : K × X) (k : K) (y : X) → T (is_sorted order.cmp es) → first_passing test es ≡ Some found

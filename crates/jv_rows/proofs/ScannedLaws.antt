@@ -18,10 +18,11 @@ use Rattle.jv_model.specs.declared.row.RowKey.{RowKey}
 use Rattle.jv_model.specs.FiniteMap.{KeyOrder, Map, get}
 use Rattle.jv_model.specs.rows.RowGrammar.{row_of}
 use Rattle.jv_model.specs.rows.RowKeys.{RowMap, row_key, row_cmp}
+use Rattle.jv_model.proofs.TestLaws.{first_of_both, second_of_both}
 use Rattle.jv_outside.specs.Rows.{is_after, rows_after}
 use Rattle.jv_outside.specs.Store.{Store}
 use Rattle.jv_volume.specs.TypedRows.{cell_of, typed}
-use Rattle.jv_volume.proofs.MapLaws.{first_of_both, second_of_both, find-below_all}
+use Rattle.jv_volume.proofs.MapLaws.{find-below_all}
 use Rattle.jv_volume.proofs.ShapeMapLaws.{tied_here, tied_apart}
 use Rattle.jv_volume.proofs.StoredLaws.{whole-typed}
 use Rattle.jv_volume.proofs.TypedLaws.{get-typed}
@@ -30,11 +31,6 @@ use Rattle.jv_rows.specs.Transactions.{Malformed}
 use Rattle.jv_rows.proofs.TransactionLaws.{of_known, Fails, FailsBy}
 
 -- ---- keys in their order
-
-pub less_by : (o : Ordering) → T (is_lt o) → o ≡ Less
-less_by Less p = refl
-less_by Equal p = absurd p
-less_by Greater p = absurd p
 
 at_most : (o p : Ordering) → ordering_then o p ≡ Less → is_le o ≡ true
 at_most Less p e = refl

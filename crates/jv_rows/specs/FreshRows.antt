@@ -6,6 +6,7 @@ use Rattle.jv_model.specs.declared.row.Node.{Node}
 use Rattle.jv_model.specs.declared.setting.Setting.{Setting}
 use Rattle.jv_model.specs.rows.RowGrammar.{setting_bytes, counters_bytes, node_bytes}
 use Rattle.jv_model.specs.rows.RowPlaces.{setting_key, counters_key, node_key}
+use Rattle.jv_model.specs.tree.Tree.{full_mode, read_only_mode}
 use Rattle.jv_outside.specs.declared.batch.Change.{Change}
 use Rattle.jv_outside.specs.declared.batch.Change.TheVariants.{Put}
 
@@ -41,18 +42,11 @@ fresh_directory mode at = record {
   target = [];
 }
 
--- the permission bits of the root (0o777), where all may write, and of the trash (0o555), where all may read
-abbrev pub root_mode : ℕ
-root_mode = 511
-
-abbrev pub trash_mode : ℕ
-trash_mode = 365
-
 -- the rows of a volume that is formatted at a moment: its setting, its counters, its root and its trash
 abbrev pub fresh_rows : Setting → ℕ → List Change
 fresh_rows setting at =
     Put setting_key (setting_bytes setting)
     ∷ Put counters_key (counters_bytes fresh_counters)
-    ∷ Put (node_key ROOT) (node_bytes (fresh_directory root_mode at))
-    ∷ Put (node_key TRASH_ROOT) (node_bytes (fresh_directory trash_mode at))
+    ∷ Put (node_key ROOT) (node_bytes (fresh_directory full_mode at))
+    ∷ Put (node_key TRASH_ROOT) (node_bytes (fresh_directory read_only_mode at))
     ∷ []

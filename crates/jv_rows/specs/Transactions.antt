@@ -25,6 +25,11 @@ use Rattle.jv_volume.specs.TypedRows.{Rows, typed}
 use Rattle.jv_volume.specs.TreeOf.{tree_of}
 use Rattle.jv_volume.specs.Whole.{Whole, Quiet}
 
+-- whether there was an answer
+abbrev pub without_answer : {A : Type 0} → Result A TxFault → Result (Unit {0}) TxFault
+without_answer (Ok x) = Ok tt
+without_answer (Err fault) = Err fault
+
 -- in whose name the model's transaction is made: the session, the moment, and the open files of one who asks
 pub record IsFor (who : Who) (caller : Caller) : Type 0 where
   pub sid : caller.sid ≡ who.sid

@@ -10,7 +10,8 @@ use Rattle.jv_model.specs.rows.RowGrammar.{is_node}
 use Rattle.jv_model.specs.rows.RowPlaces.{node_key, edge_key}
 use Rattle.jv_model.specs.tree.Attempt.{◌>>=◌}
 use Rattle.jv_model.specs.tree.Tree.{Tree, EntryKey, root}
-use Rattle.jv_model.specs.tree.Walk.{names_of, is_absolute, is_empty, stepped, way_on, entry_of}
+use Rattle.jv_model.specs.tree.Walk.{names_of, is_absolute, stepped, way_on, entry_of}
+use Rattle.jv_model.specs.Lists.{is_nil}
 use Rattle.jv_outside.specs.Store.{Store}
 use Rattle.jv_rows.specs.Transactions.{Looks}
 use Rattle.jv_rows.specs.declared.walking.Place.{Place}
@@ -71,7 +72,7 @@ pub record Goes (before after : Store) (result : Result Leg TxFault) (finds : Tr
 
 -- a name, if it is one
 abbrev pub one_name : List ℕ → List (List ℕ)
-one_name name = filter (λ n. not (is_empty n)) (name ∷ [])
+one_name name = filter (λ n. not (is_nil n)) (name ∷ [])
 
 -- the entry that a path names, as a pair
 abbrev pub pair_in : EntryKey → ℕ × List ℕ

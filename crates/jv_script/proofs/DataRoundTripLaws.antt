@@ -1,5 +1,5 @@
 -- Bytes as they are printed are read as the same bytes.
-use Rattle.std.proofs.Common.{◌≡◌, ℕ, zero, suc, ◌+◌, ◌*◌, ◌/◌, ◌%◌, ◌^◌, ◌<◌, ◌≤◌, ◌&&◌, ◌==◌, nat_lt, nat_le, Bool, true, false, not, cond, List, [], ◌∷◌, ◌++◌, length, get_or, map, replicate, Some, codes, bytes_eq, refl, sym, ap, ◌∙◌, arith}
+use Rattle.std.proofs.Common.{◌≡◌, ℕ, zero, suc, ◌+◌, ◌/◌, ◌%◌, ◌^◌, ◌<◌, ◌≤◌, ◌&&◌, ◌==◌, nat_lt, nat_le, Bool, true, false, not, cond, List, [], ◌∷◌, ◌++◌, length, get_or, map, replicate, Some, codes, bytes_eq, refl, sym, ap, ◌∙◌, arith}
 use Rattle.std.specs.Prelude.{All}
 use Rattle.std.specs.List.{list_all, flat_map, join_with_byte}
 use Rattle.std.specs.Fmt.{decimal}
@@ -17,6 +17,7 @@ use Rattle.jv_script.specs.RoundTrips.{IsByte, DataIsReadAgain}
 use Rattle.jv_script.proofs.PrintedDigitLaws.{high_is_hex, low_is_hex, pair_value, decimal_digits, decimal_read}
 use Rattle.jv_script.proofs.PartLaws.{part_of_pairs, part_of_other, some_bytes, bytes_of_parts-after}
 use Rattle.jv_script.proofs.RepeatLaws.{text_of, more_text, joined-cons}
+use Rattle.jv_script.proofs.HexTextLaws.{pairs_len}
 
 -- plain digits
 
@@ -31,10 +32,6 @@ digits_read : (bytes : List ℕ) → All IsByte bytes → bytes_of_digits (flat_
 digits_read [] all = refl
 digits_read (c ∷ bytes) all =
     ap (λ (c : ℕ). c ∷ bytes_of_digits (flat_map hex_pair bytes)) (pair_value c (all 0 0 (omega arith))) ∙ ap (λ (bytes : List ℕ). c ∷ bytes) (digits_read bytes (rest_bytes c bytes all))
-
-length-digits : (bytes : List ℕ) → length (flat_map hex_pair bytes) ≡ 2 * length bytes
-length-digits [] = refl
-length-digits (c ∷ bytes) = omega (arith, length-digits bytes)
 
 -- parts as they are printed
 
@@ -57,7 +54,7 @@ no_pairs high low digits = by_digits (is_hex_digit high) (is_hex_digit low)
 part_read : (part : Part) → IsSoundPart part → part_of (part_text part) ≡ Some part
 unfolding IsSoundPart repeated_of
 part_read (Plain bytes) (all, some) =
-    let size = length-digits bytes in
+    let size = pairs_len bytes in
     let even : length (flat_map hex_pair bytes) % 2 ≡ 0 = omega (arith, size) in
     let pairs : is_pairs (flat_map hex_pair bytes) ≡ true = rw (lt-ltb 0 (length (flat_map hex_pair bytes)) (omega (arith, size)), even) (digits_are_hex bytes all) in
     part_of_pairs (flat_map hex_pair bytes) pairs ∙ ap (λ (bytes : List ℕ). Some (Plain bytes)) (digits_read bytes all)
@@ -197,7 +194,7 @@ not_dash (a ∷ b ∷ text) long = and-false (a == 45)
 
 part_long : (part : Part) → IsSoundPart part → 2 ≤ length (part_text part)
 unfolding IsSoundPart
-part_long (Plain bytes) (all, some) = omega (arith, length-digits bytes)
+part_long (Plain bytes) (all, some) = omega (arith, pairs_len bytes)
 part_long (Repeated run) sound = omega arith
 
 joined_read : (parts : List Part) (bytes : List ℕ) → AreSoundParts parts → flat_map part_bytes parts ≡ bytes → 0 < length bytes → length bytes ≤ MAX_DATA → data_of (join_with_byte 43 (map part_text parts)) ≡ Some bytes

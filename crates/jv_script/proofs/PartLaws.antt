@@ -281,10 +281,6 @@ leaves_then before text bytes rest after tail left next = record {
   no_more = omega (arith, left.no_more, next.no_more);
 }
 
-pub no_value : {T : Type 0} (o : Option T) → is_some o ≡ false → o ≡ None
-no_value None e = refl
-no_value (Some x) e = cc
-
 -- no digit is a `+`, so that pairs of digits are one part
 pub plain_whole : (digits : List ℕ) → is_pairs digits ≡ true → bytes_of_parts (parted 43 digits) ≡ limited_bytes (bytes_of_digits digits)
 plain_whole digits pairs =

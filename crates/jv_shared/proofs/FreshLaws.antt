@@ -3,6 +3,7 @@ use Rattle.std.proofs.Common.{◌≡◌, ℕ, ◌<◌, Bool, true, false, inl, i
 use Rattle.std.specs.Prelude.{◌&&◌, if◌then◌else◌, is_some}
 use Rattle.std.specs.Ordering.{eq_by_cmp}
 use Rattle.std.specs.Cmp.{eq_by_cmp_equiv}
+use Rattle.std.proofs.lemmas.Bool.{and_parts}
 use Rattle.jv_model.specs.FiniteMap.{first_where, text_key}
 use Rattle.jv_model.proofs.FiniteMapLaws.{IsFound, first_where-found}
 use Rattle.jv_outside.specs.Blocks.{staged_at, staged_key}
@@ -17,7 +18,6 @@ use Rattle.jv_yard.specs.Later.{IsStagedWith, contents_of}
 use Rattle.jv_yard.specs.Staging.{staged_since}
 use Rattle.jv_shared.specs.Shared.{HasStore, Known, Shared, staged_in}
 use Rattle.jv_shared.specs.Fresh.{IsFresh}
-use Rattle.jv_shared.proofs.SettingLaws.{both_true}
 use Rattle.jv_shared.proofs.RowStepLaws.{sized-slices}
 
 module _ (v : Shared) (s : IsFresh v) where
@@ -44,7 +44,7 @@ module _ (v : Shared) (s : IsFresh v) where
       → (staged_at found.0.0 name s.staged ≡ Some found.1) × (is_some (staged_since found.0.0 name v.yard.staged) ≡ true)
   staged_copy name found first =
       let is : IsFound (is_copy name) s.staged found.0 found.1 = first_where-found staged_key (is_copy name) s.staged found first in
-      let passes = both_true (eq_by_cmp text_key.cmp found.0.1 name) (is_some (staged_since found.0.0 found.0.1 v.yard.staged)) is.passes in
+      let passes = and_parts (eq_by_cmp text_key.cmp found.0.1 name) (is_some (staged_since found.0.0 found.0.1 v.yard.staged)) is.passes in
       let named : found.0.1 ≡ name = tied_same text_key name found.0.1 passes.0 in (
         ap (λ n. staged_at found.0.0 n s.staged) (sym named) ∙ is.there,
         ap (λ n. is_some (staged_since found.0.0 n v.yard.staged)) (sym named) ∙ passes.1,

@@ -1,30 +1,23 @@
 -- Rows that are read from bytes have a setting that the grammar allows, so blocks have a length from 64 KiB to 16 MiB.
 use Rattle.std.proofs.Common.{◌≡◌, ℕ, Bool, true, false, List, [], ◌∷◌, Option, None, Some, refl, sym, ap, subst, ◌∙◌, arith}
-use Rattle.std.specs.Prelude.{◌&&◌, ◌||◌, ◌==◌, if◌then◌else◌, IfSome, option_and_then, ok_or}
+use Rattle.std.specs.Prelude.{◌&&◌, ◌||◌, ◌==◌, if◌then◌else◌, IfSome, ok_or}
 use Rattle.std.specs.List.{AllByRecursion, list_any}
 use Rattle.std.specs.Option.{option_map}
-use Rattle.std.proofs.lemmas.Bool.{eqb-true}
+use Rattle.std.proofs.lemmas.Bool.{eqb-true, and_parts}
 use Rattle.jv_model.specs.declared.row.Row.{Row}
 use Rattle.jv_model.specs.declared.row.Row.TheVariants.{OfSetting}
 use Rattle.jv_model.specs.declared.setting.Setting.{Setting}
 use Rattle.jv_model.specs.FiniteMap.{get}
-use Rattle.jv_model.specs.rows.RowFields.{is_nil, whole, byte_at, front_at, half_at, word_at, long_at}
+use Rattle.jv_model.specs.rows.RowFields.{whole, byte_at, front_at, half_at, word_at, long_at}
 use Rattle.jv_model.specs.rows.RowGrammar.{block_sizes, is_block, is_setting, row_of, setting_of}
 use Rattle.jv_model.specs.rows.RowKeys.{RowMap}
 use Rattle.jv_model.specs.rows.RowPlaces.{setting_key}
+use Rattle.jv_model.proofs.TestLaws.{then_all}
+use Rattle.jv_model.specs.Lists.{is_nil}
 use Rattle.jv_volume.specs.TypedRows.{cell_of, typed}
 use Rattle.jv_volume.specs.Views.{row_in, setting_in, setting_at}
 use Rattle.jv_volume.proofs.TypedLaws.{get-typed}
 use Rattle.jv_shared.specs.Lengths.{IsLength}
-
--- both of two tests hold
-pub both_true : (a b : Bool) → (a && b) ≡ true → (a ≡ true) × (b ≡ true)
-both_true true b h = (refl, h)
-both_true false b h = absurd (cc)
-
-then_all : {A B : Type 0} (o : Option A) (f : A → Option B) (P : B → Type 0) → ((a : A) → IfSome (f a) P) → IfSome (option_and_then f o) P
-then_all None f P h = tt
-then_all (Some a) f P h = h a
 
 one_of : (block : ℕ) (sizes : List ℕ) → AllByRecursion IsLength sizes → list_any (λ n. n == block) sizes ≡ true → IsLength block
 one_of block [] all h = absurd (cc)
@@ -69,15 +62,15 @@ a_length block h = one_of block block_sizes lengths h
     )
 
 -- a setting that the grammar allows
-allowed_length : (setting : Setting) → is_setting setting ≡ true → IsLength setting.block
+pub allowed_length : (setting : Setting) → is_setting setting ≡ true → IsLength setting.block
 allowed_length setting h =
-    a_length setting.block (both_true _ _ (both_true _ _ (both_true _ _ (both_true _ _ (both_true _ _ (both_true _ _ (both_true _ _ h).0).0).0).0).0).0).1
+    a_length setting.block (and_parts _ _ (and_parts _ _ (and_parts _ _ (and_parts _ _ (and_parts _ _ (and_parts _ _ (and_parts _ _ h).0).0).0).0).0).0).1
 
 whole_length : (setting : Setting) (rest : List ℕ) → IfSome (whole is_setting setting rest) (λ s. IsLength s.block)
 whole_length setting rest = by_test (is_nil rest && is_setting setting) refl
   where
     by_test : (b : Bool) → (is_nil rest && is_setting setting) ≡ b → IfSome (if b then Some setting else None) (λ s. IsLength s.block)
-    by_test true e = allowed_length setting (both_true _ _ e).1
+    by_test true e = allowed_length setting (and_parts _ _ e).1
     by_test false e = tt
 
 read_length : (bytes : List ℕ) → IfSome (setting_of bytes) (λ s. IsLength s.block)

@@ -10,6 +10,7 @@ use Rattle.jv_model.specs.declared.slice.Rec.{Rec}
 use Rattle.jv_model.specs.blocks.Slices.{covers, visible}
 use Rattle.jv_slices.specs.declared.layout.Stretch.{Stretch}
 use Rattle.jv_slices.specs.Stretches.{IsSeen, Shows, Turns, Differ, IsLayout, touches}
+use Rattle.jv_slices.proofs.PlanLaws.{shows_rises}
 
 -- the same over two ranges that touch
 pub seen_join : (all : ℕ → Option Rec) (from at to : ℕ) (r : Option Rec) → IsSeen all from at r → IsSeen all at to r → IsSeen all from to r
@@ -73,16 +74,11 @@ pub all_before : (P : Rec → Type 0) (before : List Rec) (last : Rec) → All P
 all_before P [] last h = λ k d low. absurd (omega (arith, low))
 all_before P (r ∷ before) last h = All-cons P r before (h 0 r (omega arith)) (all_before P before last (All-tail P r (before ++ last ∷ []) h))
 
--- stretches end behind where they begin
-shows_within : (all : ℕ → Option Rec) (from to : ℕ) (stretches : List Stretch) → Shows all from to stretches → from ≤ to
-shows_within all from to [] e = omega (arith, e)
-shows_within all from to (stretch ∷ stretches) (up, seen, rest) = omega (arith, up, shows_within all stretch.end to stretches rest)
-
 -- the same of a range alone
 shows_in : (f g : ℕ → Option Rec) (low high from : ℕ) (stretches : List Stretch) → ((q : ℕ) → low ≤ q → q < high → f q ≡ g q) → low ≤ from → Shows f from high stretches → Shows g from high stretches
 shows_in f g low high from [] same above h = h
 shows_in f g low high from (stretch ∷ stretches) same above (up, seen, rest) =
-    let ends = shows_within f stretch.end high stretches rest in
+    let ends = shows_rises f stretch.end high stretches rest in
     (up, λ q l h. sym (same q (omega arith) (omega arith)) ∙ seen q l h, shows_in f g low high stretch.end stretches same (omega arith) rest)
 
 pub layout_in : (f g : ℕ → Option Rec) (from to : ℕ) (stretches : List Stretch) → ((q : ℕ) → from ≤ q → q < to → f q ≡ g q) → IsLayout f from to stretches → IsLayout g from to stretches

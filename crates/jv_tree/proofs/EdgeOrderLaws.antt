@@ -2,18 +2,17 @@
 use Rattle.std.proofs.Common.{◌≡◌, ℕ, zero, suc, ◌≤◌, Bool, true, false, cond, T, List, [], ◌∷◌, take, drop, Some, refl, sym, ap, ◌∙◌, true≢false, eq-eqb, eqb-true}
 use Rattle.std.specs.Prelude.{◌==◌, ◌&&◌, filter}
 use Rattle.std.specs.List.{AllByRecursion}
-use Rattle.std.specs.declared.cmp.Ordering.{Ordering}
-use Rattle.std.specs.declared.cmp.Ordering.TheVariants.{Less, Equal, Greater}
+use Rattle.std.specs.declared.cmp.Ordering.TheVariants.{Less}
 use Rattle.std.specs.Ordering.{is_lt, is_le, nat_cmp, ordering_then, ordering_reverse}
 use Rattle.std.specs.Cmp.{nat_cmp_total, tied_itself}
 use Rattle.std.specs.Cmp.Lexicographic.{slice_cmp}
 use Rattle.std.specs.FinMap.Entries.{below_all, is_sorted}
 use Rattle.std.proofs.lemmas.Map.Keys.{le_from_is_le}
+use Rattle.std.proofs.lemmas.Bool.{and_parts}
 use Rattle.jv_model.specs.declared.row.RowKey.{RowKey}
 use Rattle.jv_model.specs.rows.RowKeys.{row_cmp, row_cmp_total}
+use Rattle.jv_model.proofs.TestLaws.{first_of_both, second_of_both, less_is, lt_is}
 use Rattle.jv_outside.specs.Rows.{is_after}
-use Rattle.jv_volume.proofs.MapLaws.{first_of_both, second_of_both}
-use Rattle.jv_rows.proofs.ScannedLaws.{less_by}
 
 -- whether a row is an edge's behind a key
 abbrev pub behind : RowKey → RowKey × List ℕ → Bool
@@ -39,15 +38,6 @@ pub data IsAtMost (i k : RowKey) : Type 0 where
   Same : i ≡ k → IsAtMost i k
   Below : row_cmp i k ≡ Less → IsAtMost i k
 
-less_of : (o : Ordering) → is_lt o ≡ true → o ≡ Less
-less_of Less e = refl
-less_of Equal e = absurd (true≢false (sym e))
-less_of Greater e = absurd (true≢false (sym e))
-
-pub both_true : (a b : Bool) → (a && b) ≡ true → (a ≡ true) × (b ≡ true)
-both_true true b e = (refl, e)
-both_true false b e = absurd (true≢false (sym e))
-
 then_below : (i k x : RowKey) → IsAtMost i k → row_cmp k x ≡ Less → row_cmp i x ≡ Less
 then_below i k x (Same e) p = ap (λ (q : RowKey). row_cmp q x) e ∙ p
 then_below i k x (Below b) p = row_cmp_total.trans i k x b p
@@ -59,7 +49,7 @@ IsAbove k j e = row_cmp k e.0 ≡ Less → row_cmp j e.0 ≡ Less
 
 above_all : (k j : RowKey) (es : List (RowKey × List ℕ)) → T (below_all row_cmp j es) → AllByRecursion (IsAbove k j) es
 above_all k j [] below = tt
-above_all k j (e ∷ es) below = ((λ p. less_by (row_cmp j e.0) (first_of_both _ _ below)), above_all k j es (second_of_both _ _ below))
+above_all k j (e ∷ es) below = ((λ p. less_is (row_cmp j e.0) (first_of_both _ _ below)), above_all k j es (second_of_both _ _ below))
 
 above_itself : (k : RowKey) (es : List (RowKey × List ℕ)) → AllByRecursion (IsAbove k k) es
 above_itself k [] = tt
@@ -69,8 +59,8 @@ chain_at : (k j : RowKey) (e : RowKey × List ℕ) (es : List (RowKey × List �
     → Chain j (filter (behind k) es)
     → Chain j (cond b (e ∷ filter (behind k) es) (filter (behind k) es))
 chain_at k j e es true is above here others =
-    let both = both_true (e.0.tab == 3) (is_lt (row_cmp k e.0)) is in
-    (record { table = eqb-true e.0.tab 3 both.0; above = above (less_of (row_cmp k e.0) both.1) }, here)
+    let both = and_parts (e.0.tab == 3) (is_lt (row_cmp k e.0)) is in
+    (record { table = eqb-true e.0.tab 3 both.0; above = above (lt_is (row_cmp k e.0) both.1) }, here)
 chain_at k j e es false is above here others = others
 
 chain_of : (k j : RowKey) (es : List (RowKey × List ℕ)) → T (is_sorted row_cmp es) → AllByRecursion (IsAbove k j) es → Chain j (filter (behind k) es)
@@ -130,8 +120,8 @@ suffix k (r ∷ rows) (suc n) c =
 
 sooner : (k q : RowKey) → IsAtMost k q → (e : RowKey × List ℕ) → behind q e ≡ true → behind k e ≡ true
 sooner k q low e later =
-    let both = both_true (e.0.tab == 3) (is_lt (row_cmp q e.0)) later in
-    passes k e (eqb-true e.0.tab 3 both.0) (then_below k q e.0 low (less_of (row_cmp q e.0) both.1))
+    let both = and_parts (e.0.tab == 3) (is_lt (row_cmp q e.0)) later in
+    passes k e (eqb-true e.0.tab 3 both.0) (then_below k q e.0 low (lt_is (row_cmp q e.0) both.1))
 
 not_later : (k q : RowKey) → IsAtMost k q → (e : RowKey × List ℕ) → behind k e ≡ false → behind q e ≡ false
 not_later k q low e is = by_test (behind q e) refl

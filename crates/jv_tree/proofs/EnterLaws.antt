@@ -25,18 +25,15 @@ use Rattle.jv_rows.specs.Drafts.{drafted, cell, Drafts, Needs}
 use Rattle.jv_rows.specs.Transactions.{BadFault, Transacts}
 use Rattle.jv_rows.specs.Walks.{HasNodeRow}
 use Rattle.jv_rows.proofs.NeedingLaws.{SettingNeeded, CountersNeeded, fails-needed, stands-needs}
-use Rattle.jv_rows.proofs.TransactionLaws.{Past, Fails, past-start, past-calm, past-fails, fails-looks, transacts-refused, transacts-commits, drafted-none, of_known, if_known}
+use Rattle.jv_rows.proofs.TransactionLaws.{Past, Fails, past-start, past-calm, past-fails, fails-looks, transacts-refused, transacts-commits, drafted-none, of_known, if_known, none_kept}
 use Rattle.jv_volume.specs.TypedRows.{Cell, Rows, typed}
 use Rattle.jv_volume.specs.Views.{row_in, setting_in, setting_at, counters_in, counters_at, node_in, node_row_at}
 use Rattle.jv_volume.specs.TreeOf.{tree_of}
 use Rattle.jv_volume.specs.Whole.{Whole, Quiet}
 use Rattle.jv_volume.proofs.MadeRowsLaws.{touched_row, made_rows}
-use Rattle.jv_tree.specs.Entering.{IsFreePlace, IsNewKind, place_of, new_row, enter, has_room, one_more, links_by}
+use Rattle.jv_tree.specs.Entering.{IsFreePlace, IsNewKind, place_of, new_row, enter, has_room, one_more}
 use Rattle.jv_tree.proofs.EnteringLaws.{enter-full, enter-linked_full, enter-done, whole-entered, quiet-entered}
-
--- rows without changes have what stands there
-none_kept : (changes : List Change) (key : RowKey) → changes ≡ [] → (known : RowMap) → get (drafted changes known) key ≡ get (typed known) key
-none_kept changes key none known = ap (λ ch. get (drafted ch known) key) none ∙ ap (λ (rows : Rows). get rows key) (drafted-none known)
+use Rattle.jv_volume.specs.Stored.{links_by}
 
 -- one more change that was made
 pub was_drafted : {E : Type 0} (key : RowKey) (stands : Option Cell) (before after : List Change) (result : Result (Unit {0}) E) → result ≡ Ok tt

@@ -18,7 +18,7 @@ use Rattle.jv_volume.specs.TypedRows.{Rows}
 use Rattle.jv_volume.specs.Views.{counters_at, node_row_at, setting_at}
 use Rattle.jv_volume.specs.TreeOf.{node_of, tree_of}
 use Rattle.jv_volume.specs.Shape.{Dir, WholeShape, form_of, is_dir, shape_of}
-use Rattle.jv_volume.specs.Stored.{Stored}
+use Rattle.jv_volume.specs.Stored.{Stored, links_by}
 use Rattle.jv_volume.specs.Whole.{Whole, Quiet}
 use Rattle.jv_volume.proofs.LinkLaws.{free_inode, next_absent, link_count-beside_dir, standing_here}
 use Rattle.jv_volume.proofs.MadeRowsLaws.{made_rows, IsMade}
@@ -26,7 +26,7 @@ use Rattle.jv_volume.proofs.MadeWholeLaws.{MayBeMade, tree-made, quiet-made, who
 use Rattle.jv_volume.proofs.NodeRowLaws.{IsNodeRow, node_of-empty_file}
 use Rattle.jv_volume.proofs.RoomLaws.{entered-by}
 use Rattle.jv_volume.proofs.StoredLaws.{HasCounters, HasNode, found_counters, found_node, found_setting, whole-shape, whole-stored}
-use Rattle.jv_tree.specs.Entering.{IsFreePlace, IsNewKind, EmptyFile, DirectoryIn, LinkTo, is_new_directory, new_row, enter, has_room, links_by}
+use Rattle.jv_tree.specs.Entering.{IsFreePlace, IsNewKind, EmptyFile, DirectoryIn, LinkTo, is_new_directory, new_row, enter, has_room}
 
 -- What the row of a new node is.
 record IsNewNode (byte : ℕ → ℕ) (dir : ℕ) (kind : Kind) (mode now : ℕ) : Type 0 where

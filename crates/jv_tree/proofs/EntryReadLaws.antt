@@ -8,6 +8,7 @@ use Rattle.std.specs.declared.cmp.Ordering.TheVariants.{Less}
 use Rattle.std.specs.Ordering.{is_lt, nat_cmp, ordering_then}
 use Rattle.std.specs.Cmp.{nat_cmp_total, tied_itself}
 use Rattle.std.specs.FinMap.Entries.{put, find, by_order, below_all, is_sorted}
+use Rattle.std.proofs.lemmas.Bool.{and_parts}
 use Rattle.jv_model.specs.declared.fault.Fault.{Fault}
 use Rattle.jv_model.specs.declared.fault.RowFault.{RowFault}
 use Rattle.jv_model.specs.declared.fault.RowFault.TheVariants.{Bad, Failed, Memory}
@@ -23,13 +24,14 @@ use Rattle.jv_model.specs.rows.RowKeys.{RowMap, row_key, row_cmp}
 use Rattle.jv_model.specs.rows.RowPlaces.{edge_key}
 use Rattle.jv_model.specs.tree.Reading.{entries_of}
 use Rattle.jv_model.specs.tree.Tree.{Tree, EntryKey}
+use Rattle.jv_model.proofs.TestLaws.{first_of_both, second_of_both, less_is}
 use Rattle.jv_outside.specs.Rows.{is_after, rows_after}
 use Rattle.jv_outside.specs.Store.{Store}
 use Rattle.jv_volume.specs.TypedRows.{Cell, cell_of, typed_entries, typed, is_key}
 use Rattle.jv_volume.specs.TreeOf.{entry_selected, entries_selected, entry_of_key, tree_of}
 use Rattle.jv_volume.specs.Views.{row_in, edge_in}
 use Rattle.jv_volume.specs.Whole.{Whole}
-use Rattle.jv_volume.proofs.MapLaws.{first_of_both, second_of_both, find-below_all, is_sorted-changed}
+use Rattle.jv_volume.proofs.MapLaws.{find-below_all, is_sorted-changed}
 use Rattle.jv_volume.proofs.ReadLaws.{entries_of-rows}
 use Rattle.jv_volume.proofs.ShapeMapLaws.{tied_here, tied_apart}
 use Rattle.jv_volume.proofs.StoredLaws.{whole-typed}
@@ -37,11 +39,11 @@ use Rattle.jv_volume.proofs.TypedLaws.{get-typed}
 use Rattle.jv_rows.specs.Scans.{row_then, rows_read, RefusesScan, ScansRows}
 use Rattle.jv_rows.specs.Tables.{edge_row}
 use Rattle.jv_rows.specs.Transactions.{IsBad, Malformed, Looks}
-use Rattle.jv_rows.proofs.ScannedLaws.{all-stored, fails-scan, less_by}
+use Rattle.jv_rows.proofs.ScannedLaws.{all-stored, fails-scan}
 use Rattle.jv_rows.proofs.TransactionLaws.{Past, past-fails, looks-exit}
 use Rattle.jv_tree.specs.Directories.{entries_within}
 use Rattle.jv_tree.proofs.DirectoryLaws.{edge_then, entries_from, edges_after, IsReadTo}
-use Rattle.jv_tree.proofs.EdgeOrderLaws.{behind, both_true}
+use Rattle.jv_tree.proofs.EdgeOrderLaws.{behind}
 use Rattle.jv_tree.proofs.PageLaws.{IsEnd, read-all}
 
 -- ---- rows by their types, in their order
@@ -50,7 +52,7 @@ module _ {K X : Type 0} (order : KeyOrder K) where
   put_first : (k : K) (x : X) (es : List (K × X)) → T (below_all order.cmp k es) → put order.cmp k x es ≡ (k, x) ∷ es
   put_first k x [] below = refl
   put_first k x (e ∷ es) below =
-      ap (λ o. by_order o ((k, x) ∷ e ∷ es) ((e.0, x) ∷ es) (e ∷ put order.cmp k x es)) (less_by (order.cmp k e.0) (first_of_both _ _ below))
+      ap (λ o. by_order o ((k, x) ∷ e ∷ es) ((e.0, x) ∷ es) (e ∷ put order.cmp k x es)) (less_is (order.cmp k e.0) (first_of_both _ _ below))
 
   -- the entries of a map that was made of sorted ones
   map_of-list : (es : List (K × X)) → T (is_sorted order.cmp es) → (map_of {order = order} es).list ≡ es
@@ -142,7 +144,7 @@ module _ (dir : ℕ) (e : RowKey × List ℕ) (es : List (RowKey × List ℕ)) (
     (rest : entries_from dir (filter (behind (edge_key dir [])) es) ≡ entries_from dir es) where
   outside : behind (edge_key dir []) e ≡ false → (t : Bool) → ((e.0.tab == 3) && (e.0.a == dir)) ≡ t → t ≡ false
   outside before true is =
-      let both = both_true (e.0.tab == 3) (e.0.a == dir) is in
+      let both = and_parts (e.0.tab == 3) (e.0.a == dir) is in
       let table : e.0.tab ≡ 3 = eqb-true e.0.tab 3 both.0 in
       let later : is_lt (row_cmp (edge_key dir []) e.0) ≡ true = named_behind dir e.0 table (eqb-true e.0.a dir both.1) e.0.b refl (named table) in
       let passes : behind (edge_key dir []) e ≡ true = ap (λ (b : Bool). b && is_lt (row_cmp (edge_key dir []) e.0)) both.0 ∙ later in

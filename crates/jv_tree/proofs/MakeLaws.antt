@@ -1,16 +1,14 @@
 -- How a file, a directory and a symlink are made: the session, the place of the entry, and the new node.
-use Rattle.std.proofs.Common.{◌≡◌, ℕ, Bool, true, false, List, Some, is_some, Result, Ok, Err, refl, ap, subst, ◌∙◌}
+use Rattle.std.proofs.Common.{◌≡◌, ℕ, Bool, true, false, List, Some, Result, Ok, Err, refl, ap, subst, ◌∙◌}
 use Rattle.std.specs.Prelude.{IsTrue, IfErr, IfSome, OnErr, nat_le, length}
 use Rattle.jv_model.specs.declared.limits.TheConstants.{MAX_PATH}
 use Rattle.jv_model.specs.declared.fault.Fault.{Fault}
-use Rattle.jv_model.specs.declared.fault.Fault.TheVariants.{NameTooLong, Stale}
-use Rattle.jv_model.specs.declared.fault.Gone.TheVariants.{Session}
+use Rattle.jv_model.specs.declared.fault.Fault.TheVariants.{NameTooLong}
 use Rattle.jv_model.specs.declared.fault.RowFault.TheVariants.{Bad, Failed, Memory}
 use Rattle.jv_model.specs.declared.fault.TxFault.{TxFault}
 use Rattle.jv_model.specs.declared.fault.TxFault.TheVariants.{Refused, Moved, Rows as OfRows}
 use Rattle.jv_model.specs.declared.op.Reply.{Reply}
 use Rattle.jv_model.specs.declared.op.Reply.TheVariants.{Found, FileOpened}
-use Rattle.jv_model.specs.FiniteMap.{get}
 use Rattle.jv_model.specs.rows.RowKeys.{RowMap}
 use Rattle.jv_model.specs.tree.Attempt.{◌>>=◌, require}
 use Rattle.jv_model.specs.tree.Caller.{Caller, Outcome, in_session}
@@ -28,6 +26,7 @@ use Rattle.jv_volume.specs.Whole.{Whole}
 use Rattle.jv_volume.proofs.EntryNameLaws.{new_place-name}
 use Rattle.jv_volume.proofs.WalkShapeLaws.{is_new_place}
 use Rattle.jv_tree.specs.Entering.{has_no_zero, new_pair, place_of, IsFreePlace, enter}
+use Rattle.jv_rows.proofs.NeedingLaws.{session_is}
 
 -- ---- a transaction after readings
 
@@ -133,22 +132,19 @@ module _ (passes : Bool) (fault : Fault) (reply : ℕ → Reply) (before middle 
 
 -- ---- the session
 
-abbrev session_there : ℕ → Tree → Result (Unit {0}) Fault
-session_there sid t = require (is_some (get t.sessions sid)) (Stale (Session sid))
-
 module _ (who : Caller) (sid : ℕ) (same : who.sid ≡ sid) (reply : ℕ → Reply) (before middle : Store) (rest : Tree → Result Outcome Fault) (act : Tree → Result Outcome Fault)
     (is : (t : Tree) → act t ≡ (in_session t who >>= (λ _. rest t))) where
-  session_first : Past before before act (λ t. session_there sid t >>= (λ _. rest t))
-  session_first = past-as before before before act act (past-start before act) (λ t. session_there sid t >>= (λ _. rest t)) (λ known known_is whole bytes.
-      let t = tree_of bytes (typed known) in is t ∙ ap (λ s. session_there s t >>= (λ _. rest t)) same)
+  session_first : Past before before act (λ t. session_is sid t >>= (λ _. rest t))
+  session_first = past-as before before before act act (past-start before act) (λ t. session_is sid t >>= (λ _. rest t)) (λ known known_is whole bytes.
+      let t = tree_of bytes (typed known) in is t ∙ ap (λ s. session_is s t >>= (λ _. rest t)) same)
 
   -- the session is gone, or wasn't read
-  pub make-no_session : (fault : TxFault) → Looks before middle (Err fault) (session_there sid) → Transacts {A = ℕ} Always before middle (Err fault) reply act
-  make-no_session fault l = transacts-refused Always before middle reply act fault (past-stops before before middle act (session_there sid) (λ t _. rest t) session_first fault l)
+  pub make-no_session : (fault : TxFault) → Looks before middle (Err fault) (session_is sid) → Transacts {A = ℕ} Always before middle (Err fault) reply act
+  make-no_session fault l = transacts-refused Always before middle reply act fault (past-stops before before middle act (session_is sid) (λ t _. rest t) session_first fault l)
 
   -- the session is there
-  pub make-session : Looks before middle (Ok tt) (session_there sid) → Past before middle act rest
-  make-session l = past-looks before before middle act (session_there sid) (λ t _. rest t) session_first tt l
+  pub make-session : Looks before middle (Ok tt) (session_is sid) → Past before middle act rest
+  make-session l = past-looks before before middle act (session_is sid) (λ t _. rest t) session_first tt l
 
 -- ---- the operations by their parts
 

@@ -11,6 +11,7 @@ use Rattle.jv_model.specs.declared.row.RowKey.{RowKey}
 use Rattle.jv_model.specs.rows.RowGrammar.{row_of, edge_of}
 use Rattle.jv_model.specs.rows.RowKeys.{RowMap}
 use Rattle.jv_model.specs.rows.RowPlaces.{edge_key}
+use Rattle.jv_model.proofs.TestLaws.{some_same}
 use Rattle.jv_outside.specs.Rows.{rows_after}
 use Rattle.jv_outside.specs.Store.{Store}
 use Rattle.jv_rows.specs.Scans.{row_then, rows_read, ScansRows}
@@ -30,9 +31,6 @@ last_is (x ∷ []) r (suc i) len is = absurd (omega (arith, len))
 last_is (x ∷ y ∷ page) r zero len is = absurd (omega (arith, len))
 last_is (x ∷ y ∷ page) r (suc i) len is = last_is (y ∷ page) r i (omega (arith, len)) is
 
-same_some : {A : Type 0} (x y : A) → Some x ≡ Some y → x ≡ y
-same_some x y e = cc
-
 -- the key of the last row, or a key where there is none
 abbrev last_from : RowKey → List (RowKey × Row) → RowKey
 last_from k [] = k
@@ -40,7 +38,7 @@ last_from k (r ∷ rows) = last_from r.0 rows
 
 last_of-from : (k : RowKey) (list : List (RowKey × Row)) (key : RowKey) → last_of list ≡ Some key → last_from k list ≡ key
 last_of-from k [] key e = absurd (true≢false (sym (ap is_some e)))
-last_of-from k (r ∷ []) key e = same_some r.0 key e
+last_of-from k (r ∷ []) key e = some_same r.0 key e
 last_of-from k (r ∷ x ∷ rows) key e = last_of-from r.0 (x ∷ rows) key e
 
 last_some : (r : RowKey × Row) (rows : List (RowKey × Row)) → is_some (last_of (r ∷ rows)) ≡ true
@@ -74,7 +72,7 @@ record EdgeRead (bytes : List ℕ) (row : Row) : Type 0 where
 
 edge_by : (bytes : List ℕ) (row : Row) (o : Option Edge) → edge_of bytes ≡ o → option_map OfEdge o ≡ Some row → EdgeRead bytes row
 edge_by bytes row None e h = absurd (true≢false (sym (ap is_some h)))
-edge_by bytes row (Some edge) e h = record { edge = edge; spelled = e; is = sym (same_some (OfEdge edge) row h) }
+edge_by bytes row (Some edge) e h = record { edge = edge; spelled = e; is = sym (some_same (OfEdge edge) row h) }
 
 -- a row of the table of edges is an edge
 edge_is : (key : RowKey) (bytes : List ℕ) (row : Row) → key.tab ≡ 3 → row_of key.tab bytes ≡ Some row → EdgeRead bytes row

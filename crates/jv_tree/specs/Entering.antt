@@ -1,5 +1,5 @@
 -- How a new node comes under a new entry: what its row is, what the volume's limits let in, and what becomes of its directory.
-use Rattle.std.specs.Prelude.{◌≡◌, ℕ, ◌+◌, Bool, true, false, ◌&&◌, not, ◌==◌, ◌<◌, nat_le, nat_lt, if◌then◌else◌, List, None, Result, Ok, Err, IsTrue}
+use Rattle.std.specs.Prelude.{◌≡◌, ℕ, ◌+◌, Bool, true, false, ◌&&◌, not, ◌<◌, nat_le, nat_lt, if◌then◌else◌, List, None, Result, Ok, Err, IsTrue}
 use Rattle.jv_model.specs.declared.limits.TheConstants.{FULL_COUNT, MAX_LINKS, SPACE_UNIT}
 use Rattle.jv_model.specs.declared.fault.Fault.{Fault}
 use Rattle.jv_model.specs.declared.fault.Fault.TheVariants.{NoSpace}
@@ -16,7 +16,7 @@ use Rattle.jv_model.specs.tree.Making.{may_be_new, new_place, entered}
 use Rattle.jv_rows.specs.Walks.{pair_in}
 use Rattle.jv_rows.specs.declared.walking.EntryPlace.{EntryPlace}
 use Rattle.jv_volume.specs.TypedRows.{is_entry_name}
-use Rattle.jv_volume.specs.Stored.{node_row}
+use Rattle.jv_volume.specs.Stored.{node_row, links_by}
 pub use Rattle.jv_model.specs.script.Spelled.{has_no_zero}
 
 -- the place of a new entry, as a pair
@@ -71,10 +71,6 @@ one_more c = record c { inode = c.inode + 1; used_space = c.used_space + SPACE_U
 abbrev pub Grows : Setting → Counters → Result Counters Fault → Type 0
 Grows setting c (Ok after) = (has_room setting c ≡ true) × (after ≡ one_more c)
 Grows setting c (Err fault) = (has_room setting c ≡ false) × (fault ≡ NoSpace)
-
--- the links that an entry of this kind adds to its directory
-abbrev pub links_by : ℕ → ℕ
-links_by kind = (if kind == 2 then 1 else 0)
 
 -- a directory that gets an entry has both times at the moment, and one link more for a directory in it, which is refused where
 -- no more can be stored

@@ -6,8 +6,9 @@ use Rattle.jv_model.specs.FiniteMap.{insert}
 use Rattle.jv_model.specs.tree.Tree.{Tree, Node, Content, File, Directory, Symlink, EntryKey, entry_key, root, trash_root, full_count, new_node, node_at, is_directory}
 use Rattle.jv_model.specs.tree.Changes.{put_node, with_node}
 use Rattle.jv_model.specs.tree.Making.{may_be_new, with_next}
+use Rattle.jv_model.proofs.TestLaws.{none_if}
 use Rattle.jv_volume.specs.Shape.{Form, Absent, Dir, Shape, form_of, is_there, is_dir, shape_of, named, keeps, names, is_top, is_hour, Reaches, NamesHour, Names, Entered, Keeps, IsKept, WholeShape}
-use Rattle.jv_volume.proofs.ShapeMapLaws.{stays_at, get-inserted, was_inserted, count-insert_apart, uncounted, with_form, with_form-here, with_form-apart, apart_by_form, there_of_dir, parent_of_dir, reaches_lift, with_entries, shape-put_node, shape-put_entry, is_there-form, is_dir-form, names_kept, not_top, none_if}
+use Rattle.jv_volume.proofs.ShapeMapLaws.{stays_at, get-inserted, was_inserted, count-insert_apart, uncounted, with_form, with_form-here, with_form-apart, apart_by_form, there_of_dir, parent_of_dir, reaches_lift, with_entries, shape-put_node, shape-put_entry, is_there-form, is_dir-form, names_kept, not_top}
 
 -- a shape with a new inode under a new entry, and a next inode
 abbrev pub with_new : Shape → EntryKey → ℕ → Form → ℕ → Shape

@@ -9,8 +9,9 @@ use Rattle.jv_model.specs.declared.fault.Fault.TheVariants.{AlreadyExists, Inval
 use Rattle.jv_model.specs.FiniteMap.{get}
 use Rattle.jv_model.specs.tree.Attempt.{◌>>=◌, require, some_or}
 use Rattle.jv_model.specs.tree.Tree.{Tree, EntryKey, root, is_directory}
-use Rattle.jv_model.specs.tree.Walk.{is_empty, is_dot, is_dot_dot, before_part, parts_between, names_of, last_name, all_but_last, walk, entry_of}
+use Rattle.jv_model.specs.tree.Walk.{is_dot, is_dot_dot, before_part, parts_between, names_of, last_name, all_but_last, walk, entry_of}
 use Rattle.jv_model.specs.tree.Making.{may_be_new, new_place}
+use Rattle.jv_model.specs.Lists.{is_nil}
 use Rattle.jv_volume.specs.TypedRows.{is_entry_name}
 use Rattle.jv_volume.proofs.WalkShapeLaws.{went_on, required, was_some, same_Ok}
 
@@ -39,34 +40,34 @@ plain_parts (b ∷ bs) h =
 
 -- a name has a byte or more
 abbrev is_name : List ℕ → Bool
-is_name name = not (is_empty name) && is_plain name
+is_name name = not (is_nil name) && is_plain name
 
 abbrev all_names : List (List ℕ) → Bool
 all_names names = list_all is_name names
 
-names_step : (part : List ℕ) (rest : List (List ℕ)) (full : Bool) → not (is_empty part) ≡ full → is_plain part ≡ true → all_names rest ≡ true
+names_step : (part : List ℕ) (rest : List (List ℕ)) (full : Bool) → not (is_nil part) ≡ full → is_plain part ≡ true → all_names rest ≡ true
     → all_names (if full then part ∷ rest else rest) ≡ true
 names_step part rest true e is h = and_from _ _ (and_from _ _ e is) h
 names_step part rest false e is h = h
 
-names_filter : (parts : List (List ℕ)) → all_plain parts ≡ true → all_names (filter (λ name. not (is_empty name)) parts) ≡ true
+names_filter : (parts : List (List ℕ)) → all_plain parts ≡ true → all_names (filter (λ name. not (is_nil name)) parts) ≡ true
 names_filter [] h = refl
 names_filter (part ∷ parts) h =
     let both = and_parts (is_plain part) (all_plain parts) h in
-    names_step part (filter (λ name. not (is_empty name)) parts) (not (is_empty part)) refl both.0 (names_filter parts both.1)
+    names_step part (filter (λ name. not (is_nil name)) parts) (not (is_nil part)) refl both.0 (names_filter parts both.1)
 
 last_is : (names : List (List ℕ)) (name : List ℕ) → all_names names ≡ true → last_name names ≡ Some name → is_name name ≡ true
 last_is [] name h e = absurd (cc)
 last_is (first ∷ []) name h e = (let same : first ≡ name = cc in subst (λ n. is_name n ≡ true) same (and_parts (is_name first) true h).0)
 last_is (first ∷ second ∷ names) name h e = last_is (second ∷ names) name (and_parts (is_name first) (all_names (second ∷ names)) h).1 e
 
-some_byte : (name : List ℕ) → not (is_empty name) ≡ true → nat_le 1 (length name) ≡ true
+some_byte : (name : List ℕ) → not (is_nil name) ≡ true → nat_le 1 (length name) ≡ true
 some_byte [] h = absurd (false≢true h)
 some_byte (b ∷ bs) h = le-leb 1 (length (b ∷ bs)) (omega arith)
 
 entry_name : (name : List ℕ) → is_name name ≡ true → nat_le (length name) MAX_NAME ≡ true → is_entry_name name ≡ true
 entry_name name is short =
-    let both = and_parts (not (is_empty name)) (is_plain name) is in
+    let both = and_parts (not (is_nil name)) (is_plain name) is in
     λ i. some_byte name both.0 i && short i && both.1 i
 
 module _ (t : Tree) (path : List ℕ) (plain : list_all (λ b. not (b == 0)) path ≡ true) where

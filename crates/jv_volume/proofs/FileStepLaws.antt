@@ -37,7 +37,7 @@ module _ (rows : Rows) (q : RowKey) (cell : Option Cell) where
   counters_stay apart = ap (λ c. or_no_counters (counters_in (row_in c))) (get-alter-apart row_key rows q cell counters_key apart)
 
 -- keys of other tables
-other_tab : (k q : RowKey) → (k.tab == q.tab) ≡ false → k ≢ q
+pub other_tab : (k q : RowKey) → (k.tab == q.tab) ≡ false → k ≢ q
 other_tab k q other same = absurd (true≢false (sym (eq-eqb k.tab q.tab (ap (λ (x : RowKey). x.tab) same)) ∙ other))
 
 no_tie : (q : RowKey) → (1 == q.tab) ≡ false → eq_by_cmp row_cmp counters_key q ≡ false

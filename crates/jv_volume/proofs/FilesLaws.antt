@@ -15,6 +15,11 @@ use Rattle.jv_volume.specs.Slices.{place_in, HasLists, OfFile, OfDropped, WholeF
 use Rattle.jv_volume.specs.Whole.{Quiet}
 use Rattle.jv_volume.proofs.QuietLaws.{quiet-lists_of}
 
+-- a list without records shows no slice anywhere
+pub nothing_shows : (p : ℕ) → stored_place [] p ≡ Zero
+unfolding stored_place
+nothing_shows p = refl
+
 -- an inode that was never given has no lists
 pub fresh_lists : (rows : Rows) (inode window : ℕ) → WholeFiles rows → node_row_at rows inode ≡ None → (counters_of rows).inode ≤ inode
     → lists_of rows inode window ≡ []

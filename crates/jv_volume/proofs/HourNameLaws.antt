@@ -11,16 +11,16 @@ use Rattle.jv_volume.specs.Shape.{is_hour, is_top}
 
 -- A year of an era has at most 366 days, and a month begins on a day of its year.
 
-year_begins : (day : ℕ) → day < era_days → days_before_year (year_in_era day) ≤ day
+pub year_begins : (day : ℕ) → day < era_days → days_before_year (year_in_era day) ≤ day
 year_begins day less = omega arith
 
 year_ends : (day : ℕ) → day < era_days → day ≤ days_before_year (year_in_era day) + 365
 year_ends day less = omega arith
 
-year_few : (day : ℕ) → day < era_days → year_in_era day ≤ 399
+pub year_few : (day : ℕ) → day < era_days → year_in_era day ≤ 399
 year_few day less = omega arith
 
-month_begins : (day : ℕ) → days_before_month (month_in_year day) ≤ day
+pub month_begins : (day : ℕ) → days_before_month (month_in_year day) ≤ day
 month_begins day = omega arith
 
 month_ends : (day : ℕ) → day - days_before_month (month_in_year day) ≤ 30
@@ -69,19 +69,19 @@ same_date era year month day era' year' month' day' few few' low low' same_y sam
     (by_month era' year' month' day') same_y same_m same_d
 
 -- the parts of a day
-abbrev era_of : ℕ → ℕ
+abbrev pub era_of : ℕ → ℕ
 era_of day = (day + days_before_1970) / era_days
 
-abbrev in_era : ℕ → ℕ
+abbrev pub in_era : ℕ → ℕ
 in_era day = (day + days_before_1970) % era_days
 
-abbrev in_year : ℕ → ℕ
+abbrev pub in_year : ℕ → ℕ
 in_year day = in_era day - days_before_year (year_in_era (in_era day))
 
 abbrev in_month : ℕ → ℕ
 in_month day = in_year day - days_before_month (month_in_year (in_year day))
 
-in_era_few : (day : ℕ) → in_era day < era_days
+pub in_era_few : (day : ℕ) → in_era day < era_days
 in_era_few day = omega arith
 
 in_year_few : (day : ℕ) → in_year day ≤ 365

@@ -10,7 +10,8 @@ use Rattle.jv_model.specs.tree.Tree.{Tree, Node, Content, EntryKey, pair_key, no
 use Rattle.jv_model.specs.tree.Tree.{is_sustained}
 use Rattle.jv_model.specs.tree.Changes.{empty_content, touched, status_changed, put_node, drop_node, change_node, touch}
 use Rattle.jv_model.specs.tree.Changes.{put_entry, take_entry, with_node}
-use Rattle.jv_volume.proofs.ShapeMapLaws.{none_if, get-inserted, get-insert_apart, get-removed, get-remove_apart}
+use Rattle.jv_model.proofs.TestLaws.{none_if}
+use Rattle.jv_volume.proofs.ShapeMapLaws.{get-inserted, get-insert_apart, get-removed, get-remove_apart}
 use Rattle.jv_volume.proofs.ChangeLaws.{change_node-setting, change_node-next_inode, change_node-sustained}
 use Rattle.jv_volume.proofs.ChangeLaws.{change_node-apart, change_node-here}
 

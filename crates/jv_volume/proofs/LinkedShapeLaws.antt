@@ -6,8 +6,9 @@ use Rattle.jv_model.specs.FiniteMap.{get, insert}
 use Rattle.jv_model.specs.tree.Tree.{Tree, EntryKey, entry_key, root, trash_root, in_trash, node_at, is_directory, trash_entry}
 use Rattle.jv_model.specs.tree.Changes.{put_entry}
 use Rattle.jv_model.specs.tree.Making.{may_be_new, is_trashed, linked}
+use Rattle.jv_model.proofs.TestLaws.{none_if}
 use Rattle.jv_volume.specs.Shape.{Dir, Shape, is_there, is_dir, shape_of, named, keeps, names, is_top, is_hour, Names, Entered, Keeps, IsKept, WholeShape}
-use Rattle.jv_volume.proofs.ShapeMapLaws.{stays_at, was_inserted, first_where-none, count-insert_same, count-insert_apart, counted_once, with_entries, shape-put_entry, is_dir-form, names_kept, leaf_apart, not_top, none_if}
+use Rattle.jv_volume.proofs.ShapeMapLaws.{stays_at, was_inserted, first_where-none, count-insert_same, count-insert_apart, counted_once, with_entries, shape-put_entry, is_dir-form, names_kept, leaf_apart, not_top}
 use Rattle.jv_volume.proofs.SameShapeLaws.{shape-status_changed}
 use Rattle.jv_volume.proofs.EnteredShapeLaws.{new_below, not_hour_below}
 

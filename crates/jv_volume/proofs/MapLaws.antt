@@ -6,16 +6,9 @@ use Rattle.std.specs.Ordering.{eq_by_cmp, is_eq, is_lt}
 use Rattle.std.specs.FinMap.Entries.{find, below_all, is_sorted}
 use Rattle.jv_model.specs.FiniteMap.{KeyOrder, Map, get, insert, remove, alter, sum_over, total_over}
 use Rattle.jv_model.proofs.FiniteMapLaws.{share, get-alter, same_maps, sum-insert, sum-remove}
+use Rattle.jv_model.proofs.TestLaws.{first_of_both, second_of_both}
 use Rattle.jv_volume.proofs.ShapeMapLaws.{tied_here, tied_same}
 pub use Rattle.jv_volume.proofs.ShapeMapLaws.{get-alter-here, get-alter-apart}
-
-pub first_of_both : (a b : Bool) → T (a && b) → T a
-first_of_both true b p = tt
-first_of_both false b p = p
-
-pub second_of_both : (a b : Bool) → T (a && b) → T b
-second_of_both true b p = p
-second_of_both false b p = absurd p
 
 less_ties_not : (o : Ordering) → T (is_lt o) → is_eq o ≡ false
 less_ties_not Less p = refl

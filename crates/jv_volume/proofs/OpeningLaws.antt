@@ -26,12 +26,9 @@ use Rattle.jv_volume.proofs.ShapeMapLaws.{get-inserted, shape-put_entry, is_dire
 use Rattle.jv_volume.proofs.WalkShapeLaws.{went_on, required, same_Ok, onwards, root_directory, path_named}
 use Rattle.jv_volume.proofs.OperationShapeLaws.{is_entered}
 use Rattle.jv_volume.proofs.ReplyLaws.{opens_none}
+use Rattle.jv_volume.proofs.StoredLaws.{target_in}
 
 -- where a followed walk leads
-
-abbrev target_in : Option Node → Option (List ℕ)
-target_in None = None
-target_in (Some node) = elim node.kind [ File content ↦ None | Directory parent ↦ None | Symlink target ↦ Some target ]
 
 -- a directory is no symlink
 dir_no_link : (o : Option Node) → is_some (parent_of o) ≡ true → target_in o ≡ None

@@ -6,14 +6,13 @@ use Rattle.jv_model.specs.declared.row.Node.{Node as NodeRow}
 use Rattle.jv_model.specs.declared.row.Edge.{Edge}
 use Rattle.jv_model.specs.declared.row.Counters.{Counters}
 use Rattle.jv_model.specs.FiniteMap.{get, first_where, first_passing, entries_where}
-use Rattle.jv_model.specs.tree.Tree.{Tree, Kind, File, Directory, Symlink, EntryKey, entry_key, has_entries}
-use Rattle.jv_model.specs.tree.Reading.{file_kind, size_of, attr_of, entries_of, usage_of}
+use Rattle.jv_model.specs.tree.Tree.{Tree, EntryKey, entry_key, has_entries}
+use Rattle.jv_model.specs.tree.Reading.{file_kind, attr_of, entries_of, usage_of}
 use Rattle.jv_model.proofs.FiniteMapLaws.{IsFound, first_where-found}
 use Rattle.jv_volume.specs.TypedRows.{Rows}
 use Rattle.jv_volume.specs.Views.{edge_in, edge_at}
 use Rattle.jv_volume.specs.TreeOf.{node_of, entries_selected, entry_of_key, tree_of}
 use Rattle.jv_volume.specs.TreeOf.{entries_of as entry_map}
-use Rattle.jv_volume.specs.Stored.{length_of}
 use Rattle.jv_volume.proofs.SelectOrderLaws.{selected-list, entry_rises}
 use Rattle.jv_volume.proofs.ShapeMapLaws.{first_where-none}
 use Rattle.jv_volume.proofs.StoredLaws.{HasNode, HasCounters, no_entry}
@@ -81,11 +80,6 @@ module _ (bytes : ℕ → ℕ → ℕ) (rows : Rows) (dir : ℕ) where
 
 -- ---- attributes
 
-same_size : (kind : Kind) → size_of kind ≡ length_of kind
-same_size (File content) = refl
-same_size (Directory parent) = refl
-same_size (Symlink target) = refl
-
 -- the attributes of a node are those of its row
 pub attr_of-row : (t : Tree) (inode : ℕ) (row : NodeRow) (byte : ℕ → ℕ) → HasNode t inode row byte → attr_of t inode (node_of byte row) ≡ record {
   inode = inode;
@@ -105,7 +99,7 @@ attr_of-row t inode row byte has = λ i. record {
   nlink = sym has.links i;
   uid = row.uid;
   gid = row.gid;
-  size = (same_size (node_of byte row).kind ∙ sym (ap (λ (r : NodeRow). r.length) has.row_is)) i;
+  size = sym (ap (λ (r : NodeRow). r.length) has.row_is) i;
   mtime = row.mtime;
   ctime = row.ctime;
 }

@@ -6,7 +6,8 @@ use Rattle.jv_model.specs.FiniteMap.{number_key, get, remove, retain_keys}
 use Rattle.jv_model.specs.tree.Tree.{Tree, Node, SustainedFile, pair_key, is_sustained}
 use Rattle.jv_model.specs.tree.Sessions.{without_session, released}
 use Rattle.jv_model.proofs.FiniteMapLaws.{get-retain_keys, same_maps}
-use Rattle.jv_volume.proofs.ShapeMapLaws.{same_or_apart, get-removed, get-remove_apart, none_if, pair_of}
+use Rattle.jv_model.proofs.TestLaws.{none_if}
+use Rattle.jv_volume.proofs.ShapeMapLaws.{same_or_apart, get-removed, get-remove_apart, pair_of}
 
 -- the tree without a file that a session keeps
 abbrev pub released_tree : Tree → ℕ → ℕ → Tree

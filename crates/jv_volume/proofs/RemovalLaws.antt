@@ -15,7 +15,7 @@ use Rattle.jv_model.specs.tree.Trash.{first_in, due_purge, purged, is_due, hour_
 use Rattle.jv_model.proofs.FiniteMapLaws.{IsFound, first_where-found}
 use Rattle.jv_volume.specs.Shape.{Absent, Regular, Dir, Shape, WholeShape, is_there, is_dir, shape_of, named, names, is_hour}
 use Rattle.jv_volume.proofs.ShapeMapLaws.{first_where-none, only_one, counted_once, with_form, with_form-apart, with_forms, with_entries, parent_of_dir, is_dir-form, shape-drop_node, shape-take_entry, shape-change_node_same}
-pub use Rattle.jv_volume.proofs.ShapeMapLaws.{none_if}
+use Rattle.jv_model.proofs.TestLaws.{none_if}
 use Rattle.jv_volume.proofs.ShapeLossLaws.{Without, without_only, without_inode, whole-without_inode, whole-without_entry, sustained_shape, whole-sustained}
 use Rattle.jv_volume.proofs.TrashLaws.{whole-trashed, without-trashed}
 

@@ -17,10 +17,11 @@ use Rattle.jv_model.specs.tree.Walk.{entry_of}
 use Rattle.jv_model.specs.tree.Making.{may_be_new}
 use Rattle.jv_model.specs.tree.Removing.{may_go, remove_entry, remove_directory, unlink, rmdir}
 use Rattle.jv_model.specs.tree.Renaming.{may_leave, is_inside, moved, exchanged, without_target, within_links, renamed, replacing, exchanging, unless_same, renamed_over, renamed_by, rename}
+use Rattle.jv_model.proofs.TestLaws.{none_if}
 use Rattle.jv_volume.specs.Shape.{WholeShape, shape_of}
 use Rattle.jv_volume.proofs.WalkShapeLaws.{went_on, required, was_some, entry_within}
 use Rattle.jv_volume.proofs.OperationShapeLaws.{whole_outcome, whole_answer}
-use Rattle.jv_volume.proofs.RemovalLaws.{none_if, HoldsFiles, whole-remove_entry, whole-remove_directory}
+use Rattle.jv_volume.proofs.RemovalLaws.{HoldsFiles, whole-remove_entry, whole-remove_directory}
 use Rattle.jv_volume.proofs.MoveLaws.{whole-moved_free, whole-replaced, whole-exchanged}
 
 -- a test that has to fail

@@ -2,7 +2,7 @@
 use Rattle.std.proofs.Common.{◌≡◌, Bool, true, false, T, ◌&&◌, List, [], ◌∷◌, Option, None, Some, refl, ap, ◌∙◌}
 use Rattle.std.proofs.lemmas.Option.{same_Some}
 use Rattle.std.specs.declared.cmp.Ordering.{Ordering}
-use Rattle.std.specs.declared.cmp.Ordering.TheVariants.{Less, Equal, Greater}
+use Rattle.std.specs.declared.cmp.Ordering.TheVariants.{Less}
 use Rattle.std.specs.Ordering.{is_lt}
 use Rattle.std.specs.FinMap.Entries.{put, by_order, below_all, is_sorted}
 use Rattle.jv_model.specs.declared.row.RowKey.{RowKey}
@@ -11,20 +11,15 @@ use Rattle.jv_model.specs.FiniteMap.{KeyOrder, first_passing, first_where, inser
 use Rattle.jv_model.specs.rows.RowKeys.{row_cmp}
 use Rattle.jv_model.specs.rows.RowPlaces.{edge_key}
 use Rattle.jv_model.specs.tree.Tree.{entry_key}
+use Rattle.jv_model.proofs.TestLaws.{first_of_both, second_of_both, less_is}
 use Rattle.jv_volume.specs.TypedRows.{Cell, Rows}
 use Rattle.jv_volume.specs.Views.{row_in}
 use Rattle.jv_volume.specs.TreeOf.{entry_selected, entries_selected, selected, entry_of_key}
-use Rattle.jv_volume.proofs.MapLaws.{first_of_both, second_of_both}
 use Rattle.jv_volume.proofs.TableLaws.{entry_table}
 
 -- rows of the table have the order of their keys there
 abbrev pub Rises : {K : Type 0} → KeyOrder K → (RowKey → Option K) → Type 0
 Rises {K} order key_of = (q r : RowKey) (k j : K) → key_of q ≡ Some k → key_of r ≡ Some j → row_cmp q r ≡ Less → order.cmp k j ≡ Less
-
-less_of : (o : Ordering) → T (is_lt o) → o ≡ Less
-less_of Less p = refl
-less_of Equal p = absurd p
-less_of Greater p = absurd p
 
 is_less : (o : Ordering) → o ≡ Less → is_lt o ≡ true
 is_less o e = ap is_lt e
@@ -48,13 +43,13 @@ module _ {K X : Type 0} (order : KeyOrder K) (key_of : RowKey → Option K) (val
       → T (below_all order.cmp k (entries_selected key_of value_of es))
   below_selected q k is [] below = tt
   below_selected q k is (e ∷ es) below =
-      below_entry q k is e.0 e.1 (entries_selected key_of value_of es) (less_of (row_cmp q e.0) (first_of_both _ _ below))
+      below_entry q k is e.0 e.1 (entries_selected key_of value_of es) (less_is (row_cmp q e.0) (first_of_both _ _ below))
       (below_selected q k is es (second_of_both _ _ below)) (key_of e.0) refl
 
   put_first : (k : K) (x : X) (es : List (K × X)) → T (below_all order.cmp k es) → put order.cmp k x es ≡ (k, x) ∷ es
   put_first k x [] below = refl
   put_first k x (e ∷ es) below =
-      ap (λ o. by_order o ((k, x) ∷ e ∷ es) ((e.0, x) ∷ es) (e ∷ put order.cmp k x es)) (less_of (order.cmp k e.0) (first_of_both _ _ below))
+      ap (λ o. by_order o ((k, x) ∷ e ∷ es) ((e.0, x) ∷ es) (e ∷ put order.cmp k x es)) (less_is (order.cmp k e.0) (first_of_both _ _ below))
 
   map_list : List (K × X) → List (K × X)
   map_list es = (map_of {order = order} es).list

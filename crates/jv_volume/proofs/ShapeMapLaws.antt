@@ -13,11 +13,6 @@ use Rattle.jv_model.specs.tree.Changes.{touched, put_node, drop_node, set_node, 
 use Rattle.jv_model.proofs.FiniteMapLaws.{share, sum-insert, sum-remove, IsFound, first_where-found, get-alter}
 use Rattle.jv_volume.specs.Shape.{Form, Absent, Regular, Link, Dir, Shape, form_of, is_there, is_dir, shape_of, naming, names, is_top, is_hour, Reaches, Names}
 
--- there is none where the test says so
-pub none_if : {A : Type 0} (o : Option A) → is_some o ≡ false → o ≡ None
-none_if None e = refl
-none_if (Some x) e = absurd (false≢true (sym e))
-
 -- keys of finite maps
 
 module _ {K : Type 0} (order : KeyOrder K) where

@@ -1,5 +1,5 @@
 -- The tables that a tree is made of: which keys their rows have.
-use Rattle.std.proofs.Common.{◌≡◌, ℕ, ◌<◌, ◌^◌, true, cond, ◌&&◌, List, [], ◌∷◌, get_or, Option, None, Some, refl, sym, ap, subst, ◌∙◌, arith, lt-ltb, ltb-true, eqb-true, eq-eqb}
+use Rattle.std.proofs.Common.{◌≡◌, ℕ, ◌<◌, ◌^◌, true, cond, ◌&&◌, List, [], get_or, Option, None, Some, refl, sym, ap, subst, ◌∙◌, arith, lt-ltb, ltb-true, eqb-true, eq-eqb}
 use Rattle.std.proofs.lemmas.Option.{cond_some}
 use Rattle.std.specs.Prelude.{◌==◌, nat_lt, if◌then◌else◌}
 use Rattle.std.specs.Int.{w64, from_be_bytes}
@@ -7,16 +7,14 @@ use Rattle.std.specs.Cmp.Lexicographic.{bytes_decides}
 use Rattle.std.proofs.lemmas.Bool.{and_parts}
 use Rattle.std.proofs.lemmas.Nat.{from_be_bytes-to_be_bytes_8}
 use Rattle.jv_model.specs.declared.row.RowKey.{RowKey}
-use Rattle.jv_model.specs.rows.RowFields.{long, is_nil}
+use Rattle.jv_model.specs.rows.RowFields.{long}
 use Rattle.jv_model.specs.rows.RowPlaces.{edge_key, sustained_key}
 use Rattle.jv_model.specs.tree.Tree.{EntryKey, SustainedFile}
 use Rattle.jv_model.specs.tree.Walk.{is_text}
+use Rattle.jv_model.proofs.TestLaws.{nil_is}
+use Rattle.jv_model.specs.Lists.{is_nil}
 use Rattle.jv_volume.specs.TreeOf.{number_of, entry_of_key, pair_of_key}
 use Rattle.jv_volume.proofs.SelectLaws.{IsTable}
-
-nil_is : (b : List ℕ) → is_nil b ≡ true → b ≡ []
-nil_is [] e = refl
-nil_is (x ∷ xs) e = absurd (cc)
 
 pub same_key_parts : (q : RowKey) (tab a : ℕ) (b : List ℕ) → tab ≡ q.tab → a ≡ q.a → b ≡ q.b → record { tab = tab; a = a; b = b } ≡ q
 same_key_parts q tab a b e f g = λ i. record { tab = e i; a = f i; b = g i }

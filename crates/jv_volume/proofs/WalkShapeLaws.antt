@@ -10,8 +10,9 @@ use Rattle.jv_model.specs.tree.Attempt.{◌>>=◌, require, some_or}
 use Rattle.jv_model.specs.tree.Tree.{Tree, EntryKey, root, trash_root, node_at, parent_at, is_directory}
 use Rattle.jv_model.specs.tree.Walk.{is_absolute, names_of, is_dot, is_dot_dot, is_trash, named_from, stepped, way_on, walk_names, walk, inode_by, last_name, all_but_last, entry_of}
 use Rattle.jv_model.specs.tree.Making.{may_be_new, new_place}
+use Rattle.jv_model.proofs.TestLaws.{none_if}
 use Rattle.jv_volume.specs.Shape.{Dir, is_dir, shape_of, is_top, WholeShape}
-use Rattle.jv_volume.proofs.ShapeMapLaws.{IsNamed, form-parent, none_if, is_directory-form}
+use Rattle.jv_volume.proofs.ShapeMapLaws.{IsNamed, form-parent, is_directory-form}
 use Rattle.jv_volume.proofs.ClimbLaws.{top_parent}
 
 -- steps of an attempt that was made

@@ -35,6 +35,7 @@ use Rattle.jv_volume.proofs.FreshShapeLaws.{whole-fresh_tree}
 use Rattle.jv_volume.proofs.FreshWholeLaws.{first_directory}
 use Rattle.jv_volume.proofs.WrittenRowsLaws.{none_at, rows_at}
 use Rattle.jv_volume.proofs.BrokenExamples.{plain}
+use Rattle.jv_volume.proofs.FilesLaws.{nothing_shows}
 
 -- computes the tree of rows that are written out, and what their lists say
 unfoldable pub rows_compute : ⊤
@@ -313,10 +314,6 @@ later_window window apart = elim (cases_lt window (2 ^ 32)) [
       ∙ ap (λ o. records_in (row_in o)) (no_list (list_key 2 window) refl (word_apart window small apart))
   | inr large ↦ cond-false _ _ _ (le-ltb window (2 ^ 32) large)
 ]
-
-nothing_shows : (p : ℕ) → stored_place [] p ≡ Zero
-unfolding stored_place
-nothing_shows p = refl
 
 shows_zero : (position : ℕ) → 10 ≤ position → place_in (lists_of rows 2) position ≡ Zero
 unfolding place_in

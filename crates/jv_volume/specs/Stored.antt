@@ -1,7 +1,6 @@
 -- That rows are those of a tree: what stands at each key is what the tree has there, with its counts and sums.
 use Rattle.std.specs.Prelude.{◌≡◌, ℕ, ◌<◌, ◌^◌, List, [], length, Option, None, Some, Ok}
 use Rattle.std.specs.Option.{option_map}
-use Rattle.jv_model.specs.declared.limits.TheConstants.{DIRECTORY_LENGTH}
 use Rattle.jv_model.specs.declared.row.Counters.{Counters}
 use Rattle.jv_model.specs.declared.row.Node.{Node as NodeRow}
 use Rattle.jv_model.specs.declared.row.Edge.{Edge}
@@ -10,6 +9,7 @@ use Rattle.jv_model.specs.declared.row.Row.TheVariants.{OfSetting, OfCounters, O
 use Rattle.jv_model.specs.FiniteMap.{get}
 use Rattle.jv_model.specs.rows.RowPlaces.{setting_key, counters_key, node_key, edge_key, session_key, sustained_key}
 use Rattle.jv_model.specs.tree.Tree.{Tree, Node, Kind, File, Directory, Symlink, EntryKey, SessionEntry, node_at, link_count, used_space, used_inodes}
+use Rattle.jv_model.specs.tree.Reading.{size_of}
 use Rattle.jv_volume.specs.TypedRows.{Rows}
 
 abbrev pub kind_number : Kind → ℕ
@@ -17,10 +17,9 @@ kind_number (File content) = 1
 kind_number (Directory parent) = 2
 kind_number (Symlink target) = 3
 
-abbrev pub length_of : Kind → ℕ
-length_of (File content) = content.length
-length_of (Directory parent) = DIRECTORY_LENGTH
-length_of (Symlink target) = length target
+-- the links that an entry of an inode of this kind adds to its directory
+abbrev pub links_by : ℕ → ℕ
+links_by kind = (if kind == 2 then 1 else 0)
 
 abbrev pub parent_of : Kind → ℕ
 parent_of (File content) = 0
@@ -42,7 +41,7 @@ node_row links node = record {
   nlink = links;
   mtime = node.mtime;
   ctime = node.ctime;
-  length = length_of node.kind;
+  length = size_of node.kind;
   parent = parent_of node.kind;
   target = target_of node.kind;
 }

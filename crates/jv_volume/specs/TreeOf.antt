@@ -9,9 +9,10 @@ use Rattle.jv_model.specs.declared.row.Node.{Node as NodeRow}
 use Rattle.jv_model.specs.declared.row.Session.{Session}
 use Rattle.jv_model.specs.declared.setting.Setting.{Setting}
 use Rattle.jv_model.specs.FiniteMap.{KeyOrder, Map, number_key, map_of}
-use Rattle.jv_model.specs.rows.RowFields.{long, is_nil}
+use Rattle.jv_model.specs.rows.RowFields.{long}
 use Rattle.jv_model.specs.tree.Tree.{Tree, Node, Content, Kind, File, Directory, Symlink, EntryKey, entry_key, SessionEntry, SustainedFile, pair_key}
 use Rattle.jv_model.specs.tree.Walk.{is_text}
+use Rattle.jv_model.specs.Lists.{is_nil}
 use Rattle.jv_volume.specs.TypedRows.{Cell, Rows}
 use Rattle.jv_volume.specs.Views.{row_in, setting_at, counters_at, node_in, edge_in, session_in, sustained_in}
 

@@ -5,9 +5,9 @@ use Rattle.jv_model.specs.declared.limits.TheConstants.{MAX_NAME}
 use Rattle.jv_model.specs.declared.row.RowKey.{RowKey}
 use Rattle.jv_model.specs.declared.row.Row.{Row}
 use Rattle.jv_model.specs.FiniteMap.{Map, map_of}
-use Rattle.jv_model.specs.rows.RowFields.{is_nil}
 use Rattle.jv_model.specs.rows.RowGrammar.{row_of}
 use Rattle.jv_model.specs.rows.RowKeys.{row_key, RowMap}
+use Rattle.jv_model.specs.Lists.{is_nil}
 
 -- what stands at a key: a row, or bytes that spell none of the key's table
 abbrev pub Cell : Type 0

@@ -1,8 +1,9 @@
 -- What a yard's calls keep, and what is read of one whose staged blocks are on its shelf.
-use Rattle.std.proofs.Common.{◌≡◌, ◌↔◌, ℕ, ◌≤◌, List, length, Option, None, Some, IfSome, IsSome, is_some, true, false, refl, sym, ap, subst, ◌∙◌}
+use Rattle.std.proofs.Common.{◌≡◌, ◌↔◌, ℕ, ◌≤◌, List, length, Option, None, Some, IsSome, is_some, true, false, refl, sym, ap, subst, ◌∙◌}
 use Rattle.jv_model.specs.declared.setting.Setting.{Setting}
 use Rattle.jv_model.specs.declared.slice.BlockId.{BlockId}
 use Rattle.jv_model.specs.blocks.BlockNames.{IsBlock}
+use Rattle.jv_model.proofs.TestLaws.{known_is}
 use Rattle.jv_outside.specs.declared.parcel.Parcel.{Parcel}
 use Rattle.jv_outside.specs.Holding.{Holding}
 use Rattle.jv_outside.specs.Objects.{ObjectMap, bytes_at}
@@ -13,11 +14,6 @@ use Rattle.jv_yard.specs.Contents.{name_in}
 use Rattle.jv_yard.specs.Staging.{staged_since}
 use Rattle.jv_yard.specs.Starting.{IsStarted}
 use Rattle.jv_yard.specs.YardValue.{YardValue, IsKept, NamesBlock}
-
--- a fact of known content, at that content
-pub known_is : {M : Type 0} (content : Option M) (m : M) (P : M → Type 0) → content ≡ Some m → IfSome content P → P m
-known_is None m P is h = absurd (cc)
-known_is (Some n) m P is h = let same : n ≡ m = cc in subst P same h
 
 -- a yard that was started
 pub IsKept-started : (setting : Setting) (depot : Holding ObjectMap) (shelf : Holding StagedMap) (yard : YardValue) → IsStarted setting depot shelf yard → IsKept yard

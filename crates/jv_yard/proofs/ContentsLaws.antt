@@ -1,9 +1,7 @@
 -- The blocks of a volume that a depot has after a put, and what is read of them.
 use Rattle.std.proofs.Common.{◌≡◌, ◌≢◌, ℕ, ◌^◌, ◌<◌, Bool, true, false, cond, ◌&&◌, if◌then◌else◌, List, Option, None, Some, refl, sym, ap, subst, ◌∙◌, arith}
-use Rattle.std.proofs.lemmas.Bool.{ltb-true, leb-true, lt-ltb, le-leb}
-use Rattle.std.specs.declared.cmp.Ordering.{Ordering}
-use Rattle.std.specs.declared.cmp.Ordering.TheVariants.{Less, Equal, Greater}
-use Rattle.std.specs.Ordering.{eq_by_cmp, is_eq}
+use Rattle.std.proofs.lemmas.Bool.{ltb-true, leb-true, lt-ltb, le-leb, and_parts}
+use Rattle.std.specs.Ordering.{eq_by_cmp}
 use Rattle.std.specs.Cmp.{eq_by_cmp_equiv}
 use Rattle.std.specs.Option.{option_map}
 use Rattle.jv_model.specs.declared.limits.TheConstants.{MAX_BLOCKS}
@@ -13,6 +11,7 @@ use Rattle.jv_model.specs.blocks.BlockNames.{IsBlock}
 use Rattle.jv_model.specs.blocks.Slices.{is_same_block}
 use Rattle.jv_model.specs.FiniteMap.{text_key, get}
 use Rattle.jv_model.proofs.FiniteMapLaws.{get-insert}
+use Rattle.jv_model.proofs.TestLaws.{tie_is, known_is}
 use Rattle.jv_outside.specs.declared.parcel.Parcel.{Parcel}
 use Rattle.jv_outside.specs.Objects.{ObjectMap, bytes_at, with_object}
 use Rattle.jv_outside.specs.Parcels.{StandsFor}
@@ -24,11 +23,6 @@ use Rattle.jv_yard.specs.BlockCalls.{IsBlockOf, IsBlockBy, IsPut}
 use Rattle.jv_yard.specs.Contents.{is_block, name_in, blocks_in}
 use Rattle.jv_yard.specs.Staging.{staged_since}
 use Rattle.jv_yard.specs.YardValue.{YardValue}
-use Rattle.jv_yard.proofs.CallLaws.{known_is}
-
-both_true : (a b : Bool) → (a && b) ≡ true → (a ≡ true) × (b ≡ true)
-both_true true b h = (refl, h)
-both_true false b h = absurd (cc)
 
 -- the test passes exactly for blocks
 pub is_block-passes : (size : ℕ) (b : BlockId) → IsBlock size b → is_block size b ≡ true
@@ -42,10 +36,10 @@ is_block-passes size b h =
 
 pub is_block-tells : (size : ℕ) (b : BlockId) → is_block size b ≡ true → IsBlock size b
 is_block-tells size b h =
-    let last = both_true _ _ h in
-    let fourth = both_true _ _ last.0 in
-    let third = both_true _ _ fourth.0 in
-    let second = both_true _ _ third.0 in
+    let last = and_parts _ _ h in
+    let fourth = and_parts _ _ last.0 in
+    let third = and_parts _ _ fourth.0 in
+    let second = and_parts _ _ third.0 in
     record {
       id = leb-true 1 b.id second.0;
       id_in_range = ltb-true b.id (2 ^ 64) second.1;
@@ -61,11 +55,6 @@ widths size b small h =
     let index : b.index < 2 ^ 32 = omega arith in
     let long : b.size < 2 ^ 32 = omega arith in
     record { id = h.id_in_range; index = index; size = long }
-
-tie_is : (o : Ordering) → is_eq o ≡ true → o ≡ Equal
-tie_is Less h = absurd (cc)
-tie_is Equal h = refl
-tie_is Greater h = absurd (cc)
 
 module _ (setting : Setting) (small : setting.block < 2 ^ 32) where
   -- two blocks of a volume have two names

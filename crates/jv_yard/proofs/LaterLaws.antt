@@ -4,6 +4,7 @@ use Rattle.std.specs.Option.{option_map}
 use Rattle.std.proofs.lemmas.List.Elements.{All-nil, All-append, Contains-append_left, Contains-append_right}
 use Rattle.jv_model.specs.declared.setting.Setting.{Setting}
 use Rattle.jv_model.specs.FiniteMap.{get}
+use Rattle.jv_model.proofs.TestLaws.{some_of, some_same}
 use Rattle.jv_outside.specs.Objects.{ObjectMap, bytes_at}
 use Rattle.jv_outside.specs.Blocks.{StagedMap, staged_at}
 use Rattle.jv_yard.specs.declared.note.Note.{Note}
@@ -12,10 +13,6 @@ use Rattle.jv_yard.specs.YardValue.{YardValue, IsKept, NamesBlock}
 use Rattle.jv_yard.specs.Later.{HasPublish, Contents, contents_of, WasStaged, IsCopy, AreAlike, IsPublishedFrom, ContentsLater, Later}
 
 -- ---- options
-
-some_of : {A : Type 0} (o : Option A) → IsSome o → (x : A) × (o ≡ Some x)
-some_of None h = absurd (cc)
-some_of (Some x) h = (x, refl)
 
 -- an option is one or the other
 decided : {A : Type 0} (o : Option A) → (o ≡ None) ⊎ ((x : A) × (o ≡ Some x))
@@ -41,9 +38,6 @@ abbrev StagedBack : Contents → Contents → Type 0
 StagedBack before after =
     (client : ℕ) (name : List ℕ) (since : ℕ) → staged_since client name after.staged ≡ Some since → staged_since client name before.staged ≡ Some since
 
-same_value : {A : Type 0} (x y : A) → Some x ≡ Some y → x ≡ y
-same_value x y h = cc
-
 module _ (v w : Contents) (back : StagedBack v w) (vw : IsPublishedFrom v w) where
   is_staged_back : (client : ℕ) (name : List ℕ) → IsSome (staged_since client name w.staged) → IsSome (staged_since client name v.staged)
   is_staged_back client name h = let since = some_of _ h in ap is_some (back client name since.0 since.1)
@@ -64,7 +58,7 @@ module _ (v w : Contents) (back : StagedBack v w) (vw : IsPublishedFrom v w) whe
       inr (record { client = staged.client; is = ap is_some staged.is; bytes_are = staged.bytes_are })
   object_back name bytes at is (inr found) =
       let left = vw.kept name found.0.0 found.0.1 found.1 in
-      let same : found.0.0 ≡ bytes = ap (λ (object : List ℕ × ℕ). object.0) (same_value (found.0.0, left.now) (bytes, at) (sym left.is ∙ is)) in
+      let same : found.0.0 ≡ bytes = ap (λ (object : List ℕ × ℕ). object.0) (some_same (found.0.0, left.now) (bytes, at) (sym left.is ∙ is)) in
       inl (bytes_by name v.objects found.0.0 found.0.1 found.1 ∙ ap Some same)
 
   copy_back : (name bytes : List ℕ) → IsCopy w name bytes → IsCopy v name bytes
@@ -104,7 +98,7 @@ module _ (v w x : Contents) (back_vw : StagedBack v w) (back_wx : StagedBack w x
   new_both name bytes at none is (inr found) =
       let first = vw.new name found.0.0 found.0.1 none found.1 in
       let left = wx.kept name found.0.0 found.0.1 found.1 in
-      let same = same_value (found.0.0, left.now) (bytes, at) (sym left.is ∙ is) in
+      let same = some_same (found.0.0, left.now) (bytes, at) (sym left.is ∙ is) in
       subst (λ (object : List ℕ × ℕ). WasStaged v name object.0 object.1) same (staged_either name found.0.0 found.0.1 left.now first left.since)
 
   gone_both : (client : ℕ) (name bytes : List ℕ) → IsSome (staged_since client name v.staged) → staged_since client name x.staged ≡ None
@@ -213,7 +207,7 @@ module _ (before after : YardValue) (objects : ObjectMap) (blocks : StagedMap) (
   there_later : ContentsLater (contents_of objects blocks before) after → IsKept before → (now : StagedMap) → after.shelf.content ≡ Some now
       → (client : ℕ) (name : List ℕ) → client ≤ 7 → IsSome (staged_since client name after.staged) → IsSome (staged_at client name now)
   there_later contents kept now known client name low is =
-      let same = same_value contents.blocks now (sym contents.blocks_are ∙ known) in
+      let same = some_same contents.blocks now (sym contents.blocks_are ∙ known) in
       ap (λ (m : StagedMap). is_some (staged_at client name m)) (sym same)
       ∙ ap is_some (contents.published.staged client name is)
       ∙ kept.there blocks known_blocks client name low (staged_before client name is)

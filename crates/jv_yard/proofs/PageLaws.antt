@@ -3,16 +3,16 @@ use Rattle.std.proofs.Common.{◌≡◌, ◌⊎◌, ℕ, zero, suc, ◌+◌, ◌
 use Rattle.std.specs.List.{Contains}
 use Rattle.std.proofs.lemmas.List.Elements.{Contains-push, Contains-push_cases, Contains-append_left, Contains-append_right, Contains-append_cases}
 use Rattle.std.proofs.lemmas.Option.{slice_get_within, slice_get-get_or, get_or_from_slice_get}
-use Rattle.std.proofs.lemmas.Bool.{ltb-true, ltb-false}
-use Rattle.std.specs.declared.cmp.Ordering.{Ordering}
-use Rattle.std.specs.declared.cmp.Ordering.TheVariants.{Less, Equal, Greater}
-use Rattle.std.specs.Ordering.{eq_by_cmp, is_eq, is_lt, nat_cmp, ordering_then}
+use Rattle.std.proofs.lemmas.Bool.{ltb-true, ltb-false, and_parts}
+use Rattle.std.specs.declared.cmp.Ordering.TheVariants.{Less, Equal}
+use Rattle.std.specs.Ordering.{eq_by_cmp, is_lt, nat_cmp, ordering_then}
 use Rattle.std.specs.Cmp.{eq_by_cmp_equiv, nat_cmp_is}
 use Rattle.std.specs.FinMap.Entries.{find, below_all, is_sorted}
 use Rattle.std.specs.Cmp.Lexicographic.{slice_cmp}
 use Rattle.jv_model.specs.declared.setting.Setting.{Setting}
 use Rattle.jv_model.specs.FiniteMap.{text_key, empty_map, get, insert}
 use Rattle.jv_model.proofs.FiniteMapLaws.{get-empty_map, get-insert}
+use Rattle.jv_model.proofs.TestLaws.{tie_is, less_is, first_of_both, second_of_both, some_of, known_is}
 use Rattle.jv_outside.specs.Holding.{Holding}
 use Rattle.jv_outside.specs.Blocks.{StagedMap, staged_cmp, staged_key, staged_at, names_after}
 use Rattle.jv_outside.specs.Objects.{is_later}
@@ -26,11 +26,6 @@ use Rattle.jv_yard.specs.YardValue.{NamesBlock}
 
 no_name : (name : List ℕ) → Contains [] name → ⊥
 no_name name h = absurd (omega (arith, h.1))
-
-tie_is : (o : Ordering) → is_eq o ≡ true → o ≡ Equal
-tie_is Less h = absurd (cc)
-tie_is Equal h = refl
-tie_is Greater h = absurd (cc)
 
 -- what a map has at a name after another or the same name was put
 put_at : (m : ClientStaging) (key name : List ℕ) (at : ℕ) (tied : Bool) → eq_by_cmp text_key.cmp name key ≡ tied
@@ -88,23 +83,6 @@ module _ (setting : Setting) (names : List (List ℕ)) (name : List ℕ) (m befo
 
 -- ---- which names a page has
 
-less_is : (o : Ordering) → T (is_lt o) → o ≡ Less
-less_is Less h = refl
-less_is Equal h = absurd h
-less_is Greater h = absurd h
-
-first_of : (a b : Bool) → T (a && b) → T a
-first_of true b h = tt
-first_of false b h = absurd h
-
-second_of : (a b : Bool) → T (a && b) → T b
-second_of true b h = h
-second_of false b h = absurd h
-
-both_true : (a b : Bool) → (a && b) ≡ true → (a ≡ true) × (b ≡ true)
-both_true true b h = (refl, h)
-both_true false b h = absurd (cc)
-
 cons_cases : (x : List ℕ) (xs : List (List ℕ)) (z : List ℕ) → Contains (x ∷ xs) z → (x ≡ z) ⊎ Contains xs z
 cons_cases x xs z among =
     elim (Contains-append_cases (x ∷ []) xs z among) as (λ _. (x ≡ z) ⊎ Contains xs z) [
@@ -149,8 +127,8 @@ module _ (client : ℕ) (last : Option (List ℕ)) where
     found_above k [] x below found = absurd (cc)
     found_above k (e ∷ es) x below found =
         elim (eq_by_cmp staged_cmp key e.0) as (λ b. eq_by_cmp staged_cmp key e.0 ≡ b → cond b (Some e.1) (find staged_cmp key es) ≡ Some x → staged_cmp k key ≡ Less) [
-          | true ↦ λ tied _. subst (λ q. staged_cmp k q ≡ Less) (sym (staged_key.same key e.0 (tie_is _ tied))) (less_is _ (first_of _ _ below))
-          | false ↦ λ tied rest. found_above k es x (second_of _ _ below) rest
+          | true ↦ λ tied _. subst (λ q. staged_cmp k q ≡ Less) (sym (staged_key.same key e.0 (tie_is _ tied))) (less_is _ (first_of_both _ _ below))
+          | false ↦ λ tied rest. found_above k es x (second_of_both _ _ below) rest
         ] refl found
 
     -- among the names of one client keys go by their names
@@ -184,7 +162,7 @@ module _ (client : ℕ) (last : Option (List ℕ)) where
         let shorter : length (take n (passing es)) < n = omega (arith, short) in
         there _ _ _ (rest n found (inl shorter))
     page_has_at e es (suc n) x false true tied passed later below found rest (inr met) =
-        let of_client = (both_true _ _ passed).0 in
+        let of_client = (and_parts _ _ passed).0 in
         elim (cons_cases e.0.1 (take n (passing es)) met.0 met.1) as (λ _. Contains (e.0.1 ∷ take n (passing es)) name) [
           | inl first ↦
               let rises = names_rise e.0 of_client (found_above e.0 es x below found) in
@@ -197,8 +175,8 @@ module _ (client : ℕ) (last : Option (List ℕ)) where
         → Reaches (take n (passing es)) n name → Contains (take n (passing es)) name
     page_has [] n x sorted later found reaches = absurd (cc)
     page_has (e ∷ es) n x sorted later found reaches =
-        page_has_at e es n x _ _ refl refl later (first_of _ _ sorted) found
-        (λ m found_in reaches_in. page_has es m x (second_of _ _ sorted) later found_in reaches_in) reaches
+        page_has_at e es n x _ _ refl refl later (first_of_both _ _ sorted) found
+        (λ m found_in reaches_in. page_has es m x (second_of_both _ _ sorted) later found_in reaches_in) reaches
 
     page_only_at : (e : Entry) (es : List Entry) (n : ℕ) (passed : Bool) → passes e ≡ passed
         → ((m : ℕ) → Contains (take m (passing es)) name → IsSome (find staged_cmp key es))
@@ -209,7 +187,7 @@ module _ (client : ℕ) (last : Option (List ℕ)) where
     page_only_at e es (suc n) true passed rest among =
         elim (cons_cases e.0.1 (take n (passing es)) name among) as (λ _. IsSome (cond (eq_by_cmp staged_cmp key e.0) (Some e.1) (find staged_cmp key es))) [
           | inl is ↦
-              let of_client : e.0.0 ≡ client = eqb-true e.0.0 client (both_true _ _ passed).0 in
+              let of_client : e.0.0 ≡ client = eqb-true e.0.0 client (and_parts _ _ passed).0 in
               let own : e.0 ≡ key = λ i. (of_client i, is i) in
               let tied : eq_by_cmp staged_cmp key e.0 ≡ true = ap (eq_by_cmp staged_cmp key) own ∙ (eq_by_cmp_equiv staged_key.total).refl key in
               ap (λ b. is_some (cond b (Some e.1) (find staged_cmp key es))) tied
@@ -275,10 +253,6 @@ if_known : {M : Type 0} (content : Option M) (P : M → Type 0) → ((m : M) →
 if_known None P h = tt
 if_known (Some m) P h = h m refl
 
-some_of : {A : Type 0} (o : Option A) → IsSome o → (x : A) × (o ≡ Some x)
-some_of None h = absurd (cc)
-some_of (Some x) h = (x, refl)
-
 module _ (setting : Setting) (content : Option StagedMap) (client : ℕ) (last : Option (List ℕ)) (names : List (List ℕ)) (found after : ClientStaging)
     (page : (blocks : StagedMap) → content ≡ Some blocks → names ≡ names_after client last PAGE blocks)
     (so_far : IsFoundSoFar setting content client last found) (adds : AddsNames setting names found after) where
@@ -326,16 +300,12 @@ module _ (setting : Setting) (content : Option StagedMap) (client : ℕ) (last :
     all = if_known content _ (λ blocks known name named there. all_by blocks known name named there (inl (ends_at names _ refl is)) _ refl);
   }
 
-known_by : {M : Type 0} (content : Option M) (m : M) (P : M → Type 0) → content ≡ Some m → IfSome content P → P m
-known_by None m P is h = absurd (cc)
-known_by (Some n) m P is h = let same : n ≡ m = cc in subst P same h
-
 module _ (setting : Setting) (start before : Holding StagedMap) (client : ℕ) (last asked : Option (List ℕ)) (names : List (List ℕ)) (found after : ClientStaging)
     (same : before ≡ start) (from : asked ≡ last) (listed : IfSome before.content (λ blocks. names ≡ names_after client asked PAGE blocks))
     (so_far : IsFoundSoFar setting start.content client last found) (adds : AddsNames setting names found after) where
   page_is : (blocks : StagedMap) → start.content ≡ Some blocks → names ≡ names_after client last PAGE blocks
   page_is blocks known =
-      known_by before.content blocks (λ some. names ≡ names_after client asked PAGE some) (ap (λ (h : Holding StagedMap). h.content) same ∙ known) listed
+      known_is before.content blocks (λ some. names ≡ names_after client asked PAGE some) (ap (λ (h : Holding StagedMap). h.content) same ∙ known) listed
       ∙ ap (λ name. names_after client name PAGE blocks) from
 
   -- a page that isn't the last one

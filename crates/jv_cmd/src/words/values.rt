@@ -2,9 +2,11 @@ ghost use Rattle.std.specs.Prelude.{◌≤◌, IfSome, ◌≡◌, ◌||◌, ◌=
 ghost use Rattle.std.specs.List.{list_all};
 ghost use Rattle.std.specs.Option.{option_copied};
 ghost use Rattle.jv_model.specs.script.Spelling.{is_numeral, is_decimal_digit, number_of};
-ghost use Rattle.jv_cmd.specs.Values.{number_of_digits, number_within, digits_of, unit_of, is_block_size, block_size_of, place_of};
+ghost use Rattle.jv_model.specs.rows.RowGrammar.{is_block};
+ghost use Rattle.jv_cmd.specs.Values.{number_of_digits, number_within, digits_of, unit_of, block_size_of, place_of};
 
-use jv_model::{KIB, MIB};
+use jv_model::{KIB, MAX_BLOCK, MIB};
+use jv_rows::allows_block;
 use jv_script::is_numeral;
 
 /// What comes before the path in the URL of a volume.
@@ -87,22 +89,10 @@ fn unit(text: &[u8]) -> u64
     }
 }
 
-#[tactic(auto, unfolding(crate::specs::Values::is_block_size))]
 fn is_block_size(bytes: u64) -> bool
-    ensures { result ≡ is_block_size bytes }
+    ensures { result ≡ is_block bytes }
 {
-    matches!(
-        bytes,
-        65_536
-            | 131_072
-            | 262_144
-            | 524_288
-            | 1_048_576
-            | 2_097_152
-            | 4_194_304
-            | 8_388_608
-            | 16_777_216
-    )
+    bytes <= u64::from(MAX_BLOCK) && allows_block(bytes as u32)
 }
 
 /// The place of a volume's rows, from its URL.

@@ -1,7 +1,8 @@
 -- The fields of rows: how each is spelled, and how it is read from the front of bytes. Numbers are big-endian.
-use Rattle.std.specs.Prelude.{ℕ, Bool, true, false, ◌&&◌, nat_lt, if◌then◌else◌, List, [], ◌∷◌, length, take, drop, Option, None, Some}
+use Rattle.std.specs.Prelude.{ℕ, Bool, ◌&&◌, nat_lt, if◌then◌else◌, List, [], ◌∷◌, length, take, drop, Option, None, Some}
 use Rattle.std.specs.Int.{w16, w32, w64, Width, byte_len, from_be_bytes, to_be_bytes}
 pub use Rattle.jv_model.specs.Optional.{◌>>=◌}
+use Rattle.jv_model.specs.Lists.{is_nil}
 
 -- a number of 8 bits, of 16, of 32 and of 64
 abbrev pub byte : ℕ → List ℕ
@@ -36,10 +37,6 @@ word_at bytes = number_at w32 bytes
 
 abbrev pub long_at : List ℕ → Option (ℕ × List ℕ)
 long_at bytes = number_at w64 bytes
-
-abbrev pub is_nil : {A : Type 0} → List A → Bool
-is_nil [] = true
-is_nil (x ∷ xs) = false
 
 -- the value, where it is allowed and no bytes are left over
 abbrev pub whole : {A : Type 0} → (A → Bool) → A → List ℕ → Option A

@@ -16,7 +16,8 @@ use Rattle.jv_model.specs.declared.row.Dead.{Dead}
 use Rattle.jv_model.specs.declared.row.Row.{Row}
 use Rattle.jv_model.specs.declared.row.Row.TheVariants.{OfSetting, OfCounters, OfNode, OfEdge, OfList, OfSlice, OfSession, OfSustained, OfDropped, OfDead}
 use Rattle.jv_model.specs.blocks.Slices.{is_record}
-use Rattle.jv_model.specs.rows.RowFields.{◌>>=◌, byte, half, word, long, byte_at, front_at, half_at, word_at, long_at, is_nil, whole}
+use Rattle.jv_model.specs.rows.RowFields.{◌>>=◌, byte, half, word, long, byte_at, front_at, half_at, word_at, long_at, whole}
+use Rattle.jv_model.specs.Lists.{is_nil}
 
 -- ---- table 0: what the volume was formatted with
 

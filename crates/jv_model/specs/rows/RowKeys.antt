@@ -20,7 +20,7 @@ row_cmp_total =
     then_total (on_total (λ (k : RowKey). k.tab) nat_cmp_total) (then_total (on_total (λ (k : RowKey). k.a) nat_cmp_total) (on_total (λ (k : RowKey). k.b) nat_list_cmp_total))
 
 -- both parts tie where one after the other does
-both_tie : (o p : Ordering) → ordering_then o p ≡ Equal → (o ≡ Equal) × (p ≡ Equal)
+pub both_tie : (o p : Ordering) → ordering_then o p ≡ Equal → (o ≡ Equal) × (p ≡ Equal)
 both_tie Less p h = absurd (subst (λ r. T (is_eq r)) (sym h) tt)
 both_tie Equal p h = (refl, h)
 both_tie Greater p h = absurd (subst (λ r. T (is_eq r)) (sym h) tt)

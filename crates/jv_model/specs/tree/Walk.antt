@@ -10,6 +10,7 @@ use Rattle.jv_model.specs.declared.fault.Fault.TheVariants.{NotFound, NotADirect
 use Rattle.jv_model.specs.tree.Attempt.{◌>>=◌, require, some_or}
 use Rattle.jv_model.specs.FiniteMap.{get}
 use Rattle.jv_model.specs.tree.Tree.{Tree, EntryKey, root, trash_root, parent_at, target_at, is_directory}
+use Rattle.jv_model.specs.Lists.{is_nil}
 
 -- the parts of a text between separators
 abbrev pub before_part : ℕ → List (List ℕ) → List (List ℕ)
@@ -20,10 +21,6 @@ abbrev pub parts_between : ℕ → List ℕ → List (List ℕ)
 parts_between separator [] = [] ∷ []
 parts_between separator (b ∷ bs) = (if b == separator then [] ∷ parts_between separator bs else before_part b (parts_between separator bs))
 
-abbrev pub is_empty : {A : Type 0} → List A → Bool
-is_empty [] = true
-is_empty (x ∷ xs) = false
-
 -- whether a path or a target begins at the root
 abbrev pub is_absolute : List ℕ → Bool
 is_absolute [] = false
@@ -31,7 +28,7 @@ is_absolute (b ∷ bs) = b == 47
 
 -- the names of a path
 abbrev pub names_of : List ℕ → List (List ℕ)
-names_of path = filter (λ name. not (is_empty name)) (parts_between 47 path)
+names_of path = filter (λ name. not (is_nil name)) (parts_between 47 path)
 
 abbrev pub is_text : List ℕ → List ℕ → Bool
 is_text = pointwise nat_eq
@@ -62,7 +59,7 @@ stepped t inode name = do
 
 -- The target of a symlink that a walk goes on by: one that names are left behind, or the last one where that is followed.
 abbrev pub way_on : Tree → Bool → List (List ℕ) → ℕ → Option (List ℕ)
-way_on t follow names inode = (if follow || not (is_empty names) then target_at t inode else None)
+way_on t follow names inode = (if follow || not (is_nil names) then target_at t inode else None)
 
 -- a walk from a directory, which goes on at a symlink by what `again` says of a directory and names
 unfoldable pub walk_names : (ℕ → List (List ℕ) → Result ℕ Fault) → Tree → Bool → ℕ → List (List ℕ) → Result ℕ Fault

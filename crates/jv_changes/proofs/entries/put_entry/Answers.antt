@@ -4,12 +4,13 @@ use Rattle.jv_model.specs.declared.row.Edge.{Edge}
 use Rattle.jv_model.specs.declared.row.Row.TheVariants.{OfEdge}
 use Rattle.jv_model.specs.rows.RowPlaces.{edge_key}
 use Rattle.jv_model.specs.tree.Tree.{EntryKey}
-use Rattle.jv_changes.specs.Present.{to_directory, to_node, directory_touched, linked_row}
+use Rattle.jv_changes.specs.Present.{to_node, directory_touched, linked_row}
 use Rattle.jv_changes.specs.Ready.{entry_put}
 use Rattle.jv_changes.proofs.DraftedLaws.{was_drafted}
 use Rattle.jv_changes.proofs.EntryChangeLaws.{put-no_dir, put-full_dir, put-full_node, put-made}
 use Rattle.jv_changes.proofs.PresentLaws.{put_drafted}
 use Rattle.jv_changes.proofs.entries.put_entry.Goals as goal
+use Rattle.jv_volume.specs.Stored.{links_by}
 
 pub returns-in_err-parent : goal.returns-in_err-parent
 returns-in_err-parent g c =
@@ -57,7 +58,7 @@ returns g c =
     (was_drafted (edge_key c.args.dir c.args.name.now) (Some (Ok (OfEdge edge))) c.args.draft.now one c.put_edge.result
     c.in_ok-put_edge.was c.put_edge.ensures)
     (put_drafted c.args.dir c.in_ok-parent-2.parent
-    (directory_touched c.args.now (c.in_ok-parent.parent.nlink + to_directory c.in_ok-node.node.kind)
+    (directory_touched c.args.now (c.in_ok-parent.parent.nlink + links_by c.in_ok-node.node.kind)
     c.in_ok-parent.parent)
     c.in_ok-parent-2.ensures.0 one two c.put_node.result c.in_ok-put_node.was c.put_node.ensures)
     (put_drafted c.args.inode c.in_ok-node-2.node

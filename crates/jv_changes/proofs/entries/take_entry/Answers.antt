@@ -3,11 +3,12 @@ use Rattle.std.proofs.lemmas.Result.{err_from_is_err_and}
 use Rattle.jv_model.specs.rows.RowPlaces.{edge_key}
 use Rattle.jv_model.specs.tree.Changes as model
 use Rattle.jv_model.specs.tree.Tree.{EntryKey}
-use Rattle.jv_changes.specs.Present.{to_directory, to_node, directory_touched, linked_row}
+use Rattle.jv_changes.specs.Present.{to_node, directory_touched, linked_row}
 use Rattle.jv_changes.proofs.DraftedLaws.{was_drafted}
 use Rattle.jv_changes.proofs.EntryChangeLaws.{take-no_dir, take-made}
 use Rattle.jv_changes.proofs.PresentLaws.{put_drafted}
 use Rattle.jv_changes.proofs.entries.take_entry.Goals as goal
+use Rattle.jv_volume.specs.Stored.{links_by}
 
 pub returns-in_err-parent : goal.returns-in_err-parent
 returns-in_err-parent g c =
@@ -31,7 +32,7 @@ returns g c =
     (was_drafted (edge_key c.args.dir c.args.name.now) None c.args.draft.now one c.drop_edge.result
     c.in_ok-drop_edge.was c.drop_edge.ensures)
     (put_drafted c.args.dir c.without_entry-parent.result
-    (directory_touched c.args.now (c.in_ok-parent.parent.nlink - to_directory c.in_ok-node.node.kind)
+    (directory_touched c.args.now (c.in_ok-parent.parent.nlink - links_by c.in_ok-node.node.kind)
     c.in_ok-parent.parent)
     c.without_entry-parent.ensures one two c.put_node.result c.in_ok-put_node.was c.put_node.ensures)
     (put_drafted c.args.inode c.unlinked-node.result

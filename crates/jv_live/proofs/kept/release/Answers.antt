@@ -3,8 +3,8 @@ use Rattle.std.specs.Prelude.{not, true}
 use Rattle.std.proofs.lemmas.Result.{err_from_is_err_and}
 use Rattle.jv_model.specs.declared.row.Row.TheVariants.{OfSustained}
 use Rattle.jv_model.specs.rows.RowPlaces.{sustained_key}
+use Rattle.jv_model.proofs.TestLaws.{none_if}
 use Rattle.jv_rows.specs.Drafts.{Sees}
-use Rattle.jv_volume.proofs.ShapeMapLaws.{none_if}
 use Rattle.jv_live.proofs.KeptLaws.{unit-there, release-no_session, release-unread, release-other, has-pair, release-lost, release-fell, release-stays, release-commits}
 use Rattle.jv_live.proofs.kept.release.Goals as goal
 

@@ -1,14 +1,11 @@
-use Rattle.std.proofs.Common.{◌≡◌, Bool, true, false, refl, ap, sym, ◌∙◌}
-use Rattle.std.specs.Prelude.{not, unwrap_or}
+use Rattle.std.proofs.Common.{ap, sym, ◌∙◌}
+use Rattle.std.specs.Prelude.{unwrap_or}
 use Rattle.std.specs.Ordering.{nat_cmp}
 use Rattle.std.specs.BTreeMap.{get}
 use Rattle.std.proofs.lemmas.Result.{err_from_is_err_and}
+use Rattle.std.proofs.lemmas.Bool.{not-true}
 use Rattle.jv_rows.proofs.AdjustLaws.{none_adjusted, all_adjusted, left_stored, step_adjusts, step_fails}
 use Rattle.jv_rows.proofs.adjusting.adjust.Goals as goal
-
-is_not : (b : Bool) → not b ≡ true → b ≡ false
-is_not true e = absurd (cc)
-is_not false e = refl
 
 pub loop-id-init : goal.loop-id-init
 loop-id-init g c =
@@ -19,7 +16,7 @@ pub recount-requires : goal.recount-requires
 recount-requires g c = λ stored.
     left_stored c.args.gone.now c.args.added.now c.args.due c.in-Some.id 0 0 (get nat_cmp c.loop-id.fewer) (get nat_cmp c.loop-id.more)
     (g.K.Keeper.seen c.args.k.now) (g.K.Keeper.seen c.loop-id.k) (g.K.Keeper.seen c.loop-id.k) c.args.draft.now c.loop-id.draft c.loop-id.draft
-    c.loop-id.invariant c.in-Some.ensures (sym c.changes_slices-is_stored.ensures ∙ is_not c.changes_slices-is_stored.result stored)
+    c.loop-id.invariant c.in-Some.ensures (sym c.changes_slices-is_stored.ensures ∙ not-true c.changes_slices-is_stored.result stored)
 
 pub loop-id-preserved : goal.loop-id-preserved
 loop-id-preserved g c =

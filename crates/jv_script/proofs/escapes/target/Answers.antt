@@ -1,11 +1,11 @@
 use Rattle.std.proofs.Common.{arith, sym, ◌∙◌}
 use Rattle.std.proofs.lemmas.Grind.{common_steps}
+use Rattle.jv_model.proofs.TestLaws.{none_if}
 use Rattle.jv_script.proofs.EscapeLaws.{target_is_spelled}
-use Rattle.jv_script.proofs.PartLaws.{no_value}
 use Rattle.jv_script.proofs.escapes.target.Goals as goal
 
 pub returns-then-not-is_target : goal.returns-then-not-is_target
-returns-then-not-is_target c = no_value _ (sym c.is_target.ensures ∙ c.if-not-is_target.true)
+returns-then-not-is_target c = none_if _ (sym c.is_target.ensures ∙ c.if-not-is_target.true)
 
 pub unescaped-requires : goal.unescaped-requires
 unescaped-requires c = (target_is_spelled c.args.text.now (sym c.is_target.ensures ∙ c.if-not-is_target.false)).0

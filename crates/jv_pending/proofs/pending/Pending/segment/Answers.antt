@@ -1,10 +1,11 @@
 use Rattle.std.proofs.Common.{◌≡◌, ◌∙◌, true, length, ap, sym, subst}
 use Rattle.std.specs.Option.{option_copied}
 use Rattle.jv_model.specs.client.Pending.{first_segment, pending_of, bytes_in_range, is_rising}
+use Rattle.jv_model.proofs.TestLaws.{some_same}
 use Rattle.jv_pending.specs.At.{segment_at}
 use Rattle.jv_pending.specs.Held.{PendingValue}
 use Rattle.jv_pending.specs.Runs.{pending_bytes}
-use Rattle.jv_pending.proofs.Outcomes.{some_copied, some_same}
+use Rattle.jv_pending.proofs.Outcomes.{some_copied}
 use Rattle.jv_pending.proofs.Segments.{named, named_bytes, rising}
 use Rattle.jv_pending.proofs.Order.{Rises-runs}
 use Rattle.jv_pending.proofs.pending.Pending.segment.Goals as goal

@@ -1,9 +1,9 @@
 use Rattle.std.proofs.Common.{◌≡◌, ◌∙◌, ℕ, List, is_some, length, ap, sym, subst, arith}
 use Rattle.jv_model.specs.client.Pending.{PendingByte, first_segment, pending_of, bytes_in_range, without_range}
+use Rattle.jv_model.proofs.TestLaws.{some_same}
 use Rattle.jv_pending.specs.At.{segment_at}
 use Rattle.jv_pending.specs.Held.{PendingValue}
 use Rattle.jv_pending.specs.Runs.{Run, InOrder, pending_bytes}
-use Rattle.jv_pending.proofs.Outcomes.{some_same}
 use Rattle.jv_pending.proofs.Parts.{Rise-order}
 use Rattle.jv_pending.proofs.Entries.{removed}
 use Rattle.jv_pending.proofs.Segments.{named, named_bytes, taken_order, taken, taken_count}

@@ -1,0 +1,68 @@
+-- What a test, an order or an option tells, where what it came to is known.
+use Rattle.std.proofs.Common.{◌≡◌, ℕ, ◌<◌, Bool, true, false, T, ◌&&◌, List, [], ◌∷◌, Option, None, Some, refl, subst}
+use Rattle.std.specs.Prelude.{IfSome, IsSome, is_some, option_and_then}
+use Rattle.std.specs.declared.cmp.Ordering.{Ordering}
+use Rattle.std.specs.declared.cmp.Ordering.TheVariants.{Less, Equal, Greater}
+use Rattle.std.specs.Ordering.{is_eq, is_lt, nat_cmp}
+use Rattle.std.proofs.lemmas.Bool.{lt-ltb}
+use Rattle.jv_model.specs.Lists.{is_nil}
+
+-- ---- tests
+
+pub first_of_both : (a b : Bool) → T (a && b) → T a
+first_of_both true b p = tt
+first_of_both false b p = p
+
+pub second_of_both : (a b : Bool) → T (a && b) → T b
+second_of_both true b p = p
+second_of_both false b p = absurd p
+
+pub and_true : (b : Bool) → (b && true) ≡ b
+and_true true = refl
+and_true false = refl
+
+pub nil_is : (bytes : List ℕ) → is_nil bytes ≡ true → bytes ≡ []
+nil_is [] e = refl
+nil_is (x ∷ xs) e = absurd (cc)
+
+-- ---- orders
+
+pub less_is : (o : Ordering) → T (is_lt o) → o ≡ Less
+less_is Less p = refl
+less_is Equal p = absurd p
+less_is Greater p = absurd p
+
+pub lt_is : (o : Ordering) → is_lt o ≡ true → o ≡ Less
+lt_is Less h = refl
+lt_is Equal h = absurd (cc)
+lt_is Greater h = absurd (cc)
+
+pub tie_is : (o : Ordering) → is_eq o ≡ true → o ≡ Equal
+tie_is Less h = absurd (cc)
+tie_is Equal h = refl
+tie_is Greater h = absurd (cc)
+
+pub nat_less : (a b : ℕ) → a < b → nat_cmp a b ≡ Less
+nat_less a b less = rw (lt-ltb a b less) refl
+
+-- ---- options
+
+pub some_of : {A : Type 0} (o : Option A) → IsSome o → (x : A) × (o ≡ Some x)
+some_of None h = absurd (cc)
+some_of (Some x) h = (x, refl)
+
+pub none_if : {A : Type 0} (o : Option A) → is_some o ≡ false → o ≡ None
+none_if None e = refl
+none_if (Some x) e = absurd (cc)
+
+pub some_same : {A : Type 0} (x y : A) → Some x ≡ Some y → x ≡ y
+some_same x y e = cc
+
+pub known_is : {M : Type 0} (content : Option M) (m : M) (P : M → Type 0) → content ≡ Some m → IfSome content P → P m
+known_is None m P is h = absurd (cc)
+known_is (Some n) m P is h = let same : n ≡ m = cc in subst P same h
+
+pub then_all : {A B : Type 0} (o : Option A) (f : A → Option B) (P : B → Type 0) → ((a : A) → IfSome (f a) P)
+    → IfSome (option_and_then f o) P
+then_all None f P h = tt
+then_all (Some a) f P h = h a
