@@ -154,7 +154,7 @@ makes-as now entry h after end v used other done is same_end same_used same_made
     (subst (λ (x : Shared). Makes now entry h after v x is) (sym same_used)
     (subst (λ (x : ClientValue). Makes now entry h x v other is) (sym same_end) makes))
 
--- ---- a device failed, or memory ran out: the operation's end is all that it comes to
+-- ---- a device failed, or memory ran out: its outcome is the operation's end
 
 module _ (now entry : ℕ) (h : ClientValue) (d : Doing) (before used : Shared) (fault : Fault) where
   abbrev failed : Made

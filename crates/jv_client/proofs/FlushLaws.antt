@@ -205,7 +205,7 @@ module _ (now entry : ℕ) (h : ClientValue) (d : Doing) (before : Shared) (keep
       (not_taken sid before.keeper keeper fault takes) ends
       (λ s g count store holds is. refused_in s g store is fault takes)
 
--- The request for it, by what the transaction came to.
+-- The request for it, by the outcome of the transaction.
 module _ (now entry : ℕ) (h after : ClientValue) (before : Shared) (keeper : Store) (sid started id : ℕ) (done : Made)
     (ready : IsReady h) (at : progress_of h.doing ≡ Some (Working 0 started id)) (next : IsSome (left h))
     (own : sid ≡ session_here h) where

@@ -1,4 +1,4 @@
--- What a reply hands to a client stands for what the model gives its own, and is of files.
+-- What a reply hands to a client stands for what the model has for its own, and is of files.
 use Rattle.std.proofs.Common.{◌≡◌, ℕ, ◌+◌, Bool, true, false, ◌||◌, List, [], ◌∷◌, ◌++◌, Option, None, Some}
 use Rattle.std.proofs.Common.{inl, inr, refl, sym, ap, subst, ◌∙◌, arith}
 use Rattle.std.specs.Prelude.{◌==◌}

@@ -197,7 +197,7 @@ module _ (now entry offset len : ℕ) (h middle : ClientValue) (d : Doing) (busy
       (answered-alone now entry h ready v reads.same.cache reads.same.knows (told_read found) (Data found.bytes)
       (λ device. refl) (λ s g store is. read-request s g store is))
 
--- ---- from what a reading that begins comes to
+-- ---- from the outcome of a reading that begins
 
 module _ (offset len block : ℕ) (h middle : ClientValue) (result : Option Found)
     (begins : Begins offset len block h middle result) where

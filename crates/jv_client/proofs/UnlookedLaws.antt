@@ -1,4 +1,4 @@
--- A look that came to no view: it is refused since the session or the file is gone, the keeper failed, memory ran out, or
+-- A look that reached no view: it is refused since the session or the file is gone, the keeper failed, memory ran out, or
 -- a row is Bad.
 use Rattle.std.proofs.Common.{◌≡◌, ℕ, ◌+◌, true, [], ◌∷◌, Option, Some, Err, refl, sym, ap, subst}
 use Rattle.std.proofs.Common.{◌∙◌, arith}

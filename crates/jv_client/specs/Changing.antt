@@ -28,7 +28,7 @@ is_change o = false
 abbrev pub cut_to : ℕ → ℕ → Changed
 cut_to inode len = record { kind = Truncated inode len; reply = Done; inode = inode }
 
--- a file that got so many bytes of another one, or of its own
+-- a file that got `count` bytes of another one, or of its own
 abbrev pub copied_to : (source from target to : ℕ) → ℕ → Changed
 copied_to source from target to count =
     record { kind = Copied source from target to count; reply = Count count; inode = target }

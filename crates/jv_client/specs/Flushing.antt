@@ -39,7 +39,7 @@ abbrev pub written_alone : Op → List (Option Handle) → Option (List PendingB
 written_alone (op.Write handle offset bytes) handles = Some (written (inode_here handles handle) offset bytes [])
 written_alone _ handles = None
 
--- such pending bytes, of which there may be so many
+-- such pending bytes, of which there may be at most `limit`
 pub data IsWrittenAlone (o : Op) (handles : List (Option Handle)) (limit : ℕ) (next : Option PendingValue) : Type 0 where
   Other : written_alone o handles ≡ None → next ≡ None → IsWrittenAlone o handles limit next
   Write : (bytes : List PendingByte) → written_alone o handles ≡ Some bytes → next ≡ Some (record { bytes = bytes; limit = limit })

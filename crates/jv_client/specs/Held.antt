@@ -42,7 +42,7 @@ flush_of_code flush.All = OfAll
 abbrev pub segment_left : Flush → List PendingByte → Option Segment
 segment_left first pending = next_segment (flush_of_code first) pending
 
--- a client without its operation, after so many entries
+-- a client without its operation, after `count` entries
 pub record IsHeld (g : Known) (v : Shared) (m : ModelClient) (count : ℕ) (c : ClientValue) : Type 0 where
   pub session : m.session ≡ c.session
   pub direct : m.writeback ≡ false
@@ -131,7 +131,7 @@ GoesOn g v c d (progress.Working quiets started id) = Unit {0}
 GoesOn g v c d (progress.Reading fetch need) = IsSomeAnd (file_of c.handles (handle_of d.op)) (λ (handle : Handle).
     (fetch.block ≡ v.yard.setting.block) × IsFetching g.blocks handle.views (asked_of d.does) fetch)
 
--- a client of the model is the one in memory, after so many entries, over what clients share
+-- a client of the model is the one in memory, after `count` entries, over what clients share
 pub record IsClient (g : Known) (v : Shared) (m : ModelClient) (count : ℕ) (c : ClientValue) : Type 0 where
   pub held : IsHeld g v m count c
   pub doing : SamePlace IsDoing m.doing c.doing

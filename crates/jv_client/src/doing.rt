@@ -17,7 +17,7 @@ pub enum Flush {
 /// How far an operation is.
 #[derive(Drop)]
 pub enum Progress {
-    /// It made so many requests of the next segment: one for the number of its slice, which is `id`, and then one for each
+    /// It made `quiets` requests of the next segment: one for the number of its slice, which is `id`, and then one for each
     /// block that was put, the first of them at the moment `started`.
     Working {
         quiets: u32,

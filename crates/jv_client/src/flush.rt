@@ -245,7 +245,7 @@ impl Client {
 
     /// What is pending once this segment is committed and the operation, a write that it is the last segment of, is done:
     /// the bytes of the write alone. None for another operation, and before another segment. It is made before the commit,
-    /// since memory may not be wanting after it.
+    /// since memory may not run out after it.
     fn write_after(&self, at: SegmentAt) -> Result<Option<Pending>, AllocError>
         requires busy { IsSome self.now.doing }
         requires ready { IsReady self.now }

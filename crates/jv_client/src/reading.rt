@@ -32,7 +32,7 @@ use jv_yard::{ObservedYard, Yard, YardFault};
 use std::alloc::{AllocError, Global};
 use std::mem::replace;
 
-/// What a reading came to: the looks that it cites, and its bytes.
+/// The outcome of a reading: the looks that it cites, and its bytes.
 #[derive(Drop)]
 struct Found {
     first: u64,

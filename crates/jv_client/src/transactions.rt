@@ -193,7 +193,7 @@ fn keep(sustained: &mut Vec<u64>, kept: Option<u64>)
     }
 }
 
-/// Hands to a client what a reply gives it, by the entry with this number, and returns that entry. There must be room for one
+/// Hands to a client what a reply has for it, by the entry with this number, and returns that entry. There must be room for one
 /// handle more.
 fn give(
     alloc: Global,

@@ -1,4 +1,4 @@
--- What the top call comes to, by the function that ran the command.
+-- The outcome of the top call, by the function that ran the command.
 use Rattle.std.proofs.Common.{◌≡◌, ◌≢◌, ℕ, false, true, List, [], Option, None, Some, is_some, refl, ap, sym, subst, ◌∙◌, arith}
 use Rattle.std.proofs.lemmas.Bool.{false≢true}
 use Rattle.clap.specs.Words.{Text}

@@ -21,7 +21,7 @@ use Rattle.jv_cmd.proofs.StepLaws.{Stands-settled}
 abbrev pub there : Beginning → Option (ℕ → ℕ) → List Line → ℕ → ℕ → List Act → Past
 there start known lines status n journal = begun_to n (reached (session_run start known lines status) journal)
 
--- what the next line comes to there, where the run began on a whole volume
+-- the outcome of the next line there, where the run began on a whole volume
 module _ (left : Option (List ℕ)) (before now after : StageValue) (n : ℕ) (text : List ℕ) (line : Line)
     (s s' : ScheduleValue) (d : Done left before now n text s)
     (asks : ℕ) (passes : Passes now.clock.answers after.clock.answers asks) (start : Beginning)

@@ -17,7 +17,7 @@ use Rattle.jv_session.proofs.UsesLaws.{no_failures, uses_nothing}
 use Rattle.jv_cmd.specs.Steps.{IsAt, Reaches, Goes, Advances, PrintsLine, used}
 use Rattle.jv_cmd.specs.Stages.{StageValue}
 
--- a past that comes to a line wasn't past it
+-- a past that reaches a line wasn't past it
 pub low : (n : ℕ) (p : Past) → (begun_to n p).line ≡ n → p.line ≤ n
 unfolding begun_to
 low n p e = elim (cases_lt n p.line) [

@@ -56,7 +56,7 @@ abbrev pub failures_of : Ended → ℕ → ℕ
 failures_of KeeperFailed answers = suc answers
 failures_of _ answers = answers
 
--- where the keeper is opened after a command at a place, and its count of faults, when so many operations were answered that it
+-- where the keeper is opened after a command at a place, and its count of faults, where `answers` operations were answered that it
 -- failed
 pub record UsesKeeper (ended : Ended) (answers : ℕ) (place : List ℕ) (before after : Store) : Type 0 where
   pub opened : IsOpened ended place before.opened after.opened

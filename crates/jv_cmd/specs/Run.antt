@@ -163,7 +163,7 @@ Prints ClockFailed start known before after lines = Gains before.out.content aft
 Prints OutOfMemory start known before after lines = PrintsUntil start known before after lines
 Prints ended start known before after lines = Gains before.out.content after.out.content (printed_by start known lines ended after.journal)
 
--- What a run over a whole volume comes to: the journal is legal for one POSIX tree, the lines' text was printed, and the volume left is
+-- The outcome of a run over a whole volume: the journal is legal for one POSIX tree, the lines' text was printed, and the volume left is
 -- whole and has the tree reached.
 pub record RunsWhole (start : Beginning) (known : Option (ℕ → ℕ)) (before after : StageValue) (ended : Ended) (lines : List Line) : Type 0
   where
@@ -172,7 +172,7 @@ pub record RunsWhole (start : Beginning) (known : Option (ℕ → ℕ)) (before 
     pub leaves : Leaves after.devices (at_end (session_run start known lines (status_of ended)) after.journal).state.tree
 
 -- The lines that were run: those before the end and, where out or the clock failed, a row was Bad, or memory ran out on a line, that
--- line as the last one, which may be cut off then. Each is built. Whatever the rows are, so many entries answer that a device failed.
+-- line as the last one, which may be cut off then. Each is built. Whatever the rows are, `answers` is how many entries answer that a device failed.
 pub record RunsLines (answers : Device → ℕ) (before after : StageValue) (ended : Ended) : Type 0 where
   pub texts : List (List ℕ)
   pub lines : List Line

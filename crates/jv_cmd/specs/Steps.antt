@@ -46,7 +46,7 @@ abbrev pub AreBetween : ℕ → ℕ → List Act → Type 0
 AreBetween low high [] = Unit {0}
 AreBetween low high (act ∷ acts) = (low ≤ act.line) × (act.line ≤ high) × AreBetween low high acts
 
--- What these lines came to, whatever lines are to come, where the run began on a whole volume: so often the clock was asked.
+-- The outcome of these lines, whatever lines are to come, where the run began on a whole volume, and how often the clock was asked.
 pub record DoneOn (start : Beginning) (before now : StageValue) (lines : List Line) (done asked : ℕ) (text : List ℕ)
     (s : ScheduleValue) : Type 0 where
   pub own : AreBetween 0 done now.journal

@@ -6,7 +6,7 @@ ghost use Rattle.jv_cmd.specs.declared.words.request.TheConstants.{MAX_CACHE};
 use crate::words::SessionOptions;
 use jv_model::{Limits, MIB};
 
-/// The blocks of a length that a client's cache of so many MiB holds: at least one, unless the cache is empty.
+/// The blocks of a length that a client's cache of `cache` MiB holds: at least one, unless the cache is empty.
 fn cache_entries(cache: u64, block: u32) -> usize
     requires few { cache ≤ MAX_CACHE }
     requires some { 0 < block }

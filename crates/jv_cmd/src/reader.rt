@@ -28,8 +28,8 @@ pub(crate) enum Next {
     End,
 }
 
-/// Bytes of a source that no line has taken yet. It has room for the longest line from the start, so that no line finds
-/// memory wanting, and touches that room once a line is so long.
+/// Bytes of a source that no line has taken yet. It has room for the longest line from the start, so that no line runs
+/// out of memory, and touches that room once a line is so long.
 #[derive(Drop)]
 pub(crate) struct LineReader {
     buffer: Vec<u8>,

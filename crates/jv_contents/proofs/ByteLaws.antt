@@ -1,4 +1,4 @@
--- The bytes of a file after a commit, a truncate and a copy are those that the model gives it.
+-- The bytes of a file after a commit, a truncate and a copy are those that the model has.
 use Rattle.std.proofs.Common.{◌≡◌, ◌≢◌, ℕ, ◌+◌, ◌-◌, ◌<◌, ◌≤◌, Bool, true, false, cond, List, length, inl, inr, refl, sym, ap, ◌∙◌, arith}
 use Rattle.std.specs.Prelude.{nat_le, nat_lt, ◌&&◌, slice_index}
 use Rattle.std.proofs.lemmas.Bool.{and_parts, and_right, leb-true, ltb-true, cases_lt, cond-true, cond-false, lt-ltb, le-ltb, ne_eqb}

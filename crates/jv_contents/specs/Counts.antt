@@ -30,7 +30,7 @@ pub record HadSize (rows : Rows) (id size : ℕ) : Type 0 where
   pub size_is : slice.size ≡ size
 
 -- What a transaction on lists leaves of slices other than its own: the next number; an unknown slice stays unknown; no slice gets a
--- row that had none; one that loses its row is dead, with its size; dead ones stay dead. There are so many more records at most.
+-- row that had none; one that loses its row is dead, with its size; dead ones stay dead. There are at most `more` records more.
 pub record KeepsOthers (own more : ℕ) (rows after : Rows) : Type 0 where
   pub next : next_slice after ≡ next_slice rows
   pub unknown : (id : ℕ) → 0 < id → id ≢ own → IsUnknown rows id → IsUnknown after id

@@ -73,7 +73,7 @@ pub record Changes {A : Type 0} (makes : Makes) (ready : Rows → Told → Type 
 abbrev pub Never : Rows → Type 0
 Never rows = ⊥
 
--- so many more records could name a slice more often than may be
+-- `more` records more could name a slice more often than may be
 abbrev pub IsCrowded : ℕ → Rows → Type 0
 IsCrowded more rows = FULL_COUNT < record_count rows + more
 

@@ -40,7 +40,7 @@ pub record ShowsRange (inode from pos len : ℕ) (before after : Store) (result 
 
 -- ---- parts of a copy, each in one window of the target
 
--- how many bytes the part has that begins when so many are done: as far as the window goes
+-- how many bytes the part has that begins when `done` are done: as far as the window goes
 abbrev pub part_len : Course → ℕ → ℕ
 part_len c done = min (c.len - done) (WINDOW - (c.to + done) % WINDOW)
 
@@ -63,7 +63,7 @@ pub record CopiesPart (c : Course) (done : ℕ) (before after : Store) (changes 
   pub added : IfOk result (λ shown. (known : RowMap) → before.rows ≡ Some known
       → drafted changed known ≡ rows_added (typed known) c done shown (drafted changes known))
 
--- parts that follow one another until so many bytes are done, the latest first, each with how many were done before
+-- parts that follow one another until `done` bytes are done, the latest first, each with how many were done before
 abbrev pub AreParts : Rows → Course → List (ℕ × List Rec) → ℕ → Type 0
 AreParts rows c [] done = done ≡ 0
 AreParts rows c (part ∷ parts) done = (part.0 < c.len) × (done ≡ part.0 + part_len c part.0) × ShowPart rows c part.0 part.1 × AreParts rows c parts part.0
@@ -72,7 +72,7 @@ abbrev pub rows_copied : Rows → Course → List (ℕ × List Rec) → Rows →
 rows_copied rows c [] middle = middle
 rows_copied rows c (part ∷ parts) middle = rows_added rows c part.0 part.1 (rows_copied rows c parts middle)
 
--- so many bytes of a copy are done, by records that came to lists of the target
+-- `done` bytes of a copy are done, by records that lists of the target got
 pub record Copying (c : Course) (done : ℕ) (rows middle after : Rows) (added : List Rec) : Type 0 where
   pub parts : List (ℕ × List Rec)
   pub follow : AreParts rows c parts done

@@ -22,7 +22,7 @@ use Rattle.jv_volume.specs.Views.{counters_at}
 use Rattle.jv_volume.specs.Whole.{Whole}
 use Rattle.jv_data.specs.Truncating.{LeaveSlices}
 
--- the space that so many bytes take
+-- the space that a file of this length takes
 abbrev pub paged_space : ℕ → ℕ
 paged_space length = paged length
 

@@ -22,7 +22,7 @@ use jv_rows::{Draft, adjust, read_list};
 use jv_slices::plan;
 use std::alloc::{AllocError, Global};
 
-/// What is copied: so many bytes of a file from a position on, to a position of a file.
+/// What is copied: `len` bytes of a file from a position on, to a position of a file.
 #[derive(Clone, Copy)]
 struct Course {
     source: u64,
@@ -135,7 +135,7 @@ fn copy_lists<K: Keeper>(
     Ok(List::from_vec(added))
 }
 
-/// How many bytes the part of a copy has that begins when so many are done: as far as the target's window goes.
+/// How many bytes the part of a copy has that begins when `done` are done: as far as the target's window goes.
 fn part_len(course: Course, done: u64) -> u32
     requires more { done < course.len }
     requires target { course.to + course.len ≤ FILE_END }

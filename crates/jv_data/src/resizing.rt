@@ -9,7 +9,7 @@ use jv_outside::Keeper;
 use jv_rows::{Draft, needed_counters, needed_setting};
 use std::alloc::Global;
 
-/// The space that so many bytes of a file take: whole units, at least one.
+/// The space that a file of this length takes: whole units, at least one.
 fn paged(length: u64) -> u128
     ensures { result ≡ paged_space length }
 {

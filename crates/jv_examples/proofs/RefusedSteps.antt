@@ -87,7 +87,7 @@ answer_of_another_tree more all =
     let h = entry_is_allowed (at_start steps_run) (take 10 steps_journal) (entry 8 0 (Answered (Fine 4 0 0 0))) more all in
     let step = own_step h.stands.may refl in let no : 4 ≡ 3 = ap first_number (settled_is_told refl step) in absurd (omega (arith, no))
 
--- want of memory after a transaction that was made
+-- out of memory after a transaction that was made
 memory_after_the_transaction : (more : List Act) → AllAllowed (at_start steps_run) (take 10 steps_journal ++ entry 8 0 (Answered (ToldRefused NoMemory)) ∷ more) → ⊥
 unfolding journals_compute
 memory_after_the_transaction more all =

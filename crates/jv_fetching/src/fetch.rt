@@ -58,7 +58,7 @@ impl Fetch {
     ghost use Rattle.jv_fetching.specs.Inside.{BeginsPart, EndsPart, FillsBegun, FillsFrom, FitsNext, GoesOnAny, GoesTo, Stops, ended};
 
     /// The reading of `len` bytes from `offset` on, 1 to 67,108,864 of them, over a volume whose blocks have `block`
-    /// bytes, at least 1. Nothing is read yet. The only error is that memory is wanting for the box that has how far it is.
+    /// bytes, at least 1. Nothing is read yet. The only error is that there is no memory for the box that has how far it is.
     pub fn new(alloc: Global, offset: u64, len: u32, block: u32) -> Result<Fetch, AllocError>
         requires some { 0 < block }
         requires low { offset < FILE_END }

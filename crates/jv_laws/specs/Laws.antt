@@ -256,7 +256,7 @@ pub data AreRead (run : Setup) (journal : List Act) (client : ℕ) (opened : Opt
       → AreSeen run journal client file first asked some → length some ≡ asked.to - asked.from → AreSeen run journal client file second other more → bytes ≡ some ++ more
       → AreRead run journal client opened parts first second bytes
 
--- a read that is answered with two looks and a number returns so many bytes, which are those of the looks
+-- a read that is answered with two looks and a number returns that many bytes, which are those of the looks
 pub record Returns (run : Setup) (journal : List Act) (client : ℕ) (c : ModelClient) (d : Doing) (handle offset len first second number : ℕ) : Type 0 where
   pub bytes : List ℕ
   pub reply : reply_of c d (Looks first second number) ≡ Data bytes

@@ -9,7 +9,7 @@ use Rattle.jv_model.specs.journal.Legal.{AllAllowed, clock_moment}
 abbrev pub IsAlone : Past → Type 0
 IsAlone q = (n : ℕ) → q.run.by_worker n ≡ false
 
--- the moment of an entry that asks the clock, where lines have let so many seconds pass
+-- the moment of an entry that asks the clock, where lines have let `ticks` seconds pass
 abbrev pub IsNow : Past → ℕ → ℕ → Type 0
 IsNow q ticks now = MatchOption q.run.clock ((q.at ≤ now) × (now ≤ LAST_MOMENT)) (λ answers. now ≡ clock_moment q ticks answers)
 

@@ -59,7 +59,7 @@ module _ (t : Tree) (dir parent inode : ℕ) (whole : WholeShape (shape_of t)) (
   pub inside-parent : is_inside t dir inode ≡ is_inside t parent inode
   inside-parent = by_answers (is_inside t dir inode) (is_inside t parent inode) refl refl
 
--- each exit of the climb, from a place that it has come to
+-- each exit of the climb, from a place that it has reached
 module _ (before now : Store) (start source : ℕ) (place : Place) (low : is_top source ≡ false)
     (p : Past before now (λ t. Ok (is_inside t start source)) (λ t. Ok (is_inside t place.inode source)))
     (s : StandsDirectory now place) where
@@ -92,7 +92,7 @@ module _ (before now : Store) (start source : ℕ) (place : Place) (low : is_top
   form_is known is whole bytes = form-parent (node_at (tree_of bytes (typed known)) place.inode) place.node.parent
       (parent_is known is whole bytes)
 
-  -- it has come to the inode
+  -- it has reached the inode
   pub climb-met : place.inode ≡ source → Looks before now (Ok true) act
   climb-met same = past-gives before now act true
       (past-as before now now act rest p (λ t. Ok true) (λ known is whole bytes. ap Ok
@@ -100,7 +100,7 @@ module _ (before now : Store) (start source : ℕ) (place : Place) (low : is_top
       (dir_here known is whole bytes) low same)))
 
   module _ (apart : place.inode ≢ source) where
-    -- it has come to the top
+    -- it has reached the top
     pub climb-top : is_top place.inode ≡ true → Looks before now (Ok false) act
     climb-top top = past-gives before now act false
         (past-as before now now act rest p (λ t. Ok false) (λ known is whole bytes. ap Ok

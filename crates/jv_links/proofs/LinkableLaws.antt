@@ -68,7 +68,7 @@ goes_split t last again onto inode names next (Some target) splits rest =
     ap (again (if is_absolute target then root else inode)) (append_more (names_of target) names last)
     ∙ splits (if is_absolute target then root else inode) (names_of target ++ names)
 
--- the step of a name, and the rest by what it came to
+-- the step of a name, and the rest by its outcome
 bind_then : (r : Result ℕ Fault) (t : Tree) (last : List ℕ) (f g : ℕ → Result ℕ Fault)
     → ((next : ℕ) → f next ≡ then_last t last (g next))
     → (r >>= f) ≡ then_last t last (r >>= g)

@@ -7,7 +7,7 @@ use Rattle.jv_volume.specs.TreeOf.{tree_of}
 use Rattle.jv_volume.specs.TypedRows.{typed}
 use Rattle.jv_volume.specs.Whole.{Whole, no_bytes}
 
--- fewer than so many steps up lead from a directory to the root or the trash
+-- fewer than `steps` steps up lead from a directory to the root or the trash
 pub record IsNear (known : RowMap) (dir steps : ℕ) : Type 0 where
   pub taken : ℕ
   pub fewer : taken < steps

@@ -1,4 +1,4 @@
--- An entry that may be removed, and the readings that come to it.
+-- An entry that may be removed, and the readings that reach it.
 use Rattle.std.specs.Prelude.{ℕ, List, is_some, Result, Ok, Err, IfOk}
 use Rattle.jv_model.specs.declared.fault.Fault.{Fault}
 use Rattle.jv_model.specs.declared.fault.Fault.TheVariants.{NotFound, NotPermitted, Stale}
@@ -23,7 +23,7 @@ removable_at t sid path = do
   inode ← some_or (get t.entries place) NotFound
   Ok (place, inode)
 
--- the place of an entry that was come to
+-- the place of an entry that was reached
 abbrev pub place_of : Removable → EntryKey
 place_of entry = record { dir = entry.dir; name = entry.name }
 
@@ -31,7 +31,7 @@ abbrev pub removable_in : Result Removable TxFault → Result (EntryKey × ℕ) 
 removable_in (Ok entry) = Ok (place_of entry, entry.node.inode)
 removable_in (Err fault) = Err fault
 
--- Readings that come to an entry and its node: over whole rows they are the model's, and the node's row, one that the
+-- Readings that reach an entry and its node: over whole rows they are the model's, and the node's row, one that the
 -- grammar
 -- allows, stands there.
 pub record ComesToRemovable (before after : Store) (result : Result Removable TxFault) (finds : Tree

@@ -1,6 +1,6 @@
 //! Transactions on entries: unlink, rmdir, link and rename, each one commit or none (POSIX.1-2017, and docs/MODEL.md).
 //!
-//! Each call is refused with the faults of its operation, in their order. A refusal, a keeper that failed, and want of memory
+//! Each call is refused with the faults of its operation, in their order. A refusal, a keeper that failed, and running out of memory
 //! leave the rows as they were.
 #![tactic(auto)]
 

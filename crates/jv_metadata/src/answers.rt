@@ -6,7 +6,7 @@ ghost use Rattle.jv_model.specs.declared.op.Reply.TheVariants as reply;
 use jv_links::{Fate, Removed};
 use jv_model::{Attr, Bytes, EntryList, Reply, Space, TxFault};
 
-/// What a transaction on metadata gives.
+/// What a transaction on metadata returns.
 #[derive(Debug, Drop)]
 pub struct Answer {
     pub reply: Reply,

@@ -46,7 +46,7 @@ use Rattle.jv_requests.specs.Request.{IsWithin, Request}
 use Rattle.jv_requests.proofs.LandedLaws.{acted-stays, landed-request, told_in}
 use Rattle.jv_requests.proofs.StillLaws.{fault_of_rows, rows-failed, still-request, still-within}
 
--- ---- what a change comes to, by the tree of the rows
+-- ---- the outcome of a change, by the tree of the rows
 
 module _ {A : Type 0} (makes : Makes) (crowded : Rows → Type 0) (t : Tree) (g : Known) (v : Shared)
     (has : HasStore t g v)

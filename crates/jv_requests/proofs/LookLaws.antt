@@ -128,7 +128,7 @@ module _ (s : State) (client now : ℕ) (d : Doing) (busy : (s.clients client).d
     abbrev looked : Shared
     looked = record v { keeper = keeper }
 
-    -- whatever it came to, devices hold what they held
+    -- whatever its outcome, devices hold what they held
     pub looked-still : (result : Result View TxFault) → LooksAt sid file.inode window v.keeper keeper result
         → HoldsSame v looked
     looked-still result looks = same-rows v keeper v.carrier looks.looks.rows_are

@@ -58,7 +58,7 @@ replies-calm t who o (reply.Uploaded None) e = refl
 replies-calm t who o (reply.Uploaded (Some block)) e = refl
 replies-calm t who o _ e = refl
 
--- ---- what a transaction comes to, by the tree of the rows
+-- ---- the outcome of a transaction, by the tree of the rows
 
 module _ {A : Type 0} (t : Tree) (g : Known) (v : Shared) (has : HasStore t g v) (keeper : Store)
     (ready : Tree → Type 0) (says : A → Reply) (act : Tree → Result Outcome Fault) where

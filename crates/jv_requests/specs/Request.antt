@@ -28,7 +28,7 @@ pub record IsApart (g : Known) (v : Shared) (mine own after : ℕ) : Type 0 wher
   pub own_apart : (f : Flight) → Flies g v f → f.id ≢ mine → f.id ≢ own
   pub new_apart : (f : Flight) → Flies g v f → f.id ≢ mine → f.id ≢ after
 
--- The model allows these entries as a step, and they lead to this client, to this tree, to so many bytes copied in all,
+-- The model allows these entries as a step, and they lead to this client, to this tree, to `copied` bytes copied in all,
 -- and to devices that stand for the tree. Of what is known, of numbers, and of what other clients hold nothing is lost.
 -- `mine` is the number of the client's slice in flight before the step, `after` that after it, and 0 stands for none.
 pub record Request (s : State) (g learned : Known) (before v : Shared) (client now mine after : ℕ)

@@ -56,7 +56,7 @@ module _ {B : Type 0} (before middle after : Store) (act : Tree → Result B Fau
   pub stops-place : (fault : TxFault) → Comes middle after (Err fault) finds → Looks {A = B} before after (Err fault) act
   stops-place fault c = past-stops before middle after act finds next p fault c.looks
 
--- the node of a row that a walk came to
+-- the node of a row that a walk reached
 pub has-node : (before after : Store) (inode : ℕ) (node : NodeRow) → after.rows ≡ before.rows → HasNodeRow after inode node
     → (known : RowMap) → before.rows ≡ Some known → Whole (typed known) → (bytes : ℕ → ℕ → ℕ) → HasNode (tree_of bytes (typed known)) inode node (bytes inode)
 has-node before after inode node same stands known is whole bytes =
@@ -75,7 +75,7 @@ module _ {B : Type 0} (before middle after : Store) (who : Who) (caller : Caller
   arrives-not fault looks c =
       stops-place before middle after act (λ t. inode_by follow t path) next (past-session before middle who caller is_for act (λ t. inode_by follow t path >>= next t) begins looks) fault c
 
--- ---- a transaction's exits before it has come to its node
+-- ---- a transaction's exits before it has reached its node
 
 module _ {A : Type 0} (ready : Tree → Type 0) (before middle after : Store) (who : Who) (caller : Caller) (is_for : IsFor who caller) (follow : Bool) (path : List ℕ) (reply : A → Reply)
     (act : Tree → Result Outcome Fault) (next : Tree → ℕ → Result Outcome Fault) (begins : (t : Tree) → act t ≡ (in_session t caller >>= (λ unit. inode_by follow t path >>= next t))) where

@@ -21,7 +21,7 @@ use Rattle.jv_rows.proofs.LooksLaws.{in_other_words, answered, refused, found_pa
 use Rattle.jv_rows.proofs.StepLaws.{node_is}
 use Rattle.jv_rows.proofs.NamesLaws.{last_name_is, other_names_are}
 
--- an entry that isn't come to
+-- an entry that isn't reached
 pub no_entry_place : {before after : Store} {asked : Tree → Result (ℕ × List ℕ) Fault} {fault : TxFault} → Looks before after (Err fault) asked → ComesToEntry before after (Err fault) asked
 no_entry_place looks = record { looks = looks; stands = tt; allowed = tt; directory = tt }
 

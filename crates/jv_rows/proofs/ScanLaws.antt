@@ -41,7 +41,7 @@ pub AreAllowed-push : (front : List (RowKey × Row)) (row : RowKey × Row) → A
 AreAllowed-push [] row h p = (p, tt)
 AreAllowed-push (x ∷ front) row h p = (h.0, AreAllowed-push front row h.1 p)
 
--- what a loop over rows has come to
+-- how far a loop over rows has come
 pub record IsReadSoFar (rows : List (RowKey × List ℕ)) (count : ℕ) (list : List (RowKey × Row)) : Type 0 where
   pub read : rows_read rows ≡ behind list (rows_read (drop count rows))
   pub allowed : AreAllowed list

@@ -1,4 +1,4 @@
--- A walk's places: what a reading of a node or an entry comes to, and which rows whole volumes have.
+-- A walk's places: what a reading of a node or an entry reaches, and which rows whole volumes have.
 use Rattle.std.proofs.Common.{◌≡◌, ◌≢◌, ℕ, Bool, true, false, List, [], Option, None, Some, Result, Ok, Err, option_map, refl, sym, ap, subst, ◌∙◌, true≢false, eqb-true}
 use Rattle.std.specs.Prelude.{if◌then◌else◌, ◌&&◌, ◌||◌, ◌==◌, IsTrue}
 use Rattle.jv_model.specs.declared.row.RowKey.{RowKey}
@@ -43,7 +43,7 @@ pub has_edge_row : {dir : ℕ} {name : List ℕ} {edge : Edge} {before after : S
 has_edge_row {dir = dir} {name = name} {edge = edge} {before = before} {after = after} r =
     if_known _ after.rows (λ known is. stands_there OfEdge is_edge (edge_key dir name) before after (Some edge) r known (sym r.rows_are ∙ is))
 
--- ---- a part of a walk that comes to a node
+-- ---- a part of a walk that reaches a node
 
 pub failed_to_come : {before after : Store} {asked : Tree → Result ℕ Fault} {fault : TxFault} → Looks before after (Err fault) asked → Comes before after (Err fault) asked
 failed_to_come looks = record { looks = looks; stands = tt; allowed = tt }

@@ -28,7 +28,7 @@ stored_count records id = if id == 0 || records_naming id records == 0 then None
 abbrev pub is_named : List Rec → List Rec → ℕ → Bool
 is_named gone added id = not (id == 0) && not (records_naming id gone + records_naming id added == 0)
 
--- a count with so many records gone and added
+-- a count with these numbers of records gone and added
 abbrev pub recounted : ℕ → ℕ → ℕ → ℕ
 recounted count gone added = count + added - gone
 

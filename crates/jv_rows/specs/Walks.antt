@@ -33,7 +33,7 @@ abbrev pub inode_in : Result Place TxFault → Result ℕ TxFault
 inode_in (Ok place) = Ok place.inode
 inode_in (Err fault) = Err fault
 
--- A part of a walk that comes to a node: over whole rows it is the model's, and its row, one that the grammar allows, stands there.
+-- A part of a walk that reaches a node: over whole rows it is the model's, and its row, one that the grammar allows, stands there.
 pub record Comes (before after : Store) (result : Result Place TxFault) (finds : Tree → Result ℕ Fault) : Type 0 where
   pub looks : Looks before after (inode_in result) finds
   pub stands : IfOk result (λ place. HasNodeRow after place.inode place.node)

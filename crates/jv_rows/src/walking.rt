@@ -27,7 +27,7 @@ use std::alloc::{AllocError, Global};
 /// Names in a row, as those of a path.
 type Names = Sequence<Name>;
 
-/// Where a walk comes to: a node with its row.
+/// What a walk reaches: a node with its row.
 #[derive(Debug, Drop)]
 pub struct Place {
     pub inode: u64,

@@ -59,7 +59,7 @@ module _ (asked n : ℕ) where
   clock_later (Some answers) (Some first) (Some rest) final p h =
       (h.0, λ k. p.known k ∙ h.1 (k + n) ∙ ap answers (let e : k + n + asked ≡ k + (asked + n) = omega arith in e))
 
--- the moment that the clock's answer gives is the run's
+-- the moment of the clock's answer is the run's
 module _ (asked qat qticks sat sticks by now answer n : ℕ) (final : Option (ℕ → ℕ)) where
   moment_is : (clock told : Option (ℕ → ℕ)) → ClockFor clock asked told final → Passes told final n
       → IfSome told (λ answers. answer ≡ answers 0)

@@ -183,7 +183,7 @@ module _ (client number : ℕ) (start now later : LineState) (h : Reached client
         said = made.on.after.said_is ∙ ap (λ (setting : Setting). printed_line setting reply) made.in_line.setting;
       }
 
-  -- it never comes to a row that is Bad
+  -- it never reaches a row that is Bad
   never_bad : (key : RowKey) (bytes : List ℕ) → Stepped number client now later (Broken key bytes)
       → FromLine (RunsToEnd client) number start later (λ q. ⊥)
   never_bad key bytes m q due line_at line count clock =
@@ -230,7 +230,7 @@ module _ (client number : ℕ) (start now later : LineState) (h : Reached client
   reached_stops stopped.Memory c found stops left =
       (breaks_there c found (ap (λ (t : Ticks). t.answers) stops) left, ap (λ (t : Ticks). t.faults) stops ∙ h.calm)
 
-  -- by what the call for a step came to
+  -- by the outcome of the call for a step
   module _ (made : Result Step Stopped) (call : Stepping number client now later made) where
     pub reached_step : made ≡ Ok More → Reached client number start later
     reached_step is = reached_more (subst (Stepping number client now later) is call)

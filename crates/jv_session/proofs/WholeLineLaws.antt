@@ -1,4 +1,4 @@
--- From a line in progress to a whole line: where the line begun stands, and what its call comes to from there.
+-- From a line in progress to a whole line: where the line begun stands, and the outcome of its call from there.
 use Rattle.std.proofs.Common.{◌≡◌, ℕ, ◌+◌, ◌≤◌, ◌<◌, min, true, false, List, [], ◌∷◌, length, slice_get, slice_set, Option, None, Some, Result, Ok, Err, refl, sym, ap, subst, ◌∙◌}
 use Rattle.std.specs.Prelude.{is_some, IfSome, IfOk, codes}
 use Rattle.std.specs.declared.alloc.AllocError.{AllocError}
@@ -431,7 +431,7 @@ module _ (line : Line) (number : ℕ) (before after : LineState) (s1 : ScheduleV
         (i.enters before.devices p more st next rest) next count clock;
   }
 
-  -- a line that was entered comes to what the call that goes on with it comes to
+  -- a line that was entered has the outcome of the call that goes on with it
   pub whole_line : (end : LineEnd) → LineGoes Where number entered after end → LineRuns line number before after end
   whole_line (Said text) h = says text h
   whole_line Quiet h = absurd h

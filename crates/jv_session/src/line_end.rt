@@ -4,7 +4,7 @@ ghost use Rattle.jv_session.specs.InLine.{end_of};
 
 use jv_model::{Bytes, RowKey};
 
-/// What a line of a script came to.
+/// The outcome of a line of a script.
 #[derive(Debug, Drop, PartialEq, Eq)]
 pub enum LineEnd {
     /// The line was run; this is what it prints, with its line feed.

@@ -18,7 +18,7 @@ block_begins size block index some below =
     let n = size + (block - 1) in
     omega (arith, div-add-mod' n block, mul-le (index + 1) block (n / block) block (omega arith) (omega arith))
 
--- what blocks in a row come to, after those before them
+-- what blocks in a row reach, after those before them
 pub sum_from : (size block n k before : ℕ) → before ≡ min size (k * block) → fold (λ (a x : ℕ). a + x) before (map (block_length size block) (range_with_len k n)) ≡ min size ((k + n) * block)
 sum_from size block zero k before e = e ∙ ap (λ x. min size (x * block)) (sym (add-zero k))
 sum_from size block (suc n) k before e =

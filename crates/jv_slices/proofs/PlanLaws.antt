@@ -69,7 +69,7 @@ piece_from_stretch list from to stretch stretches (up, same, rest) (turns, more)
       spot = ap (λ (r : Option Rec). place_by r from) (sym seen);
     }
 
--- the places that a piece gives are the stored ones
+-- the places that a piece has are the stored ones
 pub as_stored_from_stretch : (list : List Rec) (from to : ℕ) (stretch : Stretch) (stretches : List Stretch) → Shows (visible list) from to (stretch ∷ stretches) → IsAsStored list (piece_of from stretch)
 unfolding stored_place
 as_stored_from_stretch list from to stretch stretches (up, same, rest) n below =

@@ -49,7 +49,7 @@ fn place_by(seen: Option<Rec>, position: u32) -> Spot
 }
 
 /// What a reader sees of the positions of a window from `from` to `to`, in order and without a gap. A piece ends where
-/// another record comes to be seen, or none, and at `to`. It shows bytes of a record's slice, or zeros.
+/// another record begins to be seen, or none, and at `to`. It shows bytes of a record's slice, or zeros.
 pub fn plan(alloc: Global, list: &List, from: u32, to: u32) -> Result<Pieces, AllocError>
     requires records { All IsRecord list.now }
     requires rising { from ≤ to }

@@ -139,7 +139,7 @@ module _ (start : Start) (alone : Bool) (s : State) (client now : ℕ) (d : Doin
     change-crowded crowded refusal =
         refused-by NoSpace refl refusal (or_right (is_refused done_reply) (is_crowded start s) crowded)
 
-  -- by what the tree's transaction comes to
+  -- by the outcome of the tree's transaction
   abbrev who : Caller
   who = caller mine client now d.op
 

@@ -99,7 +99,7 @@ fn push_place(report: &mut String, stage: &Stage, device: Device) -> Result<(), 
     }
 }
 
-/// Adds what a run came to, which left this stage.
+/// Adds the outcome of a run, which left this stage.
 pub fn push_played(
     alloc: Global,
     report: &mut String,

@@ -56,7 +56,7 @@ pub struct Stage {
     parts: Option<Parts>,
 }
 
-/// What a run came to.
+/// The outcome of a run.
 #[derive(Drop)]
 pub struct Played {
     pub status: u8,
@@ -219,7 +219,7 @@ impl Stage {
         }
     }
 
-    /// Runs words, and returns what that came to. Where a call of the carrier failed, none fails in later runs.
+    /// Runs words, and returns the outcome. Where a call of the carrier failed, none fails in later runs.
     pub fn play(
         &mut self,
         alloc: Global,
@@ -264,7 +264,7 @@ impl Stage {
         }
     }
 
-    /// What a run came to before which `out` and standard error had taken so many bytes.
+    /// The outcome of a run before which `out` and standard error had taken these numbers of bytes.
     fn played(
         &self,
         alloc: Global,

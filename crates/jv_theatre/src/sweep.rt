@@ -33,7 +33,7 @@ struct Run {
     after: Left,
 }
 
-/// Runs a sweep, and adds what it came to: each run that breaks the rule, and a sum for each device.
+/// Runs a sweep, and adds its outcome: each run that breaks the rule, and a sum for each device.
 pub fn push_sweep(
     alloc: Global,
     report: &mut String,
@@ -113,7 +113,7 @@ fn compared_text(alloc: Global, scene: &Scene, rows: &Rows) -> Result<String, Al
     }
 }
 
-/// What the runs of a sweep came to.
+/// The outcome of the runs of a sweep.
 #[derive(Clone, Copy)]
 struct Sum {
     /// Calls that failed.

@@ -29,7 +29,7 @@ impl<P: Player> Theatre<P> {
     }
 }
 
-/// Runs a scene, and adds what it came to.
+/// Runs a scene, and adds its outcome.
 pub fn push_scene(
     alloc: Global,
     report: &mut String,
@@ -47,7 +47,7 @@ pub fn push_scene(
     report.push_str("\n")
 }
 
-/// Makes a scene's first run, where it has words for one, and its sweeps, and adds what they came to.
+/// Makes a scene's first run, where it has words for one, and its sweeps, and adds their outcomes.
 fn push_first(
     alloc: Global,
     report: &mut String,
@@ -63,7 +63,7 @@ fn push_first(
     push_after_first(alloc, report, scene, theatre)
 }
 
-/// Lists what the first run left, makes the sweeps, and adds what they came to.
+/// Lists what the first run left, makes the sweeps, and adds their outcomes.
 fn push_after_first(
     alloc: Global,
     report: &mut String,
@@ -87,7 +87,7 @@ fn push_after_first(
     Ok(())
 }
 
-/// Makes a further run, and adds what it came to.
+/// Makes a further run, and adds its outcome.
 fn push_further(
     alloc: Global,
     report: &mut String,

@@ -78,7 +78,7 @@ formed : (o : Option Node) → is_there (form_of o) ≡ true → (node : Node) �
 formed None e = absurd (true≢false (sym e))
 formed (Some node) e = (node, refl)
 
--- a walk comes to a node
+-- a walk reaches a node
 node_walked : (t : Tree) → WholeShape (shape_of t) → (follow : Bool) (path : List ℕ) (inode : ℕ) → inode_by follow t path ≡ Ok inode
     → (node : Node) × (node_at t inode ≡ Some node)
 node_walked t w follow path inode e = by_reach (path_reached t w follow path inode e)

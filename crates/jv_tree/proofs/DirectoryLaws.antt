@@ -14,7 +14,7 @@ use Rattle.jv_outside.specs.Store.{Store}
 use Rattle.std.specs.Prelude.{filter}
 use Rattle.jv_tree.specs.Directories.{is_entry, entry_then, entries_within, all_within}
 
--- what a loop over rows has come to: all so far were entries
+-- how far a loop over rows has come: all so far were entries
 pub record IsTakenSoFar (dir : ℕ) (page : List (RowKey × Row)) (count : ℕ) (before now : List (List ℕ × ℕ)) : Type 0 where
   pub taken : List (List ℕ × ℕ)
   pub adds : now ≡ before ++ taken
@@ -40,7 +40,7 @@ pub record IsReadSoFar (known : RowMap) (dir : ℕ) (last : RowKey) (entries : L
   pub number : last.a ≡ dir
   pub parts : entries_from dir (edges_after (edge_key dir []) known) ≡ entries ++ entries_from dir (edges_after last known)
 
--- what a loop over pages has come to
+-- how far a loop over pages has come
 pub record IsReadTo (dir : ℕ) (start now : Store) (last : RowKey) (entries : List (List ℕ × ℕ)) : Type 0 where
   pub rows_are : now.rows ≡ start.rows
   pub opened_at : now.opened ≡ start.opened

@@ -181,7 +181,7 @@ module _ (before middle after : Store) (who : Who) (caller : Caller) (is_for : I
     came : Past before after act (λ t. next t place.inode)
     came = arrives before middle after who caller is_for follow path act next begins place session c
 
-    -- the node that the walk came to
+    -- the node that the walk reached
     pub node-here : (known : RowMap) → before.rows ≡ Some known → Whole (typed known) → (bytes : ℕ → ℕ → ℕ)
         → HasNode (tree_of bytes (typed known)) place.inode place.node (bytes place.inode)
     node-here = has-node before after place.inode place.node came.rows_are c.stands
@@ -237,7 +237,7 @@ module _ (before middle after : Store) (who : Who) (caller : Caller) (is_for : I
       (goes-on target_answered begins (λ t. Err Invalid)
       (λ t byte has. ap (λ o. some_or o Invalid >>= (λ target. answered t (Target target))) (no-symlink t place.inode place.node byte has other))))
 
--- the node of a listing, once the walk has come to it
+-- the node of a listing, once the walk has reached it
 module _ (before middle after last : Store) (who : Who) (caller : Caller) (is_for : IsFor who caller) (path : List ℕ) (place : Place)
     (session : Looks before middle (Ok tt) (session_is who.sid))
     (c : Comes middle after (Ok place) (λ t. inode_by true t path)) where

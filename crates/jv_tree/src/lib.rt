@@ -1,7 +1,7 @@
 //! Transactions on directories, files and attributes: each reads a volume's rows, and changes them in one commit or not at all.
 //!
 //! Each call is refused with the faults of its operation, in their order (POSIX.1-2017, and docs/MODEL.md). A refusal, a keeper
-//! that failed, and want of memory leave the rows as they were.
+//! that failed, and running out of memory leave the rows as they were.
 #![tactic(auto)]
 
 mod attributes;

@@ -30,7 +30,7 @@ fn full_cache(alloc: Global) -> Result<BlockCache, Down> {
     Ok(cache)
 }
 
-/// Finds blocks so many times. Gives the number of hits.
+/// Finds blocks `count` times. Returns the number of hits.
 pub fn found(alloc: Global, count: u32) -> Result<u64, Down> {
     let mut cache = full_cache(alloc)?;
     for number in 0..count {

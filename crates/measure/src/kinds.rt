@@ -162,7 +162,7 @@ fn place(number: u32) -> u64 {
     u64::from(number).wrapping_mul(SPREAD)
 }
 
-/// A keeper that so many commits of a few rows wrote.
+/// A keeper that `count` commits of a few rows wrote.
 fn written_keeper(alloc: Global, row: &Row, count: u32) -> Result<MemKeeper, Down> {
     let fails = Fails::At(Sequence::new(alloc));
     let mut keeper = MemKeeper::new(alloc, Sequence::new(alloc), fails);
@@ -194,7 +194,7 @@ fn count_read(
     Ok(found)
 }
 
-/// Writes rows of a kind so many times, a few a commit. None where there is no such kind.
+/// Writes rows of a kind `count` times, a few a commit. None where there is no such kind.
 pub fn written(alloc: Global, kind: &str, count: u32) -> Result<Option<u64>, Down> {
     let Some(row) = sample(alloc, kind)? else {
         return Ok(None);
@@ -203,7 +203,7 @@ pub fn written(alloc: Global, kind: &str, count: u32) -> Result<Option<u64>, Dow
     Ok(Some(u64::from(count)))
 }
 
-/// Writes rows of a kind so many times, and reads as many. Gives the number of those that are there, and None where there
+/// Writes rows of a kind `count` times, and reads as many. Returns the number of those that are there, and None where there
 /// is no such kind.
 pub fn read(alloc: Global, kind: &str, count: u32) -> Result<Option<u64>, Down> {
     let Some(row) = sample(alloc, kind)? else {

@@ -19,7 +19,7 @@ use writes::Order;
 /// The exit status where the words ask for no measure.
 const WORDS_REFUSED: u8 = 2;
 
-/// The exit status where memory is wanting, or the count isn't taken.
+/// The exit status where memory runs out, or the count isn't taken.
 const NOT_MEASURED: u8 = 6;
 
 /// The words after the program's name.
@@ -71,7 +71,7 @@ fn measured(alloc: Global, name: &str, size: u32) -> Result<Option<u64>, Down> {
     Ok(Some(count))
 }
 
-/// A measure that is done so many times over, so that small sizes take a time that can be told. Gives what it counts
+/// A measure that is done `times` times over, so that small sizes take a time that can be told. Returns what it counts
 /// the last time.
 fn repeated(alloc: Global, name: &str, size: u32, times: u32) -> Result<Option<u64>, Down> {
     let mut count = None;

@@ -18,7 +18,7 @@ const SPREAD: u32 = 2_654_435_769;
 /// What a number is multiplied by, so that lengths differ.
 const STRETCH: u32 = 1_597_334_677;
 
-/// The record of a number, of at most so many bytes.
+/// The record of a number, of at most `most` bytes.
 fn record(number: u32, most: u32) -> Rec
     requires { 1 ≤ most }
     ensures { IsRecord result }
@@ -46,12 +46,12 @@ fn records(alloc: Global, count: u32) -> Result<List, AllocError>
     Ok(List::from_vec(records))
 }
 
-/// Lists so many records without a plan.
+/// Lists `count` records without a plan.
 pub fn listed(alloc: Global, count: u32) -> Result<u64, Down> {
     Ok(records(alloc, count)?.len() as u64)
 }
 
-/// Plans a window of so many records. Gives the number of pieces.
+/// Plans a window of `count` records. Returns the number of pieces.
 pub fn planned(alloc: Global, count: u32) -> Result<u64, Down> {
     let list = records(alloc, count)?;
     Ok(plan(alloc, &list, 0, END)?.len() as u64)

@@ -27,7 +27,7 @@ fn key(alloc: Global, number: u32) -> RowKey {
     }
 }
 
-/// A keeper with so many rows, which commits wrote.
+/// A keeper with `count` rows, which commits wrote.
 fn written_keeper(alloc: Global, count: u32) -> Result<MemKeeper, Down> {
     let fails = Fails::At(Sequence::new(alloc));
     let mut keeper = MemKeeper::new(alloc, Sequence::new(alloc), fails);
@@ -43,13 +43,13 @@ fn written_keeper(alloc: Global, count: u32) -> Result<MemKeeper, Down> {
     Ok(keeper)
 }
 
-/// Writes so many rows, a few a commit.
+/// Writes `count` rows, a few a commit.
 pub fn written(alloc: Global, count: u32) -> Result<u64, Down> {
     let _keeper = written_keeper(alloc, count)?;
     Ok(u64::from(count))
 }
 
-/// Writes so many rows and reads each. Gives the number of those that are there.
+/// Writes `count` rows and reads each. Returns the number of those that are there.
 pub fn read(alloc: Global, count: u32) -> Result<u64, Down> {
     let mut keeper = written_keeper(alloc, count)?;
     let mut found = 0u64;
@@ -61,7 +61,7 @@ pub fn read(alloc: Global, count: u32) -> Result<u64, Down> {
     Ok(found)
 }
 
-/// Writes so many rows and scans them page by page. Gives the number of those that are there.
+/// Writes `count` rows and scans them page by page. Returns the number of those that are there.
 pub fn scanned(alloc: Global, count: u32) -> Result<u64, Down> {
     let mut keeper = written_keeper(alloc, count)?;
     let mut found = 0u64;

@@ -28,7 +28,7 @@ const SPREAD_AGAIN: u32 = 2_246_822_507;
 /// Hexadecimal digits.
 const DIGITS: [u8; 16] = *b"0123456789abcdef";
 
-/// Reads so many lines. Gives the number of those that are read.
+/// Reads `count` lines. Returns the number of those that are read.
 pub fn lines_read(alloc: Global, count: u32) -> Result<u64, Down> {
     let mut read = 0u64;
     for number in 0..count {
@@ -71,7 +71,7 @@ fn push_byte(text: &mut Vec<u8>, number: u32) -> Result<(), AllocError> {
     Ok(())
 }
 
-/// A line that writes so many bytes, as digits.
+/// A line that writes `count` bytes, as digits.
 fn spelled(alloc: Global, count: u32) -> Result<Vec<u8>, AllocError> {
     let mut text = Vec::new(alloc);
     text.extend_from_slice(b"A write 1 0 ")?;
@@ -119,7 +119,7 @@ fn push_part(text: &mut Vec<u8>, parts: Parts, number: u32) -> Result<(), AllocE
     }
 }
 
-/// A line that writes bytes in so many parts.
+/// A line that writes bytes in `count` parts.
 fn spelled_in_parts(alloc: Global, parts: Parts, count: u32) -> Result<Vec<u8>, AllocError> {
     let mut text = Vec::new(alloc);
     text.extend_from_slice(b"A write 1 0 ")?;
@@ -160,13 +160,13 @@ fn data_of(alloc: Global, text: &[u8]) -> Result<Option<Bytes>, Down> {
     }
 }
 
-/// A line's bytes, so many of them. None where they are more than a line may have.
+/// A line's bytes, `count` of them. None where they are more than a line may have.
 fn data(alloc: Global, count: u32) -> Result<Option<Bytes>, Down> {
     let text = spelled(alloc, count)?;
     data_of(alloc, &text)
 }
 
-/// Spells a line that writes bytes in so many parts of a kind. Gives the length of the line, or None where there is no
+/// Spells a line that writes bytes in `count` parts of a kind. Returns the length of the line, or None where there is no
 /// such kind.
 pub fn parts_spelled(alloc: Global, kind: &str, count: u32) -> Result<Option<u64>, Down> {
     let Some(parts) = parts_named(kind) else {
@@ -176,7 +176,7 @@ pub fn parts_spelled(alloc: Global, kind: &str, count: u32) -> Result<Option<u64
     Ok(Some(text.len() as u64))
 }
 
-/// Spells a line that writes bytes in so many parts of a kind, and reads it. Gives the number of bytes, or None where
+/// Spells a line that writes bytes in `count` parts of a kind, and reads it. Returns the number of bytes, or None where
 /// there is no such kind.
 pub fn parts_read(alloc: Global, kind: &str, count: u32) -> Result<Option<u64>, Down> {
     let Some(parts) = parts_named(kind) else {
@@ -189,8 +189,8 @@ pub fn parts_read(alloc: Global, kind: &str, count: u32) -> Result<Option<u64>, 
     }
 }
 
-/// Spells a line that writes bytes in so many parts of a kind, reads it, and prints the answer that gives the bytes again.
-/// Gives the length of the printed text, or None where there is no such kind.
+/// Spells a line that writes bytes in `count` parts of a kind, reads it, and prints the answer that has the bytes again.
+/// Returns the length of the printed text, or None where there is no such kind.
 pub fn parts_printed(alloc: Global, kind: &str, count: u32) -> Result<Option<u64>, Down> {
     let Some(parts) = parts_named(kind) else {
         return Ok(None);
@@ -214,12 +214,12 @@ fn setting(alloc: Global) -> Result<Setting, AllocError> {
     })
 }
 
-/// Spells a line that writes so many bytes. Gives the length of the line.
+/// Spells a line that writes `count` bytes. Returns the length of the line.
 pub fn data_spelled(alloc: Global, count: u32) -> Result<u64, Down> {
     Ok(spelled(alloc, count)?.len() as u64)
 }
 
-/// Spells a line that writes so many bytes, and reads it. Gives the number of bytes.
+/// Spells a line that writes `count` bytes, and reads it. Returns the number of bytes.
 pub fn data_read(alloc: Global, count: u32) -> Result<u64, Down> {
     match data(alloc, count)? {
         Some(bytes) => Ok(bytes.len() as u64),
@@ -227,7 +227,7 @@ pub fn data_read(alloc: Global, count: u32) -> Result<u64, Down> {
     }
 }
 
-/// Spells a line that writes so many bytes, reads it, and prints the answer that gives the bytes again. Gives the length
+/// Spells a line that writes `count` bytes, reads it, and prints the answer that has the bytes again. Returns the length
 /// of the printed text.
 pub fn data_printed(alloc: Global, count: u32) -> Result<u64, Down> {
     let bytes = data(alloc, count)?.unwrap_or(Sequence::new(alloc));

@@ -72,7 +72,7 @@ fn written(alloc: Global, bytes: &Bytes, order: Order, count: u32) -> Result<Pen
     Ok(pending)
 }
 
-/// Writes 16 bytes so many times. Gives the number of bytes that are pending.
+/// Writes 16 bytes `count` times. Returns the number of bytes that are pending.
 pub fn pending(alloc: Global, order: Order, count: u32) -> Result<u64, Down> {
     let bytes = copied(alloc, &BYTES)?;
     match written(alloc, &bytes, order, count) {

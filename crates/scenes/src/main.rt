@@ -174,7 +174,7 @@ impl From<AllocError> for Stop {
     }
 }
 
-/// Runs the scenes of standard input, and prints what each came to.
+/// Runs the scenes of standard input, and prints the outcome of each.
 fn run_scenes(rt: &HostRuntime) -> Result<(), Stop> {
     let alloc = rt.alloc();
     let Ok(text) = io::read_to_string(alloc, rt.stdin()) else {
@@ -185,7 +185,7 @@ fn run_scenes(rt: &HostRuntime) -> Result<(), Stop> {
     run_all(rt, scenes.as_slice(), &mut theatre)
 }
 
-/// Runs scenes one after the other, and prints what each came to.
+/// Runs scenes one after the other, and prints the outcome of each.
 fn run_all(rt: &HostRuntime, scenes: &[Scene], theatre: &mut Theatre<Program>) -> Result<(), Stop> {
     let alloc = rt.alloc();
     for scene in scenes {
