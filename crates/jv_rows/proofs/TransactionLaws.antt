@@ -47,7 +47,7 @@ drafted-none known = refl
 -- no changes leave what a key has
 pub none_kept : (changes : List Change) (key : RowKey) → changes ≡ [] → (known : RowMap)
     → get (drafted changes known) key ≡ get (typed known) key
-none_kept changes key none known = ap (λ ch. get (drafted ch known) key) none ∙ ap (λ (rows : Rows). get rows key) (drafted-none known)
+none_kept changes key none known = ap (λ ch. get (drafted ch known) key) none ∙ ap (λ rows. get rows key) (drafted-none known)
 
 -- ---- what was looked at so far
 
