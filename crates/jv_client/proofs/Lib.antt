@@ -34,6 +34,7 @@ pub mod RefusedCommitLaws
 pub mod CommitCallLaws
 pub mod ChangingLaws
 pub mod ChangedLaws
+pub mod LimitsLaws
 pub mod ReadingLaws
 pub mod ShowLaws
 pub mod FormLaws

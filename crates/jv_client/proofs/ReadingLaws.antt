@@ -43,7 +43,7 @@ use Rattle.jv_client.specs.UnderWay.{IsForm, Mounts, Transacts, Leaves, Writes, 
 use Rattle.jv_client.specs.UnderWay.{IsAt, IsReading, IsReady, IsUnderWay, does_of, has_segment, left}
 use Rattle.jv_client.specs.UnderWay.{left_of, reading_steps, steps_in, steps_left, steps_of}
 use Rattle.jv_client.specs.Reading.{Begins, ClientComesTo, ComesTo, GoesAhead, IsAhead, IsCachedAs, IsMade}
-use Rattle.jv_client.specs.Reading.{OnlyLooksUp, ReadsAtOnce, need_at, need_in}
+use Rattle.jv_client.specs.Reading.{OnlyLooksUp, ReadsAtOnce, need_at, need_in, new_cache}
 use Rattle.jv_client.specs.Reading.{put_at, read_of}
 use Rattle.jv_client.proofs.FormLaws.{that_does, under_way}
 
@@ -355,25 +355,25 @@ reads-all views cache fetch next need found block none wants reads is = λ block
 
 -- ---- with the cache that is there, or a new one
 
-made_cache : (before after : Option Cached) (cache : Cached) → IsMade before after → after ≡ Some cache
-    → (sizes : ℕ → ℕ) (block : ℕ) (blocks : Blocks) → IfSome before (IsCacheOf sizes block blocks)
+made_cache : (entries : ℕ) (before after : Option Cached) (cache : Cached) → IsMade entries before after
+    → after ≡ Some cache → (sizes : ℕ → ℕ) (block : ℕ) (blocks : Blocks) → IfSome before (IsCacheOf sizes block blocks)
     → IsCacheOf sizes block blocks cache
-made_cache (Some old) after cache made is sizes block blocks known =
+made_cache entries (Some old) after cache made is sizes block blocks known =
     let both : Some old ≡ Some cache = sym made ∙ is in
     let same : old ≡ cache = cc both in
     subst (IsCacheOf sizes block blocks) same known
-made_cache None after cache made is sizes block blocks known =
-    let empty : IsSomeAnd (Some cache) (λ (cache : Cached). cache.blocks ≡ []) =
-    subst (λ (o : Option Cached). IsSomeAnd o (λ (cache : Cached). cache.blocks ≡ [])) is made in
-    cache_of-empty sizes block blocks cache empty
+made_cache entries None after cache made is sizes block blocks known =
+    let both : Some (new_cache entries) ≡ Some cache = sym made ∙ is in
+    let same : new_cache entries ≡ cache = cc both in
+    cache_of-empty sizes block blocks cache (ap (λ (cache : Cached). cache.blocks) (sym same))
 
-module _ (h middle after : ClientValue) (made : Option Cached) (is_made : IsMade h.cache made)
+module _ (entries : ℕ) (h middle after : ClientValue) (made : Option Cached) (is_made : IsMade entries h.cache made)
     (middle_is : middle ≡ record h { cache = made }) (looks : OnlyLooksUp middle after) where
   was : made ≡ Some looks.cache
   was = sym (ap (λ (h : ClientValue). h.cache) middle_is) ∙ looks.was
 
   has_cache : HasCache h looks.cache
-  has_cache = record { knows = made_cache h.cache made looks.cache is_made was }
+  has_cache = record { knows = made_cache entries h.cache made looks.cache is_made was }
 
   after_went : after ≡ record h { cache = Some looks.later }
   after_went = looks.after_is ∙ ap (λ (h : ClientValue). record h { cache = Some looks.later }) middle_is

@@ -1,7 +1,8 @@
 -- What contracts see of a client.
-use Rattle.std.specs.Prelude.{ℕ, List, [], Option, None, unwrap_or}
+use Rattle.std.specs.Prelude.{◌≡◌, ℕ, List, [], Option, None, IfSome, unwrap_or}
 use Rattle.jv_model.specs.declared.basics.Limits.{Limits}
 use Rattle.jv_model.specs.client.Pending.{PendingByte}
+use Rattle.jv_pending.specs.Held.{PendingValue}
 use Rattle.jv_cache.specs.Cached.{Cached}
 use Rattle.jv_handles.specs.declared.handle.Handle.{Handle}
 use Rattle.jv_client.specs.declared.doing.Doing.{Doing}
@@ -15,6 +16,11 @@ pub record ClientValue : Type 0 where
   pub pending : List PendingByte
   pub cache : Option Cached  -- None until the first read
   pub doing : Option Doing
+
+-- the buffer may have as many bytes, and a cache that is there as many blocks, as the limits say
+pub record HasLimits (limits : Limits) (pending : PendingValue) (cache : Option Cached) : Type 0 where
+  pub buffer : pending.limit ≡ limits.buffer
+  pub entries : IfSome cache (λ (cache : Cached). cache.entries ≡ limits.entries)
 
 abbrev pub fresh_client : ℕ → Limits → ClientValue
 fresh_client id limits =

@@ -1,5 +1,5 @@
 -- A reading within a step: how far it goes without a request, and what it leaves of the client.
-use Rattle.std.specs.Prelude.{◌≡◌, ◌≢◌, ℕ, ◌≤◌, ◌<◌, List, [], length, Option, None, Some, IfSome, IsSomeAnd}
+use Rattle.std.specs.Prelude.{◌≡◌, ◌≢◌, ℕ, ◌≤◌, ◌<◌, List, [], length, Option, None, Some, IfSome}
 use Rattle.std.specs.Option.{option_map}
 use Rattle.jv_model.specs.declared.act.ActKind.{ActKind}
 use Rattle.jv_model.specs.declared.act.Told.{Told}
@@ -92,10 +92,14 @@ ClientComesTo fetch h ahead = (d : Doing) (file : Handle) (cache : Cached) → h
 
 -- ---- a reading begins
 
--- a cache that is there, or an empty one
-abbrev pub IsMade : Option Cached → Option Cached → Type 0
-IsMade (Some cache) after = after ≡ Some cache
-IsMade None after = IsSomeAnd after (λ (cache : Cached). cache.blocks ≡ [])
+-- an empty cache of this many entries
+abbrev pub new_cache : ℕ → Cached
+new_cache entries = record { blocks = []; entries = entries; hits = 0; misses = 0 }
+
+-- a cache that is there, or a new one
+abbrev pub IsMade : ℕ → Option Cached → Option Cached → Type 0
+IsMade entries (Some cache) after = after ≡ Some cache
+IsMade entries None after = after ≡ Some (new_cache entries)
 
 -- a client with another cache, in which nothing stands that isn't known
 pub record IsCachedAs (h after : ClientValue) : Type 0 where

@@ -22,14 +22,13 @@ pub struct Client {
     /// The inodes that lost their last name by this client's own hand while it had them open.
     pub(crate) sustained: Vec<u64>,
     pub(crate) pending: Pending,
-    /// `None` until the first read.
+    /// `None` until the first read. A cache that is there has as many entries as the limits say.
     pub(crate) cache: Option<BlockCache>,
     pub(crate) doing: Option<Doing>,
 }
 
 impl Model for Client {
-    ghost use Rattle.std.specs.Prelude.{◌≡◌};
-    ghost use Rattle.jv_client.specs.ClientValue.{ClientValue};
+    ghost use Rattle.jv_client.specs.ClientValue.{ClientValue, HasLimits};
 
     ghost Value = { ClientValue };
 
@@ -44,7 +43,7 @@ impl Model for Client {
       doing = c.doing;
     } };
 
-    ghost invariant = { λ c. c.pending.limit ≡ c.limits.buffer };
+    ghost invariant = { λ c. HasLimits c.limits c.pending c.cache };
 }
 
 impl Client {

@@ -269,7 +269,7 @@ fn make_cache(
     entries: usize,
     cache: &mut Option<BlockCache>,
 ) -> Result<(), AllocError>
-    ensures made { OnOk result (IsMade cache.old cache.new) }
+    ensures made { OnOk result (IsMade entries cache.old cache.new) }
     ensures err { OnErr result (cache.new ≡ cache.old) }
 {
     if cache.is_none() {

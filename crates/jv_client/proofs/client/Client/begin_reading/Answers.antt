@@ -24,17 +24,19 @@ returns-in_err-make_cache-clause-err c =
 pub returns-in_err-found-clause-err : goal.returns-in_err-found-clause-err
 returns-in_err-found-clause-err c =
     let made = c.make_cache.new.cache in
+    let entries = c.self.inside.limits.entries in
     on_err c.from_residual-in_err-found.result _
-    (ahead-cached c.args.self.now _ c.ahead.new.self made
-    (subst (λ (o : Option Cached). IsMade o made) (ap (λ (h : ClientValue). h.cache) c.self.view_is)
+    (ahead-cached entries c.args.self.now _ c.ahead.new.self made
+    (subst (λ (o : Option Cached). IsMade entries o made) (ap (λ (h : ClientValue). h.cache) c.self.view_is)
     c.in_ok-make_cache.ensures.made)
     (ap (λ (h : ClientValue). record h { cache = made }) c.self.view_is) c.in_err-found.ensures.looks)
 
 pub returns-in-Read-clause-ok : goal.returns-in-Read-clause-ok
 returns-in-Read-clause-ok c =
     let made = c.make_cache.new.cache in
-    begins-some c.args.self.now _ c.ahead.new.self made
-    (subst (λ (o : Option Cached). IsMade o made) (ap (λ (h : ClientValue). h.cache) c.self.view_is)
+    let entries = c.self.inside.limits.entries in
+    begins-some entries c.args.self.now _ c.ahead.new.self made
+    (subst (λ (o : Option Cached). IsMade entries o made) (ap (λ (h : ClientValue). h.cache) c.self.view_is)
     c.in_ok-make_cache.ensures.made)
     (ap (λ (h : ClientValue). record h { cache = made }) c.self.view_is) c.in_ok-found.ensures.looks
     c.args.offset c.args.len c.args.block c.requires.reads c.requires.ready c.requires.flushed c.requires.first
@@ -43,8 +45,9 @@ returns-in-Read-clause-ok c =
 pub returns-in-Needs-clause-ok : goal.returns-in-Needs-clause-ok
 returns-in-Needs-clause-ok c =
     let made = c.make_cache.new.cache in
-    begins-none c.args.self.now _ c.ahead.new.self made
-    (subst (λ (o : Option Cached). IsMade o made) (ap (λ (h : ClientValue). h.cache) c.self.view_is)
+    let entries = c.self.inside.limits.entries in
+    begins-none entries c.args.self.now _ c.ahead.new.self made
+    (subst (λ (o : Option Cached). IsMade entries o made) (ap (λ (h : ClientValue). h.cache) c.self.view_is)
     c.in_ok-make_cache.ensures.made)
     (ap (λ (h : ClientValue). record h { cache = made }) c.self.view_is) c.in_ok-found.ensures.looks
     c.args.offset c.args.len c.args.block c.requires.reads c.requires.ready c.requires.flushed c.requires.first

@@ -21,7 +21,7 @@ keep-kept-requires c =
     c.requires.flushed c.deref.result.now
     c.self.inside.pending (c.deref.ensures.value ∙ ap (λ (v : ClientValue). v.handles) seen)
     (ap (λ (v : ClientValue). v.pending) seen)
-    (c.self.invariant ∙ ap (λ (v : ClientValue). v.limits.buffer) seen)
+    (c.self.invariant.buffer ∙ ap (λ (v : ClientValue). v.limits.buffer) seen)
 
 pub returns-in_default : goal.returns-in_default
 returns-in_default c now entry v =
