@@ -14,7 +14,7 @@ entry_found {K} {V} test (x ∷ es) e h = go (test x.0) refl h (λ h. entry_foun
     go true f h later = let same : x ≡ e = cc in (subst (λ (p : K × V). test p.0 ≡ true) same f, ap (λ (p : K × V). Some p.1) same)
     go false f h later = later h
 
--- no pair is found where the look-up gives nothing
+-- no pair is found where the look-up returns nothing
 pub no_entry : {K V : Type 0} (test : K → Bool) (es : List (K × V)) → is_some (lookup test es) ≡ false → lookup_entry test es ≡ None
 no_entry {K} {V} test [] h = refl
 no_entry {K} {V} test (x ∷ es) h = go (test x.0) h (λ h. no_entry test es h)

@@ -142,7 +142,7 @@ step-fails {A} {B} ready fewer was now before after fault step other made all sa
   bad = d.bad;
 }
 
--- a step that fails tells nothing of its value
+-- a step that fails says nothing of its value
 pub drafting-err : {A B : Type 0} (ready : Tree → Type 0) (was now : List Change) (before after : Store) (step : Tree
     → Result Tree Fault) (fault : TxFault)
     → Drafting {A = A} ready was now before after (Err fault) step

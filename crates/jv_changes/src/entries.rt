@@ -88,8 +88,8 @@ pub fn take_entry<K: Keeper>(
     name: &Name,
     inode: u64,
 ) -> Result<(), TxFault>
-    ensures { Drafting (λ t. StandsAt t (record { dir = dir; name = name.now }) inode) draft.old draft.new
-        (K.seen k.old) (K.seen k.new) result
+    ensures { Drafting (λ t. StandsAt t (record { dir = dir; name = name.now }) inode)
+        draft.old draft.new (K.seen k.old) (K.seen k.new) result
         (λ t. Ok (model.take_entry t now (record { dir = dir; name = name.now }))) }
 {
     let node = present(draft, k, inode)?;
@@ -116,8 +116,9 @@ pub fn put_entry<K: Keeper>(
     name: &Name,
     inode: u64,
 ) -> Result<(), TxFault>
-    ensures { Drafting (λ t. MayStandAt t (record { dir = dir; name = name.now }) inode) draft.old draft.new
-        (K.seen k.old) (K.seen k.new) result (entry_put now (record { dir = dir; name = name.now }) inode) }
+    ensures { Drafting (λ t. MayStandAt t (record { dir = dir; name = name.now }) inode)
+        draft.old draft.new (K.seen k.old) (K.seen k.new) result
+        (entry_put now (record { dir = dir; name = name.now }) inode) }
 {
     let node = present(draft, k, inode)?;
     let parent = present(draft, k, dir)?;

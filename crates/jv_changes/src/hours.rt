@@ -23,7 +23,8 @@ use std::marker::Model;
 
 /// The name in the trash of an inode that loses its last entry: `PARENT-INODE-NAME`, cut to 255 bytes.
 pub fn trash_name(alloc: Global, dir: u64, name: &Name, inode: u64) -> Result<Name, AllocError>
-    ensures { IfOk result (λ text. text ≡ model.trash_name (record { dir = dir; name = name.now }) inode) }
+    ensures { IfOk result (λ text. text ≡ model.trash_name
+        (record { dir = dir; name = name.now }) inode) }
 {
     let mut text = Vec::new(alloc);
     text.extend_from_slice(Buffer::new().format(dir).as_bytes())?;
@@ -108,8 +109,8 @@ pub fn enter_hour<K: Keeper>(
     k: &mut K,
     now: Moment,
 ) -> Result<u64, TxFault>
-    ensures step { Drafting (λ t. MayHaveHour t (hour_at now)) draft.old draft.new (K.seen k.old) (K.seen k.new)
-        result (λ t. Ok (model.with_hour t now (hour_at now))) }
+    ensures step { Drafting (λ t. MayHaveHour t (hour_at now)) draft.old draft.new
+        (K.seen k.old) (K.seen k.new) result (λ t. Ok (model.with_hour t now (hour_at now))) }
     ensures inode { IfOk result (λ inode. inode ≡ model.hour_inode (hour_at now)) }
 {
     let inode = hour_inode(now.seconds() / HOUR);

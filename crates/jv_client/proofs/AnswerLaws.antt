@@ -127,7 +127,7 @@ uses-none done v calm bad = record {
   bad = bad;
 }
 
--- ---- an operation ends, whatever it is told
+-- ---- an operation ends, whatever it is answered
 
 module _ (now entry : ℕ) (h after : ClientValue) (before used : Shared) (done : Made) (reply : Reply) where
   pub makes-ended : step_of done ≡ Done reply → IsReady h → Rests h after → UsesDevices done before used

@@ -73,7 +73,7 @@ told-memory device.Depot = refl
 told-memory device.Shelf = refl
 told-memory device.Carrier = refl
 
--- the device that failed is told
+-- the device that failed is answered
 told-unput : (fault : PutFault) (d : Device) → tells_failure d (not_put fault) ≡ put_fails d (Err fault)
 told-unput Carrier = told-carrier
 told-unput Depot = told-depot

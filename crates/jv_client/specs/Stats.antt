@@ -1,4 +1,4 @@
--- What a client tells of its cache.
+-- What a client answers of its cache.
 use Rattle.std.specs.Prelude.{◌≡◌, ℕ, length, Option, None, Some}
 use Rattle.jv_model.specs.declared.act.Told.TheVariants.{Fine}
 use Rattle.jv_model.specs.declared.op.Reply.TheVariants.{CacheStats}

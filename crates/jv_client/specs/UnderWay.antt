@@ -203,7 +203,7 @@ pub data Ends (d : Doing) (h after : ClientValue) (answer : Option (Told × Repl
   Answered : IsTrue (ends_itself h d) → answer ≡ Some (answer_here d.does) → after ≡ told_here d.op (answer_here d.does).0 h → Ends d h after answer
   GoesOn : ends_itself h d ≡ false → answer ≡ None → after ≡ h → Ends d h after answer
 
--- what an operation does, told apart
+-- what an operation does, by its kinds
 
 abbrev pub makes_transaction : Does → Bool
 makes_transaction (does.Mounts writeback) = true

@@ -269,7 +269,7 @@ fn keep(op: &Op, handles: &[Option<Handle>], pending: &mut Pending) -> Result<u6
     }
 }
 
-/// What a read is told that cites these looks, or none by 0.
+/// What a read is answered that cites these looks, or none by 0.
 pub(crate) fn looks(first: u64, second: u64, len: u64) -> Told
     ensures { result ≡ Looks first second len }
 {

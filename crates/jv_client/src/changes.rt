@@ -34,7 +34,8 @@ impl Client {
         requires flushed { left self.old ≡ None }
         requires changes { IfSome self.old.doing (λ d. IsTrue (changes_files d.does)) }
         ensures { (entry : ℕ) (yard : YardValue) (carrier : Carriage) → Makes now entry self.old
-            self.new (shared (K.seen k.old) yard carrier) (shared (K.seen k.new) yard carrier) result }
+            self.new (shared (K.seen k.old) yard carrier)
+            (shared (K.seen k.new) yard carrier) result }
     {
         let who = self.who(now);
         let tried = match &self.doing {

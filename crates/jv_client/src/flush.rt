@@ -76,10 +76,12 @@ impl Client {
         requires some { 0 < at.len }
         requires inside { at.pos + at.len ≤ window_size }
         requires window { at.window * WINDOW < FILE_END }
-        ensures { let seen = ⟦<Yard<D, H> as ObservedYard>⟧.seen in let way = ⟦<dyn Carrier as Carrier>⟧ in
+        ensures { let seen = ⟦<Yard<D, H> as ObservedYard>⟧.seen in
+            let way = ⟦<dyn Carrier as Carrier>⟧ in
             (entry : ℕ) → Makes now entry self.old self.new
             (shared (K.seen k.old) (seen yard.old) ((way carrier.old.0).seen carrier.old.1))
-            (shared (K.seen k.new) (seen yard.new) ((way carrier.new.0).seen carrier.new.1)) result }
+            (shared (K.seen k.new) (seen yard.new) ((way carrier.new.0).seen carrier.new.1))
+            result }
     {
         let upload = self.upload();
         if upload.quiets == 0 {
@@ -129,10 +131,12 @@ impl Client {
     /// Takes the number of a segment's slice. Refused with `Stale` where the session is gone, and with `NoSpace` where there
     /// are no more numbers.
     fn ask_number<K: Keeper>(&mut self, k: &mut K, now: Moment) -> Made
-        requires busy { (started id : ℕ) × (progress_of self.old.doing ≡ Some (Working 0 started id)) }
+        requires busy { (started id : ℕ) × (progress_of self.old.doing
+            ≡ Some (Working 0 started id)) }
         requires ready { IsReady self.old }
         requires next { IsSome (left self.old) }
-        ensures { (entry : ℕ) (yard : YardValue) (carrier : Carriage) → Makes now entry self.old self.new
+        ensures { (entry : ℕ) (yard : YardValue) (carrier : Carriage)
+            → Makes now entry self.old self.new
             (shared (K.seen k.old) yard carrier) (shared (K.seen k.new) yard carrier) result }
     {
         let who = self.who(now);
@@ -171,7 +175,8 @@ impl Client {
         requires some { 0 < at.len }
         requires inside { at.pos + at.len ≤ window_size }
         requires window { at.window * WINDOW < FILE_END }
-        ensures { let seen = ⟦<Yard<D, H> as ObservedYard>⟧.seen in let way = ⟦<dyn Carrier as Carrier>⟧ in
+        ensures { let seen = ⟦<Yard<D, H> as ObservedYard>⟧.seen in
+            let way = ⟦<dyn Carrier as Carrier>⟧ in
             (entry : ℕ) (keeper : Store) → Makes now entry self.old self.new
             (shared keeper (seen yard.old) ((way carrier.old.0).seen carrier.old.1))
             (shared keeper (seen yard.new) ((way carrier.new.0).seen carrier.new.1)) result }

@@ -35,7 +35,8 @@ impl Made {
     /// Appends the step's entries.
     pub(crate) fn append(&self, journal: &mut Journal, line: u32, now: Moment, client: ClientId)
         requires { 2 ≤ journal.old.spare }
-        ensures { journal.new.acts ≡ journal.old.acts ++ entries_of line now client (kinds_of self.now) }
+        ensures { journal.new.acts ≡ journal.old.acts
+            ++ entries_of line now client (kinds_of self.now) }
     {
         match self {
             Made::Request(kind) => note(journal, line, now, client, *kind),

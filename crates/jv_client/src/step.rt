@@ -32,7 +32,8 @@ impl Client {
         requires room { 2 ≤ journal.old.spare }
         requires block { let seen = ⟦<Yard<D, H> as ObservedYard>⟧.seen in
             IsLength (seen yard.old).setting.block }
-        ensures { let seen = ⟦<Yard<D, H> as ObservedYard>⟧.seen in let way = ⟦<dyn Carrier as Carrier>⟧ in
+        ensures { let seen = ⟦<Yard<D, H> as ObservedYard>⟧.seen in
+            let way = ⟦<dyn Carrier as Carrier>⟧ in
             Steps line now self.old self.new
             (shared (K.seen k.old) (seen yard.old) ((way carrier.old.0).seen carrier.old.1))
             (shared (K.seen k.new) (seen yard.new) ((way carrier.new.0).seen carrier.new.1))
@@ -57,10 +58,12 @@ impl Client {
         requires ready { IsReady self.old }
         requires block { let seen = ⟦<Yard<D, H> as ObservedYard>⟧.seen in
             IsLength (seen yard.old).setting.block }
-        ensures { let seen = ⟦<Yard<D, H> as ObservedYard>⟧.seen in let way = ⟦<dyn Carrier as Carrier>⟧ in
+        ensures { let seen = ⟦<Yard<D, H> as ObservedYard>⟧.seen in
+            let way = ⟦<dyn Carrier as Carrier>⟧ in
             Makes now entry self.old self.new
             (shared (K.seen k.old) (seen yard.old) ((way carrier.old.0).seen carrier.old.1))
-            (shared (K.seen k.new) (seen yard.new) ((way carrier.new.0).seen carrier.new.1)) result }
+            (shared (K.seen k.new) (seen yard.new) ((way carrier.new.0).seen carrier.new.1))
+            result }
     {
         if let Some(need) = self.need() {
             return self.ask(need, k, yard, entry);

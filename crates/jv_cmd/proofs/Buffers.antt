@@ -26,7 +26,7 @@ held_more xs ys start end count h fits front =
     ∙ drop-append-le start (take end ys) (take count (drop end ys)) (omega (arith, length-take end ys))
     ∙ ap (λ held. held ++ take count (drop end ys)) (ap (drop start) front ∙ sym (cut xs start end h))
 
--- what is held once so many bytes were let go, or all where there aren't so many
+-- what is held once bytes were let go, or all where there are fewer
 pub held_past : (xs : List ℕ) (start more end next : ℕ) → start ≤ end → next ≡ min end (start + more)
     → take (end - next) (drop next xs) ≡ drop more (take (end - start) (drop start xs))
 held_past xs start more end next order is =

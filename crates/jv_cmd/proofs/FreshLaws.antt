@@ -26,7 +26,7 @@ use Rattle.jv_session.specs.Stands.{AreApart, IsClientAt, Stands, fresh_schedule
 use Rattle.jv_cmd.specs.Run.{Beginning, StartsWhole, session_run, start_of}
 use Rattle.jv_cmd.specs.Stages.{StageValue}
 
--- The depot's blocks tell what all blocks tell that are known.
+-- The depot's blocks have the bytes that all known blocks have.
 told_same : (v : Shared) (fresh : IsFresh v) (g : Known) (t : Tree) → HasStore t g v
     → HasStore (tree_with (told_by v.yard.setting.block (blocks_in v.yard.setting fresh.objects)) (typed fresh.rows)) g v
 told_same v fresh g t store =

@@ -8,7 +8,7 @@ use Rattle.jv_cmd.specs.declared.reader.Next.TheVariants.{Text, TooLong, End}
 use Rattle.jv_model.specs.declared.limits.TheConstants.{MAX_LINE}
 use Rattle.jv_cmd.specs.Texts.{texts_of}
 
--- a source gave bytes, which are held after the others, and none only at its end
+-- a source returned bytes, which are held after the others, and none only at its end
 pub record Fills (before after : Option (List ℕ)) (old new : List ℕ) (count : ℕ) : Type 0 where
   pub bytes : List ℕ
   pub size : length bytes ≡ count

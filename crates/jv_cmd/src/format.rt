@@ -33,7 +33,8 @@ fn put_volume<K: Keeper, C: Clock>(
     requires { IsTrue (is_setting setting.now) }
     ensures puts { PutsVolume setting.now (K.seen keeper.old) (K.seen keeper.new)
         (C.seen clock.old) (C.seen clock.new) result }
-    ensures keeper { UsesKeeper (ended_by result) 0 place.now (K.seen keeper.old) (K.seen keeper.new) }
+    ensures keeper { UsesKeeper (ended_by result) 0 place.now (K.seen keeper.old)
+        (K.seen keeper.new) }
     ensures clock { RoseIf (clock_failed (ended_by result)) (C.seen clock.old).faults
         (C.seen clock.new).faults }
 {
@@ -65,7 +66,8 @@ pub(crate) fn run_format<S: Source, O: Sink, E: Sink, K: Keeper, D: Depot, H: Sh
         Formats setting.now (seen world.old) (seen world.new) result }
     ensures faults { let seen = ⟦<World<S, O, E, K, D, H, C> as Observed>⟧.seen in
         CountsFaults result (in_world (seen world.old)) (in_world (seen world.new)) }
-    ensures keeper { UsesKeeper result 0 place.now (K.seen world.old.keeper) (K.seen world.new.keeper) }
+    ensures keeper { UsesKeeper result 0 place.now (K.seen world.old.keeper)
+        (K.seen world.new.keeper) }
     ensures err { world.new.err ≡ world.old.err }
 {
     let Ok(text) = formatted_text(alloc, setting) else {

@@ -51,8 +51,8 @@ fn make_line<S: Source, O: Sink, K: Keeper, D: Depot, H: Shelf, C: Clock>(
     requires yard { let given = ⟦<Alone<D, H> as YardDoor<D, H>>⟧.given in
         IsSomeAnd (given stage.old.door) (IsYardOf schedule.old) }
     ensures runs { let seen = ⟦<Stage<S, O, K, D, H, C> as ObservedStage>⟧.seen in
-        LineRuns line number (used (seen stage.old) schedule.old) (used (seen stage.new) schedule.new)
-        result }
+        LineRuns line number (used (seen stage.old) schedule.old)
+        (used (seen stage.new) schedule.new) result }
     ensures source { stage.new.source ≡ stage.old.source }
     ensures out { stage.new.out ≡ stage.old.out }
     ensures yard { let given = ⟦<Alone<D, H> as YardDoor<D, H>>⟧.given in
@@ -110,7 +110,8 @@ fn run_text<S: Source, O: Sink, K: Keeper, D: Depot, H: Shelf, C: Clock>(
     requires yard { let given = ⟦<Alone<D, H> as YardDoor<D, H>>⟧.given in
         IsSomeAnd (given stage.old.door) (IsYardOf schedule.old) }
     ensures ends { let seen = ⟦<Stage<S, O, K, D, H, C> as ObservedStage>⟧.seen in
-        TextEnds number text.now (seen stage.old) (seen stage.new) schedule.old schedule.new result }
+        TextEnds number text.now (seen stage.old) (seen stage.new) schedule.old
+        schedule.new result }
     ensures source { stage.new.source ≡ stage.old.source }
     ensures yard { let given = ⟦<Alone<D, H> as YardDoor<D, H>>⟧.given in
         IsSomeAnd (given stage.new.door) (IsYardOf schedule.new) }
@@ -138,9 +139,10 @@ fn turn<S: Source, O: Sink, K: Keeper, D: Depot, H: Shelf, C: Clock>(
         IsSomeAnd (given stage.old.door) (IsYardOf schedule.old) }
     ensures turns { let seen = ⟦<Stage<S, O, K, D, H, C> as ObservedStage>⟧.seen in
         (before : StageValue)
-        → Going (prepend_known reader.old (seen stage.old).source.content) before (seen stage.old) done schedule.old
-        → Turns (prepend_known reader.new (seen stage.new).source.content) before (seen stage.new) done schedule.new
-        result }
+        → Going (prepend_known reader.old (seen stage.old).source.content) before (seen stage.old)
+        done schedule.old
+        → Turns (prepend_known reader.new (seen stage.new).source.content) before (seen stage.new)
+        done schedule.new result }
     ensures more { OnOk result (done < MAX_LINES) }
     ensures yard { let given = ⟦<Alone<D, H> as YardDoor<D, H>>⟧.given in
         IsSomeAnd (given stage.new.door) (IsYardOf schedule.new) }
@@ -171,7 +173,8 @@ fn run_lines<S: Source, O: Sink, K: Keeper, D: Depot, H: Shelf, C: Clock>(
         IsSomeAnd (given stage.old.door) (IsYardOf schedule.old) }
     ensures runs { let seen = ⟦<Stage<S, O, K, D, H, C> as ObservedStage>⟧.seen in
         (before : StageValue)
-        → Going (prepend_known reader.old (seen stage.old).source.content) before (seen stage.old) 0 schedule.old
+        → Going (prepend_known reader.old (seen stage.old).source.content) before (seen stage.old)
+        0 schedule.old
         → EndsLines before (seen stage.new) result }
     ensures yard { let given = ⟦<Alone<D, H> as YardDoor<D, H>>⟧.given in
         IsSomeAnd (given stage.new.door) (IsYardOf schedule.new) }

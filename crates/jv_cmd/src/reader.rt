@@ -45,7 +45,8 @@ impl Model for LineReader {
 
     ghost view = { λ r. take (r.end - r.start) (drop r.start r.buffer.items) };
 
-    ghost invariant = { λ r. (r.start ≤ r.end) × (r.end ≤ vec_len r.buffer) × (vec_len r.buffer ≤ ROOM)
+    ghost invariant = { λ r. (r.start ≤ r.end) × (r.end ≤ vec_len r.buffer)
+        × (vec_len r.buffer ≤ ROOM)
         × (ROOM ≤ vec_capacity r.buffer) };
 }
 
@@ -185,7 +186,8 @@ fn read_behind<S: Source>(source: &mut S, buffer: &mut Vec<u8>, end: usize) -> R
     ensures size { vec_len buffer.new ≡ vec_len buffer.old }
     ensures capacity { vec_capacity buffer.new ≡ vec_capacity buffer.old }
     ensures front { take end buffer.new.items ≡ take end buffer.old.items }
-    ensures reads { Reads (S.seen source.old) (S.seen source.new) result (drop end buffer.new.items) }
+    ensures reads { Reads (S.seen source.old) (S.seen source.new) result
+        (drop end buffer.new.items) }
 {
     source.read(&mut buffer.as_mut_slice()[end..])
 }

@@ -14,7 +14,8 @@ pub(crate) const VERSION: u32 = 1;
 /// Opens the keeper at a place.
 fn attach<K: Keeper>(keeper: &mut K, place: &Text) -> Result<(), Ended>
     ensures rows { (K.seen keeper.new).rows ≡ (K.seen keeper.old).rows }
-    ensures keeper { UsesKeeper (ended_by result) 0 place.now (K.seen keeper.old) (K.seen keeper.new) }
+    ensures keeper { UsesKeeper (ended_by result) 0 place.now (K.seen keeper.old)
+        (K.seen keeper.new) }
     ensures refused { IfErr result (CannotRead (K.seen keeper.old).rows) }
 {
     match keeper.attach(place) {

@@ -41,8 +41,8 @@ impl<S: Source, O: Sink, E: Sink, K: Keeper, D: Depot, H: Shelf, C: Clock> Obser
     for World<S, O, E, K, D, H, C> {
     ghost use Rattle.jv_cmd.specs.Worlds.{block_devices, world_value};
 
-    ghost seen = { λ w. world_value (S.seen w.source) (O.seen w.out) (E.seen w.err) (K.seen w.keeper)
-        (block_devices (D.seen w.depot) (H.seen w.shelf)
+    ghost seen = { λ w. world_value (S.seen w.source) (O.seen w.out) (E.seen w.err)
+        (K.seen w.keeper) (block_devices (D.seen w.depot) (H.seen w.shelf)
         ((Carrier-box w.carrier).seen w.carrier.value))
         (C.seen w.clock) w.journal.acts };
 }

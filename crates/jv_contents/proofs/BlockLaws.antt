@@ -1,4 +1,4 @@
--- Laws of blocks: what they tell stays when others are put, each place that a file shows has its block, and all blocks of slices with rows
+-- Laws of blocks: their bytes stay when others are put, each place that a file shows has its block, and all blocks of slices with rows
 -- stay there.
 use Rattle.std.proofs.Common.{◌≡◌, ◌≢◌, ℕ, ◌+◌, ◌-◌, ◌/◌, ◌%◌, ◌<◌, ◌≤◌, ◌^◌, Bool, true, false, cond, inl, inr, List, [], reverse, Option, None, Some, refl, sym, ap, subst, ◌∙◌, arith}
 use Rattle.std.specs.Prelude.{◌==◌, nat_lt, slice_index, unwrap_or, Contains, if◌then◌else◌}
@@ -39,7 +39,7 @@ grows-then before middle after first second b bytes is = second b bytes (first b
 pub there-grows : (before after : Blocks) (b : BlockId) → Grows before after → IsThere before b → IsThere after b
 there-grows before after b grows there = record { bytes = there.bytes; is = grows b there.bytes there.is; long = there.long }
 
--- what a block that is there tells stays
+-- the bytes of a block that is there stay
 pub told-grows : (block : ℕ) (before after : Blocks) → Grows before after → (id size at : ℕ) → IsThere before (block_at id size block (at / block))
     → told_by block after id size at ≡ told_by block before id size at
 told-grows block before after grows id size at there =

@@ -33,7 +33,7 @@ module _ (told : Told) where
   ]
 
   module _ (size : ℕ) (places : ℕ → Spot) (past : (p : ℕ) → size ≤ p → places p ≡ Zero) where
-    -- bytes told of other places over a range are the bytes that are put there
+    -- bytes known of other places over a range are the bytes that are put there
     pub byte-patched : (from len : ℕ) (new : ℕ → Spot) (byte : ℕ → ℕ) → ((k : ℕ) → k < len → spot_byte told (new k) ≡ byte k)
         → (p : ℕ) → spot_byte told (put_over places from len new p) ≡ (patched (content_at_places size places) from len byte).byte p
     byte-patched from len new byte is p = go (nat_le from p && nat_lt p (from + len)) refl
@@ -51,7 +51,7 @@ module _ (told : Told) where
         → (p : ℕ) → spot_byte told (put_over places from (length bytes) new p) ≡ (overwritten (content_at_places size places) from bytes).byte p
     byte-committed from bytes new is p = byte-patched from (length bytes) new (slice_index bytes) is p
 
-    -- the commit of a record that begins with its slice, of which the bytes are told
+    -- the commit of a record that begins with its slice, of which the bytes are known
     pub byte-committed_record : (from : ℕ) (bytes : List ℕ) (r : Rec) → r.id ≢ 0 → r.off ≡ 0 → r.len ≡ length bytes
         → ((k : ℕ) → k < length bytes → told r.id r.size k ≡ slice_index bytes k)
         → (p : ℕ) → spot_byte told (put_over places from r.len (shown r) p) ≡ (overwritten (content_at_places size places) from bytes).byte p

@@ -1,5 +1,5 @@
 -- Laws of ranges that are put over others, and of records that fill a range: a list with them shows their places over it. The pieces of
--- a plan give such records.
+-- a plan make such records.
 use Rattle.std.proofs.Common.{◌≡◌, ◌≢◌, ℕ, ◌+◌, ◌-◌, ◌*◌, ◌<◌, ◌≤◌, Bool, true, false, cond, List, [], ◌∷◌, ◌++◌, length, Option, Some, None, inl, inr, refl, sym, ap, subst, ◌∙◌, append_assoc, arith}
 use Rattle.std.specs.Prelude.{nat_le, nat_lt, ◌==◌, ◌&&◌, All}
 use Rattle.std.proofs.lemmas.Bool.{and_parts, and_from, and_left, and_right, leb-true, ltb-true, cases_lt, cond-true, cond-false, lt-ltb, le-ltb, le-leb, lt-leb, eqb-false, ne_eqb}

@@ -1,4 +1,4 @@
--- Laws of slices in flight, and what the blocks of a whole one tell.
+-- Laws of slices in flight, and the bytes that the blocks of a whole one have.
 use Rattle.std.proofs.Common.{◌≡◌, ◌≢◌, ℕ, ◌+◌, ◌*◌, ◌/◌, ◌%◌, ◌<◌, ◌≤◌, ◌⊎◌, inl, inr, min, List, [], length, take, drop, Option, None, Some, refl, sym, ap, subst, ◌∙◌, arith}
 use Rattle.std.specs.Prelude.{slice_index, unwrap_or}
 use Rattle.std.proofs.lemmas.List.{length-take, length-drop, get_or-take, get_or-drop}
@@ -36,7 +36,7 @@ module _ (block : ℕ) (rows : Rows) (blocks : Blocks) (f : Flight) (flies : InF
     pub complete-there : (index : ℕ) → index < block_count (length f.bytes) block → IsThere blocks (block_at f.id (length f.bytes) block index)
     complete-there index low = flight-there index (subst (λ n. index < n) (sym complete) low)
 
-    -- and tell its bytes
+    -- and have its bytes
     pub complete-told : (k : ℕ) → k < length f.bytes → told_by block blocks f.id (length f.bytes) k ≡ slice_index f.bytes k
     complete-told k low =
         ap (λ o. slice_index (unwrap_or o []) (k % block)) (flies.those (k / block) put)

@@ -1,4 +1,4 @@
--- The blocks of slices, and the bytes that they tell.
+-- The blocks of slices, and their bytes.
 use Rattle.std.specs.Prelude.{◌≡◌, ◌≢◌, ℕ, ◌/◌, ◌%◌, ◌<◌, List, [], length, slice_index, Option, Some, unwrap_or}
 use Rattle.jv_model.specs.declared.row.SliceRow.{SliceRow}
 use Rattle.jv_model.specs.declared.slice.BlockId.{BlockId}
@@ -16,7 +16,7 @@ Blocks = BlockId → Option (List ℕ)
 abbrev pub Grows : Blocks → Blocks → Type 0
 Grows before after = (b : BlockId) (bytes : List ℕ) → before b ≡ Some bytes → after b ≡ Some bytes
 
--- what blocks of this length tell of slices
+-- the bytes that slices have by blocks of this length
 abbrev pub told_by : ℕ → Blocks → Told
 told_by block blocks id size at = slice_index (unwrap_or (blocks (block_at id size block (at / block))) []) (at % block)
 

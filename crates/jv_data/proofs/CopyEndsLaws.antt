@@ -104,7 +104,7 @@ module _ (sid now src dst from to len : ℕ) (due : Setting → ℕ) where
   abbrev pub makes : ℕ → Makes
   makes count = record { own = 0; size = 0; more = count; due = due }
 
-  -- of so many bytes
+  -- of this many bytes
   abbrev last_step : ℕ → Tree → Result Outcome Fault
   last_step n t = answered (copied t now src from dst to n) (Count n)
 

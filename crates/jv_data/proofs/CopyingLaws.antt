@@ -1,4 +1,4 @@
--- How the parts of a copy come to the lists of its target, one window after another.
+-- How the parts of a copy are added to the lists of its target, one window after another.
 use Rattle.std.proofs.Common.{◌≡◌, ℕ, ◌+◌, ◌%◌, ◌<◌, true, List, [], ◌∷◌, ◌++◌, length, Some, Ok, Err, Result, refl, ap, ◌∙◌, arith}
 use Rattle.std.specs.Prelude.{◌&&◌, IsTrue}
 use Rattle.std.specs.List.{AllByRecursion, list_all}
@@ -71,7 +71,7 @@ module _ (c : Course) (done : ℕ) (before : Store) (changes : List Change) wher
 
 -- ---- one part after another
 
--- so many bytes are done
+-- `done` bytes are copied
 pub record IsCopying (c : Course) (before now : Store) (changes changed : List Change) (done : ℕ) (added : List Rec) : Type 0 where
   pub looks : Looks {A = Unit {0}} before now (Ok tt) (λ t. Ok tt)
   pub so_far : (known : RowMap) → before.rows ≡ Some known → Copying c done (typed known) (drafted changes known) (drafted changed known) added

@@ -48,7 +48,7 @@ part-within c done less = omega (arith, less)
 pub window-low : (c : Course) (done : ℕ) → done < c.len → c.to + c.len ≤ FILE_END → window_at c done < 2 ^ 32
 window-low c done less small = omega (arith, less, small)
 
--- ---- records that come to a list
+-- ---- records that are added to a list
 
 -- counts lag behind by them
 pub move-append : (start middle : Rows) (added : List Rec) (key : RowKey) (old new : List Rec) → key.tab ≡ 4 → ListsMove start middle [] added

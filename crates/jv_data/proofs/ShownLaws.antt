@@ -112,7 +112,7 @@ shown_slice rows l have q id size at e = by_record (visible l q) refl e
 
 -- ---- one source window after another
 
--- so many positions of a range were read
+-- `done` positions of a range were read
 pub record IsShowing (inode from pos : ℕ) (before now : Store) (done : ℕ) (list : List Rec) : Type 0 where
   pub looks : Looks {A = Unit {0}} before now (Ok tt) (λ t. Ok tt)
   pub records : AllByRecursion IsRecord list

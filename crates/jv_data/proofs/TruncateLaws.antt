@@ -129,7 +129,7 @@ module _ (inode window id : ℕ) (list : List Rec) (before after : Store) where
 
 -- ---- all slices that a list names
 
--- the first so many records of a list name slices with rows
+-- the first records of a list name slices with rows
 pub record IsChecking (list : List Rec) (before now : Store) (i : ℕ) : Type 0 where
   pub looks : Looks {A = Unit {0}} before now (Ok tt) (λ t. Ok tt)
   pub slices : (known : RowMap) → before.rows ≡ Some known → HaveSlices (typed known) (take i list)

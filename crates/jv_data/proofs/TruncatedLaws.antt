@@ -33,7 +33,7 @@ use Rattle.jv_data.proofs.ListChangeLaws.{ListsChange, whole-changed, others-cha
 use Rattle.jv_data.proofs.SameTreeLaws.{beside-adjusted}
 use Rattle.jv_data.proofs.SizedLaws.{sized_rows, quiet-sized}
 
--- each key of a list of whole rows tells a window
+-- each key of a list of whole rows has a window
 pub whole-windows : (rows : Rows) → Whole rows → HaveWindows rows
 whole-windows rows whole key four there = by_cell (get rows key) refl
   where

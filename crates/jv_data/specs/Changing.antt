@@ -1,4 +1,4 @@
--- What a transaction on the bytes of files does, by the tree that the rows have with the bytes that are told of slices.
+-- What a transaction on the bytes of files does, by the tree that the rows have with the bytes that are known of slices.
 use Rattle.std.specs.Prelude.{◌≡◌, ◌⊎◌, ℕ, ◌+◌, ◌<◌, Option, None, Some, Result, Ok, Err, IfErr, IfSome, OnErr}
 use Rattle.jv_model.specs.declared.fault.Fault.{Fault}
 use Rattle.jv_model.specs.declared.fault.Fault.TheVariants.{NoSpace}
@@ -59,7 +59,7 @@ LandsChanged makes crowded known after told reply act (Err (OfRows Failed)) = Un
 LandsChanged makes crowded known after told reply act (Err (OfRows Memory)) = Unit {0}
 
 -- A transaction on the bytes of files: after an error the rows are as before, and over whole rows that are ready for it, whatever is
--- told of slices, it does what the model's does to their tree.
+-- known of slices, it does what the model's does to their tree.
 pub record Changes {A : Type 0} (makes : Makes) (ready : Rows → Told → Type 0) (crowded : Rows → Type 0) (before after : Store) (result : Result A TxFault)
     (reply : A → Reply) (act : Tree → Result Outcome Fault) : Type 0 where
   pub opened_at : after.opened ≡ before.opened
@@ -82,6 +82,6 @@ abbrev pub count_in : Result ℕ TxFault → ℕ
 count_in (Ok count) = count
 count_in (Err fault) = 0
 
--- whatever is told
+-- whatever is known
 abbrev pub AnyTold : Rows → Told → Type 0
 AnyTold rows told = Unit {0}

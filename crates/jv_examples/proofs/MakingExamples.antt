@@ -102,7 +102,7 @@ numbers_run_out : texts almost_full numbers_run_out_events ≡ numbers_run_out_t
 unfolding tree_computes replies_on_literals
 numbers_run_out = refl
 
--- Link counts that can't be stored: no tree that is written out here has so many entries.
+-- Link counts that can't be stored: no tree that is written out here has that many entries.
 
 -- a file with 2^32 - 1 names gets no other
 full_links_refuse_a_link : (t : Tree) (who : Caller) (path to : List ℕ) (inode : ℕ) (place : EntryKey)

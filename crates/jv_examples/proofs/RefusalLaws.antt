@@ -130,7 +130,7 @@ may_have_looked (LookedAgain misses window owed) = true
 may_have_looked (Compacting k) = true
 may_have_looked _ = false
 
--- a block that is still to come is told of after another look alone
+-- a block that is still to come is known after another look alone
 pub try_again_after_look : {start : Start} {s : State} {client now : ℕ} {c : ModelClient} {d : Doing} {commit : ℕ}
     → may_have_looked d.stage ≡ false → IsRefusedIn start s client now c d (TryAgain commit) → ⊥
 try_again_after_look unlooked (SessionGone asks gone e) = absurd (cc)
@@ -300,7 +300,7 @@ abbrev reply_in : Reply → Stage → Reply
 reply_in other (Replying answer) = answer
 reply_in other _ = other
 
--- a settled answer is the one that is told
+-- a settled answer is the one that is answered
 pub settled_is_told : {start : Start} {alone : Bool} {s : State} {client now : ℕ} {c : ModelClient} {o : Op} {does : Does} {flush : Flush} {moved : Bool} {answer : Reply} {told : Told}
     → is_stats does ≡ false → MayAnswer start alone s client now c (record { op = o; does = does; flush = flush; stage = Replying answer; moved = moved }) told → told ≡ told_of answer
 settled_is_told other (Fails must fails) = absurd (cc)

@@ -190,7 +190,7 @@ cleaning_ends_after_a_block more all =
     let h = entry_is_allowed (at_start cleaning_run) (take 21 cleaning_journal) (entry 8 0 (Answered (Fine 0 0 1 0))) more all in
     let step = own_step h.stands.may refl in let ends = cleaning_ends step in never ends.over
 
--- a cleaning that tells another number of files
+-- a cleaning that answers another number of files
 cleaning_counts_more : (more : List Act) → AllAllowed (at_start cleaning_run) (take 23 cleaning_journal ++ entry 8 0 (Answered (Fine 0 0 2 1)) ∷ more) → ⊥
 unfolding journals_compute
 cleaning_counts_more more all =

@@ -106,7 +106,7 @@ second_window_unread more all =
     let h = entry_is_allowed (at_start long_file_run) (take 12 long_file_journal) (entry 7 0 (Answered (Looks 11 0 1))) more all in
     let step = own_step h.stands.may refl in let read = read_returns refl refl step in let no = read.gives in cc
 
--- a read that tells another number of bytes
+-- a read that answers another number of bytes
 bytes_counted_wrong : (more : List Act) → AllAllowed (at_start long_file_run) (take 12 long_file_journal ++ entry 7 0 (Answered (Looks 11 12 3)) ∷ more) → ⊥
 unfolding journals_compute
 bytes_counted_wrong more all =

@@ -15,7 +15,7 @@ place_of asked = asked.from - window_start asked.window
 abbrev pub shown_len : View → Asked → ℕ
 shown_len view asked = min asked.to view.length - asked.from
 
--- the bytes that a view shows of a part, as far as the file went, by what is told of slices
+-- the bytes that a view shows of a part, as far as the file went, by what is known of slices
 abbrev pub shown_bytes : Told → View → Asked → List ℕ
 shown_bytes told view asked = bytes_from (window_byte told view.list) (place_of asked) (shown_len view asked)
 

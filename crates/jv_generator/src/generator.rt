@@ -46,7 +46,8 @@ impl Generator {
     /// The only error is out of memory; nothing has changed then, and the next call returns that line.
     #[tactic(auto, using(crate::proofs::ScriptLaws::no_line))]
     pub fn next(&mut self, alloc: Global) -> Result<Option<Line>, AllocError>
-        ensures line { IfOk result (λ line. line ≡ slice_get (script self.old.seed) self.old.given) }
+        ensures line { IfOk result (λ line. line
+            ≡ slice_get (script self.old.seed) self.old.given) }
         ensures end { IfOk result (λ line. (line ≡ None) ↔ (self.old.given ≡ LINES)) }
         ensures given { IfOk result (λ line. self.new ≡ record self.old {
           given = self.old.given + (if is_some line then 1 else 0);

@@ -23,7 +23,13 @@ impl Model for Totals {
 
     ghost Value = { TotalsValue };
 
-    ghost view = { λ t. record { lines = t.lines; ok = t.ok; err = t.err; bytes = t.bytes; values = t.values } };
+    ghost view = { λ t. record {
+      lines = t.lines;
+      ok = t.ok;
+      err = t.err;
+      bytes = t.bytes;
+      values = t.values;
+    } };
 }
 
 impl Totals {

@@ -1,4 +1,4 @@
--- How what a rename replaces is removed: each exit, and what it tells of the file that the session keeps.
+-- How what a rename replaces is removed: each exit, and what it answers of the file that the session keeps.
 use Rattle.std.proofs.Common.{◌≡◌, ℕ, Bool, true, false, not, ◌&&◌, ◌==◌, List, Option, None, Some, is_some, Result, Ok, Err, refl, sym, ap, ◌∙◌}
 use Rattle.std.specs.Prelude.{IsErrAnd}
 use Rattle.std.proofs.Math.Bool.{and-not_self}

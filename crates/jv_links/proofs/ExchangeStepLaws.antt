@@ -29,7 +29,7 @@ use Rattle.jv_links.proofs.ExchangeTreeLaws.{there-change_node, exchanged-taken}
 use Rattle.jv_links.proofs.MoveEntryLaws.{apart_first, entry_apart, le_of_test, required_then}
 use Rattle.jv_changes.proofs.StepLaws.{drafting-as, drafting-ready, then-stops, then-on}
 
--- ---- what an entry gives to a link count
+-- ---- what an entry adds to a link count
 
 module _ (dirs : ℕ → Bool) (at : EntryKey) (inode j : ℕ) where
   -- nothing to what it neither names nor stands in
@@ -40,7 +40,7 @@ module _ (dirs : ℕ → Bool) (at : EntryKey) (inode j : ℕ) where
       by_dir true is = share-dir dirs at inode j is within ∙ standing_apart j at away
       by_dir false leaf = share-leaf dirs at inode j leaf ∙ naming_apart j at inode other
 
--- and an entry gives no more to what it names than any other entry that names it
+-- and an entry adds no more to what it names than any other entry that names it
 share_least : (dirs : ℕ → Bool) (at place : EntryKey) (inode : ℕ) → dirs at.dir ≡ true → at.dir ≢ inode
     → link_share dirs at inode inode
     ≤ link_share dirs place inode inode

@@ -80,7 +80,7 @@ module _ (caller : Caller) (place : EntryKey) (inode : ℕ) (draft : List Change
     made_by after fate p = drafting-made ready draft draft before after p stay fate (λ are. are)
         (λ known is bytes t m r. record { left = t; is = refl; minds = m })
 
-    -- what is told of the model's fate
+    -- what is answered of the model's fate
     abbrev fate_by : Bool → Bool → Bool → model.Fate
     fate_by several days used = (if several then model.Linked else if days then model.Trashed else if used
         then model.Sustained else model.Dropped)

@@ -1,4 +1,4 @@
--- What a rename tells of what it replaced, and how a rename goes on after readings.
+-- What a rename answers of what it replaced, and how a rename goes on after readings.
 use Rattle.std.proofs.Common.{◌≡◌, ℕ, ◌≤◌, Bool, true, false, not, ◌&&◌, Option, None, Some, Result, Ok, Err, refl, ap, subst, ◌∙◌}
 use Rattle.std.specs.Prelude.{IfErr, IfSome, OnErr, is_some}
 use Rattle.std.proofs.lemmas.Bool.{le-leb}
@@ -45,7 +45,7 @@ pub links_low : (t : Tree) (inode : ℕ) (place : Place) (byte : ℕ → ℕ) �
     → place.node.nlink ≤ MAX_LINKS → links_fit t inode ≡ true
 links_low t inode place byte n low = le-leb (link_count t inode) MAX_LINKS (subst (λ m. m ≤ MAX_LINKS) n.links low)
 
--- ---- what is told
+-- ---- what is answered
 
 gained : (b : Bool) → (b && not b) ≡ false
 gained true = refl

@@ -1,4 +1,4 @@
--- How an unlink goes on once its entry is found, how it ends, and what it tells of the file that the session keeps.
+-- How an unlink goes on once its entry is found, how it ends, and what it answers of the file that the session keeps.
 use Rattle.std.proofs.Common.{◌≡◌, ℕ, ◌≤◌, Bool, true, false, not, ◌&&◌, ◌==◌, inl, inr, List, [], Option, None, Some, is_some, Result, Ok, Err}
 use Rattle.std.proofs.Common.{refl, sym, ap, subst, ◌∙◌, arith, ne_eqb, eq-eqb}
 use Rattle.std.specs.Prelude.{IsErrAnd}
@@ -224,7 +224,7 @@ module _ (who : Who) (caller : Caller) (is_for : IsFor who caller) (path : List 
             whole-remove_entry (tree_of bytes (typed known)) caller place inode m.whole
             (record { is = m.is; leaf = m.leaf; session = m.session; held = m.held; clock = m.clock }))
 
-    -- what it tells of what the session keeps
+    -- what it answers of what the session keeps
     pub unlink-tells : (fate : Told) → TellsFate caller place inode draft middle (Ok fate)
         → TellsSustained caller.sid ready before (Some (Some (record { inode = inode; fate = fate }))) removes
     unlink-tells fate tells known is whole bytes held i =

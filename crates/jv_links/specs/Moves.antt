@@ -105,7 +105,7 @@ renamed_with Exchange t who from source to target = do
   other ← some_or target NotFound
   unless_same t source other (λ _. exchanging t who from source to other)
 
--- a transaction that renames, and tells what became of what it replaced
+-- a transaction that renames, and answers what became of what it replaced
 pub record Renames (sid : ℕ) (ready : Tree → Type 0) (before after : Store) (result : Result (Option Removed) TxFault)
     (act : Tree → Result Outcome Fault) : Type 0 where
   pub does : Transacts ready before after result (λ removed. Done) act

@@ -42,7 +42,7 @@ fate_in model.Trashed = Trashed
 fate_in model.Sustained = Sustained
 fate_in model.Dropped = Dropped
 
--- the fate that a removal tells is the model's, for each tree that the rows in mind are those of
+-- the fate that a removal answers is the model's, for each tree that the rows in mind are those of
 abbrev pub TellsFate : Caller → EntryKey → ℕ → List Change → Store → Result Fate TxFault → Type 0
 TellsFate who place inode was before result = IfOk result (λ fate. (known : RowMap) → before.rows ≡ Some known
     → (bytes : ℕ → ℕ → ℕ) (t : Tree)
@@ -68,7 +68,7 @@ abbrev pub keeps_removed : Option Removed → ℕ → Bool
 keeps_removed None inode = false
 keeps_removed (Some removed) inode = is_kept removed.fate && (removed.inode == inode)
 
--- Over whole rows, whose tree is ready, what was removed tells which file the session keeps from then on.
+-- Over whole rows, whose tree is ready, what was removed says which file the session keeps from then on.
 abbrev pub TellsSustained : ℕ → (Tree → Type 0) → Store → Option (Option Removed) → (Tree → Result Outcome Fault)
     → Type 0
 TellsSustained sid ready before result act = IfSome result (λ removed. (known : RowMap) → before.rows ≡ Some known

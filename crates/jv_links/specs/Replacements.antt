@@ -37,7 +37,7 @@ pub record MayClear (t : Tree) (who : Caller) (place : EntryKey) (inode : ℕ) (
   pub held : HoldsFiles who.held t
   pub clock : who.now ≤ LAST_MOMENT
 
--- What was removed tells which file the session keeps from then on, for each tree that the rows in mind are those of.
+-- What was removed says which file the session keeps from then on, for each tree that the rows in mind are those of.
 abbrev pub TellsCleared : Caller → EntryKey → ℕ → Bool → List Change → Store → Result (Option Removed) TxFault → Type 0
 TellsCleared who place inode directory was before result = IfOk result (λ removed. (known : RowMap)
     → before.rows ≡ Some known → (bytes : ℕ → ℕ → ℕ) (t : Tree)

@@ -14,7 +14,7 @@ use std::alloc::Global;
 // Whether a way up, which over whole rows is of fewer steps than these, leads by a directory that has an entry.
 //
 // Rows whose way up is longer are not whole: it leads in a circle, or by more directories than are counted. What is moved then
-// can't be told from what it is moved into, so it is refused as Invalid.
+// can't be distinguished from what it is moved into, so it is refused as Invalid.
 fn climb<K: Keeper>(
     alloc: Global,
     k: &mut K,
@@ -25,7 +25,8 @@ fn climb<K: Keeper>(
     requires stands { StandsDirectory (K.seen k.old) start }
     requires near { StandsNear (K.seen k.old) start.inode steps }
     requires low { is_top source ≡ false }
-    ensures { Looks (K.seen k.old) (K.seen k.new) result (λ t. Ok (model.is_inside t start.inode source)) }
+    ensures { Looks (K.seen k.old) (K.seen k.new) result
+        (λ t. Ok (model.is_inside t start.inode source)) }
 {
     let mut place = start;
     for _step in 0..steps {
@@ -55,7 +56,8 @@ pub(crate) fn is_inside<K: Keeper>(
 ) -> Result<bool, TxFault>
     requires dir { StandsDirectory (K.seen k.old) dir.now }
     requires source { Stands (K.seen k.old) source.now }
-    ensures { Looks (K.seen k.old) (K.seen k.new) result (λ t. Ok (model.is_inside t dir.now.inode source.now.inode)) }
+    ensures { Looks (K.seen k.old) (K.seen k.new) result
+        (λ t. Ok (model.is_inside t dir.now.inode source.now.inode)) }
 {
     if source.node.kind != 2 {
         return Ok(false);

@@ -57,7 +57,8 @@ fn may_leave(how: How, entry: &EntryPlace) -> bool
 
 // Whether an entry may be renamed to another one.
 fn may_move(how: How, from: &EntryPlace, to: &EntryPlace) -> bool
-    ensures { result ≡ (model.may_leave how (place_of from.now) && model_making.may_be_new (place_of to.now)) }
+    ensures { result ≡ (model.may_leave how (place_of from.now)
+        && model_making.may_be_new (place_of to.now)) }
 {
     may_leave(how, from) && may_be_new(to)
 }
@@ -92,7 +93,8 @@ pub(crate) fn find_ends<K: Keeper>(
     to: &Path,
     how: How,
 ) -> Result<Ends, TxFault>
-    ensures { FindsEnds (K.seen k.old) (K.seen k.new) result (λ t. move_asked t sid path.now to.now how) }
+    ensures { FindsEnds (K.seen k.old) (K.seen k.new) result
+        (λ t. move_asked t sid path.now to.now how) }
 {
     in_session(alloc, k, sid)?;
     let from = walk_to_entry(alloc, k, path)?;

@@ -47,10 +47,12 @@ fn fate_of<K: Keeper>(
     dir: u64,
     inode: u64,
 ) -> Result<Fate, TxFault>
-    ensures does { (caller : Caller) (place : EntryKey) → place.dir ≡ dir → IsFor who.entry.now caller
+    ensures does { (caller : Caller) (place : EntryKey) → place.dir ≡ dir
+        → IsFor who.entry.now caller
         → Drafting (λ t. MayLose t caller place inode) draft.now draft.now
         (K.seen k.old) (K.seen k.new) result (λ t. Ok t) }
-    ensures tells { (caller : Caller) (place : EntryKey) → place.dir ≡ dir → IsFor who.entry.now caller
+    ensures tells { (caller : Caller) (place : EntryKey) → place.dir ≡ dir
+        → IsFor who.entry.now caller
         → TellsFate caller place inode draft.now (K.seen k.old) result }
 {
     let Some(node) = draft.node(k, inode)? else {
@@ -79,8 +81,8 @@ fn trash<K: Keeper>(
     name: &Name,
     inode: u64,
 ) -> Result<(), TxFault>
-    ensures { Drafting (λ t. IsToTrash t now (record { dir = dir; name = name.now }) inode) draft.old draft.new
-        (K.seen k.old) (K.seen k.new) result
+    ensures { Drafting (λ t. IsToTrash t now (record { dir = dir; name = name.now }) inode)
+        draft.old draft.new (K.seen k.old) (K.seen k.new) result
         (λ t. Ok (trashed t now (record { dir = dir; name = name.now }) inode)) }
 {
     let hour = enter_hour(alloc, draft, k, now)?;
@@ -116,11 +118,12 @@ pub fn remove_entry<K: Keeper>(
     inode: u64,
 ) -> Result<Fate, TxFault>
     ensures does { (caller : Caller) → IsFor who.entry.now caller
-        → Drafting (λ t. MayLose t caller (record { dir = dir; name = name.now }) inode) draft.old draft.new
-        (K.seen k.old) (K.seen k.new) result
+        → Drafting (λ t. MayLose t caller (record { dir = dir; name = name.now }) inode)
+        draft.old draft.new (K.seen k.old) (K.seen k.new) result
         (λ t. Ok (model.remove_entry t caller (record { dir = dir; name = name.now }) inode)) }
     ensures tells { (caller : Caller) → IsFor who.entry.now caller
-        → TellsFate caller (record { dir = dir; name = name.now }) inode draft.old (K.seen k.old) result }
+        → TellsFate caller (record { dir = dir; name = name.now }) inode draft.old
+        (K.seen k.old) result }
 {
     let fate = fate_of(alloc, draft, k, who, dir, inode)?;
     take_entry(draft, k, who.now, dir, name, inode)?;

@@ -29,8 +29,9 @@ pub(crate) fn move_entry<K: Keeper>(
     source: u64,
     to: &EntryPlace,
 ) -> Result<(), TxFault>
-    ensures { Drafting (λ t. MayMove t (place_of from.now) source (place_of to.now)) draft.old draft.new
-        (K.seen k.old) (K.seen k.new) result (moved_within now (place_of from.now) source (place_of to.now)) }
+    ensures { Drafting (λ t. MayMove t (place_of from.now) source (place_of to.now))
+        draft.old draft.new (K.seen k.old) (K.seen k.new) result
+        (moved_within now (place_of from.now) source (place_of to.now)) }
 {
     take_entry(draft, k, now, from.dir.inode, &from.name, source)?;
     put_entry(draft, k, now, to.dir.inode, &to.name, source)?;
@@ -51,9 +52,10 @@ pub(crate) fn move_to_free<K: Keeper>(
     requires { EndsStand (K.seen k.old) ends.now }
     ensures { (caller : Caller) (how : How) → IsFor who.entry.now caller
         → Renames caller.sid
-        (λ t. IsFreeMove t caller.sid how (place_of ends.now.from) ends.now.source.inode (place_of ends.now.to))
-        (K.seen k.old) (K.seen k.new) result
-        (λ t. model.renamed t caller (place_of ends.now.from) ends.now.source.inode (place_of ends.now.to)) }
+        (λ t. IsFreeMove t caller.sid how (place_of ends.now.from) ends.now.source.inode
+        (place_of ends.now.to)) (K.seen k.old) (K.seen k.new) result
+        (λ t. model.renamed t caller (place_of ends.now.from) ends.now.source.inode
+        (place_of ends.now.to)) }
 {
     prove!(ends.from.dir.node.nlink <= MAX_LINKS);
     prove!(ends.source.node.nlink <= MAX_LINKS);

@@ -37,7 +37,8 @@ fn find_removable<K: Keeper>(
     sid: u64,
     path: &Path,
 ) -> Result<Removable, TxFault>
-    ensures { ComesToRemovable (K.seen k.old) (K.seen k.new) result (λ t. removable_at t sid path.now) }
+    ensures { ComesToRemovable (K.seen k.old) (K.seen k.new) result
+        (λ t. removable_at t sid path.now) }
 {
     in_session(alloc, k, sid)?;
     let place = walk_to_entry(alloc, k, path)?;

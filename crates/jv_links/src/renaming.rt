@@ -53,9 +53,10 @@ fn rename_to_none<K: Keeper>(
     requires { EndsStand (K.seen k.old) ends.now }
     ensures { (caller : Caller) → IsFor who.entry.now caller
         → Renames caller.sid
-        (λ t. IsFreeMove t caller.sid how (place_of ends.now.from) ends.now.source.inode (place_of ends.now.to))
-        (K.seen k.old) (K.seen k.new) result
-        (λ t. renamed_with how t caller (place_of ends.now.from) ends.now.source.inode (place_of ends.now.to) None) }
+        (λ t. IsFreeMove t caller.sid how (place_of ends.now.from) ends.now.source.inode
+        (place_of ends.now.to)) (K.seen k.old) (K.seen k.new) result
+        (λ t. renamed_with how t caller (place_of ends.now.from) ends.now.source.inode
+        (place_of ends.now.to) None) }
 {
     match how {
         How::Exchange => Err(TxFault::Refused(Fault::NotFound)),

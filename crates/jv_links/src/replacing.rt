@@ -59,8 +59,8 @@ fn remove_target<K: Keeper>(
     other: &Place,
 ) -> Result<Option<Removed>, TxFault>
     ensures does { (caller : Caller) → IsFor who.entry.now caller
-        → Drafting (λ t. MayClear t caller (place_of to.now) other.now.inode (other.now.node.kind == 2))
-        draft.old draft.new (K.seen k.old) (K.seen k.new) result
+        → Drafting (λ t. MayClear t caller (place_of to.now) other.now.inode
+        (other.now.node.kind == 2)) draft.old draft.new (K.seen k.old) (K.seen k.new) result
         (λ t. Ok (model.without_target t caller (place_of to.now) other.now.inode)) }
     ensures tells { (caller : Caller) → IsFor who.entry.now caller
         → TellsCleared caller (place_of to.now) other.now.inode (other.now.node.kind == 2)

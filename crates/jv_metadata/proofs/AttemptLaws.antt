@@ -120,7 +120,7 @@ keeps-told : (removed : Option Removed) (inode : ℕ) → keeps_removed removed 
 keeps-told None inode = refl
 keeps-told (Some removed) inode = kept_same removed.fate removed.inode inode
 
--- an unlink tells the file that is kept
+-- an unlink answers the file that is kept
 pub tells-unlinked : (who : Caller) (before : Store) (path : List ℕ) (o : Op) → o ≡ op.Unlink path → (made : Result Removed TxFault)
     → TellsSustained who.sid (HoldsFiles who.held) before (removed_in made) (λ t. unlink t who path)
     → (result : Result Answer TxFault) → result ≡ mapped (λ removed. record { reply = Done; kept = kept_of (Some removed) }) made → TellsKept who o before result

@@ -1,4 +1,4 @@
--- The operations that are one transaction on metadata, what the model's transaction of each is, and what is told of it.
+-- The operations that are one transaction on metadata, what the model's transaction of each is, and what is answered of it.
 use Rattle.std.specs.Prelude.{◌≡◌, ℕ, Bool, true, false, ◌&&◌, ◌==◌, not, Option, None, Some, Result, Ok, Err, IfOk, MatchBool}
 use Rattle.jv_model.specs.declared.fault.Fault.{Fault}
 use Rattle.jv_model.specs.declared.fault.TxFault.{TxFault}
@@ -135,7 +135,7 @@ abbrev pub is_inode : Option ℕ → ℕ → Bool
 is_inode None inode = false
 is_inode (Some kept) inode = kept == inode
 
--- the file that the session keeps from then on, by whole rows whose caller has files open, is the one that is told
+-- the file that the session keeps from then on, by whole rows whose caller has files open, is the one that is answered
 abbrev pub KeepsOne : Caller → Op → Store → Option ℕ → Type 0
 KeepsOne who o before kept = (known : RowMap) → before.rows ≡ Some known → Whole (typed known) → (bytes : ℕ → ℕ → ℕ) → HoldsFiles who.held (tree_of bytes (typed known))
     → (inode : ℕ)

@@ -85,7 +85,10 @@ fn kept(removed: Removed) -> Option<u64>
 
 /// That an entry was removed, and whether its file is kept.
 pub(crate) fn unlinked(made: Result<Removed, TxFault>) -> Result<Answer, TxFault>
-    ensures { result ≡ mapped (λ removed. record { reply = reply.Done; kept = kept_of (Some removed) }) made }
+    ensures { result ≡ mapped (λ removed. record {
+      reply = reply.Done;
+      kept = kept_of (Some removed);
+    }) made }
 {
     let kept = kept(made?);
     Ok(Answer {
@@ -96,7 +99,8 @@ pub(crate) fn unlinked(made: Result<Removed, TxFault>) -> Result<Answer, TxFault
 
 /// That an entry was renamed, and whether the file that it replaced is kept.
 pub(crate) fn renamed(made: Result<Option<Removed>, TxFault>) -> Result<Answer, TxFault>
-    ensures { result ≡ mapped (λ removed. record { reply = reply.Done; kept = kept_of removed }) made }
+    ensures { result ≡ mapped (λ removed. record { reply = reply.Done; kept = kept_of removed })
+        made }
 {
     let kept = match made? {
         Some(removed) => kept(removed),

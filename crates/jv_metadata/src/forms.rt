@@ -1,9 +1,9 @@
 //! Which operations are one transaction on metadata, and what a line spells of them.
 ghost use Rattle.std.specs.Prelude.{◌≡◌};
-ghost use Rattle.jv_links.specs.Removals.{has_no_zero};
 ghost use Rattle.jv_metadata.specs.Attempts as model;
 
 use jv_model::{MAX_MODE, Op};
+use jv_rows::has_no_zero;
 
 /// Whether an operation is one transaction on metadata and no more.
 pub fn is_metadata(op: &Op) -> bool
@@ -33,13 +33,6 @@ pub fn is_metadata(op: &Op) -> bool
         | Op::Rename { .. } => true,
         _ => false,
     }
-}
-
-/// Whether no byte is 0.
-fn has_no_zero(bytes: &[u8]) -> bool
-    ensures { result ≡ has_no_zero bytes.now }
-{
-    bytes.iter().all(|byte| *byte != 0)
 }
 
 /// Whether what an operation writes is spelled as a line can spell it: paths and targets without the byte 0, permission bits of

@@ -1,4 +1,4 @@
--- What no first segment tells.
+-- What follows where there is no first segment.
 use Rattle.std.proofs.Common.{◌≡◌, List, [], ◌∷◌, None, refl}
 use Rattle.jv_model.specs.client.Pending.{PendingByte, first_segment}
 

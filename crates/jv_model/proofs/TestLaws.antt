@@ -1,4 +1,4 @@
--- What a test, an order or an option tells, where what it came to is known.
+-- What follows from a test, an order or an option whose value is known.
 use Rattle.std.proofs.Common.{◌≡◌, ℕ, ◌<◌, Bool, true, false, T, ◌&&◌, List, [], ◌∷◌, Option, None, Some, refl, subst}
 use Rattle.std.specs.Prelude.{IfSome, IsSome, is_some, option_and_then}
 use Rattle.std.specs.declared.cmp.Ordering.{Ordering}

@@ -1,4 +1,4 @@
--- The journal: what it has come to, what may stand in it, what it prints, and when it is legal.
+-- The journal: what it has reached, what may stand in it, what it prints, and when it is legal.
 pub mod JournalValue
 pub mod Reading
 pub mod Looks

@@ -19,7 +19,10 @@ impl Model for Journal {
 
     ghost Value = { JournalValue };
 
-    ghost view = { λ j. record { acts = j.acts.items; spare = vec_capacity j.acts - vec_len j.acts } };
+    ghost view = { λ j. record {
+      acts = j.acts.items;
+      spare = vec_capacity j.acts - vec_len j.acts;
+    } };
 }
 
 impl Journal {

@@ -193,7 +193,7 @@ pub enum Reply {
     },
 }
 
-/// What one step came to.
+/// How one step ended.
 #[derive(Debug, Drop, PartialEq, Eq)]
 pub enum Step {
     More,

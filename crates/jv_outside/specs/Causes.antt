@@ -22,7 +22,7 @@ abbrev pub RoseIf : Bool → ℕ → ℕ → Type 0
 RoseIf true before now = Rose before now
 RoseIf false before now = now ≡ before
 
--- the count rose so many times, and not otherwise
+-- the count rose `n` times, and not otherwise
 abbrev pub RoseTimes : ℕ → ℕ → ℕ → Type 0
 RoseTimes zero before now = now ≡ before
 RoseTimes (suc n) before now = (between : ℕ) × RoseTimes n before between × Rose between now

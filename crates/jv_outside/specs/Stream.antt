@@ -15,7 +15,7 @@ pub record Stream : Type 0 where
 pub record Gains (before after : Option (List ℕ)) (gained : List ℕ) : Type 0 where
   pub known : IfSome after (λ new. IsSomeAnd before (λ old. new ≡ old ++ gained))
 
--- `count` bytes were read from the front of those left, and none only at the end or where there was no room
+-- `count` bytes were read from the first of those left, and none only at the end or where there was no room
 pub record HasRead (before after : Stream) (count : ℕ) (into : List ℕ) : Type 0 where
   pub within : count ≤ length into
   pub bytes : Consumes before.content after.content (take count into)

@@ -39,7 +39,11 @@ impl Model for MemDepot {
 
     ghost use Rattle.jv_outside.specs.StoredObjects.{objects_in};
 
-    ghost view = { λ d. record { content = objects_in d.store; opened = d.opened; calls = d.calls } };
+    ghost view = { λ d. record {
+      content = objects_in d.store;
+      opened = d.opened;
+      calls = d.calls;
+    } };
 }
 
 impl MemDepot {
@@ -141,7 +145,11 @@ impl Model for NeverDepot {
 
     ghost use Rattle.jv_outside.specs.StoredObjects.{objects_in};
 
-    ghost view = { λ d. record { content = objects_in d.store; opened = d.opened; faults = d.faults } };
+    ghost view = { λ d. record {
+      content = objects_in d.store;
+      opened = d.opened;
+      faults = d.faults;
+    } };
 }
 
 impl NeverDepot {

@@ -36,7 +36,11 @@ impl Model for MemShelf {
 
     ghost use Rattle.jv_outside.specs.StoredBlocks.{blocks_in};
 
-    ghost view = { λ s. record { content = blocks_in s.store; opened = s.opened; calls = s.calls } };
+    ghost view = { λ s. record {
+      content = blocks_in s.store;
+      opened = s.opened;
+      calls = s.calls;
+    } };
 }
 
 impl MemShelf {

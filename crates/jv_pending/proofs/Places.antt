@@ -1,4 +1,4 @@
--- Places as numbers, and what the tests on a pending byte tell of them.
+-- Places as numbers, and what the tests on a pending byte say of them.
 use Rattle.std.proofs.Common.{◌≡◌, ℕ, ◌<◌, true, false, ◌⊎◌, inl, inr, ⊎_elim, arith}
 use Rattle.std.proofs.lemmas.Bool.{cases_order}
 use Rattle.std.proofs.lemmas.Bool.Decides.{nat_tests}

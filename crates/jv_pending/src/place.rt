@@ -74,9 +74,11 @@ pub(crate) fn take_run(
         ≡ runs_from (place_of start + 1) runs.old.entries) }
     ensures run { IfOk result (λ taken. take taken.len taken.run
         ≡ unwrap_or (bytes_at start runs.old.entries) []) }
-    ensures len { IfOk result (λ taken. taken.len ≡ length (unwrap_or (bytes_at start runs.old.entries) [])) }
+    ensures len { IfOk result (λ taken. taken.len
+        ≡ length (unwrap_or (bytes_at start runs.old.entries) [])) }
     ensures long { IfOk result (λ taken. length taken.run ≡ max len taken.len) }
-    ensures old { IfOk result (λ taken. given_back start taken.is_new (take taken.len taken.run) runs.new.entries
+    ensures old { IfOk result (λ taken. given_back start taken.is_new (take taken.len taken.run)
+        runs.new.entries
         ≡ runs.old.entries) }
     ensures err { OnErr result (runs.new.entries ≡ runs.old.entries) }
 {
@@ -104,7 +106,8 @@ pub(crate) fn give_back(runs: &mut Runs, start: RunStart, taken: Taken)
     requires file { start.from < FILE_END }
     requires there { IsSome (bytes_at start runs.old.entries) }
     requires small { taken.len < 2 ^ 63 }
-    ensures { runs.new.entries ≡ given_back start taken.is_new (take taken.len taken.run) runs.old.entries }
+    ensures { runs.new.entries ≡ given_back start taken.is_new (take taken.len taken.run)
+        runs.old.entries }
 {
     if taken.is_new {
         runs.remove(&start);
@@ -122,7 +125,8 @@ fn remove_runs(runs: &mut Runs, first: RunStart, end: RunStart)
     requires end { end.from ≤ FILE_END }
     requires forward { place_of first ≤ place_of end }
     ensures { runs.new.entries
-        ≡ runs_before (place_of first) runs.old.entries ++ runs_from (place_of end) runs.old.entries }
+        ≡ runs_before (place_of first) runs.old.entries
+        ++ runs_from (place_of end) runs.old.entries }
 {
     while let Some((start, _)) = first_from(runs, first) {
         if end.cmp(&start).is_le() {

@@ -74,7 +74,8 @@ impl RunStart {
 pub(crate) fn first_from(runs: &Runs, start: RunStart) -> Option<(RunStart, &RunBytes)>
     requires rise { Rise 0 runs.now.entries }
     requires file { start.from ≤ FILE_END }
-    ensures { option_map (λ r. (r.0, r.1.now)) result ≡ first_of (runs_from (place_of start) runs.now.entries) }
+    ensures { option_map (λ r. (r.0, r.1.now)) result
+        ≡ first_of (runs_from (place_of start) runs.now.entries) }
 {
     let (start, bytes) = runs.range(start..).next()?;
     Some((*start, bytes))
@@ -84,7 +85,8 @@ pub(crate) fn first_from(runs: &Runs, start: RunStart) -> Option<(RunStart, &Run
 pub(crate) fn last_before(runs: &Runs, end: RunStart) -> Option<(RunStart, &RunBytes)>
     requires rise { Rise 0 runs.now.entries }
     requires file { end.from ≤ FILE_END }
-    ensures { option_map (λ r. (r.0, r.1.now)) result ≡ last_of (runs_before (place_of end) runs.now.entries) }
+    ensures { option_map (λ r. (r.0, r.1.now)) result
+        ≡ last_of (runs_before (place_of end) runs.now.entries) }
 {
     let (start, bytes) = runs.range(..end).next_back()?;
     Some((*start, bytes))
@@ -97,7 +99,8 @@ pub(crate) fn count_bytes(runs: &Runs, first: RunStart, end: RunStart) -> u64
     requires end { end.from ≤ FILE_END }
     requires forward { place_of first < place_of end }
     requires small { length (pending_bytes runs.now.entries) < 2 ^ 64 }
-    ensures { result ≡ length (pending_bytes (runs_within (place_of first) (place_of end) runs.now.entries)) }
+    ensures { result ≡ length (pending_bytes (runs_within (place_of first) (place_of end)
+        runs.now.entries)) }
 {
     let mut count = 0;
     for (_, bytes) in runs.range(first..end) {
@@ -109,7 +112,8 @@ pub(crate) fn count_bytes(runs: &Runs, first: RunStart, end: RunStart) -> u64
 /// The first run as a segment, of an inode where one is given.
 pub(crate) fn find_first(runs: &Runs, inode: Option<u64>) -> Option<SegmentAt>
     requires { InOrder 0 runs.now.entries }
-    ensures least { option_map segment_at result ≡ next_segment inode (pending_bytes runs.now.entries) }
+    ensures least { option_map segment_at result
+        ≡ next_segment inode (pending_bytes runs.now.entries) }
     ensures own { IfSome result (λ at.
         next_segment (Some at.inode) (pending_bytes runs.now.entries) ≡ Some (segment_at at)) }
     ensures some { IfSome result (λ at. 0 < at.len) }

@@ -126,7 +126,8 @@ impl RunBytes {
     /// Sets the bytes from an index on.
     pub(crate) fn put(&mut self, at: usize, bytes: &[u8])
         requires { at + length bytes.now ≤ length self.old }
-        ensures { self.new ≡ take at self.old ++ (bytes.now ++ drop (at + length bytes.now) self.old) }
+        ensures { self.new ≡ take at self.old
+            ++ (bytes.now ++ drop (at + length bytes.now) self.old) }
     {
         put(&mut self.all, self.first + at, bytes);
     }

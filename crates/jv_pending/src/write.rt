@@ -59,7 +59,8 @@ fn end_touched(inode: u64, to: u64) -> RunStart
 
 /// The bytes of the run at a place that lie before a position, none where there is no run.
 fn head(runs: &Runs, first: RunStart, from: u64) -> &[u8]
-    ensures { result.now ≡ take (from - first.from) (unwrap_or (bytes_at first runs.now.entries) []) }
+    ensures { result.now ≡ take (from - first.from)
+        (unwrap_or (bytes_at first runs.now.entries) []) }
 {
     let count = from.saturating_sub(first.from) as usize;
     if count == 0 {
@@ -77,7 +78,8 @@ fn tail(runs: &Runs, first: RunStart, end: RunStart, to: u64) -> &[u8]
     requires rise { Rise 0 runs.now.entries }
     requires first { first.from ≤ FILE_END }
     requires end { end.from ≤ FILE_END }
-    ensures { result.now ≡ tail_of to (runs_within (place_of first) (place_of end) runs.now.entries) }
+    ensures { result.now ≡ tail_of to (runs_within (place_of first) (place_of end)
+        runs.now.entries) }
 {
     match last_before(runs, end) {
         Some((start, bytes)) if first.cmp(&start).is_le() => {
@@ -128,7 +130,8 @@ fn join_before(
     ensures ok { OnOk result (let tail = tail_of to
         (runs_within (place_of first + 1) (place_of end) runs.old.entries) in
         runs.new.entries
-        ≡ with_runs ((first, head.now ++ (bytes.now ++ tail)) ∷ []) (place_of end) runs.old.entries) }
+        ≡ with_runs ((first, head.now ++ (bytes.now ++ tail)) ∷ []) (place_of end)
+        runs.old.entries) }
     ensures err { OnErr result (runs.new.entries ≡ runs.old.entries) }
 {
     let mut run = swap_bytes(runs, last, RunBytes::new(alloc));
@@ -166,7 +169,8 @@ fn join_behind(
     ensures ok { OnOk result (let tail = tail_of (from + length bytes.now)
         (runs_within (place_of first + 1) (place_of end) runs.old.entries) in
         runs.new.entries ≡ with_runs
-        ((first, joined_behind (from - first.from) run.old bytes.now tail) ∷ []) (place_of end) runs.old.entries) }
+        ((first, joined_behind (from - first.from) run.old bytes.now tail) ∷ []) (place_of end)
+        runs.old.entries) }
     ensures err { OnErr result (runs.new.entries ≡ runs.old.entries) }
     ensures run { OnErr result (run.new ≡ run.old) }
 {
@@ -202,7 +206,8 @@ fn join_runs(
     ensures ok { OnOk result (let tail = tail_of (from + length bytes.now)
         (runs_within (place_of first + 1) (place_of end) runs.old.entries) in
         runs.new.entries ≡ with_runs
-        ((first, joined_behind (from - first.from) run.old bytes.now tail) ∷ []) (place_of end) runs.old.entries) }
+        ((first, joined_behind (from - first.from) run.old bytes.now tail) ∷ []) (place_of end)
+        runs.old.entries) }
     ensures err { OnErr result (runs.new.entries ≡ runs.old.entries) }
     ensures run { OnErr result (run.new ≡ run.old) }
 {
@@ -303,8 +308,10 @@ fn count_written(
     requires small { held + length bytes.now < 2 ^ 64 }
     requires some { 0 < length bytes.now }
     requires file { from + length bytes.now ≤ FILE_END }
-    requires touched { IsTouched first.inode from (from + length bytes.now) runs.now.entries first end }
-    ensures { result ≡ length (written first.inode from bytes.now (pending_bytes runs.now.entries)) }
+    requires touched { IsTouched first.inode from (from + length bytes.now) runs.now.entries first
+        end }
+    ensures { result ≡ length (written first.inode from bytes.now
+        (pending_bytes runs.now.entries)) }
 {
     let to = from + bytes.len() as u64;
     let others = held - count_bytes(runs, first, end);

@@ -56,7 +56,7 @@ module _ (told : Told) (block : ℕ) (bytes : List ℕ) (b : BlockId) (is_told :
   told_byte place Zero is = absurd is
   told_byte place (Slice id size at) is = ap (slice_index bytes) (sym is.1) ∙ is_told id size at is.2 is.0
 
-  -- the bytes that a block fills in are those that are told of their positions
+  -- the bytes that a block fills in are those that are known of their positions
   pub has_bytes : (places : ℕ → Spot) (len : ℕ) (overlaps : List Overlap) → All (IsOverlap block places len b) overlaps → All (HasBytes (λ n. spot_byte told (places n)) bytes) overlaps
   has_bytes places len overlaps all = λ i d below k inside.
       let o : Overlap = get_or overlaps i d in
@@ -199,7 +199,7 @@ pieces_named list block (p ∷ ps) some parts names =
     (piece_named list block p.len p.spot some part.some part.inside (All-head (IsOfRecord list) p ps names))
     (pieces_named list block ps some (All-tail IsPart p ps parts) (All-tail (IsOfRecord list) p ps names)))
 
--- what blocks tell of a block that is there
+-- what is known of a block that is there
 pub told_there : (block : ℕ) (blocks : Blocks) (b : BlockId) (bytes : List ℕ) → blocks b ≡ Some bytes → IsToldOf (told_by block blocks) block bytes b
 told_there block blocks b bytes there id size at inside is =
     sym (ap (λ (q : BlockId). slice_index (unwrap_or (blocks q) []) (at % block)) is ∙ ap (λ (o : Option (List ℕ)). slice_index (unwrap_or o []) (at % block)) there)

@@ -7,7 +7,7 @@ use Rattle.jv_contents.specs.Blocks.{Blocks, Grows, HasBlocks, IsThere, told_by}
 use Rattle.jv_contents.specs.Counts.{HadSize}
 use Rattle.jv_reading.specs.Parts.{FillsIn, IsNamed, IsToldOf, Part, ReadsAs}
 
--- blocks tell of each block its bytes
+-- of each block that is there its bytes are known
 abbrev pub BlocksAreTold : Type 0
 BlocksAreTold = (block : ℕ) (blocks : Blocks) (b : BlockId) (bytes : List ℕ) → blocks b ≡ Some bytes → IsToldOf (told_by block blocks) block bytes b
 
@@ -20,7 +20,7 @@ abbrev pub NamedAreThere : Type 0
 NamedAreThere = (block : ℕ) (rows : Rows) (blocks : Blocks) (list : List Rec) (b : BlockId)
     → HasBlocks block rows blocks → HaveSlices rows list → IsNamed list block b → IsThere blocks b
 
--- a part reads as these blocks tell, and as all do that may be there later
+-- a part reads as these blocks have it, and as all do that may be there later
 abbrev pub ReadsBlocks : Blocks → Part → Type 0
 ReadsBlocks blocks part = (later : Blocks) → Grows blocks later → ReadsAs (told_by part.block later) part
 

@@ -32,16 +32,16 @@ abbrev pub IsOfNone : ℕ → List BlockId → Spot → Type 0
 IsOfNone block blocks Zero = Unit {0}
 IsOfNone block blocks (Slice id size at) = Contains blocks (block_at id size block (at / block)) → ⊥
 
--- each position has the byte that is told of it, unless that is of a block that is left
+-- each position has the byte that is known of it, unless that is of a block that is left
 abbrev pub ReadsAs : Told → Part → Type 0
 ReadsAs told part = (n : ℕ) → n < part.to - part.from → IsOfNone part.block part.left (stored_place part.list (part.from + n))
     → slice_index part.bytes n ≡ window_byte told part.list (part.from + n)
 
--- these bytes are told of a block
+-- these bytes are known of a block
 abbrev pub IsToldOf : Told → ℕ → List ℕ → BlockId → Type 0
 IsToldOf told block bytes b = (id size at : ℕ) → at < size → block_at id size block (at / block) ≡ b → slice_index bytes (at % block) ≡ told id size at
 
--- where the bytes are those of the block that is next, the part reads as is told, as it did before
+-- where the bytes are those of the block that is next, the part reads as is known, as it did before
 abbrev pub FillsIn : List ℕ → Part → Part → Type 0
 FillsIn bytes before after = (told : Told) → IfSome (slice_get before.left 0) (IsToldOf told before.block bytes) → ReadsAs told before → ReadsAs told after
 

@@ -1,7 +1,7 @@
 //! What a reader of a part may rely on. Each law is a function that does nothing.
 ghost use Rattle.jv_reading.specs.Laws.{BlocksAreTold, NamedAreThere, ReadsGoOn};
 
-/// Blocks that are there tell of each block the bytes that it has.
+/// Of each block that is there the bytes are known.
 pub fn blocks_are_told()
     ensures { BlocksAreTold }
 {}
@@ -11,7 +11,7 @@ pub fn named_are_there()
     ensures { NamedAreThere }
 {}
 
-/// A part goes on to read as blocks tell, where more of them come, and where one that is there is filled in.
+/// A part goes on to read as blocks have it, where more of them come, and where one that is there is filled in.
 pub fn reads_go_on()
     ensures { ReadsGoOn }
 {}

@@ -29,7 +29,7 @@ use Rattle.jv_requests.proofs.RequestLaws.{Grows, request-of}
 use Rattle.jv_requests.proofs.StillLaws.{apart-none}
 
 module _ (t : Tree) (g : Known) (v : Shared) (has : HasStore t g v) where
-  -- what is told of slices
+  -- what is known of slices
   abbrev pub told_in : Told
   told_in = told_by v.yard.setting.block g.blocks
 

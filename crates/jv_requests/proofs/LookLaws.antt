@@ -51,7 +51,7 @@ use Rattle.jv_requests.proofs.StillLaws.{fault_of_rows, found-in, rows-failed, s
 
 -- ---- what a session sees of a file
 
--- the session is there, and the file, which has so many bytes
+-- the session is there, and the file, which has `length` bytes
 pub record SeesFile (sid inode length : ℕ) (t : Tree) : Type 0 where
   pub session : is_some (get t.sessions sid) ≡ true
   pub content : Content

@@ -172,7 +172,7 @@ module _ (s : State) (client now : ℕ) (d : Doing) (busy : (s.clients client).d
         rows-failed s g v made has (same-rows v keeper v.carrier tx.undone) client now flying d busy
         (goes-working d 0 started at) down
 
-  -- the file that the session keeps from then on is the one that is told
+  -- the file that the session keeps from then on is the one that is answered
   pub keeps-told : HoldsFiles who.held s.tree → (kept : Option ℕ) → KeepsOne who d.op v.keeper kept → (inode : ℕ)
       → (is_sustained (transacted s client now d.op).tree who.sid inode && not (is_sustained s.tree who.sid inode))
       ≡ is_inode kept inode

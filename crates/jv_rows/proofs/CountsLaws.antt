@@ -20,7 +20,7 @@ unwrap_le : (b : Bool) (n m : ℕ) → n ≤ m → unwrap_or (cond b None (Some 
 unwrap_le true n m h = omega arith
 unwrap_le false n m h = h
 
--- so many records are at most as many as there are
+-- no more records than there are
 pub stored_le : (rs : List Rec) (i id : ℕ) → unwrap_or (stored_count (take i rs) id) 0 ≤ i
 stored_le rs i id = unwrap_le (eqb id 0 || eqb (records_naming id (take i rs)) 0) (records_naming id (take i rs)) i
     (omega (arith, count_by-le-length (λ (r : Rec). eqb r.id id) (take i rs), length-take i rs))

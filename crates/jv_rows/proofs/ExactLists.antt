@@ -47,7 +47,7 @@ list_length : (rs : List Rec) → length (flat_map record_bytes rs) ≡ length r
 list_length [] = refl
 list_length (r ∷ rs) = rw flat_map-cons (omega (arith, length-append (record_bytes r) (flat_map record_bytes rs), record_length r, list_length rs))
 
--- what a reader of so many records took
+-- what a reader of `n` records took
 record TakesRecords (n : ℕ) (bytes : List ℕ) (x : List Rec × List ℕ) : Type 0 where
   parts : bytes ≡ flat_map record_bytes x.0 ++ x.1
   widths : ListWidths x.0

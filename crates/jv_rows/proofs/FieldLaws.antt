@@ -124,7 +124,7 @@ word_field = number_field w32 (2 ^ 32) wide32
 pub long_field : IsField (number_at w64) (to_be_bytes w64) (λ n. n < 2 ^ 64)
 long_field = number_field w64 (2 ^ 64) wide64
 
--- ---- so many bytes
+-- ---- a number of bytes
 
 front_is : (n : ℕ) (bytes : List ℕ) (x : List ℕ × List ℕ) → front_at n bytes ≡ Some x → (n ≤ length bytes) × ((take n bytes, drop n bytes) ≡ x)
 front_is n bytes x e =

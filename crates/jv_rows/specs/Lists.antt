@@ -58,7 +58,7 @@ HasList store inode found = IfSome store.rows (λ known. get (typed known) (list
 abbrev pub HasNoList : Rows → ℕ → Option ℕ → Option ℕ → Type 0
 HasNoList rows inode last next = (window : ℕ) → window < 2 ^ 32 → is_past last window ≡ true → is_ahead next window ≡ true → get rows (list_key inode window) ≡ None
 
--- each key of a list tells a window, as in whole rows
+-- each key of a list has a window, as in whole rows
 abbrev pub HaveWindows : Rows → Type 0
 HaveWindows rows = (key : RowKey) → key.tab ≡ 4 → get rows key ≢ None → length key.b ≡ 4
 

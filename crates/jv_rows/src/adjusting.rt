@@ -20,7 +20,8 @@ use std::collections::BTreeMap;
 
 /// How many records name each slice.
 fn count_records(alloc: Global, records: &[Rec]) -> Result<BTreeMap<u64, u64>, AllocError>
-    ensures { IfOk result (λ counts. (id : ℕ) → get nat_cmp counts id ≡ stored_count records.now id) }
+    ensures { IfOk result (λ counts. (id : ℕ) → get nat_cmp counts id
+        ≡ stored_count records.now id) }
 {
     let mut counts = BTreeMap::new(alloc);
     for record in records {
@@ -158,7 +159,8 @@ pub fn adjust<K: Keeper>(
     added: &[Rec],
     due: u64,
 ) -> Result<(), TxFault>
-    ensures { Adjusts gone.now added.now due (K.seen k.old) (K.seen k.new) draft.old draft.new result }
+    ensures { Adjusts gone.now added.now due (K.seen k.old) (K.seen k.new)
+        draft.old draft.new result }
 {
     let is_stored = !draft.changes_slices();
     let mut fewer = count_records(alloc, gone)?;

@@ -91,10 +91,11 @@ pub fn allows_counters(c: &Counters) -> bool
     1 <= c.inode && 1 <= c.slice && 1 <= c.session
 }
 
-fn has_no_zero(target: &[u8]) -> bool
-    ensures { result ≡ list_all (λ b. not (b == 0)) target.now }
+/// Whether no byte is 0: paths and the targets of symlinks have none.
+pub fn has_no_zero(bytes: &[u8]) -> bool
+    ensures { result ≡ list_all (λ b. not (b == 0)) bytes.now }
 {
-    target.iter().all(|byte| *byte != 0)
+    bytes.iter().all(|byte| *byte != 0)
 }
 
 /// Whether a symlink may have this target: 1 to 4,096 bytes without the byte 0.

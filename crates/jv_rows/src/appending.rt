@@ -66,7 +66,8 @@ impl Draft {
         rec: &Rec,
     ) -> Result<(), RowFault>
         requires { IsRecord rec.now }
-        ensures { Appends inode window rec.now self.old self.new (K.seen k.old) (K.seen k.new) result }
+        ensures { Appends inode window rec.now self.old self.new
+            (K.seen k.old) (K.seen k.new) result }
     {
         let key = key_of_list(self.alloc, inode, window)?;
         match self.bytes_at(k, &key)? {

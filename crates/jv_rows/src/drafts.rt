@@ -108,21 +108,24 @@ impl Draft {
 
     /// The volume's setting, of whatever version.
     pub fn setting<K: Keeper>(&self, k: &mut K) -> Result<Option<Setting>, RowFault>
-        ensures { Sees OfSetting is_setting setting_key self.now (K.seen k.old) (K.seen k.new) result }
+        ensures { Sees OfSetting is_setting setting_key self.now
+            (K.seen k.old) (K.seen k.new) result }
     {
         self.row(k, key_of_setting(self.alloc))
     }
 
     /// The next numbers and the running totals.
     pub fn counters<K: Keeper>(&self, k: &mut K) -> Result<Option<Counters>, RowFault>
-        ensures { Sees OfCounters is_counters counters_key self.now (K.seen k.old) (K.seen k.new) result }
+        ensures { Sees OfCounters is_counters counters_key self.now
+            (K.seen k.old) (K.seen k.new) result }
     {
         self.row(k, key_of_counters(self.alloc))
     }
 
     /// A node.
     pub fn node<K: Keeper>(&self, k: &mut K, inode: u64) -> Result<Option<Node>, RowFault>
-        ensures { Sees OfNode is_node (node_key inode) self.now (K.seen k.old) (K.seen k.new) result }
+        ensures { Sees OfNode is_node (node_key inode) self.now
+            (K.seen k.old) (K.seen k.new) result }
     {
         self.row(k, key_of_node(self.alloc, inode))
     }
@@ -134,7 +137,8 @@ impl Draft {
         dir: u64,
         name: &Name,
     ) -> Result<Option<Edge>, RowFault>
-        ensures { Sees OfEdge is_edge (edge_key dir name.now) self.now (K.seen k.old) (K.seen k.new) result }
+        ensures { Sees OfEdge is_edge (edge_key dir name.now) self.now
+            (K.seen k.old) (K.seen k.new) result }
     {
         let key = key_of_edge(self.alloc, dir, name)?;
         self.row(k, key)
@@ -147,7 +151,8 @@ impl Draft {
         inode: u64,
         window: u32,
     ) -> Result<Option<List>, RowFault>
-        ensures { Sees OfList is_list (list_key inode window) self.now (K.seen k.old) (K.seen k.new) result }
+        ensures { Sees OfList is_list (list_key inode window) self.now
+            (K.seen k.old) (K.seen k.new) result }
     {
         let key = key_of_list(self.alloc, inode, window)?;
         self.row(k, key)
@@ -155,21 +160,24 @@ impl Draft {
 
     /// A slice with its count.
     pub fn slice<K: Keeper>(&self, k: &mut K, id: u64) -> Result<Option<SliceRow>, RowFault>
-        ensures { Sees OfSlice is_slice (slice_key id) self.now (K.seen k.old) (K.seen k.new) result }
+        ensures { Sees OfSlice is_slice (slice_key id) self.now
+            (K.seen k.old) (K.seen k.new) result }
     {
         self.row(k, key_of_slice(self.alloc, id))
     }
 
     /// A dead slice.
     pub fn dead<K: Keeper>(&self, k: &mut K, id: u64) -> Result<Option<Dead>, RowFault>
-        ensures { Sees OfDead (λ dead. true) (dead_key id) self.now (K.seen k.old) (K.seen k.new) result }
+        ensures { Sees OfDead (λ dead. true) (dead_key id) self.now
+            (K.seen k.old) (K.seen k.new) result }
     {
         self.row(k, key_of_dead(self.alloc, id))
     }
 
     /// A mounted client.
     pub fn session<K: Keeper>(&self, k: &mut K, sid: u64) -> Result<Option<Session>, RowFault>
-        ensures { Sees OfSession is_session (session_key sid) self.now (K.seen k.old) (K.seen k.new) result }
+        ensures { Sees OfSession is_session (session_key sid) self.now
+            (K.seen k.old) (K.seen k.new) result }
     {
         self.row(k, key_of_session(self.alloc, sid))
     }
@@ -191,7 +199,8 @@ impl Draft {
     /// Adds that these are the next numbers and the running totals. Out of memory the changes are as before.
     pub fn put_counters(&mut self, counters: &Counters) -> Result<(), AllocError>
         requires { IsTrue (is_counters counters.now) }
-        ensures { Drafts counters_key (cell OfCounters (Some counters.now)) self.old self.new result }
+        ensures { Drafts counters_key (cell OfCounters (Some counters.now))
+            self.old self.new result }
     {
         self.put(key_of_counters(self.alloc), counters)
     }
@@ -214,7 +223,8 @@ impl Draft {
     /// Adds that the name in the directory is this entry. Out of memory the changes are as before.
     pub fn put_edge(&mut self, dir: u64, name: &Name, edge: &Edge) -> Result<(), AllocError>
         requires { IsTrue (is_edge edge.now) }
-        ensures { Drafts (edge_key dir name.now) (cell OfEdge (Some edge.now)) self.old self.new result }
+        ensures { Drafts (edge_key dir name.now) (cell OfEdge (Some edge.now))
+            self.old self.new result }
     {
         let key = key_of_edge(self.alloc, dir, name)?;
         self.put(key, edge)
@@ -231,7 +241,8 @@ impl Draft {
     /// Adds that the window of the file has these records. Out of memory the changes are as before.
     pub fn put_list(&mut self, inode: u64, window: u32, list: &List) -> Result<(), AllocError>
         requires { IsTrue (is_list list.now) }
-        ensures { Drafts (list_key inode window) (cell OfList (Some list.now)) self.old self.new result }
+        ensures { Drafts (list_key inode window) (cell OfList (Some list.now))
+            self.old self.new result }
     {
         let key = key_of_list(self.alloc, inode, window)?;
         self.put(key, list)
@@ -263,7 +274,8 @@ impl Draft {
     /// Adds that the client's session is this one. Out of memory the changes are as before.
     pub fn put_session(&mut self, sid: u64, session: &Session) -> Result<(), AllocError>
         requires { IsTrue (is_session session.now) }
-        ensures { Drafts (session_key sid) (cell OfSession (Some session.now)) self.old self.new result }
+        ensures { Drafts (session_key sid) (cell OfSession (Some session.now))
+            self.old self.new result }
     {
         self.put(key_of_session(self.alloc, sid), session)
     }
@@ -277,7 +289,8 @@ impl Draft {
 
     /// Adds that the session keeps this file without entries. Out of memory the changes are as before.
     pub fn put_sustained(&mut self, sid: u64, inode: u64) -> Result<(), AllocError>
-        ensures { Drafts (sustained_key sid inode) (Some (Ok OfSustained)) self.old self.new result }
+        ensures { Drafts (sustained_key sid inode) (Some (Ok OfSustained))
+            self.old self.new result }
     {
         let key = key_of_sustained(self.alloc, sid, inode)?;
         self.put(key, &())
@@ -293,7 +306,8 @@ impl Draft {
 
     /// Adds that the inode was a file of this length, whose lists are still to go. Out of memory the changes are as before.
     pub fn put_dropped(&mut self, inode: u64, dropped: &Dropped) -> Result<(), AllocError>
-        ensures { Drafts (dropped_key inode) (cell OfDropped (Some dropped.now)) self.old self.new result }
+        ensures { Drafts (dropped_key inode) (cell OfDropped (Some dropped.now))
+            self.old self.new result }
     {
         self.put(key_of_dropped(self.alloc, inode), dropped)
     }

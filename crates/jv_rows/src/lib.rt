@@ -24,7 +24,7 @@ mod writing;
 pub use adjusting::adjust;
 pub use allowed::{
     allows_block, allows_counters, allows_edge, allows_list, allows_node, allows_record,
-    allows_session, allows_setting, allows_slice,
+    allows_session, allows_setting, allows_slice, has_no_zero,
 };
 pub use drafts::Draft;
 pub use fresh::{default_setting, fresh_rows};

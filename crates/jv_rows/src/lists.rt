@@ -55,7 +55,7 @@ fn list_of(inode: u64, last: Option<u32>, key: &RowKey, row: Row) -> Option<(u32
 }
 
 /// The next list of a file with its window, after a window or from the first on. `None` if there is none behind. A row of
-/// the table whose key tells no window ends the search; no whole volume has one.
+/// the table whose key has no window ends the search; no whole volume has one.
 ///
 /// # Errors
 ///

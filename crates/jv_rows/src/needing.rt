@@ -36,7 +36,8 @@ pub fn needed_setting<K: Keeper>(
     k: &mut K,
     draft: &Draft,
 ) -> Result<Setting, TxFault>
-    ensures { Needs OfSetting is_setting setting_key draft.now (K.seen k.old) (K.seen k.new) result }
+    ensures { Needs OfSetting is_setting setting_key draft.now
+        (K.seen k.old) (K.seen k.new) result }
 {
     match draft.setting(k)? {
         Some(setting) => Ok(setting),
@@ -50,7 +51,8 @@ pub fn needed_counters<K: Keeper>(
     k: &mut K,
     draft: &Draft,
 ) -> Result<Counters, TxFault>
-    ensures { Needs OfCounters is_counters counters_key draft.now (K.seen k.old) (K.seen k.new) result }
+    ensures { Needs OfCounters is_counters counters_key draft.now
+        (K.seen k.old) (K.seen k.new) result }
 {
     match draft.counters(k)? {
         Some(counters) => Ok(counters),

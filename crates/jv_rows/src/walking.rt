@@ -168,7 +168,8 @@ fn go_on<K: Keeper>(
 ) -> Result<Leg, TxFault>
     requires stands { HasNodeRow (K.seen k.old) start.inode start.node }
     requires allowed { IsTrue (is_node start.node) }
-    ensures { Goes (K.seen k.old) (K.seen k.new) result (λ t. course t follow start.inode names.now) }
+    ensures { Goes (K.seen k.old) (K.seen k.new) result
+        (λ t. course t follow start.inode names.now) }
 {
     let mut place = start;
     for index in 0..names.len() {

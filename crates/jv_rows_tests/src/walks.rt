@@ -100,7 +100,7 @@ fn small_tree(alloc: Global) -> Result<NeverKeeper, Down> {
     Ok(keeper)
 }
 
-/// Whether a walk comes to an inode. It does not where memory runs out.
+/// Whether a walk reaches an inode. It does not where memory runs out.
 fn comes_to(alloc: Global, keeper: &mut NeverKeeper, path: &str, follow: bool, inode: u64) -> bool {
     match bytes_of(alloc, path) {
         Ok(path) => walk(alloc, keeper, &path, follow) == Ok(inode),

@@ -90,7 +90,7 @@ pub some_bytes : (text : List ℕ) → bytes_eq text (codes "-") ≡ false → d
 unfolding data_of
 some_bytes text other = rw other refl
 
--- the two kinds of parts, told apart by an `x`
+-- the two kinds of parts, distinguished by an `x`
 no_pairs_with_x : (part : List ℕ) → has_x part ≡ true → is_pairs part ≡ false
 no_pairs_with_x [] h = refl
 no_pairs_with_x (a ∷ []) h = absurd (false≢true h)

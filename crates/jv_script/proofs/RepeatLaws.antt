@@ -33,7 +33,7 @@ runs_of_same b (suc n) ys other =
     let counted : suc n + 1 ≡ suc (suc n) = omega arith in
     ap (with_byte b) (runs_of_same b n ys other) ∙ one_more ∙ ap (λ (count : ℕ). record { byte = b; count = count } ∷ runs_of ys) counted
 
--- the same for the front of a list
+-- the same for the first of a list
 runs_of_front : (b n : ℕ) (bytes : List ℕ) → 0 < n → take n bytes ≡ replicate n b → (n < length bytes → get_or bytes n 0 ≢ b) → runs_of bytes ≡ record { byte = b; count = n } ∷ runs_of (drop n bytes)
 runs_of_front b zero bytes some same other = absurd (omega arith)
 runs_of_front b (suc n) bytes some same other =
@@ -144,7 +144,7 @@ with_short-append xs ys [] = refl
 with_short-append xs ys (Plain more ∷ parts) = ap (λ (bytes : List ℕ). Plain bytes ∷ parts) (sym (append_assoc xs ys more))
 with_short-append xs ys (Repeated run ∷ parts) = refl
 
--- one more byte in front of a run that stays short goes into the part after it
+-- one more byte before a run that stays short goes into the part after it
 short_more : (b y n : ℕ) (more : List Run) → (b ≡ y → n < 3) → parts_of (with_byte b (record { byte = y; count = n } ∷ more)) ≡ with_short (b ∷ []) (parts_of (record { byte = y; count = n } ∷ more))
 short_more b y n more short = by_test (b == y) refl
   where

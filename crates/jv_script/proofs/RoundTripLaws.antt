@@ -43,7 +43,7 @@ upper_value n small =
     let values : map hex_value (codes "0123456789ABCDEF") ≡ counted_from 0 16 = refl in
     sym (map_at hex_value (codes "0123456789ABCDEF") n small) ∙ ap (λ (xs : List ℕ). get_or xs n 0) values ∙ counted_at 0 16 n small ∙ omega arith
 
--- one byte more in front of the others
+-- one byte more before the others
 onto_value : (c : ℕ) (v : Bool) (bytes : List ℕ) → provided v (c ∷ bytes) ≡ option_map (λ bytes. c ∷ bytes) (provided v bytes)
 onto_value c true bytes = refl
 onto_value c false bytes = refl

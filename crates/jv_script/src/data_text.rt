@@ -8,7 +8,7 @@ use crate::repeats::{begins_long_repeat, long_repeat_length, plain_length};
 use jv_slices::push_decimal;
 use std::alloc::AllocError;
 
-/// Plain bytes are printed one by one, the fastest for a few of them. Where a multiple of so many bytes is left, the rest of
+/// Plain bytes are printed one by one, the fastest for a few of them. Where a multiple of this is left, the rest of
 /// the plain part is printed at once, the fastest for many.
 const STRIDE: usize = 64;
 

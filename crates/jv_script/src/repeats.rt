@@ -12,7 +12,7 @@ const HALF: usize = 32;
 /// The bytes of the shortest long repeat.
 const LONG: usize = 4;
 
-/// With so many bytes beyond those a count has two digits.
+/// With this many bytes beyond those a count has two digits.
 const FEW_MORE: usize = 6;
 
 /// The bytes after its first that make a repeat a long one.

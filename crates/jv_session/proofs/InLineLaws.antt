@@ -49,7 +49,7 @@ unanswered : {n : ℕ} (final : Option (ℕ → ℕ)) → IsSome final → Passe
 unanswered None some passes = cc some
 unanswered (Some rest) some passes = passes.known
 
--- what is told after some answers, by the run's clock
+-- what the clock shows after some answers, by the run's clock
 module _ (asked n : ℕ) where
   pub clock_later : (clock before now final : Option (ℕ → ℕ)) → Passes before now n → ClockFor clock asked before final
       → ClockFor clock (asked + n) now final

@@ -60,7 +60,7 @@ abbrev pub end_of : Stopped → LineEnd
 end_of stopped.Clock = ClockFailed
 end_of stopped.Memory = Memory
 
--- from each past where the line may stand, when the clock tells still what the run's clock tells
+-- from each past where the line may stand, when the clock still shows what the run's clock shows
 abbrev pub FromLine : (Past → Type 0) → ℕ → LineState → LineState → (Past → Type 0) → Type 0
 FromLine Where number before after Comes = (q : Past) → Where q → InLine q before.schedule before.devices → q.line ≡ number → q.state.count ≡ length before.journal
     → ClockFor q.run.clock q.asked before.clock.answers after.clock.answers → Comes q
@@ -150,7 +150,7 @@ Notes s s' number client kind by before after journal more (Err stopped) = Leave
 abbrev pub at_moment : ℕ → Shared → Shared
 at_moment now v = record v { yard = record v.yard { last = now } }
 
--- A client of the schedule made a step at a moment that the yard was told first.
+-- A client of the schedule made a step at a moment that the yard got first.
 pub record HasStepped (s s' : ScheduleValue) (number client : ℕ) (before after : Ticks) (v used : Shared) (journal more : List Act) (step : Step) : Type 0
   where
     pub now : ℕ

@@ -69,7 +69,7 @@ pub record Cut (p : Past) (more : List Line) (number asks : ℕ) (before after :
   pub stands : InLine end after.schedule after.devices
   pub stops : (is_over end || may_stop end) ≡ true
 
--- From wherever the schedule stands, when the clock tells still what the run's clock tells: the outcome of the line.
+-- From wherever the schedule stands, when the clock still shows what the run's clock shows: the outcome of the line.
 abbrev pub FromThere : Line → ℕ → LineState → LineState → (Past → List Line → Type 0) → Type 0
 FromThere line number before after Comes = (p : Past) (more : List Line) → Stands p before.schedule before.devices → p.line + 1 ≡ number → p.rest ≡ line ∷ more
     → p.state.count ≡ length before.journal → ClockFor p.run.clock p.asked before.clock.answers after.clock.answers → Comes p more

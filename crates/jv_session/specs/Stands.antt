@@ -103,7 +103,7 @@ busy_in (Some c) = is_some c.doing
 abbrev pub client_is_busy : ScheduleValue → ℕ → Bool
 client_is_busy s client = busy_in (slice_get s.clients client)
 
--- the clock tells still what the run's clock tells from the next answer on
+-- the clock still shows what the run's clock shows from the next answer on
 abbrev pub ClockFor : Option (ℕ → ℕ) → ℕ → Option (ℕ → ℕ) → Option (ℕ → ℕ) → Type 0
 ClockFor None asked before after = Unit {0}
 ClockFor (Some answers) asked before after = IsSome after × IfSome before (λ rest. (n : ℕ) → rest n ≡ answers (n + asked))

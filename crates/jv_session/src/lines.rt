@@ -113,7 +113,8 @@ impl Schedule {
         clock: &mut C,
         journal: &mut Journal,
     ) -> LineEnd
-        ensures goes { (devices : Shared) → IsCalm (Refused fault) → LineGoes (IsRefused client fault) number
+        ensures goes { (devices : Shared) → IsCalm (Refused fault)
+            → LineGoes (IsRefused client fault) number
             (line_state (C.seen clock.old) devices journal.old.acts self.old)
             (line_state (C.seen clock.new) devices journal.new.acts self.new) result }
         ensures some { result ≢ LineEnd.Quiet }
@@ -255,7 +256,7 @@ impl Schedule {
         }
     }
 
-    /// Makes a step, at the moment that the clock answers, which the yard is told first. On error nothing has changed.
+    /// Makes a step, at the moment that the clock answers, which the yard gets first. On error nothing has changed.
     fn make_step<K: Keeper, D: Depot, H: Shelf, C: Clock>(
         &mut self,
         client: ClientId,

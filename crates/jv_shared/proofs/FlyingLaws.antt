@@ -1,4 +1,4 @@
--- Slices in flight over a store that is a tree's: what a complete one tells, and the next block to be put.
+-- Slices in flight over a store that is a tree's: the bytes of a complete one, and the next block to be put.
 use Rattle.std.proofs.Common.{◌≡◌, ℕ, ◌+◌, ◌*◌, ◌<◌, ◌≤◌, ◌^◌, inl, inr, min, length, drop, ap, subst, ◌∙◌, arith}
 use Rattle.std.specs.Prelude.{slice_index}
 use Rattle.std.proofs.lemmas.Bool.{cases_lt}
@@ -55,7 +55,7 @@ module _ (t : Tree) (g : Known) (v : Shared) (s : HasStore t g v) (f : Flight) (
 
   -- ---- a complete one
 
-  -- its blocks tell its bytes
+  -- its blocks have its bytes
   pub flight-told : IsComplete v.yard.setting.block f → (k : ℕ) → k < length f.bytes
       → told_by v.yard.setting.block g.blocks f.id (length f.bytes) k ≡ slice_index f.bytes k
   flight-told complete k low = complete-told v.yard.setting.block (typed s.rows) g.blocks f flight_now complete (block_some t g v s) k low

@@ -65,7 +65,7 @@ module _ (own : ℕ) (rows rows' : Rows) (g g' : Known) (present present' : Bloc
     there = λ named index low. there-grows present present' (block_at r.id r.size block index) k.blocks.grows (found.there named index low);
   }
 
-  -- what is told of the places of a list whose records' blocks are there stays
+  -- what is known of the places of a list whose records' blocks are there stays
   told_keeps : (block : ℕ) → 0 < block → Grows present g.blocks → (list : List Rec) → AllByRecursion (IsFound block rows g present) list → (place : ℕ)
       → spot_byte (told_by block g'.blocks) (stored_place list place) ≡ spot_byte (told_by block g.blocks) (stored_place list place)
   unfolding stored_place

@@ -31,7 +31,7 @@ use Rattle.jv_shared.specs.Seen.{IsFound, ShowsWindow}
 
 -- ---- a look
 
--- a file of a tree of rows has the bytes that are told of it
+-- a file of a tree of rows has the bytes that are known of it
 pub byte_looked : (told : Told) (rows : Rows) (inode : ℕ) (content : Content) → content_at (tree_with told rows) inode ≡ Some content
     → (p : ℕ) → p < content.length → content.byte p ≡ bytes_of told rows inode p
 byte_looked told rows inode content is p low =

@@ -34,7 +34,7 @@ lengths_add_up size block some =
 pub div_rises : (a b block : ℕ) → 0 < block → a ≤ b → a / block ≤ b / block
 div_rises a b block some low = le-div (a / block) b block some (omega (arith, low, div-add-mod' a block))
 
--- so many places further on are at most so many blocks
+-- `n` places further on are at most `n` blocks
 pub div_few : (a n block : ℕ) → 0 < block → (a + n) / block ≤ a / block + n
 div_few a n block some =
     let more : a + n ≤ a + n * block = omega (arith, mul-le n 1 n block (omega arith) some) in

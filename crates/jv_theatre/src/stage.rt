@@ -182,7 +182,7 @@ impl Stage {
         Ok(())
     }
 
-    /// Has the source give another script, at no call of which it fails.
+    /// Has the source return another script, at no call of which it fails.
     pub fn set_script(&mut self, alloc: Global, script: Bytes) {
         if let Some(parts) = &mut self.parts {
             let never = Fails::At(Sequence::new(alloc));

@@ -191,7 +191,8 @@ pub fn create<K: Keeper>(
     requires path { IsTrue (has_no_zero path.now) }
     ensures { (caller : Caller) → IsFor who.entry.now caller
         → Transacts Always (K.seen k.old) (K.seen k.new)
-        result (λ inode. FileOpened caller.free_handle inode) (λ t. model.create t caller path.now mode) }
+        result (λ inode. FileOpened caller.free_handle inode)
+        (λ t. model.create t caller path.now mode) }
 {
     in_session(alloc, k, who.sid)?;
     let mut place = new_place(alloc, k, path)?;

@@ -29,7 +29,7 @@ pub fn lookup<K: Keeper>(alloc: Global, k: &mut K, who: &Who, path: &Path) -> Re
     Ok(walk_to(alloc, k, path, false)?.inode)
 }
 
-/// The kind that a node's row tells.
+/// The kind of a node, by its row.
 fn kind_of(node: &Node) -> FileKind
     ensures { result ≡ kind_in node.now.kind }
 {
@@ -87,7 +87,8 @@ pub fn stat<K: Keeper>(
 /// Stale where the session is gone, or then the file. Bad for a malformed row of the file, Failed if the keeper failed. Memory.
 pub fn fstat<K: Keeper>(alloc: Global, k: &mut K, who: &Who, inode: u64) -> Result<Attr, TxFault>
     ensures { (caller : Caller) → IsFor who.entry.now caller → caller.inode ≡ inode
-        → Transacts Always (K.seen k.old) (K.seen k.new) result (λ attr. Described attr) (λ t. model.fstat t caller) }
+        → Transacts Always (K.seen k.old) (K.seen k.new) result (λ attr. Described attr)
+        (λ t. model.fstat t caller) }
 {
     in_session(alloc, k, who.sid)?;
     match Draft::new(alloc).node(k, inode)? {
@@ -109,7 +110,8 @@ pub fn open_node<K: Keeper>(
 ) -> Result<u64, TxFault>
     ensures { (caller : Caller) → IsFor who.entry.now caller
         → Transacts Always (K.seen k.old) (K.seen k.new)
-        result (λ inode. FileOpened caller.free_handle inode) (λ t. model.open_file t caller path.now) }
+        result (λ inode. FileOpened caller.free_handle inode)
+        (λ t. model.open_file t caller path.now) }
 {
     in_session(alloc, k, who.sid)?;
     let place = walk_to(alloc, k, path, true)?;

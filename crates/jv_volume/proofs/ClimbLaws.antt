@@ -20,7 +20,7 @@ pub dir_parent : (p q : ℕ) → Dir p ≡ Dir q → p ≡ q
 unfolding parent_in
 dir_parent p q e = ap (λ f. parent_in f 0) e
 
--- so many steps up lead from a directory to the root or the trash, by directories that are all another one than an inode
+-- `steps` up lead from a directory to the root or the trash, by directories that are all another one than an inode
 abbrev pub Avoids : (ℕ → Form) → ℕ → ℕ → ℕ → Type 0
 Avoids form inode zero dir = (dir ≢ inode) × IsTrue (is_top dir)
 Avoids form inode (suc steps) dir = (dir ≢ inode) × ((parent : ℕ) × (form dir ≡ Dir parent) × Avoids form inode steps parent)
@@ -28,7 +28,7 @@ Avoids form inode (suc steps) dir = (dir ≢ inode) × ((parent : ℕ) × (form 
 abbrev IsTop : ℕ → Type 0
 IsTop dir = IsTrue (is_top dir)
 
--- so many steps up to a directory of a kind, by directories that have a property and are all different
+-- `steps` up to a directory of a kind, by directories that have a property and are all different
 abbrev pub Once : (ℕ → Form) → (ℕ → Type 0) → (ℕ → Type 0) → ℕ → ℕ → Type 0
 Once form Last P zero dir = Last dir
 Once form Last P (suc steps) dir = (parent : ℕ) × (form dir ≡ Dir parent) × P dir × Once form Last (λ q. P q × (q ≢ dir)) steps parent
@@ -237,7 +237,7 @@ pub outside_avoids : (t : Tree) (dir inode n : ℕ) → WholeShape (shape_of t) 
     → is_inside t dir inode ≡ false
 outside_avoids t dir inode n whole low h = and_right (is_directory t inode) _ (avoided t inode n (key_count t.nodes) dir whole low h)
 
--- so many steps up lead from a directory to an inode
+-- `steps` up lead from a directory to an inode
 abbrev pub Meets : (ℕ → Form) → ℕ → ℕ → ℕ → Type 0
 Meets form inode zero dir = dir ≡ inode
 Meets form inode (suc steps) dir = (parent : ℕ) × (form dir ≡ Dir parent) × Meets form inode steps parent

@@ -235,7 +235,7 @@ module _ (t : Tree) (who : Caller) (w : WholeShape (shape_of t)) where
   has_bytes-tree_act o e =
       has_bytes_kept (IsLow t) (kept_by o who) t (tree_act t who o).tree w.inodes_end (keeps-tree_act t who o e)
 
--- files that a session comes to keep
+-- files that a session keeps from then on
 
 -- a file that a session keeps and didn't
 comes : (was is : Bool) → (is && not was) ≡ true → (is ≡ true) × (was ≡ false)

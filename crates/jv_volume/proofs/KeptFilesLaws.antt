@@ -1,5 +1,5 @@
 -- What the small changes of a tree leave to clients that have files open: an inode that was given to a file is that
--- file or gone, bytes stay, and a session comes to keep only some files.
+-- file or gone, bytes stay, and a session keeps only some files.
 use Rattle.std.proofs.Common.{◌≡◌, ℕ, ◌≤◌, Bool, ◌⊎◌, inl, inr, Option, None, Some, is_some, refl, sym, ap, subst, ◌∙◌}
 use Rattle.std.proofs.Common.{arith}
 use Rattle.std.specs.Prelude.{IsTrue}
@@ -23,7 +23,7 @@ pub data NodeKept (t after : Tree) (inode : ℕ) : Type 0 where
   New : t.next_inode ≤ inode → ((content : Content) → content_at after inode ≡ Some content → content ≡ empty_content)
       → NodeKept t after inode
 
--- A change by which sessions come to keep no other files than those that pass a test. What it says of nodes is said of
+-- A change by which sessions keep no other files than those that pass a test. What it says of nodes is said of
 -- trees that are low: there the inodes of hours lie past those that are given to new nodes.
 pub record KeepsFiles (low : Type 0) (more : ℕ → Bool) (t after : Tree) : Type 0 where
   pub setting : after.setting ≡ t.setting

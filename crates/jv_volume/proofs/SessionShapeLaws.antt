@@ -162,7 +162,7 @@ module _ (s : Shape) (sid : ℕ) (gone present : ℕ → Bool) (pairs : Map pair
 
 -- a session that goes
 
--- a choice by a test that comes to something
+-- a choice by a test that is something
 pub if_some : {A : Type 0} (b : Bool) (o : Option A) → IsTrue (is_some (cond b o None)) → (b ≡ true) × IsTrue (is_some o)
 if_some true o h = (refl, h)
 if_some false o h = absurd (false≢true h)

@@ -68,7 +68,7 @@ is_top inode = (inode == root) || (inode == trash_root)
 abbrev pub is_hour : ℕ → Bool
 is_hour inode = nat_lt trash_root inode && nat_le inode FIRST_HOUR
 
--- so many steps up lead from a directory to the root or the trash
+-- `steps` up lead from a directory to the root or the trash
 abbrev pub Reaches : (ℕ → Form) → ℕ → ℕ → Type 0
 Reaches form zero dir = IsTrue (is_top dir)
 Reaches form (suc steps) dir = (parent : ℕ) × (form dir ≡ Dir parent) × Reaches form steps parent

@@ -52,7 +52,7 @@ fn find_staged_by<H: Shelf>(
             return Ok(found);
         }
     }
-    // No memory holds so many names.
+    // More names than memory holds.
     Err(YardFault::Memory)
 }
 

@@ -38,8 +38,8 @@ impl<D: Depot, H: Shelf> ObservedYard for Yard<D, H> {
     ghost use Rattle.jv_yard.specs.YardValue.{yard_value};
     ghost use Rattle.jv_yard.specs.Staging.{by_client};
 
-    ghost seen = { λ y. yard_value (D.seen y.depot) (H.seen y.shelf) y.setting (by_client y.staged) y.last
-        y.log.items };
+    ghost seen = { λ y. yard_value (D.seen y.depot) (H.seen y.shelf) y.setting
+        (by_client y.staged) y.last y.log.items };
 }
 
 impl<D: Depot, H: Shelf> Yard<D, H> {

@@ -71,7 +71,7 @@ fn measured(alloc: Global, name: &str, size: u32) -> Result<Option<u64>, Down> {
     Ok(Some(count))
 }
 
-/// A measure that is done `times` times over, so that small sizes take a time that can be told. Returns what it counts
+/// A measure that is done `times` times over, so that small sizes take a time that can be measured. Returns what it counts
 /// the last time.
 fn repeated(alloc: Global, name: &str, size: u32, times: u32) -> Result<Option<u64>, Down> {
     let mut count = None;

@@ -21,7 +21,7 @@ Marks = ℕ → ℕ → Mark
 abbrev pub first_marks : Marks
 first_marks = λ inode position. record { origin = Start inode position; stamp = 0 }
 
--- whether a position stands in a range of so many from a place on
+-- whether a position stands in a range of `len` from a place on
 abbrev pub in_range : ℕ → ℕ → ℕ → Bool
 in_range from len position = nat_le from position && nat_lt position (from + len)
 

@@ -1,5 +1,5 @@
 -- A run so far: its lines, what the present one may still have, what is printed, and the clock, beside the state that its
--- entries have come to. A journal is folded over its entries; before an entry the lines up to its own are begun.
+-- entries have reached. A journal is folded over its entries; before an entry the lines up to its own are begun.
 use Rattle.std.specs.Prelude.{ℕ, zero, suc, ◌+◌, ◌-◌, Bool, true, false, ◌&&◌, not, if◌then◌else◌, List, [], ◌∷◌, ◌++◌, length, is_some, Option, None, Some, codes, decimal}
 use Rattle.jv_model.specs.declared.basics.Limits.{Limits}
 use Rattle.jv_model.specs.declared.act.Act.{Act}
@@ -200,7 +200,7 @@ abbrev pub settled_reply : Stage → Option Reply
 settled_reply (Replying r) = Some r
 settled_reply _ = None
 
--- the reply that an answer stands for: the one that is settled, or the one that the answer's numbers give
+-- the reply that an answer stands for: the one that is settled, or the one of the answer's numbers
 abbrev pub reply_of : ModelClient → Doing → Told → Reply
 reply_of c doing told = elim (settled_reply doing.stage) [ None ↦ told_reply c doing told | Some settled ↦ settled ]
 

@@ -69,7 +69,7 @@ abbrev pub joined : List ℕ → Option (List ℕ) → Option (List ℕ)
 joined bytes None = None
 joined bytes (Some more) = Some (bytes ++ more)
 
--- the second window is read only where the first one gave all that was asked of it
+-- the second window is read only where the first one returned all that was asked of it
 abbrev pub read_on : List View → ℕ → OpenFile → ℕ → Asked → List Asked → Option (List ℕ) → Option (List ℕ)
 read_on views handle file second asked others None = None
 read_on views handle file second asked [] (Some bytes) = only_if (second == 0) bytes

@@ -1,4 +1,4 @@
--- What a journal has come to, and what one more entry does to it: the tree, the clients, and whose blocks are owed. It
+-- What a journal has reached, and what one more entry does to it: the tree, the clients, and whose blocks are owed. It
 -- knows no lines, clock or text.
 use Rattle.std.specs.Prelude.{ℕ, ◌+◌, ◌%◌, Bool, true, false, ◌&&◌, ◌||◌, not, ◌==◌, nat_lt, if◌then◌else◌, List, [], ◌∷◌, ◌++◌, map, filter, is_some, Option, None, Some}
 use Rattle.jv_model.specs.declared.limits.TheConstants.{TRASH_ROOT}

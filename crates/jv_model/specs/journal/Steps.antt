@@ -47,7 +47,7 @@ pub record Start : Type 0 where
 abbrev pub is_crowded : Start → State → Bool
 is_crowded start s = nat_le FULL_COUNT (start.next_slice + s.count) || nat_le FULL_COUNT (start.records + s.count + FILE_END + s.copied)
 
--- an operation that works on its requests, after so many of the next segment
+-- the requests of the next segment that an operation made which works on its requests
 abbrev pub quiets_in : Stage → ℕ
 quiets_in (Working quiets started) = quiets
 quiets_in _ = 0

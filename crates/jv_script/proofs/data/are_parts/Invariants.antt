@@ -6,7 +6,7 @@ use Rattle.jv_script.specs.Reading.{parts_after}
 use Rattle.jv_script.proofs.PartLaws.{length_with}
 use Rattle.jv_script.proofs.data.are_parts.Given as goal
 
--- what is counted and the parts that are left give the whole
+-- what is counted and the parts that are left are the whole
 abbrev pub invariant-loop-rest : goal.invariant-loop-rest
 invariant-loop-rest l = record {
   whole : length_with 0 (parted 43 l.text) ≡ length_with l.total (parts_after 43 (option_copied l.rest));

@@ -4,7 +4,7 @@ use Rattle.jv_model.specs.script.Grammar.{parted, bytes_of_parts}
 use Rattle.jv_script.specs.Reading.{parts_after, bytes_after}
 use Rattle.jv_script.proofs.data.joined.Given as goal
 
--- what is there and the parts that are left give the whole
+-- what is there and the parts that are left are the whole
 abbrev pub invariant-loop-rest : goal.invariant-loop-rest
 invariant-loop-rest l = bytes_of_parts (parted 43 l.text) ≡ bytes_after l.bytes.items (parts_after 43 (option_copied l.rest))
 
