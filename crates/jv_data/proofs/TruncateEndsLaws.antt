@@ -3,7 +3,7 @@ use Rattle.std.proofs.Common.{◌≡◌, ℕ, ◌<◌, ◌≤◌, Bool, true, fa
 use Rattle.std.specs.Prelude.{nat_le, is_some}
 use Rattle.std.specs.Option.{option_map}
 use Rattle.std.proofs.lemmas.Option.{same_Some}
-use Rattle.std.proofs.lemmas.Bool.{le-leb, lt-leb}
+use Rattle.std.proofs.lemmas.Bool.{cond-true, cond-false, le-leb, lt-leb, lt-ltb, le-ltb}
 use Rattle.jv_model.specs.declared.fault.Fault.{Fault}
 use Rattle.jv_model.specs.declared.fault.Fault.TheVariants.{FileTooLarge, NoSpace, Stale}
 use Rattle.jv_model.specs.declared.fault.Gone.TheVariants.{Session, Node as GoneNode}
@@ -24,7 +24,7 @@ use Rattle.jv_model.specs.declared.basics.Who.{Who}
 use Rattle.jv_rows.specs.Transactions.{Agrees, IsFor}
 use Rattle.jv_rows.proofs.TransactionLaws.{Past, of_known, past-as, past-calm, past-ends, past-fails, past-looks, past-refuses, past-stops, fails-commit}
 use Rattle.jv_data.specs.Resizing.{ResizesFile, AreSized}
-use Rattle.jv_data.specs.Truncating.{due_after, ListsCut, LeaveSlices, Cut, Kept, Shortens}
+use Rattle.jv_data.specs.Truncating.{due_after, ListsCut, LeaveSlices, Cut, Kept, Shortens, list_after, CutsFile}
 use Rattle.jv_data.proofs.BeginningLaws.{content_found}
 use Rattle.jv_data.proofs.CommitLaws.{looks-any}
 use Rattle.jv_outside.specs.Rows.{applied}
@@ -41,7 +41,7 @@ use Rattle.jv_data.proofs.ChangedLaws.{tree-changed}
 use Rattle.jv_data.proofs.RefusedLaws.{changes-refused}
 use Rattle.jv_data.proofs.RestLaws.{rest-sized, of_left}
 use Rattle.jv_data.proofs.SizedLaws.{sized_rows, quiet-sized, whole-sized}
-use Rattle.jv_data.proofs.TruncatedLaws.{dies-cut, rest-cut, whole-cut, others-cut, tree-cut_lists}
+use Rattle.jv_data.proofs.TruncatedLaws.{show_last, dies-cut, rest-cut, whole-cut, others-cut, tree-cut_lists}
 use Rattle.jv_model.specs.declared.fault.Down.{Down}
 use Rattle.jv_model.specs.declared.row.Row.TheVariants.{OfNode}
 use Rattle.jv_model.specs.rows.RowFaults.{row_fault}
@@ -232,6 +232,15 @@ module _ (sid now inode len : ℕ) where
                 (λ c. rest-cut (typed known) inode was s.counters now len whole (there known is) h.file s.there small left c key other)
                 (λ longer. rest-sized (typed known) inode was s.counters now len whole (there known is) h.file s.there key other)
 
+            lists_left : (u : ℕ) → lists_of left inode u ≡ list_after was.length len u (lists_of (typed known) inode u)
+            lists_left u = elim (z.lists known at_sized) [
+              | Cut shorter c ↦ show_last (typed known) inode was s.counters now len whole (there known is) h.file s.there small left
+                  (subst (λ (rows : Rows). ListsCut inode len now (typed known) rows left) s.is c) u
+                  ∙ sym (cond-true _ _ _ (lt-ltb len was.length shorter))
+              | Kept longer same ↦ ap (λ (rows : Rows). lists_of rows inode u) (same ∙ s.is) ∙ quiet-lists_of (typed known) sized_known quiet inode u
+                  ∙ sym (cond-false _ _ _ (le-ltb len was.length longer))
+            ]
+
             stands : last.rows ≡ Some (applied d2 known)
             stands = commits.rows_are ∙ ap (option_map (applied d2)) (z.looks.rows_are ∙ at_sized)
 
@@ -278,6 +287,13 @@ module _ (sid now inode len : ℕ) where
           truncate-rest last commits known after is whole here key other =
               of_left (λ rows. get rows key ≡ get (typed known) key) d2 known after last.rows (stands last commits known is whole) here
               (rest_left last commits known is whole key other)
+
+          -- the file's lists are cut
+          pub truncate-lists : (last : Store) → Commits cut last (Ok tt) d2 → CutsFile inode len before last (Ok tt)
+          truncate-lists last commits known after is whole here node found u =
+              of_left (λ rows. lists_of rows inode u ≡ list_after node.length len u (lists_of (typed known) inode u)) d2 known after last.rows
+              (stands last commits known is whole) here (lists_left last commits known is whole u
+              ∙ ap (λ (w : NodeRow). list_after w.length len u (lists_of (typed known) inode u)) (same_Some was node (sym (there known is) ∙ found)))
 
 -- the same by the caller of the model
 pub ends-as : (who : Who) (inode len now : ℕ) (before after : Store) (result : Result (Unit {0}) TxFault) → now ≡ who.now → Ends who.sid now inode len before after result

@@ -115,7 +115,7 @@ module _ (rows : Rows) (inode : ℕ) (was : NodeRow) (c : Counters) (now len : �
   unfolding lists_of
   lists_last i u = ap (λ o. if nat_lt u (2 ^ 32) then records_in (row_in o) else []) (get_last (list_key i u) refl)
 
-  show_last : (u : ℕ) → lists_of last inode u ≡ cut_list len u (lists_of rows inode u)
+  pub show_last : (u : ℕ) → lists_of last inode u ≡ cut_list len u (lists_of rows inode u)
   show_last u = lists_last inode u ∙ shows-without rows inode cut.last wide ended past_same lists follow ends u
       ∙ ap (λ b. if b then [] else lists_of ended inode u) (cut.last_is u)
       ∙ ap (λ (x : List Rec). if nat_le len (u * WINDOW) then [] else x) (show_ended u)

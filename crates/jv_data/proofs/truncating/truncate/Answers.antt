@@ -3,7 +3,7 @@ use Rattle.std.proofs.lemmas.Result.{err_from_is_err_and}
 use Rattle.jv_model.specs.declared.fault.Fault.TheVariants.{FileTooLarge}
 use Rattle.jv_model.specs.declared.fault.TxFault.TheVariants.{Refused, Rows as OfRows}
 use Rattle.jv_model.specs.rows.RowFaults.{row_fault}
-use Rattle.jv_data.proofs.TruncateEndsLaws.{ends-as, leave-sized, truncate-unread, truncate-too_long, truncate-no_room, truncate-unread_lists, truncate-down, truncate-done, truncate-rest}
+use Rattle.jv_data.proofs.TruncateEndsLaws.{ends-as, leave-sized, truncate-unread, truncate-too_long, truncate-no_room, truncate-unread_lists, truncate-down, truncate-done, truncate-lists, truncate-rest}
 use Rattle.jv_data.proofs.truncating.truncate.Goals as goal
 
 pub returns-in_err-was-clause-changes : goal.returns-in_err-was-clause-changes
@@ -51,6 +51,12 @@ returns-in-Ok-clause-changes g c caller for of =
     (truncate-done c.args.who.now.sid c.seconds-now.result c.args.inode c.args.len (g.K.Keeper.seen c.args.k.now) (g.K.Keeper.seen c.file.new.k) c.in_ok-was.was' c.in_ok-was.ensures
     (let low = c.if-len-gt-FILE_END.false in omega (arith, low)) (g.K.Keeper.seen c.resize.new.k) c.resize.new.draft c.in_ok-resize.ensures
     (g.K.Keeper.seen c.shorten.new.k) c.shorten.new.draft c.in_ok-shorten.ensures (g.K.Keeper.seen c.commit.new.k) c.in-Ok.ensures) caller for of
+
+pub returns-in-Ok-clause-lists : goal.returns-in-Ok-clause-lists
+returns-in-Ok-clause-lists g c =
+    truncate-lists c.args.who.now.sid c.seconds-now.result c.args.inode c.args.len (g.K.Keeper.seen c.args.k.now) (g.K.Keeper.seen c.file.new.k) c.in_ok-was.was' c.in_ok-was.ensures
+    (let low = c.if-len-gt-FILE_END.false in omega (arith, low)) (g.K.Keeper.seen c.resize.new.k) c.resize.new.draft c.in_ok-resize.ensures
+    (g.K.Keeper.seen c.shorten.new.k) c.shorten.new.draft c.in_ok-shorten.ensures (g.K.Keeper.seen c.commit.new.k) c.in-Ok.ensures
 
 pub returns-in-Ok-clause-rest : goal.returns-in-Ok-clause-rest
 returns-in-Ok-clause-rest g c =
