@@ -30,10 +30,12 @@ use Rattle.jv_contents.proofs.KeepLaws.{record_count-stay, slice_row-stay}
 use Rattle.jv_contents.proofs.PlaceLaws.{place_in-same}
 use Rattle.jv_contents.proofs.WholeLaws.{SlicesGo}
 use Rattle.jv_data.specs.declared.copying.Course.{Course}
+use Rattle.jv_data.specs.Changing.{may_change}
 use Rattle.jv_data.specs.Copying.{rows_copied, Copying}
 use Rattle.jv_data.proofs.BesideLaws.{Beside, beside-then}
 use Rattle.jv_data.proofs.ListChangeLaws.{ListsChange, whole-changed, others-changed, tree-copied}
 use Rattle.jv_data.proofs.PartsLaws.{get-copied, get-copied-file, beside-copied, lists_of-copied-file, shows-copied, move-copied, few-copied}
+use Rattle.jv_data.proofs.RestLaws.{rest-then}
 use Rattle.jv_data.proofs.SameTreeLaws.{beside-adjusted}
 use Rattle.jv_data.proofs.SizedLaws.{sized_rows, quiet-sized}
 
@@ -122,6 +124,11 @@ module _ (rows : Rows) (course : Course) (was : NodeRow) (c : Counters) (now end
         let q = or_parts (t == 4) (t == 5) p.0 in
         others-adjusted [] added due with_parts last adjusted key q.1 p.1 ∙ ap (λ (x : Rows). get x key) copying.is
         ∙ get-copied rows course middle parts key q.0
+
+    -- all rows that it may not change are as before
+    pub rest-copied : (key : RowKey) → may_change course.target key ≡ false → get last key ≡ get rows key
+    rest-copied = rest-then rows course.target was c now end whole there file counters last rest
+        (λ key four apart. get_last key (eq-eqb key.tab 4 four) ∙ get-copied-file rows course middle parts key apart)
 
     owners : (key : RowKey) → key.tab ≡ 4 → get last key ≢ None → (get rows key ≢ None) ⊎ (key.a ≡ course.target)
     owners key four is = elim (cases_eq key.a course.target) [

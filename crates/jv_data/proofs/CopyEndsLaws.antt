@@ -2,6 +2,7 @@
 use Rattle.std.proofs.Common.{◌≡◌, ◌≢◌, ℕ, ◌+◌, ◌-◌, ◌<◌, ◌≤◌, inr, Bool, true, false, List, [], Option, None, Some, Result, Ok, Err, refl, sym, ap, subst, ◌∙◌, arith}
 use Rattle.std.specs.Prelude.{◌==◌, ◌&&◌, not, min, max, nat_le, is_some, IfErr, IsTrue}
 use Rattle.std.specs.Option.{option_map}
+use Rattle.std.proofs.lemmas.Option.{same_Some}
 use Rattle.std.proofs.lemmas.Bool.{and_from, or_right, le-leb, leb-true, eqb-false, ne_eqb}
 use Rattle.jv_model.specs.declared.fault.Down.{Down}
 use Rattle.jv_model.specs.declared.fault.Fault.{Fault}
@@ -42,16 +43,17 @@ use Rattle.jv_volume.specs.Whole.{Whole}
 use Rattle.jv_contents.specs.Bytes.{Told, bytes_of, tree_with}
 use Rattle.jv_contents.proofs.KeepLaws.{keeps-stay}
 use Rattle.jv_data.specs.declared.copying.Course.{Course}
-use Rattle.jv_data.specs.Changing.{Makes, AnyTold, IsCrowded, IsFull, Changed, LandsChanged, Changes, count_in}
+use Rattle.jv_data.specs.Changing.{Makes, AnyTold, IsCrowded, IsFull, Changed, LandsChanged, Changes, count_in, may_change, KeepsRest}
 use Rattle.jv_data.specs.Committing.{HasFile, length_seen}
 use Rattle.jv_data.specs.Copying.{Copying, CopiesLists}
 use Rattle.jv_data.specs.Resizing.{ResizesFile, AreSized}
 use Rattle.jv_data.specs.Truncating.{HasSlice, HaveSlices}
 use Rattle.jv_data.proofs.BeginningLaws.{content_found}
 use Rattle.jv_data.proofs.CommitLaws.{looks-any}
-use Rattle.jv_data.proofs.CopiedLaws.{crowded-copied, lives-copied, whole-copied, others-copied, tree-copied_lists}
+use Rattle.jv_data.proofs.CopiedLaws.{crowded-copied, lives-copied, rest-copied, whole-copied, others-copied, tree-copied_lists}
 use Rattle.jv_data.proofs.PartsLaws.{get-copied, have-copied}
 use Rattle.jv_data.proofs.RefusedLaws.{changes-refused}
+use Rattle.jv_data.proofs.RestLaws.{of_left}
 use Rattle.jv_data.proofs.SizedLaws.{sized_rows}
 use Rattle.jv_data.proofs.TruncateLaws.{has_named}
 
@@ -214,6 +216,11 @@ module _ (sid now src dst from to len : ℕ) (due : Setting → ℕ) where
             };
             bad = tt;
           }
+
+          -- and all rows are as before
+          pub rest-none : KeepsRest {A = ℕ} dst before both (Ok 0)
+          rest-none known after is whole here key other =
+              ap (λ (r : RowMap). get (typed r) key) (same_Some after known (sym here ∙ past_within.rows_are ∙ is))
 
           module _ (some : n ≢ 0) where
             abbrev length : ℕ
@@ -380,11 +387,18 @@ module _ (sid now src dst from to len : ℕ) (due : Setting → ℕ) where
                     whole_left = whole-copied (typed known) course target t_sized.counters now length whole (target_there known is) g.file t_sized.there (small known is whole) refl
                         (drafted d2 known) added (y known is whole) n 0 enough left adjusted t_sized.given
 
+                    rest_left : (key : RowKey) → may_change dst key ≡ false → get left key ≡ get (typed known) key
+                    rest_left = rest-copied (typed known) course target t_sized.counters now length whole (target_there known is) g.file t_sized.there (small known is whole) refl
+                        (drafted d2 known) added (y known is whole) n 0 enough left adjusted
+
+                    stands : last.rows ≡ Some (applied d3 known)
+                    stands = commits.rows_are ∙ ap (option_map (applied d3)) (past_counted.rows_are ∙ is)
+
                     changed : (told : Told) → Changed (makes n) known last.rows told (Count n) act
                     unfolding drafted
                     changed told = record {
                       left = applied d3 known;
-                      is = commits.rows_are ∙ ap (option_map (applied d3)) (past_counted.rows_are ∙ is);
+                      is = stands;
                       whole = whole_left;
                       others = others-copied (typed known) course target t_sized.counters now length whole (target_there known is) g.file t_sized.there (small known is whole) refl
                           (drafted d2 known) added (y known is whole) n 0 enough left adjusted t_sized.given;
@@ -405,6 +419,12 @@ module _ (sid now src dst from to len : ℕ) (due : Setting → ℕ) where
                     lands = λ known is whole told ready. changed last commits known is whole told;
                     bad = tt;
                   }
+
+                  -- and all other rows are as before
+                  pub rest-done : (last : Store) → Commits counted last (Ok tt) d3 → KeepsRest {A = ℕ} dst before last (Ok n)
+                  rest-done last commits known after is whole here key other =
+                      of_left (λ rows. get rows key ≡ get (typed known) key) d3 known after last.rows (stands last commits known is whole) here
+                      (rest_left last commits known is whole key other)
 
 -- ---- by the caller of the model
 

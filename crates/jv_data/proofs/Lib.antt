@@ -5,6 +5,7 @@ pub mod ListRowLaws
 pub mod NewRecordLaws
 pub mod SizedLaws
 pub mod CountersLaws
+pub mod RestLaws
 pub mod ChangedLaws
 pub mod RecordedLaws
 pub mod ResizingLaws

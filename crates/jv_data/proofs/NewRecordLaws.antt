@@ -87,9 +87,14 @@ module _ (rows : Rows) (inode window : ℕ) (low : window < 2 ^ 32) (rec : Rec) 
   -- ---- views
 
   -- a row that is neither a list nor a slice
-  other_same : (key : RowKey) → (key.tab == 4) ≡ false → (key.tab == 5) ≡ false → get recorded_rows key ≡ get rows key
+  pub other_same : (key : RowKey) → (key.tab == 4) ≡ false → (key.tab == 5) ≡ false → get recorded_rows key ≡ get rows key
   other_same key no_list no_slice =
       get-other listed_rows (slice_key rec.id) slice_cell key no_slice ∙ get-other rows (list_key inode window) list_cell key no_list
+
+  -- a list of another file
+  pub list_beside : (key : RowKey) → key.tab ≡ 4 → key.a ≢ inode → get recorded_rows key ≡ get rows key
+  list_beside key four apart = get-other listed_rows (slice_key rec.id) slice_cell key (ap (λ n. n == 5) four)
+      ∙ get-alter-apart row_key rows (list_key inode window) list_cell key (λ same. apart (ap (λ (k : RowKey). k.a) same))
 
   pub slice_there : slice_row_at recorded_rows rec.id ≡ Some new_slice
   slice_there = ap (λ c. slice_in (row_in c)) (get-alter-here row_key listed_rows (slice_key rec.id) slice_cell)

@@ -1,5 +1,5 @@
 -- How a commit of a record ends: each of its exits, by how it began, what was read and what was changed.
-use Rattle.std.proofs.Common.{◌≡◌, ℕ, ◌+◌, ◌*◌, ◌<◌, ◌≤◌, ◌^◌, inl, List, [], ◌∷◌, ◌++◌, Option, Some, Result, Ok, Err, refl, sym, ap, subst, ◌∙◌, arith}
+use Rattle.std.proofs.Common.{◌≡◌, ℕ, ◌+◌, ◌*◌, ◌<◌, ◌≤◌, ◌^◌, inl, false, List, [], ◌∷◌, ◌++◌, Option, Some, Result, Ok, Err, refl, sym, ap, subst, ◌∙◌, arith}
 use Rattle.std.specs.Prelude.{max}
 use Rattle.std.specs.Option.{option_map, unwrap_or}
 use Rattle.jv_model.specs.declared.fault.Down.{Down}
@@ -11,6 +11,7 @@ use Rattle.jv_model.specs.declared.fault.TxFault.TheVariants.{Refused, Moved, Ro
 use Rattle.jv_model.specs.declared.limits.TheConstants.{FILE_END, WINDOW}
 use Rattle.jv_model.specs.declared.op.Reply.TheVariants.{Done}
 use Rattle.jv_model.specs.declared.row.Row.TheVariants.{OfList, OfSlice}
+use Rattle.jv_model.specs.declared.row.RowKey.{RowKey}
 use Rattle.jv_model.specs.declared.row.SliceRow.{SliceRow}
 use Rattle.jv_model.specs.declared.setting.Setting.{Setting}
 use Rattle.jv_model.specs.declared.slice.Rec.{Rec}
@@ -34,13 +35,14 @@ use Rattle.jv_volume.specs.Views.{row_in, node_in, node_row_at, slice_row_at, li
 use Rattle.jv_volume.specs.Whole.{Whole}
 use Rattle.jv_contents.specs.Bytes.{Told, bytes_of, tree_with}
 use Rattle.jv_contents.specs.Counts.{KeepsOthers}
-use Rattle.jv_data.specs.Changing.{Makes, Never, Changed, LandsChanged}
+use Rattle.jv_data.specs.Changing.{Makes, Never, Changed, LandsChanged, may_change, KeepsRest}
 use Rattle.jv_data.specs.Committing.{BeginsCommit, Begun, commit_of}
 use Rattle.jv_data.specs.Resizing.{rows_sized}
 use Rattle.jv_data.specs.Records.{HasRecords, IsNew, CommitsRecord, committing}
 use Rattle.jv_data.proofs.CommitLaws.{RefusedBy, began, commit-unbegun, commit-reads, commit-fails}
 use Rattle.jv_data.proofs.RecordsLaws.{records-unread, records-seen_in}
-use Rattle.jv_data.proofs.RecordedLaws.{last, lives-last, whole-last, others-last, size-last, tree-last}
+use Rattle.jv_data.proofs.RecordedLaws.{last, lives-last, rest-last, whole-last, others-last, size-last, tree-last}
+use Rattle.jv_data.proofs.RestLaws.{of_left}
 
 -- a reading, and then something that fails
 pub fails-after : {A : Type 0} (before middle after : Store) (x : A) (fault : TxFault) → (act : Tree → Result A Fault) → Looks before middle (Ok x) act
@@ -156,6 +158,11 @@ module _ (sid now inode window : ℕ) (rec : Rec) (started : ℕ) where
             ∙ (λ i. alter (alter (rows_sized (typed known) inode begun.was begun.sized.counters (max begun.was.length end) now) (list_key inode window)
             (cell OfList (Some (list ++ rec ∷ [])))) (slice_key rec.id) (cell OfSlice (Some (slice_is i))))
 
+        rest : (key : RowKey) → may_change inode key ≡ false → get (drafted d2 known) key ≡ get (typed known) key
+        rest key other = ap (λ (rows : Rows). get rows key) rows_are
+            ∙ rest-last (typed known) inode window low begun.was begun.sized.counters now rec list whole there begun.file begun.sized.there list_is is_rec some small within
+            key other
+
         changed : (told : Told) (bytes : List ℕ) (due : Setting → ℕ) → IsNew rec bytes (typed known) told → (last_rows : Option RowMap) → last_rows ≡ Some (applied d2 known)
             → Changed (makes due) known last_rows told Done (committing sid inode from bytes started now)
         unfolding drafted
@@ -188,3 +195,10 @@ module _ (sid now inode window : ℕ) (rec : Rec) (started : ℕ) where
                 (commits.rows_are ∙ ap (option_map (applied d2)) (r.looks.rows_are ∙ so_far.rows_are ∙ is));
             bad = tt;
           }
+
+      -- and all other rows are as before
+      pub record-rest : (last_store : Store) → Commits read last_store (Ok tt) d2 → KeepsRest {A = Unit {0}} inode before last_store (Ok tt)
+      record-rest last_store commits known left is whole here key other =
+          let so_far = began sid now inode end started before middle begun_by b end [] (omega arith) in
+          of_left (λ rows. get rows key ≡ get (typed known) key) d2 known left last_store.rows
+          (commits.rows_are ∙ ap (option_map (applied d2)) (r.looks.rows_are ∙ so_far.rows_are ∙ is)) here (rest known is whole key other)

@@ -1,14 +1,17 @@
 -- A commit of a record of a new slice over whole rows: they are whole again, and their tree is the model's after it.
-use Rattle.std.proofs.Common.{◌≡◌, ◌≢◌, ℕ, ◌+◌, ◌*◌, ◌<◌, ◌≤◌, ◌^◌, List, length, ◌++◌, ◌∷◌, [], None, Some, Ok, refl, sym, ap, subst, ◌∙◌, arith}
+use Rattle.std.proofs.Common.{◌≡◌, ◌≢◌, ℕ, ◌+◌, ◌*◌, ◌<◌, ◌≤◌, ◌^◌, false, List, length, ◌++◌, ◌∷◌, [], None, Some, Ok, refl, sym, ap, subst, ◌∙◌, arith}
 use Rattle.std.proofs.lemmas.Option.{same_Some}
-use Rattle.std.specs.Prelude.{max, slice_index}
+use Rattle.std.specs.Prelude.{◌==◌, ◌||◌, max, slice_index}
+use Rattle.std.proofs.lemmas.Bool.{or_parts}
 use Rattle.jv_model.specs.declared.limits.TheConstants.{FILE_END, WINDOW}
 use Rattle.jv_model.specs.declared.row.Counters.{Counters}
 use Rattle.jv_model.specs.declared.row.Node.{Node as NodeRow}
 use Rattle.jv_model.specs.declared.row.Row.TheVariants.{OfList, OfSlice}
+use Rattle.jv_model.specs.declared.row.RowKey.{RowKey}
 use Rattle.jv_model.specs.declared.row.SliceRow.{SliceRow}
 use Rattle.jv_model.specs.declared.slice.Rec.{Rec}
 use Rattle.jv_model.specs.declared.slice.Spot.TheVariants.{Zero}
+use Rattle.jv_model.specs.FiniteMap.{get}
 use Rattle.jv_model.specs.blocks.Slices.{IsRecord}
 use Rattle.jv_model.specs.rows.RowPlaces.{list_key, slice_key}
 use Rattle.jv_model.specs.tree.Tree.{Tree, Content}
@@ -26,9 +29,11 @@ use Rattle.jv_contents.specs.Counts.{KeepsOthers}
 use Rattle.jv_contents.proofs.ByteLaws.{byte-committed, past-put_over}
 use Rattle.jv_contents.proofs.KeepLaws.{unknown-stay, slice_row-stay, keeps-stay_then}
 use Rattle.jv_contents.proofs.PlaceLaws.{place_in-same}
+use Rattle.jv_data.specs.Changing.{may_change}
 use Rattle.jv_data.proofs.BesideLaws.{Beside, beside-alter, beside-then, formed-beside, list_is_row, whole-formed}
 use Rattle.jv_data.proofs.ChangedLaws.{tree-changed}
-use Rattle.jv_data.proofs.NewRecordLaws.{recorded_rows, slice_there, slices-recorded, others-recorded, files-recorded, places-recorded, places-beside, lives-recorded}
+use Rattle.jv_data.proofs.NewRecordLaws.{recorded_rows, other_same, list_beside, slice_there, slices-recorded, others-recorded, files-recorded, places-recorded, places-beside, lives-recorded}
+use Rattle.jv_data.proofs.RestLaws.{rest-then}
 use Rattle.jv_data.proofs.SizedLaws.{sized_rows, sized, formed-sized, quiet-sized, whole-sized, node-sized, content_was}
 
 -- a slice's row may stand where it is put
@@ -88,6 +93,16 @@ module _ (rows : Rows) (inode window : ℕ) (low : window < 2 ^ 32) (was : NodeR
     pub others-last : KeepsOthers rec.id 1 rows last
     others-last = keeps-stay_then rec.id 1 rows middle last quiet.apart quiet.next
         (others-recorded middle inode window low rec list same_list is some small whole_middle.slices unknown_middle below_middle)
+
+  -- all rows that it may not change are as before
+  pub rest-last : (key : RowKey) → may_change inode key ≡ false → get last key ≡ get rows key
+  rest-last = rest-then rows inode was c now end whole there file counters last
+      (λ key other.
+      (let t = key.tab in
+      let p = or_parts ((t == 4) || (t == 5)) (t == 9) other in
+      let q = or_parts (t == 4) (t == 5) p.0 in
+      other_same middle inode window low rec list same_list is some small key q.0 q.1))
+      (list_beside middle inode window low rec list same_list is some small)
 
   pub lives-last : (id : ℕ) (slice : SliceRow) → slice_row_at rows id ≡ Some slice → slice_row_at last id ≡ None → ⊥
   lives-last id slice here none =

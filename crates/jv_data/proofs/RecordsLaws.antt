@@ -1,5 +1,5 @@
 -- How the records of a window are read, and how a look at it goes.
-use Rattle.std.proofs.Common.{◌≡◌, ℕ, ◌<◌, ◌^◌, List, [], ◌∷◌, Option, None, Some, Result, Ok, Err, refl, sym, ap, subst, ◌∙◌, lt-ltb}
+use Rattle.std.proofs.Common.{◌≡◌, ◌≢◌, ℕ, ◌<◌, ◌^◌, List, [], ◌∷◌, Option, None, Some, Result, Ok, Err, refl, sym, ap, subst, ◌∙◌, lt-ltb}
 use Rattle.std.specs.Prelude.{IsTrue}
 use Rattle.std.specs.List.{AllByRecursion, list_all}
 use Rattle.std.specs.Option.{unwrap_or}
@@ -52,6 +52,12 @@ module _ (inode window : ℕ) (low : window < 2 ^ 32) (before after : Store) whe
   unfolding lists_of
   lists_as rows c is = ap (λ c. records_in (row_in c)) (sym is) ∙ sym (cond-true _ _ _ (lt-ltb window (2 ^ 32) low))
 
+  -- a row that was found isn't malformed
+  never_malformed : (rows : Rows) (found : Option (List Rec)) → get rows (list_key inode window) ≡ cell OfList found
+      → (bytes : List ℕ) → get rows (list_key inode window) ≢ Some (Err bytes)
+  never_malformed rows None is bytes bad = (let both = sym is ∙ bad in absurd (cc))
+  never_malformed rows (Some records) is bytes bad = (let both = sym is ∙ bad in absurd (cc))
+
   -- readings over changes that leave the list as it was
   module _ (changes : List Change) (same : (known : RowMap) → before.rows ≡ Some known → get (drafted changes known) (list_key inode window) ≡ get (typed known) (list_key inode window)) where
     pub records-unread : (fault : RowFault) → Sees OfList is_list (list_key inode window) changes before after (Err fault)
@@ -60,6 +66,7 @@ module _ (inode window : ℕ) (low : window < 2 ^ 32) (before after : Store) whe
       looks = fails-looks before after (λ t. Ok tt) (OfRows fault) (fails-sees OfList is_list (list_key inode window) changes before after same fault s);
       list = tt;
       records = tt;
+      formed = tt;
     }
 
     records-found : (found : Option (List Rec)) (records : List Rec) → records_in (row_in (cell OfList found)) ≡ records
@@ -70,6 +77,8 @@ module _ (inode window : ℕ) (low : window < 2 ^ 32) (before after : Store) whe
       list = if_known (λ known. records ≡ lists_of (typed known) inode window) before.rows (λ known here.
           sym is ∙ lists_as (typed known) (cell OfList found) (stands-sees OfList is_list (list_key inode window) changes before after same found s known here));
       records = all;
+      formed = if_known (λ known. (bytes : List ℕ) → get (typed known) (list_key inode window) ≢ Some (Err bytes)) before.rows (λ known here.
+          never_malformed (typed known) found (stands-sees OfList is_list (list_key inode window) changes before after same found s known here));
     }
 
     -- the records of the row that was found, none where there is no row
@@ -87,4 +96,5 @@ look-unread sid inode window before middle after was fault h r = record {
       (looks-any middle after fault (λ t. Ok was.length) r.looks);
   list = tt;
   records = tt;
+  formed = tt;
 }

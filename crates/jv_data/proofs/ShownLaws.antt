@@ -91,7 +91,7 @@ module _ (inode window : ℕ) (low : window < 2 ^ 32) (before read : Store) (lis
   calm = looks-calm before read s.rows_are s.opened_at s.counts
 
   pub named-read : HasRecords inode window before read (Ok list) → (after : Store) → ChecksSlices list read after (Ok tt) → HasRecords inode window before after (Ok list)
-  named-read h after z = record { looks = looks-then before read after (Ok tt) calm z.looks; list = h.list; records = h.records }
+  named-read h after z = record { looks = looks-then before read after (Ok tt) calm z.looks; list = h.list; records = h.records; formed = h.formed }
 
 -- what a list shows of a slice has a row, where all its slices have
 shown_slice : (rows : Rows) (l : List Rec) → HaveSlices rows l → (q id size at : ℕ) → stored_place l q ≡ Slice id size at → HasSlice rows id

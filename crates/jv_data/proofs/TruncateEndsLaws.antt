@@ -3,7 +3,7 @@ use Rattle.std.proofs.Common.{◌≡◌, ℕ, ◌<◌, ◌≤◌, Bool, true, fa
 use Rattle.std.specs.Prelude.{nat_le, is_some}
 use Rattle.std.specs.Option.{option_map}
 use Rattle.std.proofs.lemmas.Option.{same_Some}
-use Rattle.std.proofs.lemmas.Bool.{le-leb, lt-leb}
+use Rattle.std.proofs.lemmas.Bool.{cond-true, cond-false, le-leb, lt-leb, lt-ltb, le-ltb}
 use Rattle.jv_model.specs.declared.fault.Fault.{Fault}
 use Rattle.jv_model.specs.declared.fault.Fault.TheVariants.{FileTooLarge, NoSpace, Stale}
 use Rattle.jv_model.specs.declared.fault.Gone.TheVariants.{Session, Node as GoneNode}
@@ -24,7 +24,7 @@ use Rattle.jv_model.specs.declared.basics.Who.{Who}
 use Rattle.jv_rows.specs.Transactions.{Agrees, IsFor}
 use Rattle.jv_rows.proofs.TransactionLaws.{Past, of_known, past-as, past-calm, past-ends, past-fails, past-looks, past-refuses, past-stops, fails-commit}
 use Rattle.jv_data.specs.Resizing.{ResizesFile, AreSized}
-use Rattle.jv_data.specs.Truncating.{due_after, ListsCut, LeaveSlices, Cut, Kept, Shortens}
+use Rattle.jv_data.specs.Truncating.{due_after, ListsCut, LeaveSlices, Cut, Kept, Shortens, list_after, CutsFile}
 use Rattle.jv_data.proofs.BeginningLaws.{content_found}
 use Rattle.jv_data.proofs.CommitLaws.{looks-any}
 use Rattle.jv_outside.specs.Rows.{applied}
@@ -39,8 +39,9 @@ use Rattle.jv_volume.specs.Slices.{place_in}
 use Rattle.jv_data.proofs.BesideLaws.{beside-none}
 use Rattle.jv_data.proofs.ChangedLaws.{tree-changed}
 use Rattle.jv_data.proofs.RefusedLaws.{changes-refused}
+use Rattle.jv_data.proofs.RestLaws.{rest-sized, of_left}
 use Rattle.jv_data.proofs.SizedLaws.{sized_rows, quiet-sized, whole-sized}
-use Rattle.jv_data.proofs.TruncatedLaws.{dies-cut, whole-cut, others-cut, tree-cut_lists}
+use Rattle.jv_data.proofs.TruncatedLaws.{show_last, dies-cut, rest-cut, whole-cut, others-cut, tree-cut_lists}
 use Rattle.jv_model.specs.declared.fault.Down.{Down}
 use Rattle.jv_model.specs.declared.row.Row.TheVariants.{OfNode}
 use Rattle.jv_model.specs.rows.RowFaults.{row_fault}
@@ -49,11 +50,12 @@ use Rattle.jv_outside.specs.declared.batch.Change.{Change}
 use Rattle.jv_volume.specs.Views.{row_in, node_in, node_row_at, lists_of, slice_row_at, dead_at}
 use Rattle.jv_volume.specs.Whole.{Whole, Quiet}
 use Rattle.jv_model.specs.declared.row.Node.{Node as NodeRow}
+use Rattle.jv_model.specs.declared.row.RowKey.{RowKey}
 use Rattle.jv_model.specs.declared.row.SliceRow.{SliceRow}
 use Rattle.jv_volume.specs.TreeOf.{content_of, tree_of}
 use Rattle.jv_volume.specs.TypedRows.{Rows, typed}
 use Rattle.jv_contents.specs.Bytes.{Told, spot_byte, bytes_of, tree_with}
-use Rattle.jv_data.specs.Changing.{Makes, DieUntil, AnyTold, Never, Changed, Changes}
+use Rattle.jv_data.specs.Changing.{Makes, DieUntil, AnyTold, Never, Changed, Changes, may_change, KeepsRest}
 use Rattle.jv_data.specs.Committing.{HasFile, length_seen}
 
 -- the model's truncate of a file that a session sees
@@ -225,6 +227,23 @@ module _ (sid now inode len : ℕ) where
                 ∙ ap (due_after now) (same_Some c.is_due.setting setting (sym c.is_due.set ∙ set))))
                 (λ longer id slice here none. (let stays = slice_row-stay (typed known) sized_known quiet.apart id in absurd (cc)))
 
+            rest_left : (key : RowKey) → may_change inode key ≡ false → get left key ≡ get (typed known) key
+            rest_left key other = by_lists (λ rows. get rows key ≡ get (typed known) key)
+                (λ c. rest-cut (typed known) inode was s.counters now len whole (there known is) h.file s.there small left c key other)
+                (λ longer. rest-sized (typed known) inode was s.counters now len whole (there known is) h.file s.there key other)
+
+            lists_left : (u : ℕ) → lists_of left inode u ≡ list_after was.length len u (lists_of (typed known) inode u)
+            lists_left u = elim (z.lists known at_sized) [
+              | Cut shorter c ↦ show_last (typed known) inode was s.counters now len whole (there known is) h.file s.there small left
+                  (subst (λ (rows : Rows). ListsCut inode len now (typed known) rows left) s.is c) u
+                  ∙ sym (cond-true _ _ _ (lt-ltb len was.length shorter))
+              | Kept longer same ↦ ap (λ (rows : Rows). lists_of rows inode u) (same ∙ s.is) ∙ quiet-lists_of (typed known) sized_known quiet inode u
+                  ∙ sym (cond-false _ _ _ (le-ltb len was.length longer))
+            ]
+
+            stands : last.rows ≡ Some (applied d2 known)
+            stands = commits.rows_are ∙ ap (option_map (applied d2)) (z.looks.rows_are ∙ at_sized)
+
             tree_left : (told : Told) → tree_with told left ≡ truncated (tree_with told (typed known)) now inode len
             tree_left told = by_lists (λ rows. tree_with told rows ≡ truncated (tree_with told (typed known)) now inode len)
                 (λ c. tree-cut_lists (typed known) inode was s.counters now len whole (there known is) h.file s.there small left c told)
@@ -246,7 +265,7 @@ module _ (sid now inode len : ℕ) where
             unfolding drafted
             changed told = record {
               left = applied d2 known;
-              is = commits.rows_are ∙ ap (option_map (applied d2)) (z.looks.rows_are ∙ at_sized);
+              is = stands;
               whole = whole_left;
               others = others_left;
               size = λ slice here. (let none = whole_left.slices.none in absurd (cc));
@@ -262,6 +281,19 @@ module _ (sid now inode len : ℕ) where
             lands = λ known is whole told ready. changed last commits known is whole told;
             bad = tt;
           }
+
+          -- and all other rows are as before
+          pub truncate-rest : (last : Store) → Commits cut last (Ok tt) d2 → KeepsRest {A = Unit {0}} inode before last (Ok tt)
+          truncate-rest last commits known after is whole here key other =
+              of_left (λ rows. get rows key ≡ get (typed known) key) d2 known after last.rows (stands last commits known is whole) here
+              (rest_left last commits known is whole key other)
+
+          -- the file's lists are cut
+          pub truncate-lists : (last : Store) → Commits cut last (Ok tt) d2 → CutsFile inode len before last (Ok tt)
+          truncate-lists last commits known after is whole here node found u =
+              of_left (λ rows. lists_of rows inode u ≡ list_after node.length len u (lists_of (typed known) inode u)) d2 known after last.rows
+              (stands last commits known is whole) here (lists_left last commits known is whole u
+              ∙ ap (λ (w : NodeRow). list_after w.length len u (lists_of (typed known) inode u)) (same_Some was node (sym (there known is) ∙ found)))
 
 -- the same by the caller of the model
 pub ends-as : (who : Who) (inode len now : ℕ) (before after : Store) (result : Result (Unit {0}) TxFault) → now ≡ who.now → Ends who.sid now inode len before after result

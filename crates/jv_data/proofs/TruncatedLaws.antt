@@ -25,11 +25,13 @@ use Rattle.jv_contents.proofs.CountLaws.{ListsMove, move-none, others-adjusted, 
 use Rattle.jv_contents.proofs.KeepLaws.{slice_row-stay}
 use Rattle.jv_contents.proofs.PlaceLaws.{place_in-same, place_in-cut}
 use Rattle.jv_contents.proofs.WholeLaws.{SlicesGo}
+use Rattle.jv_data.specs.Changing.{may_change}
 use Rattle.jv_data.specs.Truncating.{rows_ended, rows_without, latest, Follow, ListsCut}
 use Rattle.jv_data.proofs.BesideLaws.{Beside, beside-then}
 use Rattle.jv_data.proofs.CutListsLaws.{list_ended, came, came-naming, came-few, get-ended, get-ended-file, beside-ended, lists_of-ended-file, shows-ended, move-ended, cut-is, adjusted-came}
 use Rattle.jv_data.proofs.DroppedLaws.{get-without, get-without-file, beside-without, lists_of-without-file, move-without, shows-without}
 use Rattle.jv_data.proofs.ListChangeLaws.{ListsChange, whole-changed, others-changed, tree-cut}
+use Rattle.jv_data.proofs.RestLaws.{rest-then}
 use Rattle.jv_data.proofs.SameTreeLaws.{beside-adjusted}
 use Rattle.jv_data.proofs.SizedLaws.{sized_rows, quiet-sized}
 
@@ -113,7 +115,7 @@ module _ (rows : Rows) (inode : ℕ) (was : NodeRow) (c : Counters) (now len : �
   unfolding lists_of
   lists_last i u = ap (λ o. if nat_lt u (2 ^ 32) then records_in (row_in o) else []) (get_last (list_key i u) refl)
 
-  show_last : (u : ℕ) → lists_of last inode u ≡ cut_list len u (lists_of rows inode u)
+  pub show_last : (u : ℕ) → lists_of last inode u ≡ cut_list len u (lists_of rows inode u)
   show_last u = lists_last inode u ∙ shows-without rows inode cut.last wide ended past_same lists follow ends u
       ∙ ap (λ b. if b then [] else lists_of ended inode u) (cut.last_is u)
       ∙ ap (λ (x : List Rec). if nat_le len (u * WINDOW) then [] else x) (show_ended u)
@@ -165,6 +167,11 @@ module _ (rows : Rows) (inode : ℕ) (was : NodeRow) (c : Counters) (now len : �
       let q = or_parts (t == 4) (t == 5) p.0 in
       others-adjusted cut.gone [] _ cut.without last cut.adjusted key q.1 p.1 ∙ ap (λ (x : Rows). get x key) cut.dropped.so_far.is
       ∙ get-without inode lists ended key q.0 ∙ get-ended inode window pos middle inner key q.0
+
+  -- all rows that it may not change are as before
+  pub rest-cut : (key : RowKey) → may_change inode key ≡ false → get last key ≡ get rows key
+  rest-cut = rest-then rows inode was c now len whole there file counters last rest
+      (λ key four apart. get_last key (eq-eqb key.tab 4 four) ∙ get-without-file inode lists ended key apart ∙ get-ended-file inode window pos middle inner key apart)
 
   owners : (key : RowKey) → key.tab ≡ 4 → get last key ≢ None → (get rows key ≢ None) ⊎ (key.a ≡ inode)
   owners key four is = elim (cases_eq key.a inode) [

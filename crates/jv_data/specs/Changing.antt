@@ -1,5 +1,5 @@
 -- What a transaction on the bytes of files does, by the tree that the rows have with the bytes that are known of slices.
-use Rattle.std.specs.Prelude.{◌≡◌, ◌⊎◌, ℕ, ◌+◌, ◌<◌, Option, None, Some, Result, Ok, Err, IfErr, IfSome, OnErr}
+use Rattle.std.specs.Prelude.{◌≡◌, ◌⊎◌, ℕ, ◌+◌, ◌<◌, Bool, false, ◌&&◌, ◌||◌, ◌==◌, Option, None, Some, Result, Ok, Err, IfErr, IfSome, OnOk, OnErr}
 use Rattle.jv_model.specs.declared.fault.Fault.{Fault}
 use Rattle.jv_model.specs.declared.fault.Fault.TheVariants.{NoSpace}
 use Rattle.jv_model.specs.declared.fault.RowFault.TheVariants.{Bad, Failed, Memory}
@@ -7,8 +7,10 @@ use Rattle.jv_model.specs.declared.fault.TxFault.{TxFault}
 use Rattle.jv_model.specs.declared.fault.TxFault.TheVariants.{Refused, Moved, Rows as OfRows}
 use Rattle.jv_model.specs.declared.limits.TheConstants.{FULL_COUNT}
 use Rattle.jv_model.specs.declared.op.Reply.{Reply}
+use Rattle.jv_model.specs.declared.row.RowKey.{RowKey}
 use Rattle.jv_model.specs.declared.row.SliceRow.{SliceRow}
 use Rattle.jv_model.specs.declared.setting.Setting.{Setting}
+use Rattle.jv_model.specs.FiniteMap.{get}
 use Rattle.jv_model.specs.rows.RowKeys.{RowMap}
 use Rattle.jv_model.specs.tree.Tree.{Tree}
 use Rattle.jv_model.specs.tree.Caller.{Outcome}
@@ -68,6 +70,16 @@ pub record Changes {A : Type 0} (makes : Makes) (ready : Rows → Told → Type 
   pub lands : (known : RowMap) → before.rows ≡ Some known → Whole (typed known) → (told : Told) → ready (typed known) told
       → LandsChanged makes crowded known after.rows told reply act result
   pub bad : IfErr result (λ fault. IfSome before.rows (λ known. BadFault (typed known) fault))
+
+-- the rows that a transaction on a file's bytes may change: the counters, slices and dead slices, and the file's own row and lists
+abbrev pub may_change : ℕ → RowKey → Bool
+may_change inode key = (key.tab == 1) || (key.tab == 5) || (key.tab == 9) || (((key.tab == 4) || (key.tab == 2)) && (key.a == inode))
+
+-- Where a transaction on a file's bytes was made over whole rows, all rows that it may not change are as before: those of the setting, of
+-- entries, sessions, sustained and dropped files, and other files' rows and lists.
+abbrev pub KeepsRest : {A : Type 0} → ℕ → Store → Store → Result A TxFault → Type 0
+KeepsRest inode before after result = OnOk result ((known left : RowMap) → before.rows ≡ Some known → Whole (typed known)
+    → after.rows ≡ Some left → (key : RowKey) → may_change inode key ≡ false → get (typed left) key ≡ get (typed known) key)
 
 -- no transaction is refused but as the model's is
 abbrev pub Never : Rows → Type 0

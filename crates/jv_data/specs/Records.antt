@@ -1,5 +1,5 @@
 -- Looks at a window, numbers for slices, and commits of a slice's record.
-use Rattle.std.specs.Prelude.{◌≡◌, ◌⊎◌, ℕ, ◌+◌, ◌*◌, ◌<◌, nat_lt, List, length, slice_index, is_some, Option, Some, Result, Ok, Err, IfOk, IfErr, IfSome, OnErr}
+use Rattle.std.specs.Prelude.{◌≡◌, ◌≢◌, ◌⊎◌, ℕ, ◌+◌, ◌*◌, ◌<◌, nat_lt, List, length, slice_index, is_some, Option, Some, Result, Ok, Err, IfOk, IfErr, IfSome, OnOk, OnErr}
 use Rattle.std.specs.List.{AllByRecursion}
 use Rattle.jv_model.specs.declared.fault.Fault.{Fault}
 use Rattle.jv_model.specs.declared.fault.Fault.TheVariants.{NoSpace, Stale}
@@ -15,7 +15,7 @@ use Rattle.jv_model.specs.declared.slice.Rec.{Rec}
 use Rattle.jv_model.specs.FiniteMap.{get}
 use Rattle.jv_model.specs.blocks.Slices.{IsRecord}
 use Rattle.jv_model.specs.rows.RowKeys.{RowMap}
-use Rattle.jv_model.specs.rows.RowPlaces.{counters_key}
+use Rattle.jv_model.specs.rows.RowPlaces.{counters_key, list_key}
 use Rattle.jv_model.specs.tree.Attempt.{◌>>=◌, require}
 use Rattle.jv_model.specs.tree.Caller.{Outcome, done}
 use Rattle.jv_model.specs.tree.Tree.{Tree}
@@ -32,21 +32,28 @@ use Rattle.jv_data.specs.declared.looking.View.{View}
 use Rattle.jv_data.specs.Committing.{length_seen, commit_of}
 use Rattle.jv_data.specs.Changing.{Changes, Never}
 
--- A reading of a window's records, none where there is no list: over whole rows it succeeds, as far as keeper and memory go.
+-- no malformed row stands at a key, where rows are known
+abbrev pub IsWellFormed : RowKey → Option RowMap → Type 0
+IsWellFormed key rows = IfSome rows (λ known. (bytes : List ℕ) → get (typed known) key ≢ Some (Err bytes))
+
+-- A reading of a window's records, none where there is no list: over whole rows it succeeds, as far as keeper and memory go. A
+-- malformed row is an error.
 pub record HasRecords (inode window : ℕ) (before after : Store) (result : Result (List Rec) TxFault) : Type 0 where
   pub looks : Looks before after (without_answer result) (λ t. Ok tt)
   pub list : IfOk result (λ list. IfSome before.rows (λ known. list ≡ lists_of (typed known) inode window))
   pub records : IfOk result (AllByRecursion IsRecord)
+  pub formed : OnOk result (IsWellFormed (list_key inode window) before.rows)
 
 abbrev pub length_viewed : Result View TxFault → Result ℕ TxFault
 length_viewed (Ok view) = Ok view.length
 length_viewed (Err fault) = Err fault
 
--- A look at a window of a file: its length, and the window's records.
+-- A look at a window of a file: its length, and the window's records. A malformed row of the list is an error.
 pub record LooksAt (sid inode window : ℕ) (before after : Store) (result : Result View TxFault) : Type 0 where
   pub looks : Looks before after (length_viewed result) (length_seen sid inode)
   pub list : IfOk result (λ view. IfSome before.rows (λ known. view.list ≡ lists_of (typed known) inode window))
   pub records : IfOk result (λ view. AllByRecursion IsRecord view.list)
+  pub formed : OnOk result (IsWellFormed (list_key inode window) before.rows)
 
 -- the number that the next slice gets
 abbrev pub number_given : ℕ → Rows → Tree → Result ℕ Fault

@@ -1,9 +1,10 @@
 -- What a truncate does to a file's lists: the one that its length lies inside of reads zero from there on, and those behind it are dropped.
-use Rattle.std.specs.Prelude.{◌≡◌, ◌≢◌, ℕ, ◌+◌, ◌*◌, ◌/◌, ◌%◌, ◌<◌, ◌≤◌, ◌^◌, true, ◌==◌, ◌||◌, nat_le, if◌then◌else◌, List, [], ◌∷◌, ◌++◌, Option, None, Some, Result, Ok, IfOk, OnOk, IsTrue}
+use Rattle.std.specs.Prelude.{◌≡◌, ◌≢◌, ℕ, ◌+◌, ◌*◌, ◌/◌, ◌%◌, ◌<◌, ◌≤◌, ◌^◌, true, ◌==◌, ◌||◌, nat_le, nat_lt, if◌then◌else◌, List, [], ◌∷◌, ◌++◌, Option, None, Some, Result, Ok, IfOk, OnOk, IsTrue}
 use Rattle.std.specs.List.{AllByRecursion}
 use Rattle.jv_model.specs.declared.fault.TxFault.{TxFault}
 use Rattle.jv_model.specs.declared.lifetimes.TheConstants.{DAY}
 use Rattle.jv_model.specs.declared.limits.TheConstants.{WINDOW}
+use Rattle.jv_model.specs.declared.row.Node.{Node}
 use Rattle.jv_model.specs.declared.row.Row.TheVariants.{OfList, OfSlice}
 use Rattle.jv_model.specs.declared.row.SliceRow.{SliceRow}
 use Rattle.jv_model.specs.declared.row.RowKey.{RowKey}
@@ -19,9 +20,9 @@ use Rattle.jv_rows.specs.Drafts.{drafted}
 use Rattle.jv_rows.specs.Lists.{is_past, HasNoList, HaveWindows}
 use Rattle.jv_rows.specs.Transactions.{Looks, without_answer}
 use Rattle.jv_volume.specs.TypedRows.{Rows, typed}
-use Rattle.jv_volume.specs.Views.{lists_of, setting_at}
-use Rattle.jv_volume.specs.Whole.{is_of_slices}
-use Rattle.jv_contents.specs.Places.{zero_record}
+use Rattle.jv_volume.specs.Views.{lists_of, node_row_at, setting_at}
+use Rattle.jv_volume.specs.Whole.{Whole, is_of_slices}
+use Rattle.jv_contents.specs.Places.{zero_record, cut_list}
 
 -- a slice has a row
 pub record HasSlice (rows : Rows) (id : ℕ) : Type 0 where
@@ -151,3 +152,14 @@ pub data Shortened (inode was len now : ℕ) (rows middle after : Rows) : Type 0
 pub record Shortens (inode was len now : ℕ) (before after : Store) (changes changed : List Change) (result : Result (Unit {0}) TxFault) : Type 0 where
   pub looks : Looks before after result (λ t. Ok tt)
   pub lists : OnOk result ((known : RowMap) → before.rows ≡ Some known → Shortened inode was len now (typed known) (drafted changes known) (drafted changed known))
+
+-- the list of a window of a file that had one length, once it has another
+abbrev pub list_after : (was len window : ℕ) → List Rec → List Rec
+list_after was len window list = (if nat_lt len was then cut_list len window list else list)
+
+-- Where a truncate was made over whole rows, each list of the file is cut to the length if that is less than its length was, and is as
+-- before if not: a list from the length on is gone, and no list comes.
+abbrev pub CutsFile : (inode len : ℕ) → Store → Store → Result (Unit {0}) TxFault → Type 0
+CutsFile inode len before after result = OnOk result ((known left : RowMap) → before.rows ≡ Some known → Whole (typed known)
+    → after.rows ≡ Some left → (was : Node) → node_row_at (typed known) inode ≡ Some was → (window : ℕ)
+    → lists_of (typed left) inode window ≡ list_after was.length len window (lists_of (typed known) inode window))

@@ -1,5 +1,6 @@
 //! Commits of bytes to files.
 ghost use Rattle.std.specs.Prelude.{◌≡◌, ◌≤◌, ◌+◌, ◌*◌, ◌<◌, [], nat_lt};
+ghost use Rattle.jv_data.specs.Changing.{KeepsRest};
 ghost use Rattle.jv_data.specs.Committing.{BeginsCommit};
 ghost use Rattle.jv_data.specs.Records.{CommitsRecord};
 ghost use Rattle.jv_model.specs.blocks.Slices.{IsRecord};
@@ -72,8 +73,9 @@ pub fn commit<K: Keeper>(
     requires named { 0 < rec.id }
     requires size { rec.size ≤ WINDOW }
     requires within { window * WINDOW + rec.pos + rec.len ≤ FILE_END }
-    ensures { CommitsRecord who.entry.now.sid who.entry.now.now inode window rec started
+    ensures commits { CommitsRecord who.entry.now.sid who.entry.now.now inode window rec started
         (K.seen k.old) (K.seen k.new) result }
+    ensures rest { KeepsRest inode (K.seen k.old) (K.seen k.new) result }
 {
     let end = u64::from(window) * WINDOW + u64::from(rec.pos) + u64::from(rec.len);
     let mut draft = Draft::new(alloc);

@@ -1,7 +1,7 @@
 //! Copies between files, and inside of one.
 ghost use Rattle.std.specs.Prelude.{◌≡◌, ℕ, ◌+◌, ◌≤◌, ◌<◌, ◌++◌, ◌&&◌, ◌==◌, nat_le, IfOk, IfSome, OnOk};
 ghost use Rattle.jv_contents.specs.Fills.{record_at_spot, records_of_plan};
-ghost use Rattle.jv_data.specs.Changing.{Changes, AnyTold, IsCrowded, count_in};
+ghost use Rattle.jv_data.specs.Changing.{Changes, AnyTold, IsCrowded, KeepsRest, count_in};
 ghost use Rattle.jv_data.specs.Copying.{pieces_len, part_len, ShowsRange, CopiesPart, CopiesLists};
 ghost use Rattle.jv_data.specs.Records.{HasRecords};
 ghost use Rattle.jv_data.specs.Truncating.{HaveSlices};
@@ -55,11 +55,12 @@ pub fn copy_range<K: Keeper>(
     to: u64,
     len: u64,
 ) -> Result<u64, TxFault>
-    ensures { (caller : Caller) (due : Setting → ℕ) → IsFor who.entry.now caller
+    ensures changes { (caller : Caller) (due : Setting → ℕ) → IsFor who.entry.now caller
         → caller.inode ≡ src → caller.other ≡ dst
         → Changes (record { own = 0; size = 0; more = count_in result; due = due }) AnyTold
         (IsCrowded FILE_END) (K.seen k.old) (K.seen k.new)
         result (λ n. Count n) (λ t. model.copy t caller from to len) }
+    ensures rest { KeepsRest dst (K.seen k.old) (K.seen k.new) result }
 {
     let source = file(alloc, k, who.sid, src)?;
     let target = file(alloc, k, who.sid, dst)?;

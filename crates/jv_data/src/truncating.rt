@@ -1,7 +1,7 @@
 //! Truncates of files.
 ghost use Rattle.std.specs.Prelude.{◌≡◌, ◌<◌, ◌≤◌};
-ghost use Rattle.jv_data.specs.Changing.{Changes, AnyTold, Never};
-ghost use Rattle.jv_data.specs.Truncating.{due_after, IsLastBefore, LeaveSlices, TellsDue};
+ghost use Rattle.jv_data.specs.Changing.{Changes, AnyTold, KeepsRest, Never};
+ghost use Rattle.jv_data.specs.Truncating.{due_after, CutsFile, IsLastBefore, LeaveSlices, TellsDue};
 ghost use Rattle.jv_data.specs.Truncating.{ChecksSlice, ChecksSlices, CutsLists, DropsLists, EndsList, Shortens};
 ghost use Rattle.jv_model.specs.declared.limits.TheConstants.{FILE_END, LAST_MOMENT};
 ghost use Rattle.jv_model.specs.declared.op.Reply.TheVariants.{Done};
@@ -34,10 +34,12 @@ pub fn truncate<K: Keeper>(
     inode: u64,
     len: u64,
 ) -> Result<(), TxFault>
-    ensures { (caller : Caller) → IsFor who.entry.now caller → caller.inode ≡ inode
+    ensures changes { (caller : Caller) → IsFor who.entry.now caller → caller.inode ≡ inode
         → Changes (record { own = 0; size = 0; more = 1; due = due_after who.entry.now.now })
         AnyTold Never (K.seen k.old) (K.seen k.new)
         result (λ unit. Done) (λ t. model.truncate t caller len) }
+    ensures lists { CutsFile inode len (K.seen k.old) (K.seen k.new) result }
+    ensures rest { KeepsRest inode (K.seen k.old) (K.seen k.new) result }
 {
     let now = who.now.seconds();
     let was = file(alloc, k, who.sid, inode)?;

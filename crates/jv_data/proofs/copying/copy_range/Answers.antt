@@ -7,11 +7,11 @@ use Rattle.jv_model.specs.declared.limits.TheConstants.{FILE_END}
 use Rattle.jv_model.specs.rows.RowFaults.{row_fault}
 use Rattle.jv_model.specs.tree.FileBytes.{overlap}
 use Rattle.jv_data.specs.Resizing.{ResizesFile}
-use Rattle.jv_data.proofs.CopyEndsLaws.{adjusts-as, ends-as, copy-no_source, copy-no_target, copy-overlaps, copy-too_long, copy-none, copy-no_room, copy-unread, copy-uncounted, copy-down, copy-done}
+use Rattle.jv_data.proofs.CopyEndsLaws.{adjusts-as, ends-as, copy-no_source, copy-no_target, copy-overlaps, copy-too_long, copy-none, copy-no_room, copy-unread, copy-uncounted, copy-down, copy-done, rest-none, rest-done}
 use Rattle.jv_data.proofs.copying.copy_range.Goals as goal
 
-pub returns-in_err-source : goal.returns-in_err-source
-returns-in_err-source g c caller due for of other =
+pub returns-in_err-source-clause-changes : goal.returns-in_err-source-clause-changes
+returns-in_err-source-clause-changes g c caller due for of other =
     let p = err_from_is_err_and c.from_residual.result c.from_residual.ensures.1 in
     rw (p.1, p.2)
     (ends-as c.args.who.now c.args.src c.args.dst c.args.from c.args.to c.args.len c.args.who.now.now due (g.K.Keeper.seen c.args.k.now) (g.K.Keeper.seen c.file.new.k)
@@ -19,8 +19,8 @@ returns-in_err-source g c caller due for of other =
     (copy-no_source c.args.who.now.sid c.args.who.now.now c.args.src c.args.dst c.args.from c.args.to c.args.len due (g.K.Keeper.seen c.args.k.now) (g.K.Keeper.seen c.file.new.k)
     c.in_err-source.field-0.0 c.in_err-source.ensures) caller for of other)
 
-pub returns-in_err-target : goal.returns-in_err-target
-returns-in_err-target g c caller due for of other =
+pub returns-in_err-target-clause-changes : goal.returns-in_err-target-clause-changes
+returns-in_err-target-clause-changes g c caller due for of other =
     let p = err_from_is_err_and c.from_residual-in_err-target.result c.from_residual-in_err-target.ensures.1 in
     rw (p.1, p.2)
     (ends-as c.args.who.now c.args.src c.args.dst c.args.from c.args.to c.args.len c.args.who.now.now due (g.K.Keeper.seen c.args.k.now) (g.K.Keeper.seen c.file-2.new.k)
@@ -29,8 +29,8 @@ returns-in_err-target g c caller due for of other =
     c.in_ok-source.source c.in_ok-source.ensures (g.K.Keeper.seen c.file-2.new.k)
     c.in_err-target.field-0.0 c.in_err-target.ensures) caller for of other)
 
-pub returns-then-overlaps : goal.returns-then-overlaps
-returns-then-overlaps g c caller due for of other =
+pub returns-then-overlaps-clause-changes : goal.returns-then-overlaps-clause-changes
+returns-then-overlaps-clause-changes g c caller due for of other =
     let n_is : c.min-len.result ≡ min c.args.len (min c.in_ok-source.source.length FILE_END - c.args.from) = omega arith in
     let apart : ((c.args.src == c.args.dst) && overlap c.args.from c.args.to c.min-len.result) ≡ true = sym c.overlaps.ensures ∙ c.if-overlaps.true in
     (ends-as c.args.who.now c.args.src c.args.dst c.args.from c.args.to c.args.len c.args.who.now.now due (g.K.Keeper.seen c.args.k.now) (g.K.Keeper.seen c.file-2.new.k)
@@ -39,8 +39,8 @@ returns-then-overlaps g c caller due for of other =
     c.in_ok-source.source c.in_ok-source.ensures (g.K.Keeper.seen c.file-2.new.k) c.in_ok-target.target c.in_ok-target.ensures
     c.min-len.result n_is apart) caller for of other)
 
-pub returns-then-not-ends_in_file : goal.returns-then-not-ends_in_file
-returns-then-not-ends_in_file g c caller due for of other =
+pub returns-then-not-ends_in_file-clause-changes : goal.returns-then-not-ends_in_file-clause-changes
+returns-then-not-ends_in_file-clause-changes g c caller due for of other =
     let n_is : c.min-len.result ≡ min c.args.len (min c.in_ok-source.source.length FILE_END - c.args.from) = omega arith in
     let apart : ((c.args.src == c.args.dst) && overlap c.args.from c.args.to c.min-len.result) ≡ false = sym c.overlaps.ensures ∙ c.if-overlaps.false in
     let within : nat_le (c.args.to + c.min-len.result) FILE_END ≡ false = (let e = c.ends_in_file.ensures in let t = c.if-not-ends_in_file.true in cc) in
@@ -50,8 +50,8 @@ returns-then-not-ends_in_file g c caller due for of other =
     c.in_ok-source.source c.in_ok-source.ensures (g.K.Keeper.seen c.file-2.new.k) c.in_ok-target.target c.in_ok-target.ensures
     c.min-len.result n_is apart within) caller for of other)
 
-pub returns-then-len-eq0 : goal.returns-then-len-eq0
-returns-then-len-eq0 g c caller due for of other =
+pub returns-then-len-eq0-clause-changes : goal.returns-then-len-eq0-clause-changes
+returns-then-len-eq0-clause-changes g c caller due for of other =
     let n_is : c.min-len.result ≡ min c.args.len (min c.in_ok-source.source.length FILE_END - c.args.from) = omega arith in
     let apart : ((c.args.src == c.args.dst) && overlap c.args.from c.args.to c.min-len.result) ≡ false = sym c.overlaps.ensures ∙ c.if-overlaps.false in
     let within : nat_le (c.args.to + c.min-len.result) FILE_END ≡ true = (let e = c.ends_in_file.ensures in let t = c.if-not-ends_in_file.false in cc) in
@@ -61,8 +61,17 @@ returns-then-len-eq0 g c caller due for of other =
     c.in_ok-source.source c.in_ok-source.ensures (g.K.Keeper.seen c.file-2.new.k) c.in_ok-target.target c.in_ok-target.ensures
     c.min-len.result n_is apart within c.if-len-eq0.true) caller for of other)
 
-pub returns-in_err-resize : goal.returns-in_err-resize
-returns-in_err-resize g c caller due for of other =
+pub returns-then-len-eq0-clause-rest : goal.returns-then-len-eq0-clause-rest
+returns-then-len-eq0-clause-rest g c =
+    let n_is : c.min-len.result ≡ min c.args.len (min c.in_ok-source.source.length FILE_END - c.args.from) = omega arith in
+    let apart : ((c.args.src == c.args.dst) && overlap c.args.from c.args.to c.min-len.result) ≡ false = sym c.overlaps.ensures ∙ c.if-overlaps.false in
+    let within : nat_le (c.args.to + c.min-len.result) FILE_END ≡ true = (let e = c.ends_in_file.ensures in let t = c.if-not-ends_in_file.false in cc) in
+    rest-none c.args.who.now.sid c.args.who.now.now c.args.src c.args.dst c.args.from c.args.to c.args.len (λ setting. 0) (g.K.Keeper.seen c.args.k.now) (g.K.Keeper.seen c.file.new.k)
+    c.in_ok-source.source c.in_ok-source.ensures (g.K.Keeper.seen c.file-2.new.k) c.in_ok-target.target c.in_ok-target.ensures
+    c.min-len.result n_is apart within
+
+pub returns-in_err-resize-clause-changes : goal.returns-in_err-resize-clause-changes
+returns-in_err-resize-clause-changes g c caller due for of other =
     let n_is : c.min-len.result ≡ min c.args.len (min c.in_ok-source.source.length FILE_END - c.args.from) = omega arith in
     let apart : ((c.args.src == c.args.dst) && overlap c.args.from c.args.to c.min-len.result) ≡ false = sym c.overlaps.ensures ∙ c.if-overlaps.false in
     let within : nat_le (c.args.to + c.min-len.result) FILE_END ≡ true = (let e = c.ends_in_file.ensures in let t = c.if-not-ends_in_file.false in cc) in
@@ -77,8 +86,8 @@ returns-in_err-resize g c caller due for of other =
     (subst (λ (m : ℕ). ResizesFile c.args.dst c.in_ok-target.target m c.seconds.result (g.K.Keeper.seen c.file-2.new.k) (g.K.Keeper.seen c.resize.new.k)
     c.resize.new.draft (Err c.in_err-resize.field-0.0)) c.max-length.ensures c.in_err-resize.ensures)) caller for of other)
 
-pub returns-in_err-added : goal.returns-in_err-added
-returns-in_err-added g c caller due for of other =
+pub returns-in_err-added-clause-changes : goal.returns-in_err-added-clause-changes
+returns-in_err-added-clause-changes g c caller due for of other =
     let n_is : c.min-len.result ≡ min c.args.len (min c.in_ok-source.source.length FILE_END - c.args.from) = omega arith in
     let apart : ((c.args.src == c.args.dst) && overlap c.args.from c.args.to c.min-len.result) ≡ false = sym c.overlaps.ensures ∙ c.if-overlaps.false in
     let within : nat_le (c.args.to + c.min-len.result) FILE_END ≡ true = (let e = c.ends_in_file.ensures in let t = c.if-not-ends_in_file.false in cc) in
@@ -93,8 +102,8 @@ returns-in_err-added g c caller due for of other =
     c.resize.new.draft (Ok tt)) c.max-length.ensures c.in_ok-resize.ensures)
     (g.K.Keeper.seen c.copy_lists.new.k) c.copy_lists.new.draft c.in_err-added.field-0.0 c.in_err-added.ensures) caller for of other)
 
-pub returns-in_err-adjust : goal.returns-in_err-adjust
-returns-in_err-adjust g c caller due for of other =
+pub returns-in_err-adjust-clause-changes : goal.returns-in_err-adjust-clause-changes
+returns-in_err-adjust-clause-changes g c caller due for of other =
     let n_is : c.min-len.result ≡ min c.args.len (min c.in_ok-source.source.length FILE_END - c.args.from) = omega arith in
     let apart : ((c.args.src == c.args.dst) && overlap c.args.from c.args.to c.min-len.result) ≡ false = sym c.overlaps.ensures ∙ c.if-overlaps.false in
     let within : nat_le (c.args.to + c.min-len.result) FILE_END ≡ true = (let e = c.ends_in_file.ensures in let t = c.if-not-ends_in_file.false in cc) in
@@ -112,8 +121,8 @@ returns-in_err-adjust g c caller due for of other =
     (adjusts-as c.as_slice.result.now c.as_slice-2.result.now c.in_ok-added.added 0 (g.K.Keeper.seen c.copy_lists.new.k) (g.K.Keeper.seen c.adjust.new.k)
     c.copy_lists.new.draft c.adjust.new.draft (Err c.in_err-adjust.field-0.0) (c.as_slice.ensures ∙ c.new-none.ensures) c.as_slice-2.ensures c.in_err-adjust.ensures)) caller for of other)
 
-pub returns-in-Ok : goal.returns-in-Ok
-returns-in-Ok g c caller due for of other =
+pub returns-in-Ok-clause-changes : goal.returns-in-Ok-clause-changes
+returns-in-Ok-clause-changes g c caller due for of other =
     let n_is : c.min-len.result ≡ min c.args.len (min c.in_ok-source.source.length FILE_END - c.args.from) = omega arith in
     let apart : ((c.args.src == c.args.dst) && overlap c.args.from c.args.to c.min-len.result) ≡ false = sym c.overlaps.ensures ∙ c.if-overlaps.false in
     let within : nat_le (c.args.to + c.min-len.result) FILE_END ≡ true = (let e = c.ends_in_file.ensures in let t = c.if-not-ends_in_file.false in cc) in
@@ -130,8 +139,24 @@ returns-in-Ok g c caller due for of other =
     c.copy_lists.new.draft c.adjust.new.draft (Ok tt) (c.as_slice.ensures ∙ c.new-none.ensures) c.as_slice-2.ensures c.in_ok-adjust.ensures)
     (g.K.Keeper.seen c.commit.new.k) c.in-Ok.ensures) caller for of other)
 
-pub returns : goal.returns
-returns g c caller due for of other =
+pub returns-in-Ok-clause-rest : goal.returns-in-Ok-clause-rest
+returns-in-Ok-clause-rest g c =
+    let n_is : c.min-len.result ≡ min c.args.len (min c.in_ok-source.source.length FILE_END - c.args.from) = omega arith in
+    let apart : ((c.args.src == c.args.dst) && overlap c.args.from c.args.to c.min-len.result) ≡ false = sym c.overlaps.ensures ∙ c.if-overlaps.false in
+    let within : nat_le (c.args.to + c.min-len.result) FILE_END ≡ true = (let e = c.ends_in_file.ensures in let t = c.if-not-ends_in_file.false in cc) in
+    rest-done c.args.who.now.sid c.seconds.result c.args.src c.args.dst c.args.from c.args.to c.args.len (λ setting. 0) (g.K.Keeper.seen c.args.k.now) (g.K.Keeper.seen c.file.new.k)
+    c.in_ok-source.source c.in_ok-source.ensures (g.K.Keeper.seen c.file-2.new.k) c.in_ok-target.target c.in_ok-target.ensures
+    c.min-len.result n_is apart within c.if-len-eq0.false (g.K.Keeper.seen c.resize.new.k) c.resize.new.draft
+    (subst (λ (m : ℕ). ResizesFile c.args.dst c.in_ok-target.target m c.seconds.result (g.K.Keeper.seen c.file-2.new.k) (g.K.Keeper.seen c.resize.new.k)
+    c.resize.new.draft (Ok tt)) c.max-length.ensures c.in_ok-resize.ensures)
+    (g.K.Keeper.seen c.copy_lists.new.k) c.copy_lists.new.draft c.in_ok-added.added c.in_ok-added.ensures
+    (g.K.Keeper.seen c.adjust.new.k) c.adjust.new.draft
+    (adjusts-as c.as_slice.result.now c.as_slice-2.result.now c.in_ok-added.added 0 (g.K.Keeper.seen c.copy_lists.new.k) (g.K.Keeper.seen c.adjust.new.k)
+    c.copy_lists.new.draft c.adjust.new.draft (Ok tt) (c.as_slice.ensures ∙ c.new-none.ensures) c.as_slice-2.ensures c.in_ok-adjust.ensures)
+    (g.K.Keeper.seen c.commit.new.k) c.in-Ok.ensures
+
+pub returns-clause-changes : goal.returns-clause-changes
+returns-clause-changes g c caller due for of other =
     let n_is : c.min-len.result ≡ min c.args.len (min c.in_ok-source.source.length FILE_END - c.args.from) = omega arith in
     let apart : ((c.args.src == c.args.dst) && overlap c.args.from c.args.to c.min-len.result) ≡ false = sym c.overlaps.ensures ∙ c.if-overlaps.false in
     let within : nat_le (c.args.to + c.min-len.result) FILE_END ≡ true = (let e = c.ends_in_file.ensures in let t = c.if-not-ends_in_file.false in cc) in
