@@ -15,7 +15,7 @@ returns-in-Truncate g c =
     subst (λ o. TriesChange a.handles.now o a.who.now before after c.cut.result) (sym c.in-Truncate.is) (record {
       made = c.truncate-made.result;
       result_is = c.cut.ensures ∙ ap (λ i. mapped (λ unit. cut_to i c.in-Truncate.len) c.truncate-made.result) inode;
-      changes = λ caller for own. c.truncate-made.ensures caller for (own ∙ sym inode);
+      changes = λ caller for own. c.truncate-made.ensures.changes caller for (own ∙ sym inode);
     })
 
 pub returns-in-Copy : goal.returns-in-Copy
@@ -31,5 +31,5 @@ returns-in-Copy g c =
       result_is = c.copied.ensures
           ∙ ap (λ inode. mapped (copied_to inode i.from c.inode_at-target.result i.to) c.copy_range-made.result) source
           ∙ ap (λ inode. mapped (copied_to (inode_here a.handles.now i.source) i.from inode i.to) c.copy_range-made.result) target;
-      changes = λ caller for own other. c.copy_range-made.ensures caller (due_after a.who.now.now) for (own ∙ sym source) (other ∙ sym target);
+      changes = λ caller for own other. c.copy_range-made.ensures.changes caller (due_after a.who.now.now) for (own ∙ sym source) (other ∙ sym target);
     })

@@ -40,7 +40,7 @@ returns-in-Ok-commit g c entry yard carrier put =
     (ap (λ w. w.sid) c.who-who.ensures) between
     (commits-as who.sid c.args.now who.now at.inode at.window c.record_of-rec.result (record_for at id)
     c.args.upload.started before after (Ok tt) (ap (λ w. w.now) c.who-who.ensures) c.record_of-rec.ensures.shows
-    c.in-Ok-commit.ensures)
+    c.in-Ok-commit.ensures.commits)
     c.drop_segment.ensures.rest c.drop_segment.ensures.fewer
     (subst (λ kind. IfSome between.doing (λ d. Follows d kind between c.after_commit.new.self c.after_commit.result))
     c.commit_of.ensures c.after_commit.ensures)
@@ -57,5 +57,5 @@ returns-in-Err g c entry yard carrier put =
     c.requires.some c.record_of-rec.ensures.long put (ap (λ w. w.sid) c.who-who.ensures) c.in-Err.fault
     (commits-as who.sid c.args.now who.now at.inode at.window c.record_of-rec.result (record_for at id)
     c.args.upload.started before after (Err c.in-Err.fault) (ap (λ w. w.now) c.who-who.ensures)
-    c.record_of-rec.ensures.shows c.in-Err.ensures)
+    c.record_of-rec.ensures.shows c.in-Err.ensures.commits)
     c.unmade.ensures
