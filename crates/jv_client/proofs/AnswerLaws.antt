@@ -22,6 +22,7 @@ use Rattle.jv_model.specs.client.ModelClient.{ModelClient}
 use Rattle.jv_model.specs.journal.State.{State}
 use Rattle.jv_model.specs.journal.Steps.{is_failure, must_answer}
 use Rattle.jv_outside.specs.Causes.{RoseIf}
+use Rattle.jv_yard.specs.YardValue.{YardValue}
 use Rattle.jv_shared.specs.Keeping.{HoldsSame}
 use Rattle.jv_shared.specs.Shared.{HasStore, Known, Shared}
 use Rattle.jv_shared.proofs.SameLaws.{same-none, same-stays}
@@ -33,12 +34,15 @@ use Rattle.jv_client.specs.declared.doing.Progress.{Progress}
 use Rattle.jv_client.specs.declared.doing.Progress.TheVariants.{Reading, Working}
 use Rattle.jv_client.specs.declared.made.Made.{Made}
 use Rattle.jv_client.specs.declared.made.Made.TheVariants as made
+use Rattle.jv_client.specs.CacheUse.{CacheUse}
 use Rattle.jv_client.specs.ClientValue.{ClientValue}
 use Rattle.jv_client.specs.Ending.{ended, finished_here, refused_here, told_here}
 use Rattle.jv_client.specs.Held.{Holds, IsClient, flight_in, in_flight, number_of, stage_of}
 use Rattle.jv_client.specs.Makes.{FailsAlone, Falls, Makes, StepsTo, TellsBad, UsesDevices, faults_of, kinds_of, step_of, tells_failure}
 use Rattle.jv_client.specs.Transacting.{Fails}
 use Rattle.jv_client.specs.UnderWay.{IsReady, IsUnderWay}
+use Rattle.jv_client.specs.YardUse.{PutsNone, YardUse}
+use Rattle.jv_client.proofs.CacheUseLaws.{cache-stays, failure-stays}
 use Rattle.jv_client.proofs.HeldLaws.{client-doing, doing_of, holds-doing}
 use Rattle.jv_client.proofs.KeptLaws.{client-ended}
 
@@ -127,20 +131,26 @@ uses-none done v calm bad = record {
   bad = bad;
 }
 
+-- nor did it put a block
+pub same-yard : (now : ℕ) (h : ClientValue) (done : Made) (yard : YardValue) → YardUse now h done yard yard
+same-yard now h done yard = record { staged = refl; puts = PutsNone refl refl }
+
 -- ---- an operation ends, whatever it is answered
 
 module _ (now entry : ℕ) (h after : ClientValue) (before used : Shared) (done : Made) (reply : Reply) where
   pub makes-ended : step_of done ≡ Done reply → IsReady h → Rests h after → UsesDevices done before used
-      → FailsAlone done
+      → YardUse now h done before.yard used.yard → CacheUse h after done before.yard used.yard → FailsAlone done
       → ((s : State) (g : Known) → s.count + 1 ≡ entry → HasStore s.tree g before → Holds s.tree (s.clients h.id)
       → IsClient g before (s.clients h.id) s.count h
       → StepsTo s g before h now (kinds_of done) (step_of done) after used)
       → Makes now entry h after before used done
-  makes-ended is ready rests devices alone leads = record {
+  makes-ended is ready rests devices yard cache alone leads = record {
     id = rests.id;
     limits = rests.limits;
     ready = rests-ready h after rests ready;
     devices = devices;
+    yard = yard;
+    cache = cache;
     alone = alone;
     falls = subst (λ (step : Step). Falls step h after) (sym is) rests.idle;
     leads = leads;
@@ -184,11 +194,14 @@ module _ (now entry : ℕ) (h : ClientValue) (d : Doing) (before used : Shared) 
 
   pub fails-makes : (after : ClientValue) (done : Made) → h.doing ≡ Some d → IsReady h
       → is_failure (ToldRefused fault) ≡ true → Fails fault h after done → HoldsSame before used
-      → UsesDevices done before used → Makes now entry h after before used done
-  fails-makes after done busy ready fail fails same devices =
+      → UsesDevices done before used → YardUse now h done before.yard used.yard
+      → Makes now entry h after before used done
+  fails-makes after done busy ready fail fails same devices yard =
       makes-as now entry h after (ended h) before used used done failed fails.after_is refl fails.made_is
       (makes-ended now entry h (ended h) before used failed (RefusedReply fault) refl ready (ended-rests h)
-      (subst (λ (x : Made). UsesDevices x before used) fails.made_is devices) tt
+      (subst (λ (x : Made). UsesDevices x before used) fails.made_is devices)
+      (subst (λ (x : Made). YardUse now h x before.yard used.yard) fails.made_is yard)
+      (cache-stays h d busy (ended h) failed before.yard used.yard (failure-stays fault fail) refl tt) tt
       (λ s g count store holds is. fails-leads busy fail same s g store holds is))
 
 -- memory ran out, and no device was used
@@ -198,3 +211,4 @@ no_memory-makes now entry h after d v done busy ready fails =
     fails-makes now entry h d v v NoMemory after done busy ready refl fails (same-none v)
     (subst (λ (x : Made). UsesDevices x v v) (sym fails.made_is)
     (uses-none (made.Answer (ToldRefused NoMemory) (RefusedReply NoMemory)) v (λ device. refl) tt))
+    (same-yard now h done v.yard)

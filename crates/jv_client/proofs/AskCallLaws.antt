@@ -126,7 +126,7 @@ module _ (now entry : ℕ) (h c : ClientValue) (window : ℕ) (before : Shared)
         makes-as now entry h after (over h.handles asked.cache h) before used used done _
         (fails.after_is ∙ ap ended (same ∙ asked.is)) refl fails.made_is
         (look-out now entry block h asked.d asked.offset asked.len asked.cache asked.fetch window asked.asks before refl
-        keeper asked.cache
+        keeper asked.cache asked.asks.looked
         (cached-here now entry block h asked.d asked.offset asked.len asked.cache asked.fetch window asked.asks before
         refl keeper)
         looks.looks.rows_are looks.looks.opened_at looks.looks.counts)

@@ -37,7 +37,11 @@ use Rattle.jv_client.proofs.HeldLaws.{client-doing, doing_of, holds-doing}
 use Rattle.jv_client.proofs.LastLaws.{is_last-same}
 use Rattle.jv_client.proofs.EndingLaws.{holds-told, keeps_bytes}
 use Rattle.jv_client.proofs.KeptLaws.{client-ended, client-told}
-use Rattle.jv_client.proofs.AnswerLaws.{Rests, ended-rests, makes-as, makes-ended, request-lands, rests-flight, told-rests, uses-none}
+use Rattle.jv_client.proofs.AnswerLaws.{Rests, ended-rests, makes-as, makes-ended, request-lands, rests-flight, same-yard}
+use Rattle.jv_client.proofs.AnswerLaws.{told-rests, uses-none}
+use Rattle.jv_client.specs.CacheUse.{CacheUse, is_umount}
+use Rattle.jv_client.specs.Stats.{IsStatsOf, AnswersNumbers}
+use Rattle.jv_client.proofs.CacheUseLaws.{cache-ended, cache-stays}
 use Rattle.jv_client.proofs.FormLaws.{flushed-same, none_left, nothing_asked, under_way}
 
 -- ---- an answer alone, while devices are as they were
@@ -52,13 +56,14 @@ pub record AnswersWell (s : State) (g : Known) (v : Shared) (now : ℕ) (h after
   pub holds : Holds s.tree model
 
 module _ (now entry : ℕ) (h after : ClientValue) (v : Shared) (told : Told) (said : Reply) where
-  pub answers-makes : IsReady h → Rests h after → ((device : Device) → is_failure_of device told ≡ false)
+  pub answers-makes : IsReady h → Rests h after → CacheUse h after (made.Answer told said) v.yard v.yard
+      → ((device : Device) → is_failure_of device told ≡ false)
       → ((s : State) (g : Known) → HasStore s.tree g v → Holds s.tree (s.clients h.id)
       → IsClient g v (s.clients h.id) s.count h → AnswersWell s g v now h after told said)
       → Makes now entry h after v v (made.Answer told said)
-  answers-makes ready rests calm well =
+  answers-makes ready rests cache calm well =
       makes-ended now entry h after v v (made.Answer told said) said refl ready rests
-      (uses-none (made.Answer told said) v calm tt) tt
+      (uses-none (made.Answer told said) v calm tt) (same-yard now h (made.Answer told said) v.yard) cache tt
       (λ s g count store holds is.
       let w = well s g store holds is in
       let mine = in_flight h in
@@ -115,6 +120,12 @@ module _ (now entry : ℕ) (h : ClientValue) (v : Shared) (d : Doing) (busy : h.
   abbrev IsAnsweredBy : Told → Reply → Type 0
   IsAnsweredBy told said = Makes now entry h (told_here d.op told h) v v (made.Answer told said)
 
+  -- what the answer leaves of the cache
+  leaves_cache : (told : Told) (said : Reply) → AnswersNumbers h (made.Answer told said)
+      → CacheUse h (told_here d.op told h) (made.Answer told said) v.yard v.yard
+  leaves_cache told said numbers =
+      cache-ended h d busy (told_here d.op told h) (made.Answer told said) v.yard v.yard h told refl refl refl numbers
+
   -- the model has all committed that it flushes
   flushed : (s : State) (g : Known) → IsClient g v (s.clients h.id) s.count h
       → is_flushed (doing_of d).flush (s.clients h.id).pending ≡ true
@@ -125,7 +136,8 @@ module _ (now entry : ℕ) (h : ClientValue) (v : Shared) (d : Doing) (busy : h.
       → IsAnsweredBy (Fine 0 0 0 0) reply.Done
   closed_by-handle handle of_op of_does last =
       let told = Fine 0 0 0 0 in
-      answers-makes now entry h (told_here d.op told h) v told reply.Done ready (told-rests d.op told h) (λ device. refl)
+      answers-makes now entry h (told_here d.op told h) v told reply.Done ready (told-rests d.op told h)
+      (leaves_cache told reply.Done tt) (λ device. refl)
       (λ s g store holds is.
       let c = s.clients h.id in
       let last_too = is_last-same g v c s.count h is.held handle ∙ last in
@@ -146,7 +158,8 @@ module _ (now entry : ℕ) (h : ClientValue) (v : Shared) (d : Doing) (busy : h.
       → IsAnsweredBy (Fine 0 0 0 0) reply.Done
   flushed_by-handle handle of_op of_does =
       let told = Fine 0 0 0 0 in
-      answers-makes now entry h (told_here d.op told h) v told reply.Done ready (told-rests d.op told h) (λ device. refl)
+      answers-makes now entry h (told_here d.op told h) v told reply.Done ready (told-rests d.op told h)
+      (leaves_cache told reply.Done tt) (λ device. refl)
       (λ s g store holds is.
       let c = s.clients h.id in
       told-well h d v told reply.Done (ap (λ o. keeps_bytes o told) of_op) s g store holds is now
@@ -161,7 +174,7 @@ module _ (now entry : ℕ) (h : ClientValue) (v : Shared) (d : Doing) (busy : h.
   nothing-read handle offset len of_op of_does =
       let told = Looks 0 0 0 in
       answers-makes now entry h (told_here d.op told h) v told (reply.Data []) ready (told-rests d.op told h)
-      (λ device. refl)
+      (leaves_cache told (reply.Data []) tt) (λ device. refl)
       (λ s g store holds is.
       let c = s.clients h.id in
       told-well h d v told (reply.Data []) (ap (λ o. keeps_bytes o told) of_op) s g store holds is now
@@ -172,12 +185,16 @@ module _ (now entry : ℕ) (h : ClientValue) (v : Shared) (d : Doing) (busy : h.
 
   -- the numbers of the cache
   pub stats-told : d.op ≡ op.Stats → d.does ≡ does.Answers answer.CacheStats → (hits misses cached : ℕ)
+      → IsStatsOf h (made.Answer (Fine hits misses cached (length h.pending))
+      (reply.CacheStats hits misses cached (length h.pending)))
       → Makes now entry h (ended h) v v (made.Answer (Fine hits misses cached (length h.pending))
       (reply.CacheStats hits misses cached (length h.pending)))
-  stats-told of_op of_does hits misses cached =
+  stats-told of_op of_does hits misses cached numbers =
       let told = Fine hits misses cached (length h.pending) in
       let said = reply.CacheStats hits misses cached (length h.pending) in
-      answers-makes now entry h (ended h) v told said ready (ended-rests h) (λ device. refl)
+      answers-makes now entry h (ended h) v told said ready (ended-rests h)
+      (cache-stays h d busy (ended h) (made.Answer told said) v.yard v.yard (ap is_umount of_op) refl numbers)
+      (λ device. refl)
       (λ s g store holds is.
       let c = s.clients h.id in
       let long : length c.pending ≡ length h.pending = ap length is.held.pending in
@@ -261,9 +278,11 @@ end_at_once now entry h after v told said (Some d) busy some ready none kept sta
 
 pub stats_told : (now entry : ℕ) (h : ClientValue) (v : Shared) (d : Doing) → h.doing ≡ Some d → IsReady h
     → left h ≡ None → tells_stats d.does ≡ true → (hits misses cached : ℕ)
+    → IsStatsOf h (made.Answer (Fine hits misses cached (length h.pending))
+    (reply.CacheStats hits misses cached (length h.pending)))
     → Makes now entry h (ended h) v v (made.Answer (Fine hits misses cached (length h.pending))
     (reply.CacheStats hits misses cached (length h.pending)))
-stats_told now entry h v d busy ready none tells hits misses cached = by_form under.form
+stats_told now entry h v d busy ready none tells hits misses cached numbers = by_form under.form
   where
     under : IsUnderWay h d
     under = under_way h d busy ready
@@ -296,4 +315,4 @@ stats_told now entry h v d busy ready none tells hits misses cached = by_form un
     by_form (TellsStats of_op of_does first session) =
         stats-told now entry h v d busy ready
         (is_done h d under (none_left h d busy none) (ap (λ does. ends_itself h (record d { does = does })) of_does))
-        of_op of_does hits misses cached
+        of_op of_does hits misses cached numbers

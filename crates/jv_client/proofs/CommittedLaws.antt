@@ -42,8 +42,10 @@ use Rattle.jv_client.specs.UnderWay.{IsReady, answer_here, ends_itself, left, le
 use Rattle.jv_client.specs.Makes.{IsCalm, Makes, StepsTo, TellsBad, UsesDevices, asks_nothing, faults_of}
 use Rattle.jv_client.specs.Makes.{step_of, tells_failure}
 use Rattle.jv_client.specs.Flushing.{Follows, Answers, Writes, GoesOn, written_alone}
+use Rattle.jv_client.specs.CacheUse.{is_umount}
+use Rattle.jv_client.proofs.CacheUseLaws.{cache-ended, cache-stays}
 use Rattle.jv_client.proofs.AfterCommitLaws.{falls-without, way-without}
-use Rattle.jv_client.proofs.AnswerLaws.{Rests, makes-as, makes-ended, rests-flight, told-rests}
+use Rattle.jv_client.proofs.AnswerLaws.{Rests, makes-as, makes-ended, rests-flight, same-yard, told-rests}
 use Rattle.jv_client.proofs.CommitLaws.{IsCommit, grown, leads-answered, leads-left, leads-then}
 use Rattle.jv_client.proofs.CommitLaws.{number-is, record_for, rest, segment, used, without}
 use Rattle.jv_client.proofs.EndingLaws.{holds-told, is_write, keeps_bytes}
@@ -272,6 +274,9 @@ module _ (h : ClientValue) (d : Doing) (v : Shared) (keeper : Store) (at : Segme
         doing = way-without h d segment_here is_commit.way.form is_commit.next fewer goes;
       };
       devices = uses (made.Request commit) (λ failed. refl) refl tt;
+      yard = same-yard now h (made.Request commit) v.yard;
+      cache = cache-stays h d is_commit.busy (record between { doing = Some (moved_to (progress.Working 0 0 0) d) })
+          (made.Request commit) v.yard v.yard refl refl tt;
       alone = refl;
       falls = (
         falls-without h d segment_here is_commit.way.form is_commit.next fewer goes quiets started id is_commit.at_is
@@ -291,7 +296,10 @@ module _ (h : ClientValue) (d : Doing) (v : Shared) (keeper : Store) (at : Segme
         let rests = told-rests d.op told between in
         makes-ended now entry h (told_here d.op told between) v used_here (made.Both commit told said) said refl ready
         (record { id = rests.id; limits = rests.limits; idle = rests.idle })
-        (uses (made.Both commit told said) (λ failed. refl) refl tt) (refl, calm-answer d.does)
+        (uses (made.Both commit told said) (λ failed. refl) refl tt) (same-yard now h (made.Both commit told said) v.yard)
+        (cache-ended h d is_commit.busy (told_here d.op told between) (made.Both commit told said) v.yard v.yard between
+        told refl refl refl tt)
+        (refl, calm-answer d.does)
         (λ s g count store holds is. leads-over s g store holds is over ends alone)
 
     makes-write : (over : segment_left d.flush between.pending ≡ None) (handle offset : ℕ) (bytes : List ℕ)
@@ -308,7 +316,12 @@ module _ (h : ClientValue) (d : Doing) (v : Shared) (keeper : Store) (at : Segme
           doing = None;
         }) v used_here (made.Both commit told said) said refl ready
         (record { id = refl; limits = refl; idle = refl })
-        (uses (made.Both commit told said) (λ failed. refl) refl tt) (refl, λ failed. refl)
+        (uses (made.Both commit told said) (λ failed. refl) refl tt) (same-yard now h (made.Both commit told said) v.yard)
+        (cache-stays h d is_commit.busy (record between {
+          pending = written (inode_here between.handles handle) offset bytes [];
+          doing = None;
+        }) (made.Both commit told said) v.yard v.yard (ap is_umount of_op) refl tt)
+        (refl, λ failed. refl)
         (λ s g count store holds is. leads-write s g store holds is over handle offset bytes of_op)
 
     -- a commit, and what follows it

@@ -37,6 +37,7 @@ use Rattle.jv_client.specs.Held.{in_flight, number_of, segment_left, stage_of}
 use Rattle.jv_client.specs.UnderWay.{IsReady, IsWorking, has_segment, asks_more, left, moved_to, progress_of, reading_steps}
 use Rattle.jv_client.specs.UnderWay.{steps_in}
 use Rattle.jv_client.specs.Makes.{Makes, UsesDevices}
+use Rattle.jv_client.specs.YardUse.{YardUse}
 use Rattle.jv_client.specs.Transacting.{EndsUnmade}
 use Rattle.jv_handles.proofs.TableLaws.{the_some}
 use Rattle.jv_client.proofs.HeldLaws.{client-doing, doing_of, holds-doing}
@@ -44,7 +45,7 @@ use Rattle.jv_client.proofs.KeptLaws.{client-asks}
 use Rattle.jv_client.proofs.GoesOnLaws.{goes-on, in_progress}
 use Rattle.jv_client.proofs.LeftLaws.{flight-flying, flight-is, left-is, segment-short}
 use Rattle.jv_client.proofs.UnmadeLaws.{UnmadeLeads, InState, not_taken, unmade, uses-keeper}
-use Rattle.jv_client.proofs.AnswerLaws.{makes-as}
+use Rattle.jv_client.proofs.AnswerLaws.{makes-as, same-yard}
 
 -- ---- a further request of the segment that is committed next
 
@@ -100,19 +101,19 @@ module _ (now entry : ℕ) (h : ClientValue) (d : Doing) (before used : Shared) 
   }
 
   -- The operation goes on.
-  pub asks : UsesDevices (AsksFor Quiet) before used
+  pub asks : UsesDevices (AsksFor Quiet) before used → YardUse now h (AsksFor Quiet) before.yard used.yard
       → InState entry h before (Asked now h d before used (bytes_of segment h.pending) quiets moment number)
       → Makes now entry h (record h { doing = Some (moved_to (Working (quiets + 1) moment number) d) }) before used
       (AsksFor Quiet)
-  asks uses leads =
-      goes-on now entry h after d stage Quiet before used busy ready refl
+  asks uses yard leads =
+      goes-on now entry h after d stage Quiet before used busy ready refl refl
       (record {
         session = refl;
         limits = refl;
         pending = omega arith;
         handles = λ handle file opened. (file, opened, refl);
       })
-      refl works (ap (λ b. b || asks_more after asking) there) fewer uses refl
+      refl works (ap (λ b. b || asks_more after asking) there) fewer uses yard refl
       (λ s g count store holds is.
       let m = s.clients h.id in
       let model : ModelClient = at_stage (InModel (quiets + 1) moment) (doing_of d) m in
@@ -195,6 +196,7 @@ module _ (now entry : ℕ) (h : ClientValue) (d : Doing) (before : Shared) (keep
       asks now entry h d before numbered segment 0 started id 0 given busy ready next at (omega arith) low
       (uses-keeper before keeper (AsksFor Quiet) takes.opened_at takes.counts (refl, refl, refl) (λ asks. absurd (cc asks))
       tt)
+      (same-yard now h (AsksFor Quiet) before.yard)
       (λ s g count store holds is. takes_in s g store is given takes)
 
   refuses_number : (after : ClientValue) (fault : TxFault) (done : Made)

@@ -23,6 +23,8 @@ use Rattle.jv_client.specs.UnderWay.{Truncates as TruncatesIt, HasRoom, Alone, B
 use Rattle.jv_client.specs.UnderWay.{Mounts, TellsStats, Transacts, Writes, IsAt, IsReady, IsUnderWay, has_more, moved_to}
 use Rattle.jv_client.specs.UnderWay.{progress_of, steps_in, steps_left, steps_of}
 use Rattle.jv_client.specs.Makes.{Makes, StepsTo, UsesDevices}
+use Rattle.jv_client.specs.YardUse.{YardUse}
+use Rattle.jv_client.proofs.CacheUseLaws.{cache-stays}
 use Rattle.jv_client.proofs.FormLaws.{under_way}
 
 -- ---- the operation in progress
@@ -97,14 +99,15 @@ module _ (now entry : ℕ) (h after : ClientValue) (d : Doing) (p : Progress) (k
   asked = moved_to p d
 
   -- The client becomes `after`, whose operation made a request of this kind and is at `p`.
-  pub goes-on : after.id ≡ h.id → Continues h after → after.doing ≡ Some (moved_to p d)
+  pub goes-on : after.id ≡ h.id → after.cache ≡ h.cache → Continues h after → after.doing ≡ Some (moved_to p d)
       → IsAt after (moved_to p d) p → IsTrue (has_more after (moved_to p d) p)
       → steps_in (length after.pending) (moved_to p d) < steps_in (length h.pending) d
-      → UsesDevices (AsksFor kind) before used → is_answer kind ≡ false
+      → UsesDevices (AsksFor kind) before used → YardUse now h (AsksFor kind) before.yard used.yard
+      → is_answer kind ≡ false
       → ((s : State) (g : Known) → s.count + 1 ≡ entry → HasStore s.tree g before → Holds s.tree (s.clients h.id)
       → IsClient g before (s.clients h.id) s.count h → StepsTo s g before h now (kind ∷ []) More after used)
       → Makes now entry h after before used (AsksFor kind)
-  goes-on same continues is at more fewer uses asks leads = record {
+  goes-on same kept continues is at more fewer uses yard asks leads = record {
     id = same;
     limits = continues.limits;
     ready = record {
@@ -117,6 +120,8 @@ module _ (now entry : ℕ) (h after : ClientValue) (d : Doing) (p : Progress) (k
       });
     };
     devices = uses;
+    yard = yard;
+    cache = cache-stays h d busy after (AsksFor kind) before.yard used.yard refl kept tt;
     alone = asks;
     falls = (
       (let now_left : steps_left after ≡ steps_in (length after.pending) asked =

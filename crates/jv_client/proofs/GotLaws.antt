@@ -58,8 +58,11 @@ use Rattle.jv_client.specs.ClientValue.{ClientValue}
 use Rattle.jv_client.specs.Getting.{Fills, IsMissed, IsUnread, yard_fault}
 use Rattle.jv_client.specs.Held.{Holds, IsClient, IsHeld, in_flight}
 use Rattle.jv_client.specs.Makes.{Makes, StepsTo, TellsBad, UsesDevices, faults_of, step_of, tells_failure}
-use Rattle.jv_client.specs.Reading.{GoesAhead, read_of, told_read}
-use Rattle.jv_client.proofs.AnswerLaws.{uses-none}
+use Rattle.jv_client.specs.CacheUse.{KeepsOne, LooksOnly, MovesInRead, is_read, is_umount}
+use Rattle.jv_client.specs.Reading.{GoesAhead, LookedUp, read_of, told_read}
+use Rattle.jv_client.proofs.CacheUseLaws.{cache-read}
+use Rattle.jv_client.specs.YardUse.{PutsNone, YardUse}
+use Rattle.jv_client.proofs.AnswerLaws.{same-yard, uses-none}
 use Rattle.jv_client.proofs.EndingLaws.{holds-told}
 use Rattle.jv_client.proofs.HeldLaws.{doing_of}
 use Rattle.jv_client.proofs.KeptLaws.{cache-goes, held-goes}
@@ -76,6 +79,11 @@ uses-got : (done : Made) (before : Shared) (yard : YardValue) → ((device : Dev
 uses-got done before yard fine same bad =
     subst (λ (yard : YardValue). UsesDevices done before (record before { yard = yard })) (sym same)
     (uses-none done before fine bad)
+
+yard-got : (now : ℕ) (h : ClientValue) (done : Made) (before after : YardValue) → after ≡ before
+    → YardUse now h done before after
+yard-got now h done before after same =
+    subst (λ (yard : YardValue). YardUse now h done before yard) (sym same) (same-yard now h done before)
 
 -- the answer that a device of the yard failed, or that memory ran out
 abbrev unread_as : YardFault → Made
@@ -129,6 +137,18 @@ uses-unread Shelf before yard refused =
     by_device TheShelf = refused.0.cause
     by_device TheCarrier = refl
 uses-unread Memory before yard refused = uses-got (unread_as Memory) before yard (λ device. refl) refused tt
+
+yard-unread : (now : ℕ) (h : ClientValue) (done : Made) (why : YardFault) (before after : YardValue)
+    → Refuses before after why → YardUse now h done before after
+yard-unread now h done Depot before after refused = record {
+  staged = ap (λ (y : YardValue). y.staged) refused.1;
+  puts = PutsNone (ap (λ (y : YardValue). y.log) refused.1) refused.0.content_is;
+}
+yard-unread now h done Shelf before after refused = record {
+  staged = ap (λ (y : YardValue). y.staged) refused.1;
+  puts = PutsNone (ap (λ (y : YardValue). y.log) refused.1) (ap (λ (y : YardValue). y.depot.content) refused.1);
+}
+yard-unread now h done Memory before after refused = yard-got now h done before after refused
 
 fails-unread : (why : YardFault) → is_failure (ToldRefused (yard_fault why)) ≡ true
 fails-unread Depot = refl
@@ -311,6 +331,10 @@ module _ (now entry block : ℕ) (h : ClientValue) (d : Doing) (offset len : ℕ
               (none-kept d.op handle offset len asks.reads.op_is found.first found.second (length found.bytes)) holds;
         }
 
+      -- the cache kept the block, and the next ones were looked up
+      moves-kept : MovesInRead h.id h.limits.entries before.yard yard h.cache (Some later)
+      moves-kept = KeepsOne b bytes cache kept later asks.looked gets fills.cache_is looks_up refl
+
       -- it goes on
       pub get-on : (f : Fetching) (need : Need) → GoesAhead file.views kept filled f → Wants file.views f need
           → need ≢ Nothing
@@ -325,6 +349,9 @@ module _ (now entry block : ℕ) (h : ClientValue) (d : Doing) (offset len : ℕ
             ready = ready-on block h d offset len cache fetch (NeedsBlock b) asks h.handles file asks.reads.opened refl
                 later f need can wants more;
             devices = uses-got (made.Request Quiet) before yard (λ device. refl) gets.0 tt;
+            yard = yard-got now h (made.Request Quiet) before.yard yard gets.0;
+            cache = cache-read h d asks.busy (going_on h.handles later f need d h) (made.Request Quiet) before.yard yard
+                (ap is_read asks.reads.op_is) refl moves-kept tt;
             alone = refl;
             falls = (
               falls-on block h d offset len cache fetch (NeedsBlock b) asks h.handles file asks.reads.opened refl
@@ -345,6 +372,9 @@ module _ (now entry block : ℕ) (h : ClientValue) (d : Doing) (offset len : ℕ
         limits = refl;
         ready = record { buffer = asks.buffer; doing = tt };
         devices = uses-got (made.Both Quiet (told_read found) (Data found.bytes)) before yard (λ device. refl) gets.0 tt;
+        yard = yard-got now h (made.Both Quiet (told_read found) (Data found.bytes)) before.yard yard gets.0;
+        cache = cache-read h d asks.busy (over h.handles later h) (made.Both Quiet (told_read found) (Data found.bytes))
+            before.yard yard (ap is_read asks.reads.op_is) (ap is_umount asks.reads.op_is) moves-kept tt;
         alone = (refl, λ device. refl);
         falls = refl;
         leads = λ s g number has holds client. leads-over s g has holds client found read;
@@ -356,6 +386,8 @@ module _ (now entry block : ℕ) (h : ClientValue) (d : Doing) (offset len : ℕ
       get-out = failed now entry block h d offset len cache fetch (NeedsBlock b) asks before used
           (same-gets before yard h.id name (Ok (Some bytes)) gets) NoMemory later cached-then refl
           (uses-got (made.Answer (ToldRefused NoMemory) (RefusedReply NoMemory)) before yard (λ device. refl) gets.0 tt)
+          (yard-got now h (made.Answer (ToldRefused NoMemory) (RefusedReply NoMemory)) before.yard yard gets.0)
+          moves-kept
 
   -- ---- it didn't come
 
@@ -366,7 +398,9 @@ module _ (now entry block : ℕ) (h : ClientValue) (d : Doing) (offset len : ℕ
       (made.Answer (ToldRefused fault) (RefusedReply fault))) (sym unread.is)
       (failed now entry block h d offset len cache fetch (NeedsBlock b) asks before used
       (same-gets before yard h.id name (Err unread.why) unread.gets) (yard_fault unread.why) cache cached-before
-      (fails-unread unread.why) (uses-unread unread.why before yard unread.gets))
+      (fails-unread unread.why) (uses-unread unread.why before yard unread.gets)
+      (yard-unread now h (unread_as unread.why) unread.why before.yard yard unread.gets)
+      (LooksOnly (LookedUp cache asks.looked refl)))
 
   -- it isn't there, which no volume has whose blocks are all there
   pub get-missed : (inode window : ℕ) → IsMissed h.id b before.yard yard
@@ -378,6 +412,11 @@ module _ (now entry block : ℕ) (h : ClientValue) (d : Doing) (offset len : ℕ
     ready = record { buffer = asks.buffer; doing = tt };
     devices = uses-got (made.Both (Miss inode window) (ToldRefused (TryAgain 0)) (RefusedReply (TryAgain 0))) before
         yard (λ device. refl) missed.gets.0 tt;
+    yard = yard-got now h (made.Both (Miss inode window) (ToldRefused (TryAgain 0)) (RefusedReply (TryAgain 0)))
+        before.yard yard missed.gets.0;
+    cache = cache-read h d asks.busy (over h.handles cache h)
+        (made.Both (Miss inode window) (ToldRefused (TryAgain 0)) (RefusedReply (TryAgain 0))) before.yard yard
+        (ap is_read asks.reads.op_is) refl (LooksOnly (LookedUp cache asks.looked refl)) tt;
     alone = (refl, λ device. refl);
     falls = refl;
     leads = λ s g number has holds client.

@@ -3,6 +3,8 @@ pub mod HeldLaws
 pub mod LastLaws
 pub mod EndingLaws
 pub mod KeptLaws
+pub mod CacheUseLaws
+pub mod StatsLaws
 pub mod AnswerLaws
 pub mod ClosingLaws
 pub mod TriedLaws

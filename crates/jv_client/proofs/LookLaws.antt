@@ -53,7 +53,11 @@ use Rattle.jv_client.specs.declared.reading.Found.{Found}
 use Rattle.jv_client.specs.ClientValue.{ClientValue, session_here}
 use Rattle.jv_client.specs.Held.{Holds, IsClient, IsHeld, in_flight}
 use Rattle.jv_client.specs.Makes.{Makes, StepsTo, TellsBad, UsesDevices, faults_of, step_of, tells_failure}
-use Rattle.jv_client.specs.Reading.{GoesAhead, read_of, told_read}
+use Rattle.jv_client.specs.CacheUse.{LooksOnly, MovesInRead, is_read, is_umount}
+use Rattle.jv_client.specs.Reading.{GoesAhead, LookedUp, cache_in, read_of, told_read}
+use Rattle.jv_client.proofs.CacheUseLaws.{cache-read}
+use Rattle.jv_fetching.proofs.CacheLaws.{looks_then}
+use Rattle.jv_client.proofs.AnswerLaws.{same-yard}
 use Rattle.jv_client.proofs.EndingLaws.{holds-told}
 use Rattle.jv_client.proofs.HeldLaws.{doing_of}
 use Rattle.jv_client.proofs.KeptLaws.{held-goes}
@@ -295,6 +299,12 @@ module _ (now entry block : ℕ) (h : ClientValue) (d : Doing) (offset len : ℕ
             (none-kept d.op handle offset len asks.reads.op_is found.first found.second (length found.bytes)) holds_then;
       }
 
+  -- blocks were looked up, and no other thing was done with the cache
+  looked-on : (later : Cached) → LooksUp cache later
+      → MovesInRead h.id h.limits.entries before.yard before.yard h.cache (Some later)
+  looked-on later looks_up =
+      LooksOnly (LookedUp later (looks_then (cache_in h.limits.entries h.cache) cache later asks.looked looks_up) refl)
+
   -- it goes on
   pub look-on : (later : Cached) → LooksUp cache later → (f : Fetching) (need : Need)
       → GoesAhead seen.views cache fetch f → Wants seen.views f need → need ≢ Nothing
@@ -306,6 +316,9 @@ module _ (now entry block : ℕ) (h : ClientValue) (d : Doing) (offset len : ℕ
         (goes.can can-seen) wants more;
     devices = uses-look (made.Request (Look file.inode window)) before keeper (λ device. refl) looks.looks.rows_are
         looks.looks.opened_at looks.looks.counts tt;
+    yard = same-yard now h (made.Request (Look file.inode window)) before.yard;
+    cache = cache-read h d asks.busy (going_on handles later f need d h) (made.Request (Look file.inode window))
+        before.yard before.yard (ap is_read asks.reads.op_is) refl (looked-on later looks_up) tt;
     alone = refl;
     falls = (
       falls-on block h d offset len cache fetch (NeedsLook window) asks handles seen opened refl later f need
@@ -327,6 +340,10 @@ module _ (now entry block : ℕ) (h : ClientValue) (d : Doing) (offset len : ℕ
     ready = record { buffer = asks.buffer; doing = tt };
     devices = uses-look (made.Both (Look file.inode window) (told_read found) (Data found.bytes)) before keeper
         (λ device. refl) looks.looks.rows_are looks.looks.opened_at looks.looks.counts tt;
+    yard = same-yard now h (made.Both (Look file.inode window) (told_read found) (Data found.bytes)) before.yard;
+    cache = cache-read h d asks.busy (over handles later h)
+        (made.Both (Look file.inode window) (told_read found) (Data found.bytes)) before.yard before.yard
+        (ap is_read asks.reads.op_is) (ap is_umount asks.reads.op_is) (looked-on later looks_up) tt;
     alone = (refl, λ device. refl);
     falls = refl;
     leads = λ s g number has holds client. leads-over s g number has holds client later looks_up found read;

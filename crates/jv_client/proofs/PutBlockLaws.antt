@@ -42,6 +42,7 @@ use Rattle.jv_client.specs.Held.{IsClient, IsOnWay, flight_of, flush_of_code, nu
 use Rattle.jv_client.specs.UnderWay.{IsAt, IsReady, left, moved_to, progress_of}
 use Rattle.jv_client.specs.Makes.{Makes, UsesDevices, faults_of, tells_failure}
 use Rattle.jv_client.specs.Transacting.{Fails}
+use Rattle.jv_client.specs.YardUse.{PutsNext, PutsNone, YardUse}
 use Rattle.jv_client.proofs.HeldLaws.{client-doing, doing_of}
 use Rattle.jv_client.proofs.GoesOnLaws.{in_progress}
 use Rattle.jv_client.proofs.FormLaws.{under_way}
@@ -103,6 +104,23 @@ module _ (before : Shared) (yard : YardValue) (carrier : Carriage) (result : Res
   put-counts device.Carrier =
       subst (λ b. RoseIf b before.carrier.faults carrier.faults) (sym (told device.Carrier)) uses.carrier
 
+-- a block that wasn't put is in neither log nor depot
+unput-yard : (now : ℕ) (h : ClientValue) (done : Made) (client : ℕ) (f : Flight) (before after : YardValue)
+    (was is : Carriage) (fault : PutFault) → PutsFlight client now f before after was is (Err fault)
+    → YardUse now h done before after
+unput-yard now h done client f before after was is Carrier puts = record {
+  staged = ap (λ (y : YardValue). y.staged) puts.0;
+  puts = PutsNone (ap (λ (y : YardValue). y.log) puts.0) (ap (λ (y : YardValue). y.depot.content) puts.0);
+}
+unput-yard now h done client f before after was is Depot puts = record {
+  staged = ap (λ (y : YardValue). y.staged) puts.0.1;
+  puts = PutsNone (ap (λ (y : YardValue). y.log) puts.0.1) puts.0.0.content_is;
+}
+unput-yard now h done client f before after was is Memory puts = record {
+  staged = ap (λ (y : YardValue). y.staged) puts.0;
+  puts = PutsNone (ap (λ (y : YardValue). y.log) puts.0) (ap (λ (y : YardValue). y.depot.content) puts.0);
+}
+
 -- ---- the request
 
 -- a slice of which a request was made has its number
@@ -161,6 +179,10 @@ module _ (now entry : ℕ) (h : ClientValue) (d : Doing) (before : Shared) (yard
       bad = tt;
     }
 
+    -- the block is that of the flight, with this moment
+    puts_next : YardUse now h (AsksFor Quiet) before.yard yard
+    puts_next = record { staged = uses.staged; puts = PutsNext flight flying refl puts.0 }
+
     more : put < block_count (length bytes) before.yard.setting.block
     more = subst (λ n. put < block_count n before.yard.setting.block) (sym long) (omega (arith, there, some))
 
@@ -201,7 +223,7 @@ module _ (now entry : ℕ) (h : ClientValue) (d : Doing) (before : Shared) (yard
         (record before { yard = yard; carrier = carrier }) (AsksFor Quiet)
     puts_block =
         asks now entry h d before then_shared segment quiets started id first_moment id busy ready next at few id_some
-        uses_devices (λ s g count store holds is. put_in s g store is)
+        uses_devices puts_next (λ s g count store holds is. put_in s g store is)
 
   -- It wasn't, and the operation ends.
   fails_block : (after : ClientValue) (done : Made) (fault : PutFault)
@@ -224,6 +246,7 @@ module _ (now entry : ℕ) (h : ClientValue) (d : Doing) (before : Shared) (yard
         blocks = ap (λ shelf. shelf.content) uses.shelf;
         bad = tt;
       }))
+      (unput-yard now h done h.id flight before.yard yard before.carrier carrier fault puts)
 
 -- The same, as the code has it.
 module _ (now entry : ℕ) (h after : ClientValue) (before : Shared) (yard : YardValue) (carrier : Carriage)

@@ -32,7 +32,7 @@ use Rattle.jv_client.specs.ClientValue.{ClientValue, session_here}
 use Rattle.jv_client.specs.Ending.{ended}
 use Rattle.jv_client.specs.Getting.{Fills}
 use Rattle.jv_client.specs.Makes.{Makes}
-use Rattle.jv_client.specs.Reading.{ClientComesTo, GoesOnAfter, OnlyLooksUp, put_at}
+use Rattle.jv_client.specs.Reading.{ClientComesTo, GoesOnAfter, OnlyLooksUp, cache_in, put_at}
 use Rattle.jv_client.specs.UnderWay.{moved_to}
 use Rattle.jv_client.proofs.AnswerLaws.{makes-as}
 use Rattle.jv_client.proofs.ReaderLaws.{IsAsking}
@@ -40,7 +40,7 @@ use Rattle.jv_client.proofs.GoneOnLaws.{going_on, over}
 use Rattle.jv_client.proofs.LookLaws.{look-on, look-over, not_seen, seen_handle, seen_handles, seen_opened, view_of}
 use Rattle.jv_client.proofs.UnlookedLaws.{cached-here, look-out}
 use Rattle.jv_client.proofs.GotLaws.{get-on, get-out, get-over}
-use Rattle.jv_fetching.proofs.CacheLaws.{cache_of-looks}
+use Rattle.jv_fetching.proofs.CacheLaws.{cache_of-looks, looks_then}
 
 -- the client whose reading was taken out, with these handles and this cache
 abbrev pub taken_out : List (Option Handle) → Cached → Doing → ClientValue → ClientValue
@@ -131,6 +131,7 @@ module _ (now entry block : ℕ) (h : ClientValue) (d : Doing) (offset len : ℕ
       makes-as now entry h after (over h.handles up.later h) before used used done
       (made.Answer (ToldRefused NoMemory) (Refused NoMemory)) is refl made_is
       (look-out now entry block h d offset len cache fetch window asks before length_is keeper up.later
+      (looks_then (cache_in h.limits.entries h.cache) cache up.later asks.looked up.looks)
       (λ s g has client. cache_of-looks g.sizes before.yard.setting.block g.blocks cache up.later up.looks
       (cached-here now entry block h d offset len cache fetch window asks before length_is keeper s g has client))
       looks.looks.rows_are looks.looks.opened_at looks.looks.counts)

@@ -1,6 +1,6 @@
 -- A reading whose request failed: the operation is over, and the client is as it was, but for blocks that were looked up or
 -- kept.
-use Rattle.std.proofs.Common.{◌≡◌, ℕ, ◌+◌, true, [], ◌∷◌, Option, None, Some, refl, subst, arith}
+use Rattle.std.proofs.Common.{◌≡◌, ℕ, ◌+◌, true, [], ◌∷◌, Option, None, Some, refl, ap, subst, arith}
 use Rattle.jv_model.specs.declared.act.ActKind.TheVariants.{Answered}
 use Rattle.jv_model.specs.declared.act.Told.TheVariants.{Refused as ToldRefused}
 use Rattle.jv_model.specs.declared.fault.Fault.{Fault}
@@ -24,6 +24,9 @@ use Rattle.jv_client.specs.declared.made.Made.TheVariants as made
 use Rattle.jv_client.specs.ClientValue.{ClientValue}
 use Rattle.jv_client.specs.Held.{Holds, IsClient, IsHeld, in_flight}
 use Rattle.jv_client.specs.Makes.{Makes, StepsTo, UsesDevices}
+use Rattle.jv_client.specs.CacheUse.{CacheUse, MovesInRead, is_read}
+use Rattle.jv_client.specs.YardUse.{YardUse}
+use Rattle.jv_client.proofs.CacheUseLaws.{cache-read, failure-stays}
 use Rattle.jv_client.proofs.HeldLaws.{doing_of, holds-doing}
 use Rattle.jv_client.proofs.KeptLaws.{cache-goes, ended-client, held-goes}
 use Rattle.jv_client.proofs.ReaderLaws.{IsAsking, busy_in, may_read, none_flying}
@@ -82,13 +85,18 @@ module _ (now entry block : ℕ) (h : ClientValue) (d : Doing) (offset len : ℕ
       (over h.handles later h) used
 
   -- whatever the cause
-  pub failed-by : UsesDevices (made.Answer (ToldRefused fault) (Refused fault)) before used → FailedLeads
+  pub failed-by : UsesDevices (made.Answer (ToldRefused fault) (Refused fault)) before used
+      → YardUse now h (made.Answer (ToldRefused fault) (Refused fault)) before.yard used.yard
+      → CacheUse h (over h.handles later h) (made.Answer (ToldRefused fault) (Refused fault)) before.yard used.yard
+      → FailedLeads
       → Makes now entry h (over h.handles later h) before used (made.Answer (ToldRefused fault) (Refused fault))
-  failed-by uses leads = record {
+  failed-by uses yard moved leads = record {
     id = refl;
     limits = refl;
     ready = record { buffer = asks.buffer; doing = tt };
     devices = uses;
+    yard = yard;
+    cache = moved;
     alone = tt;
     falls = refl;
     leads = leads;
@@ -97,5 +105,11 @@ module _ (now entry block : ℕ) (h : ClientValue) (d : Doing) (offset len : ℕ
   -- a device failed, or memory ran out
   pub failed : is_failure (ToldRefused fault) ≡ true
       → UsesDevices (made.Answer (ToldRefused fault) (Refused fault)) before used
+      → YardUse now h (made.Answer (ToldRefused fault) (Refused fault)) before.yard used.yard
+      → MovesInRead h.id h.limits.entries before.yard used.yard h.cache (Some later)
       → Makes now entry h (over h.handles later h) before used (made.Answer (ToldRefused fault) (Refused fault))
-  failed fails uses = failed-by uses (λ s g number has holds client. failed-leads fails s g has holds client)
+  failed fails uses yard moves =
+      failed-by uses yard
+      (cache-read h d asks.busy (over h.handles later h) (made.Answer (ToldRefused fault) (Refused fault)) before.yard
+      used.yard (ap is_read asks.reads.op_is) (failure-stays fault fails) moves tt)
+      (λ s g number has holds client. failed-leads fails s g has holds client)

@@ -14,7 +14,7 @@ use Rattle.jv_model.specs.journal.Steps.{asked_of, file_in_use}
 use Rattle.jv_model.specs.client.Pending.{PendingByte}
 use Rattle.jv_cache.specs.Cached.{Cached}
 use Rattle.jv_fetching.specs.declared.need.Need.{Need}
-use Rattle.jv_fetching.specs.Calls.{IsCacheOf, Wants}
+use Rattle.jv_fetching.specs.Calls.{IsCacheOf, LooksUp, Wants}
 use Rattle.jv_fetching.specs.Fetching.{Fetching, fetch_left}
 use Rattle.jv_fetching.specs.Going.{CanFetch, IsFetching}
 use Rattle.jv_handles.specs.declared.handle.Handle.{Handle}
@@ -30,7 +30,7 @@ use Rattle.jv_client.specs.declared.doing.Progress.TheVariants.{Working, Reading
 use Rattle.jv_client.specs.ClientValue.{ClientValue}
 use Rattle.jv_client.specs.Held.{IsClient, flight_by, flight_in, flush_of_code, in_flight, number_of}
 use Rattle.jv_client.specs.Held.{stage_of}
-use Rattle.jv_client.specs.Reading.{IsAhead, need_in, put_at}
+use Rattle.jv_client.specs.Reading.{IsAhead, cache_in, need_in, put_at}
 use Rattle.jv_client.specs.UnderWay.{IsForm}
 use Rattle.jv_client.specs.UnderWay.{IsAt, IsReading, IsReady, IsUnderWay, has_segment, left, steps_left}
 use Rattle.jv_client.specs.UnderWay.{steps_of}
@@ -157,6 +157,7 @@ pub record IsAsking (block : ℕ) (h : ClientValue) (d : Doing) (offset len : �
   pub reads : ReadsBy h d offset len
   pub can : CanFetch reads.file.views fetch
   pub wants : Wants reads.file.views fetch next
+  pub looked : LooksUp (cache_in h.limits.entries h.cache) cache
   pub fewer : 3 * length h.pending + fetch_left fetch ≤ steps_left h
   pub goes : (g : Known) (v : Shared) (m : ModelClient) (count : ℕ) → v.yard.setting.block ≡ block
       → IsClient g v m count h
@@ -242,6 +243,7 @@ is_asking block h c next a ready after none need = by_cache (cache_there c.cache
         reads = reads;
         can = goes_on.0;
         wants = goes_on.1;
+        looked = a.looked cache is;
         fewer = subst (λ n. n ≤ steps_left h) steps a.fewer;
         goes = λ g v m count length client.
             let both = a.goes g v m count length client in

@@ -26,7 +26,7 @@ use Rattle.jv_fetching.specs.Fetching.{Fetching, begins, fetched_of}
 use Rattle.jv_fetching.specs.Going.{CanFetch, IsFetching}
 use Rattle.jv_fetching.specs.Calls.{AreSizedBy, HasCached, IsCacheOf, LooksUp, Wants, first_seen}
 use Rattle.jv_fetching.specs.Shows.{IsReadBy, One, Two}
-use Rattle.jv_fetching.proofs.CacheLaws.{cache_of-empty, cache_of-has, cache_of-looks}
+use Rattle.jv_fetching.proofs.CacheLaws.{cache_of-empty, cache_of-has, cache_of-looks, looks_none}
 use Rattle.jv_fetching.proofs.FetchLaws.{by_parts, fetches_go_on}
 use Rattle.jv_fetching.proofs.SameLaws.{fetches_show}
 use Rattle.jv_client.specs.declared.doing.Doing.{Doing}
@@ -43,8 +43,8 @@ use Rattle.jv_client.specs.UnderWay.{IsForm, Mounts, Transacts, Leaves, Writes, 
 use Rattle.jv_client.specs.UnderWay.{IsAt, IsReading, IsReady, IsUnderWay, does_of, has_segment, left}
 use Rattle.jv_client.specs.UnderWay.{left_of, reading_steps, steps_in, steps_left, steps_of}
 use Rattle.jv_client.specs.Reading.{Begins, ClientComesTo, ComesTo, GoesAhead, IsAhead, IsCachedAs, IsMade}
-use Rattle.jv_client.specs.Reading.{OnlyLooksUp, ReadsAtOnce, need_at, need_in, new_cache}
-use Rattle.jv_client.specs.Reading.{put_at, read_of}
+use Rattle.jv_client.specs.Reading.{LookedUp, OnlyLooksUp, ReadsAtOnce, Untouched, cache_in, need_at, need_in}
+use Rattle.jv_client.specs.Reading.{new_cache, put_at, read_of}
 use Rattle.jv_client.proofs.FormLaws.{that_does, under_way}
 
 -- ---- an operation that reads
@@ -206,6 +206,8 @@ module _ (h : ClientValue) where
         busy = at.2;
         is = ap (λ o. record h { doing = o }) (at.2 ∙ ap Some is);
         reads = reads.read;
+        looked = λ cache there.
+            subst (λ o. LooksUp (cache_in h.limits.entries o) cache) (sym there) (looks_none cache);
         fewer = omega arith;
         goes = λ g v m count block_is client. (
           subst (λ (p : Progress). GoesOn g v h (put_at p d) p) at.3
@@ -218,6 +220,7 @@ module _ (h : ClientValue) where
 
 -- a cache that is there, or a new one
 pub record HasCache (h : ClientValue) (cache : Cached) : Type 0 where
+  pub is : cache ≡ cache_in h.limits.entries h.cache
   pub knows : (sizes : ℕ → ℕ) (block : ℕ) (blocks : Blocks) → IfSome h.cache (IsCacheOf sizes block blocks)
       → IsCacheOf sizes block blocks cache
 
@@ -250,8 +253,16 @@ module _ (offset len block : ℕ) (h : ClientValue) (d : Doing) (busy : h.doing 
     later-knows sizes block blocks known =
         cache_of-looks sizes block blocks cache later looks (has.knows sizes block blocks known)
 
+    looks-here : LooksUp (cache_in h.limits.entries h.cache) later
+    looks-here = subst (λ (cache : Cached). LooksUp cache later) has.is looks
+
     pub begins-cached : IsCachedAs h went
-    begins-cached = record { cache = Some later; after_is = refl; knows = later-knows }
+    begins-cached = record {
+      cache = Some later;
+      after_is = refl;
+      ahead = LookedUp later looks-here refl;
+      knows = later-knows;
+    }
 
     -- it goes on well by the views of its handle
     reads-on : (sizes : ℕ → ℕ) (blocks : Blocks) → AreSizedBy sizes on.file.views
@@ -296,6 +307,10 @@ module _ (offset len block : ℕ) (h : ClientValue) (d : Doing) (busy : h.doing 
         busy = busy;
         is = refl;
         reads = (offset, len, is);
+        looked = λ other there.
+            let same : Some later ≡ Some other = there in
+            let one : later ≡ other = cc same in
+            subst (LooksUp (cache_in h.limits.entries h.cache)) one looks-here;
         fewer = (let few = goes.few in let weight = fetches_go_on.weight block offset len on.some on.low in
             omega (arith, few, weight, most));
         goes = began-goes;
@@ -367,13 +382,29 @@ made_cache entries None after cache made is sizes block blocks known =
     let same : new_cache entries ≡ cache = cc both in
     cache_of-empty sizes block blocks cache (ap (λ (cache : Cached). cache.blocks) (sym same))
 
-module _ (entries : ℕ) (h middle after : ClientValue) (made : Option Cached) (is_made : IsMade entries h.cache made)
+made_in : (entries : ℕ) (before after : Option Cached) (cache : Cached) → IsMade entries before after
+    → after ≡ Some cache → cache ≡ cache_in entries before
+made_in entries (Some old) after cache made is =
+    let both : Some old ≡ Some cache = sym made ∙ is in
+    let same : old ≡ cache = cc both in
+    sym same
+made_in entries None after cache made is =
+    let both : Some (new_cache entries) ≡ Some cache = sym made ∙ is in
+    let same : new_cache entries ≡ cache = cc both in
+    sym same
+
+module _ (entries : ℕ) (h middle after : ClientValue) (made : Option Cached) (entries_are : entries ≡ h.limits.entries)
+    (is_made : IsMade entries h.cache made)
     (middle_is : middle ≡ record h { cache = made }) (looks : OnlyLooksUp middle after) where
   was : made ≡ Some looks.cache
   was = sym (ap (λ (h : ClientValue). h.cache) middle_is) ∙ looks.was
 
   has_cache : HasCache h looks.cache
-  has_cache = record { knows = made_cache entries h.cache made looks.cache is_made was }
+  has_cache = record {
+    is = made_in entries h.cache made looks.cache is_made was
+        ∙ ap (λ n. cache_in n h.cache) entries_are;
+    knows = made_cache entries h.cache made looks.cache is_made was;
+  }
 
   after_went : after ≡ record h { cache = Some looks.later }
   after_went = looks.after_is ∙ ap (λ (h : ClientValue). record h { cache = Some looks.later }) middle_is
@@ -382,6 +413,7 @@ module _ (entries : ℕ) (h middle after : ClientValue) (made : Option Cached) (
   ahead-cached = record {
     cache = Some looks.later;
     after_is = after_went;
+    ahead = LookedUp looks.later (subst (λ (cache : Cached). LooksUp cache looks.later) has_cache.is looks.looks) refl;
     knows = λ sizes block blocks known.
         cache_of-looks sizes block blocks looks.cache looks.later looks.looks
         (has_cache.knows sizes block blocks known);
@@ -439,4 +471,9 @@ on_err (Err fault) P p = p
 
 -- a client that only kept its cache
 pub same-cached : (h : ClientValue) → IsCachedAs h h
-same-cached h = record { cache = h.cache; after_is = refl; knows = λ sizes block blocks known. known }
+same-cached h = record {
+  cache = h.cache;
+  after_is = refl;
+  ahead = Untouched refl;
+  knows = λ sizes block blocks known. known;
+}

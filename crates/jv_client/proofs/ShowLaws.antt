@@ -41,10 +41,12 @@ use Rattle.jv_client.specs.Makes.{Makes, tells_failure}
 use Rattle.jv_client.specs.Transacting.{Fails}
 use Rattle.jv_client.specs.UnderWay.{IsReady, asks_more, does_of, has_more, has_not_seen, has_segment, left}
 use Rattle.jv_client.specs.Reading.{Begins, IsAhead, IsCachedAs, ReadsAtOnce, Shows, need_in, read_of, told_read}
+use Rattle.jv_client.specs.CacheUse.{CacheUse, LooksOnly, is_read, is_umount}
+use Rattle.jv_client.proofs.CacheUseLaws.{cache-read}
 use Rattle.jv_client.proofs.FormLaws.{under_way}
 use Rattle.jv_client.proofs.HeldLaws.{client-doing, doing_of, holds-doing}
 use Rattle.jv_client.proofs.KeptLaws.{client-ended}
-use Rattle.jv_client.proofs.AnswerLaws.{makes-as, makes-ended, not_ending, request-lands, uses-none}
+use Rattle.jv_client.proofs.AnswerLaws.{makes-as, makes-ended, not_ending, request-lands, same-yard, uses-none}
 use Rattle.jv_client.proofs.ReadingLaws.{NotBegun, ReadsFile, flushed-here, flushed-model, not-begun, reads-as, reads-file}
 use Rattle.jv_client.proofs.ReadingLaws.{reads-here, seen_first, seen_window, sized-here, there}
 
@@ -94,15 +96,17 @@ module _ (now entry : ℕ) (h : ClientValue) (ready : IsReady h) (v : Shared) (c
   abbrev without_op : ModelClient → ModelClient
   without_op m = record m { doing = None }
 
-  answered-alone : ((device : Device) → tells_failure device (made.Answer told reply) ≡ false)
+  answered-alone : CacheUse h left_by (made.Answer told reply) v.yard v.yard
+      → ((device : Device) → tells_failure device (made.Answer told reply) ≡ false)
       → ((s : State) (g : Known) → HasStore s.tree g v → IsClient g v (s.clients h.id) s.count h
       → Request s g g v v h.id now (in_flight h) (in_flight h) (Answered told ∷ []) (Done reply) s.tree
       (without_op (s.clients h.id)) s.copied)
       → Makes now entry h left_by v v (made.Answer told reply)
-  answered-alone calm asked =
+  answered-alone uses calm asked =
       makes-ended now entry h left_by v v (made.Answer told reply) reply refl ready
       (record { id = refl; limits = refl; idle = refl })
-      (uses-none (made.Answer told reply) v calm tt) tt
+      (uses-none (made.Answer told reply) v calm tt) (same-yard now h (made.Answer told reply) v.yard)
+      uses tt
       (λ s g number store holds is. let mine = in_flight h in let m = s.clients h.id in record {
         learned = g;
         tree = s.tree;
@@ -120,12 +124,15 @@ module _ (now entry : ℕ) (h : ClientValue) (ready : IsReady h) (v : Shared) (c
 
 module _ (now entry : ℕ) (h middle after : ClientValue) (d : Doing) (busy : h.doing ≡ Some d) (ready : IsReady h)
     (v : Shared) (done : Made) where
-  pub fails-reading : IsCachedAs h middle → Fails NoMemory middle after done → Makes now entry h after v v done
-  fails-reading same fails =
+  pub fails-reading : is_read d.op ≡ true → IsCachedAs h middle → Fails NoMemory middle after done
+      → Makes now entry h after v v done
+  fails-reading read same fails =
       makes-as now entry h after (record h { cache = same.cache; doing = None }) v v v done
       (made.Answer (ToldRefused NoMemory) (RefusedReply NoMemory))
       (fails.after_is ∙ ap ended same.after_is) refl fails.made_is
       (answered-alone now entry h ready v same.cache same.knows (ToldRefused NoMemory) (RefusedReply NoMemory)
+      (cache-read h d busy (record h { cache = same.cache; doing = None })
+      (made.Answer (ToldRefused NoMemory) (RefusedReply NoMemory)) v.yard v.yard read refl (LooksOnly same.ahead) tt)
       (λ device. refl)
       (λ s g store is. failure-request s g v v store (same-none v) h.id now (in_flight h) (doing_of d)
       (client-doing g v (s.clients h.id) s.count h d busy is) (not_ending d) NoMemory refl))
@@ -195,6 +202,9 @@ module _ (now entry offset len : ℕ) (h middle : ClientValue) (d : Doing) (busy
       (made.Answer (told_read found) (Data found.bytes))
       (shows.after_is ∙ ap ended reads.same.after_is) refl shows.made_is
       (answered-alone now entry h ready v reads.same.cache reads.same.knows (told_read found) (Data found.bytes)
+      (cache-read h d busy (record h { cache = reads.same.cache; doing = None })
+      (made.Answer (told_read found) (Data found.bytes)) v.yard v.yard (ap is_read on.op_is) (ap is_umount on.op_is)
+      (LooksOnly reads.same.ahead) tt)
       (λ device. refl) (λ s g store is. read-request s g store is))
 
 -- ---- from the outcome of a reading that begins
@@ -224,4 +234,4 @@ pub begun-fails : (now entry offset len : ℕ) (h middle after : ClientValue) (v
     → Fails NoMemory middle after done → Makes now entry h after v v done
 begun-fails now entry offset len h middle after v done does ready same fails =
     let here = reads-here h offset len does ready in
-    fails-reading now entry h middle after here.d here.busy ready v done same fails
+    fails-reading now entry h middle after here.d here.busy ready v done (ap is_read here.file.op_is) same fails

@@ -51,7 +51,9 @@ use Rattle.jv_client.specs.UnderWay.{ClosesOpen, IsReady, asks_more, left, makes
 use Rattle.jv_client.specs.Makes.{FailsAlone, IsCalm, Makes, StepsTo, kinds_of}
 use Rattle.jv_client.specs.Transacting.{IsCaller, Attempts, EndsUnmade, NotMade, answered_here, given_here}
 use Rattle.jv_client.specs.Transacting.{handles_given, sustained_with}
-use Rattle.jv_client.proofs.AnswerLaws.{Rests, makes-ended, request-lands, rests-flight, told-rests}
+use Rattle.jv_client.specs.CacheUse.{CacheUse}
+use Rattle.jv_client.proofs.CacheUseLaws.{cache-ended}
+use Rattle.jv_client.proofs.AnswerLaws.{Rests, makes-ended, request-lands, rests-flight, same-yard, told-rests}
 use Rattle.jv_client.proofs.HeldLaws.{client-doing, doing_of, holds-later}
 use Rattle.jv_client.proofs.LastLaws.{is_last-same}
 use Rattle.jv_client.proofs.EndingLaws.{holds-told, is_write, keeps_bytes}
@@ -75,16 +77,17 @@ calm-reply _ e device = refl
 -- A step with a request of the keeper, which went well, and the answer.
 module _ (now entry : ℕ) (h after : ClientValue) (kind : ActKind) (told : Told) (answer : Reply) (v : Shared)
     (keeper : Store) where
-  pub answered-makes : Rests h after → IsReady h → keeper.opened ≡ v.keeper.opened
+  pub answered-makes : Rests h after → CacheUse h after (Both kind told answer) v.yard v.yard → IsReady h
+      → keeper.opened ≡ v.keeper.opened
       → keeper.faults ≡ v.keeper.faults → FailsAlone (Both kind told answer)
       → ((s : State) (g : Known) → s.count + 1 ≡ entry → HasStore s.tree g v → Holds s.tree (s.clients h.id)
       → IsClient g v (s.clients h.id) s.count h
       → StepsTo s g v h now (kind ∷ Answered told ∷ []) (Done answer) after (record v { keeper = keeper }))
       → Makes now entry h after v (record v { keeper = keeper }) (Both kind told answer)
-  answered-makes rests ready opened counts alone leads =
+  answered-makes rests cache ready opened counts alone leads =
       makes-ended now entry h after v (record v { keeper = keeper }) (Both kind told answer) answer refl ready rests
       (uses-keeper v keeper (Both kind told answer) opened counts (refl, refl, refl) (λ asks. absurd (cc asks)) tt)
-      alone leads
+      (same-yard now h (Both kind told answer) v.yard) cache alone leads
 
 -- ---- which answers those are
 
@@ -285,7 +288,10 @@ module _ (now : ℕ) (h : ClientValue) (d : Doing) (busy : h.doing ≡ Some d) (
         let rests = told-rests d.op (told_of answer.reply) (given_here entry answer h) in
         answered-makes now entry h (answered_here entry d.op answer h) (entry_of_gift (gift_of answer.reply))
         (told_of answer.reply) answer.reply v keeper
-        (record { id = rests.id; limits = rests.limits; idle = rests.idle }) ready tx.opened_at tx.counts
+        (record { id = rests.id; limits = rests.limits; idle = rests.idle })
+        (cache-ended h d busy (answered_here entry d.op answer h) made v.yard v.yard (given_here entry answer h)
+        (told_of answer.reply) refl refl refl tt)
+        ready tx.opened_at tx.counts
         (asks-by_gift (gift_of answer.reply), calm-reply answer.reply tried.answers)
         (λ s g number has holds is.
         subst (λ n. StepsTo s g v h now (kinds_of made) (Done answer.reply) (answered_here n d.op answer h) used) number

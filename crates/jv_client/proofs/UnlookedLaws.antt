@@ -3,6 +3,7 @@
 use Rattle.std.proofs.Common.{◌≡◌, ℕ, ◌+◌, true, [], ◌∷◌, Option, Some, Err, refl, sym, ap, subst}
 use Rattle.std.proofs.Common.{◌∙◌, arith}
 use Rattle.std.specs.Prelude.{unwrap_or}
+use Rattle.std.specs.Option.{option_map}
 use Rattle.jv_model.specs.declared.act.ActKind.TheVariants.{Answered, Quiet}
 use Rattle.jv_model.specs.declared.act.Told.TheVariants.{Refused as ToldRefused}
 use Rattle.jv_model.specs.declared.fault.Busy.TheVariants.{Lists}
@@ -33,7 +34,7 @@ use Rattle.jv_shared.proofs.SameLaws.{same-rows, same-stays}
 use Rattle.jv_handles.specs.declared.handle.Handle.{Handle}
 use Rattle.jv_handles.specs.Held.{IsHandle}
 use Rattle.jv_fetching.specs.declared.need.Need.TheVariants.{Look as NeedsLook}
-use Rattle.jv_fetching.specs.Calls.{IsCacheOf}
+use Rattle.jv_fetching.specs.Calls.{IsCacheOf, LooksUp}
 use Rattle.jv_fetching.specs.Fetching.{Fetching}
 use Rattle.jv_fetching.specs.Going.{IsFetching}
 use Rattle.jv_fetching.proofs.SameLaws.{fetches_show}
@@ -44,6 +45,7 @@ use Rattle.jv_requests.proofs.LookLaws.{SeesNone, NoSession, NoFile, look-never_
 use Rattle.jv_requests.proofs.LookLaws.{sees_none}
 use Rattle.jv_requests.proofs.StillLaws.{found-in}
 use Rattle.jv_client.specs.declared.doing.Doing.{Doing}
+use Rattle.jv_client.specs.declared.doing.Progress.TheVariants.{Reading}
 use Rattle.jv_client.specs.declared.made.Made.{Made}
 use Rattle.jv_client.specs.declared.made.Made.TheVariants as made
 use Rattle.jv_client.specs.ClientValue.{ClientValue, session_here}
@@ -51,8 +53,11 @@ use Rattle.jv_client.specs.Ending.{refused_here}
 use Rattle.jv_client.specs.Held.{Holds, IsClient, in_flight}
 use Rattle.jv_client.specs.Makes.{Makes, StepsTo, UsesDevices, faults_of, is_same_device}
 use Rattle.jv_client.specs.Transacting.{EndsUnmade, refusal_of}
+use Rattle.jv_client.specs.CacheUse.{LooksOnly, MovesInRead, is_read}
+use Rattle.jv_client.specs.Reading.{LookedUp, cache_in, put_at}
 use Rattle.jv_client.specs.UnderWay.{IsReady}
-use Rattle.jv_client.proofs.AnswerLaws.{refused-rests, rests-flight, rests-ready}
+use Rattle.jv_client.proofs.CacheUseLaws.{cache-read, cache-refused}
+use Rattle.jv_client.proofs.AnswerLaws.{refused-rests, rests-flight, rests-ready, same-yard}
 use Rattle.jv_client.proofs.EndingLaws.{holds-told}
 use Rattle.jv_client.proofs.HeldLaws.{doing_of}
 use Rattle.jv_client.proofs.KeptLaws.{cache-goes, held-goes, told-client}
@@ -114,17 +119,23 @@ module _ (now entry block : ℕ) (h : ClientValue) (d : Doing) (offset len : ℕ
       → IsCacheOf g.sizes before.yard.setting.block g.blocks cache
   cached-here s g has client = (asks.goes g before (s.clients h.id) s.count length_is client).2
 
+  -- the blocks that were looked up before it
+  looked-before : MovesInRead h.id h.limits.entries before.yard before.yard h.cache (Some cache)
+  looked-before = LooksOnly (LookedUp cache asks.looked refl)
+
   -- memory ran out, before the look or after it
-  pub look-out : (later : Cached)
+  pub look-out : (later : Cached) → LooksUp (cache_in h.limits.entries h.cache) later
       → ((s : State) (g : Known) → HasStore s.tree g before → IsClient g before (s.clients h.id) s.count h
       → IsCacheOf g.sizes before.yard.setting.block g.blocks later)
       → keeper.rows ≡ before.keeper.rows → keeper.opened ≡ before.keeper.opened → keeper.faults ≡ before.keeper.faults
       → Makes now entry h (over h.handles later h) before used (made.Answer (ToldRefused NoMemory) (Refused NoMemory))
-  look-out later cached rows opened faults =
+  look-out later looked cached rows opened faults =
       failed now entry block h d offset len cache fetch (NeedsLook window) asks before used
       (same-rows before keeper before.carrier rows) NoMemory later cached refl
       (uses-look (made.Answer (ToldRefused NoMemory) (Refused NoMemory)) before keeper (λ device. refl) rows opened faults
       tt)
+      (same-yard now h (made.Answer (ToldRefused NoMemory) (Refused NoMemory)) before.yard)
+      (LooksOnly (LookedUp later looked refl))
 
   -- ---- it was refused
 
@@ -223,6 +234,9 @@ module _ (now entry block : ℕ) (h : ClientValue) (d : Doing) (offset len : ℕ
         ready = rests-ready c (refused_here why c) rests ready;
         devices = uses-look (made.Both Quiet (ToldRefused why) (Refused why)) before keeper (λ device. refl)
             looks.looks.rows_are looks.looks.opened_at looks.looks.counts tt;
+        yard = same-yard now h (made.Both Quiet (ToldRefused why) (Refused why)) before.yard;
+        cache = cache-refused h d asks.busy (refused_here why c) (made.Both Quiet (ToldRefused why) (Refused why))
+            before.yard before.yard (ap is_read asks.reads.op_is) c why refl looked-before refl tt;
         alone = (refl, calm-refusal fault);
         falls = rests.idle;
         leads = λ s g number has holds client. refused-so fault looks s g has holds client;
@@ -238,6 +252,9 @@ module _ (now entry block : ℕ) (h : ClientValue) (d : Doing) (offset len : ℕ
         ready = record { buffer = asks.buffer; doing = tt };
         devices = uses-look (made.Both Quiet (ToldRefused fault) (Refused fault)) before keeper (λ device. refl)
             looks.looks.rows_are looks.looks.opened_at looks.looks.counts tt;
+        yard = same-yard now h (made.Both Quiet (ToldRefused fault) (Refused fault)) before.yard;
+        cache = cache-read h d asks.busy (refused_here fault c) (made.Both Quiet (ToldRefused fault) (Refused fault))
+            before.yard before.yard (ap is_read asks.reads.op_is) refl looked-before tt;
         alone = (refl, λ device. refl);
         falls = refl;
         leads = λ s g number has holds client.
@@ -252,8 +269,17 @@ module _ (now entry block : ℕ) (h : ClientValue) (d : Doing) (offset len : ℕ
         ready = ready;
         devices = uses-look (made.Broken at bytes) before keeper (λ device. refl) looks.looks.rows_are
             looks.looks.opened_at looks.looks.counts looks.looks.bad;
+        yard = same-yard now h (made.Broken at bytes) before.yard;
+        cache = cache-read h d asks.busy c (made.Broken at bytes) before.yard before.yard (ap is_read asks.reads.op_is)
+            refl looked-before tt;
         alone = tt;
-        falls = tt;
+        falls = record {
+          progress = Reading fetch (NeedsLook window);
+          after_is = ap (λ (o : Option Doing). record h {
+            cache = Some cache;
+            doing = option_map (put_at (Reading fetch (NeedsLook window))) o;
+          }) (sym asks.busy);
+        };
         leads = λ s g number has holds client.
             absurd (look-never_bad s.tree g before has (session_here h) file.inode window keeper at bytes looks);
       }))
@@ -263,9 +289,11 @@ module _ (now entry block : ℕ) (h : ClientValue) (d : Doing) (offset len : ℕ
       (made.Answer (ToldRefused (DeviceFailed Keeper)) (Refused (DeviceFailed Keeper)))) (sym ends.after_is)
       (failed now entry block h d offset len cache fetch (NeedsLook window) asks before used
       (same-rows before keeper before.carrier looks.looks.rows_are) (DeviceFailed Keeper) cache cached-here refl
-      (uses-failed before keeper looks.looks.rows_are looks.looks.opened_at looks.looks.counts)))
+      (uses-failed before keeper looks.looks.rows_are looks.looks.opened_at looks.looks.counts)
+      (same-yard now h (made.Answer (ToldRefused (DeviceFailed Keeper)) (Refused (DeviceFailed Keeper))) before.yard)
+      looked-before))
   look-unmade (OfRows Memory) after done ready looks ends =
       subst (λ x. Makes now entry h after before used x) (sym ends.made_is)
       (subst (λ x. Makes now entry h x before used (made.Answer (ToldRefused NoMemory) (Refused NoMemory)))
       (sym ends.after_is)
-      (look-out cache cached-here looks.looks.rows_are looks.looks.opened_at looks.looks.counts))
+      (look-out cache asks.looked cached-here looks.looks.rows_are looks.looks.opened_at looks.looks.counts))

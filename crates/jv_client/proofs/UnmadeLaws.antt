@@ -1,8 +1,9 @@
 -- Where a transaction wasn't made, the operation ends with its refusal, or out of memory, or with the keeper's failure; or the run
 -- stops at a row that is Bad, which is none where rows are known and whole.
-use Rattle.std.proofs.Common.{◌≡◌, ℕ, ◌+◌, Bool, true, false, IsTrue, [], ◌∷◌, Some, Err}
-use Rattle.std.proofs.Common.{refl, sym, subst, arith}
+use Rattle.std.proofs.Common.{◌≡◌, ℕ, ◌+◌, Bool, true, false, IsTrue, [], ◌∷◌, Option, Some, Err}
+use Rattle.std.proofs.Common.{refl, sym, ap, subst, ◌∙◌, arith}
 use Rattle.std.specs.Prelude.{List}
+use Rattle.std.specs.Option.{option_map}
 use Rattle.jv_model.specs.declared.act.ActKind.{ActKind}
 use Rattle.jv_model.specs.declared.act.ActKind.TheVariants.{Answered}
 use Rattle.jv_model.specs.declared.act.Told.TheVariants.{Refused as ToldRefused}
@@ -31,13 +32,16 @@ use Rattle.jv_client.specs.declared.made.Made.TheVariants as made
 use Rattle.jv_client.specs.ClientValue.{ClientValue}
 use Rattle.jv_client.specs.Held.{IsClient, Holds, in_flight}
 use Rattle.jv_client.specs.Ending.{refused_here}
+use Rattle.jv_client.specs.Reading.{put_at}
 use Rattle.jv_client.specs.UnderWay.{IsReady}
-use Rattle.jv_client.specs.Makes.{IsCalm, Makes, TellsBad, UsesDevices, asks_nothing, faults_of, is_failure_of, step_of}
+use Rattle.jv_client.specs.YardUse.{YardUse}
+use Rattle.jv_client.specs.Makes.{IsCalm, Makes, Stops, TellsBad, UsesDevices, asks_nothing, faults_of, is_failure_of, step_of}
 use Rattle.jv_client.specs.Makes.{tells_failure}
 use Rattle.jv_client.specs.Transacting.{EndsUnmade, Fails, NotMade, Refuses, refusal_of}
 use Rattle.jv_client.proofs.EndingLaws.{holds-told}
 use Rattle.jv_client.proofs.KeptLaws.{client-told}
-use Rattle.jv_client.proofs.AnswerLaws.{fails-makes, makes-as, makes-ended, refused-rests, rests-flight}
+use Rattle.jv_client.proofs.CacheUseLaws.{cache-ended, cache-stays}
+use Rattle.jv_client.proofs.AnswerLaws.{fails-makes, makes-as, makes-ended, refused-rests, rests-flight, same-yard}
 
 -- ---- devices: nothing was asked but of the keeper
 
@@ -128,12 +132,15 @@ module _ (now entry : ℕ) (h : ClientValue) (d : Doing) (before used : Shared) 
   -- A request that is refused.
   pub refuses : (kind : ActKind) (fault : Fault) → is_answer kind ≡ false → IsCalm (ToldRefused fault)
       → UsesDevices (made.Both kind (ToldRefused fault) (RefusedReply fault)) before used
+      → YardUse now h (made.Both kind (ToldRefused fault) (RefusedReply fault)) before.yard used.yard
       → InState entry h before (RefusedAs now h d before used kind fault)
       → Makes now entry h (refused_here fault h) before used (made.Both kind (ToldRefused fault) (RefusedReply fault))
-  refuses kind fault asks calm uses leads =
+  refuses kind fault asks calm uses yard leads =
       let rests = refused-rests fault h in
       makes-ended now entry h (refused_here fault h) before used
-      (made.Both kind (ToldRefused fault) (RefusedReply fault)) (RefusedReply fault) refl ready rests uses
+      (made.Both kind (ToldRefused fault) (RefusedReply fault)) (RefusedReply fault) refl ready rests uses yard
+      (cache-ended h d busy (refused_here fault h) (made.Both kind (ToldRefused fault) (RefusedReply fault)) before.yard
+      used.yard h (ToldRefused fault) refl refl refl tt)
       (asks, calm)
       (λ s g count store holds is.
       let m = s.clients h.id in
@@ -152,6 +159,14 @@ module _ (now entry : ℕ) (h : ClientValue) (d : Doing) (before used : Shared) 
             s.count (s.count + 2) h (omega arith) is d.op (ToldRefused fault) refl;
         holds = holds-told d.op (ToldRefused fault) s.tree m refl holds;
       })
+
+-- a client that stopped as it was
+stops-as : (h : ClientValue) (d : Doing) → h.doing ≡ Some d → Stops h h
+stops-as h d busy = record {
+  progress = d.progress;
+  after_is = ap (λ (o : Option Doing). record h { doing = o })
+      (busy ∙ ap (option_map (put_at d.progress)) (sym busy));
+}
 
 -- A transaction that wasn't made, by how the step ends.
 module _ (now entry : ℕ) (h after : ClientValue) (d : Doing) (before : Shared) (keeper : Store)
@@ -174,6 +189,7 @@ module _ (now entry : ℕ) (h after : ClientValue) (d : Doing) (before : Shared)
       (subst (λ (x : Made). UsesDevices x before then_shared) (sym ends.made_is)
       (uses-keeper before keeper (made.Answer (ToldRefused fault) (RefusedReply fault)) opened cause only (λ asks. rows)
       tt))
+      (same-yard now h done before.yard)
 
   -- a refusal of the transaction is one of the operation
   refused-as : (kind : ActKind) (fault : Fault) (s : State) (g : Known)
@@ -192,7 +208,8 @@ module _ (now entry : ℕ) (h after : ClientValue) (d : Doing) (before : Shared)
       (made.Both kind (ToldRefused fault) (RefusedReply fault)) ends.after_is refl ends.made_is
       (refuses now entry h d before then_shared busy ready kind fault asks calm
       (uses-keeper before keeper (made.Both kind (ToldRefused fault) (RefusedReply fault)) opened faults
-      (refl, refl, refl) (λ asks. rows) tt) leads)
+      (refl, refl, refl) (λ asks. rows) tt)
+      (same-yard now h (made.Both kind (ToldRefused fault) (RefusedReply fault)) before.yard) leads)
 
   pub unmade : (kind : ActKind) (fault : TxFault) (done : Made) → is_answer kind ≡ false
       → NotMade fault before.keeper keeper
@@ -213,8 +230,10 @@ module _ (now entry : ℕ) (h after : ClientValue) (d : Doing) (before : Shared)
         ready = ready;
         devices = uses-keeper before keeper (made.Broken at bytes) none.opened_at none.counts (refl, refl, refl)
             (λ asks. none.rows_are) none.bad;
+        yard = same-yard now h (made.Broken at bytes) before.yard;
+        cache = cache-stays h d busy h (made.Broken at bytes) before.yard before.yard refl refl tt;
         alone = tt;
-        falls = tt;
+        falls = stops-as h d busy;
         leads = λ s g number store holds is. absurd (leads s g number store holds is);
       })
   unmade kind (OfRows Failed) done asks none ends leads =

@@ -11,4 +11,6 @@ pub mod Transacting
 pub mod Changing
 pub mod Stats
 pub mod Getting
+pub mod YardUse
+pub mod CacheUse
 pub mod Makes

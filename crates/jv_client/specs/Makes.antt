@@ -1,5 +1,6 @@
 -- What a step makes of a client and of what all clients share.
 use Rattle.std.specs.Prelude.{◌≡◌, ℕ, ◌+◌, ◌<◌, Bool, true, false, List, [], ◌∷◌, ◌++◌, map, length, IsSome, IsTrue, IfSome, None}
+use Rattle.std.specs.Option.{option_map}
 use Rattle.jv_model.specs.declared.act.Act.{Act}
 use Rattle.jv_model.specs.declared.act.ActKind.{ActKind}
 use Rattle.jv_model.specs.declared.act.ActKind.TheVariants.{Answered}
@@ -19,11 +20,16 @@ use Rattle.jv_rows.specs.Transactions.{IsBad}
 use Rattle.jv_volume.specs.TypedRows.{typed}
 use Rattle.jv_shared.specs.Shared.{HasStore, Known, Shared}
 use Rattle.jv_requests.specs.Request.{Request}
+use Rattle.jv_client.specs.declared.doing.Progress.{Progress}
 use Rattle.jv_client.specs.declared.made.Made.{Made}
 use Rattle.jv_client.specs.declared.made.Made.TheVariants as made
+use Rattle.jv_client.specs.CacheUse.{CacheUse}
 use Rattle.jv_client.specs.ClientValue.{ClientValue}
 use Rattle.jv_client.specs.Held.{IsClient, Holds, in_flight}
+use Rattle.jv_client.specs.Reading.{put_at}
+use Rattle.jv_client.specs.Stats.{AnswersStats}
 use Rattle.jv_client.specs.UnderWay.{IsReady, steps_left}
+use Rattle.jv_client.specs.YardUse.{YardUse}
 
 -- the entries of a step
 abbrev pub kinds_of : Made → List ActKind
@@ -117,11 +123,16 @@ pub record StepsTo (s : State) (g : Known) (before : Shared) (h : ClientValue) (
   pub is_client : IsClient learned v model (s.count + length kinds) after
   pub holds : Holds tree model
 
+-- A step that stopped leaves the client as it was, but that its read may have begun, for which it may have a cache.
+pub record Stops (before after : ClientValue) : Type 0 where
+  pub progress : Progress
+  pub after_is : after ≡ record before { cache = after.cache; doing = option_map (put_at progress) before.doing }
+
 -- after a step that isn't the last one the operation goes on, and fewer are left
 abbrev pub Falls : Step → ClientValue → ClientValue → Type 0
 Falls More before after = (steps_left after < steps_left before) × IsSome after.doing
 Falls (Done reply) before after = after.doing ≡ None
-Falls (Broken key bytes) before after = Unit {0}
+Falls (Broken key bytes) before after = Stops before after
 
 -- A step was made at this moment; its first entry has this number. From every state of the model that client and devices stand for,
 -- it leads to one that they stand for then. That rows and blocks are known and whole is part of standing for one.
@@ -130,6 +141,8 @@ pub record Makes (now entry : ℕ) (h after : ClientValue) (before used : Shared
   pub limits : after.limits ≡ h.limits
   pub ready : IsReady after
   pub devices : UsesDevices done before used
+  pub yard : YardUse now h done before.yard used.yard
+  pub cache : CacheUse h after done before.yard used.yard
   pub alone : FailsAlone done
   pub falls : Falls (step_of done) h after
   pub leads : (s : State) (g : Known) → s.count + 1 ≡ entry → HasStore s.tree g before → Holds s.tree (s.clients h.id)
@@ -149,6 +162,9 @@ pub record Steps (line now : ℕ) (h after : ClientValue) (before used : Shared)
   pub limits : after.limits ≡ h.limits
   pub ready : IsReady after
   pub devices : UsesDevices made before used
+  pub yard : YardUse now h made before.yard used.yard
+  pub cache : CacheUse h after made before.yard used.yard
+  pub stats : AnswersStats h made
   pub alone : FailsAlone made
   pub falls : Falls step h after
   pub leads : (s : State) (g : Known) → s.count ≡ length journal → HasStore s.tree g before → Holds s.tree (s.clients h.id)

@@ -101,10 +101,20 @@ abbrev pub IsMade : ℕ → Option Cached → Option Cached → Type 0
 IsMade entries (Some cache) after = after ≡ Some cache
 IsMade entries None after = after ≡ Some (new_cache entries)
 
+abbrev pub cache_in : ℕ → Option Cached → Cached
+cache_in entries None = new_cache entries
+cache_in entries (Some cache) = cache
+
+-- blocks were looked up in it, if anything was done
+pub data LooksAhead (entries : ℕ) (was is : Option Cached) : Type 0 where
+  Untouched : is ≡ was → LooksAhead entries was is
+  LookedUp : (later : Cached) → LooksUp (cache_in entries was) later → is ≡ Some later → LooksAhead entries was is
+
 -- a client with another cache, in which nothing stands that isn't known
 pub record IsCachedAs (h after : ClientValue) : Type 0 where
   pub cache : Option Cached
   pub after_is : after ≡ record h { cache = cache }
+  pub ahead : LooksAhead h.limits.entries h.cache cache
   pub knows : (sizes : ℕ → ℕ) (block : ℕ) (blocks : Blocks) → IfSome h.cache (IsCacheOf sizes block blocks)
       → IfSome cache (IsCacheOf sizes block blocks)
 
@@ -116,6 +126,7 @@ pub record IsAhead (block : ℕ) (h c : ClientValue) : Type 0 where
   pub busy : h.doing ≡ Some d
   pub is : c ≡ record h { cache = c.cache; doing = Some (put_at (Reading fetch next) d) }
   pub reads : (offset len : ℕ) × (d.does ≡ does.Reads offset len)
+  pub looked : (cache : Cached) → c.cache ≡ Some cache → LooksUp (cache_in h.limits.entries h.cache) cache
   pub fewer : steps_left c ≤ steps_left h
   pub goes : (g : Known) (v : Shared) (m : ModelClient) (count : ℕ) → v.yard.setting.block ≡ block → IsClient g v m count h
       → GoesOn g v c (put_at (Reading fetch next) d) (Reading fetch next)

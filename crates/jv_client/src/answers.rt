@@ -7,7 +7,7 @@ ghost use Rattle.jv_model.specs.client.Profile.{handle_of};
 ghost use Rattle.jv_shared.specs.Shared.{Shared};
 ghost use Rattle.jv_client.specs.Ending.{Finishes, closed, finished_here, refused_here, told_here, without};
 ghost use Rattle.jv_client.specs.UnderWay.{IsReady, ClosesOpen, Ends, HasKept, MayKeep, closed_by, does_of, ends_itself, keeps, left, tells_stats};
-ghost use Rattle.jv_client.specs.Stats.{IsStatsOf, numbers_in};
+ghost use Rattle.jv_client.specs.Stats.{AnswersStats, IsStatsOf, numbers_in};
 ghost use Rattle.jv_client.specs.Transacting.{Fails, Refuses};
 ghost use Rattle.jv_client.specs.Makes.{Makes};
 
@@ -144,7 +144,8 @@ impl Client {
         requires not_write { IfSome self.old.doing (λ d. keeps d.does ≡ false) }
         requires not_stats { IfSome self.old.doing (λ d. tells_stats d.does ≡ false) }
         requires ends { IfSome self.old.doing (λ d. IsTrue (ends_itself self.old d)) }
-        ensures { (now entry : ℕ) (v : Shared) → Makes now entry self.old self.new v v result }
+        ensures made { (now entry : ℕ) (v : Shared) → Makes now entry self.old self.new v v result }
+        ensures stats { AnswersStats self.old result }
     {
         match self.end() {
             Some((told, reply)) => Made::Answer(told, reply),

@@ -5,6 +5,7 @@ ghost use Rattle.jv_shared.specs.Lengths.{IsLength};
 ghost use Rattle.jv_client.specs.Shared.{shared};
 ghost use Rattle.jv_client.specs.UnderWay.{IsReady, moved_to};
 ghost use Rattle.jv_client.specs.Makes.{Makes, Steps};
+ghost use Rattle.jv_client.specs.Stats.{AnswersStats};
 
 use crate::client::Client;
 use crate::doing::{Doing, Progress};
@@ -17,7 +18,8 @@ impl Client {
     /// Makes one step of the operation in progress: at most one transaction or one request, and the answer with the last
     /// one. Appends the step's entries for this line. Where memory runs out the answer is `NoMemory`, where a device failed
     /// it is `DeviceFailed`, and nothing but the operation's end has changed. `Broken` if a row that the step reads is
-    /// malformed, or names one that isn't there: nothing has changed, and there is no entry.
+    /// malformed, or names one that isn't there: nothing has changed but that a read may have begun, and there is no
+    /// entry.
     pub fn step<K: Keeper, D: Depot, H: Shelf>(
         &mut self,
         k: &mut K,
@@ -58,12 +60,13 @@ impl Client {
         requires ready { IsReady self.old }
         requires block { let seen = ⟦<Yard<D, H> as ObservedYard>⟧.seen in
             IsLength (seen yard.old).setting.block }
-        ensures { let seen = ⟦<Yard<D, H> as ObservedYard>⟧.seen in
+        ensures made { let seen = ⟦<Yard<D, H> as ObservedYard>⟧.seen in
             let way = ⟦<dyn Carrier as Carrier>⟧ in
             Makes now entry self.old self.new
             (shared (K.seen k.old) (seen yard.old) ((way carrier.old.0).seen carrier.old.1))
             (shared (K.seen k.new) (seen yard.new) ((way carrier.new.0).seen carrier.new.1))
             result }
+        ensures stats { AnswersStats self.old result }
     {
         if let Some(need) = self.need() {
             return self.ask(need, k, yard, entry);

@@ -27,6 +27,7 @@ returns-in_err-found-clause-err c =
     let entries = c.self.inside.limits.entries in
     on_err c.from_residual-in_err-found.result _
     (ahead-cached entries c.args.self.now _ c.ahead.new.self made
+    (ap (λ (h : ClientValue). h.limits.entries) c.self.view_is)
     (subst (λ (o : Option Cached). IsMade entries o made) (ap (λ (h : ClientValue). h.cache) c.self.view_is)
     c.in_ok-make_cache.ensures.made)
     (ap (λ (h : ClientValue). record h { cache = made }) c.self.view_is) c.in_err-found.ensures.looks)
@@ -36,6 +37,7 @@ returns-in-Read-clause-ok c =
     let made = c.make_cache.new.cache in
     let entries = c.self.inside.limits.entries in
     begins-some entries c.args.self.now _ c.ahead.new.self made
+    (ap (λ (h : ClientValue). h.limits.entries) c.self.view_is)
     (subst (λ (o : Option Cached). IsMade entries o made) (ap (λ (h : ClientValue). h.cache) c.self.view_is)
     c.in_ok-make_cache.ensures.made)
     (ap (λ (h : ClientValue). record h { cache = made }) c.self.view_is) c.in_ok-found.ensures.looks
@@ -47,6 +49,7 @@ returns-in-Needs-clause-ok c =
     let made = c.make_cache.new.cache in
     let entries = c.self.inside.limits.entries in
     begins-none entries c.args.self.now _ c.ahead.new.self made
+    (ap (λ (h : ClientValue). h.limits.entries) c.self.view_is)
     (subst (λ (o : Option Cached). IsMade entries o made) (ap (λ (h : ClientValue). h.cache) c.self.view_is)
     c.in_ok-make_cache.ensures.made)
     (ap (λ (h : ClientValue). record h { cache = made }) c.self.view_is) c.in_ok-found.ensures.looks

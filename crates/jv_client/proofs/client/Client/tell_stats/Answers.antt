@@ -25,11 +25,19 @@ returns-clause-made c now entry v =
     let after = ap (λ (v : ClientValue). record v { doing = c.forget.new.doing }) seen
     ∙ ap (λ doing. record h { doing = doing }) c.forget.ensures in
     let pending = c.bytes-pending.ensures.count ∙ ap (λ (v : ClientValue). length v.pending) seen in
+    let same_hits = c.cache_numbers-hits.ensures.hits ∙ ap (λ (v : ClientValue). (numbers_in v.cache).hits) seen in
+    let same_misses = c.cache_numbers-hits.ensures.misses ∙ ap (λ (v : ClientValue). (numbers_in v.cache).misses) seen in
+    let same_cached = c.cache_numbers-hits.ensures.cached ∙ ap (λ (v : ClientValue). (numbers_in v.cache).cached) seen in
+    let m = numbers_in h.cache in
+    let n = length h.pending in
     makes-as now entry h _ (ended h) v v v _
     (Answer (Fine hits misses cached (length h.pending)) (CacheStats hits misses cached (length h.pending))) after refl
     (ap (λ n. Answer (Fine hits misses cached n) (CacheStats hits misses cached n)) pending)
     (stats_told now entry h v doing.0 doing.1 c.requires.ready c.requires.flushed
-    (subst (λ o. IfSome o (λ (d : Doing). IsTrue (tells_stats d.does))) doing.1 c.requires.tells) hits misses cached)
+    (subst (λ o. IfSome o (λ (d : Doing). IsTrue (tells_stats d.does))) doing.1 c.requires.tells) hits misses cached
+    (ap (λ a. Answer (Fine a misses cached n) (CacheStats a misses cached n)) same_hits
+    ∙ ap (λ a. Answer (Fine m.hits a cached n) (CacheStats m.hits a cached n)) same_misses
+    ∙ ap (λ a. Answer (Fine m.hits m.misses a n) (CacheStats m.hits m.misses a n)) same_cached))
 
 pub returns-clause-numbers : goal.returns-clause-numbers
 returns-clause-numbers c =

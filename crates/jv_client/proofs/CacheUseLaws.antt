@@ -1,0 +1,119 @@
+-- What steps do with the client's cache, by how they end.
+use Rattle.std.proofs.Common.{◌≡◌, true, false, None, Some, refl, sym, ap, subst, ◌∙◌}
+use Rattle.std.specs.Prelude.{IfSome}
+use Rattle.jv_model.specs.declared.act.Told.{Told}
+use Rattle.jv_model.specs.declared.act.Told.TheVariants.{Fine, Looks, Refused as ToldRefused}
+use Rattle.jv_model.specs.declared.fault.Fault.{Fault}
+use Rattle.jv_model.specs.declared.fault.Fault.TheVariants.{Stale}
+use Rattle.jv_model.specs.declared.fault.Gone.TheVariants.{Session, Node}
+use Rattle.jv_model.specs.declared.op.Op.{Op}
+use Rattle.jv_model.specs.declared.op.Op.TheVariants as op
+use Rattle.jv_model.specs.journal.Steps.{is_failure}
+use Rattle.jv_yard.specs.YardValue.{YardValue}
+use Rattle.jv_client.specs.declared.doing.Doing.{Doing}
+use Rattle.jv_client.specs.declared.made.Made.{Made}
+use Rattle.jv_client.specs.CacheUse.{CacheUse, LooksOnly, MovesCache, MovesInRead}
+use Rattle.jv_client.specs.CacheUse.{ends_mount, is_gone, is_read, is_umount, leaves}
+use Rattle.jv_client.specs.ClientValue.{ClientValue}
+use Rattle.jv_client.specs.Ending.{finished_here, refused_here, told_here}
+use Rattle.jv_client.specs.Reading.{Untouched}
+use Rattle.jv_client.specs.Stats.{AnswersNumbers}
+
+-- ---- what answers leave of a cache
+
+finished-drops : (o : Op) (h : ClientValue) → is_umount o ≡ true → (finished_here o h).cache ≡ None
+finished-drops op.Umount h e = refl
+finished-drops (op.Close handle) h e = absurd (cc e)
+finished-drops _ h e = absurd (cc e)
+
+finished-keeps : (o : Op) (h : ClientValue) → is_umount o ≡ false → (finished_here o h).cache ≡ h.cache
+finished-keeps op.Umount h e = absurd (cc e)
+finished-keeps (op.Close handle) h e = refl
+finished-keeps _ h e = refl
+
+refused-drops : (fault : Fault) (h : ClientValue) → is_gone fault ≡ true → (refused_here fault h).cache ≡ None
+refused-drops (Stale (Session sid)) h e = refl
+refused-drops (Stale (Node inode)) h e = absurd (cc e)
+refused-drops _ h e = absurd (cc e)
+
+refused-keeps : (fault : Fault) (h : ClientValue) → is_gone fault ≡ false → (refused_here fault h).cache ≡ h.cache
+refused-keeps (Stale (Session sid)) h e = absurd (cc e)
+refused-keeps (Stale (Node inode)) h e = refl
+refused-keeps _ h e = refl
+
+told-drops : (o : Op) (told : Told) (h : ClientValue) → ends_mount o told ≡ true → (told_here o told h).cache ≡ None
+told-drops o (Fine a b c d) h e = finished-drops o h e
+told-drops o (Looks first second len) h e = finished-drops o h e
+told-drops o (ToldRefused fault) h e = refused-drops fault h e
+
+told-keeps : (o : Op) (told : Told) (h : ClientValue) → ends_mount o told ≡ false
+    → (told_here o told h).cache ≡ h.cache
+told-keeps o (Fine a b c d) h e = finished-keeps o h e
+told-keeps o (Looks first second len) h e = finished-keeps o h e
+told-keeps o (ToldRefused fault) h e = refused-keeps fault h e
+
+-- that a device failed, or memory ran out, doesn't end the mount
+pub failure-stays : (fault : Fault) → is_failure (ToldRefused fault) ≡ true → is_gone fault ≡ false
+failure-stays (Stale (Session sid)) e = absurd (cc e)
+failure-stays _ e = refl
+
+-- ---- steps
+
+module _ (h : ClientValue) (d : Doing) (busy : h.doing ≡ Some d) (after : ClientValue) (done : Made)
+    (before used : YardValue) where
+  in_doing : MovesCache d.op h after done before used → IfSome h.doing (λ (d : Doing). MovesCache d.op h after done before used)
+  in_doing moves = subst (λ o. IfSome o (λ (d : Doing). MovesCache d.op h after done before used)) (sym busy) moves
+
+  -- the mount goes on, and the cache is the same
+  pub cache-stays : leaves d.op done ≡ false → after.cache ≡ h.cache → AnswersNumbers h done
+      → CacheUse h after done before used
+  cache-stays goes same numbers = record {
+    moves = in_doing (record {
+      drops = λ ends. absurd (cc (sym goes ∙ ends));
+      stays = λ e other. same;
+      reads = λ e read. LooksOnly (Untouched same);
+    });
+    numbers = numbers;
+  }
+
+  -- an answer leaves what it leaves of a client with the same cache
+  pub cache-ended : (mid : ClientValue) (told : Told) → leaves d.op done ≡ ends_mount d.op told → mid.cache ≡ h.cache
+      → after ≡ told_here d.op told mid → AnswersNumbers h done → CacheUse h after done before used
+  cache-ended mid told ends same is numbers =
+      let keeps : leaves d.op done ≡ false → after.cache ≡ h.cache =
+      λ goes. ap (λ (c : ClientValue). c.cache) is ∙ told-keeps d.op told mid (sym ends ∙ goes) ∙ same in
+      record {
+        moves = in_doing (record {
+          drops = λ left. ap (λ (c : ClientValue). c.cache) is ∙ told-drops d.op told mid (sym ends ∙ left);
+          stays = λ goes other. keeps goes;
+          reads = λ goes read. LooksOnly (Untouched (keeps goes));
+        });
+        numbers = numbers;
+      }
+
+  module _ (read : is_read d.op ≡ true) where
+    -- a read goes on, or is answered
+    pub cache-read : leaves d.op done ≡ false → MovesInRead h.id h.limits.entries before used h.cache after.cache
+        → AnswersNumbers h done → CacheUse h after done before used
+    cache-read goes moves numbers = record {
+      moves = in_doing (record {
+        drops = λ ends. absurd (cc (sym goes ∙ ends));
+        stays = λ e other. absurd (cc (sym read ∙ other));
+        reads = λ e is. moves;
+      });
+      numbers = numbers;
+    }
+
+    -- or refused
+    pub cache-refused : (c : ClientValue) (fault : Fault) → leaves d.op done ≡ is_gone fault
+        → MovesInRead h.id h.limits.entries before used h.cache c.cache → after ≡ refused_here fault c
+        → AnswersNumbers h done → CacheUse h after done before used
+    cache-refused c fault ends moves is numbers = record {
+      moves = in_doing (record {
+        drops = λ left. ap (λ (c : ClientValue). c.cache) is ∙ refused-drops fault c (sym ends ∙ left);
+        stays = λ e other. absurd (cc (sym read ∙ other));
+        reads = λ goes is_read. subst (MovesInRead h.id h.limits.entries before used h.cache)
+            (sym (ap (λ (c : ClientValue). c.cache) is ∙ refused-keeps fault c (sym ends ∙ goes))) moves;
+      });
+      numbers = numbers;
+    }
