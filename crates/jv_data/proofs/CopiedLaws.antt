@@ -31,10 +31,10 @@ use Rattle.jv_contents.proofs.PlaceLaws.{place_in-same}
 use Rattle.jv_contents.proofs.WholeLaws.{SlicesGo}
 use Rattle.jv_data.specs.declared.copying.Course.{Course}
 use Rattle.jv_data.specs.Changing.{may_change}
-use Rattle.jv_data.specs.Copying.{rows_copied, Copying}
+use Rattle.jv_data.specs.Copying.{rows_copied, Copying, GetsPieces}
 use Rattle.jv_data.proofs.BesideLaws.{Beside, beside-then}
 use Rattle.jv_data.proofs.ListChangeLaws.{ListsChange, whole-changed, others-changed, tree-copied}
-use Rattle.jv_data.proofs.PartsLaws.{get-copied, get-copied-file, beside-copied, lists_of-copied-file, shows-copied, move-copied, few-copied}
+use Rattle.jv_data.proofs.PartsLaws.{get-copied, get-copied-file, beside-copied, lists_of-copied-file, pieces-copied, shows-copied, move-copied, few-copied}
 use Rattle.jv_data.proofs.RestLaws.{rest-then}
 use Rattle.jv_data.proofs.SameTreeLaws.{beside-adjusted}
 use Rattle.jv_data.proofs.SizedLaws.{sized_rows, quiet-sized}
@@ -97,6 +97,12 @@ module _ (rows : Rows) (course : Course) (was : NodeRow) (c : Counters) (now end
     lists_last : (i u : ℕ) → lists_of last i u ≡ lists_of (rows_copied rows course parts middle) i u
     unfolding lists_of
     lists_last i u = ap (λ o. if nat_lt u (2 ^ 32) then records_in (row_in o) else []) (get_last (list_key i u) refl)
+
+    -- one record for each piece
+    pub pieces-last : (u : ℕ) → GetsPieces rows course.source course.from course.target course.to course.len u (lists_of last course.target u)
+    pieces-last u =
+        subst (λ (l : List Rec). GetsPieces rows course.source course.from course.target course.to course.len u l) (sym (lists_last course.target u))
+        (pieces-copied rows course middle within (list_same course.target) parts course.len copying.follow u)
 
     abbrev new : ℕ → Spot
     new k = place_in (lists_of rows course.source) (course.from + k)

@@ -37,7 +37,7 @@ use Rattle.jv_rows.specs.Transactions.{BadFault, IsFor, Looks, TransactionCounts
 use Rattle.jv_rows.proofs.TransactionLaws.{Past, if_known, of_known, past-start, past-as, past-calm, past-ends, past-fails, past-looks, past-refuses, past-stops, fails-commit}
 use Rattle.jv_volume.specs.TreeOf.{content_of, tree_of}
 use Rattle.jv_volume.specs.TypedRows.{Rows, typed}
-use Rattle.jv_volume.specs.Views.{row_in, node_in, node_row_at}
+use Rattle.jv_volume.specs.Views.{row_in, node_in, node_row_at, lists_of}
 use Rattle.jv_volume.specs.Slices.{records_naming}
 use Rattle.jv_volume.specs.Whole.{Whole}
 use Rattle.jv_contents.specs.Bytes.{Told, bytes_of, tree_with}
@@ -45,13 +45,13 @@ use Rattle.jv_contents.proofs.KeepLaws.{keeps-stay}
 use Rattle.jv_data.specs.declared.copying.Course.{Course}
 use Rattle.jv_data.specs.Changing.{Makes, AnyTold, IsCrowded, IsFull, Changed, LandsChanged, Changes, count_in, may_change, KeepsRest}
 use Rattle.jv_data.specs.Committing.{HasFile, length_seen}
-use Rattle.jv_data.specs.Copying.{Copying, CopiesLists}
+use Rattle.jv_data.specs.Copying.{Copying, CopiesLists, GetsPieces, AddsPieces}
 use Rattle.jv_data.specs.Resizing.{ResizesFile, AreSized}
 use Rattle.jv_data.specs.Truncating.{HasSlice, HaveSlices}
 use Rattle.jv_data.proofs.BeginningLaws.{content_found}
 use Rattle.jv_data.proofs.CommitLaws.{looks-any}
-use Rattle.jv_data.proofs.CopiedLaws.{crowded-copied, lives-copied, rest-copied, whole-copied, others-copied, tree-copied_lists}
-use Rattle.jv_data.proofs.PartsLaws.{get-copied, have-copied}
+use Rattle.jv_data.proofs.CopiedLaws.{crowded-copied, lives-copied, pieces-last, rest-copied, whole-copied, others-copied, tree-copied_lists}
+use Rattle.jv_data.proofs.PartsLaws.{gets-none, get-copied, have-copied}
 use Rattle.jv_data.proofs.RefusedLaws.{changes-refused}
 use Rattle.jv_data.proofs.RestLaws.{of_left}
 use Rattle.jv_data.proofs.SizedLaws.{sized_rows}
@@ -222,6 +222,11 @@ module _ (sid now src dst from to len : ℕ) (due : Setting → ℕ) where
           rest-none known after is whole here key other =
               ap (λ (r : RowMap). get (typed r) key) (same_Some after known (sym here ∙ past_within.rows_are ∙ is))
 
+          pub pieces-nothing : AddsPieces src from dst to before both (Ok 0)
+          pieces-nothing known after is whole here u =
+              subst (λ (r : RowMap). GetsPieces (typed known) src from dst to 0 u (lists_of (typed r) dst u)) (same_Some known after (sym (past_within.rows_are ∙ is) ∙ here))
+              (gets-none (typed known) src from dst to 0 u refl)
+
           module _ (some : n ≢ 0) where
             abbrev length : ℕ
             length = max target.length (to + n)
@@ -391,6 +396,10 @@ module _ (sid now src dst from to len : ℕ) (due : Setting → ℕ) where
                     rest_left = rest-copied (typed known) course target t_sized.counters now length whole (target_there known is) g.file t_sized.there (small known is whole) refl
                         (drafted d2 known) added (y known is whole) n 0 enough left adjusted
 
+                    pieces_left : (u : ℕ) → GetsPieces (typed known) src from dst to n u (lists_of left dst u)
+                    pieces_left = pieces-last (typed known) course target t_sized.counters now length whole (target_there known is) g.file t_sized.there (small known is whole) refl
+                        (drafted d2 known) added (y known is whole) n 0 enough left adjusted
+
                     stands : last.rows ≡ Some (applied d3 known)
                     stands = commits.rows_are ∙ ap (option_map (applied d3)) (past_counted.rows_are ∙ is)
 
@@ -425,6 +434,11 @@ module _ (sid now src dst from to len : ℕ) (due : Setting → ℕ) where
                   rest-done last commits known after is whole here key other =
                       of_left (λ rows. get rows key ≡ get (typed known) key) d3 known after last.rows (stands last commits known is whole) here
                       (rest_left last commits known is whole key other)
+
+                  pub pieces-done : (last : Store) → Commits counted last (Ok tt) d3 → AddsPieces src from dst to before last (Ok n)
+                  pieces-done last commits known after is whole here u =
+                      of_left (λ rows. GetsPieces (typed known) src from dst to n u (lists_of rows dst u)) d3 known after last.rows (stands last commits known is whole) here
+                      (pieces_left last commits known is whole u)
 
 -- ---- by the caller of the model
 

@@ -2,8 +2,8 @@
 use Rattle.std.proofs.Common.{◌≡◌, ◌≢◌, ℕ, ◌+◌, ◌-◌, ◌*◌, ◌%◌, ◌<◌, ◌≤◌, ◌^◌, ◌⊎◌, inl, inr, true, false, List, [], ◌∷◌, ◌++◌, length, Option, Some, Ok, refl, sym, ap, subst, ◌∙◌, arith}
 use Rattle.std.specs.Prelude.{◌==◌, nat_lt, if◌then◌else◌}
 use Rattle.std.specs.List.{AllByRecursion}
-use Rattle.std.proofs.lemmas.Bool.{cond-false, ne_eqb}
-use Rattle.std.proofs.lemmas.List.{length-append}
+use Rattle.std.proofs.lemmas.Bool.{cases_eq, cases_lt, cond-true, cond-false, eq-eqb, ne_eqb}
+use Rattle.std.proofs.lemmas.List.{length-append, append-nil}
 use Rattle.jv_model.specs.declared.limits.TheConstants.{FILE_END, WINDOW}
 use Rattle.jv_model.specs.declared.row.RowKey.{RowKey}
 use Rattle.jv_model.specs.declared.row.Row.TheVariants.{OfList}
@@ -27,10 +27,11 @@ use Rattle.jv_contents.proofs.CutLaws.{all-append}
 use Rattle.jv_contents.proofs.FillLaws.{over-none, fills-are, fills-few, fills-name}
 use Rattle.jv_contents.proofs.PlaceLaws.{place_in-same}
 use Rattle.jv_data.specs.declared.copying.Course.{Course}
-use Rattle.jv_data.specs.Copying.{part_len, window_at, AreParts, rows_copied}
+use Rattle.jv_data.specs.Copying.{ArePieces, part_len, window_at, AreParts, rows_copied, bytes_before, bytes_in, GetsPieces}
 use Rattle.jv_data.specs.Truncating.{HaveSlices, records_of}
 use Rattle.jv_data.proofs.BesideLaws.{Beside, beside-none, beside-then, beside-alter, list_is_row}
 use Rattle.jv_data.proofs.ListRowLaws.{get-other, list_is, lists_of-list}
+use Rattle.jv_data.proofs.ShownLaws.{pieces-none}
 
 -- ---- numbers
 
@@ -47,6 +48,32 @@ part-within c done less = omega (arith, less)
 
 pub window-low : (c : Course) (done : ℕ) → done < c.len → c.to + c.len ≤ FILE_END → window_at c done < 2 ^ 32
 window-low c done less small = omega (arith, less, small)
+
+-- what is before a part, and in it, by its window
+part-before : (c : Course) (done u : ℕ) → u ≡ window_at c done → (done ≡ 0) ⊎ (c.to + done ≤ window_at c done * WINDOW) → done ≡ bytes_before c.to u
+part-before c done u here (inl none) = omega (arith, here, none)
+part-before c done u here (inr high) = omega (arith, here, high)
+
+part-in : (c : Course) (before done u : ℕ) → before < c.len → done ≡ before + part_len c before → u ≡ window_at c before → before ≡ bytes_before c.to u
+    → part_len c before ≡ bytes_in c.to done u
+part-in c before done u less is here low = omega (arith, less, is, here, low)
+
+-- other windows have no more with it
+part-beside : (c : Course) (before done u : ℕ) → before < c.len → done ≡ before + part_len c before → u ≢ window_at c before
+    → bytes_in c.to before u ≡ bytes_in c.to done u
+part-beside c before done u less is apart = elim (cases_lt u (window_at c before)) [
+  | inl low ↦ omega (arith, less, is, low)
+  | inr high ↦ omega (arith, less, is, high, apart)
+]
+
+-- a list that gets no piece
+pub gets-none : (rows : Rows) (src from dst to len u : ℕ) → len ≡ 0 → GetsPieces rows src from dst to len u (lists_of rows dst u)
+gets-none rows src from dst to len u none = record {
+  added = [];
+  pieces = subst (λ n. ArePieces (lists_of rows src) (from + bytes_before to u) ((to + bytes_before to u) % WINDOW) n []) (omega (arith, none))
+      (pieces-none (lists_of rows src) (from + bytes_before to u) ((to + bytes_before to u) % WINDOW));
+  is = sym (append-nil (lists_of rows dst u));
+}
 
 -- ---- records that are added to a list
 
@@ -137,14 +164,48 @@ module _ (rows : Rows) (c : Course) (middle : Rows) where
         ∙ cond-false _ _ _ (ne_eqb u (window_at c d.0) apart)
         ∙ ahead ds d.0 u rest (inr (omega (arith, high, is)))
 
+    begins : (parts : List (ℕ × List Rec)) (done : ℕ) → AreParts rows c parts done → done < c.len → (done ≡ 0) ⊎ (c.to + done ≤ window_at c done * WINDOW)
+    begins [] done none less = inl none
+    begins (d ∷ ds) done (before, is, shows, rest) less = inr (let end = part-ends c d.0 done is less in omega (arith, end))
+
     -- the next part begins the list of its window anew
     pub stood : (parts : List (ℕ × List Rec)) (done : ℕ) → AreParts rows c parts done → done < c.len
         → lists_of (copied parts) c.target (window_at c done) ≡ lists_of rows c.target (window_at c done)
-    stood parts done f less = ahead parts done (window_at c done) f (begins parts f)
+    stood parts done f less = ahead parts done (window_at c done) f (begins parts done f less)
+
+    -- ---- the pieces that lists get
+
+    abbrev Added : (before pos len : ℕ) → List Rec → Type 0
+    Added before pos len added = ArePieces (lists_of rows c.source) (c.from + before) pos len added
+
+    pub pieces-copied : (parts : List (ℕ × List Rec)) (done : ℕ) → AreParts rows c parts done
+        → (u : ℕ) → GetsPieces rows c.source c.from c.target c.to done u (lists_of (copied parts) c.target u)
+    pieces-copied [] done none u =
+        subst (λ (l : List Rec). GetsPieces rows c.source c.from c.target c.to done u l) (sym (same u))
+        (gets-none rows c.source c.from c.target c.to done u none)
+    pieces-copied (d ∷ ds) done (less, is, shows, rest) u = by_window (pieces-copied ds d.0 rest u) (cases_eq u w)
       where
-        begins : (parts : List (ℕ × List Rec)) → AreParts rows c parts done → (done ≡ 0) ⊎ (c.to + done ≤ window_at c done * WINDOW)
-        begins [] none = inl none
-        begins (d ∷ ds) (before, is, shows, rest) = inr (let end = part-ends c d.0 done is less in omega (arith, end))
+        w : ℕ
+        w = window_at c d.0
+
+        list_of : lists_of (copied (d ∷ ds)) c.target u ≡ (if u == w then lists_of rows c.target w ++ d.1 else lists_of (copied ds) c.target u)
+        list_of = lists_of-list (copied ds) c.target w (window-low c d.0 less small) (cell d.0 d.1) u
+
+        by_window : GetsPieces rows c.source c.from c.target c.to d.0 u (lists_of (copied ds) c.target u) → (u ≡ w) ⊎ (u ≢ w)
+            → GetsPieces rows c.source c.from c.target c.to done u (lists_of (copied (d ∷ ds)) c.target u)
+        by_window was (inl here) =
+            let before : d.0 ≡ bytes_before c.to u = part-before c d.0 u here (begins ds d.0 rest less) in
+            record {
+              added = d.1;
+              pieces = subst (λ n. Added n ((c.to + n) % WINDOW) (bytes_in c.to done u) d.1) before
+                  (subst (λ n. Added d.0 ((c.to + d.0) % WINDOW) n d.1) (part-in c d.0 done u less is here before) shows.pieces);
+              is = list_of ∙ cond-true _ _ _ (eq-eqb u w here) ∙ ap (λ n. lists_of rows c.target n ++ d.1) (sym here);
+            }
+        by_window was (inr apart) = record {
+          added = was.added;
+          pieces = subst (λ n. Added (bytes_before c.to u) ((c.to + bytes_before c.to u) % WINDOW) n was.added) (part-beside c d.0 done u less is apart) was.pieces;
+          is = list_of ∙ cond-false _ _ _ (ne_eqb u w apart) ∙ was.is;
+        }
 
     -- ---- what the target shows
 

@@ -1,10 +1,10 @@
 -- How a range of a file is read as records that show it: pieces of plans, one source window after another.
-use Rattle.std.proofs.Common.{◌≡◌, ◌≢◌, ℕ, zero, suc, ◌+◌, ◌-◌, ◌/◌, ◌%◌, ◌<◌, ◌≤◌, ◌^◌, Bool, true, false, cond, List, [], ◌∷◌, ◌++◌, length, take, get_or, Option, None, Some, Ok, Err, refl, sym, ap, subst, ◌∙◌, arith}
+use Rattle.std.proofs.Common.{◌≡◌, ◌≢◌, ℕ, zero, suc, ◌+◌, ◌-◌, ◌/◌, ◌%◌, ◌<◌, ◌≤◌, ◌^◌, ◌⊎◌, inl, inr, Bool, true, false, cond, List, [], ◌∷◌, ◌++◌, length, take, get_or, Option, None, Some, Ok, Err, refl, sym, ap, subst, ◌∙◌, arith}
 use Rattle.std.proofs.Math.Seq.{take-suc}
-use Rattle.std.specs.Prelude.{◌==◌, All, IfSome}
+use Rattle.std.specs.Prelude.{◌==◌, min, All, IfSome}
 use Rattle.std.specs.List.{AllByRecursion}
-use Rattle.std.proofs.lemmas.Bool.{eqb-false}
-use Rattle.std.proofs.lemmas.List.{length-append}
+use Rattle.std.proofs.lemmas.Bool.{eqb-false, cases_lt}
+use Rattle.std.proofs.lemmas.List.{length-append, append-nil}
 use Rattle.std.proofs.lemmas.List.Elements.{All-from_recursion, All-contains}
 use Rattle.jv_model.specs.declared.fault.TxFault.{TxFault}
 use Rattle.jv_model.specs.declared.limits.TheConstants.{WINDOW}
@@ -27,14 +27,15 @@ use Rattle.jv_volume.specs.TypedRows.{Rows, typed}
 use Rattle.jv_volume.specs.Views.{lists_of}
 use Rattle.jv_volume.specs.Slices.{place_in}
 use Rattle.jv_contents.specs.Fills.{Fills, record_at_spot, records_of_plan}
+use Rattle.jv_contents.specs.Places.{Lists}
 use Rattle.jv_contents.proofs.BlockLaws.{seen_contained}
 use Rattle.jv_contents.proofs.CopyLaws.{source-fills}
 use Rattle.jv_contents.proofs.CutLaws.{all-append}
 use Rattle.jv_contents.proofs.FillLaws.{plan-fills, fills-append, fills-are, fills-some, fills-name}
-use Rattle.jv_data.specs.Copying.{pieces_len, IsShown, ShowsRange}
+use Rattle.jv_data.specs.Copying.{pieces_len, ArePieces, IsShown, ShowsRange}
 use Rattle.jv_data.specs.Records.{HasRecords}
 use Rattle.jv_data.specs.Truncating.{HasSlice, HaveSlices, ChecksSlices}
-use Rattle.jv_data.proofs.TruncateLaws.{looks-calm, looks-then}
+use Rattle.jv_data.proofs.TruncateLaws.{looks-start, looks-calm, looks-then}
 
 -- ---- the records of pieces
 
@@ -42,10 +43,14 @@ pieces-append : (xs ys : List Piece) → pieces_len (xs ++ ys) ≡ pieces_len xs
 pieces-append [] ys = omega arith
 pieces-append (x ∷ xs) ys = (let rest = pieces-append xs ys in omega (arith, rest))
 
+plan-append : (xs ys : List Piece) (pos : ℕ) → records_of_plan pos (xs ++ ys) ≡ records_of_plan pos xs ++ records_of_plan (pos + pieces_len xs) ys
+plan-append [] ys pos = ap (λ n. records_of_plan n ys) (omega arith)
+plan-append (x ∷ xs) ys pos = ap (λ (l : List Rec). record_at_spot pos x.len x.spot ∷ l)
+    (plan-append xs ys (pos + x.len) ∙ ap (λ n. records_of_plan (pos + x.len) xs ++ records_of_plan n ys) (omega arith))
+
 plan-push : (xs : List Piece) (x : Piece) (pos at : ℕ) → at ≡ pos + pieces_len xs
     → records_of_plan pos (xs ++ x ∷ []) ≡ records_of_plan pos xs ++ record_at_spot at x.len x.spot ∷ []
-plan-push [] x pos at is = ap (λ n. record_at_spot n x.len x.spot ∷ []) (omega (arith, is))
-plan-push (y ∷ ys) x pos at is = ap (λ (l : List Rec). record_at_spot pos y.len y.spot ∷ l) (plan-push ys x (pos + y.len) at (omega (arith, is)))
+plan-push xs x pos at is = plan-append xs (x ∷ []) pos ∙ ap (λ n. records_of_plan pos xs ++ record_at_spot n x.len x.spot ∷ []) (sym is)
 
 -- one more piece
 take-more : (pieces : List Piece) (i : ℕ) (piece none : Piece) → i < length pieces → piece ≡ get_or pieces i none
@@ -78,6 +83,71 @@ pieces-take (x ∷ xs) (suc n) = (let rest = pieces-take xs n in omega (arith, r
 pub plan-len : (list : List Rec) (to : ℕ) (pieces : List Piece) (from : ℕ) → IsPlan list from to pieces → from + pieces_len pieces ≡ to
 plan-len list to [] from e = omega (arith, e)
 plan-len list to (x ∷ xs) from (begins, is, rest) = (let more = plan-len list to xs (from + x.len) rest in omega (arith, more))
+
+-- and an empty range has none
+plan-none : (list : List Rec) (from to : ℕ) (pieces : List Piece) → to ≤ from → IsPlan list from to pieces → pieces ≡ []
+plan-none list from to [] none e = refl
+plan-none list from to (x ∷ xs) none (begins, is, rest) = (let some = is.some in let within = is.within in absurd (omega (arith, none, begins, some, within)))
+
+plan-as : (l m : List Rec) (a b c d : ℕ) (pieces : List Piece) → l ≡ m → a ≡ b → c ≡ d → IsPlan l a c pieces → IsPlan m b d pieces
+plan-as l m a b c d pieces lists begins ends plan =
+    subst (λ (x : List Rec). IsPlan x b d pieces) lists
+    (subst (λ (n : ℕ). IsPlan l n d pieces) begins
+    (subst (λ (n : ℕ). IsPlan l a n pieces) ends plan))
+
+-- ---- the pieces of a range, cut at the windows of its file
+
+module _ (lists : Lists) (from pos : ℕ) where
+  pub pieces-none : ArePieces lists from pos 0 []
+  pieces-none = record { first = []; next = []; first_plan = omega arith; next_plan = omega arith; is = refl }
+
+  -- those of one more window
+  pub pieces-then : (done part : ℕ) (list : List Rec) → ArePieces lists from pos done list → (0 < done → from % WINDOW + done ≡ WINDOW)
+      → (source : List Rec) (window begin : ℕ) (pieces : List Piece) → window ≡ (from + done) / WINDOW → begin ≡ (from + done) % WINDOW
+      → begin + part ≤ WINDOW → source ≡ lists window → IsPlan source begin (begin + part) pieces
+      → ArePieces lists from pos (done + part) (list ++ records_of_plan (pos + done) pieces)
+  pieces-then done part list was cut source window begin pieces window_is begin_is inside source_is plan = by_done (cases_lt 0 done)
+    where
+      low : from % WINDOW < WINDOW
+      low = omega arith
+
+      by_done : (0 < done) ⊎ (done ≤ 0) → ArePieces lists from pos (done + part) (list ++ records_of_plan (pos + done) pieces)
+      by_done (inr none_yet) =
+          let none : was.first ≡ [] = plan-none (lists (from / WINDOW)) (from % WINDOW) (min (from % WINDOW + done) WINDOW) was.first (omega (arith, none_yet)) was.first_plan in
+          let no_more : was.next ≡ [] = plan-none (lists (from / WINDOW + 1)) 0 (from % WINDOW + done - WINDOW) was.next (omega (arith, none_yet, low)) was.next_plan in
+          let empty : list ≡ [] = was.is ∙ (λ i. records_of_plan pos (none i ++ no_more i)) in
+          record {
+            first = pieces;
+            next = [];
+            first_plan = plan-as source (lists (from / WINDOW)) begin (from % WINDOW) (begin + part) (min (from % WINDOW + (done + part)) WINDOW) pieces
+                (source_is ∙ ap lists (omega (arith, none_yet, window_is))) (omega (arith, none_yet, begin_is)) (omega (arith, none_yet, begin_is, inside)) plan;
+            next_plan = omega (arith, none_yet, begin_is, inside);
+            is = ap (λ (l : List Rec). l ++ records_of_plan (pos + done) pieces) empty ∙ ap (λ n. records_of_plan n pieces) (omega (arith, none_yet))
+                ∙ ap (records_of_plan pos) (sym (append-nil pieces));
+          }
+      by_done (inl some) =
+          let full = cut some in
+          let long = plan-len (lists (from / WINDOW)) (min (from % WINDOW + done) WINDOW) was.first (from % WINDOW) was.first_plan in
+          let same : done ≡ pieces_len was.first = omega (arith, full, long) in
+          let no_more : was.next ≡ [] = plan-none (lists (from / WINDOW + 1)) 0 (from % WINDOW + done - WINDOW) was.next (omega (arith, full)) was.next_plan in
+          record {
+            first = was.first;
+            next = pieces;
+            first_plan = subst (λ (n : ℕ). IsPlan (lists (from / WINDOW)) (from % WINDOW) n was.first) (omega (arith, full)) was.first_plan;
+            next_plan = plan-as source (lists (from / WINDOW + 1)) begin 0 (begin + part) (from % WINDOW + (done + part) - WINDOW) pieces
+                (source_is ∙ ap lists (omega (arith, full, window_is))) (omega (arith, full, begin_is)) (omega (arith, full, begin_is)) plan;
+            is = ap (λ (l : List Rec). l ++ records_of_plan (pos + done) pieces)
+                (was.is ∙ ap (λ (ps : List Piece). records_of_plan pos (was.first ++ ps)) no_more ∙ ap (records_of_plan pos) (append-nil was.first))
+                ∙ ap (λ n. records_of_plan pos was.first ++ records_of_plan (pos + n) pieces) same ∙ sym (plan-append was.first pieces pos);
+          }
+
+-- a range that goes on after a window goes on where the next one begins
+pub cut-next : (from len done part : ℕ) → (0 < done → done < len → from % WINDOW + done ≡ WINDOW) → len ≤ WINDOW
+    → part ≡ min (len - done) (WINDOW - (from + done) % WINDOW) → done + part < len → from % WINDOW + (done + part) ≡ WINDOW
+cut-next from len done part cut short is less = elim (cases_lt 0 done) [
+  | inl some ↦ (let full = cut some (omega (arith, less)) in absurd (omega (arith, full, short, is, less)))
+  | inr none_yet ↦ omega (arith, none_yet, is, less)
+]
 
 -- ---- a window's records whose slices have rows
 
@@ -119,6 +189,14 @@ pub record IsShowing (inode from pos : ℕ) (before now : Store) (done : ℕ) (l
   pub some : 0 < done → 0 < length list
   pub shows : (known : RowMap) → before.rows ≡ Some known → IsShown (typed known) inode from pos done list
 
+pub showing-none : (inode from pos : ℕ) (before : Store) (list : List Rec) → list ≡ [] → IsShowing inode from pos before before 0 list
+showing-none inode from pos before list none = subst (IsShowing inode from pos before before 0) (sym none) (record {
+  looks = looks-start before;
+  records = tt;
+  some = λ less. absurd (omega (arith, less));
+  shows = λ known is. record { fills = omega arith; slices = tt; pieces = pieces-none (lists_of (typed known) inode) from pos };
+})
+
 module _ (inode from pos len : ℕ) (before now : Store) (done : ℕ) (list : List Rec) (c : IsShowing inode from pos before now done list) where
   pub showing-all : done ≡ len → ShowsRange inode from pos len before now (Ok list)
   showing-all all = record {
@@ -144,7 +222,7 @@ module _ (inode from pos len : ℕ) (before now : Store) (done : ℕ) (list : Li
 
     module _ (named : IfSome now.rows (λ known. HaveSlices (typed known) source)) (part : ℕ) (some : 0 < part) (pieces : List Piece)
         (plan : IsPlan source begin (begin + part) pieces) (stored : All (IsAsStored source) pieces) (parts : All IsPart pieces)
-        (inside : begin + part ≤ WINDOW) (small : pos + done + part ≤ WINDOW) where
+        (inside : begin + part ≤ WINDOW) (small : pos + done + part ≤ WINDOW) (cut : 0 < done → from % WINDOW + done ≡ WINDOW) where
       abbrev at : ℕ
       at = pos + done
 
@@ -179,6 +257,9 @@ module _ (inode from pos len : ℕ) (before now : Store) (done : ℕ) (list : Li
             slices = all-append _ list new was.slices
                 (fills-name (λ id size. HasSlice rows id) places at end new fills (λ k id size off low high e.
                 shown_slice rows source (of_known (λ known. HaveSlices (typed known) source) now.rows known here named) (begin + (k - at)) id size off e));
+            pieces = pieces-then lists from pos done part list was.pieces cut source window begin pieces
+                (ap (λ n. (from + n) / WINDOW) same) (ap (λ n. (from + n) % WINDOW) same) inside
+                (of_known (λ known. source ≡ lists_of (typed known) inode window) now.rows known here h.list) plan;
           }
 
       pub showing-more : (more : List Rec) → more ≡ list ++ new → IsShowing inode from pos before read (done + part) more

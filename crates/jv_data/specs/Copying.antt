@@ -1,5 +1,5 @@
 -- What a copy between files does: to lists of the target come records that show what the source shows.
-use Rattle.std.specs.Prelude.{◌≡◌, ℕ, ◌+◌, ◌-◌, ◌/◌, ◌%◌, ◌<◌, min, List, [], ◌∷◌, ◌++◌, length, Some, Result, Ok, IfOk}
+use Rattle.std.specs.Prelude.{◌≡◌, ℕ, ◌+◌, ◌-◌, ◌*◌, ◌/◌, ◌%◌, ◌<◌, min, max, List, [], ◌∷◌, ◌++◌, length, Some, Result, Ok, IfOk}
 use Rattle.std.specs.List.{AllByRecursion}
 use Rattle.jv_model.specs.declared.fault.TxFault.{TxFault}
 use Rattle.jv_model.specs.declared.limits.TheConstants.{WINDOW}
@@ -7,7 +7,7 @@ use Rattle.jv_model.specs.declared.row.Row.TheVariants.{OfList}
 use Rattle.jv_model.specs.declared.slice.Piece.{Piece}
 use Rattle.jv_model.specs.declared.slice.Rec.{Rec}
 use Rattle.jv_model.specs.FiniteMap.{alter}
-use Rattle.jv_model.specs.blocks.Slices.{IsRecord}
+use Rattle.jv_model.specs.blocks.Slices.{IsRecord, IsPlan}
 use Rattle.jv_model.specs.rows.RowKeys.{RowMap}
 use Rattle.jv_model.specs.rows.RowPlaces.{list_key}
 use Rattle.jv_outside.specs.declared.batch.Change.{Change}
@@ -17,7 +17,9 @@ use Rattle.jv_rows.specs.Transactions.{Looks, without_answer}
 use Rattle.jv_volume.specs.TypedRows.{Rows, typed}
 use Rattle.jv_volume.specs.Views.{lists_of}
 use Rattle.jv_volume.specs.Slices.{place_in}
-use Rattle.jv_contents.specs.Fills.{Fills}
+use Rattle.jv_volume.specs.Whole.{Whole}
+use Rattle.jv_contents.specs.Fills.{Fills, records_of_plan}
+use Rattle.jv_contents.specs.Places.{Lists}
 use Rattle.jv_data.specs.declared.copying.Course.{Course}
 use Rattle.jv_data.specs.Truncating.{HaveSlices, records_of}
 
@@ -26,10 +28,20 @@ abbrev pub pieces_len : List Piece → ℕ
 pieces_len [] = 0
 pieces_len (piece ∷ pieces) = piece.len + pieces_len pieces
 
--- records of slices with rows that show, from a position of a window on, a range of a file
+-- Records that show, from a position of a window on, a range of a file that is no longer than a window: one for each visible piece of
+-- the window that it begins in, then one for each of the next window.
+pub record ArePieces (lists : Lists) (from pos len : ℕ) (shown : List Rec) : Type 0 where
+  pub first : List Piece
+  pub next : List Piece
+  pub first_plan : IsPlan (lists (from / WINDOW)) (from % WINDOW) (min (from % WINDOW + len) WINDOW) first
+  pub next_plan : IsPlan (lists (from / WINDOW + 1)) 0 (from % WINDOW + len - WINDOW) next
+  pub is : shown ≡ records_of_plan pos (first ++ next)
+
+-- records of slices with rows that show, from a position of a window on, a range of a file, one for each piece
 pub record IsShown (rows : Rows) (inode from pos len : ℕ) (shown : List Rec) : Type 0 where
   pub fills : Fills (λ q. place_in (lists_of rows inode) (from + (q - pos))) pos (pos + len) shown
   pub slices : HaveSlices rows shown
+  pub pieces : ArePieces (lists_of rows inode) from pos len shown
 
 -- A reading of a range of a file, as records at a position of a window that show it.
 pub record ShowsRange (inode from pos len : ℕ) (before after : Store) (result : Result (List Rec) TxFault) : Type 0 where
@@ -84,3 +96,24 @@ pub record CopiesLists (c : Course) (before after : Store) (changes changed : Li
   pub looks : Looks before after (without_answer result) (λ t. Ok tt)
   pub copied : IfOk result (λ added. (known : RowMap) → before.rows ≡ Some known
       → Copying c c.len (typed known) (drafted changes known) (drafted changed known) added)
+
+-- ---- a whole copy
+
+-- how many bytes a copy to a position has before a window of the target, and how many of a number of them are in that window
+abbrev pub bytes_before : (to window : ℕ) → ℕ
+bytes_before to window = window * WINDOW - to
+
+abbrev pub bytes_in : (to len window : ℕ) → ℕ
+bytes_in to len window = min (to + len) (window * WINDOW + WINDOW) - max to (window * WINDOW)
+
+-- a window's list of the target, with one record more for each visible piece of the range that is copied there
+pub record GetsPieces (rows : Rows) (src from dst to len window : ℕ) (list : List Rec) : Type 0 where
+  pub added : List Rec
+  pub pieces : ArePieces (lists_of rows src) (from + bytes_before to window) ((to + bytes_before to window) % WINDOW) (bytes_in to len window) added
+  pub is : list ≡ lists_of rows dst window ++ added
+
+-- Where a copy was made over whole rows, each list of the target got one record for each visible piece of the range, cut at the windows of
+-- both files, and no other record.
+abbrev pub AddsPieces : (src from dst to : ℕ) → Store → Store → Result ℕ TxFault → Type 0
+AddsPieces src from dst to before after result = IfOk result (λ len. (known left : RowMap) → before.rows ≡ Some known → Whole (typed known)
+    → after.rows ≡ Some left → (window : ℕ) → GetsPieces (typed known) src from dst to len window (lists_of (typed left) dst window))

@@ -2,7 +2,7 @@
 ghost use Rattle.std.specs.Prelude.{◌≡◌, ℕ, ◌+◌, ◌≤◌, ◌<◌, ◌++◌, ◌&&◌, ◌==◌, nat_le, IfOk, IfSome, OnOk};
 ghost use Rattle.jv_contents.specs.Fills.{record_at_spot, records_of_plan};
 ghost use Rattle.jv_data.specs.Changing.{Changes, AnyTold, IsCrowded, KeepsRest, count_in};
-ghost use Rattle.jv_data.specs.Copying.{pieces_len, part_len, ShowsRange, CopiesPart, CopiesLists};
+ghost use Rattle.jv_data.specs.Copying.{pieces_len, part_len, AddsPieces, ShowsRange, CopiesPart, CopiesLists};
 ghost use Rattle.jv_data.specs.Records.{HasRecords};
 ghost use Rattle.jv_data.specs.Truncating.{HaveSlices};
 ghost use Rattle.jv_model.specs.declared.limits.TheConstants.{FILE_END, WINDOW};
@@ -61,6 +61,7 @@ pub fn copy_range<K: Keeper>(
         (IsCrowded FILE_END) (K.seen k.old) (K.seen k.new)
         result (λ n. Count n) (λ t. model.copy t caller from to len) }
     ensures rest { KeepsRest dst (K.seen k.old) (K.seen k.new) result }
+    ensures pieces { AddsPieces src from dst to (K.seen k.old) (K.seen k.new) result }
 {
     let source = file(alloc, k, who.sid, src)?;
     let target = file(alloc, k, who.sid, dst)?;

@@ -7,7 +7,7 @@ use Rattle.jv_model.specs.declared.limits.TheConstants.{FILE_END}
 use Rattle.jv_model.specs.rows.RowFaults.{row_fault}
 use Rattle.jv_model.specs.tree.FileBytes.{overlap}
 use Rattle.jv_data.specs.Resizing.{ResizesFile}
-use Rattle.jv_data.proofs.CopyEndsLaws.{adjusts-as, ends-as, copy-no_source, copy-no_target, copy-overlaps, copy-too_long, copy-none, copy-no_room, copy-unread, copy-uncounted, copy-down, copy-done, rest-none, rest-done}
+use Rattle.jv_data.proofs.CopyEndsLaws.{adjusts-as, ends-as, copy-no_source, copy-no_target, copy-overlaps, copy-too_long, copy-none, copy-no_room, copy-unread, copy-uncounted, copy-down, copy-done, rest-none, rest-done, pieces-nothing, pieces-done}
 use Rattle.jv_data.proofs.copying.copy_range.Goals as goal
 
 pub returns-in_err-source-clause-changes : goal.returns-in_err-source-clause-changes
@@ -67,6 +67,15 @@ returns-then-len-eq0-clause-rest g c =
     let apart : ((c.args.src == c.args.dst) && overlap c.args.from c.args.to c.min-len.result) ≡ false = sym c.overlaps.ensures ∙ c.if-overlaps.false in
     let within : nat_le (c.args.to + c.min-len.result) FILE_END ≡ true = (let e = c.ends_in_file.ensures in let t = c.if-not-ends_in_file.false in cc) in
     rest-none c.args.who.now.sid c.args.who.now.now c.args.src c.args.dst c.args.from c.args.to c.args.len (λ setting. 0) (g.K.Keeper.seen c.args.k.now) (g.K.Keeper.seen c.file.new.k)
+    c.in_ok-source.source c.in_ok-source.ensures (g.K.Keeper.seen c.file-2.new.k) c.in_ok-target.target c.in_ok-target.ensures
+    c.min-len.result n_is apart within
+
+pub returns-then-len-eq0-clause-pieces : goal.returns-then-len-eq0-clause-pieces
+returns-then-len-eq0-clause-pieces g c =
+    let n_is : c.min-len.result ≡ min c.args.len (min c.in_ok-source.source.length FILE_END - c.args.from) = omega arith in
+    let apart : ((c.args.src == c.args.dst) && overlap c.args.from c.args.to c.min-len.result) ≡ false = sym c.overlaps.ensures ∙ c.if-overlaps.false in
+    let within : nat_le (c.args.to + c.min-len.result) FILE_END ≡ true = (let e = c.ends_in_file.ensures in let t = c.if-not-ends_in_file.false in cc) in
+    pieces-nothing c.args.who.now.sid c.args.who.now.now c.args.src c.args.dst c.args.from c.args.to c.args.len (λ setting. 0) (g.K.Keeper.seen c.args.k.now) (g.K.Keeper.seen c.file.new.k)
     c.in_ok-source.source c.in_ok-source.ensures (g.K.Keeper.seen c.file-2.new.k) c.in_ok-target.target c.in_ok-target.ensures
     c.min-len.result n_is apart within
 
@@ -145,6 +154,22 @@ returns-in-Ok-clause-rest g c =
     let apart : ((c.args.src == c.args.dst) && overlap c.args.from c.args.to c.min-len.result) ≡ false = sym c.overlaps.ensures ∙ c.if-overlaps.false in
     let within : nat_le (c.args.to + c.min-len.result) FILE_END ≡ true = (let e = c.ends_in_file.ensures in let t = c.if-not-ends_in_file.false in cc) in
     rest-done c.args.who.now.sid c.seconds.result c.args.src c.args.dst c.args.from c.args.to c.args.len (λ setting. 0) (g.K.Keeper.seen c.args.k.now) (g.K.Keeper.seen c.file.new.k)
+    c.in_ok-source.source c.in_ok-source.ensures (g.K.Keeper.seen c.file-2.new.k) c.in_ok-target.target c.in_ok-target.ensures
+    c.min-len.result n_is apart within c.if-len-eq0.false (g.K.Keeper.seen c.resize.new.k) c.resize.new.draft
+    (subst (λ (m : ℕ). ResizesFile c.args.dst c.in_ok-target.target m c.seconds.result (g.K.Keeper.seen c.file-2.new.k) (g.K.Keeper.seen c.resize.new.k)
+    c.resize.new.draft (Ok tt)) c.max-length.ensures c.in_ok-resize.ensures)
+    (g.K.Keeper.seen c.copy_lists.new.k) c.copy_lists.new.draft c.in_ok-added.added c.in_ok-added.ensures
+    (g.K.Keeper.seen c.adjust.new.k) c.adjust.new.draft
+    (adjusts-as c.as_slice.result.now c.as_slice-2.result.now c.in_ok-added.added 0 (g.K.Keeper.seen c.copy_lists.new.k) (g.K.Keeper.seen c.adjust.new.k)
+    c.copy_lists.new.draft c.adjust.new.draft (Ok tt) (c.as_slice.ensures ∙ c.new-none.ensures) c.as_slice-2.ensures c.in_ok-adjust.ensures)
+    (g.K.Keeper.seen c.commit.new.k) c.in-Ok.ensures
+
+pub returns-in-Ok-clause-pieces : goal.returns-in-Ok-clause-pieces
+returns-in-Ok-clause-pieces g c =
+    let n_is : c.min-len.result ≡ min c.args.len (min c.in_ok-source.source.length FILE_END - c.args.from) = omega arith in
+    let apart : ((c.args.src == c.args.dst) && overlap c.args.from c.args.to c.min-len.result) ≡ false = sym c.overlaps.ensures ∙ c.if-overlaps.false in
+    let within : nat_le (c.args.to + c.min-len.result) FILE_END ≡ true = (let e = c.ends_in_file.ensures in let t = c.if-not-ends_in_file.false in cc) in
+    pieces-done c.args.who.now.sid c.seconds.result c.args.src c.args.dst c.args.from c.args.to c.args.len (λ setting. 0) (g.K.Keeper.seen c.args.k.now) (g.K.Keeper.seen c.file.new.k)
     c.in_ok-source.source c.in_ok-source.ensures (g.K.Keeper.seen c.file-2.new.k) c.in_ok-target.target c.in_ok-target.ensures
     c.min-len.result n_is apart within c.if-len-eq0.false (g.K.Keeper.seen c.resize.new.k) c.resize.new.draft
     (subst (λ (m : ℕ). ResizesFile c.args.dst c.in_ok-target.target m c.seconds.result (g.K.Keeper.seen c.file-2.new.k) (g.K.Keeper.seen c.resize.new.k)

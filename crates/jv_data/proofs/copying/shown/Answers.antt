@@ -3,7 +3,7 @@ use Rattle.std.proofs.lemmas.Result.{err_from_is_err_and}
 use Rattle.jv_model.specs.declared.slice.Piece.{Piece}
 use Rattle.jv_contents.specs.Fills.{records_of_plan}
 use Rattle.jv_data.specs.Copying.{pieces_len}
-use Rattle.jv_data.proofs.ShownLaws.{plan-len, showing-unread, showing-more, showing-all}
+use Rattle.jv_data.proofs.ShownLaws.{plan-len, cut-next, showing-none, showing-unread, showing-more, showing-all}
 use Rattle.jv_data.proofs.copying.shown.Goals as goal
 
 pub returns-in_err-list : goal.returns-in_err-list
@@ -19,13 +19,22 @@ push_pieces-requires g c =
     let same = ap pieces_len c.as_slice.ensures in
     omega (arith, long, same)
 
+pub loop-done-init : goal.loop-done-init
+loop-done-init g c = record {
+  within = omega arith;
+  cut = λ some less. absurd (omega (arith, some));
+  so_far = showing-none c.args.inode c.args.from c.args.pos (g.K.Keeper.seen c.args.k.now) c.new-shown.result c.new-shown.ensures;
+}
+
 pub loop-done-preserved : goal.loop-done-preserved
 loop-done-preserved g c = record {
   within = omega arith;
+  cut = λ some less. cut-next c.args.from c.args.len c.loop-done.done c.min-part.result c.loop-done.invariant.cut (omega arith) (omega arith) less;
   so_far =
       showing-more c.args.inode c.args.from c.args.pos c.args.len (g.K.Keeper.seen c.args.k.now) (g.K.Keeper.seen c.loop-done.k) c.loop-done.done c.loop-done.shown
       c.loop-done.invariant.so_far c.from.result c.from.ensures (g.K.Keeper.seen c.named_records.new.k) c.in_ok-list.list c.in_ok-list.ensures.read c.in_ok-list.ensures.named
       c.min-part.result (omega arith) c.in_ok-pieces.pieces c.in_ok-pieces.ensures.plan c.in_ok-pieces.ensures.says c.in_ok-pieces.ensures.parts (omega arith) (omega arith)
+      (λ some. c.loop-done.invariant.cut some (omega arith))
       c.push_pieces.new.shown
       (c.in_ok-push_pieces.ensures ∙ ap (λ (ps : List Piece). c.loop-done.shown ++ records_of_plan (c.args.pos + c.loop-done.done) ps) c.as_slice.ensures);
 }
