@@ -18,11 +18,11 @@ use Rattle.jv_outside.specs.Stream.{Stream}
 use Rattle.jv_outside.specs.Ticks.{Ticks}
 use Rattle.jv_yard.specs.declared.faults.YardFault.{YardFault}
 use Rattle.jv_yard.specs.declared.faults.YardFault.TheVariants as yard
-use Rattle.jv_yard.specs.Starting.{IsStarted}
+use Rattle.jv_yard.specs.Starting.{IsStarted, ShelfRefuses}
 use Rattle.jv_yard.specs.YardValue.{YardValue}
 use Rattle.jv_client.specs.Makes.{faults_of}
 use Rattle.jv_client.specs.Shared.{shared}
-use Rattle.jv_session.specs.Lines.{StaysOpen}
+use Rattle.jv_session.specs.Lines.{StaysPut}
 use Rattle.jv_session.proofs.UsesLaws.{no_failures}
 use Rattle.jv_cmd.specs.declared.ended.Ended.{Ended}
 use Rattle.jv_cmd.specs.declared.ended.Ended.TheVariants.{Whole, OffLine, NoVolume, VolumeExists, NewerVersion, SettingOff, BadRow, SourceFailed, OutFailed, ClockFailed, KeeperFailed, DepotFailed, CarrierFailed, ShelfFailed, OutOfMemory}
@@ -43,12 +43,48 @@ use Rattle.jv_cmd.specs.Stages.{StageValue, stage_value, staged, world_of, yard_
 use Rattle.jv_cmd.specs.Words.{IsRefusal}
 use Rattle.jv_cmd.specs.Worlds.{BlockDevices, WorldValue}
 
+-- the shelf has the blocks that it had
+
+shelf_of : (before after : BlockDevices) → after ≡ before → after.shelf.content ≡ before.shelf.content
+shelf_of before after same = ap (λ (blocks : BlockDevices). blocks.shelf.content) same
+
+shelf_unattached : (bucket folder : List ℕ) (before after : BlockDevices) (ended : Ended)
+    → CannotAttach bucket folder before after ended → after.shelf.content ≡ before.shelf.content
+shelf_unattached bucket folder before after ended (NoDepot down is depot carrier same) =
+    ap (λ (shelf : Holding StagedMap). shelf.content) same
+shelf_unattached bucket folder before after ended (NoCarrier down is depot carrier same) =
+    ap (λ (shelf : Holding StagedMap). shelf.content) same
+shelf_unattached bucket folder before after ended (NoShelf down is depot carrier shelf) = shelf.content_is
+
+shelf_refused : (before after : Holding StagedMap) (fault : YardFault) → ShelfRefuses before after fault
+    → after.content ≡ before.content
+shelf_refused before after yard.Depot refuses = absurd refuses
+shelf_refused before after yard.Shelf refuses = refuses.content_is
+shelf_refused before after yard.Memory same = ap (λ (shelf : Holding StagedMap). shelf.content) same
+
+shelf_session : (options : SessionOptions) (answers : Device → ℕ) (before after : WorldValue) (ended : Ended)
+    → SessionEnds options answers before after ended → after.blocks.shelf.content ≡ before.blocks.shelf.content
+shelf_session options answers before after ended (NotOpened cannot none same) =
+    shelf_of before.blocks after.blocks same
+shelf_session options answers before after ended (NotAttached setting known none cannot) =
+    shelf_unattached setting.bucket options.cache_dir before.blocks after.blocks ended cannot
+shelf_session options answers before after ended (NotStarted setting attached known none are cannot) =
+    shelf_refused attached.shelf after.blocks.shelf cannot.fault cannot.shelf ∙ are.shelf.content_is
+shelf_session options answers before after ended (Opened setting opened attached yard left known rows are started runs
+    uses is) = uses.blocks ∙ are.shelf.content_is
+
 pub RunsCommand-session : (command : Command) (place : List ℕ) (options : SessionOptions) (before after : WorldValue)
     (ended : Ended) → command ≡ Session place options → RunsSession place options before after ended
     → CountsFaults ended (in_world before) (in_world after) → RunsCommand command before after ended
 RunsCommand-session command place options before after ended is runs faults =
     subst (λ (c : Command). RunsCommand c before after ended) (sym is)
-    (record { answers = runs.answers; does = runs.ends; faults = faults; keeper = runs.keeper })
+    (record {
+      answers = runs.answers;
+      does = runs.ends;
+      faults = faults;
+      keeper = runs.keeper;
+      shelf = shelf_session options runs.answers before after ended runs.ends;
+    })
 
 pub RunsCommand-format : (command : Command) (place : List ℕ) (setting : Setting) (before after : WorldValue)
     (ended : Ended) → command ≡ Format place setting → Formats setting before after ended
@@ -56,7 +92,13 @@ pub RunsCommand-format : (command : Command) (place : List ℕ) (setting : Setti
     → RunsCommand command before after ended
 RunsCommand-format command place setting before after ended is formats faults keeper =
     subst (λ (c : Command). RunsCommand c before after ended) (sym is)
-    (record { answers = no_failures; does = (formats, λ device. refl); faults = faults; keeper = keeper })
+    (record {
+      answers = no_failures;
+      does = (formats, λ device. refl);
+      faults = faults;
+      keeper = keeper;
+      shelf = shelf_of before.blocks after.blocks formats.blocks;
+    })
 
 -- they were none
 pub RunsAsked-refused : (words : List Text) (asked : Option Command) (before : WorldValue) (err : Stream)
@@ -86,6 +128,7 @@ unread words (Some (Format place setting)) before err says = record {
     does = (record { ends = (tt, refl, refl); source = refl; blocks = refl; journal = refl }, λ device. refl);
     faults = record { source = refl; out = refl; clock = refl };
     keeper = record { opened = Unopened refl; faults = refl };
+    shelf = refl;
   };
   result = refl;
   drawn = λ drawn same. absurd (omega (arith, same));
@@ -98,6 +141,7 @@ unread words (Some (Session place options)) before err says = record {
     does = NotOpened tt (none_run before) refl;
     faults = record { source = refl; out = refl; clock = refl };
     keeper = record { opened = Unopened refl; faults = refl };
+    shelf = refl;
   };
   result = refl;
   drawn = λ drawn same. absurd (omega (arith, same));
@@ -113,7 +157,7 @@ RunsAsked-unread words asked before err status says result = subst
 
 -- the keeper was opened before the lines, and stays so
 module _ (before after : StageValue) (place : List ℕ) (old : Store) (answers : Device → ℕ) (opened : before.devices.keeper.opened ≡ Some place)
-    (calm : before.devices.keeper.faults ≡ old.faults) (stays : StaysOpen before.devices after.devices)
+    (calm : before.devices.keeper.faults ≡ old.faults) (stays : StaysPut before.devices after.devices)
     (counts : (device : Device) → RoseTimes (answers device) (faults_of device before.devices) (faults_of device after.devices)) where
   rose : RoseTimes (answers Keeper) old.faults after.devices.keeper.faults
   rose = subst (λ count. RoseTimes (answers Keeper) count after.devices.keeper.faults) calm (counts Keeper)
@@ -308,6 +352,7 @@ UsesBlocks-lines seed setting limits before yard left ended started e = record {
   depot_at = e.stays.depot_at ∙ ap (λ (d : Holding ObjectMap). d.opened) started.depot_same;
   shelf_at = e.stays.shelf_at ∙ ap (λ (h : Holding StagedMap). h.opened) started.shelf_same;
   carrier_at = e.stays.carrier_at;
+  blocks = e.stays.blocks ∙ ap (λ (h : Holding StagedMap). h.content) started.shelf_same;
   depot = subst (λ (d : Holding ObjectMap). RoseTimes (e.answers Depot) d.faults left.devices.yard.depot.faults) started.depot_same (e.counts Depot);
   shelf = subst (λ (h : Holding StagedMap). RoseTimes (e.answers Shelf) h.faults left.devices.yard.shelf.faults) started.shelf_same (e.counts Shelf);
   carrier = e.counts Carrier;

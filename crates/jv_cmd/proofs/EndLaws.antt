@@ -9,10 +9,11 @@ use Rattle.jv_model.specs.journal.Legal.{may_be_cut}
 use Rattle.jv_model.specs.journal.Past.{Past, at_end, text_of}
 use Rattle.jv_outside.specs.Causes.{RoseTimes}
 use Rattle.jv_outside.specs.Stream.{Gains}
-use Rattle.jv_shared.specs.Shared.{Shared}
+use Rattle.jv_contents.proofs.BlockLaws.{grows-then}
+use Rattle.jv_shared.specs.Shared.{Shared, present_in}
 use Rattle.jv_client.specs.Built.{is_built_line}
 use Rattle.jv_client.specs.Makes.{faults_of}
-use Rattle.jv_session.specs.Lines.{BreaksAt, Cut, CutsLine, LineUses, StaysOpen, device_failures}
+use Rattle.jv_session.specs.Lines.{BlocksStay, BreaksAt, Cut, CutsLine, LineUses, StaysPut, device_failures}
 use Rattle.jv_session.specs.Stands.{InLine, ScheduleValue, Stands}
 use Rattle.jv_session.proofs.UsesLaws.{both_failures}
 use Rattle.jv_cmd.specs.declared.ended.Ended.{Ended}
@@ -89,6 +90,7 @@ module _ (left : Option (List ℕ)) (before now after : StageValue) (n : ℕ) (t
     legal = Legal-reached (session_run start known d.lines (status_of ended)) n d.asked text after.journal s
         after.devices d.count (at_last start w known (status_of ended) t);
     printed = prints;
+    kept = subst (BlocksStay before.devices) (sym idle.devices) (d.whole start w).kept;
     leaves = Leaves-stands _ s after.devices (Stands-last start w known (status_of ended) t);
   }
 
@@ -114,7 +116,7 @@ module _ (left : Option (List ℕ)) (before now after : StageValue) (n : ℕ) (t
       whole = λ start known w t. RunsWhole-last ended start known w t (prints start known w t);
     };
     faults = faults;
-    stays = subst (λ (v : Shared). StaysOpen before.devices v) (sym idle.devices) d.uses.stays;
+    stays = subst (λ (v : Shared). StaysPut before.devices v) (sym idle.devices) d.uses.stays;
     counts = λ device. subst (λ (v : Shared). RoseTimes (d.failed device) (faults_of device before.devices) (faults_of device v))
         (sym idle.devices) (d.uses.counts device);
   }
@@ -197,6 +199,12 @@ module _ (left left' : Option (List ℕ)) (before now after : StageValue) (n : �
         (sym (printed-cut (session_run start known (d.lines ++ line ∷ []) status) line n d.asked c.asks text
         (used now s) (used after s') size_cut (reaches_cut known status t) (cut_there known status t))) gains
 
+    kept_cut : BlocksStay before.devices after.devices
+    kept_cut = grows-then (present_in before.devices) (present_in now.devices) (present_in after.devices) (d.whole start w).kept
+        (comes_settled left before now after n text line s s' d c.asks c.uses.passes start w
+        (λ p more. BlocksStay now.devices after.devices)
+        (λ p more stands next rest count clock. (c.stops p more stands next rest count clock).kept))
+
     pub RunsWhole-cut : (ended : Ended) → may_be_cut (status_of ended) ≡ true → (known : Option (ℕ → ℕ))
         → IsKnownClock known before.clock after.clock
         → Prints ended start known before after (d.lines ++ line ∷ [])
@@ -208,6 +216,7 @@ module _ (left left' : Option (List ℕ)) (before now after : StageValue) (n : �
           legal = Legal-cut run line n d.asked c.asks text (used now s) (used after s') size_cut
               (reaches_cut known (status_of ended) t) cut cuts;
           printed = prints;
+          kept = kept_cut;
           leaves = Leaves-in_line _ s' after.devices (InLine-cut run line n d.asked c.asks text (used now s)
               (used after s') size_cut (reaches_cut known (status_of ended) t) cut);
         }

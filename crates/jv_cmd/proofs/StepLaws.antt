@@ -13,7 +13,7 @@ use Rattle.jv_outside.specs.Ticks.{Ticks}
 use Rattle.jv_outside.proofs.StreamLaws.{Gains-nil}
 use Rattle.jv_session.specs.Lines.{LineState, LeavesAll, SaysLine, Cut}
 use Rattle.jv_session.specs.Stands.{InLine, ScheduleValue, Stands}
-use Rattle.jv_session.proofs.UsesLaws.{no_failures, uses_nothing}
+use Rattle.jv_session.proofs.UsesLaws.{blocks_stay, no_failures, uses_nothing}
 use Rattle.jv_cmd.specs.Steps.{IsAt, Reaches, Goes, Advances, PrintsLine, used}
 use Rattle.jv_cmd.specs.Stages.{StageValue}
 
@@ -97,6 +97,7 @@ Advances-said line number before after s s' text says = record {
               text = ap (λ printed. printed ++ ran.end.said) a.printed ∙ ap (λ said. p.printed ++ p.said ++ said) ran.said;
             });
       };
+  kept = λ p more stands next rest count clock. (says.runs p more stands next rest count clock).kept;
 }
 
 -- where nothing more is due of the present line, the schedule stands too
@@ -161,6 +162,7 @@ Advances-quiet line number before after s s' empty leaves = record {
               text = refl;
             });
       };
+  kept = λ p more stands next rest count clock. blocks_stay before.devices after.devices leaves.devices;
 }
 
 -- a line that does nothing prints nothing

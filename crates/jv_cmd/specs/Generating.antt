@@ -17,7 +17,7 @@ use Rattle.jv_outside.specs.Stream.{Stream, HasAll, IsCut}
 use Rattle.jv_client.specs.Makes.{faults_of}
 use Rattle.jv_generator.specs.Script.{script}
 use Rattle.jv_generator.specs.Summary.{summary_line, totals_of}
-use Rattle.jv_session.specs.Lines.{StaysOpen}
+use Rattle.jv_session.specs.Lines.{StaysPut}
 use Rattle.jv_cmd.specs.declared.ended.Ended.{Ended}
 use Rattle.jv_cmd.specs.declared.ended.Ended.TheVariants.{Whole, OutFailed, OutOfMemory}
 use Rattle.jv_cmd.specs.Ends.{status_of}
@@ -136,5 +136,5 @@ pub record EndsScript (seed : Option ℕ) (before after : StageValue) (ended : E
   pub answers : Device → ℕ
   pub runs : RunsScript seed answers before after ended
   pub faults : CountsFaults ended (on_stage before) (on_stage after)
-  pub stays : StaysOpen before.devices after.devices
+  pub stays : StaysPut before.devices after.devices
   pub counts : (device : Device) → RoseTimes (answers device) (faults_of device before.devices) (faults_of device after.devices)

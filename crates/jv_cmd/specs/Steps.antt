@@ -14,7 +14,7 @@ use Rattle.jv_outside.specs.Ticks.{Passes}
 use Rattle.jv_shared.specs.Shared.{Shared}
 use Rattle.jv_client.specs.Built.{is_built_line}
 use Rattle.jv_client.specs.Makes.{faults_of}
-use Rattle.jv_session.specs.Lines.{AreFailures, BreaksAt, CutsLine, FromThere, LineState, LineUses, StaysOpen, line_state}
+use Rattle.jv_session.specs.Lines.{AreFailures, BlocksStay, BreaksAt, CutsLine, FromThere, LineState, LineUses, StaysPut, line_state}
 use Rattle.jv_session.specs.Stands.{ScheduleValue, Stands}
 use Rattle.jv_cmd.specs.declared.ended.Ended.{Ended}
 use Rattle.jv_cmd.specs.declared.ended.Ended.TheVariants.{OffLine, BadRow, OutFailed, ClockFailed, OutOfMemory}
@@ -50,6 +50,7 @@ AreBetween low high (act ∷ acts) = (low ≤ act.line) × (act.line ≤ high) �
 pub record DoneOn (start : Beginning) (before now : StageValue) (lines : List Line) (done asked : ℕ) (text : List ℕ)
     (s : ScheduleValue) : Type 0 where
   pub own : AreBetween 0 done now.journal
+  pub kept : BlocksStay before.devices now.devices
   pub reaches : (known : Option (ℕ → ℕ)) (more : List Line) (status : ℕ) → IsKnownClock known before.clock now.clock
       → Reaches (session_run start known (lines ++ more) status) more done asked text now.journal s now.devices
 
@@ -57,7 +58,7 @@ pub record DoneOn (start : Beginning) (before now : StageValue) (lines : List Li
 -- answered so.
 pub record HasUsed (before now : StageValue) (asked : ℕ) (failed : Device → ℕ) : Type 0 where
   pub passes : Passes before.clock.answers now.clock.answers asked
-  pub stays : StaysOpen before.devices now.devices
+  pub stays : StaysPut before.devices now.devices
   pub counts : (device : Device) → RoseTimes (failed device) (faults_of device before.devices) (faults_of device now.devices)
   pub counted : AreFailures now.journal failed
 
@@ -96,7 +97,7 @@ pub record EndsLines (before after : StageValue) (ended : Ended) : Type 0 where
   pub answers : Device → ℕ
   pub runs : RunsLines answers before after ended
   pub faults : CountsFaults ended (on_stage before) (on_stage after)
-  pub stays : StaysOpen before.devices after.devices
+  pub stays : StaysPut before.devices after.devices
   pub counts : (device : Device) → RoseTimes (answers device) (faults_of device before.devices) (faults_of device after.devices)
 
 -- one line more was run, or the run ended
@@ -125,6 +126,7 @@ pub record Advances (line : Line) (number : ℕ) (before after : StageValue) (s 
   pub uses : LineUses (used before s) (used after s') asks failed
   pub goes : FromThere line number (used before s) (used after s')
       (λ p more. Goes p more number asks before.journal after.journal printed s' after.devices)
+  pub kept : FromThere line number (used before s) (used after s') (λ p more. BlocksStay before.devices after.devices)
 
 -- a text that is no line, or a line that isn't built
 pub data IsOffText (text : List ℕ) (limits : Limits) : Type 0 where

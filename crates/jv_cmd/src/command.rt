@@ -32,7 +32,7 @@ use std::alloc::Global;
 /// Once a session has read the volume's setting, it opens the depot and then the carrier at the setting's bucket, and
 /// then the shelf at the folder of `--cache-dir`. The first of them that isn't opened ends the run before its first line,
 /// and those after it aren't called. Then it lists the blocks on the shelf, and ends before its first line where that
-/// fails. `format` calls none of them.
+/// fails. `format` calls none of them. No command changes the blocks on the shelf.
 ///
 /// The status is 0 if the command did its work: every line of the source was run, or the volume is formatted. It is 2 if
 /// the words are refused, 3 if the next line isn't run (a drawn script has no such line), 4 if there is no volume for a

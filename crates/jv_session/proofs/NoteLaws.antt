@@ -36,7 +36,7 @@ use Rattle.jv_session.specs.Lines.{LineState, LineUses, line_state}
 use Rattle.jv_session.specs.InLine.{Goes, Finish, FromLine, LineGoes, LineSays, IsMomentOf, HasNoted, Notes, IsRefused, Crashes, Passing, end_of}
 use Rattle.jv_session.proofs.MemberLaws.{slice_get_inside}
 use Rattle.jv_session.proofs.StateLaws.{state_noted, state_with}
-use Rattle.jv_session.proofs.UsesLaws.{failures_none, no_failures, uses_clock}
+use Rattle.jv_session.proofs.UsesLaws.{blocks_stay, failures_none, no_failures, uses_clock}
 use Rattle.jv_session.proofs.InLineLaws.{MayBreak, is_now, line_goes_on, says, stops_at}
 
 -- the moment, where no further second passes
@@ -143,6 +143,7 @@ module _ (v : Shared) (number : ℕ) (clock ticked : Ticks) (journal more : List
             (state_noted q.run.start h.known q.state s.clients v h.state r.state n.tree
             (let e = n.count in omega (arith, e))
             (copied_noted q r (entry_of q.line now client kind) n.leads refl refl) ran.1.clients);
+        kept = blocks_stay v v refl;
         over = is_over_at r NoMore n.done.due_is tt;
         said = n.done.said_is ∙ ap (λ (setting : Setting). printed_line setting (Refused fault)) h.setting;
       })
@@ -175,6 +176,7 @@ module _ (v : Shared) (number : ℕ) (clock ticked : Ticks) (journal more : List
               holds = subst (λ (x : ModelClient). Holds r.state.tree x) (sym ran.1.own)
                   (holds-unmounted r.state.tree);
             }));
+        kept = blocks_stay v v refl;
         over = is_over_at r NoMore n.done.due_is tt;
         said = n.done.said_is;
       })
@@ -205,6 +207,7 @@ module _ (v : Shared) (number : ℕ) (clock ticked : Ticks) (journal more : List
             (let e = n.count in omega (arith, e))
             (copied_noted q r (entry_of q.line now NO_CLIENT (Ticked by)) n.leads refl
             (ticked_copies q.state q.line now NO_CLIENT by (q.state.clients NO_CLIENT).doing)) ran.1.clients);
+        kept = blocks_stay v v refl;
         over = is_over_at r NoMore n.done.due_is tt;
         said = n.done.said_is;
       })

@@ -19,6 +19,8 @@ use Rattle.jv_laws.proofs.StepsOnLines.{ToItsEnd}
 use Rattle.jv_outside.specs.Causes.{Rose}
 use Rattle.jv_outside.specs.Ticks.{Ticks, Passes}
 use Rattle.jv_outside.proofs.TicksLaws.{Passes-trans}
+use Rattle.jv_contents.proofs.BlockLaws.{grows-then}
+use Rattle.jv_shared.specs.Shared.{present_in}
 use Rattle.jv_client.specs.ClientValue.{ClientValue}
 use Rattle.jv_client.specs.UnderWay.{steps_left}
 use Rattle.jv_session.specs.declared.line_end.LineEnd.{LineEnd}
@@ -26,10 +28,10 @@ use Rattle.jv_session.specs.declared.line_end.LineEnd.TheVariants.{Broken as Lin
 use Rattle.jv_session.specs.declared.line_end.Stopped.{Stopped}
 use Rattle.jv_session.specs.declared.line_end.Stopped.TheVariants as stopped
 use Rattle.jv_session.specs.Stands.{ScheduleValue, ClockFor, InLine, IsYardOf, busy_in, client_is_busy}
-use Rattle.jv_session.specs.Lines.{LineState, LineUses}
+use Rattle.jv_session.specs.Lines.{BlocksStay, LineState, LineUses}
 use Rattle.jv_session.specs.InLine.{Goes, Finish, Break, Breaks, FromLine, LineGoes, LineSays, StopsBefore, RunsToEnd, at_moment, end_of}
 use Rattle.jv_session.proofs.MemberLaws.{slice_get-set}
-use Rattle.jv_session.proofs.UsesLaws.{both_failures, no_failures, stopped_bad, uses_none, uses_nothing, uses_still, uses_then}
+use Rattle.jv_session.proofs.UsesLaws.{blocks_stay, both_failures, no_failures, stopped_bad, uses_none, uses_nothing, uses_still, uses_then}
 use Rattle.jv_session.proofs.InLineLaws.{LeavesRest, StepMade, Stepped, Stepping, clock_later, failed_in, goes_none, in_line-left, line_goes_on, says, step_made, stepped_uses}
 
 -- entries one after another
@@ -50,6 +52,7 @@ pub record SoFar (q : Past) (client asks : ℕ) (start now : LineState) : Type 0
   pub there : Past
   pub goes : Goes q asks start.journal now.journal acts there
   pub in_line : InLine there now.schedule now.devices
+  pub kept : BlocksStay start.devices now.devices
   pub due : there.due ≡ ToAnswer client
 
 -- from each past where the line may stand, when the clock's answers from here on are those of the run's clock
@@ -83,6 +86,7 @@ reached_none client number start busy yard = record {
         there = q;
         goes = goes_none q start.journal count;
         in_line = h;
+        kept = blocks_stay start.devices start.devices refl;
         due = due;
       };
 }
@@ -140,6 +144,9 @@ module _ (client number : ℕ) (start now later : LineState) (h : Reached client
       goes_more = goes_then q f.there made.end h.asks 1 start.journal now.journal later.journal f.acts acts_then
           f.goes made.goes
 
+      kept_more : BlocksStay start.devices later.devices
+      kept_more = grows-then (present_in start.devices) (present_in now.devices) (present_in later.devices) f.kept made.kept
+
   leads_more_steps : (m : Stepped number client now later More)
       → LeadsSoFar client number (h.asks + 1) start later
   leads_more_steps m final n q due line_at line count clock passes =
@@ -151,6 +158,7 @@ module _ (client number : ℕ) (start now later : LineState) (h : Reached client
         there = made.end;
         goes = goes_more More m q f made;
         in_line = made.in_line;
+        kept = kept_more More m q f made;
         due = made.on.after.due_is;
       }
 
@@ -179,6 +187,7 @@ module _ (client number : ℕ) (start now later : LineState) (h : Reached client
         end = made.end;
         goes = goes_more (Done reply) m q f made;
         in_line = made.in_line;
+        kept = kept_more (Done reply) m q f made;
         over = is_over_at made.end NoMore made.on.after.due_is tt;
         said = made.on.after.said_is ∙ ap (λ (setting : Setting). printed_line setting reply) made.in_line.setting;
       }
@@ -203,6 +212,8 @@ module _ (client number : ℕ) (start now later : LineState) (h : Reached client
         end = f.there;
         goes = subst (λ more. Goes q h.asks start.journal more f.acts f.there) (sym left.journal) f.goes;
         in_line = in_line-left f.there now later left f.in_line;
+        kept = grows-then (present_in start.devices) (present_in now.devices) (present_in later.devices) f.kept
+            (blocks_stay now.devices later.devices left.devices);
         stops = may_be_cut_at f.there (ToAnswer client) f.due
             (line_goes_on f.there now.schedule now.devices client c f.in_line found);
       }

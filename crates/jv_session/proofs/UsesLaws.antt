@@ -24,7 +24,7 @@ use Rattle.jv_client.specs.declared.made.Made.{Made}
 use Rattle.jv_client.specs.declared.made.Made.TheVariants as made
 use Rattle.jv_client.specs.Makes.{FailsAlone, TellsBad, UsesDevices, entries_of, faults_of, is_failure_entry, is_failure_of, kinds_of, step_of, tells_failure}
 use Rattle.jv_session.specs.Stands.{ScheduleValue, IsYardOf}
-use Rattle.jv_session.specs.Lines.{AnswersSo, LineState, LineUses, StaysOpen, AreFailures, device_failures}
+use Rattle.jv_session.specs.Lines.{AnswersSo, BlocksStay, LineState, LineUses, StaysPut, AreFailures, device_failures}
 use Rattle.jv_session.specs.InLine.{at_moment}
 
 -- how often a count rose
@@ -114,17 +114,22 @@ answers_still : (first second third : List Act) (f : Device → ℕ) → Answers
     → AnswersSo first third f
 answers_still first second third f a same = record { acts = a.acts; grows = same ∙ a.grows; failures = a.failures }
 
+-- blocks stay where devices are the same
+pub blocks_stay : (before after : Shared) → after ≡ before → BlocksStay before after
+blocks_stay before after same = subst (BlocksStay before) (sym same) (λ b bytes is. is)
+
 -- what a line uses
 
-stays_none : (v : Shared) → StaysOpen v v
-stays_none v = record { keeper_at = refl; carrier_at = refl; depot_at = refl; shelf_at = refl; setting = refl }
+pub stays_none : (v : Shared) → StaysPut v v
+stays_none v = record { keeper_at = refl; carrier_at = refl; depot_at = refl; shelf_at = refl; blocks = refl; setting = refl }
 
-pub stays_then : (first second third : Shared) → StaysOpen first second → StaysOpen second third → StaysOpen first third
+pub stays_then : (first second third : Shared) → StaysPut first second → StaysPut second third → StaysPut first third
 stays_then first second third a b = record {
   keeper_at = b.keeper_at ∙ a.keeper_at;
   carrier_at = b.carrier_at ∙ a.carrier_at;
   depot_at = b.depot_at ∙ a.depot_at;
   shelf_at = b.shelf_at ∙ a.shelf_at;
+  blocks = b.blocks ∙ a.blocks;
   setting = b.setting ∙ a.setting;
 }
 
@@ -156,7 +161,7 @@ pub uses_clock : (before after : LineState) (asks : ℕ) → Passes before.clock
     → after.schedule.limits ≡ before.schedule.limits → LineUses before after asks no_failures
 uses_clock before after asks passes same answers later limits = record {
   passes = passes;
-  stays = subst (StaysOpen before.devices) (sym same) (stays_none before.devices);
+  stays = subst (StaysPut before.devices) (sym same) (stays_none before.devices);
   counts = λ device. ap (faults_of device) same;
   answers = answers;
   yard = λ h. subst (λ (v : Shared). IsYardOf after.schedule v.yard) (sym same)
@@ -208,6 +213,7 @@ uses_step before after line now client made appends alone passes uses at limits 
     carrier_at = uses.carrier_at;
     depot_at = uses.depot_at;
     shelf_at = uses.shelf_at;
+    blocks = uses.blocks;
     setting = uses.setting;
   };
   counts = λ device. rose_times-if (tells_failure device made) (faults_of device before.devices)

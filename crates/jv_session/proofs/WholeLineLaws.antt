@@ -34,7 +34,7 @@ use Rattle.jv_session.specs.Lines.{LineState, LineUses, line_state, Appends, Ran
 use Rattle.jv_session.specs.InLine.{Goes, Finish, Break, FromLine, Finishes, Breaks, FindsBad, LineGoes, LineSays, RunsToEnd, StepsOnce, IsRefused, Crashes, Passing, HasBegun, HasRefused}
 use Rattle.jv_session.proofs.MemberLaws.{slice_get_inside}
 use Rattle.jv_session.proofs.StateLaws.{client_at, set_state}
-use Rattle.jv_session.proofs.UsesLaws.{no_failures, uses_none}
+use Rattle.jv_session.proofs.UsesLaws.{blocks_stay, no_failures, uses_none}
 use Rattle.jv_session.proofs.InLineLaws.{goes_none}
 
 -- where the line begun stands for the call that goes on with it
@@ -328,6 +328,7 @@ module _ (p q : Past) (more : List Line) (number : ℕ) (due : Due) (said : List
       known = f.in_line.known;
       state = f.in_line.state;
     };
+    kept = f.kept;
     said = f.said;
   }
 
@@ -338,6 +339,7 @@ module _ (p q : Past) (more : List Line) (number : ℕ) (due : Due) (said : List
     end = f.end;
     appends = appends f.acts f.end next begins b f.goes;
     stands = f.in_line;
+    kept = f.kept;
     stops = f.stops;
   }
 
@@ -380,6 +382,7 @@ module _ (line : Line) (number : ℕ) (before after : LineState) (s1 : ScheduleV
     end = f.end;
     goes = f.goes;
     in_line = f.in_line;
+    kept = f.kept;
     over = f.over;
     said = f.said;
   }
@@ -390,6 +393,7 @@ module _ (line : Line) (number : ℕ) (before after : LineState) (s1 : ScheduleV
     end = f.end;
     goes = f.goes;
     in_line = f.in_line;
+    kept = f.kept;
     stops = f.stops;
   }
 
@@ -468,6 +472,7 @@ module _ (text : List ℕ) (number : ℕ) (clock : Ticks) (v : Shared) (journal 
           end = q;
           goes = goes_none q journal count;
           in_line = i;
+          kept = blocks_stay v v refl;
           over = alone.over;
           said = alone.said;
         };
@@ -485,6 +490,7 @@ module _ (text : List ℕ) (number : ℕ) (clock : Ticks) (v : Shared) (journal 
             end = q;
             goes = goes_none q journal count;
             in_line = i;
+            kept = blocks_stay v v refl;
             stops = or_left
                 (is_over q) (may_stop q) alone.over;
           };

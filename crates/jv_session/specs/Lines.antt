@@ -10,8 +10,9 @@ use Rattle.jv_outside.specs.Causes.{Rose, RoseTimes}
 use Rattle.jv_outside.specs.Ticks.{Ticks, Passes}
 use Rattle.jv_rows.specs.Transactions.{IsBad}
 use Rattle.jv_volume.specs.TypedRows.{typed}
+use Rattle.jv_contents.specs.Blocks.{Grows}
 use Rattle.jv_yard.specs.YardValue.{YardValue}
-use Rattle.jv_shared.specs.Shared.{Shared}
+use Rattle.jv_shared.specs.Shared.{Shared, present_in}
 use Rattle.jv_client.specs.Makes.{faults_of, is_failure_entry}
 use Rattle.jv_session.specs.declared.line_end.LineEnd.{LineEnd}
 use Rattle.jv_session.specs.declared.line_end.LineEnd.TheVariants.{Said, Quiet, ClockFailed, Broken, Memory}
@@ -53,12 +54,17 @@ pub record Appends (p : Past) (more : List Line) (number asks : ℕ) (before aft
   pub asked : q.asked ≡ p.asked + asks
   pub printed : q.printed ≡ p.printed ++ p.said
 
+-- each block that the depot had it has later, with its bytes
+abbrev pub BlocksStay : Shared → Shared → Type 0
+BlocksStay before after = Grows (present_in before) (present_in after)
+
 -- the line is done and prints this
 pub record Ran (p : Past) (more : List Line) (number asks : ℕ) (before after : LineState) (text : List ℕ) : Type 0 where
   pub acts : List Act
   pub end : Past
   pub appends : Appends p more number asks before.journal after.journal acts end
   pub stands : Stands end after.schedule after.devices
+  pub kept : BlocksStay before.devices after.devices
   pub said : end.said ≡ text
 
 -- the run stopped on the line, before a step or after its last one, and the schedule stands where it is then
@@ -67,6 +73,7 @@ pub record Cut (p : Past) (more : List Line) (number asks : ℕ) (before after :
   pub end : Past
   pub appends : Appends p more number asks before.journal after.journal acts end
   pub stands : InLine end after.schedule after.devices
+  pub kept : BlocksStay before.devices after.devices
   pub stops : (is_over end || may_stop end) ≡ true
 
 -- From wherever the schedule stands, when the clock still shows what the run's clock shows: the outcome of the line.
@@ -74,19 +81,20 @@ abbrev pub FromThere : Line → ℕ → LineState → LineState → (Past → Li
 FromThere line number before after Comes = (p : Past) (more : List Line) → Stands p before.schedule before.devices → p.line + 1 ≡ number → p.rest ≡ line ∷ more
     → p.state.count ≡ length before.journal → ClockFor p.run.clock p.asked before.clock.answers after.clock.answers → Comes p more
 
--- devices are open where they were, and the yard is one of the same volume
-pub record StaysOpen (before after : Shared) : Type 0 where
+-- devices are open where they were, the shelf has the blocks that it had, and the yard is one of the same volume
+pub record StaysPut (before after : Shared) : Type 0 where
   pub keeper_at : after.keeper.opened ≡ before.keeper.opened
   pub carrier_at : after.carrier.opened ≡ before.carrier.opened
   pub depot_at : after.yard.depot.opened ≡ before.yard.depot.opened
   pub shelf_at : after.yard.shelf.opened ≡ before.yard.shelf.opened
+  pub blocks : after.yard.shelf.content ≡ before.yard.shelf.content
   pub setting : after.yard.setting ≡ before.yard.setting
 
 -- What a line does to clock and devices, whatever these hold: how often the clock was asked, and how often each device failed, which
 -- as many of its entries answer. The schedule has the same limits, and may go on with the yard.
 pub record LineUses (before after : LineState) (asks : ℕ) (failed : Device → ℕ) : Type 0 where
   pub passes : Passes before.clock.answers after.clock.answers asks
-  pub stays : StaysOpen before.devices after.devices
+  pub stays : StaysPut before.devices after.devices
   pub counts : (device : Device) → RoseTimes (failed device) (faults_of device before.devices) (faults_of device after.devices)
   pub answers : AnswersSo before.journal after.journal failed
   pub yard : IsYardOf before.schedule before.devices.yard → IsYardOf after.schedule after.devices.yard
