@@ -1,7 +1,8 @@
 //! Reads scenes.
 use crate::device::Device;
 use crate::scene::{Again, Further, Piece, Scene, Sweep, Words};
-use jv_model::{Bytes, LAST_MOMENT, Moment, RowKey, Sequence};
+use jv_model::{Bytes, ClientId, LAST_MOMENT, Moment, Name, RowKey, Sequence, copied};
+use jv_outside::{Object, Staged};
 use std::alloc::{AllocError, AllocFailed, Global};
 
 /// Why a line is no line of a scene.
@@ -21,6 +22,9 @@ pub enum BadLine {
     NotFail,
     NotRows,
     NotRow,
+    NotObject,
+    NotStaged,
+    NoClient,
     NotShow,
     NotSweep,
     OutOfMemory,
@@ -44,6 +48,9 @@ impl BadLine {
             BadLine::NotFail => "the form is `fail DEVICE K ..`",
             BadLine::NotRows => "the form is `rows fresh` or `rows none`",
             BadLine::NotRow => "the form is `row TAB A B VALUE`",
+            BadLine::NotObject => "the form is `object NAME BYTES MOMENT`",
+            BadLine::NotStaged => "the form is `staged CLIENT NAME BYTES`",
+            BadLine::NoClient => "no such client",
             BadLine::NotShow => "the form is `show rows` or `show blocks`",
             BadLine::NotSweep => "the form is `for k FIRST..LAST DEVICE`",
             BadLine::OutOfMemory => "out of memory",
@@ -190,7 +197,8 @@ fn read_key(alloc: Global, scene: &mut Scene, key: &str, rest: &str) -> Result<(
         "words" | "word" | "long" => read_words(alloc, scene, key, rest),
         "lines" | "text" | "bytes" => read_piece(alloc, scene, key, rest),
         "again" | "try" | "then" => read_run(alloc, scene, key, rest),
-        "rows" | "row" | "clock" | "fail" | "in_pieces_of" => read_device(alloc, scene, key, rest),
+        "rows" | "row" | "object" | "staged" => read_store(alloc, scene, key, rest),
+        "clock" | "fail" | "in_pieces_of" => read_device(scene, key, rest),
         "show" => show(scene, rest),
         "for" => {
             scene.sweeps.push(sweep(rest)?)?;
@@ -212,11 +220,20 @@ fn read_words(alloc: Global, scene: &mut Scene, key: &str, rest: &str) -> Result
     }
 }
 
-/// Reads a line about what a device holds, or how it answers.
-fn read_device(alloc: Global, scene: &mut Scene, key: &str, rest: &str) -> Result<(), BadLine> {
+/// Reads a line about what the keeper, the depot or the shelf holds.
+fn read_store(alloc: Global, scene: &mut Scene, key: &str, rest: &str) -> Result<(), BadLine> {
     match key {
         "rows" => scene.is_fresh = is_fresh(rest)?,
         "row" => scene.rows.push(row(alloc, rest)?)?,
+        "object" => scene.objects.push(object(alloc, rest)?)?,
+        _ => scene.staged.push(staged(alloc, rest)?)?,
+    }
+    Ok(())
+}
+
+/// Reads a line about how a device answers.
+fn read_device(scene: &mut Scene, key: &str, rest: &str) -> Result<(), BadLine> {
+    match key {
         "clock" => scene.clock = moment(rest)?,
         "fail" => add_fails(scene, rest)?,
         _ => scene.most = most(rest)?,
@@ -401,6 +418,53 @@ fn row(alloc: Global, rest: &str) -> Result<(RowKey, Bytes), BadLine> {
     let b = Sequence::from_vec(bytes(alloc, b)?);
     let value = Sequence::from_vec(bytes_in_parts(alloc, value)?);
     Ok((RowKey { tab, a, b }, value))
+}
+
+/// An object of the depot: its name, bytes and moment.
+fn object(alloc: Global, rest: &str) -> Result<Object, BadLine> {
+    let wanted = BadLine::NotObject;
+    let (name, rest) = rest.split_once(" ").ok_or(wanted)?;
+    let (bytes, at) = rest.rsplit_once(" ").ok_or(wanted)?;
+    Ok(Object {
+        name: named(alloc, name, wanted)?,
+        bytes: Sequence::from_vec(bytes_in_parts(alloc, bytes)?),
+        at: moment(at)?,
+    })
+}
+
+/// A block that a client has staged: the client, the block's name and bytes.
+fn staged(alloc: Global, rest: &str) -> Result<Staged, BadLine> {
+    let wanted = BadLine::NotStaged;
+    let (letter, rest) = rest.split_once(" ").ok_or(wanted)?;
+    let (name, bytes) = rest.split_once(" ").ok_or(wanted)?;
+    Ok(Staged {
+        client: client(letter)?,
+        name: named(alloc, name, wanted)?,
+        bytes: Sequence::from_vec(bytes_in_parts(alloc, bytes)?),
+    })
+}
+
+/// The client of a letter.
+fn client(letter: &str) -> Result<ClientId, BadLine> {
+    match letter {
+        "A" => Ok(ClientId(0)),
+        "B" => Ok(ClientId(1)),
+        "C" => Ok(ClientId(2)),
+        "D" => Ok(ClientId(3)),
+        "E" => Ok(ClientId(4)),
+        "F" => Ok(ClientId(5)),
+        "G" => Ok(ClientId(6)),
+        "H" => Ok(ClientId(7)),
+        _ => Err(BadLine::NoClient),
+    }
+}
+
+/// A name of an object or a block, which is never empty.
+fn named(alloc: Global, text: &str, wanted: BadLine) -> Result<Name, BadLine> {
+    if text.is_empty() {
+        return Err(wanted);
+    }
+    Ok(copied(alloc, text.as_bytes())?)
 }
 
 fn show(scene: &mut Scene, rest: &str) -> Result<(), BadLine> {

@@ -1,7 +1,7 @@
 //! Scenes as values.
 use crate::device::Device;
 use jv_model::{Bytes, Moment, RowKey, Sequence, copied};
-use jv_outside::Fails;
+use jv_outside::{Fails, Object, Staged};
 use std::alloc::{AllocError, Global};
 
 /// A command's words.
@@ -86,6 +86,10 @@ pub struct Scene {
     pub is_fresh: bool,
     /// Further rows; they stand in place of fresh ones with their keys.
     pub rows: Vec<(RowKey, Bytes)>,
+    /// The objects that the depot has.
+    pub objects: Vec<Object>,
+    /// The blocks that clients have staged on the shelf.
+    pub staged: Vec<Staged>,
     pub script: Vec<Piece>,
     /// The script of a run that lists what is left; none where nothing is listed.
     pub list: Vec<Piece>,
@@ -107,6 +111,8 @@ impl Scene {
             most: usize::MAX,
             is_fresh: true,
             rows: Vec::new(alloc),
+            objects: Vec::new(alloc),
+            staged: Vec::new(alloc),
             script: Vec::new(alloc),
             list: Vec::new(alloc),
             shows_rows: false,

@@ -4,6 +4,7 @@
 mod objects;
 mod report;
 mod rows;
+mod slices;
 mod stage;
 mod sweep;
 mod theatre;

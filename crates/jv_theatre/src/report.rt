@@ -1,9 +1,7 @@
 //! What is printed of runs.
-use crate::objects::objects_text;
+use crate::objects::{objects_text, staged_text};
 use crate::rows::rows_text;
-use crate::stage::{Played, Player, Stage};
-use jv_model::Rows;
-use jv_outside::ObjectList;
+use crate::stage::{Played, Player, Stage, Stock};
 use jv_scenes::{DEVICES, Device, Scene, Variant};
 use std::alloc::{AllocError, Global};
 use std::str;
@@ -117,49 +115,38 @@ pub fn push_played(
     push_places(report, scene, stage)
 }
 
-/// Adds the objects of a depot, where the scene shows them.
-pub fn push_objects(
+/// Adds what the stores of a stage have: the objects and the staged blocks, and the rows, each where the scene shows them.
+pub fn push_stock(
     alloc: Global,
     report: &mut String,
     scene: &Scene,
     stage: &mut Stage,
 ) -> Result<(), AllocError> {
-    if !scene.shows_blocks {
-        return Ok(());
+    let stock = stage.stock(alloc)?;
+    if scene.shows_blocks {
+        report.push_str(objects_text(alloc, &stock.objects)?.as_str())?;
+        report.push_str(staged_text(alloc, &stock.staged)?.as_str())?;
     }
-    let objects = stage.objects(alloc)?;
-    report.push_str(objects_text(alloc, &objects)?.as_str())
+    if scene.shows_rows {
+        report.push_str(rows_text(alloc, &stock.rows)?.as_str())?;
+    }
+    Ok(())
 }
 
-/// Adds the rows of a keeper, where the scene shows them.
-pub fn push_rows(
-    alloc: Global,
-    report: &mut String,
-    scene: &Scene,
-    stage: &mut Stage,
-) -> Result<(), AllocError> {
-    if !scene.shows_rows {
-        return Ok(());
-    }
-    let rows = stage.rows(alloc)?;
-    report.push_str(rows_text(alloc, &rows)?.as_str())
-}
-
-/// Lists what is left in rows and objects, where the scene has a script for that, and adds the answers. The run is made
-/// on the stage.
+/// Lists what is left in the stores, where the scene has a script for that, and adds the answers. The run is made on the
+/// stage.
 pub fn push_list(
     alloc: Global,
     report: &mut String,
     scene: &Scene,
-    rows: Rows,
-    objects: ObjectList,
+    stock: Stock,
     stage: &mut Stage,
     player: &impl Player,
 ) -> Result<(), AllocError> {
     if scene.list.is_empty() {
         return Ok(());
     }
-    stage.put(alloc, scene, Variant::List, rows, objects)?;
+    stage.put(alloc, scene, Variant::List, stock)?;
     let played = stage.play(alloc, scene.words(), player)?;
     push_listed(alloc, report, &played)
 }

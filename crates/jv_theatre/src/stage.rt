@@ -1,10 +1,10 @@
 //! Stages: devices in memory, and runs over them.
-use crate::objects::objects_of;
+use crate::objects::{objects, objects_of, staged, staged_of};
 use crate::rows::{rows, rows_of};
 use jv_model::{Bytes, Journal, Rows, Sequence};
 use jv_outside::{
     Fails, MemCarrier, MemClock, MemDepot, MemKeeper, MemShelf, MemSink, MemSource, NumberList,
-    ObjectList,
+    ObjectList, StagedList,
 };
 use jv_scenes::{Device, Scene, Variant};
 use std::alloc::{AllocError, Global};
@@ -24,6 +24,25 @@ pub struct Stores {
     pub keeper: MemKeeper,
     pub depot: MemDepot,
     pub shelf: MemShelf,
+}
+
+/// What stores have: rows, objects, and the blocks that are staged.
+#[derive(Drop)]
+pub struct Stock {
+    pub rows: Rows,
+    pub objects: ObjectList,
+    pub staged: StagedList,
+}
+
+impl Stock {
+    /// No rows, objects or blocks.
+    fn none(alloc: Global) -> Stock {
+        Stock {
+            rows: Sequence::new(alloc),
+            objects: Sequence::new(alloc),
+            staged: Sequence::new(alloc),
+        }
+    }
 }
 
 /// What a world is made of for each run.
@@ -113,21 +132,34 @@ fn streams_of(alloc: Global, scene: &Scene, variant: Variant<'_>) -> Result<Stre
     })
 }
 
-/// The stores of a variant of a scene, with these rows and objects.
+/// What the stores have that a scene begins with.
+fn stock_of(alloc: Global, scene: &Scene) -> Result<Stock, AllocError> {
+    Ok(Stock {
+        rows: rows(alloc, scene)?,
+        objects: objects(alloc, scene)?,
+        staged: staged(alloc, scene)?,
+    })
+}
+
+/// The stores of a variant of a scene, which have this stock.
 fn stores_with(
     alloc: Global,
     scene: &Scene,
     variant: Variant<'_>,
-    rows: Rows,
-    objects: ObjectList,
+    stock: Stock,
 ) -> Result<Stores, AllocError> {
     let keeper = scene.fails_of(alloc, Device::Keeper, variant)?;
     let depot = scene.fails_of(alloc, Device::Depot, variant)?;
     let shelf = scene.fails_of(alloc, Device::Shelf, variant)?;
+    let Stock {
+        rows,
+        objects,
+        staged,
+    } = stock;
     Ok(Stores {
         keeper: MemKeeper::new(alloc, rows, keeper),
         depot: MemDepot::new(alloc, objects, depot),
-        shelf: MemShelf::new(alloc, Sequence::new(alloc), shelf),
+        shelf: MemShelf::new(alloc, staged, shelf),
     })
 }
 
@@ -163,20 +195,19 @@ impl Stage {
         scene: &Scene,
         variant: Variant<'_>,
     ) -> Result<(), AllocError> {
-        let rows = rows(alloc, scene)?;
-        self.put(alloc, scene, variant, rows, Sequence::new(alloc))
+        let stock = stock_of(alloc, scene)?;
+        self.put(alloc, scene, variant, stock)
     }
 
-    /// Sets the stage for a variant of a scene with these rows and objects.
+    /// Sets the stage for a variant of a scene whose stores have this stock.
     pub fn put(
         &mut self,
         alloc: Global,
         scene: &Scene,
         variant: Variant<'_>,
-        rows: Rows,
-        objects: ObjectList,
+        stock: Stock,
     ) -> Result<(), AllocError> {
-        let stores = stores_with(alloc, scene, variant, rows, objects)?;
+        let stores = stores_with(alloc, scene, variant, stock)?;
         let parts = parts_with(alloc, scene, variant, stores)?;
         self.parts = Some(parts);
         Ok(())
@@ -190,20 +221,16 @@ impl Stage {
         }
     }
 
-    /// The rows of the keeper.
-    pub fn rows(&mut self, alloc: Global) -> Result<Rows, AllocError> {
-        match &mut self.parts {
-            Some(parts) => rows_of(alloc, &mut parts.stores.keeper),
-            None => Ok(Sequence::new(alloc)),
-        }
-    }
-
-    /// The objects of the depot.
-    pub fn objects(&mut self, alloc: Global) -> Result<ObjectList, AllocError> {
-        match &mut self.parts {
-            Some(parts) => objects_of(alloc, &mut parts.stores.depot),
-            None => Ok(Sequence::new(alloc)),
-        }
+    /// What the stores have.
+    pub fn stock(&mut self, alloc: Global) -> Result<Stock, AllocError> {
+        let Some(parts) = &mut self.parts else {
+            return Ok(Stock::none(alloc));
+        };
+        Ok(Stock {
+            rows: rows_of(alloc, &mut parts.stores.keeper)?,
+            objects: objects_of(alloc, &mut parts.stores.depot)?,
+            staged: staged_of(alloc, &mut parts.stores.shelf)?,
+        })
     }
 
     /// The place where a device is opened, if it is one that has a place and shows it, and is opened.

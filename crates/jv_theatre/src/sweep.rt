@@ -1,6 +1,7 @@
 //! Runs of a scene in each of which one more call fails, and the rule that each of them keeps.
 use crate::report::{push_list, push_played};
 use crate::rows::{rows_text, unnumbered_text};
+use crate::slices::broken_slices;
 use crate::stage::{Played, Player, count_lines};
 use crate::theatre::Theatre;
 use jv_model::Rows;
@@ -11,11 +12,12 @@ use std::str;
 /// The status of a run that a device's fault ended.
 const FAILED: u8 = 5;
 
-/// What is in rows and objects: the rows as they are compared, and what the scene lists.
+/// What is in rows and objects: the rows as they are compared, what the scene lists, and what is wrong with slices.
 #[derive(Drop)]
 struct Left {
     rows: String,
     listed: String,
+    broken: Option<&'static str>,
 }
 
 impl Left {
@@ -87,20 +89,23 @@ fn left_on(
     scene: &Scene,
     theatre: &mut Theatre<impl Player>,
 ) -> Result<Left, AllocError> {
-    let rows = theatre.tried.rows(alloc)?;
-    let text = compared_text(alloc, scene, &rows)?;
-    let objects = theatre.tried.objects(alloc)?;
+    let stock = theatre.tried.stock(alloc)?;
+    let rows = compared_text(alloc, scene, &stock.rows)?;
+    let broken = broken_slices(alloc, &stock)?;
     let mut listed = String::new(alloc);
     push_list(
         alloc,
         &mut listed,
         scene,
-        rows,
-        objects,
+        stock,
         &mut theatre.listed,
         &theatre.player,
     )?;
-    Ok(Left { rows: text, listed })
+    Ok(Left {
+        rows,
+        listed,
+        broken,
+    })
 }
 
 /// The rows as they are compared. Where a scene shows blocks that is without numbers of slices, since a flush that fails has
@@ -187,7 +192,7 @@ fn judge(
     theatre: &mut Theatre<impl Player>,
 ) -> Result<Sum, AllocError> {
     let (device, number) = failing;
-    let broken = broken_by(alloc, scene, base, now, device, theatre)?;
+    let broken = broken_by(alloc, scene, base, now, device, theatre)?.or(now.after.broken);
     push_broken(report, number, device, broken)?;
     Ok(sum.with(&base.played, &now.played, device, broken.is_some()))
 }

@@ -1,5 +1,5 @@
 //! What is done in a scene, one thing after the other, and the stages for it.
-use crate::report::{push_list, push_objects, push_played, push_rows, push_then, push_try};
+use crate::report::{push_list, push_played, push_stock, push_then, push_try};
 use crate::stage::{Player, Stage};
 use crate::sweep::push_sweep;
 use jv_scenes::{Again, Further, Scene, Variant, bytes_of};
@@ -42,8 +42,7 @@ pub fn push_scene(
     for further in scene.further.as_slice() {
         push_further(alloc, report, scene, further, theatre)?;
     }
-    push_objects(alloc, report, scene, &mut theatre.own)?;
-    push_rows(alloc, report, scene, &mut theatre.own)?;
+    push_stock(alloc, report, scene, &mut theatre.own)?;
     report.push_str("\n")
 }
 
@@ -70,14 +69,12 @@ fn push_after_first(
     scene: &Scene,
     theatre: &mut Theatre<impl Player>,
 ) -> Result<(), AllocError> {
-    let rows = theatre.own.rows(alloc)?;
-    let objects = theatre.own.objects(alloc)?;
+    let stock = theatre.own.stock(alloc)?;
     push_list(
         alloc,
         report,
         scene,
-        rows,
-        objects,
+        stock,
         &mut theatre.listed,
         &theatre.player,
     )?;

@@ -28,6 +28,8 @@
 //! - `rows none`: the keeper has no rows, else those of a volume `juicefs` that was formatted at moment 0. `row TAB A
 //!   B VALUE` is a row besides, or in place of the one with its key. B and VALUE are hexadecimal digits, in VALUE
 //!   with spaces between fields, or `-` for no bytes.
+//! - `object NAME BYTES MOMENT` is an object that the depot has, and `staged CLIENT NAME BYTES` a block that a client,
+//!   `A` to `H`, has staged on the shelf; without these both are empty. NAME has no space, and BYTES are as a row's VALUE.
 //! - `script`: all lines from the next one to a line `end` are lines of the script. `lines N TEXT` is a line that
 //!   stands N times, `text N TEXT` a text that stands N times and has no line feed, and `bytes HEX` are any bytes.
 //!   They follow one another in the script.
@@ -39,8 +41,9 @@
 //!   journal's entries, how often each device was called and failed, and the place where the keeper was opened. The counts
 //!   are those since the world was made. Of the three devices for blocks that is printed only in a scene with `show
 //!   blocks`; how often a carrier was called isn't.
-//! - Where the scene has a `list`, that run is made by the scene's words over the rows and the objects that are left, on a
-//!   world of its own of which no call fails. Printed are the lines that `out` gained, and the status where that isn't 0.
+//! - Where the scene has a `list`, that run is made by the scene's words over the rows, objects and staged blocks that are
+//!   left, on a world of its own of which no call fails. Printed are the lines that `out` gained, and the status where that
+//!   isn't 0.
 //! - `for k FIRST..LAST DEVICE` makes the first run again, with call FIRST of the device failing, then with the next
 //!   one, up to LAST; DEVICE may be `each`, for all of them one after the other, those for blocks only in a scene with
 //!   `show blocks`. Printed is one line for each run that breaks the rule below, and a sum.
@@ -49,7 +52,8 @@
 //! - `try WORD ..` makes a run by these words on a world of its own, and `then LINE` one by the scene's words whose
 //!   script has one more line. Printed is one line: the status, the words or the line, and standard error, or where
 //!   that has gained nothing `out`; its first line for `try`, and its last one for `then`.
-//! - `show blocks` prints the objects that the depot has then, each by its name and its length.
+//! - `show blocks` prints the objects that the depot has then, each by its name and its length, and the blocks that are
+//!   staged, each by its client, name and length.
 //! - `show rows` prints the rows that are left, each in the form in which a scene has it.
 //!
 //! The rule for a run in which one more call is to fail: where that call isn't made, nothing is different. Else it
@@ -61,6 +65,10 @@
 //! to its end, the other answers, the rows, and what is listed of them, are those of the run without that line. In a scene
 //! with `show blocks` rows are compared but for numbers of slices, of which a flush that fails has used one: without the
 //! tables of lists, slices and dead slices, and of the counters without the next slice.
+//!
+//! Besides, where the rows of setting, lists and slices that it leaves can be read, each slice's count is the number of the
+//! records that name it in all lists; each record that names a slice has a row for it, with its size; and each block of a
+//! slice that has a row, by its name and length under the setting, is an object or staged by a client.
 //!
 //! A malformed line is refused with its number, and then nothing is run.
 #![tactic(auto)]
