@@ -71,7 +71,7 @@ shelf_session options answers before after ended (NotAttached setting known none
 shelf_session options answers before after ended (NotStarted setting attached known none are cannot) =
     shelf_refused attached.shelf after.blocks.shelf cannot.fault cannot.shelf ∙ are.shelf.content_is
 shelf_session options answers before after ended (Opened setting opened attached yard left known rows are started runs
-    uses is) = uses.blocks ∙ are.shelf.content_is
+    stays uses is) = uses.blocks ∙ are.shelf.content_is
 
 pub RunsCommand-session : (command : Command) (place : List ℕ) (options : SessionOptions) (before after : WorldValue)
     (ended : Ended) → command ≡ Session place options → RunsSession place options before after ended
@@ -320,8 +320,8 @@ drawn_session options answers before after ended (NotAttached setting known none
     (late_ended setting.bucket options.cache_dir before.blocks after.blocks ended cannot).no_line
 drawn_session options answers before after ended (NotStarted setting attached known none are cannot) drawn =
     (late_started attached after.blocks ended cannot).no_line
-drawn_session options answers before after ended (Opened setting opened attached yard left known rows are started runs uses
-    is) drawn =
+drawn_session options answers before after ended (Opened setting opened attached yard left known rows are started runs stays
+    uses is) drawn =
     let world = record before { keeper = opened; blocks = attached } in
     drawn_lines options.generate answers (staged (limits_of options setting.block) yard world) left ended runs drawn refl
 
@@ -401,7 +401,7 @@ module _ (place : List ℕ) (options : SessionOptions) (before after : WorldValu
       let limits = limits_of options setting.block in
       record {
         answers = e.answers;
-        ends = Opened setting opened attached yard left known rows are started e.runs
+        ends = Opened setting opened attached yard left known rows are started e.runs e.stays
             (subst (λ (w : WorldValue). UsesBlocks e.answers attached w.blocks) (sym is)
             (UsesBlocks-lines options.generate setting limits world yard left ended started e)) is;
         keeper = subst (λ (w : WorldValue). UsesKeeper ended (e.answers Keeper) place before.keeper w.keeper) (sym is)

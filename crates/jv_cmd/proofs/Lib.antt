@@ -6,6 +6,7 @@ pub mod StageLaws
 pub mod StepLaws
 pub mod FreshLaws
 pub mod FormattedLaws
+pub mod LeftLaws
 pub mod ActLaws
 pub mod ReadingLaws
 pub mod EntryLaws

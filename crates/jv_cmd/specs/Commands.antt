@@ -7,6 +7,8 @@ use Rattle.jv_model.specs.declared.setting.Setting.{Setting}
 use Rattle.jv_outside.specs.Store.{Store}
 use Rattle.jv_yard.specs.Starting.{IsStarted}
 use Rattle.jv_yard.specs.YardValue.{YardValue}
+use Rattle.jv_client.specs.Shared.{shared}
+use Rattle.jv_session.specs.Lines.{StaysPut}
 use Rattle.jv_cmd.specs.declared.ended.Ended.{Ended}
 use Rattle.jv_cmd.specs.declared.ended.Ended.TheVariants.{OutOfMemory}
 use Rattle.jv_cmd.specs.declared.words.request.Command.{Command}
@@ -39,7 +41,8 @@ pub record RunsNone (answers : Device → ℕ) (before after : WorldValue) : Typ
 
 -- A session with these options: there is no volume to run on, and no device for blocks is opened; or one of them isn't opened for the
 -- volume of that setting; or the shelf's blocks couldn't be read; or the script runs on that volume, with depot and shelf in a yard, which
--- are back where they were in the end. So often each device failed, and an operation was answered so.
+-- are back where they were in the end; blocks were put, all other objects are as they were, and so is the shelf (`StaysPut`). So often each
+-- device failed, and an operation was answered so.
 pub data SessionEnds (options : SessionOptions) (answers : Device → ℕ) (before after : WorldValue) (ended : Ended) : Type 0 where
   NotOpened : CannotOpen before.keeper.rows ended → RunsNone answers before after → after.blocks ≡ before.blocks
       → SessionEnds options answers before after ended
@@ -56,7 +59,8 @@ pub data SessionEnds (options : SessionOptions) (answers : Device → ℕ) (befo
       → RunsScript options.generate answers
       (staged (limits_of options setting.block) yard (record before { keeper = opened; blocks = attached }))
       left ended
-      → UsesBlocks answers attached after.blocks → after ≡ world_of before.err left → SessionEnds options answers before after ended
+      → StaysPut (shared opened yard attached.carrier) left.devices → UsesBlocks answers attached after.blocks
+      → after ≡ world_of before.err left → SessionEnds options answers before after ended
 
 abbrev pub Does : Command → (Device → ℕ) → WorldValue → WorldValue → Ended → Type 0
 Does (Format place setting) answers before after ended = Formats setting before after ended × ((device : Device) → answers device ≡ 0)

@@ -124,8 +124,8 @@ module _ (number client : ℕ) (before after : LineState) (step : Step) (m : Ste
     kinds_in = kinds_of m.steps.made
 
     pub stepped_uses : LineUses before after 1 failed_in
-    stepped_uses = uses_step before after number m.now m.old.id m.steps.made m.steps.appends m.steps.alone
-        m.moment.answered.passes m.steps.devices
+    stepped_uses = uses_step before after number m.now m.old m.steps.made m.steps.appends m.steps.alone
+        m.moment.answered.passes m.steps.devices m.steps.yard
         (ap (λ (s : ScheduleValue). s.at) m.same) (ap (λ (s : ScheduleValue). s.limits) m.same)
 
     -- from the past where the line stands

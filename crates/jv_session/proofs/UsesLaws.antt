@@ -20,12 +20,16 @@ use Rattle.jv_rows.specs.Transactions.{IsBad}
 use Rattle.jv_volume.specs.TypedRows.{typed}
 use Rattle.jv_shared.specs.Lengths.{IsLength}
 use Rattle.jv_shared.specs.Shared.{Shared}
+use Rattle.jv_client.specs.ClientValue.{ClientValue}
+use Rattle.jv_client.specs.YardUse.{YardUse}
 use Rattle.jv_client.specs.declared.made.Made.{Made}
 use Rattle.jv_client.specs.declared.made.Made.TheVariants as made
 use Rattle.jv_client.specs.Makes.{FailsAlone, TellsBad, UsesDevices, entries_of, faults_of, is_failure_entry, is_failure_of, kinds_of, step_of, tells_failure}
 use Rattle.jv_session.specs.Stands.{ScheduleValue, IsYardOf}
 use Rattle.jv_session.specs.Lines.{AnswersSo, BlocksStay, LineState, LineUses, StaysPut, AreFailures, device_failures}
+use Rattle.jv_session.specs.Growing.{YardGrows}
 use Rattle.jv_session.specs.InLine.{at_moment}
+use Rattle.jv_session.proofs.GrowingLaws.{grows_none, grows_step, grows_then}
 
 -- how often a count rose
 
@@ -121,7 +125,15 @@ blocks_stay before after same = subst (BlocksStay before) (sym same) (λ b bytes
 -- what a line uses
 
 pub stays_none : (v : Shared) → StaysPut v v
-stays_none v = record { keeper_at = refl; carrier_at = refl; depot_at = refl; shelf_at = refl; blocks = refl; setting = refl }
+stays_none v = record {
+  keeper_at = refl;
+  carrier_at = refl;
+  depot_at = refl;
+  shelf_at = refl;
+  blocks = refl;
+  setting = refl;
+  grows = grows_none v.yard;
+}
 
 pub stays_then : (first second third : Shared) → StaysPut first second → StaysPut second third → StaysPut first third
 stays_then first second third a b = record {
@@ -131,6 +143,7 @@ stays_then first second third a b = record {
   shelf_at = b.shelf_at ∙ a.shelf_at;
   blocks = b.blocks ∙ a.blocks;
   setting = b.setting ∙ a.setting;
+  grows = grows_then first.yard second.yard third.yard a.setting a.grows b.grows;
 }
 
 pub uses_none : (s : LineState) → LineUses s s 0 no_failures
@@ -201,12 +214,13 @@ faults_at now v Shelf = refl
 faults_at now v Carrier = refl
 
 -- a step
-pub uses_step : (before after : LineState) (line now client : ℕ) (made : Made)
-    → after.journal ≡ before.journal ++ entries_of line now client (kinds_of made) → FailsAlone made
+pub uses_step : (before after : LineState) (line now : ℕ) (h : ClientValue) (made : Made)
+    → after.journal ≡ before.journal ++ entries_of line now h.id (kinds_of made) → FailsAlone made
     → Passes before.clock.answers after.clock.answers 1
-    → UsesDevices made (at_moment now before.devices) after.devices → after.schedule.at ≡ now
+    → UsesDevices made (at_moment now before.devices) after.devices
+    → YardUse now h made (at_moment now before.devices).yard after.devices.yard → after.schedule.at ≡ now
     → after.schedule.limits ≡ before.schedule.limits → LineUses before after 1 (made_failures made)
-uses_step before after line now client made appends alone passes uses at limits = record {
+uses_step before after line now h made appends alone passes uses used at limits = record {
   passes = passes;
   stays = record {
     keeper_at = uses.keeper_at;
@@ -215,22 +229,27 @@ uses_step before after line now client made appends alone passes uses at limits 
     shelf_at = uses.shelf_at;
     blocks = uses.blocks;
     setting = uses.setting;
+    grows = record { staged = grown.staged; puts = grown.puts; objects = grown.objects };
   };
   counts = λ device. rose_times-if (tells_failure device made) (faults_of device before.devices)
       (faults_of device after.devices)
       (subst (λ n. RoseIf (tells_failure device made) n (faults_of device after.devices))
       (faults_at now before.devices device) (uses.counts device));
   answers = record {
-    acts = entries_of line now client (kinds_of made);
+    acts = entries_of line now h.id (kinds_of made);
     grows = appends;
-    failures = failures_made line now client made alone;
+    failures = failures_made line now h.id made alone;
   };
-  yard = λ h. record {
-    block = subst (λ (s : Setting). IsLength s.block) (sym uses.setting) h.block;
+  yard = λ fits. record {
+    block = subst (λ (s : Setting). IsLength s.block) (sym uses.setting) fits.block;
     last = (let last = uses.last in omega (arith, last, at));
   };
   limits = limits;
 }
+  where
+    -- the moment that the yard got first is no matter
+    grown : YardGrows (at_moment now before.devices).yard after.devices.yard
+    grown = grows_step now h made (at_moment now before.devices).yard after.devices.yard used
 
 -- a step that stopped at a row: it is Bad
 pub stopped_bad : (made : Made) (before after : Shared) (key : RowKey) (bytes : List ℕ)

@@ -1,4 +1,5 @@
 -- The definitions that contracts cite.
 pub mod Stands
+pub mod Growing
 pub mod Lines
 pub mod InLine

@@ -17,6 +17,7 @@ use Rattle.jv_client.specs.Makes.{faults_of, is_failure_entry}
 use Rattle.jv_session.specs.declared.line_end.LineEnd.{LineEnd}
 use Rattle.jv_session.specs.declared.line_end.LineEnd.TheVariants.{Said, Quiet, ClockFailed, Broken, Memory}
 use Rattle.jv_session.specs.Stands.{ScheduleValue, Stands, InLine, IsYardOf, ClockFor}
+use Rattle.jv_session.specs.Growing.{YardGrows}
 
 -- what the call for a line uses: the clock, the keeper and the carrier with the yard, the journal and the schedule
 pub record LineState : Type 0 where
@@ -81,7 +82,7 @@ abbrev pub FromThere : Line → ℕ → LineState → LineState → (Past → Li
 FromThere line number before after Comes = (p : Past) (more : List Line) → Stands p before.schedule before.devices → p.line + 1 ≡ number → p.rest ≡ line ∷ more
     → p.state.count ≡ length before.journal → ClockFor p.run.clock p.asked before.clock.answers after.clock.answers → Comes p more
 
--- devices are open where they were, the shelf has the blocks that it had, and the yard is one of the same volume
+-- Devices are open where they were, and the shelf has the blocks that it had. The yard is one of the same volume, which blocks were put into.
 pub record StaysPut (before after : Shared) : Type 0 where
   pub keeper_at : after.keeper.opened ≡ before.keeper.opened
   pub carrier_at : after.carrier.opened ≡ before.carrier.opened
@@ -89,6 +90,7 @@ pub record StaysPut (before after : Shared) : Type 0 where
   pub shelf_at : after.yard.shelf.opened ≡ before.yard.shelf.opened
   pub blocks : after.yard.shelf.content ≡ before.yard.shelf.content
   pub setting : after.yard.setting ≡ before.yard.setting
+  pub grows : YardGrows before.yard after.yard
 
 -- What a line does to clock and devices, whatever these hold: how often the clock was asked, and how often each device failed, which
 -- as many of its entries answer. The schedule has the same limits, and may go on with the yard.

@@ -1,0 +1,152 @@
+-- On what a session over a whole volume leaves, the next session may begin.
+use Rattle.std.proofs.Common.{◌≡◌, ℕ, ◌<◌, ◌≤◌, Bool, true, false, List, None, Some, IsSome, is_some, inl, inr, refl, sym, ap, subst, ◌∙◌}
+use Rattle.std.specs.Prelude.{◌⊎◌, ◌&&◌, if◌then◌else◌}
+use Rattle.std.proofs.lemmas.Bool.{false≢true, cases_lt}
+use Rattle.jv_model.specs.declared.setting.Setting.{Setting}
+use Rattle.jv_model.specs.declared.slice.BlockId.{BlockId}
+use Rattle.jv_model.specs.FiniteMap.{get}
+use Rattle.jv_model.specs.blocks.BlockNames.{IsBlock}
+use Rattle.jv_model.specs.tree.Tree.{Tree}
+use Rattle.jv_model.proofs.TestLaws.{known_is, some_same}
+use Rattle.jv_outside.specs.Blocks.{StagedMap, staged_at}
+use Rattle.jv_outside.specs.Holding.{Holding}
+use Rattle.jv_outside.specs.Objects.{ObjectMap, bytes_at}
+use Rattle.jv_volume.specs.TypedRows.{typed}
+use Rattle.jv_volume.specs.Slices.{next_slice}
+use Rattle.jv_contents.specs.Blocks.{AreBelow, HasBlocks}
+use Rattle.jv_yard.specs.Contents.{blocks_in, is_block, name_in}
+use Rattle.jv_yard.specs.Later.{AreAlike, Contents, IsCopy, IsStagedWith, contents_of}
+use Rattle.jv_yard.specs.Staging.{Staging, staged_since}
+use Rattle.jv_yard.specs.Starting.{IsFound, IsStarted}
+use Rattle.jv_yard.specs.YardValue.{NamesBlock}
+use Rattle.jv_yard.proofs.CallLaws.{IsKept-started}
+use Rattle.jv_yard.proofs.ContentsLaws.{is_block-passes, is_block-tells}
+use Rattle.jv_shared.specs.Fresh.{IsFresh}
+use Rattle.jv_shared.specs.Shared.{HasStore, Known, Shared, staged_in}
+use Rattle.jv_session.specs.Lines.{StaysPut}
+use Rattle.jv_cmd.specs.Run.{Leaves}
+
+-- What a yard found on its shelf is what it has staged in the end.
+Found-left : (setting : Setting) (depot : Holding ObjectMap) (shelf : Holding StagedMap) (before left : Shared)
+    → IsStarted setting depot shelf before.yard → StaysPut before left → (client : ℕ) → client ≤ 7
+    → IsFound left.yard.setting left.yard.shelf.content client (left.yard.staged client)
+Found-left setting depot shelf before left started stays client low =
+    subst (λ (s : Setting). IsFound s left.yard.shelf.content client (left.yard.staged client))
+    (sym (stays.setting ∙ started.setting_is))
+    (subst (λ content. IsFound setting content client (left.yard.staged client))
+    (sym (stays.blocks ∙ ap (λ (h : Holding StagedMap). h.content) started.shelf_same))
+    (subst (λ (staged : Staging). IsFound setting shelf.content client (staged client)) (sym stays.grows.staged)
+    (started.staged_are client low)))
+
+-- A session has left `v`, and the next one begins with `w`.
+module _ (t : Tree) (g : Known) (v w : Shared) (store : HasStore t g v)
+    (found : (client : ℕ) → client ≤ 7 → IsFound v.yard.setting v.yard.shelf.content client (v.yard.staged client))
+    (depot : Holding ObjectMap) (shelf : Holding StagedMap) (started : IsStarted v.yard.setting depot shelf w.yard)
+    (rows : w.keeper.rows ≡ v.keeper.rows) (objects : depot.content ≡ v.yard.depot.content)
+    (blocks : shelf.content ≡ v.yard.shelf.content)
+    (eight : (client : ℕ) (name : List ℕ) → 7 < client → staged_since client name w.yard.staged ≡ None) where
+  abbrev setting : Setting
+  setting = v.yard.setting
+
+  abbrev contents : Contents
+  contents = contents_of store.objects store.staged w.yard
+
+  -- each copy of a block has the bytes that are known of it
+
+  known_shelved : (client : ℕ) (b : BlockId) (bytes : List ℕ) → client ≤ 7 → IsBlock setting.block b
+      → staged_at client (name_in setting b) store.staged ≡ Some bytes → g.blocks b ≡ Some bytes
+  known_shelved client b bytes low is at =
+      let name = name_in setting b in
+      let named : NamesBlock setting name = record { block = b; is = record { is_block = is; spelled = refl } } in
+      let since : get (v.yard.staged client) name ≡ Some 0 = known_is v.yard.shelf.content store.staged
+      (λ m. (n : List ℕ) → NamesBlock setting n → IsSome (staged_at client n m) → get (v.yard.staged client) n ≡ Some 0)
+      store.staged_are (found client low).all name named (ap is_some at) in
+      let passes = is_block-passes setting.block b is in
+      let there : is_some (staged_since client name v.yard.staged) ≡ true = ap is_some since in
+      store.staged_copies client b bytes
+      (ap (λ test. if test then staged_at client name store.staged else None) (λ i. passes i && there i) ∙ at)
+
+  -- there are eight clients
+  client_is : (client : ℕ) (name : List ℕ) → IsSome (staged_since client name w.yard.staged) → client ≤ 7
+  client_is client name some = by_number (cases_lt 7 client)
+    where
+      by_number : (7 < client) ⊎ (client ≤ 7) → client ≤ 7
+      by_number (inl high) = absurd (false≢true (sym (ap is_some (eight client name high)) ∙ some))
+      by_number (inr low) = low
+
+  known_copy : (b : BlockId) (bytes : List ℕ) → IsBlock setting.block b → IsCopy contents (name_in setting b) bytes
+      → g.blocks b ≡ Some bytes
+  known_copy b bytes is (inl object) = store.copies b bytes
+      (ap (λ test. if test then bytes_at (name_in setting b) store.objects else None) (is_block-passes setting.block b is) ∙ object)
+  known_copy b bytes is (inr copy) =
+      known_shelved copy.client b bytes (client_is copy.client (name_in setting b) copy.is) is copy.bytes_are
+
+  -- so they are alike
+
+  staged_name : (name bytes : List ℕ) → IsStagedWith contents name bytes → NamesBlock setting name
+  staged_name name bytes copy =
+      (started.staged_are copy.client (client_is copy.client name copy.is)).names name copy.is
+
+  alike_named : (name first second : List ℕ) → NamesBlock setting name → IsCopy contents name first
+      → IsCopy contents name second → first ≡ second
+  alike_named name first second named a b =
+      let is = named.is.is_block in
+      some_same first second
+      (sym (known_copy named.block first is (subst (λ n. IsCopy contents n first) named.is.spelled a))
+      ∙ known_copy named.block second is (subst (λ n. IsCopy contents n second) named.is.spelled b))
+
+  alike_left : AreAlike contents
+  alike_left name first second (inl a) (inl b) = some_same first second (sym a ∙ b)
+  alike_left name first second (inl a) (inr b) =
+      alike_named name first second (staged_name name second b) (inl a) (inr b)
+  alike_left name first second (inr a) b = alike_named name first second (staged_name name first a) (inr a) b
+
+  -- and of slices that have their numbers
+
+  below_left : AreBelow (typed store.rows) (blocks_in w.yard.setting store.objects)
+  below_left b bytes there = store.below b bytes (store.copies b bytes
+      (subst (λ (s : Setting). blocks_in s store.objects b ≡ Some bytes) started.setting_is there))
+
+  staged_below_left : (client : ℕ) → AreBelow (typed store.rows) (staged_in w.yard store.staged client)
+  staged_below_left client b bytes there =
+      by_tests (is_block setting.block b) (is_some (staged_since client (name_in setting b) w.yard.staged)) refl refl
+      (subst (λ (s : Setting). (if is_block s.block b && is_some (staged_since client (name_in s b) w.yard.staged)
+      then staged_at client (name_in s b) store.staged else None) ≡ Some bytes) started.setting_is there)
+    where
+      by_tests : (block staged : Bool) → is_block setting.block b ≡ block
+          → is_some (staged_since client (name_in setting b) w.yard.staged) ≡ staged
+          → (if block && staged then staged_at client (name_in setting b) store.staged else None) ≡ Some bytes
+          → b.id < next_slice (typed store.rows)
+      by_tests true true is some e = store.below b bytes (known_copy b bytes (is_block-tells setting.block b is)
+          (inr (record { client = client; is = some; bytes_are = e })))
+      by_tests true false is some e = absurd (cc)
+      by_tests false staged is some e = absurd (cc)
+
+  IsFresh-after : IsFresh w
+  IsFresh-after = record {
+    rows = store.rows;
+    rows_are = rows ∙ store.rows_are;
+    whole = store.whole;
+    setting = store.setting ∙ ap Some (sym started.setting_is);
+    objects = store.objects;
+    objects_are = ap (λ (d : Holding ObjectMap). d.content) started.depot_same ∙ objects ∙ store.objects_are;
+    staged = store.staged;
+    staged_are = ap (λ (h : Holding StagedMap). h.content) started.shelf_same ∙ blocks ∙ store.staged_are;
+    there = subst (λ (s : Setting). HasBlocks s.block (typed store.rows) (blocks_in s store.objects))
+        (sym started.setting_is) store.there;
+    kept = IsKept-started setting depot shelf w.yard started;
+    alike = alike_left;
+    below = below_left;
+    staged_below = staged_below_left;
+  }
+
+-- A session began with a yard that was started (`before`) and has left `left`, with its tree. The next one begins with the rows left, and
+-- with a yard that is started over a depot and a shelf with what is left there. There are eight clients.
+pub IsFresh-left : (setting : Setting) (depot depot' : Holding ObjectMap) (shelf shelf' : Holding StagedMap)
+    (before left next : Shared) (t : Tree) → IsStarted setting depot shelf before.yard → StaysPut before left → Leaves left t
+    → IsStarted left.yard.setting depot' shelf' next.yard → next.keeper.rows ≡ left.keeper.rows
+    → depot'.content ≡ left.yard.depot.content → shelf'.content ≡ left.yard.shelf.content
+    → ((client : ℕ) (name : List ℕ) → 7 < client → staged_since client name next.yard.staged ≡ None) → IsFresh next
+IsFresh-left setting depot depot' shelf shelf' before left next t started stays leaves again rows objects blocks eight =
+    IsFresh-after t leaves.known left next leaves.store (Found-left setting depot shelf before left started stays)
+    depot' shelf' again rows objects blocks eight
