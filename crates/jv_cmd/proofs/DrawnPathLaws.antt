@@ -9,8 +9,9 @@ use Rattle.std.proofs.lemmas.List.Elements.{All-weaker}
 use Rattle.std.proofs.lemmas.List.Splits.{slice_split_none}
 use Rattle.std.proofs.lemmas.List.Sums.{AllPass-from_list_all}
 use Rattle.jv_model.specs.script.Spelling.{is_decimal_digit}
-use Rattle.jv_model.specs.script.Grammar.{begins_with_slash, bytes_between, is_plain, path_of, unescaped}
+use Rattle.jv_model.specs.script.Grammar.{bytes_between, is_plain, path_of, unescaped}
 use Rattle.jv_model.specs.script.Spelled.{has_no_zero}
+use Rattle.jv_model.specs.tree.Walk.{is_absolute}
 use Rattle.jv_script.proofs.PrintedDigitLaws.{decimal_digits}
 use Rattle.jv_cmd.proofs.DrawnNumberLaws.{decimal_word, digit_past}
 use Rattle.jv_cmd.proofs.DrawnWordLaws.{IsWord, all_have}
@@ -24,7 +25,7 @@ plain_read text plain =
     (AllPass-from_list_all is_plain text plain) in
     ap bytes_between (slice_split_none (λ c. c == 37) text no_escape) ∙ rw plain (ap Some (append-nil text))
 
-plain_path : (text : List ℕ) → list_all is_plain text ≡ true → begins_with_slash text ≡ true
+plain_path : (text : List ℕ) → list_all is_plain text ≡ true → is_absolute text ≡ true
     → path_of text ≡ Some text
 unfolding path_of
 plain_path text plain slash = rw (plain_read text plain, slash) refl

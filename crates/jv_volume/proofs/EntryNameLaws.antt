@@ -1,7 +1,7 @@
 -- The last name of a path without the byte 0 may stand in an entry.
 use Rattle.std.proofs.Common.{◌≡◌, ℕ, Bool, true, false, not, ◌&&◌, ◌||◌, ◌==◌, List, [], ◌∷◌, length, Some, Result, Ok, refl, sym, ap, subst, ◌∙◌, arith}
 use Rattle.std.specs.Prelude.{nat_le, filter, is_some, if◌then◌else◌}
-use Rattle.std.specs.List.{list_all}
+use Rattle.std.specs.List.{list_all, onto_first}
 use Rattle.std.proofs.lemmas.Bool.{and_parts, and_from, le-leb, false≢true}
 use Rattle.jv_model.specs.declared.limits.TheConstants.{MAX_NAME, MAX_PATH, MAX_SYMLINKS}
 use Rattle.jv_model.specs.declared.fault.Fault.{Fault}
@@ -9,9 +9,9 @@ use Rattle.jv_model.specs.declared.fault.Fault.TheVariants.{AlreadyExists, Inval
 use Rattle.jv_model.specs.FiniteMap.{get}
 use Rattle.jv_model.specs.tree.Attempt.{◌>>=◌, require, some_or}
 use Rattle.jv_model.specs.tree.Tree.{Tree, EntryKey, root, is_directory}
-use Rattle.jv_model.specs.tree.Walk.{is_dot, is_dot_dot, before_part, parts_between, names_of, last_name, all_but_last, walk, entry_of}
+use Rattle.jv_model.specs.tree.Walk.{is_dot, is_dot_dot, names_of, last_name, all_but_last, walk, entry_of}
 use Rattle.jv_model.specs.tree.Making.{may_be_new, new_place}
-use Rattle.jv_model.specs.Lists.{is_nil}
+use Rattle.jv_model.specs.Lists.{is_nil, parted}
 use Rattle.jv_volume.specs.TypedRows.{is_entry_name}
 use Rattle.jv_volume.proofs.WalkShapeLaws.{went_on, required, was_some, same_Ok}
 
@@ -22,21 +22,21 @@ is_plain name = list_all (λ b. not (b == 47 || b == 0)) name
 abbrev all_plain : List (List ℕ) → Bool
 all_plain parts = list_all is_plain parts
 
-plain_part : (b : ℕ) (parts : List (List ℕ)) → not (b == 47 || b == 0) ≡ true → all_plain parts ≡ true → all_plain (before_part b parts) ≡ true
+plain_part : (b : ℕ) (parts : List (List ℕ)) → not (b == 47 || b == 0) ≡ true → all_plain parts ≡ true → all_plain (onto_first b parts) ≡ true
 plain_part b [] is h = and_from _ _ (and_from _ _ is refl) refl
 plain_part b (part ∷ parts) is h = (let both = and_parts (is_plain part) (all_plain parts) h in and_from _ _ (and_from _ _ is both.0) both.1)
 
 plain_step : (b : ℕ) (parts : List (List ℕ)) (slash : Bool) → (b == 47) ≡ slash → not (b == 0) ≡ true → all_plain parts ≡ true
-    → all_plain (if slash then [] ∷ parts else before_part b parts) ≡ true
+    → all_plain (if slash then [] ∷ parts else onto_first b parts) ≡ true
 plain_step b parts true e is h = h
 plain_step b parts false e is h = plain_part b parts (ap (λ x. not (x || (b == 0))) e ∙ is) h
 
 -- the parts of a path have no slash
-plain_parts : (path : List ℕ) → list_all (λ b. not (b == 0)) path ≡ true → all_plain (parts_between 47 path) ≡ true
+plain_parts : (path : List ℕ) → list_all (λ b. not (b == 0)) path ≡ true → all_plain (parted 47 path) ≡ true
 plain_parts [] h = refl
 plain_parts (b ∷ bs) h =
     let both = and_parts (not (b == 0)) (list_all (λ c. not (c == 0)) bs) h in
-    plain_step b (parts_between 47 bs) (b == 47) refl both.0 (plain_parts bs both.1)
+    plain_step b (parted 47 bs) (b == 47) refl both.0 (plain_parts bs both.1)
 
 -- a name has a byte or more
 abbrev is_name : List ℕ → Bool
@@ -93,7 +93,7 @@ module _ (t : Tree) (path : List ℕ) (plain : list_all (λ b. not (b == 0)) pat
       let within = went_on (require (is_directory t dir.0) NotADirectory) (λ _. of_length name.0 dir.0) place dir.2 in
       let fits = went_on (require (nat_le (length name.0) MAX_NAME) NameTooLong) (λ _. Ok (record { dir = dir.0; name = name.0 })) place within.2 in
       let same : record { dir = dir.0; name = name.0 } ≡ place = same_Ok _ place fits.2 in
-      let last = last_is (names_of path) name.0 (names_filter (parts_between 47 path) (plain_parts path plain)) (was_some _ Invalid name.0 name.1) in
+      let last = last_is (names_of path) name.0 (names_filter (parted 47 path) (plain_parts path plain)) (was_some _ Invalid name.0 name.1) in
       ap (λ (p : EntryKey). is_entry_name p.name) (sym same) ∙ entry_name name.0 last (required _ NameTooLong fits.0 fits.1)
 
   -- the name of a new entry

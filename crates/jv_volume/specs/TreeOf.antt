@@ -1,5 +1,5 @@
 -- The tree that rows have. The bytes of files come from elsewhere: a transaction on rows sees none.
-use Rattle.std.specs.Prelude.{ℕ, ◌&&◌, ◌==◌, nat_lt, if◌then◌else◌, List, [], ◌∷◌, Option, None, Some}
+use Rattle.std.specs.Prelude.{ℕ, ◌&&◌, ◌==◌, nat_lt, if◌then◌else◌, List, [], ◌∷◌, Option, None, Some, bytes_eq}
 use Rattle.std.specs.Option.{option_map}
 use Rattle.std.specs.Int.{w64, from_be_bytes}
 use Rattle.jv_model.specs.declared.row.RowKey.{RowKey}
@@ -11,7 +11,6 @@ use Rattle.jv_model.specs.declared.setting.Setting.{Setting}
 use Rattle.jv_model.specs.FiniteMap.{KeyOrder, Map, number_key, map_of}
 use Rattle.jv_model.specs.rows.RowFields.{long}
 use Rattle.jv_model.specs.tree.Tree.{Tree, Node, Content, Kind, File, Directory, Symlink, EntryKey, entry_key, SessionEntry, SustainedFile, pair_key}
-use Rattle.jv_model.specs.tree.Walk.{is_text}
 use Rattle.jv_model.specs.Lists.{is_nil}
 use Rattle.jv_volume.specs.TypedRows.{Cell, Rows}
 use Rattle.jv_volume.specs.Views.{row_in, setting_at, counters_at, node_in, edge_in, session_in, sustained_in}
@@ -36,7 +35,7 @@ abbrev pub entry_of_key : RowKey → Option EntryKey
 entry_of_key key = (if key.tab == 3 then Some (record { dir = key.a; name = key.b }) else None)
 
 abbrev pub pair_of_key : RowKey → Option SustainedFile
-pair_of_key key = (if key.tab == 7 && is_text (long (from_be_bytes w64 key.b)) key.b then Some (record { sid = key.a; inode = from_be_bytes w64 key.b }) else None)
+pair_of_key key = (if key.tab == 7 && bytes_eq (long (from_be_bytes w64 key.b)) key.b then Some (record { sid = key.a; inode = from_be_bytes w64 key.b }) else None)
 
 -- nodes
 

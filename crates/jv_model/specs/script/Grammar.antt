@@ -1,6 +1,6 @@
 -- The whole grammar of a script: which line a text is, if it is one. A text is the bytes of a line without its line feed.
 use Rattle.std.specs.Prelude.{ℕ, ◌+◌, ◌*◌, ◌%◌, Bool, true, false, ◌&&◌, not, ◌==◌, nat_lt, nat_le, if◌then◌else◌, List, [], ◌∷◌, ◌++◌, length, replicate, Option, None, Some, option_map, codes, bytes_eq, sum_by}
-use Rattle.std.specs.List.{slice_split, list_all, flat_map}
+use Rattle.std.specs.List.{list_all, flat_map}
 use Rattle.jv_model.specs.declared.limits.TheConstants.{MAX_TICK, MAX_DATA, LAST_MOMENT}
 use Rattle.jv_model.specs.declared.basics.How.{How}
 use Rattle.jv_model.specs.declared.basics.How.TheVariants as how
@@ -10,10 +10,7 @@ use Rattle.jv_model.specs.declared.op.Line.{Line}
 use Rattle.jv_model.specs.declared.op.Line.TheVariants.{Empty, Do, Begin, Step, Run, Crash, Drain, Tick}
 use Rattle.jv_model.specs.script.Spelling.{◌>>=◌, words, at_most, number_of, length_of, mode_of, is_hex_digit, hex_value, bytes_of_digits, client_of, is_silent}
 use Rattle.jv_model.specs.script.Printed.{Part, Plain, Repeated}
-
--- the parts of a text between the places of one byte, which are words at a space
-abbrev pub parted : ℕ → List ℕ → List (List ℕ)
-parted separator text = slice_split (λ c. c == separator) text
+use Rattle.jv_model.specs.tree.Walk.{is_absolute}
 
 -- the value, where a test passes
 abbrev pub provided : {T : Type 0} → Bool → T → Option T
@@ -59,15 +56,11 @@ bytes_between (plain ∷ escapes) = provided (list_all is_plain plain && list_al
 unfoldable pub unescaped : List ℕ → Option (List ℕ)
 unescaped text = bytes_between (parted 37 text)
 
-abbrev pub begins_with_slash : List ℕ → Bool
-begins_with_slash [] = false
-begins_with_slash (first ∷ _) = first == 47
-
 -- a path is its bytes, of which the first is a slash: `%2Fa` is the path `/a`
 unfoldable pub path_of : List ℕ → Option (List ℕ)
 path_of text = do
   path ← unescaped text
-  provided (begins_with_slash path) path
+  provided (is_absolute path) path
 
 -- the target of a symlink: at least one byte
 unfoldable pub target_of : List ℕ → Option (List ℕ)

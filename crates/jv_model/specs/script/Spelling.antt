@@ -1,12 +1,13 @@
 -- How the fields of a script's line are spelled: words, numbers, modes, digits and letters.
 use Rattle.std.specs.Prelude.{ℕ, ◌+◌, ◌-◌, ◌*◌, Bool, true, false, ◌&&◌, ◌||◌, not, ◌==◌, nat_lt, nat_le, if◌then◌else◌, List, [], ◌∷◌, length, Option, None, Some, fold}
-use Rattle.std.specs.List.{slice_split, list_all}
+use Rattle.std.specs.List.{list_all}
 use Rattle.jv_model.specs.declared.limits.TheConstants.{MAX_DATA, MAX_NAME}
 pub use Rattle.jv_model.specs.Optional.{◌>>=◌}
+use Rattle.jv_model.specs.Lists.{parted}
 
 -- the words of a text, parted at each space: two spaces in a row part an empty word off
 abbrev pub words : List ℕ → List (List ℕ)
-words text = slice_split (λ c. c == 32) text
+words text = parted 32 text
 
 -- the value, where it is at most the limit
 abbrev pub at_most : ℕ → ℕ → Option ℕ
