@@ -8,9 +8,10 @@ use Rattle.std.specs.Option.{option_map}
 use Rattle.jv_model.specs.declared.limits.TheConstants.{WINDOW}
 use Rattle.jv_model.specs.client.ModelClient.{OpenFile, View as ModelView}
 use Rattle.jv_model.specs.journal.Reading.{Asked, asked_parts, bytes_between, bytes_from, cited_view, first_that}
-use Rattle.jv_model.specs.journal.Reading.{fresh_view, is_fresh, is_full, joined, only_if, part_read, part_to_look}
+use Rattle.jv_model.specs.journal.Reading.{fresh_view, is_fresh, is_full, joined, part_read, part_to_look}
 use Rattle.jv_model.specs.journal.Reading.{read_on, reading, window_start}
 use Rattle.jv_model.specs.declared.slice.Rec.{Rec}
+use Rattle.jv_model.specs.Optional.{provided}
 use Rattle.jv_contents.specs.Blocks.{told_by}
 use Rattle.jv_contents.specs.Bytes.{Told}
 use Rattle.jv_shared.specs.Shared.{Known, Shared, present_in, rows_in}
@@ -128,7 +129,7 @@ module _ (g : Known) (v : Shared) (views : List ModelView) (count number : ℕ) 
   read_one asked (other ∷ others) view some (inl none) = let never : ⊥ = cc in absurd never
   read_one asked (other ∷ others) view some (inr low) =
       ap (λ b. cond b (joined (shown_bytes told view asked) (part_read views number file 0 other))
-      (only_if (0 == 0) (shown_bytes told view asked))) (short_is asked view some low)
+      (provided (0 == 0) (shown_bytes told view asked))) (short_is asked view some low)
 
   -- a range that is read by the handle's views reads as the model's file
   pub same_read : (parts : List Asked) (read : ℕ × ℕ × List ℕ) → AllByRecursion IsWithin parts
@@ -148,7 +149,7 @@ module _ (g : Known) (v : Shared) (views : List ModelView) (count number : ℕ) 
       subst Reads (sym is)
       (ap (λ (ps : List Asked). reading views number file ps view.entry next.entry) are
       ∙ ap (read_on views number file next.entry asked (other ∷ [])) (part_shown asked view within'.0 seen)
-      ∙ ap (λ b. cond b (joined bytes (part_read views number file next.entry other)) (only_if (next.entry == 0) bytes))
+      ∙ ap (λ b. cond b (joined bytes (part_read views number file next.entry other)) (provided (next.entry == 0) bytes))
       (full_is asked view full)
       ∙ ap (joined bytes) (part_shown other next within'.1.0 seen'))
 

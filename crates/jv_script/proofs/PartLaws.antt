@@ -9,8 +9,9 @@ use Rattle.std.proofs.lemmas.List.Folds.{list_all_at}
 use Rattle.jv_model.specs.declared.limits.TheConstants.{MAX_DATA}
 use Rattle.jv_model.specs.script.Spelling.{is_hex_digit, number_of, ◌>>=◌, at_most, bytes_of_digits}
 use Rattle.jv_model.specs.script.Printed.{Part, Plain, Repeated}
-use Rattle.jv_model.specs.script.Grammar.{provided, byte_of, is_pairs, repeated_of, part_of, part_length, part_bytes, all_parts_of, bytes_of_parts, data_of}
+use Rattle.jv_model.specs.script.Grammar.{byte_of, is_pairs, repeated_of, part_of, part_length, part_bytes, all_parts_of, bytes_of_parts, data_of}
 use Rattle.jv_model.specs.Lists.{parted}
+use Rattle.jv_model.specs.Optional.{provided}
 use Rattle.jv_script.proofs.CutLaws.{parted_none}
 use Rattle.jv_script.specs.Reading.{has_x, pairs_of, limited_bytes, bytes_after, Appends, Leaves, IsFirstPart}
 

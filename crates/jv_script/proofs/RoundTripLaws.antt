@@ -9,9 +9,10 @@ use Rattle.std.proofs.lemmas.List.Splits.{slice_split-cons_no, slice_split-cons_
 use Rattle.jv_model.specs.blocks.BlockNames.{upper_digit}
 use Rattle.jv_model.specs.script.Spelling.{is_hex_digit, hex_value}
 use Rattle.jv_model.specs.script.ReplyText.{is_kept_in_name, is_kept_in_path, escaped_byte, name_text, path_text}
-use Rattle.jv_model.specs.script.Grammar.{provided, byte_of, is_plain, is_escape, escape_bytes, bytes_between, unescaped, path_of, target_of}
+use Rattle.jv_model.specs.script.Grammar.{byte_of, is_plain, is_escape, escape_bytes, bytes_between, unescaped, path_of, target_of}
 use Rattle.jv_model.specs.Lists.{parted}
 use Rattle.jv_model.specs.tree.Walk.{is_absolute}
+use Rattle.jv_model.specs.Optional.{provided}
 use Rattle.jv_script.specs.RoundTrips.{IsNameByte, PathsAreReadAgain, TargetsAreReadAgain, NamesAreReadAgain}
 
 -- the numbers from one on

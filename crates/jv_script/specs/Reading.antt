@@ -6,8 +6,9 @@ use Rattle.std.specs.Option.{option_copied}
 use Rattle.jv_model.specs.declared.limits.TheConstants.{MAX_DATA}
 use Rattle.jv_model.specs.script.Spelling.{◌>>=◌, bytes_of_digits}
 use Rattle.jv_model.specs.script.Printed.{Part, Plain}
-use Rattle.jv_model.specs.script.Grammar.{provided, is_pairs, part_of, part_length, part_bytes, all_parts_of}
+use Rattle.jv_model.specs.script.Grammar.{is_pairs, part_of, part_length, part_bytes, all_parts_of}
 use Rattle.jv_model.specs.Lists.{parted}
+use Rattle.jv_model.specs.Optional.{provided}
 use Rattle.jv_script.specs.declared.bad_line.BadLine.{BadLine}
 use Rattle.jv_script.specs.declared.bad_line.BadLine.TheVariants.{Off, Memory}
 

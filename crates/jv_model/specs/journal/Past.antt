@@ -1,6 +1,6 @@
 -- A run so far: its lines, what the present one may still have, what is printed, and the clock, beside the state that its
 -- entries have reached. A journal is folded over its entries; before an entry the lines up to its own are begun.
-use Rattle.std.specs.Prelude.{ℕ, zero, suc, ◌+◌, ◌-◌, Bool, true, false, ◌&&◌, not, if◌then◌else◌, List, [], ◌∷◌, ◌++◌, length, is_some, Option, None, Some, codes, decimal}
+use Rattle.std.specs.Prelude.{ℕ, zero, suc, ◌+◌, ◌-◌, Bool, true, false, ◌&&◌, not, if◌then◌else◌, List, [], ◌∷◌, ◌++◌, length, is_some, Option, None, Some, codes, decimal, unwrap_or}
 use Rattle.jv_model.specs.declared.basics.Limits.{Limits}
 use Rattle.jv_model.specs.declared.act.Act.{Act}
 use Rattle.jv_model.specs.declared.act.ActKind.{ActKind}
@@ -156,15 +156,11 @@ begun_to line p = begun_by (line - p.line) p
 
 -- answers
 
-abbrev pub or_no_bytes : Option (List ℕ) → List ℕ
-or_no_bytes None = []
-or_no_bytes (Some bytes) = bytes
-
 -- what a read returns that cites these looks
 abbrev pub read_in : ModelClient → Doing → ℕ → ℕ → List ℕ
 read_in c d first second = elim (file_in_use c d) [
   | None ↦ []
-  | Some file ↦ or_no_bytes (reading c.views (handle_of d.op) file (asked_of d.does) first second)
+  | Some file ↦ unwrap_or (reading c.views (handle_of d.op) file (asked_of d.does) first second) []
 ]
 
 abbrev uploaded_of : ℕ → ℕ → ℕ → ℕ → Option BlockId

@@ -12,11 +12,6 @@ use Rattle.jv_model.specs.script.Spelling.{◌>>=◌, words, at_most, number_of,
 use Rattle.jv_model.specs.script.Printed.{Part, Plain, Repeated}
 use Rattle.jv_model.specs.tree.Walk.{is_absolute}
 
--- the value, where a test passes
-abbrev pub provided : {T : Type 0} → Bool → T → Option T
-provided true value = Some value
-provided false value = None
-
 -- a number up to a limit of less than 64 bits
 unfoldable pub number_up_to : ℕ → List ℕ → Option ℕ
 number_up_to limit text = do
