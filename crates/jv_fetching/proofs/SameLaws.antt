@@ -2,12 +2,12 @@
 use Rattle.std.proofs.Common.{◌≡◌, ◌⊎◌, ℕ, zero, suc, ◌+◌, ◌-◌, ◌*◌, ◌<◌, ◌≤◌, min, Bool, true, false, cond, List, []}
 use Rattle.std.proofs.Common.{◌∷◌, length, Option, None, Some, inl, inr, refl, sym, ap, subst, ◌∙◌, arith, eq-eqb}
 use Rattle.std.proofs.Common.{ne_eqb}
-use Rattle.std.specs.Prelude.{◌≢◌, ◌==◌, ◌&&◌, nat_le, if◌then◌else◌}
+use Rattle.std.specs.Prelude.{◌≢◌, ◌==◌, ◌&&◌, nat_le, if◌then◌else◌, find}
 use Rattle.std.specs.List.{AllByRecursion}
 use Rattle.std.specs.Option.{option_map}
 use Rattle.jv_model.specs.declared.limits.TheConstants.{WINDOW}
 use Rattle.jv_model.specs.client.ModelClient.{OpenFile, View as ModelView}
-use Rattle.jv_model.specs.journal.Reading.{Asked, asked_parts, bytes_between, bytes_from, cited_view, first_that}
+use Rattle.jv_model.specs.journal.Reading.{Asked, asked_parts, bytes_between, bytes_from, cited_view}
 use Rattle.jv_model.specs.journal.Reading.{fresh_view, is_fresh, is_full, joined, part_read, part_to_look}
 use Rattle.jv_model.specs.journal.Reading.{read_on, reading, window_start}
 use Rattle.jv_model.specs.declared.slice.Rec.{Rec}
@@ -30,15 +30,15 @@ use Rattle.jv_fetching.proofs.CacheLaws.{named_sized}
 use Rattle.jv_fetching.proofs.FetchLaws.{all_read, looks, needs, parts_within}
 
 -- the first of those that pass two tests, where the first that passes one passes both
-first-both : (test also : ModelView → Bool) (views : List ModelView) (m : ModelView) → first_that test views ≡ Some m
+first-both : (test also : ModelView → Bool) (views : List ModelView) (m : ModelView) → find test views ≡ Some m
     → also m ≡ true
-    → first_that (λ view. also view && test view) views ≡ Some m
+    → find (λ view. also view && test view) views ≡ Some m
 first-both test also [] m h e = h
 first-both test also (x ∷ xs) m h e = go (test x) (also x) refl h (first-both test also xs m)
   where
-    go : (a b : Bool) → also x ≡ b → cond a (Some x) (first_that test xs) ≡ Some m
-        → (first_that test xs ≡ Some m → also m ≡ true → first_that (λ view. also view && test view) xs ≡ Some m)
-        → cond (b && a) (Some x) (first_that (λ view. also view && test view) xs) ≡ Some m
+    go : (a b : Bool) → also x ≡ b → cond a (Some x) (find test xs) ≡ Some m
+        → (find test xs ≡ Some m → also m ≡ true → find (λ view. also view && test view) xs ≡ Some m)
+        → cond (b && a) (Some x) (find (λ view. also view && test view) xs) ≡ Some m
     go true true is h later = h
     go true false is h later =
         let same : x ≡ m = cc in

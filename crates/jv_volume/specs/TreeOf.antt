@@ -1,5 +1,5 @@
 -- The tree that rows have. The bytes of files come from elsewhere: a transaction on rows sees none.
-use Rattle.std.specs.Prelude.{ℕ, ◌&&◌, ◌==◌, nat_lt, if◌then◌else◌, List, [], ◌∷◌, Option, None, Some, bytes_eq}
+use Rattle.std.specs.Prelude.{ℕ, ◌&&◌, ◌==◌, nat_lt, if◌then◌else◌, List, [], ◌∷◌, Option, None, Some, bytes_eq, unwrap_or}
 use Rattle.std.specs.Option.{option_map}
 use Rattle.std.specs.Int.{w64, from_be_bytes}
 use Rattle.jv_model.specs.declared.row.RowKey.{RowKey}
@@ -70,15 +70,13 @@ abbrev pub no_setting : Setting
 no_setting = record { version = 0; block = 0; trash_days = 0; capacity = 0; inodes = 0; hash = 0; name = []; bucket = [] }
 
 abbrev pub or_no_setting : Option Setting → Setting
-or_no_setting None = no_setting
-or_no_setting (Some setting) = setting
+or_no_setting setting = unwrap_or setting no_setting
 
 abbrev pub no_counters : Counters
 no_counters = record { inode = 0; slice = 0; session = 0; used_space = 0; used_inodes = 0 }
 
 abbrev pub or_no_counters : Option Counters → Counters
-or_no_counters None = no_counters
-or_no_counters (Some counters) = counters
+or_no_counters counters = unwrap_or counters no_counters
 
 abbrev pub counters_of : Rows → Counters
 counters_of rows = or_no_counters (counters_at rows)

@@ -1,5 +1,5 @@
 -- What a read returns by the looks that it cites (JuiceFS, "Cache": consistency is close-to-open).
-use Rattle.std.specs.Prelude.{ℕ, zero, suc, ◌+◌, ◌-◌, ◌*◌, ◌/◌, min, Bool, true, false, ◌&&◌, ◌==◌, nat_lt, nat_le, if◌then◌else◌, List, [], ◌∷◌, ◌++◌, length, Option, None, Some}
+use Rattle.std.specs.Prelude.{ℕ, zero, suc, ◌+◌, ◌-◌, ◌*◌, ◌/◌, min, Bool, ◌&&◌, ◌==◌, nat_lt, nat_le, if◌then◌else◌, List, [], ◌∷◌, ◌++◌, length, Option, None, Some, find}
 use Rattle.jv_model.specs.declared.limits.TheConstants.{FILE_END, WINDOW}
 use Rattle.jv_model.specs.tree.Tree.{Content}
 use Rattle.jv_model.specs.client.ModelClient.{OpenFile, View}
@@ -39,17 +39,13 @@ asked_parts offset len =
 abbrev pub is_fresh : ℕ → OpenFile → ℕ → View → Bool
 is_fresh handle file window view = (view.handle == handle) && (view.inode == file.inode) && (view.window == window) && nat_lt file.opened view.entry
 
-abbrev pub first_that : {X : Type 0} → (X → Bool) → List X → Option X
-first_that test [] = None
-first_that test (x ∷ xs) = (if test x then Some x else first_that test xs)
-
 -- the latest fresh view of a window
 abbrev pub fresh_view : List View → ℕ → OpenFile → ℕ → Option View
-fresh_view views handle file window = first_that (is_fresh handle file window) views
+fresh_view views handle file window = find (is_fresh handle file window) views
 
 -- the fresh view that was taken at an entry
 abbrev pub cited_view : List View → ℕ → OpenFile → ℕ → ℕ → Option View
-cited_view views handle file window entry = first_that (λ view. (view.entry == entry) && is_fresh handle file window view) views
+cited_view views handle file window entry = find (λ view. (view.entry == entry) && is_fresh handle file window view) views
 
 -- what a part shows by the view taken at an entry, where that is fresh
 abbrev pub part_read : List View → ℕ → OpenFile → ℕ → Asked → Option (List ℕ)
