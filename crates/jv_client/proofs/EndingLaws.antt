@@ -13,8 +13,9 @@ use Rattle.jv_model.specs.declared.op.Op.{Op}
 use Rattle.jv_model.specs.declared.op.Op.TheVariants as op
 use Rattle.jv_model.specs.tree.Tree.{Tree}
 use Rattle.jv_model.specs.client.Pending.{PendingByte, pending_of_others}
-use Rattle.jv_model.specs.client.ModelClient.{ModelClient, OpenFile, unmounted, with_file, inode_at, held_inodes, is_among}
+use Rattle.jv_model.specs.client.ModelClient.{ModelClient, OpenFile, unmounted, with_file, inode_at, held_inodes}
 use Rattle.jv_model.specs.journal.State.{after_told, finished, refused_as}
+use Rattle.jv_model.specs.Lists.{is_among}
 use Rattle.jv_volume.specs.Holding.{IsHoldable}
 use Rattle.jv_shared.specs.Shared.{Known, Shared}
 use Rattle.jv_handles.specs.Handles.{inode_here}

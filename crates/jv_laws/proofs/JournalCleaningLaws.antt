@@ -9,7 +9,7 @@ use Rattle.jv_model.specs.declared.act.ActKind.TheVariants.{Settled, Expired, Cl
 use Rattle.jv_model.specs.declared.op.Op.{Op}
 use Rattle.jv_model.specs.FiniteMap.{number_key, first_where}
 use Rattle.jv_model.specs.tree.Tree.{Tree, SessionEntry}
-use Rattle.jv_model.specs.client.ModelClient.{Doing, is_among, session_of}
+use Rattle.jv_model.specs.client.ModelClient.{Doing, session_of}
 use Rattle.jv_model.specs.client.Submission.{submission, submitted}
 use Rattle.jv_model.specs.journal.State.{State, set_client, after_step, after_other, of_doing, changed, effect}
 use Rattle.jv_model.specs.journal.Steps.{MayStep, DropsFile}
@@ -18,6 +18,7 @@ use Rattle.jv_model.specs.journal.Legal.{Allowed, AllAllowed, IsPublish, IsPubli
 use Rattle.jv_model.specs.journal.Looks.{entry_at}
 use Rattle.jv_laws.specs.Laws.{ExpiresOnlyGone, IsExpired, DropsOnlyGone}
 use Rattle.jv_model.proofs.FiniteMapLaws.{first_where-found}
+use Rattle.jv_model.specs.Lists.{is_among}
 use Rattle.jv_laws.proofs.JournalGrowthLaws.{AllAllowed-parts}
 use Rattle.jv_laws.proofs.JournalStates.{Entry, Steps, RefusedSubmission, LacksMemory, Crashes, Publishes, OfDrain, Ticks, entry_of, entry_before, entry_last, entry_within, none_entered, holds_on, of_kind}
 use Rattle.jv_laws.proofs.JournalOwedLaws.{is_of_operation, has_operation}

@@ -7,8 +7,9 @@ use Rattle.std.proofs.lemmas.List.{append-nil, length-append}
 use Rattle.std.proofs.lemmas.List.Elements.{filter-append}
 use Rattle.jv_model.specs.client.Pending.{PendingByte, Segment, stands_at, comes_before, all_after, is_rising, is_in_range, without_range, pending_of, run_length, first_segment, bytes_in_range, pending_end}
 use Rattle.jv_model.proofs.TestLaws.{some_same}
+use Rattle.jv_model.specs.Lists.{first_item, last_item}
 use Rattle.jv_pending.specs.declared.run.RunStart.{RunStart}
-use Rattle.jv_pending.specs.Runs.{Run, place, place_of, placed, pending_bytes, bytes_at, end_of_run, start_place, end_place, segment_of_run, IsRun, InOrder, Rise, Before, runs_before, runs_from, without_run, first_of, last_of}
+use Rattle.jv_pending.specs.Runs.{Run, place, place_of, placed, pending_bytes, bytes_at, end_of_run, start_place, end_place, segment_of_run, IsRun, InOrder, Rise, Before, runs_before, runs_from, without_run}
 use Rattle.jv_pending.proofs.Places.{byte_place, stands_here, stands_apart, after_true}
 use Rattle.jv_pending.proofs.Bytes.{Rises, Rises-weaker, Rises-placed}
 use Rattle.jv_pending.proofs.Order.{Rises-runs, InOrder-weaker, pending_bytes-append, length-placed}
@@ -196,16 +197,16 @@ first_here i low r rs o e =
     ∙ first_placed r (pending_of i (pending_bytes rs)) o.0 (λ m. Rises-filter (λ b. eqb b.inode i) (end_place r + 1) (pending_bytes rs) (apart r rs o.2 m))
 
 -- the first segment of an inode, by the first run from its first place on
-pub own_first : (i : ℕ) (rs : List Run) (r : Run) → InOrder 0 rs → Some r ≡ first_of (runs_from (place i 0) rs) → r.0.inode ≡ i → first_segment (pending_of i (pending_bytes rs)) ≡ Some (segment_of_run r)
+pub own_first : (i : ℕ) (rs : List Run) (r : Run) → InOrder 0 rs → Some r ≡ first_item (runs_from (place i 0) rs) → r.0.inode ≡ i → first_segment (pending_of i (pending_bytes rs)) ≡ Some (segment_of_run r)
 own_first i rs r o h e =
     let s = first_split (runs_from (place i 0) rs) r h in
     let q = InOrder-from (place i 0) 0 rs o in
     ap first_segment (of_from i rs o) ∙ ap (λ (t : List Run). first_segment (pending_of i (pending_bytes t))) s.1 ∙ first_here i q.0 r s.0 (subst (InOrder q.0) s.1 q.1) e
 
-pub own_none : (i : ℕ) (rs : List Run) → InOrder 0 rs → None ≡ first_of (runs_from (place i 0) rs) → pending_of i (pending_bytes rs) ≡ []
+pub own_none : (i : ℕ) (rs : List Run) → InOrder 0 rs → None ≡ first_item (runs_from (place i 0) rs) → pending_of i (pending_bytes rs) ≡ []
 own_none i rs o h = of_from i rs o ∙ ap (λ (t : List Run). pending_of i (pending_bytes t)) (first_nothing (runs_from (place i 0) rs) h)
 
-pub own_other : (i : ℕ) (rs : List Run) (r : Run) → InOrder 0 rs → Some r ≡ first_of (runs_from (place i 0) rs) → (r.0.inode ≡ i → ⊥) → pending_of i (pending_bytes rs) ≡ []
+pub own_other : (i : ℕ) (rs : List Run) (r : Run) → InOrder 0 rs → Some r ≡ first_item (runs_from (place i 0) rs) → (r.0.inode ≡ i → ⊥) → pending_of i (pending_bytes rs) ≡ []
 own_other i rs r o h n =
     let low = Rise-order 0 rs o in
     let s = first_split (runs_from (place i 0) rs) r h in
@@ -216,21 +217,21 @@ own_other i rs r o h n =
     of_from i rs o ∙ of_none i (runs_from (place i 0) rs) (subst (NoneOf i) (sym s.1) (none_from i (start_place r) (r ∷ s.0) (omega arith) rise))
 
 -- the first run of all is the first segment
-pub first_of_all : (rs : List Run) (r : Run) → InOrder 0 rs → Some r ≡ first_of (runs_from 0 rs) → first_segment (pending_bytes rs) ≡ Some (segment_of_run r)
+pub first_of_all : (rs : List Run) (r : Run) → InOrder 0 rs → Some r ≡ first_item (runs_from 0 rs) → first_segment (pending_bytes rs) ≡ Some (segment_of_run r)
 first_of_all rs r o h =
-    let s = first_split rs r (h ∙ ap first_of (from_all 0 0 rs (omega arith) (Rise-order 0 rs o))) in
+    let s = first_split rs r (h ∙ ap first_item (from_all 0 0 rs (omega arith) (Rise-order 0 rs o))) in
     let q = subst (InOrder 0) s.1 o in
     ap (λ (t : List Run). first_segment (pending_bytes t)) s.1 ∙ first_placed r (pending_bytes s.0) q.0 (apart r s.0 q.2)
 
-pub first_is_own : (rs : List Run) (r : Run) → InOrder 0 rs → Some r ≡ first_of (runs_from 0 rs) → first_segment (pending_of r.0.inode (pending_bytes rs)) ≡ Some (segment_of_run r)
+pub first_is_own : (rs : List Run) (r : Run) → InOrder 0 rs → Some r ≡ first_item (runs_from 0 rs) → first_segment (pending_of r.0.inode (pending_bytes rs)) ≡ Some (segment_of_run r)
 first_is_own rs r o h =
-    let s = first_split rs r (h ∙ ap first_of (from_all 0 0 rs (omega arith) (Rise-order 0 rs o))) in
+    let s = first_split rs r (h ∙ ap first_item (from_all 0 0 rs (omega arith) (Rise-order 0 rs o))) in
     ap (λ (t : List Run). first_segment (pending_of r.0.inode (pending_bytes t))) s.1 ∙ first_here r.0.inode 0 r s.0 (subst (InOrder 0) s.1 o) refl
 
-pub none_of_all : (rs : List Run) → InOrder 0 rs → None ≡ first_of (runs_from 0 rs) → pending_bytes rs ≡ []
-none_of_all rs o h = ap pending_bytes (first_nothing rs (h ∙ ap first_of (from_all 0 0 rs (omega arith) (Rise-order 0 rs o))))
+pub none_of_all : (rs : List Run) → InOrder 0 rs → None ≡ first_item (runs_from 0 rs) → pending_bytes rs ≡ []
+none_of_all rs o h = ap pending_bytes (first_nothing rs (h ∙ ap first_item (from_all 0 0 rs (omega arith) (Rise-order 0 rs o))))
 
-pub first_is_run : (n : ℕ) (rs : List Run) (r : Run) → InOrder 0 rs → Some r ≡ first_of (runs_from n rs) → IsRun r
+pub first_is_run : (n : ℕ) (rs : List Run) (r : Run) → InOrder 0 rs → Some r ≡ first_item (runs_from n rs) → IsRun r
 first_is_run n rs r o h = let s = first_split (runs_from n rs) r h in let q = InOrder-from n 0 rs o in (subst (InOrder q.0) s.1 q.1).0
 
 -- an inode's last pending position
@@ -245,7 +246,7 @@ end_placed i f [] h = absurd (omega arith)
 end_placed i f (b ∷ []) h = refl
 end_placed i f (b ∷ c ∷ bs) h = end_placed i (f + 1) (c ∷ bs) (omega arith) ∙ omega arith
 
-pub end_is : (i : ℕ) (rs : List Run) (r : Run) → InOrder 0 rs → Some r ≡ last_of (runs_before (place i 1099511627776) rs) → r.0.inode ≡ i → pending_end (pending_of i (pending_bytes rs)) ≡ end_of_run r
+pub end_is : (i : ℕ) (rs : List Run) (r : Run) → InOrder 0 rs → Some r ≡ last_item (runs_before (place i 1099511627776) rs) → r.0.inode ≡ i → pending_end (pending_of i (pending_bytes rs)) ≡ end_of_run r
 end_is i rs r o h e =
     let low = Rise-order 0 rs o in
     let n : ℕ = place i 1099511627776 in
@@ -272,10 +273,10 @@ no_end i rs o h =
     ∙ ap (λ (t : List PendingByte). t ++ pending_of i (pending_bytes (runs_from n rs))) (of_none i (runs_before n rs) h)
     ∙ of_none i (runs_from n rs) (none_from i n (runs_from n rs) (omega arith) (Rise-from n 0 rs low)))
 
-pub end_none : (i : ℕ) (rs : List Run) → InOrder 0 rs → None ≡ last_of (runs_before (place i 1099511627776) rs) → pending_end (pending_of i (pending_bytes rs)) ≡ 0
+pub end_none : (i : ℕ) (rs : List Run) → InOrder 0 rs → None ≡ last_item (runs_before (place i 1099511627776) rs) → pending_end (pending_of i (pending_bytes rs)) ≡ 0
 end_none i rs o h = no_end i rs o (subst (NoneOf i) (sym (last_nothing (runs_before (place i 1099511627776) rs) h)) tt)
 
-pub end_other : (i : ℕ) (rs : List Run) (r : Run) → InOrder 0 rs → Some r ≡ last_of (runs_before (place i 1099511627776) rs) → (r.0.inode ≡ i → ⊥) → pending_end (pending_of i (pending_bytes rs)) ≡ 0
+pub end_other : (i : ℕ) (rs : List Run) (r : Run) → InOrder 0 rs → Some r ≡ last_item (runs_before (place i 1099511627776) rs) → (r.0.inode ≡ i → ⊥) → pending_end (pending_of i (pending_bytes rs)) ≡ 0
 end_other i rs r o h n =
     let low = Rise-order 0 rs o in
     let s = last_split (runs_before (place i 1099511627776) rs) r h in
@@ -292,7 +293,7 @@ pub record Named (start : RunStart) (len : ℕ) (rs : List Run) : Type 0 where
   pub found : bytes_at start rs ≡ Some bytes
   pub all : rs ≡ runs_before (place_of start) rs ++ (start, bytes) ∷ runs_from (place_of start + 1) rs
 
-named_run : (rs : List Run) (r : Run) (n : ℕ) → InOrder 0 rs → Some r ≡ first_of (runs_from n rs) → Named r.0 (length r.1) rs
+named_run : (rs : List Run) (r : Run) (n : ℕ) → InOrder 0 rs → Some r ≡ first_item (runs_from n rs) → Named r.0 (length r.1) rs
 named_run rs r n o h =
     let low = Rise-order 0 rs o in
     let t = first_split (runs_from n rs) r h in
@@ -308,7 +309,7 @@ named_run rs r n o h =
 
 pub named : (start : RunStart) (s : Segment) (rs : List Run) → InOrder 0 rs → start.inode ≡ s.inode → start.from ≡ s.from → first_segment (pending_of s.inode (pending_bytes rs)) ≡ Some s → Named start s.len rs
 named start s rs o ei ef h =
-    elim (first_of (runs_from (place s.inode 0) rs)) as (λ x. first_of (runs_from (place s.inode 0) rs) ≡ x → Named start s.len rs) [
+    elim (first_item (runs_from (place s.inode 0) rs)) as (λ x. first_item (runs_from (place s.inode 0) rs) ≡ x → Named start s.len rs) [
       | None ↦ λ e. absurd (none-some s (sym (ap first_segment (own_none s.inode rs o (sym e))) ∙ h))
       | Some r ↦ λ e. ⊎_elim
           (λ same.

@@ -5,15 +5,16 @@ use Rattle.std.proofs.lemmas.Option.{none-some}
 use Rattle.std.proofs.lemmas.List.{append_assoc, append-nil, take_all}
 use Rattle.std.proofs.lemmas.List.Elements.{filter-append}
 use Rattle.jv_model.proofs.TestLaws.{some_same}
+use Rattle.jv_model.specs.Lists.{first_item, last_item}
 use Rattle.jv_pending.specs.declared.run.RunStart.{RunStart}
-use Rattle.jv_pending.specs.Runs.{Run, place, place_of, start_place, end_place, end_of_run, gap, bytes_at, IsRun, InOrder, Rise, Before, EndBy, BeginBy, Reaches, IsFirst, IsTouched, runs_before, runs_from, runs_within, first_of, last_of, head_of, tail_of, joined_from}
+use Rattle.jv_pending.specs.Runs.{Run, place, place_of, start_place, end_place, end_of_run, gap, bytes_at, IsRun, InOrder, Rise, Before, EndBy, BeginBy, Reaches, IsFirst, IsTouched, runs_before, runs_from, runs_within, head_of, tail_of, joined_from}
 use Rattle.jv_pending.proofs.Order.{EndBy-weaker, InOrder-left}
 use Rattle.jv_pending.proofs.Joins.{BeginBy-weaker, gap_le, gap_tells, order_after}
 use Rattle.jv_pending.proofs.Parts.{before_yes, before_no, before_none, before_all, from_yes, from_no, from_none, from_all, Rise-order, Rise-before, Rise-from, Before-before, Before-weaker, Before-last, file_last, last_early, before_before, within_is, whole}
 use Rattle.jv_pending.proofs.Entries.{present, absent, there}
 
 -- the last run
-pub last_split : (xs : List Run) (r : Run) → Some r ≡ last_of xs → (t : List Run) × (xs ≡ t ++ r ∷ [])
+pub last_split : (xs : List Run) (r : Run) → Some r ≡ last_item xs → (t : List Run) × (xs ≡ t ++ r ∷ [])
 last_split [] r h = absurd (none-some r (sym h))
 last_split (x ∷ []) r h = ([], ap (λ (y : Run). y ∷ []) (some_same x r (sym h)))
 last_split (x ∷ y ∷ xs) r h = let q = last_split (y ∷ xs) r h in (x ∷ q.0, ap (λ (t : List Run). x ∷ t) q.1)
@@ -21,12 +22,12 @@ last_split (x ∷ y ∷ xs) r h = let q = last_split (y ∷ xs) r h in (x ∷ q.
 cons_none : (x : Run) (xs : List Run) → x ∷ xs ≡ [] → ⊥
 cons_none x xs h = let n = ap length h in absurd (omega arith)
 
-pub last_nothing : (xs : List Run) → None ≡ last_of xs → xs ≡ []
+pub last_nothing : (xs : List Run) → None ≡ last_item xs → xs ≡ []
 last_nothing [] h = refl
 last_nothing (x ∷ []) h = absurd (none-some x h)
 last_nothing (x ∷ y ∷ xs) h = absurd (cons_none y xs (last_nothing (y ∷ xs) h))
 
-pub last_file : (n : ℕ) (rs : List Run) (r : Run) → Rise 0 rs → Some r ≡ last_of (runs_before n rs) → (r.0.from < 1099511627776) × (start_place r < n)
+pub last_file : (n : ℕ) (rs : List Run) (r : Run) → Rise 0 rs → Some r ≡ last_item (runs_before n rs) → (r.0.from < 1099511627776) × (start_place r < n)
 last_file n rs r o h =
     let s = last_split (runs_before n rs) r h in
     (file_last 0 s.0 r (subst (Rise 0) s.1 (Rise-before n 0 rs o)), last_early n s.0 r (subst (Before n) s.1 (Before-before n rs)))
@@ -37,14 +38,14 @@ tail_end to (x ∷ []) r = refl
 tail_end to (x ∷ y ∷ xs) r = tail_end to (y ∷ xs) r
 
 -- the bytes behind a write, by the last run that begins before a place
-pub tail_there : (first end to : ℕ) (rs : List Run) (r : Run) → Rise 0 rs → Some r ≡ last_of (runs_before end rs) → first ≤ start_place r → tail_of to (runs_within first end rs) ≡ drop (to - r.0.from) r.1
+pub tail_there : (first end to : ℕ) (rs : List Run) (r : Run) → Rise 0 rs → Some r ≡ last_item (runs_before end rs) → first ≤ start_place r → tail_of to (runs_within first end rs) ≡ drop (to - r.0.from) r.1
 tail_there first end to rs r o h l =
     let s = last_split (runs_before end rs) r h in
     ap (λ (t : List Run). tail_of to (runs_from first t)) s.1
     ∙ ap (tail_of to) (filter-append (λ x. leb first (start_place x)) s.0 (r ∷ []) ∙ ap (λ (t : List Run). runs_from first s.0 ++ t) (from_yes first r [] l))
     ∙ tail_end to (runs_from first s.0) r
 
-pub tail_early : (first end to : ℕ) (rs : List Run) (r : Run) → Rise 0 rs → Some r ≡ last_of (runs_before end rs) → start_place r < first → tail_of to (runs_within first end rs) ≡ []
+pub tail_early : (first end to : ℕ) (rs : List Run) (r : Run) → Rise 0 rs → Some r ≡ last_item (runs_before end rs) → start_place r < first → tail_of to (runs_within first end rs) ≡ []
 tail_early first end to rs r o h l =
     let s = last_split (runs_before end rs) r h in
     let rise : Rise 0 (s.0 ++ r ∷ []) = subst (Rise 0) s.1 (Rise-before end 0 rs o) in
@@ -53,7 +54,7 @@ tail_early first end to rs r o h l =
     ∙ ap (λ (t : List Run). t ++ runs_from first (r ∷ [])) (from_none first s.0 (Before-weaker (start_place r) first s.0 (omega arith) (Before-last 0 s.0 r rise).0))
     ∙ from_no first r [] l)
 
-pub tail_none : (first end to : ℕ) (rs : List Run) → None ≡ last_of (runs_before end rs) → tail_of to (runs_within first end rs) ≡ []
+pub tail_none : (first end to : ℕ) (rs : List Run) → None ≡ last_item (runs_before end rs) → tail_of to (runs_within first end rs) ≡ []
 tail_none first end to rs h = ap (λ (t : List Run). tail_of to (runs_from first t)) (last_nothing (runs_before end rs) h)
 
 -- the runs within two places
@@ -131,7 +132,7 @@ end_is_run low (x ∷ xs) r o = end_is_run (end_place x) xs r o.2
 pub InOrder-before : (n : ℕ) (rs : List Run) → InOrder 0 rs → InOrder 0 (runs_before n rs)
 InOrder-before n rs o = InOrder-left 0 (runs_before n rs) (runs_from n rs) (subst (InOrder 0) (sym (whole n 0 rs (Rise-order 0 rs o))) o)
 
-pub last_is_run : (n : ℕ) (rs : List Run) (r : Run) → InOrder 0 rs → Some r ≡ last_of (runs_before n rs) → IsRun r
+pub last_is_run : (n : ℕ) (rs : List Run) (r : Run) → InOrder 0 rs → Some r ≡ last_item (runs_before n rs) → IsRun r
 last_is_run n rs r o h = let s = last_split (runs_before n rs) r h in end_is_run 0 s.0 r (subst (InOrder 0) s.1 (InOrder-before n rs o))
 
 Rise-split : (low : ℕ) (xs : List Run) (r : Run) (ys : List Run) → Rise low (xs ++ r ∷ ys) → Before (start_place r) xs × Rise (start_place r) (r ∷ ys) × (low ≤ start_place r)
@@ -139,7 +140,7 @@ Rise-split low [] r ys h = (tt, (h.0, omega arith, h.2), h.1)
 Rise-split low (x ∷ xs) r ys h = let q = Rise-split (start_place x + 1) xs r ys h.2 in let k = h.1 in let e = q.2 in ((omega arith, q.0), q.1, omega arith)
 
 -- the last run before a place is in the map
-pub last_there : (n : ℕ) (rs : List Run) (r : Run) → Rise 0 rs → Some r ≡ last_of (runs_before n rs) → bytes_at r.0 rs ≡ Some r.1
+pub last_there : (n : ℕ) (rs : List Run) (r : Run) → Rise 0 rs → Some r ≡ last_item (runs_before n rs) → bytes_at r.0 rs ≡ Some r.1
 last_there n rs r o h =
     let s = last_split (runs_before n rs) r h in
     let after : List Run = runs_from n rs in
@@ -153,12 +154,12 @@ last_there n rs r o h =
     there r.0 (last_file n rs r o h).0 0 rs after r.1 o here
 
 -- a run that begins at a position or later reaches it
-pub late : (i from low : ℕ) (rs : List Run) → InOrder low rs → Rise (place i from) rs → IfSome (first_of rs) (λ r. r.0.inode ≡ i → from + 1 ≤ end_of_run r + gap from)
+pub late : (i from low : ℕ) (rs : List Run) → InOrder low rs → Rise (place i from) rs → IfSome (first_item rs) (λ r. r.0.inode ≡ i → from + 1 ≤ end_of_run r + gap from)
 late i from low [] o r = tt
 late i from low (x ∷ rs) o r = λ e. let s = o.0.some in let k = r.1 in omega arith
 
 -- the run that begins last up to a position and reaches it is the first that a write touches
-pub first_reaches : (i from : ℕ) (rs : List Run) (r : Run) → InOrder 0 rs → Some r ≡ last_of (runs_before (place i from + 1) rs) → from < 1099511627776 → r.0.inode ≡ i → from + 1 ≤ end_of_run r + gap from → IsFirst i from rs r.0
+pub first_reaches : (i from : ℕ) (rs : List Run) (r : Run) → InOrder 0 rs → Some r ≡ last_item (runs_before (place i from + 1) rs) → from < 1099511627776 → r.0.inode ≡ i → from + 1 ≤ end_of_run r + gap from → IsFirst i from rs r.0
 first_reaches i from rs r o h file e reach =
     let low = Rise-order 0 rs o in
     let s = last_split (runs_before (place i from + 1) rs) r h in
@@ -187,8 +188,8 @@ first_reaches i from rs r o h file e reach =
       inode_is = e;
       from_is = omega arith;
       before = subst (EndBy (place i from - gap from)) (sym before) (EndBy-weaker (start_place r - gap r.0.from) (place i from - gap from) s.0 below (end_early 0 s.0 r after (subst (InOrder 0) all o)).0);
-      reached = subst (λ (t : List Run). IfSome (first_of t) (λ x. x.0.inode ≡ i → from + 1 ≤ end_of_run x + gap from)) (sym here) (λ _. reach);
-      begins = λ _. subst (λ (t : List Run). IsSomeAnd (first_of t) (λ x. x.0 ≡ r.0)) (sym here) refl;
+      reached = subst (λ (t : List Run). IfSome (first_item t) (λ x. x.0.inode ≡ i → from + 1 ≤ end_of_run x + gap from)) (sym here) (λ _. reach);
+      begins = λ _. subst (λ (t : List Run). IsSomeAnd (first_item t) (λ x. x.0 ≡ r.0)) (sym here) refl;
     }
 
 -- where no run reaches it, the write itself is the first
@@ -204,10 +205,10 @@ first_here i from rs o b =
       begins = λ l. absurd (omega arith);
     }
 
-pub first_none : (i from : ℕ) (rs : List Run) → InOrder 0 rs → None ≡ last_of (runs_before (place i from + 1) rs) → IsFirst i from rs (record { inode = i; from = from })
+pub first_none : (i from : ℕ) (rs : List Run) → InOrder 0 rs → None ≡ last_item (runs_before (place i from + 1) rs) → IsFirst i from rs (record { inode = i; from = from })
 first_none i from rs o h = first_here i from rs o (subst (EndBy (place i from - gap from)) (sym (last_nothing (runs_before (place i from + 1) rs) h)) tt)
 
-pub first_apart : (i from : ℕ) (rs : List Run) (r : Run) → InOrder 0 rs → Some r ≡ last_of (runs_before (place i from + 1) rs) → from < 1099511627776 → (r.0.inode ≡ i → end_of_run r + gap from ≤ from) → IsFirst i from rs (record { inode = i; from = from })
+pub first_apart : (i from : ℕ) (rs : List Run) (r : Run) → InOrder 0 rs → Some r ≡ last_item (runs_before (place i from + 1) rs) → from < 1099511627776 → (r.0.inode ≡ i → end_of_run r + gap from ≤ from) → IsFirst i from rs (record { inode = i; from = from })
 first_apart i from rs r o h file apart =
     let s = last_split (runs_before (place i from + 1) rs) r h in
     let early = last_early (place i from + 1) s.0 r (subst (Before (place i from + 1)) s.1 (Before-before (place i from + 1) rs)) in
@@ -230,11 +231,11 @@ begin_by i low to (x ∷ mid) l h r b =
     let f = r.0 in
     (omega arith, omega arith, begin_by i (start_place x + 1) to mid (omega arith) h r.2 b.1)
 
-reaches_by : (i from : ℕ) (mid : List Run) → IfSome (first_of mid) (λ r. r.0.inode ≡ i → from + 1 ≤ end_of_run r + gap from) → BeginBy i 1099511627776 mid → Reaches from mid
+reaches_by : (i from : ℕ) (mid : List Run) → IfSome (first_item mid) (λ r. r.0.inode ≡ i → from + 1 ≤ end_of_run r + gap from) → BeginBy i 1099511627776 mid → Reaches from mid
 reaches_by i from [] h b = tt
 reaches_by i from (x ∷ mid) h b = h b.0
 
-begins_by : (i from low : ℕ) (mid : List Run) (first : RunStart) → first.inode ≡ i → first.from ≤ from → place_of first ≤ low → Rise low mid → BeginBy i 1099511627776 mid → (first.from < from → IsSomeAnd (first_of mid) (λ r. r.0 ≡ first)) → joined_from from mid ≡ first.from
+begins_by : (i from low : ℕ) (mid : List Run) (first : RunStart) → first.inode ≡ i → first.from ≤ from → place_of first ≤ low → Rise low mid → BeginBy i 1099511627776 mid → (first.from < from → IsSomeAnd (first_item mid) (λ r. r.0 ≡ first)) → joined_from from mid ≡ first.from
 begins_by i from low [] first e l k r b h = ⊎_elim (λ lt. absurd (h lt)) (λ ge. omega arith) (cases_lt first.from from)
 begins_by i from low (x ∷ mid) first e l k r b h =
     let m = r.1 in
@@ -245,17 +246,17 @@ begins_by i from low (x ∷ mid) first e l k r b h =
     (cases_lt first.from from)
 
 -- the first run from a place on is the first of those within two places, where any are
-first_within : (n : ℕ) (rs : List Run) (P : Run → Type 0) → (low : ℕ) → Rise low rs → IfSome (first_of rs) P → IfSome (first_of (runs_before n rs)) P
+first_within : (n : ℕ) (rs : List Run) (P : Run → Type 0) → (low : ℕ) → Rise low rs → IfSome (first_item rs) P → IfSome (first_item (runs_before n rs)) P
 first_within n [] P low r h = tt
 first_within n (x ∷ rs) P low r h =
     ⊎_elim
-    (λ l. subst (λ (t : List Run). IfSome (first_of t) P) (sym (before_yes n x rs l)) h)
-    (λ g. let s : Rise (start_place x) (x ∷ rs) = (r.0, omega arith, r.2) in subst (λ (t : List Run). IfSome (first_of t) P) (sym (before_none n (start_place x) (x ∷ rs) g s)) tt)
+    (λ l. subst (λ (t : List Run). IfSome (first_item t) P) (sym (before_yes n x rs l)) h)
+    (λ g. let s : Rise (start_place x) (x ∷ rs) = (r.0, omega arith, r.2) in subst (λ (t : List Run). IfSome (first_item t) P) (sym (before_none n (start_place x) (x ∷ rs) g s)) tt)
     (cases_lt (start_place x) n)
 
-first_kept : (n : ℕ) (rs : List Run) (first : RunStart) → place_of first < n → IsSomeAnd (first_of rs) (λ r. r.0 ≡ first) → IsSomeAnd (first_of (runs_before n rs)) (λ r. r.0 ≡ first)
+first_kept : (n : ℕ) (rs : List Run) (first : RunStart) → place_of first < n → IsSomeAnd (first_item rs) (λ r. r.0 ≡ first) → IsSomeAnd (first_item (runs_before n rs)) (λ r. r.0 ≡ first)
 first_kept n [] first l h = absurd h
-first_kept n (x ∷ rs) first l h = subst (λ (t : List Run). IsSomeAnd (first_of t) (λ r. r.0 ≡ first)) (sym (before_yes n x rs (let q : place_of x.0 ≡ place_of first = ap place_of h in omega arith))) h
+first_kept n (x ∷ rs) first l h = subst (λ (t : List Run). IsSomeAnd (first_item t) (λ r. r.0 ≡ first)) (sym (before_yes n x rs (let q : place_of x.0 ≡ place_of first = ap place_of h in omega arith))) h
 
 pub touched : (i from to : ℕ) (rs : List Run) (first end : RunStart) → InOrder 0 rs → from < to → to ≤ 1099511627776 → IsFirst i from rs first → end.inode ≡ i → end.from ≡ to + gap to → IsTouched i from to rs first end
 touched i from to rs first end o lt file f ei ef =
@@ -279,10 +280,10 @@ touched i from to rs first end o lt file f ei ef =
       end_inode = ei;
       end_from = ef;
       begins = begins_by i from (place_of first) mid first fi ff (omega arith) rises wide
-          (λ l. subst (λ (t : List Run). IsSomeAnd (first_of t) (λ r. r.0 ≡ first)) (sym same) (first_kept (place_of end) behind first up (f.begins l)));
+          (λ l. subst (λ (t : List Run). IsSomeAnd (first_item t) (λ r. r.0 ≡ first)) (sym same) (first_kept (place_of end) behind first up (f.begins l)));
       before = f.before;
       of_inode = all;
-      reached = reaches_by i from mid (subst (λ (t : List Run). IfSome (first_of t) (λ r. r.0.inode ≡ i → from + 1 ≤ end_of_run r + gap from)) (sym same)
+      reached = reaches_by i from mid (subst (λ (t : List Run). IfSome (first_item t) (λ r. r.0.inode ≡ i → from + 1 ≤ end_of_run r + gap from)) (sym same)
           (first_within (place_of end) behind (λ r. r.0.inode ≡ i → from + 1 ≤ end_of_run r + gap from) (place_of first) (Rise-from (place_of first) 0 rs low) f.reached)) wide;
       after = order_after i to q.0 (runs_from (place_of end) rs) q.1 file (subst (λ n. Rise n (runs_from (place_of end) rs)) last (Rise-from (place_of end) 0 rs low));
     }

@@ -4,8 +4,9 @@ use Rattle.std.proofs.lemmas.Bool.{cases_lt, cases_eq}
 use Rattle.std.proofs.lemmas.List.{append_assoc, append-nil}
 use Rattle.std.proofs.lemmas.List.Elements.{filter-append}
 use Rattle.jv_model.specs.client.Pending.{PendingByte, written}
+use Rattle.jv_model.specs.Lists.{first_item}
 use Rattle.jv_pending.specs.declared.run.RunStart.{RunStart}
-use Rattle.jv_pending.specs.Runs.{Run, place, place_of, placed, start_place, end_place, end_of_run, gap, bytes_at, pending_bytes, InOrder, Rise, Before, EndBy, end_after, runs_before, runs_from, runs_within, first_of, with_runs, tail_of, joined_from, joined, BeginBy, Reaches, joined_behind, IsFirst, IsTouched, Starts, Writes}
+use Rattle.jv_pending.specs.Runs.{Run, place, place_of, placed, start_place, end_place, end_of_run, gap, bytes_at, pending_bytes, InOrder, Rise, Before, EndBy, end_after, runs_before, runs_from, runs_within, with_runs, tail_of, joined_from, joined, BeginBy, Reaches, joined_behind, IsFirst, IsTouched, Starts, Writes}
 use Rattle.jv_pending.proofs.Bytes.{Rises, front, back, written_is, written-append}
 use Rattle.jv_pending.proofs.Order.{EndBy-weaker, InOrder-weaker, InOrder-left, InOrder-append, end_after_by, pending_bytes-append, Rises-runs, front_runs, back_runs}
 use Rattle.jv_pending.proofs.Joins.{gap_le, gap_tells}
@@ -170,7 +171,7 @@ module _ (from : ℕ) (bs : List ℕ) (first : RunStart) (rs : List Run) (rise :
             inode_is = refl;
             from_is = omega arith;
             before = subst (EndBy (place end.inode to - gap to)) (sym (before_none (place_of end) (place_of end) behind (omega arith) rises)) tt;
-            reached = subst (λ (t : List Run). IfSome (first_of t) (λ r. r.0.inode ≡ end.inode → to + 1 ≤ end_of_run r + gap to)) (sym whole_behind)
+            reached = subst (λ (t : List Run). IfSome (first_item t) (λ r. r.0.inode ≡ end.inode → to + 1 ≤ end_of_run r + gap to)) (sym whole_behind)
                 (late end.inode to (place_of end) behind order (subst (λ n. Rise n behind) (let d : place_of end ≡ place end.inode to = omega arith in d) rises));
             begins = λ l. absurd (omega arith);
           } in
@@ -288,16 +289,16 @@ module _ (inode from : ℕ) (bs : List ℕ) (first : RunStart) (rs : List Run) (
           inode_is = refl;
           from_is = f.from_is;
           before = subst (EndBy (place first.inode from - gap from)) (sym (before_none (place_of first) (place_of first) behind (omega arith) rises_behind)) tt;
-          reached = subst (λ (t : List Run). IfSome (first_of t) (λ r. r.0.inode ≡ first.inode → from + 1 ≤ end_of_run r + gap from)) (sym again) here.reached;
-          begins = λ l. subst (λ (t : List Run). IsSomeAnd (first_of t) (λ r. r.0 ≡ first)) (sym again) (here.begins l);
+          reached = subst (λ (t : List Run). IfSome (first_item t) (λ r. r.0.inode ≡ first.inode → from + 1 ≤ end_of_run r + gap from)) (sym again) here.reached;
+          begins = λ l. subst (λ (t : List Run). IsSomeAnd (first_item t) (λ r. r.0 ≡ first)) (sym again) (here.begins l);
         };
       }
 
   -- the runs before it end early enough
-  begins_with : IsSomeAnd (first_of behind) (λ r. r.0 ≡ first) → (r : Run) × (t : List Run) × (r.0 ≡ first) × (behind ≡ r ∷ t)
+  begins_with : IsSomeAnd (first_item behind) (λ r. r.0 ≡ first) → (r : Run) × (t : List Run) × (r.0 ≡ first) × (behind ≡ r ∷ t)
   begins_with h = split behind h
     where
-      split : (es : List Run) → IsSomeAnd (first_of es) (λ r. r.0 ≡ first) → (r : Run) × (t : List Run) × (r.0 ≡ first) × (es ≡ r ∷ t)
+      split : (es : List Run) → IsSomeAnd (first_item es) (λ r. r.0 ≡ first) → (r : Run) × (t : List Run) × (r.0 ≡ first) × (es ≡ r ∷ t)
       split [] h = absurd h
       split (x ∷ xs) h = (x, xs, h, refl)
 

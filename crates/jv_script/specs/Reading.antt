@@ -7,7 +7,7 @@ use Rattle.jv_model.specs.declared.limits.TheConstants.{MAX_DATA}
 use Rattle.jv_model.specs.script.Spelling.{◌>>=◌, bytes_of_digits}
 use Rattle.jv_model.specs.script.Printed.{Part, Plain}
 use Rattle.jv_model.specs.script.Grammar.{is_pairs, part_of, part_length, part_bytes, all_parts_of}
-use Rattle.jv_model.specs.Lists.{parted}
+use Rattle.jv_model.specs.Lists.{parted, first_item}
 use Rattle.jv_model.specs.Optional.{provided}
 use Rattle.jv_script.specs.declared.bad_line.BadLine.{BadLine}
 use Rattle.jv_script.specs.declared.bad_line.BadLine.TheVariants.{Off, Memory}
@@ -30,14 +30,9 @@ Reads (Ok value) grammar = grammar ≡ Some value
 Reads (Err Off) grammar = grammar ≡ None
 Reads (Err Memory) grammar = IsSome grammar
 
--- the first of bytes, if there are any
-abbrev pub first_in : List ℕ → Option ℕ
-first_in [] = None
-first_in (byte ∷ _) = Some byte
-
 abbrev pub first_of : Option (List ℕ) → Option ℕ
 first_of None = None
-first_of (Some bytes) = first_in bytes
+first_of (Some bytes) = first_item bytes
 
 -- bytes, if not too many
 abbrev pub limited_bytes : List ℕ → Option (List ℕ)

@@ -9,9 +9,9 @@ use Rattle.jv_model.specs.declared.fault.Fault.TheVariants.{AlreadyExists, Inval
 use Rattle.jv_model.specs.FiniteMap.{get}
 use Rattle.jv_model.specs.tree.Attempt.{◌>>=◌, require, some_or}
 use Rattle.jv_model.specs.tree.Tree.{Tree, EntryKey, root, is_directory}
-use Rattle.jv_model.specs.tree.Walk.{is_dot, is_dot_dot, names_of, last_name, all_but_last, walk, entry_of}
+use Rattle.jv_model.specs.tree.Walk.{is_dot, is_dot_dot, names_of, all_but_last, walk, entry_of}
 use Rattle.jv_model.specs.tree.Making.{may_be_new, new_place}
-use Rattle.jv_model.specs.Lists.{is_nil, parted}
+use Rattle.jv_model.specs.Lists.{is_nil, parted, last_item}
 use Rattle.jv_volume.specs.TypedRows.{is_entry_name}
 use Rattle.jv_volume.proofs.WalkShapeLaws.{went_on, required, was_some, same_Ok}
 
@@ -56,7 +56,7 @@ names_filter (part ∷ parts) h =
     let both = and_parts (is_plain part) (all_plain parts) h in
     names_step part (filter (λ name. not (is_nil name)) parts) (not (is_nil part)) refl both.0 (names_filter parts both.1)
 
-last_is : (names : List (List ℕ)) (name : List ℕ) → all_names names ≡ true → last_name names ≡ Some name → is_name name ≡ true
+last_is : (names : List (List ℕ)) (name : List ℕ) → all_names names ≡ true → last_item names ≡ Some name → is_name name ≡ true
 last_is [] name h e = absurd (cc)
 last_is (first ∷ []) name h e = (let same : first ≡ name = cc in subst (λ n. is_name n ≡ true) same (and_parts (is_name first) true h).0)
 last_is (first ∷ second ∷ names) name h e = last_is (second ∷ names) name (and_parts (is_name first) (all_names (second ∷ names)) h).1 e
@@ -86,8 +86,8 @@ module _ (t : Tree) (path : List ℕ) (plain : list_all (λ b. not (b == 0)) pat
   -- the name of a path's entry
   pub entry_of-name : (place : EntryKey) → entry_of t path ≡ Ok place → is_entry_name place.name ≡ true
   entry_of-name place h =
-      let short = went_on (require (nat_le (length path) MAX_PATH) NameTooLong) (λ _. some_or (last_name (names_of path)) Invalid >>= of_name) place h in
-      let name = went_on (some_or (last_name (names_of path)) Invalid) of_name place short.2 in
+      let short = went_on (require (nat_le (length path) MAX_PATH) NameTooLong) (λ _. some_or (last_item (names_of path)) Invalid >>= of_name) place h in
+      let name = went_on (some_or (last_item (names_of path)) Invalid) of_name place short.2 in
       let dots = went_on (require (not (is_dot name.0 || is_dot_dot name.0)) Invalid) (λ _. above >>= of_dir name.0) place name.2 in
       let dir = went_on above (of_dir name.0) place dots.2 in
       let within = went_on (require (is_directory t dir.0) NotADirectory) (λ _. of_length name.0 dir.0) place dir.2 in

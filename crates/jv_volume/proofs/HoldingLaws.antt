@@ -2,7 +2,6 @@
 use Rattle.std.proofs.Common.{◌≡◌, ℕ, ◌≤◌, Bool, true, false, not, ◌&&◌, ◌==◌, inl, inr, List, Option, None, Some}
 use Rattle.std.proofs.Common.{is_some, Result, Ok, Err, refl, sym, ap, subst, ◌∙◌, arith}
 use Rattle.std.specs.Prelude.{IsTrue}
-use Rattle.std.specs.List.{list_any}
 use Rattle.std.proofs.lemmas.Bool.{false≢true, and_parts, not-true, false_from_ne_true}
 use Rattle.jv_model.specs.declared.op.Op.{Op}
 use Rattle.jv_model.specs.declared.op.Op.TheVariants as op
@@ -15,6 +14,7 @@ use Rattle.jv_model.specs.tree.Changes.{touched, with_content, overwritten, resi
 use Rattle.jv_model.specs.tree.Caller.{Caller, Outcome, outcome}
 use Rattle.jv_model.specs.tree.FileBytes.{committed, truncated, copied, truncate, copy}
 use Rattle.jv_model.specs.tree.TreeAct.{tree_act}
+use Rattle.jv_model.specs.Lists.{is_among}
 use Rattle.jv_volume.specs.Shape.{Regular, Shape, WholeShape, form_of, is_there, shape_of}
 use Rattle.jv_volume.specs.Holding.{IsHoldable, HasBytes, Kept, New as NewFile, Stays, changes_bytes, takes_entries}
 use Rattle.jv_volume.proofs.ShapeMapLaws.{pair_of, is_there-form, form-content}
@@ -273,7 +273,7 @@ module _ (t : Tree) (who : Caller) where
     | Changes _ alike ↦ λ h. sustains_alike (tree_act t who o).tree inode alike h
   ])
 
-  kept_held : (o : Op) (inode : ℕ) → IsTrue (kept_by o who inode) → IsTrue (list_any (λ h. h == inode) who.held)
+  kept_held : (o : Op) (inode : ℕ) → IsTrue (kept_by o who inode) → IsTrue (is_among inode who.held)
   kept_held (op.Unlink path) inode h = h
   kept_held (op.Rename path to how) inode h = h
   kept_held o inode h = absurd (false≢true h)
@@ -281,7 +281,7 @@ module _ (t : Tree) (who : Caller) where
   -- and only one that the caller has open
   pub sustains_held : (o : Op) (inode : ℕ)
       → (is_sustained (tree_act t who o).tree who.sid inode && not (is_sustained t who.sid inode)) ≡ true
-      → IsTrue (list_any (λ h. h == inode) who.held)
+      → IsTrue (is_among inode who.held)
   sustains_held o inode = elim (by_bytes t who o) [
     | Leaves leaves ↦ λ h. kept_held o inode
         (sustains_more (IsLow t) (kept_by o who) (tree_act t who o).tree inode (keeps-tree_act t who o leaves) h)

@@ -2,7 +2,6 @@
 use Rattle.std.proofs.Common.{◌≡◌, ℕ, ◌+◌, ◌≤◌, Bool, true, false, cond, not, ◌&&◌, ◌==◌, inl, inr, List, Option, None}
 use Rattle.std.proofs.Common.{Some, is_some, Result, Ok, Err, refl, sym, ap, subst, ◌∙◌, arith}
 use Rattle.std.specs.Prelude.{IsTrue, nat_lt}
-use Rattle.std.specs.List.{list_any}
 use Rattle.std.proofs.lemmas.Bool.{false≢true, cond_both}
 use Rattle.jv_model.specs.declared.lifetimes.TheConstants.{FIRST_HOUR}
 use Rattle.jv_model.specs.declared.basics.How.{How}
@@ -28,6 +27,7 @@ use Rattle.jv_model.specs.tree.Renaming.{replacing, exchanging, unless_same, ren
 use Rattle.jv_model.specs.tree.Sessions.{with_session, kept_alive, without_session, released, mount, beat, umount}
 use Rattle.jv_model.specs.tree.Sessions.{release}
 use Rattle.jv_model.proofs.FiniteMapLaws.{get-retain_keys}
+use Rattle.jv_model.specs.Lists.{is_among}
 use Rattle.jv_volume.proofs.ShapeMapLaws.{same_or_apart, pair_of, get-insert_apart, get-removed, get-remove_apart}
 use Rattle.jv_volume.proofs.ChangeLaws.{change_node-next_inode, change_node-sustained}
 use Rattle.jv_volume.proofs.WalkShapeLaws.{was_some}
@@ -43,7 +43,7 @@ none_more inode = false
 
 -- those that a caller has open
 abbrev pub those_held : Caller → ℕ → Bool
-those_held who inode = list_any (λ held. held == inode) who.held
+those_held who inode = is_among inode who.held
 
 -- new nodes
 
@@ -68,7 +68,7 @@ held_where_sustained t who place inode =
     let Says = λ (fate : Fate). fate ≡ Sustained → IsTrue (those_held who inode) in
     cond_both (nat_lt 1 (entry_count t inode)) _ _ Says (λ several e. absurd (cc)) (λ few.
     cond_both (nat_lt 0 t.setting.trash_days && not (in_trash place.dir)) _ _ Says (λ days e. absurd (cc)) (λ stays.
-    cond_both (list_any (λ held. held == inode) who.held) _ _ Says (λ used e. used) (λ closed e. absurd (cc))))
+    cond_both (is_among inode who.held) _ _ Says (λ used e. used) (λ closed e. absurd (cc))))
 
 -- the inodes of hours lie past those that are given to new nodes
 high_hour : (hour : ℕ) → full_count ≤ hour_inode hour

@@ -1,7 +1,6 @@
 -- A client as the model has it: its session, its open files, what it saw of them, what it wrote and didn't commit, and
 -- what it is doing.
 use Rattle.std.specs.Prelude.{ℕ, ◌+◌, ◌-◌, Bool, true, false, ◌&&◌, not, ◌==◌, nat_le, if◌then◌else◌, List, [], ◌∷◌, ◌++◌, length, filter, slice_get, slice_set, unwrap_or, Option, None, Some}
-use Rattle.std.specs.List.{list_any}
 use Rattle.jv_model.specs.declared.op.Op.{Op}
 use Rattle.jv_model.specs.declared.op.Reply.{Reply}
 use Rattle.jv_model.specs.declared.profile.Does.{Does}
@@ -135,10 +134,6 @@ abbrev pub held_inodes : List (Option OpenFile) → List ℕ
 held_inodes [] = []
 held_inodes (None ∷ files) = held_inodes files
 held_inodes (Some file ∷ files) = file.inode ∷ held_inodes files
-
--- whether a number stands in a list
-abbrev pub is_among : ℕ → List ℕ → Bool
-is_among inode inodes = list_any (λ i. i == inode) inodes
 
 -- Whether a handle is the client's last one on a file that it removed itself while it had it open.
 abbrev pub is_last_of_removed : ModelClient → ℕ → Bool

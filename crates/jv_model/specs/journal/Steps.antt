@@ -31,10 +31,11 @@ use Rattle.jv_model.specs.tree.Trash.{due_purge}
 use Rattle.jv_model.specs.client.Pending.{Segment, bytes_in_range}
 use Rattle.jv_model.specs.client.Origins.{Owed, missing_commit}
 use Rattle.jv_model.specs.client.Profile.{handle_of}
-use Rattle.jv_model.specs.client.ModelClient.{ModelClient, OpenFile, View, Doing, Stage, Part, Sessions, Trash, Files, Slices, Blocks, MoreBlocks, Cleaning, Compaction, Working, Reading, Missing, LookedAgain, Compacting, Cleans, Requesting, Replying, session_of, file_of, inode_at, is_among}
+use Rattle.jv_model.specs.client.ModelClient.{ModelClient, OpenFile, View, Doing, Stage, Part, Sessions, Trash, Files, Slices, Blocks, MoreBlocks, Cleaning, Compaction, Working, Reading, Missing, LookedAgain, Compacting, Cleans, Requesting, Replying, session_of, file_of, inode_at}
 use Rattle.jv_model.specs.client.Submission.{next_segment, is_flushed}
 use Rattle.jv_model.specs.journal.State.{State, ChangeKind, Written, Replaced, Ended, transacted, caller, has_session, look_refusal, sees_first, is_refused, is_cleaning, is_compaction, is_last, is_collecting, first_cleaning, answer_then, gift_of, Gift, NewSession, NewHandle, Nothing}
 use Rattle.jv_model.specs.journal.Reading.{Asked, window_start, asked_parts, fresh_view, part_to_look, shows_all, reading}
+use Rattle.jv_model.specs.Lists.{is_among}
 
 -- what the run began with, as far as a tree doesn't say it
 pub record Start : Type 0 where
@@ -421,7 +422,7 @@ inode_in_use c d = elim d.stage [
 ]
 
 abbrev has_late_request : ℕ → ℕ → List ℕ → Bool
-has_late_request started now quiets = list_any (λ moment. moment == started) quiets && nat_le (started + UPLOAD_LIFE) now
+has_late_request started now quiets = is_among started quiets && nat_le (started + UPLOAD_LIFE) now
 
 -- since the compaction's first look others changed the list of its file
 abbrev found_another : State → Compaction → Bool

@@ -1,6 +1,6 @@
 -- The grammar of rows, version 1: what a value of each table may be, its one spelling, and the value that bytes spell, if they do.
 use Rattle.std.specs.Prelude.{ℕ, ◌-◌, ◌*◌, ◌/◌, zero, suc, Bool, true, ◌&&◌, ◌||◌, not, ◌==◌, nat_le, if◌then◌else◌, List, [], ◌∷◌, ◌++◌, length, slice_index, Option, None, Some}
-use Rattle.std.specs.List.{flat_map, list_all, list_any}
+use Rattle.std.specs.List.{flat_map, list_all}
 use Rattle.std.specs.Option.{option_map}
 use Rattle.std.specs.Str.{is_utf8}
 use Rattle.jv_model.specs.declared.limits.TheConstants.{MIN_BLOCK, MAX_BLOCK, MIN_VOLUME_NAME, MAX_VOLUME_NAME, MAX_BUCKET, MAX_TRASH_DAYS, MAX_CAPACITY, FULL_COUNT, SPACE_UNIT, MAX_PATH, MAX_MODE}
@@ -17,7 +17,7 @@ use Rattle.jv_model.specs.declared.row.Row.{Row}
 use Rattle.jv_model.specs.declared.row.Row.TheVariants.{OfSetting, OfCounters, OfNode, OfEdge, OfList, OfSlice, OfSession, OfSustained, OfDropped, OfDead}
 use Rattle.jv_model.specs.blocks.Slices.{is_record}
 use Rattle.jv_model.specs.rows.RowFields.{◌>>=◌, byte, half, word, long, byte_at, front_at, half_at, word_at, long_at, whole}
-use Rattle.jv_model.specs.Lists.{is_nil}
+use Rattle.jv_model.specs.Lists.{is_nil, is_among}
 
 -- ---- table 0: what the volume was formatted with
 
@@ -26,7 +26,7 @@ abbrev pub block_sizes : List ℕ
 block_sizes = MIN_BLOCK ∷ 2 * MIN_BLOCK ∷ 4 * MIN_BLOCK ∷ 8 * MIN_BLOCK ∷ 16 * MIN_BLOCK ∷ 32 * MIN_BLOCK ∷ 64 * MIN_BLOCK ∷ 128 * MIN_BLOCK ∷ MAX_BLOCK ∷ []
 
 abbrev pub is_block : ℕ → Bool
-is_block size = list_any (λ n. n == size) block_sizes
+is_block size = is_among size block_sizes
 
 -- a lower-case letter, a digit or `-`
 abbrev pub is_name_byte : ℕ → Bool

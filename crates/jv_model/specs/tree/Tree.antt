@@ -10,6 +10,7 @@ use Rattle.std.specs.Cmp.Lexicographic.{slice_cmp, nat_list_cmp_total}
 use Rattle.jv_model.specs.declared.limits.TheConstants.{ROOT, TRASH_ROOT, FULL_COUNT, MAX_LINKS, SPACE_UNIT, GIB}
 use Rattle.jv_model.specs.declared.setting.Setting.{Setting}
 use Rattle.jv_model.specs.FiniteMap.{KeyOrder, Map, number_key, text_key, empty_map, get, insert, first_where, sum_over}
+use Rattle.jv_model.specs.Lists.{first_number}
 
 -- the bytes of a file: how many, and the byte at each position, which is 0 from the length on
 pub record Content : Type 0 where
@@ -40,10 +41,6 @@ pub record SessionEntry : Type 0 where
 
 abbrev pub entry_bytes : EntryKey → List ℕ
 entry_bytes key = key.dir ∷ key.name
-
-abbrev first_number : List ℕ → ℕ
-first_number [] = 0
-first_number (n ∷ ns) = n
 
 abbrev other_numbers : List ℕ → List ℕ
 other_numbers [] = []

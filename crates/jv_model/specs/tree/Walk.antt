@@ -9,7 +9,7 @@ use Rattle.jv_model.specs.declared.fault.Fault.TheVariants.{NotFound, NotADirect
 use Rattle.jv_model.specs.tree.Attempt.{◌>>=◌, require, some_or}
 use Rattle.jv_model.specs.FiniteMap.{get}
 use Rattle.jv_model.specs.tree.Tree.{Tree, EntryKey, root, trash_root, parent_at, target_at, is_directory}
-use Rattle.jv_model.specs.Lists.{is_nil, parted}
+use Rattle.jv_model.specs.Lists.{is_nil, parted, last_item}
 
 -- whether a path or a target begins at the root
 abbrev pub is_absolute : List ℕ → Bool
@@ -84,17 +84,12 @@ all_but_last [] = []
 all_but_last (name ∷ []) = []
 all_but_last (name ∷ other ∷ names) = name ∷ all_but_last (other ∷ names)
 
-abbrev pub last_name : List (List ℕ) → Option (List ℕ)
-last_name [] = None
-last_name (name ∷ []) = Some name
-last_name (_ ∷ other ∷ names) = last_name (other ∷ names)
-
 -- The entry that a path names, whether it is there or not. A path without a last name is refused; POSIX has several
 -- answers there.
 abbrev pub entry_of : Tree → List ℕ → Result EntryKey Fault
 entry_of t path = do
   _ ← require (nat_le (length path) MAX_PATH) NameTooLong
-  name ← some_or (last_name (names_of path)) Invalid
+  name ← some_or (last_item (names_of path)) Invalid
   _ ← require (not (is_dot name || is_dot_dot name)) Invalid
   dir ← walk MAX_SYMLINKS t true root (all_but_last (names_of path))
   _ ← require (is_directory t dir) NotADirectory
