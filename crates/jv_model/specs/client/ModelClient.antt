@@ -7,6 +7,7 @@ use Rattle.jv_model.specs.declared.profile.Does.{Does}
 use Rattle.jv_model.specs.tree.Tree.{Content}
 use Rattle.jv_model.specs.client.Pending.{PendingByte}
 use Rattle.jv_model.specs.client.Origins.{Origin, Owed}
+use Rattle.jv_model.specs.Lists.{is_among}
 
 -- an open file: its inode, and the number of the entry that opened it
 pub record OpenFile : Type 0 where

@@ -11,6 +11,8 @@ use Rattle.jv_model.specs.declared.op.Line.TheVariants.{Empty, Do, Begin, Step, 
 use Rattle.jv_model.specs.script.Spelling.{◌>>=◌, words, at_most, number_of, length_of, mode_of, is_hex_digit, hex_value, bytes_of_digits, client_of, is_silent}
 use Rattle.jv_model.specs.script.Printed.{Part, Plain, Repeated}
 use Rattle.jv_model.specs.tree.Walk.{is_absolute}
+use Rattle.jv_model.specs.Optional.{provided}
+use Rattle.jv_model.specs.Lists.{parted}
 
 -- a number up to a limit of less than 64 bits
 unfoldable pub number_up_to : ℕ → List ℕ → Option ℕ
