@@ -10,6 +10,7 @@ use Rattle.jv_model.specs.declared.fault.TxFault.{TxFault}
 use Rattle.jv_model.specs.declared.slice.BlockId.{BlockId}
 use Rattle.jv_model.specs.client.ModelClient.{file_of, with_file}
 use Rattle.jv_model.specs.client.Profile.{handle_of}
+use Rattle.jv_model.specs.blocks.BlockNames.{name_in}
 use Rattle.jv_outside.specs.Store.{Store}
 use Rattle.jv_cache.specs.Cached.{Cached}
 use Rattle.jv_data.specs.declared.looking.View.{View as Looked}
@@ -20,7 +21,6 @@ use Rattle.jv_handles.proofs.TableLaws.{the_some}
 use Rattle.jv_handles.specs.Handles.{inode_here, inode_of_handle, seen_by, unseen_by}
 use Rattle.jv_shared.specs.Shared.{Shared}
 use Rattle.jv_yard.specs.BlockCalls.{GetsBlock}
-use Rattle.jv_yard.specs.Contents.{name_in}
 use Rattle.jv_yard.specs.YardValue.{YardValue}
 use Rattle.jv_fetching.specs.declared.need.Need.{Need}
 use Rattle.jv_fetching.specs.declared.need.Need.TheVariants.{Block as NeedsBlock, Look as NeedsLook}

@@ -8,6 +8,7 @@ use Rattle.jv_model.specs.declared.op.Reply.TheVariants.{Refused}
 use Rattle.jv_model.specs.declared.slice.BlockId.{BlockId}
 use Rattle.jv_model.specs.client.ModelClient.{file_of, with_file}
 use Rattle.jv_model.specs.client.Profile.{handle_of}
+use Rattle.jv_model.specs.blocks.BlockNames.{name_in}
 use Rattle.jv_outside.specs.Store.{Store}
 use Rattle.jv_cache.specs.Cached.{Cached}
 use Rattle.jv_data.specs.declared.looking.View.{View as Looked}
@@ -17,7 +18,6 @@ use Rattle.jv_handles.specs.Handles.{unseen_by}
 use Rattle.jv_handles.proofs.UnseenLaws.{unseen_by-seen_by}
 use Rattle.jv_shared.specs.Shared.{Shared}
 use Rattle.jv_yard.specs.BlockCalls.{GetsBlock}
-use Rattle.jv_yard.specs.Contents.{name_in}
 use Rattle.jv_yard.specs.YardValue.{YardValue}
 use Rattle.jv_fetching.specs.declared.need.Need.TheVariants.{Block as NeedsBlock, Look as NeedsLook}
 use Rattle.jv_fetching.specs.Calls.{LooksUp}

@@ -8,6 +8,7 @@ use Rattle.jv_model.specs.declared.fault.Fault.TheVariants.{DeviceFailed, NoMemo
 use Rattle.jv_model.specs.declared.slice.BlockId.{BlockId}
 use Rattle.jv_model.specs.client.Profile.{handle_of}
 use Rattle.jv_model.specs.journal.Reading.{Asked}
+use Rattle.jv_model.specs.blocks.BlockNames.{name_in}
 use Rattle.jv_cache.specs.Cached.{Cached}
 use Rattle.jv_contents.specs.Blocks.{Blocks}
 use Rattle.jv_handles.specs.Handles.{inode_here}
@@ -18,7 +19,6 @@ use Rattle.jv_fetching.specs.Going.{CanFetch, IsFetching}
 use Rattle.jv_yard.specs.declared.faults.YardFault.{YardFault}
 use Rattle.jv_yard.specs.declared.faults.YardFault.TheVariants.{Depot, Shelf, Memory}
 use Rattle.jv_yard.specs.BlockCalls.{GetsBlock}
-use Rattle.jv_yard.specs.Contents.{name_in}
 use Rattle.jv_yard.specs.YardValue.{YardValue}
 use Rattle.jv_client.specs.declared.doing.Doing.{Doing}
 use Rattle.jv_client.specs.declared.made.Made.{Made}

@@ -2,9 +2,8 @@
 use Rattle.std.proofs.Common.{◌≡◌, ℕ, ◌/◌, ◌%◌, ◌^◌, ◌<◌, nat_lt, nat_le, true, arith, decimal}
 use Rattle.std.proofs.lemmas.Bool.{and_parts, lt-ltb, leb-true}
 use Rattle.std.proofs.lemmas.Fmt.{length-decimal-le}
-use Rattle.jv_model.specs.script.Spelling.{is_decimal_digit, is_hex_digit}
+use Rattle.jv_model.specs.script.Spelling.{is_decimal_digit, is_hex_digit, byte_of}
 use Rattle.jv_model.specs.script.Printed.{hex_digit}
-use Rattle.jv_model.specs.script.Grammar.{byte_of}
 use Rattle.jv_script.proofs.PrintedDigitLaws.{decimal_digits, high_is_hex, low_is_hex, pair_value}
 use Rattle.jv_cmd.proofs.DrawnWordLaws.{IsWord, all_have, are_past}
 

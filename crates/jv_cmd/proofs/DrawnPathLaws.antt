@@ -10,7 +10,7 @@ use Rattle.std.proofs.lemmas.List.Splits.{slice_split_none}
 use Rattle.std.proofs.lemmas.List.Sums.{AllPass-from_list_all}
 use Rattle.jv_model.specs.script.Spelling.{is_decimal_digit}
 use Rattle.jv_model.specs.script.Grammar.{bytes_between, is_plain, path_of, unescaped}
-use Rattle.jv_model.specs.script.Spelled.{has_no_zero}
+use Rattle.jv_model.specs.Lists.{has_no_zero}
 use Rattle.jv_model.specs.tree.Walk.{is_absolute}
 use Rattle.jv_script.proofs.PrintedDigitLaws.{decimal_digits}
 use Rattle.jv_cmd.proofs.DrawnNumberLaws.{decimal_word, digit_past}

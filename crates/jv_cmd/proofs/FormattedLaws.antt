@@ -14,6 +14,7 @@ use Rattle.jv_model.specs.rows.RowPlaces.{setting_key, counters_key, node_key, s
 use Rattle.jv_model.proofs.FiniteMapLaws.{get-empty_map, same_maps}
 use Rattle.jv_model.proofs.TreeComputes.{maps_compute}
 use Rattle.jv_model.specs.tree.Tree.{full_mode, read_only_mode}
+use Rattle.jv_model.specs.blocks.BlockNames.{name_in}
 use Rattle.jv_outside.specs.Blocks.{StagedMap, staged_at, staged_key}
 use Rattle.jv_outside.specs.Holding.{Holding}
 use Rattle.jv_outside.specs.Objects.{ObjectMap, bytes_at}
@@ -27,7 +28,7 @@ use Rattle.jv_volume.proofs.WrittenRowsLaws.{none_at}
 use Rattle.jv_rows.specs.FreshRows.{fresh_counters, fresh_directory, fresh_rows}
 use Rattle.jv_rows.specs.RoundTrips.{SettingWidths}
 use Rattle.jv_rows.proofs.ExactRows.{setting_exact, counters_exact, node_exact}
-use Rattle.jv_yard.specs.Contents.{blocks_in, is_block, name_in}
+use Rattle.jv_yard.specs.Contents.{blocks_in, is_block}
 use Rattle.jv_yard.specs.Later.{IsCopy, contents_of}
 use Rattle.jv_yard.specs.Staging.{staged_since}
 use Rattle.jv_yard.specs.Starting.{IsStarted}

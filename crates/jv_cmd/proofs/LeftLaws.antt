@@ -5,7 +5,7 @@ use Rattle.std.proofs.lemmas.Bool.{false≢true, cases_lt}
 use Rattle.jv_model.specs.declared.setting.Setting.{Setting}
 use Rattle.jv_model.specs.declared.slice.BlockId.{BlockId}
 use Rattle.jv_model.specs.FiniteMap.{get}
-use Rattle.jv_model.specs.blocks.BlockNames.{IsBlock}
+use Rattle.jv_model.specs.blocks.BlockNames.{IsBlock, name_in}
 use Rattle.jv_model.specs.tree.Tree.{Tree}
 use Rattle.jv_model.proofs.TestLaws.{known_is, some_same}
 use Rattle.jv_outside.specs.Blocks.{StagedMap, staged_at}
@@ -14,7 +14,7 @@ use Rattle.jv_outside.specs.Objects.{ObjectMap, bytes_at}
 use Rattle.jv_volume.specs.TypedRows.{typed}
 use Rattle.jv_volume.specs.Slices.{next_slice}
 use Rattle.jv_contents.specs.Blocks.{AreBelow, HasBlocks}
-use Rattle.jv_yard.specs.Contents.{blocks_in, is_block, name_in}
+use Rattle.jv_yard.specs.Contents.{blocks_in, is_block}
 use Rattle.jv_yard.specs.Later.{AreAlike, Contents, IsCopy, IsStagedWith, contents_of}
 use Rattle.jv_yard.specs.Staging.{Staging, staged_since}
 use Rattle.jv_yard.specs.Starting.{IsFound, IsStarted}

@@ -13,12 +13,11 @@ use Rattle.jv_model.proofs.FiniteMapLaws.{get-retain_keys, same_maps}
 use Rattle.jv_volume.specs.TypedRows.{Cell, Rows}
 use Rattle.jv_volume.specs.Views.{row_in, records_in, lists_of, slice_in, slice_row_at, dead_in, dead_at}
 use Rattle.jv_volume.specs.Slices.{IsUnknown, listed, named_by, next_slice, records_naming}
-use Rattle.jv_volume.specs.Whole.{is_of_slices, Quiet}
+use Rattle.jv_volume.specs.Whole.{is_of_slices, Quiet, SlicesStay}
 use Rattle.jv_volume.proofs.QuietLaws.{sum-retain_keys}
 use Rattle.jv_contents.specs.Bytes.{Told, spot_byte, bytes_of}
 use Rattle.jv_contents.specs.Blocks.{Blocks, Grows, HasBlocks, AreBelow}
 use Rattle.jv_contents.specs.Flights.{Flight, InFlight}
-use Rattle.jv_contents.specs.Stays.{SlicesStay}
 use Rattle.jv_contents.specs.Counts.{HasDied, KeepsOthers, record_count}
 use Rattle.jv_contents.proofs.PlaceLaws.{place_in-same}
 use Rattle.jv_contents.proofs.FlightLaws.{flies-still}

@@ -6,9 +6,9 @@ use Rattle.jv_model.specs.declared.limits.TheConstants.{WINDOW}
 use Rattle.jv_model.specs.declared.slice.Rec.{Rec}
 use Rattle.jv_model.specs.declared.slice.Spot.TheVariants.{Zero, Slice}
 use Rattle.jv_model.specs.declared.slice.Piece.{Piece}
-use Rattle.jv_model.specs.blocks.Slices.{stored_place}
+use Rattle.jv_model.specs.blocks.Slices.{stored_place, shown}
 use Rattle.jv_volume.specs.Slices.{place_in}
-use Rattle.jv_contents.specs.Places.{Lists, with_list, shown, put_over, zero_record, cut_list}
+use Rattle.jv_contents.specs.Places.{Lists, with_list, put_over, zero_record, cut_list}
 use Rattle.jv_contents.specs.Fills.{records_of_plan}
 use Rattle.jv_contents.specs.Bytes.{spot_byte}
 use Rattle.jv_contents.specs.Blocks.{Blocks, told_by}

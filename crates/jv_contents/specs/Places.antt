@@ -4,7 +4,7 @@ use Rattle.std.specs.Prelude.{ℕ, ◌+◌, ◌-◌, ◌*◌, ◌&&◌, ◌==◌
 use Rattle.jv_model.specs.declared.limits.TheConstants.{WINDOW}
 use Rattle.jv_model.specs.declared.slice.Rec.{Rec}
 use Rattle.jv_model.specs.declared.slice.Spot.{Spot}
-use Rattle.jv_model.specs.declared.slice.Spot.TheVariants.{Zero, Slice}
+use Rattle.jv_model.specs.declared.slice.Spot.TheVariants.{Zero}
 
 -- the lists of a file, by window
 abbrev pub Lists : Type 0
@@ -13,10 +13,6 @@ Lists = ℕ → List Rec
 -- with another list in one window
 abbrev pub with_list : ℕ → List Rec → Lists → Lists
 with_list window records lists w = (if w == window then records else lists w)
-
--- the place that a record shows at a distance from its first position
-abbrev pub shown : Rec → ℕ → Spot
-shown r distance = (if r.id == 0 then Zero else Slice r.id r.size (r.off + distance))
 
 -- places with others over a range, each by its distance from there
 abbrev pub put_over : (ℕ → Spot) → ℕ → ℕ → (ℕ → Spot) → ℕ → Spot

@@ -14,7 +14,7 @@ use Rattle.jv_model.specs.declared.row.Row.TheVariants.{OfList, OfSlice}
 use Rattle.jv_model.specs.declared.slice.Rec.{Rec}
 use Rattle.jv_model.specs.declared.slice.Spot.TheVariants.{Zero}
 use Rattle.jv_model.specs.FiniteMap.{get, alter}
-use Rattle.jv_model.specs.blocks.Slices.{IsRecord}
+use Rattle.jv_model.specs.blocks.Slices.{IsRecord, shown}
 use Rattle.jv_model.specs.rows.RowKeys.{row_key}
 use Rattle.jv_model.specs.rows.RowPlaces.{counters_key, node_key, list_key, slice_key, dropped_key, dead_key}
 use Rattle.jv_volume.specs.TypedRows.{Cell, Rows}
@@ -23,7 +23,7 @@ use Rattle.jv_volume.specs.TreeOf.{or_no_counters, counters_of}
 use Rattle.jv_volume.specs.Slices.{listed, records_naming, named_by, count_in, slice_count, next_slice, place_in, ListsHave, IsUnknown, WholeSlices, HasLists, OfFile, OfDropped, WholeFiles}
 use Rattle.jv_volume.proofs.MapLaws.{get-alter-here, get-alter-apart}
 use Rattle.jv_volume.proofs.ShapeMapLaws.{same_or_apart}
-use Rattle.jv_contents.specs.Places.{with_list, shown, put_over}
+use Rattle.jv_contents.specs.Places.{with_list, put_over}
 use Rattle.jv_contents.specs.Counts.{record_count, KeepsOthers}
 use Rattle.jv_contents.proofs.BehindLaws.{naming-append}
 use Rattle.jv_contents.proofs.CutLaws.{all-append}

@@ -12,7 +12,7 @@ use Rattle.jv_model.specs.declared.row.SliceRow.{SliceRow}
 use Rattle.jv_model.specs.declared.slice.Rec.{Rec}
 use Rattle.jv_model.specs.declared.slice.Spot.TheVariants.{Zero}
 use Rattle.jv_model.specs.FiniteMap.{get}
-use Rattle.jv_model.specs.blocks.Slices.{IsRecord}
+use Rattle.jv_model.specs.blocks.Slices.{IsRecord, shown}
 use Rattle.jv_model.specs.rows.RowPlaces.{list_key, slice_key}
 use Rattle.jv_model.specs.tree.Tree.{Tree, Content}
 use Rattle.jv_model.specs.tree.Changes.{overwritten, with_content}
@@ -23,7 +23,7 @@ use Rattle.jv_volume.specs.TreeOf.{content_of}
 use Rattle.jv_volume.specs.Slices.{IsUnknown, next_slice, place_in}
 use Rattle.jv_volume.specs.Whole.{IsRowAt, Quiet, Whole}
 use Rattle.jv_volume.proofs.QuietLaws.{quiet-lists_of}
-use Rattle.jv_contents.specs.Places.{shown, put_over}
+use Rattle.jv_contents.specs.Places.{put_over}
 use Rattle.jv_contents.specs.Bytes.{Told, spot_byte, bytes_of, tree_with}
 use Rattle.jv_contents.specs.Counts.{KeepsOthers}
 use Rattle.jv_contents.proofs.ByteLaws.{byte-committed, past-put_over}

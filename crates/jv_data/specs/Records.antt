@@ -13,7 +13,7 @@ use Rattle.jv_model.specs.declared.row.RowKey.{RowKey}
 use Rattle.jv_model.specs.declared.setting.Setting.{Setting}
 use Rattle.jv_model.specs.declared.slice.Rec.{Rec}
 use Rattle.jv_model.specs.FiniteMap.{get}
-use Rattle.jv_model.specs.blocks.Slices.{IsRecord}
+use Rattle.jv_model.specs.blocks.Slices.{IsRecord, shown}
 use Rattle.jv_model.specs.rows.RowKeys.{RowMap}
 use Rattle.jv_model.specs.rows.RowPlaces.{counters_key, list_key}
 use Rattle.jv_model.specs.tree.Attempt.{◌>>=◌, require}
@@ -26,7 +26,6 @@ use Rattle.jv_volume.specs.Views.{lists_of}
 use Rattle.jv_volume.specs.TreeOf.{tree_of}
 use Rattle.jv_volume.specs.Slices.{IsUnknown, next_slice}
 use Rattle.jv_volume.specs.Whole.{Whole, no_bytes}
-use Rattle.jv_contents.specs.Places.{shown}
 use Rattle.jv_contents.specs.Bytes.{Told, spot_byte}
 use Rattle.jv_data.specs.declared.looking.View.{View}
 use Rattle.jv_data.specs.Committing.{length_seen, commit_of}

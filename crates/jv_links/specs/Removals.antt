@@ -19,7 +19,7 @@ use Rattle.jv_volume.specs.Whole.{Whole}
 use Rattle.jv_links.specs.declared.fates.Fate.{Fate}
 use Rattle.jv_links.specs.declared.fates.Fate.TheVariants.{Linked, Trashed, Dropped, Sustained}
 use Rattle.jv_links.specs.declared.fates.Removed.{Removed}
-pub use Rattle.jv_model.specs.script.Spelled.{has_no_zero}
+pub use Rattle.jv_model.specs.Lists.{has_no_zero}
 
 -- what a caller has open of a tree's inodes are files
 abbrev pub HoldsFiles : List ℕ → Tree → Type 0

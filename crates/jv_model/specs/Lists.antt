@@ -1,6 +1,6 @@
 -- Lists of any items, and the parts of a text.
-use Rattle.std.specs.Prelude.{ℕ, zero, suc, Bool, true, false, ◌==◌, List, [], ◌∷◌, slice_get, Option, None, Some}
-use Rattle.std.specs.List.{list_any, slice_split}
+use Rattle.std.specs.Prelude.{ℕ, zero, suc, Bool, true, false, not, ◌==◌, List, [], ◌∷◌, slice_get, Option, None, Some}
+use Rattle.std.specs.List.{list_all, list_any, slice_split}
 
 -- a list without items
 abbrev pub is_nil : {A : Type 0} → List A → Bool
@@ -10,6 +10,10 @@ is_nil (x ∷ xs) = false
 -- the parts of a text between the places of one byte, which are words at a space
 abbrev pub parted : ℕ → List ℕ → List (List ℕ)
 parted separator text = slice_split (λ c. c == separator) text
+
+-- no byte is 0
+abbrev pub has_no_zero : List ℕ → Bool
+has_no_zero bytes = list_all (λ b. not (b == 0)) bytes
 
 -- whether a number is among numbers
 abbrev pub is_among : ℕ → List ℕ → Bool

@@ -21,10 +21,10 @@ use Rattle.jv_model.specs.client.Submission.{is_flushed}
 use Rattle.jv_model.specs.journal.Reading.{asked_parts, reading}
 use Rattle.jv_model.specs.journal.State.{State, after_told, sees_first}
 use Rattle.jv_model.specs.journal.Steps.{Start, file_in_use, is_failure, must_answer}
+use Rattle.jv_model.specs.blocks.BlockNames.{name_in}
 use Rattle.jv_yard.specs.declared.faults.YardFault.{YardFault}
 use Rattle.jv_yard.specs.declared.faults.YardFault.TheVariants.{Depot, Shelf, Memory}
 use Rattle.jv_yard.specs.BlockCalls.{GetsBlock}
-use Rattle.jv_yard.specs.Contents.{name_in}
 use Rattle.jv_yard.specs.YardValue.{YardValue}
 use Rattle.jv_shared.specs.Keeping.{HoldsSame}
 use Rattle.jv_shared.specs.Seen.{IsView}

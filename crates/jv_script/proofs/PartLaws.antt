@@ -7,9 +7,9 @@ use Rattle.std.proofs.Math.Bool.{and-false}
 use Rattle.std.proofs.lemmas.List.Sums.{sum_by-cons}
 use Rattle.std.proofs.lemmas.List.Folds.{list_all_at}
 use Rattle.jv_model.specs.declared.limits.TheConstants.{MAX_DATA}
-use Rattle.jv_model.specs.script.Spelling.{is_hex_digit, number_of, ◌>>=◌, at_most, bytes_of_digits}
+use Rattle.jv_model.specs.script.Spelling.{is_hex_digit, number_of, ◌>>=◌, at_most, bytes_of_digits, byte_of}
 use Rattle.jv_model.specs.script.Printed.{Part, Plain, Repeated}
-use Rattle.jv_model.specs.script.Grammar.{byte_of, is_pairs, repeated_of, part_of, part_length, part_bytes, all_parts_of, bytes_of_parts, data_of}
+use Rattle.jv_model.specs.script.Grammar.{is_pairs, repeated_of, part_of, part_length, part_bytes, all_parts_of, bytes_of_parts, data_of}
 use Rattle.jv_model.specs.Lists.{parted}
 use Rattle.jv_model.specs.Optional.{provided}
 use Rattle.jv_script.proofs.CutLaws.{parted_none}

@@ -4,9 +4,9 @@ use Rattle.std.proofs.lemmas.Bool.{eq-eqb, eqb-true, le-leb, lt-ltb, false≢tru
 use Rattle.std.proofs.lemmas.List.{take_rest}
 use Rattle.std.proofs.lemmas.List.Splits.{slice_split_at}
 use mir.Val.{bool_byte}
-use Rattle.jv_model.specs.script.Spelling.{is_hex_digit, is_numeral, number_of, value_of}
+use Rattle.jv_model.specs.script.Spelling.{is_hex_digit, is_numeral, number_of, value_of, byte_of}
 use Rattle.jv_model.specs.script.Printed.{Repeated}
-use Rattle.jv_model.specs.script.Grammar.{byte_of, is_pairs, repeated_of, part_of, part_bytes}
+use Rattle.jv_model.specs.script.Grammar.{is_pairs, repeated_of, part_of, part_bytes}
 use Rattle.jv_model.specs.Lists.{parted}
 use Rattle.jv_model.specs.Optional.{provided}
 use Rattle.jv_script.specs.Reading.{IsFirstPart, IsShortestPart}

@@ -6,8 +6,8 @@ use Rattle.std.proofs.lemmas.List.{length-take, length-drop}
 use Rattle.std.proofs.lemmas.Nat.{mul-le}
 use Rattle.jv_model.specs.declared.limits.TheConstants.{WINDOW}
 use Rattle.jv_model.specs.declared.slice.Rec.{Rec}
-use Rattle.jv_model.specs.blocks.BlockNames.{IsBlock}
-use Rattle.jv_model.specs.blocks.Slices.{block_at, block_count}
+use Rattle.jv_model.specs.blocks.BlockNames.{IsBlock, name_in}
+use Rattle.jv_model.specs.blocks.Slices.{block_at, block_count, shown}
 use Rattle.jv_model.specs.tree.Tree.{Tree}
 use Rattle.jv_outside.specs.declared.parcel.Parcel.{Parcel}
 use Rattle.jv_outside.specs.Parcels.{StandsFor}
@@ -17,10 +17,8 @@ use Rattle.jv_volume.specs.Slices.{next_slice}
 use Rattle.jv_contents.specs.Blocks.{told_by}
 use Rattle.jv_contents.specs.Bytes.{spot_byte}
 use Rattle.jv_contents.specs.Flights.{Flight, InFlight, IsComplete, flight_block, flight_bytes}
-use Rattle.jv_contents.specs.Places.{shown}
 use Rattle.jv_contents.proofs.FlightLaws.{complete-shows, complete-told}
 use Rattle.jv_yard.specs.BlockCalls.{IsBlockParcel}
-use Rattle.jv_yard.specs.Contents.{name_in}
 use Rattle.jv_yard.proofs.CallLaws.{block_parcel}
 use Rattle.jv_shared.specs.Lengths.{IsLength}
 use Rattle.jv_shared.specs.Shared.{HasStore, Known, Shared}

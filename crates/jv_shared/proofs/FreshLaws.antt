@@ -6,6 +6,7 @@ use Rattle.std.specs.Cmp.{eq_by_cmp_equiv}
 use Rattle.std.proofs.lemmas.Bool.{and_parts}
 use Rattle.jv_model.specs.FiniteMap.{first_where, text_key}
 use Rattle.jv_model.proofs.FiniteMapLaws.{IsFound, first_where-found}
+use Rattle.jv_model.specs.blocks.BlockNames.{name_in}
 use Rattle.jv_outside.specs.Blocks.{staged_at, staged_key}
 use Rattle.jv_outside.specs.Objects.{bytes_at}
 use Rattle.jv_volume.specs.TypedRows.{typed}
@@ -13,7 +14,7 @@ use Rattle.jv_volume.specs.Slices.{next_slice}
 use Rattle.jv_volume.proofs.ShapeMapLaws.{first_where-none, tied_same}
 use Rattle.jv_contents.specs.Blocks.{AreBelow, Blocks, Grows, told_by}
 use Rattle.jv_contents.specs.Bytes.{tree_with}
-use Rattle.jv_yard.specs.Contents.{blocks_in, is_block, name_in}
+use Rattle.jv_yard.specs.Contents.{blocks_in, is_block}
 use Rattle.jv_yard.specs.Later.{IsStagedWith, contents_of}
 use Rattle.jv_yard.specs.Staging.{staged_since}
 use Rattle.jv_shared.specs.Shared.{HasStore, Known, Shared, staged_in}

@@ -8,6 +8,7 @@ use Rattle.jv_model.specs.rows.RowKeys.{RowMap}
 use Rattle.jv_model.specs.blocks.Slices.{block_at, block_count}
 use Rattle.jv_model.specs.tree.Tree.{Content, Tree, content_at}
 use Rattle.jv_model.proofs.TestLaws.{known_is}
+use Rattle.jv_model.specs.blocks.BlockNames.{name_in}
 use Rattle.jv_outside.specs.Blocks.{staged_at}
 use Rattle.jv_outside.specs.Objects.{ObjectMap, bytes_at}
 use Rattle.jv_volume.specs.TypedRows.{Rows, typed}
@@ -15,7 +16,7 @@ use Rattle.jv_volume.specs.Views.{lists_of}
 use Rattle.jv_contents.specs.Blocks.{Blocks, Grows, HasBlocks, IsThere}
 use Rattle.jv_contents.proofs.BlockLaws.{has_blocks-grow, there-grows}
 use Rattle.jv_yard.specs.BlockCalls.{IsBlockBy, IsBlockOf}
-use Rattle.jv_yard.specs.Contents.{blocks_in, is_block, name_in}
+use Rattle.jv_yard.specs.Contents.{blocks_in, is_block}
 use Rattle.jv_yard.specs.Staging.{staged_since}
 use Rattle.jv_yard.proofs.ContentsLaws.{is_block-tells, read-depot}
 use Rattle.jv_shared.specs.Shared.{HasStore, Known, Shared, depot_blocks, present_in, rows_in, typed_in}

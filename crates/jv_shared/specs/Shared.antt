@@ -7,6 +7,7 @@ use Rattle.jv_model.specs.FiniteMap.{empty_map}
 use Rattle.jv_model.specs.blocks.Slices.{is_same_block}
 use Rattle.jv_model.specs.rows.RowKeys.{RowMap}
 use Rattle.jv_model.specs.tree.Tree.{Tree}
+use Rattle.jv_model.specs.blocks.BlockNames.{name_in}
 use Rattle.jv_outside.specs.Blocks.{StagedMap, staged_at}
 use Rattle.jv_outside.specs.Carriage.{Carriage}
 use Rattle.jv_outside.specs.Objects.{ObjectMap}
@@ -17,7 +18,7 @@ use Rattle.jv_volume.specs.Slices.{ListsHave}
 use Rattle.jv_volume.specs.Whole.{Whole}
 use Rattle.jv_contents.specs.Blocks.{AreBelow, Blocks, Grows, HasBlocks, told_by}
 use Rattle.jv_contents.specs.Bytes.{tree_with}
-use Rattle.jv_yard.specs.Contents.{blocks_in, is_block, name_in}
+use Rattle.jv_yard.specs.Contents.{blocks_in, is_block}
 use Rattle.jv_yard.specs.Staging.{staged_since}
 use Rattle.jv_yard.specs.YardValue.{IsKept, YardValue}
 

@@ -17,7 +17,7 @@ use Rattle.jv_rows.specs.Walks.{pair_in}
 use Rattle.jv_rows.specs.declared.walking.EntryPlace.{EntryPlace}
 use Rattle.jv_volume.specs.TypedRows.{is_entry_name}
 use Rattle.jv_volume.specs.Stored.{node_row, links_by}
-pub use Rattle.jv_model.specs.script.Spelled.{has_no_zero}
+pub use Rattle.jv_model.specs.Lists.{has_no_zero}
 
 -- the place of a new entry, as a pair
 abbrev pub new_pair : Tree → List ℕ → Result (ℕ × List ℕ) Fault

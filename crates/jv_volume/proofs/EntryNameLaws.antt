@@ -11,7 +11,7 @@ use Rattle.jv_model.specs.tree.Attempt.{◌>>=◌, require, some_or}
 use Rattle.jv_model.specs.tree.Tree.{Tree, EntryKey, root, is_directory}
 use Rattle.jv_model.specs.tree.Walk.{is_dot, is_dot_dot, names_of, all_but_last, walk, entry_of}
 use Rattle.jv_model.specs.tree.Making.{may_be_new, new_place}
-use Rattle.jv_model.specs.Lists.{is_nil, parted, last_item}
+use Rattle.jv_model.specs.Lists.{is_nil, parted, last_item, has_no_zero}
 use Rattle.jv_volume.specs.TypedRows.{is_entry_name}
 use Rattle.jv_volume.proofs.WalkShapeLaws.{went_on, required, was_some, same_Ok}
 
@@ -32,10 +32,10 @@ plain_step b parts true e is h = h
 plain_step b parts false e is h = plain_part b parts (ap (λ x. not (x || (b == 0))) e ∙ is) h
 
 -- the parts of a path have no slash
-plain_parts : (path : List ℕ) → list_all (λ b. not (b == 0)) path ≡ true → all_plain (parted 47 path) ≡ true
+plain_parts : (path : List ℕ) → has_no_zero path ≡ true → all_plain (parted 47 path) ≡ true
 plain_parts [] h = refl
 plain_parts (b ∷ bs) h =
-    let both = and_parts (not (b == 0)) (list_all (λ c. not (c == 0)) bs) h in
+    let both = and_parts (not (b == 0)) (has_no_zero bs) h in
     plain_step b (parted 47 bs) (b == 47) refl both.0 (plain_parts bs both.1)
 
 -- a name has a byte or more
@@ -70,7 +70,7 @@ entry_name name is short =
     let both = and_parts (not (is_nil name)) (is_plain name) is in
     λ i. some_byte name both.0 i && short i && both.1 i
 
-module _ (t : Tree) (path : List ℕ) (plain : list_all (λ b. not (b == 0)) path ≡ true) where
+module _ (t : Tree) (path : List ℕ) (plain : has_no_zero path ≡ true) where
   abbrev above : Result ℕ Fault
   above = walk MAX_SYMLINKS t true root (all_but_last (names_of path))
 

@@ -28,7 +28,11 @@ pub record Whole (rows : Rows) : Type 0 where
 abbrev pub is_of_slices : ℕ → Bool
 is_of_slices tab = (tab == 4) || (tab == 5) || (tab == 9)
 
+-- lists, slices and dead slices stay as they are
+abbrev pub SlicesStay : Rows → Rows → Type 0
+SlicesStay rows after = (key : RowKey) → IsTrue (is_of_slices key.tab) → get after key ≡ get rows key
+
 -- What a transaction on metadata leaves alone: lists, slices, and the next slice.
 pub record Quiet (rows after : Rows) : Type 0 where
-  pub apart : (key : RowKey) → IsTrue (is_of_slices key.tab) → get after key ≡ get rows key
+  pub apart : SlicesStay rows after
   pub next : next_slice after ≡ next_slice rows

@@ -2,7 +2,7 @@
 use Rattle.std.proofs.Common.{◌≡◌, ◌↔◌, ℕ, ◌≤◌, List, length, Option, None, Some, IsSome, is_some, true, false, refl, sym, ap, subst, ◌∙◌}
 use Rattle.jv_model.specs.declared.setting.Setting.{Setting}
 use Rattle.jv_model.specs.declared.slice.BlockId.{BlockId}
-use Rattle.jv_model.specs.blocks.BlockNames.{IsBlock}
+use Rattle.jv_model.specs.blocks.BlockNames.{IsBlock, name_in}
 use Rattle.jv_model.proofs.TestLaws.{known_is}
 use Rattle.jv_outside.specs.declared.parcel.Parcel.{Parcel}
 use Rattle.jv_outside.specs.Holding.{Holding}
@@ -10,7 +10,6 @@ use Rattle.jv_outside.specs.Objects.{ObjectMap, bytes_at}
 use Rattle.jv_outside.specs.Blocks.{StagedMap, staged_at}
 use Rattle.jv_outside.specs.Parcels.{StandsFor}
 use Rattle.jv_yard.specs.BlockCalls.{IsBlockOf, IsBlockBy, IsBlockParcel, IsPut}
-use Rattle.jv_yard.specs.Contents.{name_in}
 use Rattle.jv_yard.specs.Staging.{staged_since}
 use Rattle.jv_yard.specs.Starting.{IsStarted}
 use Rattle.jv_yard.specs.YardValue.{YardValue, IsKept, NamesBlock}

@@ -7,7 +7,7 @@ use Rattle.std.specs.Option.{option_map}
 use Rattle.jv_model.specs.declared.limits.TheConstants.{MAX_BLOCKS}
 use Rattle.jv_model.specs.declared.setting.Setting.{Setting}
 use Rattle.jv_model.specs.declared.slice.BlockId.{BlockId}
-use Rattle.jv_model.specs.blocks.BlockNames.{IsBlock}
+use Rattle.jv_model.specs.blocks.BlockNames.{IsBlock, name_in}
 use Rattle.jv_model.specs.blocks.Slices.{is_same_block}
 use Rattle.jv_model.specs.FiniteMap.{text_key, get}
 use Rattle.jv_model.proofs.FiniteMapLaws.{get-insert}
@@ -20,7 +20,7 @@ use Rattle.jv_slices.specs.Laws.{HasWidths}
 use Rattle.jv_slices.proofs.NameLaws.{names_are_distinct}
 use Rattle.jv_slices.proofs.NeedLaws.{equal_if_same, same_self}
 use Rattle.jv_yard.specs.BlockCalls.{IsBlockOf, IsBlockBy, IsPut}
-use Rattle.jv_yard.specs.Contents.{is_block, name_in, blocks_in}
+use Rattle.jv_yard.specs.Contents.{is_block, blocks_in}
 use Rattle.jv_yard.specs.Staging.{staged_since}
 use Rattle.jv_yard.specs.YardValue.{YardValue}
 

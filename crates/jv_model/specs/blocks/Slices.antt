@@ -26,10 +26,14 @@ covers position r = nat_le r.pos position && nat_lt position (r.pos + r.len)
 abbrev pub visible : List Rec → ℕ → Option Rec
 visible list position = find (covers position) (reverse list)
 
+-- the place that a record shows at a distance from its first position
+abbrev pub shown : Rec → ℕ → Spot
+shown r distance = (if r.id == 0 then Zero else Slice r.id r.size (r.off + distance))
+
 -- where the byte lies that a record has for a position: a record without slice, and no record, read zero
 abbrev pub place_by : Option Rec → ℕ → Spot
 place_by None position = Zero
-place_by (Some r) position = (if r.id == 0 then Zero else Slice r.id r.size (r.off + (position - r.pos)))
+place_by (Some r) position = shown r (position - r.pos)
 
 -- the stored place of a position of a window
 unfoldable pub stored_place : List Rec → ℕ → Spot

@@ -17,7 +17,7 @@ use Rattle.jv_model.specs.declared.row.Row.{Row}
 use Rattle.jv_model.specs.declared.row.Row.TheVariants.{OfSetting, OfCounters, OfNode, OfEdge, OfList, OfSlice, OfSession, OfSustained, OfDropped, OfDead}
 use Rattle.jv_model.specs.blocks.Slices.{is_record}
 use Rattle.jv_model.specs.rows.RowFields.{◌>>=◌, byte, half, word, long, byte_at, front_at, half_at, word_at, long_at, whole}
-use Rattle.jv_model.specs.Lists.{is_nil, is_among}
+use Rattle.jv_model.specs.Lists.{is_nil, is_among, has_no_zero}
 
 -- ---- table 0: what the volume was formatted with
 
@@ -88,7 +88,7 @@ is_directory n = n.length == SPACE_UNIT && is_nil n.target
 
 -- 1 to 4,096 bytes without the byte 0
 abbrev pub is_target : List ℕ → Bool
-is_target target = nat_le 1 (length target) && nat_le (length target) MAX_PATH && list_all (λ b. not (b == 0)) target
+is_target target = nat_le 1 (length target) && nat_le (length target) MAX_PATH && has_no_zero target
 
 abbrev pub is_symlink : Node → Bool
 is_symlink n = n.parent == 0 && n.length == length n.target && is_target n.target

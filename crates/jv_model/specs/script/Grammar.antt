@@ -1,5 +1,5 @@
 -- The whole grammar of a script: which line a text is, if it is one. A text is the bytes of a line without its line feed.
-use Rattle.std.specs.Prelude.{ℕ, ◌+◌, ◌*◌, ◌%◌, Bool, true, false, ◌&&◌, not, ◌==◌, nat_lt, nat_le, if◌then◌else◌, List, [], ◌∷◌, ◌++◌, length, replicate, Option, None, Some, option_map, codes, bytes_eq, sum_by}
+use Rattle.std.specs.Prelude.{ℕ, ◌+◌, ◌%◌, Bool, true, false, ◌&&◌, not, ◌==◌, nat_lt, nat_le, if◌then◌else◌, List, [], ◌∷◌, ◌++◌, length, replicate, Option, None, Some, option_map, codes, bytes_eq, sum_by}
 use Rattle.std.specs.List.{list_all, flat_map}
 use Rattle.jv_model.specs.declared.limits.TheConstants.{MAX_TICK, MAX_DATA, LAST_MOMENT}
 use Rattle.jv_model.specs.declared.basics.How.{How}
@@ -8,7 +8,7 @@ use Rattle.jv_model.specs.declared.op.Op.{Op}
 use Rattle.jv_model.specs.declared.op.Op.TheVariants.{Mount, Umount, Beat, Lookup, Stat, Lstat, Fstat, Mkdir, Create, Open, Close, Flush, Read, Write, Truncate, Copy, Readdir, Chmod, Chown, Utimes, Statfs, Symlink, Readlink, Unlink, Rmdir, Link, Rename, Compact, Clean, Gc, Upload, Stats}
 use Rattle.jv_model.specs.declared.op.Line.{Line}
 use Rattle.jv_model.specs.declared.op.Line.TheVariants.{Empty, Do, Begin, Step, Run, Crash, Drain, Tick}
-use Rattle.jv_model.specs.script.Spelling.{◌>>=◌, words, at_most, number_of, length_of, mode_of, is_hex_digit, hex_value, bytes_of_digits, client_of, is_silent}
+use Rattle.jv_model.specs.script.Spelling.{◌>>=◌, words, at_most, number_of, length_of, mode_of, is_hex_digit, bytes_of_digits, client_of, is_silent, byte_of}
 use Rattle.jv_model.specs.script.Printed.{Part, Plain, Repeated}
 use Rattle.jv_model.specs.tree.Walk.{is_absolute}
 use Rattle.jv_model.specs.Optional.{provided}
@@ -29,10 +29,6 @@ seconds_of text = do
 -- a byte that is written as itself: 0x21 to 0x7E, but for `%`
 abbrev pub is_plain : ℕ → Bool
 is_plain c = nat_le 33 c && nat_le c 126 && not (c == 37)
-
--- the byte of two hexadecimal digits
-abbrev pub byte_of : ℕ → ℕ → ℕ
-byte_of high low = hex_value high * 16 + hex_value low
 
 -- what may stand between a `%` and the next: the two digits of a byte other than 0, and bytes that are written as themselves
 abbrev pub is_escape : List ℕ → Bool

@@ -8,7 +8,7 @@ use Rattle.jv_model.specs.declared.setting.FileKind.{FileKind}
 use Rattle.jv_model.specs.declared.setting.FileKind.TheVariants as kind
 use Rattle.jv_model.specs.declared.setting.Setting.{Setting}
 use Rattle.jv_model.specs.declared.slice.BlockId.{BlockId}
-use Rattle.jv_model.specs.blocks.BlockNames.{upper_pair, block_name_of}
+use Rattle.jv_model.specs.blocks.BlockNames.{upper_pair, name_in}
 use Rattle.jv_model.specs.script.Spelling.{is_letter_or_digit}
 use Rattle.jv_model.specs.script.Printed.{number_word, ok_text, data_text, fault_text}
 
@@ -55,7 +55,7 @@ entries_text (entry ∷ entries) = join_with_byte 32 (map entry_text (entry ∷ 
 -- the name of the block, if there was one
 unfoldable pub uploaded_text : Setting → Option BlockId → List ℕ
 uploaded_text setting None = codes "-"
-uploaded_text setting (Some block) = block_name_of setting block.id block.index block.size
+uploaded_text setting (Some block) = name_in setting block
 
 -- the text of an answer, on a volume with this setting
 unfoldable pub reply_text : Setting → Reply → List ℕ

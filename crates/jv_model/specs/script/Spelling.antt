@@ -63,11 +63,15 @@ is_hex_digit c = is_decimal_digit c || (nat_le 65 c && nat_le c 70) || (nat_le 9
 abbrev pub hex_value : ℕ → ℕ
 hex_value c = (if nat_le c 57 then c - 48 else if nat_le c 70 then c - 55 else c - 87)
 
+-- the byte of two hexadecimal digits
+abbrev pub byte_of : ℕ → ℕ → ℕ
+byte_of high low = hex_value high * 16 + hex_value low
+
 -- the bytes of pairs of hexadecimal digits, the high one first
 abbrev pub bytes_of_digits : List ℕ → List ℕ
 bytes_of_digits [] = []
 bytes_of_digits (_ ∷ []) = []
-bytes_of_digits (high ∷ low ∷ digits) = (hex_value high * 16 + hex_value low) ∷ bytes_of_digits digits
+bytes_of_digits (high ∷ low ∷ digits) = byte_of high low ∷ bytes_of_digits digits
 
 -- a client's letter, A to H
 unfoldable pub client_of : List ℕ → Option ℕ
