@@ -23,13 +23,13 @@ use Rattle.jv_rows.specs.Drafts.{drafted}
 use Rattle.jv_volume.specs.TypedRows.{Cell, Rows, is_entry_name, typed}
 use Rattle.jv_volume.specs.Views.{row_in, node_in, node_row_at}
 use Rattle.jv_volume.specs.TreeOf.{tree_of}
-use Rattle.jv_volume.specs.Stored.{Stored, links_by}
+use Rattle.jv_volume.specs.Stored.{Stored, links_by, directory_touched}
 use Rattle.jv_volume.specs.Whole.{IsRowAt}
 use Rattle.jv_volume.proofs.StoredLaws.{HasNode, found_node}
 use Rattle.jv_volume.proofs.StoredStepLaws.{alter_kept, node_apart, node_here}
 use Rattle.jv_volume.proofs.EntryStepLaws.{rows_with_entry, tree_of-entry_in, stored-entry_in, rows_without_entry, tree_of-entry_out, stored-entry_out}
 use Rattle.jv_changes.specs.Drafting.{Minds, Drafting}
-use Rattle.jv_changes.specs.Present.{Presents, to_node, directory_touched, linked_row}
+use Rattle.jv_changes.specs.Present.{Presents, to_node, linked_row}
 use Rattle.jv_changes.specs.Ready.{StandsAt, MayStandAt, entry_put, IsThere}
 use Rattle.jv_changes.proofs.DraftedLaws.{Drafted, are_rows-put, are_rows-drop, Stays, stays-then, drafting-made, drafting-refused}
 use Rattle.jv_changes.proofs.PresentLaws.{stays-present, present-stands, drafting-absent, Sound, sound-minds, minds-sound, sound-node, sound-edge}

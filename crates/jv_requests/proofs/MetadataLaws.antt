@@ -22,12 +22,11 @@ use Rattle.jv_model.specs.tree.TreeAct.{tree_act}
 use Rattle.jv_model.specs.client.ModelClient.{ModelClient, Doing, Working}
 use Rattle.jv_model.specs.client.Submission.{is_flushed}
 use Rattle.jv_model.specs.journal.State.{State, after_told, caller, gift_of, transacted}
-use Rattle.jv_model.specs.journal.Steps.{entry_of_gift, is_failure, told_of, transacts}
+use Rattle.jv_model.specs.journal.Steps.{entry_of_gift, is_failure, told_of, transacts, is_device_or_memory}
 use Rattle.jv_outside.specs.Store.{Store}
 use Rattle.jv_rows.specs.Transactions.{Lands, Transacts}
 use Rattle.jv_volume.specs.TypedRows.{typed}
 use Rattle.jv_volume.specs.TreeOf.{tree_of}
-use Rattle.jv_volume.specs.Holding.{is_device_or_memory}
 use Rattle.jv_volume.proofs.ReplyLaws.{no_device_or_memory}
 use Rattle.jv_contents.specs.Bytes.{bytes_of, tree_with}
 use Rattle.jv_contents.proofs.KeepLaws.{bytes-stay, keeps-quiet}

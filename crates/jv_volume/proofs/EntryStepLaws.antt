@@ -10,12 +10,11 @@ use Rattle.jv_model.specs.declared.row.Row.TheVariants.{OfCounters, OfNode, OfEd
 use Rattle.jv_model.specs.FiniteMap.{number_key, get, insert, remove}
 use Rattle.jv_model.specs.rows.RowKeys.{row_key, row_cmp}
 use Rattle.jv_model.specs.rows.RowPlaces.{setting_key, counters_key, node_key, edge_key, session_key, sustained_key}
-use Rattle.jv_model.specs.tree.Tree.{Tree, EntryKey, entry_key, is_directory, link_count}
+use Rattle.jv_model.specs.tree.Tree.{Tree, EntryKey, entry_key, is_directory, link_count, naming}
 use Rattle.jv_model.specs.tree.Changes.{touched, put_node, put_entry, take_entry}
 use Rattle.jv_volume.specs.TypedRows.{Cell, Rows}
 use Rattle.jv_volume.specs.Views.{node_row_at}
 use Rattle.jv_volume.specs.TreeOf.{node_of, tree_of}
-use Rattle.jv_volume.specs.Shape.{naming}
 use Rattle.jv_volume.specs.Stored.{Stored, number_of_node}
 use Rattle.jv_volume.proofs.ShapeMapLaws.{naming_same, naming_apart, same_or_apart, get-inserted, get-insert_apart, get-removed, get-remove_apart}
 use Rattle.jv_volume.proofs.MapLaws.{alter-same}

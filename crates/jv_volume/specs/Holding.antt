@@ -1,7 +1,5 @@
 -- What a client that has files open relies on while a tree changes.
 use Rattle.std.specs.Prelude.{◌≡◌, ℕ, ◌≤◌, ◌<◌, Bool, true, false, Some, IsTrue}
-use Rattle.jv_model.specs.declared.fault.Fault.{Fault}
-use Rattle.jv_model.specs.declared.fault.Fault.TheVariants.{DeviceFailed, NoMemory}
 use Rattle.jv_model.specs.declared.op.Op.{Op}
 use Rattle.jv_model.specs.declared.op.Op.TheVariants as op
 use Rattle.jv_model.specs.tree.Tree.{Tree, Content, content_at}
@@ -46,9 +44,3 @@ abbrev pub opens_file : Op → Bool
 opens_file (op.Create path mode) = true
 opens_file (op.Open path) = true
 opens_file _ = false
-
--- the refusals that come from devices and from memory, and not from the tree
-abbrev pub is_device_or_memory : Fault → Bool
-is_device_or_memory (DeviceFailed device) = true
-is_device_or_memory NoMemory = true
-is_device_or_memory _ = false

@@ -1,8 +1,8 @@
 -- What makes a tree whole. It sees no times, attributes or bytes, so it is a fact on the tree's shape alone.
-use Rattle.std.specs.Prelude.{◌≡◌, ℕ, zero, suc, ◌<◌, ◌≤◌, Bool, true, false, ◌&&◌, ◌||◌, ◌==◌, nat_le, nat_lt, if◌then◌else◌, List, is_some, Option, None, Some, IsTrue}
+use Rattle.std.specs.Prelude.{◌≡◌, ℕ, zero, suc, ◌<◌, ◌≤◌, Bool, true, false, ◌&&◌, ◌||◌, ◌==◌, nat_le, nat_lt, List, is_some, Option, None, Some, IsTrue}
 use Rattle.jv_model.specs.declared.lifetimes.TheConstants.{FIRST_HOUR}
-use Rattle.jv_model.specs.FiniteMap.{Map, get, sum_over}
-use Rattle.jv_model.specs.tree.Tree.{Tree, Node, File, Directory, Symlink, EntryKey, entry_key, pair_key, root, trash_root, full_count, node_at}
+use Rattle.jv_model.specs.FiniteMap.{Map, get}
+use Rattle.jv_model.specs.tree.Tree.{Tree, Node, File, Directory, Symlink, EntryKey, entry_key, pair_key, root, trash_root, full_count, node_at, name_count, has_pair}
 use Rattle.jv_model.specs.tree.HourNames.{hour_name}
 use Rattle.jv_model.specs.tree.Trash.{hour_of, trash_name}
 
@@ -51,14 +51,11 @@ abbrev pub named : Shape → EntryKey → Option ℕ
 named s at = get s.entries at
 
 abbrev pub keeps : Shape → ℕ → ℕ → Bool
-keeps s sid inode = is_some (get s.sustained (record { sid = sid; inode = inode }))
-
-abbrev pub naming : ℕ → EntryKey → ℕ → ℕ
-naming inode at i = (if i == inode then 1 else 0)
+keeps s sid inode = has_pair s.sustained sid inode
 
 -- how many entries name an inode
 abbrev pub names : Shape → ℕ → ℕ
-names s inode = sum_over (naming inode) s.entries
+names s inode = name_count s.entries inode
 
 -- the directories that no entry names
 abbrev pub is_top : ℕ → Bool

@@ -351,10 +351,15 @@ pub record Publishes (s : State) (client : ℕ) (c : ModelClient) (d : Doing) (c
 
 -- answers
 
--- out of memory, or a device failed: it may come before any step
+-- the refusals that come from devices and from memory, and not from the tree
+abbrev pub is_device_or_memory : Fault → Bool
+is_device_or_memory (DeviceFailed device) = true
+is_device_or_memory NoMemory = true
+is_device_or_memory _ = false
+
+-- such an answer may come before any step
 abbrev pub is_failure : Told → Bool
-is_failure (ToldRefused NoMemory) = true
-is_failure (ToldRefused (DeviceFailed device)) = true
+is_failure (ToldRefused fault) = is_device_or_memory fault
 is_failure _ = false
 
 -- whether the step that was made ends the operation: its answer comes in that step, and nothing else may

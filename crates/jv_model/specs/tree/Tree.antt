@@ -200,16 +200,23 @@ has_entries t dir = is_some (first_where (λ key named. key.dir == dir) t.entrie
 abbrev pub trash_entry : Tree → ℕ → Option (EntryKey × ℕ)
 trash_entry t inode = first_where (λ key named. (named == inode) && in_trash key.dir) t.entries
 
+-- whether a session keeps an inode
+abbrev pub has_pair : Map pair_key (Unit {0}) → ℕ → ℕ → Bool
+has_pair sustained sid inode = is_some (get sustained (record { sid = sid; inode = inode }))
+
 -- whether a session keeps a file without entries
 abbrev pub is_sustained : Tree → ℕ → ℕ → Bool
-is_sustained t sid inode = is_some (get t.sustained (record { sid = sid; inode = inode }))
+is_sustained t sid inode = has_pair t.sustained sid inode
 
-abbrev entry_names : ℕ → EntryKey → ℕ → ℕ
-entry_names inode key named = (if named == inode then 1 else 0)
+abbrev pub naming : ℕ → EntryKey → ℕ → ℕ
+naming inode key named = (if named == inode then 1 else 0)
 
--- the number of entries that name an inode
+-- how many of the entries name an inode
+abbrev pub name_count : Map entry_key ℕ → ℕ → ℕ
+name_count entries inode = sum_over (naming inode) entries
+
 abbrev pub entry_count : Tree → ℕ → ℕ
-entry_count t inode = sum_over (entry_names inode) t.entries
+entry_count t inode = name_count t.entries inode
 
 abbrev directory_within : Tree → ℕ → EntryKey → ℕ → ℕ
 directory_within t dir key inode = (if key.dir == dir && is_directory t inode then 1 else 0)
