@@ -6,7 +6,7 @@ ghost use Rattle.jv_yard.specs.BlockCalls.{GetsBlock, IsBlockParcel, PutsBlock};
 ghost use Rattle.jv_yard.specs.Starting.{IsStarted, ShelfRefuses};
 ghost use Rattle.jv_yard.specs.Staging.{staged_since};
 
-use crate::faults::{YardFault, depot_fault, shelf_fault};
+use crate::faults::{YardFault, yard_fault};
 use crate::finding::find_staged;
 use crate::note::{MAIN, Note, What};
 use crate::staging::ClientBlocks;
@@ -107,12 +107,12 @@ impl<D: Depot, H: Shelf> Yard<D, H> {
         if self.is_staged(c, name) {
             match self.shelf.get(c, name) {
                 Ok(bytes) => Ok(bytes),
-                Err(down) => Err(shelf_fault(down)),
+                Err(down) => Err(yard_fault(YardFault::Shelf, down)),
             }
         } else {
             match self.depot.get(name) {
                 Ok(bytes) => Ok(bytes),
-                Err(down) => Err(depot_fault(down)),
+                Err(down) => Err(yard_fault(YardFault::Depot, down)),
             }
         }
     }
@@ -147,7 +147,7 @@ impl<D: Depot, H: Shelf> Yard<D, H> {
                 push_in_room(&mut self.log, note);
                 Ok(())
             }
-            Err((parcel, down)) => Err((parcel, depot_fault(down))),
+            Err((parcel, down)) => Err((parcel, yard_fault(YardFault::Depot, down))),
         }
     }
 
