@@ -24,7 +24,7 @@ use Rattle.jv_model.specs.tree.FileBytes.{copy, truncate}
 use Rattle.jv_model.specs.client.ModelClient.{ModelClient, inode_at}
 use Rattle.jv_model.specs.client.Profile.{handle_of}
 use Rattle.jv_model.specs.client.Submission.{is_flushed}
-use Rattle.jv_model.specs.journal.State.{State, after_told, caller}
+use Rattle.jv_model.specs.journal.State.{State, after_told, caller, without_views}
 use Rattle.jv_outside.specs.Store.{Store}
 use Rattle.jv_rows.specs.Transactions.{IsFor}
 use Rattle.jv_data.specs.Changing.{AnyTold, Changes, IsCrowded, Never, count_in}
@@ -35,7 +35,6 @@ use Rattle.jv_shared.specs.Shared.{HasStore, Known, Shared}
 use Rattle.jv_handles.specs.Handles.{inode_here, unseen}
 use Rattle.jv_handles.proofs.HandleLaws.{handles-forgotten}
 use Rattle.jv_handles.proofs.SeenLaws.{views-left}
-use Rattle.jv_steps.specs.Stages.{without_views}
 use Rattle.jv_requests.specs.Request.{Request}
 use Rattle.jv_requests.proofs.ChangeLaws.{change-never_bad, change-never_moved, copy-not_made, copy-not_made_calm}
 use Rattle.jv_requests.proofs.ChangeLaws.{copy-request, truncate-not_made, truncate-not_made_calm, truncate-request}

@@ -22,11 +22,11 @@ use Rattle.jv_model.specs.journal.Reading.{asked_parts}
 use Rattle.jv_model.specs.tree.Tree.{Tree}
 use Rattle.jv_model.specs.journal.State.{State, after_told}
 use Rattle.jv_model.specs.journal.Steps.{file_in_use, window_to_look}
+use Rattle.jv_model.specs.tree.FileBytes.{length_seen}
 use Rattle.jv_outside.specs.Causes.{RoseIf}
 use Rattle.jv_outside.specs.Store.{Store}
 use Rattle.jv_volume.specs.Holding.{IsHoldable}
 use Rattle.jv_cache.specs.Cached.{Cached}
-use Rattle.jv_data.specs.Committing.{length_seen}
 use Rattle.jv_data.specs.Records.{LooksAt}
 use Rattle.jv_shared.specs.Keeping.{KeepsShared}
 use Rattle.jv_shared.specs.Shared.{HasStore, Known, Shared}

@@ -26,7 +26,7 @@ use Rattle.jv_model.specs.rows.RowPlaces.{node_key, slice_key}
 use Rattle.jv_model.specs.tree.Attempt.{◌>>=◌, require, some_or}
 use Rattle.jv_model.specs.tree.Caller.{Caller, Outcome, answered}
 use Rattle.jv_model.specs.tree.Changes.{copied_over, with_content}
-use Rattle.jv_model.specs.tree.FileBytes.{copied, overlap, copy}
+use Rattle.jv_model.specs.tree.FileBytes.{copied, overlap, copy, length_seen}
 use Rattle.jv_model.specs.tree.Tree.{Tree, Content, content_at, fits, sum_fits, space_limit, used_space, inode_limit, used_inodes}
 use Rattle.jv_outside.specs.declared.batch.Change.{Change}
 use Rattle.jv_outside.specs.Rows.{applied}
@@ -44,7 +44,7 @@ use Rattle.jv_contents.specs.Bytes.{Told, bytes_of, tree_with}
 use Rattle.jv_contents.proofs.KeepLaws.{keeps-stay}
 use Rattle.jv_data.specs.declared.copying.Course.{Course}
 use Rattle.jv_data.specs.Changing.{Makes, AnyTold, IsCrowded, IsFull, Changed, LandsChanged, Changes, count_in, may_change, KeepsRest}
-use Rattle.jv_data.specs.Committing.{HasFile, length_seen}
+use Rattle.jv_data.specs.Committing.{HasFile}
 use Rattle.jv_data.specs.Copying.{Copying, CopiesLists, GetsPieces, AddsPieces}
 use Rattle.jv_data.specs.Resizing.{ResizesFile, AreSized}
 use Rattle.jv_data.specs.Truncating.{HasSlice, HaveSlices}

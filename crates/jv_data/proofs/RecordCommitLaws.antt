@@ -23,6 +23,7 @@ use Rattle.jv_model.specs.rows.RowPlaces.{list_key, slice_key}
 use Rattle.jv_model.specs.tree.Attempt.{◌>>=◌}
 use Rattle.jv_model.specs.tree.Caller.{done}
 use Rattle.jv_model.specs.tree.Tree.{Tree}
+use Rattle.jv_model.specs.tree.FileBytes.{commit_of}
 use Rattle.jv_outside.specs.declared.batch.Change.{Change}
 use Rattle.jv_outside.specs.Rows.{applied}
 use Rattle.jv_outside.specs.Store.{Store, Commits}
@@ -36,7 +37,7 @@ use Rattle.jv_volume.specs.Whole.{Whole}
 use Rattle.jv_contents.specs.Bytes.{Told, bytes_of, tree_with}
 use Rattle.jv_contents.specs.Counts.{KeepsOthers}
 use Rattle.jv_data.specs.Changing.{Makes, Never, Changed, LandsChanged, may_change, KeepsRest}
-use Rattle.jv_data.specs.Committing.{BeginsCommit, Begun, commit_of}
+use Rattle.jv_data.specs.Committing.{BeginsCommit, Begun}
 use Rattle.jv_data.specs.Resizing.{rows_sized}
 use Rattle.jv_data.specs.Records.{HasRecords, IsNew, CommitsRecord, committing}
 use Rattle.jv_data.proofs.CommitLaws.{RefusedBy, began, commit-unbegun, commit-reads, commit-fails}

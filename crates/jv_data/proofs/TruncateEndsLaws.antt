@@ -17,7 +17,7 @@ use Rattle.jv_model.specs.rows.RowKeys.{RowMap}
 use Rattle.jv_model.specs.tree.Attempt.{◌>>=◌, require, some_or}
 use Rattle.jv_model.specs.tree.Caller.{Caller, Outcome, done}
 use Rattle.jv_model.specs.tree.Changes.{resized, with_content}
-use Rattle.jv_model.specs.tree.FileBytes.{truncated, truncate}
+use Rattle.jv_model.specs.tree.FileBytes.{truncated, truncate, length_seen}
 use Rattle.jv_model.specs.tree.Tree.{Tree, Content, content_at, fits}
 use Rattle.jv_outside.specs.Store.{Store, Commits}
 use Rattle.jv_model.specs.declared.basics.Who.{Who}
@@ -56,7 +56,7 @@ use Rattle.jv_volume.specs.TreeOf.{content_of, tree_of}
 use Rattle.jv_volume.specs.TypedRows.{Rows, typed}
 use Rattle.jv_contents.specs.Bytes.{Told, spot_byte, bytes_of, tree_with}
 use Rattle.jv_data.specs.Changing.{Makes, DieUntil, AnyTold, Never, Changed, Changes, may_change, KeepsRest}
-use Rattle.jv_data.specs.Committing.{HasFile, length_seen}
+use Rattle.jv_data.specs.Committing.{HasFile}
 
 -- the model's truncate of a file that a session sees
 abbrev pub truncating : (sid now inode len : ℕ) → Tree → Result Outcome Fault

@@ -19,6 +19,7 @@ use Rattle.jv_model.specs.rows.RowPlaces.{counters_key, list_key}
 use Rattle.jv_model.specs.tree.Attempt.{◌>>=◌, require}
 use Rattle.jv_model.specs.tree.Caller.{Outcome, done}
 use Rattle.jv_model.specs.tree.Tree.{Tree}
+use Rattle.jv_model.specs.tree.FileBytes.{length_seen, commit_of}
 use Rattle.jv_outside.specs.Store.{Store}
 use Rattle.jv_rows.specs.Transactions.{TransactionCounts, Looks, BadFault, without_answer}
 use Rattle.jv_volume.specs.TypedRows.{Rows, typed}
@@ -28,7 +29,6 @@ use Rattle.jv_volume.specs.Slices.{IsUnknown, next_slice}
 use Rattle.jv_volume.specs.Whole.{Whole, no_bytes}
 use Rattle.jv_contents.specs.Bytes.{Told, spot_byte}
 use Rattle.jv_data.specs.declared.looking.View.{View}
-use Rattle.jv_data.specs.Committing.{length_seen, commit_of}
 use Rattle.jv_data.specs.Changing.{Changes, Never}
 
 -- no malformed row stands at a key, where rows are known

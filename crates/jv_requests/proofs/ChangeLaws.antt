@@ -27,7 +27,7 @@ use Rattle.jv_model.specs.tree.Caller.{Caller, Outcome, outcome}
 use Rattle.jv_model.specs.tree.FileBytes.{copy, truncate}
 use Rattle.jv_model.specs.client.ModelClient.{ModelClient, Doing, Working, inode_at}
 use Rattle.jv_model.specs.client.Submission.{is_flushed}
-use Rattle.jv_model.specs.journal.State.{State, after_told, caller}
+use Rattle.jv_model.specs.journal.State.{State, after_told, caller, without_views}
 use Rattle.jv_model.specs.journal.Steps.{Start, is_crowded}
 use Rattle.jv_outside.specs.Store.{Store}
 use Rattle.jv_volume.specs.TypedRows.{Rows, typed}
@@ -38,7 +38,6 @@ use Rattle.jv_shared.specs.Keeping.{HoldsSame}
 use Rattle.jv_shared.specs.Shared.{HasStore, Known, Shared, rows_in, typed_in}
 use Rattle.jv_shared.proofs.SameLaws.{same-rows}
 use Rattle.jv_steps.specs.IsStep.{IsStep}
-use Rattle.jv_steps.specs.Stages.{without_views}
 use Rattle.jv_steps.proofs.ChangeStepLaws.{truncate-made, truncate-refused, copy-made, copy-refused, copy-crowded}
 use Rattle.jv_steps.proofs.RefusalStepLaws.{goes-working}
 use Rattle.jv_steps.proofs.TreeChangeLaws.{IsCalm, copy-calm, truncate-calm}

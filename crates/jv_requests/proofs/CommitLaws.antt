@@ -22,7 +22,7 @@ use Rattle.jv_model.specs.tree.FileBytes.{committed}
 use Rattle.jv_model.specs.client.Pending.{Segment, bytes_in_range, without_range}
 use Rattle.jv_model.specs.client.Submission.{next_segment}
 use Rattle.jv_model.specs.client.ModelClient.{ModelClient, Doing, Working, session_of}
-use Rattle.jv_model.specs.journal.State.{State, after_told, answer_then, finished}
+use Rattle.jv_model.specs.journal.State.{State, after_told, answer_then, finished, without_committed}
 use Rattle.jv_model.specs.journal.Steps.{Start, Commits, is_failure, told_of}
 use Rattle.jv_outside.specs.Store.{Store}
 use Rattle.jv_volume.specs.TypedRows.{typed}
@@ -42,7 +42,6 @@ use Rattle.jv_shared.proofs.SameLaws.{same-rows}
 use Rattle.jv_shared.proofs.StoreLaws.{block_some, rows_are}
 use Rattle.jv_steps.specs.IsStep.{IsStep, at_stage}
 use Rattle.jv_steps.specs.RefusesCommit.{RefusesCommit, Late, NoFile, NoRoom, NoSession}
-use Rattle.jv_steps.specs.WithoutCommitted.{without_committed}
 use Rattle.jv_steps.proofs.CommitStepLaws.{commit-answered, commit-left, commit-then}
 use Rattle.jv_steps.proofs.CommitTestLaws.{commit_tested, tests-allow, tests-commit, tests-done, tests-refuse}
 use Rattle.jv_steps.proofs.CommitTestLaws.{tests-undone}

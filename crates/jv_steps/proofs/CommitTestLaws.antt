@@ -9,9 +9,8 @@ use Rattle.jv_model.specs.declared.fault.Fault.{Fault}
 use Rattle.jv_model.specs.declared.fault.Fault.TheVariants.{NoSpace, Stale, TimedOut}
 use Rattle.jv_model.specs.declared.fault.Gone.TheVariants.{Session, Node as GoneNode}
 use Rattle.jv_model.specs.declared.op.Reply.TheVariants.{Done}
-use Rattle.jv_model.specs.FiniteMap.{get}
 use Rattle.jv_model.specs.tree.Attempt.{◌>>=◌, require, some_or}
-use Rattle.jv_model.specs.tree.Caller.{Outcome, done}
+use Rattle.jv_model.specs.tree.Caller.{Outcome, done, session_there}
 use Rattle.jv_model.specs.tree.Tree.{Tree, Content, Node, content_at, content_of, fits, node_at}
 use Rattle.jv_model.specs.tree.FileBytes.{committed}
 use Rattle.jv_model.specs.client.Pending.{Segment, bytes_in_range}
@@ -25,7 +24,7 @@ use Rattle.jv_steps.proofs.CommitStepLaws.{commits-may}
 -- the length of a file, as a session sees it
 abbrev length_tested : ℕ → ℕ → Tree → Result ℕ Fault
 length_tested sid inode t = do
-  _ ← require (is_some (get t.sessions sid)) (Stale (Session sid))
+  _ ← session_there t sid
   content ← some_or (content_at t inode) (Stale (GoneNode inode))
   Ok content.length
 

@@ -16,7 +16,7 @@ use Rattle.jv_model.specs.client.ModelClient.{ModelClient, OpenFile, Doing, Work
 use Rattle.jv_model.specs.client.Profile.{handle_of}
 use Rattle.jv_model.specs.client.Submission.{is_flushed}
 use Rattle.jv_model.specs.journal.State.{State, after_told, has_session, is_of_another, quieted}
-use Rattle.jv_model.specs.journal.State.{sees_first}
+use Rattle.jv_model.specs.journal.State.{sees_first, with_look}
 use Rattle.jv_model.specs.journal.Steps.{Start, MayStep, ReadsFresh, ReadsViews, asked_of, file_in_use}
 use Rattle.jv_model.specs.journal.Steps.{may_be_quiet, may_read_on, window_to_look}
 use Rattle.jv_model.specs.journal.Past.{read_in, reply_of}
@@ -24,7 +24,7 @@ use Rattle.jv_model.specs.journal.Reading.{asked_parts, reading}
 use Rattle.jv_model.specs.journal.Stepping.{is_answer}
 use Rattle.jv_steps.specs.Leaves.{Leaves}
 use Rattle.jv_steps.specs.IsStep.{IsStep, at_stage}
-use Rattle.jv_steps.specs.Stages.{MayRead, Begins, with_look}
+use Rattle.jv_steps.specs.Stages.{MayRead, Begins}
 use Rattle.jv_steps.proofs.ReadyLaws.{quieted-reads, quiet-reads}
 use Rattle.jv_steps.proofs.StepFormLaws.{requested, step-alone, step-on, step-answered}
 use Rattle.jv_steps.proofs.EntryLaws.{told-staged, leaves-quiet}

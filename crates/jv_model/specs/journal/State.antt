@@ -326,12 +326,16 @@ abbrev pub is_compaction : Does → Bool
 is_compaction Compacts = true
 is_compaction _ = false
 
+-- the client once its operation looked at a window of a file
+abbrev pub with_look : State → Doing → (inode window : ℕ) → ModelClient → ModelClient
+with_look s d inode window c = record c { views = view_now s (handle_of d.op) inode window ∷ c.views }
+
 abbrev pub after_look : State → ℕ → ℕ → ℕ → Doing → State
 after_look s client inode window d =
     let c = s.clients client in
     set_client s client (if is_compaction d.does
     then with_stage (compaction_looked (view_now s 0 inode window) d.stage) c
-    else with_stage (looked d.stage) (record c { views = view_now s (handle_of d.op) inode window ∷ c.views }))
+    else with_stage (looked d.stage) (with_look s d inode window c))
 
 -- a block that a window shows wasn't found
 abbrev pub missed : ℕ → List Owed → Stage → Stage
@@ -375,10 +379,21 @@ committed_stage c d = (if is_flushed d.flush c.pending then elim (answer_then c 
 abbrev owed_by : ℕ → ℕ → ℕ → List Owed
 owed_by entry client staged = (if staged == 0 then [] else record { commit = entry; client = client } ∷ [])
 
+-- the client once it changed a file
+abbrev pub without_views : ℕ → ModelClient → ModelClient
+without_views inode c = record c { views = views_without inode c.views }
+
+-- the client without the pending bytes of a range of a file, and without its views of that file
+abbrev pub without_committed : (inode from len : ℕ) → ModelClient → ModelClient
+without_committed inode from len c = record c {
+  pending = without_range inode from len c.pending;
+  views = views_without inode c.views;
+}
+
 abbrev pub after_commit : State → ℕ → ℕ → ℕ → ℕ → ℕ → ℕ → Doing → State
 after_commit s client now inode from len staged d =
     let c = s.clients client in
-    let rest = record c { pending = without_range inode from len c.pending; views = views_without inode c.views } in
+    let rest = without_committed inode from len c in
     set_client (record s {
       tree = committed s.tree now inode from (bytes_in_range inode from len c.pending);
       marks = marks_committed (next_entry s) inode from len s.marks;
@@ -393,7 +408,7 @@ after_truncation s client now inode len d =
       tree = truncated s.tree now inode len;
       marks = marks_truncated (next_entry s) inode len s.marks;
       changes = changed_at (next_entry s) Replaced inode ∷ s.changes;
-    }) client (with_stage (Replying reply.Done) (record c { views = views_without inode c.views }))
+    }) client (with_stage (Replying reply.Done) (without_views inode c))
 
 abbrev pub after_copy : State → ℕ → ℕ → ℕ → ℕ → ℕ → ℕ → ℕ → Doing → State
 after_copy s client now source from target to len d =
@@ -403,7 +418,7 @@ after_copy s client now source from target to len d =
       marks = marks_copied (next_entry s) source from target to len (or_empty (content_at s.tree target)).length s.marks;
       copied = s.copied + len;
       changes = changed_at (next_entry s) Written target ∷ s.changes;
-    }) client (with_stage (Replying (reply.Count len)) (record c { views = views_without target c.views }))
+    }) client (with_stage (Replying (reply.Count len)) (without_views target c))
 
 abbrev last_look : Stage → ℕ
 last_look (Compacting k) = k.view.entry
