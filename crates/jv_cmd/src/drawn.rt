@@ -2,7 +2,7 @@
 //! that keeps what they print, and their summary goes to the session's own out.
 ghost use Rattle.std.specs.Prelude.{◌≡◌, ◌≤◌, ◌++◌, ◌∷◌, [], codes, drop, IfOk, IsSome, IsSomeAnd, MatchOption, OnOk, Some};
 ghost use Rattle.jv_model.specs.declared.limits.TheConstants.{MAX_DATA};
-ghost use Rattle.jv_model.specs.script.Printed.{hex_pair, number_word};
+ghost use Rattle.jv_model.specs.script.Printed.{number_word};
 ghost use Rattle.jv_model.specs.script.ReplyText.{mode_digits};
 ghost use Rattle.jv_generator.specs.Summary.{totals_of, with_reply};
 ghost use Rattle.jv_generator.specs.Script.{script};
@@ -10,7 +10,7 @@ ghost use Rattle.jv_cmd.specs.Generating.{EndsScript, PrintsSummary, SumsUp, cre
 ghost use Rattle.jv_cmd.specs.Stages.{IsFirst};
 ghost use Rattle.jv_cmd.specs.Texts.{texts_of};
 
-use crate::ended::{Ended, hex_pair};
+use crate::ended::Ended;
 use crate::lines::{discard, run_script};
 use crate::reader::feed_in;
 use crate::stage::{ObservedStage, Stage};
@@ -18,17 +18,9 @@ use itoa::Buffer;
 use jv_generator::{Generator, Totals};
 use jv_model::{Bytes, Fault, Line, Op, Reply, Setting};
 use jv_outside::{Clock, Depot, Keeper, NeverSink, NeverSource, Shelf, Sink, Source, write_whole};
-use jv_script::{BadLine, read_data};
+use jv_script::{BadLine, hex_pair, octal_digit, push_number, read_data};
 use jv_yard::{Alone, YardDoor};
 use std::alloc::{AllocError, Global};
-
-/// Adds a space and a number.
-fn push_number(text: &mut Vec<u8>, number: u64) -> Result<(), AllocError>
-    ensures { OnOk result (text.new.items ≡ text.old.items ++ number_word number) }
-{
-    text.push(b' ')?;
-    text.extend_from_slice(Buffer::new().format(number).as_bytes())
-}
 
 /// Adds the bytes of a write, all of which are the first one.
 fn push_repeated(text: &mut Vec<u8>, bytes: &[u8]) -> Result<(), AllocError>
@@ -47,10 +39,10 @@ fn mode_digits(mode: u16) -> [u8; 4]
     ensures { result ≡ mode_digits mode }
 {
     [
-        b'0' + (mode / 512 % 8) as u8,
-        b'0' + (mode / 64 % 8) as u8,
-        b'0' + (mode / 8 % 8) as u8,
-        b'0' + (mode % 8) as u8,
+        octal_digit(mode / 512),
+        octal_digit(mode / 64),
+        octal_digit(mode / 8),
+        octal_digit(mode),
     ]
 }
 
