@@ -17,6 +17,7 @@ use Rattle.jv_model.specs.tree.Caller.{Caller, Outcome, outcome}
 use Rattle.jv_model.specs.tree.Removing.{unlink}
 use Rattle.jv_model.specs.tree.Renaming.{rename}
 use Rattle.jv_outside.specs.Store.{Store}
+use Rattle.jv_model.specs.journal.State.{is_refused}
 use Rattle.jv_rows.specs.Transactions.{Landed, Lands, Transacts, Always}
 use Rattle.jv_volume.specs.TypedRows.{typed}
 use Rattle.jv_volume.specs.TreeOf.{tree_of}
@@ -25,7 +26,7 @@ use Rattle.jv_links.specs.declared.fates.Fate.TheVariants.{Linked, Trashed, Drop
 use Rattle.jv_links.specs.declared.fates.Removed.{Removed}
 use Rattle.jv_links.specs.Removals.{HoldsFiles, TellsSustained, removed_in, renamed_in, keeps_removed, is_kept}
 use Rattle.jv_metadata.specs.declared.answers.Answer.{Answer}
-use Rattle.jv_metadata.specs.Attempts.{AnswersPlainly, mapped, kept_of, kept_by, is_inode, is_refusal, attempt, TellsKept}
+use Rattle.jv_metadata.specs.Attempts.{AnswersPlainly, mapped, kept_of, kept_by, is_inode, attempt, TellsKept}
 
 -- what the tree does for an operation is its transaction
 pub tree_act-attempt : (t : Tree) (who : Caller) (o : Op) → tree_act t who o ≡ outcome t (attempt t who o)
@@ -103,7 +104,7 @@ module _ {A : Type 0} (held : List ℕ) (before after : Store) (reply : A → Re
   transacts-always made t result is next acts = transacts-mapped Always (HoldsFiles held) before after reply act f (λ u l. tt) same made t result is next acts
 
 -- its answer is no refusal
-pub answers-mapped : {A : Type 0} (f : A → Answer) → ((x : A) → is_refusal (f x).reply ≡ false) → (made : Result A TxFault)
+pub answers-mapped : {A : Type 0} (f : A → Answer) → ((x : A) → is_refused (f x).reply ≡ false) → (made : Result A TxFault)
     (result : Result Answer TxFault) → result ≡ mapped f made → AnswersPlainly result
 answers-mapped f none (Ok x) result is = subst AnswersPlainly (sym is) (none x)
 answers-mapped f none (Err fault) result is = subst AnswersPlainly (sym is) tt

@@ -5,7 +5,7 @@ use Rattle.jv_model.specs.declared.fault.TxFault.{TxFault}
 use Rattle.jv_model.specs.declared.op.Op.{Op}
 use Rattle.jv_model.specs.declared.op.Op.TheVariants as op
 use Rattle.jv_model.specs.declared.op.Reply.{Reply}
-use Rattle.jv_model.specs.declared.op.Reply.TheVariants.{Refused}
+use Rattle.jv_model.specs.journal.State.{is_refused}
 use Rattle.jv_model.specs.rows.RowKeys.{RowMap}
 use Rattle.jv_model.specs.tree.Tree.{Tree, is_sustained}
 use Rattle.jv_model.specs.tree.Caller.{Caller, Outcome, outcome, done}
@@ -36,14 +36,9 @@ mapped f (Err fault) = Err fault
 abbrev pub plain : Reply → Answer
 plain reply = record { reply = reply; kept = None }
 
--- whether a reply is a refusal
-abbrev pub is_refusal : Reply → Bool
-is_refusal (Refused fault) = true
-is_refusal _ = false
-
 -- an answer that was given is none
 abbrev pub AnswersPlainly : Result Answer TxFault → Type 0
-AnswersPlainly result = IfOk result (λ answer. is_refusal answer.reply ≡ false)
+AnswersPlainly result = IfOk result (λ answer. is_refused answer.reply ≡ false)
 
 abbrev pub kept_by : Fate → ℕ → Option ℕ
 kept_by Linked inode = None
