@@ -4,9 +4,10 @@ ghost use Rattle.std.specs.Prelude.{◌≡◌, ◌≤◌, ◌++◌, ◌∷◌, [
 ghost use Rattle.jv_model.specs.declared.limits.TheConstants.{MAX_DATA};
 ghost use Rattle.jv_model.specs.script.Printed.{number_word};
 ghost use Rattle.jv_model.specs.script.ReplyText.{mode_digits};
+ghost use Rattle.jv_client.specs.CacheUse.{is_read};
 ghost use Rattle.jv_generator.specs.Summary.{totals_of, with_reply};
 ghost use Rattle.jv_generator.specs.Script.{script};
-ghost use Rattle.jv_cmd.specs.Generating.{EndsScript, PrintsSummary, SumsUp, create_words, is_read, is_read_op, line_text, operation_text, read_words, repeated_text, replies_said, reply_said, script_text, spelled_bytes, summary_of, write_words};
+ghost use Rattle.jv_cmd.specs.Generating.{EndsScript, PrintsSummary, SumsUp, create_words, is_read_line, line_text, operation_text, read_words, repeated_text, replies_said, reply_said, script_text, spelled_bytes, summary_of, write_words};
 ghost use Rattle.jv_cmd.specs.Stages.{IsFirst};
 ghost use Rattle.jv_cmd.specs.Texts.{texts_of};
 
@@ -152,17 +153,17 @@ fn spelled_bytes(alloc: Global, digits: &[u8]) -> Result<Bytes, AllocError>
     }
 }
 
-fn is_read_op(op: &Op) -> bool
-    ensures { result ≡ is_read_op op.now }
+fn is_read(op: &Op) -> bool
+    ensures { result ≡ is_read op.now }
 {
     matches!(op, Op::Read { .. })
 }
 
-fn is_read(line: &Line) -> bool
-    ensures { result ≡ is_read line.now }
+fn is_read_line(line: &Line) -> bool
+    ensures { result ≡ is_read_line line.now }
 {
     match line {
-        Line::Do(_, op) => is_read_op(op),
+        Line::Do(_, op) => is_read(op),
         _ => false,
     }
 }
@@ -185,7 +186,7 @@ fn reply_said(alloc: Global, line: &Line, answer: &[u8]) -> Result<Reply, AllocE
     if answer.first() != Some(&b'o') {
         return Ok(Reply::Refused(Fault::NotFound));
     }
-    if !is_read(line) {
+    if !is_read_line(line) {
         return Ok(Reply::Done);
     }
     let bytes = spelled_bytes(alloc, after_ok(answer))?;
