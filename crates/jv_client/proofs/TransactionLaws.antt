@@ -27,9 +27,9 @@ use Rattle.jv_outside.specs.Store.{Store}
 use Rattle.jv_volume.specs.Holding.{takes_entries}
 use Rattle.jv_volume.proofs.HoldingLaws.{sustains_none, sustains_held}
 use Rattle.jv_volume.proofs.OpeningLaws.{opened_file}
-use Rattle.jv_links.specs.Removals.{HoldsFiles}
+use Rattle.jv_links.specs.Removals.{HoldsFiles, is_inode}
 use Rattle.jv_metadata.specs.declared.answers.Answer.{Answer}
-use Rattle.jv_metadata.specs.Attempts.{KeepsOne, TellsKept, attempt, is_inode, is_metadata}
+use Rattle.jv_metadata.specs.Attempts.{KeepsOne, TellsKept, attempt, is_metadata}
 use Rattle.jv_shared.specs.Keeping.{KeepsShared}
 use Rattle.jv_shared.specs.Shared.{HasStore, Known, Shared}
 use Rattle.jv_handles.specs.Handles.{held_here, inode_here}

@@ -26,7 +26,7 @@ use Rattle.jv_volume.specs.Views.{row_in, node_in}
 use Rattle.jv_volume.specs.Whole.{Whole}
 use Rattle.jv_volume.proofs.StoredLaws.{HasNode, found_node, whole-stored}
 use Rattle.jv_links.specs.declared.fates.Removed.{Removed}
-use Rattle.jv_links.specs.Removals.{TellsSustained, renamed_in, keeps_removed}
+use Rattle.jv_links.specs.Removals.{TellsSustained, is_inode, kept_of, renamed_in}
 use Rattle.jv_links.specs.Moves.{Renames}
 
 -- ---- a row that was read
@@ -54,7 +54,7 @@ gained false = refl
 -- nothing is kept anew where what is kept stays
 pub tells_none : (t : Tree) (sid : ℕ) (r : Result Outcome Fault)
     → ((d : Outcome) → r ≡ Ok d → d.tree.sustained ≡ t.sustained) → (inode : ℕ)
-    → (is_sustained (outcome t r).tree sid inode && not (is_sustained t sid inode)) ≡ keeps_removed None inode
+    → (is_sustained (outcome t r).tree sid inode && not (is_sustained t sid inode)) ≡ is_inode (kept_of None) inode
 tells_none t sid (Ok d) same inode =
     ap (λ m. is_some (get m (record { sid = sid; inode = inode })) && not (is_sustained t sid inode)) (same d refl)
     ∙ gained (is_sustained t sid inode)

@@ -1,5 +1,5 @@
 -- The operations that are one transaction on metadata, what the model's transaction of each is, and what is answered of it.
-use Rattle.std.specs.Prelude.{◌≡◌, ℕ, Bool, true, false, ◌&&◌, ◌==◌, not, Option, None, Some, Result, Ok, Err, IfOk, MatchBool}
+use Rattle.std.specs.Prelude.{◌≡◌, ℕ, Bool, true, false, ◌&&◌, not, Option, None, Some, Result, Ok, Err, IfOk, MatchBool}
 use Rattle.jv_model.specs.declared.fault.Fault.{Fault}
 use Rattle.jv_model.specs.declared.fault.TxFault.{TxFault}
 use Rattle.jv_model.specs.declared.op.Op.{Op}
@@ -19,10 +19,7 @@ use Rattle.jv_outside.specs.Store.{Store}
 use Rattle.jv_volume.specs.TypedRows.{typed}
 use Rattle.jv_volume.specs.TreeOf.{tree_of}
 use Rattle.jv_volume.specs.Whole.{Whole}
-use Rattle.jv_links.specs.declared.fates.Fate.{Fate}
-use Rattle.jv_links.specs.declared.fates.Fate.TheVariants.{Linked, Trashed, Dropped, Sustained}
-use Rattle.jv_links.specs.declared.fates.Removed.{Removed}
-use Rattle.jv_links.specs.Removals.{HoldsFiles}
+use Rattle.jv_links.specs.Removals.{HoldsFiles, is_inode}
 use Rattle.jv_volume.specs.Holding.{takes_entries}
 pub use Rattle.jv_model.specs.script.Spelled.{is_spelled}
 use Rattle.jv_metadata.specs.declared.answers.Answer.{Answer}
@@ -39,17 +36,6 @@ plain reply = record { reply = reply; kept = None }
 -- an answer that was given is none
 abbrev pub AnswersPlainly : Result Answer TxFault → Type 0
 AnswersPlainly result = IfOk result (λ answer. is_refused answer.reply ≡ false)
-
-abbrev pub kept_by : Fate → ℕ → Option ℕ
-kept_by Linked inode = None
-kept_by Trashed inode = None
-kept_by Dropped inode = None
-kept_by Sustained inode = Some inode
-
--- the file that a session keeps once something was removed
-abbrev pub kept_of : Option Removed → Option ℕ
-kept_of None = None
-kept_of (Some removed) = kept_by removed.fate removed.inode
 
 -- the operations that are one transaction on metadata and no more
 abbrev pub is_metadata : Op → Bool
@@ -125,10 +111,6 @@ attempt t who op.Stats = done t
 pub record Asks (caller : Caller) (handle inode : ℕ) : Type 0 where
   pub gets : caller.free_handle ≡ handle
   pub names : caller.inode ≡ inode
-
-abbrev pub is_inode : Option ℕ → ℕ → Bool
-is_inode None inode = false
-is_inode (Some kept) inode = kept == inode
 
 -- the file that the session keeps from then on, by whole rows whose caller has files open, is the one that is answered
 abbrev pub KeepsOne : Caller → Op → Store → Option ℕ → Type 0
