@@ -10,7 +10,7 @@ use Rattle.jv_model.specs.client.ModelClient.{ModelClient, OpenFile, free_handle
 use Rattle.jv_model.specs.journal.State.{Gift, NewSession, NewHandle, Nothing, given}
 use Rattle.jv_model.specs.Lists.{is_among}
 use Rattle.jv_volume.specs.Holding.{IsHoldable}
-use Rattle.jv_metadata.specs.Attempts.{is_inode}
+use Rattle.jv_links.specs.Removals.{is_inode}
 use Rattle.jv_shared.specs.Shared.{Known, Shared}
 use Rattle.jv_handles.specs.Handles.{new_handle}
 use Rattle.jv_handles.specs.Held.{AreHandles}

@@ -28,9 +28,9 @@ use Rattle.jv_outside.specs.Store.{Store}
 use Rattle.jv_volume.specs.Holding.{takes_entries}
 use Rattle.jv_volume.proofs.HoldingLaws.{sustains_none, sustains_held}
 use Rattle.jv_volume.proofs.OpeningLaws.{opened_file}
-use Rattle.jv_links.specs.Removals.{HoldsFiles}
+use Rattle.jv_links.specs.Removals.{HoldsFiles, is_inode}
 use Rattle.jv_metadata.specs.declared.answers.Answer.{Answer}
-use Rattle.jv_metadata.specs.Attempts.{KeepsOne, TellsKept, attempt, is_inode, is_metadata, is_refusal}
+use Rattle.jv_metadata.specs.Attempts.{KeepsOne, TellsKept, attempt, is_metadata}
 use Rattle.jv_shared.specs.Keeping.{KeepsShared}
 use Rattle.jv_shared.specs.Shared.{HasStore, Known, Shared}
 use Rattle.jv_handles.specs.Handles.{held_here, inode_here}
@@ -69,7 +69,7 @@ use Rattle.jv_client.proofs.GiftLaws.{IsGift, among-kept, held-given, holds-give
 -- ---- an operation that was answered
 
 -- an answer that is no refusal says of no device that it failed
-calm-reply : (said : Reply) → is_refusal said ≡ false → IsCalm (told_of said)
+calm-reply : (said : Reply) → is_refused said ≡ false → IsCalm (told_of said)
 calm-reply (reply.Refused fault) e device = absurd (cc e)
 calm-reply (reply.Uploaded None) e device = refl
 calm-reply (reply.Uploaded (Some block)) e device = refl

@@ -23,7 +23,8 @@ use Rattle.jv_cmd.specs.Ends.{status_of}
 use Rattle.jv_cmd.specs.Faults.{CountsFaults, on_stage}
 use Rattle.jv_cmd.specs.Run.{AreLines, Beginning, EndsBy, IsKnownClock, IsOff, Leaves, NotBuilt, OffGrammar, Prints, RunsWhole, StartsWhole, StopsAt, session_run}
 use Rattle.jv_cmd.specs.Stages.{StageValue}
-use Rattle.jv_cmd.specs.Steps.{Done, EndsLines, HasUsed, IsOffText, LineUnbuilt, NoLine, ReadsBuilt, Reaches, used}
+use Rattle.jv_cmd.specs.Generating.{EndsScript}
+use Rattle.jv_cmd.specs.Steps.{Done, HasUsed, IsOffText, LineUnbuilt, NoLine, ReadsBuilt, Reaches, used}
 use Rattle.jv_cmd.specs.Texts.{texts_of}
 use Rattle.jv_cmd.proofs.DoneLaws.{HasUsed-line, built_more}
 use Rattle.jv_cmd.proofs.EntryLaws.{Enters, Enters-cut, OfNext, OfNext-settled, comes, comes_settled, there}
@@ -94,11 +95,11 @@ module _ (left : Option (List ℕ)) (before now after : StageValue) (n : ℕ) (t
     leaves = Leaves-stands _ s after.devices (Stands-last start w known (status_of ended) t);
   }
 
-  pub EndsLines-last : (ended : Ended) → EndsBy ended before after d.texts d.lines
+  pub EndsScript-last : (ended : Ended) → EndsBy ended before after d.texts d.lines
       → ((start : Beginning) (known : Option (ℕ → ℕ)) → StartsWhole before start
       → IsKnownClock known before.clock after.clock → Prints ended start known before after d.lines)
-      → CountsFaults ended (on_stage before) (on_stage after) → EndsLines before after ended
-  EndsLines-last ended cause prints faults = record {
+      → CountsFaults ended (on_stage before) (on_stage after) → EndsScript None before after ended
+  EndsScript-last ended cause prints faults = record {
     answers = d.failed;
     runs = record {
       texts = d.texts;
@@ -135,13 +136,13 @@ module _ (left left' : Option (List ℕ)) (before now after : StageValue) (n : �
     short = short_more d.texts bytes_of_line d.short short;
   }
 
-  pub EndsLines-next : (ended : Ended) (asks : ℕ) (failed : Device → ℕ) → LineUses (used now s) (used after s') asks failed
+  pub EndsScript-next : (ended : Ended) (asks : ℕ) (failed : Device → ℕ) → LineUses (used now s) (used after s') asks failed
       → EndsBy ended before after (d.texts ++ bytes_of_line ∷ []) (d.lines ++ line ∷ [])
       → ((start : Beginning) (known : Option (ℕ → ℕ)) → StartsWhole before start
       → IsKnownClock known before.clock after.clock
       → RunsWhole start known before after ended (d.lines ++ line ∷ []))
-      → CountsFaults ended (on_stage before) (on_stage after) → EndsLines before after ended
-  EndsLines-next ended asks failed uses cause whole faults = record {
+      → CountsFaults ended (on_stage before) (on_stage after) → EndsScript None before after ended
+  EndsScript-next ended asks failed uses cause whole faults = record {
     answers = both_failures d.failed failed;
     runs = record {
       texts = d.texts ++ bytes_of_line ∷ [];
@@ -227,8 +228,8 @@ module _ (left left' : Option (List ℕ)) (before now after : StageValue) (n : �
     torn start w = comes left before now after n text line s s' d b.asks b.uses.passes start w
         (λ p more. ⊥) b.never None [] 4 tt
 
-    pub EndsLines-bad : CountsFaults (BadRow key bytes) (on_stage before) (on_stage after) → EndsLines before after (BadRow key bytes)
-    EndsLines-bad faults = EndsLines-next (BadRow key bytes) b.asks b.failed b.uses
+    pub EndsScript-bad : CountsFaults (BadRow key bytes) (on_stage before) (on_stage after) → EndsScript None before after (BadRow key bytes)
+    EndsScript-bad faults = EndsScript-next (BadRow key bytes) b.asks b.failed b.uses
         (record { bad = b.bad; torn = torn }) (λ start known w t. absurd (torn start w)) faults
 
 pub StopsAt-from : (left : Option (List ℕ)) (before now : StageValue) (n : ℕ) (text : List ℕ) (s : ScheduleValue)

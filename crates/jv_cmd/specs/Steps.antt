@@ -21,8 +21,8 @@ use Rattle.jv_cmd.specs.declared.ended.Ended.TheVariants.{OffLine, BadRow, OutFa
 use Rattle.jv_model.specs.declared.limits.TheConstants.{MAX_LINE, MAX_LINES}
 use Rattle.jv_cmd.specs.Texts.{texts_of}
 use Rattle.jv_cmd.specs.Stages.{StageValue}
-use Rattle.jv_cmd.specs.Faults.{CountsFaults, on_stage}
-use Rattle.jv_cmd.specs.Run.{Beginning, IsKnownClock, IsBuilt, RunsLines, StartsWhole, session_run}
+use Rattle.jv_cmd.specs.Run.{Beginning, IsKnownClock, IsBuilt, StartsWhole, session_run}
+use Rattle.jv_cmd.specs.Generating.{EndsScript}
 
 -- a past after `done` lines of a run, with these lines to come: the schedule stands there, and this was printed
 pub record IsAt (p : Past) (run : Setup) (more : List Line) (done asks entries : ℕ) (printed : List ℕ)
@@ -92,18 +92,10 @@ pub record Going (left : Option (List ℕ)) (before now : StageValue) (done : �
   pub gains : Gains before.out.content now.out.content text
   pub calm : AreCalm before now
 
--- the run of lines ended, and so often each device failed and an operation was answered so
-pub record EndsLines (before after : StageValue) (ended : Ended) : Type 0 where
-  pub answers : Device → ℕ
-  pub runs : RunsLines answers before after ended
-  pub faults : CountsFaults ended (on_stage before) (on_stage after)
-  pub stays : StaysPut before.devices after.devices
-  pub counts : (device : Device) → RoseTimes (answers device) (faults_of device before.devices) (faults_of device after.devices)
-
 -- one line more was run, or the run ended
 abbrev pub Turns : Option (List ℕ) → StageValue → StageValue → ℕ → ScheduleValue → Result (Unit {0}) Ended → Type 0
 Turns left before now done s (Ok unit) = Going left before now (done + 1) s
-Turns left before now done s (Err ended) = EndsLines before now ended
+Turns left before now done s (Err ended) = EndsScript None before now ended
 
 -- a line's entries after a journal: they are allowed, and the line is done and prints the text
 pub record Goes (p : Past) (more : List Line) (number asks : ℕ) (before after : List Act) (text : List ℕ) (s : ScheduleValue)

@@ -144,13 +144,3 @@ fn write_pairs<E: Sink>(bytes: &[u8], err: &mut E) -> Result<(), Down>
     }
     Ok(())
 }
-
-pub(crate) fn hex_pair(byte: u8) -> [u8; 2]
-    ensures { result ≡ hex_pair byte }
-{
-    const DIGITS: &[u8; 16] = b"0123456789abcdef";
-    [
-        DIGITS[usize::from(byte / 16)],
-        DIGITS[usize::from(byte % 16)],
-    ]
-}

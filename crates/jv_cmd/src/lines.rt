@@ -1,11 +1,12 @@
-ghost use Rattle.std.specs.Prelude.{◌≡◌, ◌↔◌, ◌≤◌, ◌<◌, [], IsSome, IsSomeAnd, IsTrue, OnOk};
+ghost use Rattle.std.specs.Prelude.{◌≡◌, ◌↔◌, ◌≤◌, ◌<◌, [], None, IsSome, IsSomeAnd, IsTrue, OnOk};
 ghost use Rattle.std.specs.Io.KnownBytes.{prepend_known};
 ghost use Rattle.jv_model.specs.declared.limits.TheConstants.{MAX_DATA};
 ghost use Rattle.jv_model.specs.declared.op.Line.TheVariants.{Empty};
 ghost use Rattle.jv_client.specs.Built.{is_built_line};
 ghost use Rattle.jv_session.specs.Lines.{LineRuns};
 ghost use Rattle.jv_session.specs.Stands.{IsYardOf};
-ghost use Rattle.jv_cmd.specs.Steps.{TextReads, LineEnds, TextEnds, Going, EndsLines, Turns, used};
+ghost use Rattle.jv_cmd.specs.Generating.{EndsScript};
+ghost use Rattle.jv_cmd.specs.Steps.{TextReads, LineEnds, TextEnds, Going, Turns, used};
 ghost use Rattle.jv_cmd.specs.Stages.{IsFirst, StageValue};
 
 use crate::ended::Ended;
@@ -175,7 +176,7 @@ fn run_lines<S: Source, O: Sink, K: Keeper, D: Depot, H: Shelf, C: Clock>(
         (before : StageValue)
         → Going (prepend_known reader.old (seen stage.old).source.content) before (seen stage.old)
         0 schedule.old
-        → EndsLines before (seen stage.new) result }
+        → EndsScript None before (seen stage.new) result }
     ensures yard { let given = ⟦<Alone<D, H> as YardDoor<D, H>>⟧.given in
         IsSomeAnd (given stage.new.door) (IsYardOf schedule.new) }
 {
@@ -200,7 +201,7 @@ pub(crate) fn run_script<S: Source, O: Sink, K: Keeper, D: Depot, H: Shelf, C: C
     requires yard { let given = ⟦<Alone<D, H> as YardDoor<D, H>>⟧.given in
         IsSomeAnd (given stage.old.door) (IsFirst setting) }
     ensures runs { let seen = ⟦<Stage<S, O, K, D, H, C> as ObservedStage>⟧.seen in
-        EndsLines (seen stage.old) (seen stage.new) result }
+        EndsScript None (seen stage.old) (seen stage.new) result }
     ensures yard { IsSome (⟦<Alone<D, H> as YardDoor<D, H>>⟧.given stage.new.door) }
 {
     let Ok(mut reader) = LineReader::new(alloc) else {

@@ -37,7 +37,7 @@ use Rattle.jv_volume.proofs.StoredLaws.{HasNode, HasCounters, of_counters, found
 use Rattle.jv_volume.proofs.StoredStepLaws.{tree_of-length, stored-length}
 use Rattle.jv_volume.proofs.SumLaws.{node_space-counted, used_space-drop_node, used_space-with_content, used_inodes-with_content}
 use Rattle.jv_volume.proofs.TreeOfLaws.{node_at-tree_of}
-use Rattle.jv_data.specs.Resizing.{paged_space, used_after}
+use Rattle.jv_data.specs.Resizing.{used_after}
 use Rattle.jv_data.proofs.BesideLaws.{IsFormed}
 
 -- ---- bytes
@@ -236,7 +236,7 @@ module _ (rows : Rows) (inode : ℕ) (was : NodeRow) (c : Counters) (now length 
     put_is = ap (λ o. set_node before inode (option_map (λ (n : Node). record (touched now n) { kind = File content }) o)) (has bytes).there
 
     space_put : node_space inode put ≡ paged length
-    space_put = node_space-counted inode put (is_counted-file bytes) ∙ ap paged_space long
+    space_put = node_space-counted inode put (is_counted-file bytes) ∙ ap paged long
 
     used_put : used_space (with_content before now inode content) ≡ space
     used_put =

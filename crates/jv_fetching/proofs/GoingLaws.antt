@@ -23,6 +23,7 @@ use Rattle.jv_fetching.specs.declared.need.Need.TheVariants.{Look, Block, Nothin
 use Rattle.jv_fetching.specs.Fetching.{Fetching, block_needed, fetch_left, next_of, weight}
 use Rattle.jv_fetching.specs.Shows.{shown_len}
 use Rattle.jv_fetching.specs.Going.{CanFetch, HasBegun, HasRead, IsBegunBy, IsFetching, IsShown}
+use Rattle.jv_model.proofs.TestLaws.{some_same}
 use Rattle.jv_fetching.specs.Calls.{Asks, CachedOf, HasCached, IsMissing, LooksUp, LooksUpFew, cache_key, first_seen}
 use Rattle.jv_fetching.specs.Calls.{first_unseen}
 use Rattle.jv_fetching.specs.Inside.{BeginsPart, HadBegun, BeginsNow, IsOver, LooksFirst, Ends, EndsPart, Fills, FillsBegun}
@@ -534,14 +535,11 @@ module _ (cache later : Cached) (before middle : Fetching) where
       subst (λ (g : Fetching). EndsPart g after) from.is ends in
       subst (λ (o : Option Begun). AnyBy after o None) (sym from.was) (ended_on after from now)
     where
-      some_is : (x y : Begun) → Some x ≡ Some y → x ≡ y
-      some_is x y e = cc
-
       ended_on : (after : Fetching) (from : FillsFrom cache later before middle None)
           → EndsPart (waiting from.begun from.part before) after
           → GoesOn from.begun cache later (record before { begun = None }) after None
       ended_on after from now =
-          let same = some_is (record from.begun { part = from.part }) now.begun now.was in
+          let same = some_same (record from.begun { part = from.part }) now.begun now.was in
           Ended from.part from.fills.0 from.fills.1 now.bytes
           (subst (λ (begun : Begun). (told : Told) → ReadsAs told begun.part
           → now.bytes ≡ bytes_from (window_byte told begun.part.list) begun.part.from (begun.part.to - begun.part.from))

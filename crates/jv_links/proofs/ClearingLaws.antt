@@ -1,5 +1,5 @@
 -- How what a rename replaces is removed: each exit, and what it answers of the file that the session keeps.
-use Rattle.std.proofs.Common.{◌≡◌, ℕ, Bool, true, false, not, ◌&&◌, ◌==◌, List, Option, None, Some, is_some, Result, Ok, Err, refl, sym, ap, ◌∙◌}
+use Rattle.std.proofs.Common.{◌≡◌, ℕ, Bool, true, false, not, ◌&&◌, List, Option, None, Some, is_some, Result, Ok, Err, refl, sym, ap, ◌∙◌}
 use Rattle.std.specs.Prelude.{IsErrAnd}
 use Rattle.std.proofs.Math.Bool.{and-not_self}
 use Rattle.jv_model.specs.declared.fault.Fault.{Fault}
@@ -17,7 +17,7 @@ use Rattle.jv_changes.specs.Drafting.{Drafting}
 use Rattle.jv_changes.specs.Ready.{StandsAt, MayGo}
 use Rattle.jv_links.specs.declared.fates.Fate.{Fate}
 use Rattle.jv_links.specs.declared.fates.Removed.{Removed}
-use Rattle.jv_links.specs.Removals.{MayLose, TellsFate, is_kept}
+use Rattle.jv_links.specs.Removals.{MayLose, TellsFate, is_inode, kept_by}
 use Rattle.jv_links.specs.Replacements.{MayClear, TellsCleared}
 use Rattle.jv_changes.proofs.DraftSteps.{steps-then, steps-ended, step-as, step-fails, step-value, drafting-err, drafting-exit}
 use Rattle.jv_links.proofs.RemovalStepLaws.{stands_at, empty_apart, empty_goes}
@@ -149,4 +149,4 @@ module _ (who : Caller) (place : EntryKey) (inode : ℕ) (was : List Change) (be
       ap (λ (u : Tree). is_sustained u who.sid i && not (is_sustained t who.sid i))
       (target_leaf t who place inode r.kind)
       ∙ kept-remove_entry t who place inode (may_lose t who place inode r) i
-      ∙ ap (λ f. is_kept f && (inode == i)) (sym (tells known at bytes t m (may_lose t who place inode r)))
+      ∙ ap (λ f. is_inode (kept_by f inode) i) (sym (tells known at bytes t m (may_lose t who place inode r)))

@@ -2,7 +2,7 @@
 use Rattle.std.proofs.Common.{◌≡◌, ◌≢◌, ℕ, ◌≤◌, Bool, true, false, not, ◌&&◌, ◌==◌, Option, None, Some, is_some, refl, sym, ap, ◌∙◌, arith}
 use Rattle.std.specs.Prelude.{IsTrue, nat_lt}
 use Rattle.std.specs.List.{list_any}
-use Rattle.std.proofs.lemmas.Bool.{false≢true, cond_both, and_parts, not-true, le-leb}
+use Rattle.std.proofs.lemmas.Bool.{false≢true, cond_both, and_parts, not-true, le-leb, leb-true}
 use Rattle.std.proofs.lemmas.Option.{same_Some}
 use Rattle.jv_model.specs.declared.limits.TheConstants.{MAX_LINKS}
 use Rattle.jv_model.specs.tree.Caller.{Caller}
@@ -23,7 +23,6 @@ use Rattle.jv_volume.proofs.ShapeMapLaws.{naming_apart, only_one, parent_of_dir,
 use Rattle.jv_links.specs.Losses.{IsToTrash}
 use Rattle.jv_links.specs.Moves.{MayMove}
 use Rattle.jv_links.specs.Removals.{MayLose}
-use Rattle.jv_links.proofs.MoveEntryLaws.{le_of_test}
 use Rattle.jv_links.proofs.RemovalStepLaws.{top_apart}
 use Rattle.jv_links.proofs.TrashEntryLaws.{trash_name-entry}
 use Rattle.jv_links.proofs.TrashStepLaws.{trash_hour, trash_stands, leaf_made}
@@ -168,7 +167,7 @@ module _ (t : Tree) (who : Caller) (from : EntryKey) (source : ℕ) (to : EntryK
       → links_fit (without_target t who to other) j ≡ true
   fits j aside off here fit =
       let least = least_by (is_directory t other) refl j aside off here in
-      let known = le_of_test (link_count t j) MAX_LINKS fit in
+      let known = leb-true (link_count t j) MAX_LINKS fit in
       le-leb (link_count (without_target t who to other) j) MAX_LINKS (omega (arith, least, known))
 
   -- what is left may move there

@@ -36,7 +36,7 @@ use Rattle.jv_changes.proofs.DraftingLaws.{PastSteps, OfWhole, steps-start, step
 use Rattle.jv_links.specs.declared.fates.Fate.{Fate as Told}
 use Rattle.jv_links.specs.declared.removing.Removable.{Removable}
 use Rattle.jv_links.specs.Removable.{removable_at, place_of, ComesToRemovable}
-use Rattle.jv_links.specs.Removals.{HoldsFiles, MayLose, TellsFate, TellsSustained, fate_in, is_kept}
+use Rattle.jv_links.specs.Removals.{HoldsFiles, MayLose, TellsFate, TellsSustained, fate_in, is_inode, kept_by}
 use Rattle.jv_links.proofs.RemovingLaws.{unlink_at, unlink-is, removing-comes, removing-at, removing-kind, past-refused, past-passes}
 
 -- ---- what the session keeps after a removal, and didn't before
@@ -109,18 +109,18 @@ module _ (t : Tree) (who : Caller) (place : EntryKey) (inode : ℕ) (may : MayLo
       same_inode : pair_of who.sid i ≡ pair_of who.sid inode → i ≡ inode
       same_inode e = ap (λ p. p.inode) e
 
-  kept_by : (f : Fate) → newly (with_fate f less who place inode) ≡ (is_kept (fate_in f) && (inode == i))
-  kept_by Linked = none_new (with_fate Linked less who place inode)
+  kept_with : (f : Fate) → newly (with_fate f less who place inode) ≡ is_inode (kept_by (fate_in f) inode) i
+  kept_with Linked = none_new (with_fate Linked less who place inode)
       (change_node-sustained less inode (status_changed who.now) ∙ less_pairs)
-  kept_by Trashed = none_new (with_fate Trashed less who place inode) trashed_pairs
-  kept_by Sustained = kept_new
-  kept_by Dropped = none_new (with_fate Dropped less who place inode) less_pairs
+  kept_with Trashed = none_new (with_fate Trashed less who place inode) trashed_pairs
+  kept_with Sustained = kept_new
+  kept_with Dropped = none_new (with_fate Dropped less who place inode) less_pairs
 
   -- the session keeps what lost its entry where that is its fate, and nothing else is new
   pub kept-remove_entry : newly (remove_entry t who place inode) ≡
-      (is_kept (fate_in (fate_of t who place inode)) && (inode == i))
+      is_inode (kept_by (fate_in (fate_of t who place inode)) inode) i
   unfolding remove_entry
-  kept-remove_entry = kept_by (fate_of t who place inode)
+  kept-remove_entry = kept_with (fate_of t who place inode)
 
 -- ---- an unlink
 
@@ -233,5 +233,5 @@ module _ (who : Who) (caller : Caller) (is_for : IsFor who caller) (path : List 
         ap (λ r. is_sustained (outcome t r).tree caller.sid i && not (is_sustained t caller.sid i))
         (begun.goes_on known is whole bytes held)
         ∙ kept-remove_entry t caller place inode m i
-        ∙ ap (λ f. is_kept f && (inode == i))
+        ∙ ap (λ f. is_inode (kept_by f inode) i)
         (sym (tells known (c.looks.rows_are ∙ is) bytes t (begun.minds known is whole bytes held) m))

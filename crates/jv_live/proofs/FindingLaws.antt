@@ -14,6 +14,7 @@ use Rattle.jv_model.specs.declared.row.Row.TheVariants.{OfSustained}
 use Rattle.jv_model.specs.declared.row.RowKey.{RowKey}
 use Rattle.jv_model.specs.FiniteMap.{get}
 use Rattle.jv_model.proofs.FiniteMapLaws.{first_where-found}
+use Rattle.jv_model.proofs.TestLaws.{known_is}
 use Rattle.jv_model.specs.rows.RowFields.{long}
 use Rattle.jv_model.specs.rows.RowGrammar.{row_of, sustained_of}
 use Rattle.jv_model.specs.rows.RowKeys.{RowMap, row_key, row_cmp}
@@ -115,9 +116,6 @@ of_first sid after key row inode h = by_sid (key.a == sid) refl (number_in key.b
     by_sid true same (Some n) spells e = by_past same n spells (is_past after n) refl e
     by_sid false same o spells e = absurd (cc)
 
-some_of : (P : ℕ → Type 0) (o : Option ℕ) (n : ℕ) → o ≡ Some n → IfSome o P → P n
-some_of P o n is h = subst (λ (x : Option ℕ). IfSome x P) is h
-
 -- the key of a row of the table is that of the file that it spells
 key_is : (sid : ℕ) (key : RowKey) (n : ℕ) → key.tab ≡ 7 → key.a ≡ sid → key.b ≡ long n → sustained_key sid n ≡ key
 key_is sid key n tab number spelled = same_key_parts key 7 sid (long n) (sym tab) (sym number) (sym spelled)
@@ -155,7 +153,7 @@ module _ (sid : ℕ) (after : Option ℕ) (before now : Store) (list : List (Row
     there = (first_where-found row_key (passes 7 last) known e r.first).there
 
     bytes_are : (n : ℕ) → number_in e.0.b ≡ Some n → e.0.b ≡ long n
-    bytes_are n spells = some_of (λ number. e.0.b ≡ long number) (number_in e.0.b) n spells (subst IsSpelled r.list_is spelled)
+    bytes_are n spells = known_is (number_in e.0.b) n (λ number. e.0.b ≡ long number) spells (subst IsSpelled r.list_is spelled)
 
     row_is : r.row ≡ OfSustained
     row_is = sustained_is (sustained_of e.1) r.row (sym (sustained_row e.1) ∙ ap (λ (t : ℕ). row_of t e.1) (sym table.0) ∙ r.read)

@@ -1,11 +1,11 @@
 -- The operations that are one transaction on metadata, what the model's transaction of each is, and what is answered of it.
-use Rattle.std.specs.Prelude.{◌≡◌, ℕ, Bool, true, false, ◌&&◌, ◌==◌, not, Option, None, Some, Result, Ok, Err, IfOk, MatchBool}
+use Rattle.std.specs.Prelude.{◌≡◌, ℕ, Bool, true, false, ◌&&◌, not, Option, None, Some, Result, Ok, Err, IfOk, MatchBool}
 use Rattle.jv_model.specs.declared.fault.Fault.{Fault}
 use Rattle.jv_model.specs.declared.fault.TxFault.{TxFault}
 use Rattle.jv_model.specs.declared.op.Op.{Op}
 use Rattle.jv_model.specs.declared.op.Op.TheVariants as op
 use Rattle.jv_model.specs.declared.op.Reply.{Reply}
-use Rattle.jv_model.specs.declared.op.Reply.TheVariants.{Refused}
+use Rattle.jv_model.specs.journal.State.{is_refused}
 use Rattle.jv_model.specs.rows.RowKeys.{RowMap}
 use Rattle.jv_model.specs.tree.Tree.{Tree, is_sustained}
 use Rattle.jv_model.specs.tree.Caller.{Caller, Outcome, outcome, done}
@@ -19,10 +19,7 @@ use Rattle.jv_outside.specs.Store.{Store}
 use Rattle.jv_volume.specs.TypedRows.{typed}
 use Rattle.jv_volume.specs.TreeOf.{tree_of}
 use Rattle.jv_volume.specs.Whole.{Whole}
-use Rattle.jv_links.specs.declared.fates.Fate.{Fate}
-use Rattle.jv_links.specs.declared.fates.Fate.TheVariants.{Linked, Trashed, Dropped, Sustained}
-use Rattle.jv_links.specs.declared.fates.Removed.{Removed}
-use Rattle.jv_links.specs.Removals.{HoldsFiles}
+use Rattle.jv_links.specs.Removals.{HoldsFiles, is_inode}
 use Rattle.jv_volume.specs.Holding.{takes_entries}
 pub use Rattle.jv_model.specs.script.Spelled.{is_spelled}
 use Rattle.jv_metadata.specs.declared.answers.Answer.{Answer}
@@ -36,25 +33,9 @@ mapped f (Err fault) = Err fault
 abbrev pub plain : Reply → Answer
 plain reply = record { reply = reply; kept = None }
 
--- whether a reply is a refusal
-abbrev pub is_refusal : Reply → Bool
-is_refusal (Refused fault) = true
-is_refusal _ = false
-
 -- an answer that was given is none
 abbrev pub AnswersPlainly : Result Answer TxFault → Type 0
-AnswersPlainly result = IfOk result (λ answer. is_refusal answer.reply ≡ false)
-
-abbrev pub kept_by : Fate → ℕ → Option ℕ
-kept_by Linked inode = None
-kept_by Trashed inode = None
-kept_by Dropped inode = None
-kept_by Sustained inode = Some inode
-
--- the file that a session keeps once something was removed
-abbrev pub kept_of : Option Removed → Option ℕ
-kept_of None = None
-kept_of (Some removed) = kept_by removed.fate removed.inode
+AnswersPlainly result = IfOk result (λ answer. is_refused answer.reply ≡ false)
 
 -- the operations that are one transaction on metadata and no more
 abbrev pub is_metadata : Op → Bool
@@ -130,10 +111,6 @@ attempt t who op.Stats = done t
 pub record Asks (caller : Caller) (handle inode : ℕ) : Type 0 where
   pub gets : caller.free_handle ≡ handle
   pub names : caller.inode ≡ inode
-
-abbrev pub is_inode : Option ℕ → ℕ → Bool
-is_inode None inode = false
-is_inode (Some kept) inode = kept == inode
 
 -- the file that the session keeps from then on, by whole rows whose caller has files open, is the one that is answered
 abbrev pub KeepsOne : Caller → Op → Store → Option ℕ → Type 0

@@ -30,8 +30,8 @@ use Rattle.jv_volume.specs.TreeOf.{tree_of}
 use Rattle.jv_volume.proofs.ReplyLaws.{no_device_or_memory}
 use Rattle.jv_contents.specs.Bytes.{bytes_of, tree_with}
 use Rattle.jv_contents.proofs.KeepLaws.{bytes-stay, keeps-quiet}
-use Rattle.jv_links.specs.Removals.{HoldsFiles}
-use Rattle.jv_metadata.specs.Attempts.{KeepsOne, attempt, is_inode}
+use Rattle.jv_links.specs.Removals.{HoldsFiles, is_inode}
+use Rattle.jv_metadata.specs.Attempts.{KeepsOne, attempt}
 use Rattle.jv_metadata.proofs.AttemptLaws.{tree_act-attempt}
 use Rattle.jv_shared.specs.Keeping.{HoldsSame}
 use Rattle.jv_shared.specs.Shared.{HasStore, Known, Shared}

@@ -65,7 +65,7 @@ part_read (Repeated run) (byte, some, small) =
 
 -- no part has a `+` in it
 
-weaker : (p q : ℕ → Bool) (xs : List ℕ) → ((c : ℕ) → p c ≡ true → q c ≡ true) → list_all p xs ≡ true → list_all q xs ≡ true
+pub weaker : (p q : ℕ → Bool) (xs : List ℕ) → ((c : ℕ) → p c ≡ true → q c ≡ true) → list_all p xs ≡ true → list_all q xs ≡ true
 weaker p q [] imply all = refl
 weaker p q (x ∷ xs) imply all =
     let (first, others) = and_parts (p x) (list_all p xs) all in

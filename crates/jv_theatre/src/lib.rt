@@ -7,6 +7,7 @@ mod rows;
 mod slices;
 mod stage;
 mod sweep;
+mod texts;
 mod theatre;
 
 pub use stage::{Parts, Player, Stores, Streams};

@@ -2,6 +2,7 @@
 use crate::objects::{objects_text, staged_text};
 use crate::rows::rows_text;
 use crate::stage::{Played, Player, Stage, Stock};
+use crate::texts::shown_text;
 use jv_scenes::{DEVICES, Device, Scene, Variant};
 use std::alloc::{AllocError, Global};
 use std::str;
@@ -90,7 +91,7 @@ fn push_place(report: &mut String, stage: &Stage, device: Device) -> Result<(), 
     let Some(place) = stage.opened(device) else {
         return Ok(());
     };
-    let place = str::from_utf8(place).unwrap_or("not text");
+    let place = shown_text(place);
     match device {
         Device::Keeper => push_line(report, "opened", place),
         _ => writeln!(report, "opened {} {place}", device.name()),
@@ -200,5 +201,5 @@ fn said(played: &Played) -> &str {
     } else {
         played.err.as_slice()
     };
-    str::from_utf8(bytes).unwrap_or("not text")
+    shown_text(bytes)
 }

@@ -1,6 +1,7 @@
 //! Stages: devices in memory, and runs over them.
 use crate::objects::{objects, objects_of, staged, staged_of};
 use crate::rows::{rows, rows_of};
+use crate::texts::text_of;
 use jv_model::{Bytes, Journal, Rows, Sequence};
 use jv_outside::{
     Fails, MemCarrier, MemClock, MemDepot, MemKeeper, MemShelf, MemSink, MemSource, NumberList,
@@ -8,7 +9,6 @@ use jv_outside::{
 };
 use jv_scenes::{Device, Scene, Variant};
 use std::alloc::{AllocError, Global};
-use std::str;
 
 /// What a run reads and prints.
 #[derive(Drop)]
@@ -377,6 +377,5 @@ fn carrier_faults(out: &[u8], err: &[u8]) -> u64 {
 
 /// How many lines of a text are this one.
 pub fn count_lines(text: &[u8], wanted: &str) -> u64 {
-    let text = str::from_utf8(text).unwrap_or("");
-    text.lines().filter(|line| *line == wanted).count() as u64
+    text_of(text).lines().filter(|line| *line == wanted).count() as u64
 }

@@ -3,11 +3,11 @@ use crate::report::{push_list, push_played};
 use crate::rows::{rows_text, unnumbered_text};
 use crate::slices::broken_slices;
 use crate::stage::{Played, Player, count_lines};
+use crate::texts::text_of;
 use crate::theatre::Theatre;
 use jv_model::Rows;
 use jv_scenes::{DEVICES, Device, Scene, Sweep, Variant};
 use std::alloc::{AllocError, Global};
-use std::str;
 
 /// The status of a run that a device's fault ended.
 const FAILED: u8 = 5;
@@ -395,10 +395,6 @@ fn says_failed(now: &Played, device: Device) -> bool {
         return false;
     };
     rest.strip_suffix(" failed\n") == Some(device.name())
-}
-
-fn text_of(bytes: &Vec<u8>) -> &str {
-    str::from_utf8(bytes.as_slice()).unwrap_or("")
 }
 
 /// The number of answers that aren't those of the run in which no further call fails. The last one may be cut.
