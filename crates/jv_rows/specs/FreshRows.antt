@@ -1,6 +1,6 @@
 -- The rows of a volume that was just formatted.
 use Rattle.std.specs.Prelude.{ℕ, ◌+◌, List, [], ◌∷◌, codes}
-use Rattle.jv_model.specs.declared.limits.TheConstants.{ROOT, TRASH_ROOT, SPACE_UNIT, DEFAULT_BLOCK, FULL_MODE, READ_ONLY_MODE}
+use Rattle.jv_model.specs.declared.limits.TheConstants.{ROOT, TRASH_ROOT, SPACE_UNIT, DEFAULT_BLOCK, FULL_MODE, READ_ONLY_MODE, ROWS_VERSION, DEFAULT_TRASH_DAYS}
 use Rattle.jv_model.specs.declared.row.Counters.{Counters}
 use Rattle.jv_model.specs.declared.row.Node.{Node}
 use Rattle.jv_model.specs.declared.setting.Setting.{Setting}
@@ -12,9 +12,9 @@ use Rattle.jv_outside.specs.declared.batch.Change.TheVariants.{Put}
 -- a volume named `juicefs` over memory, with default options
 abbrev pub default_setting : Setting
 default_setting = record {
-  version = 1;
+  version = ROWS_VERSION;
   block = DEFAULT_BLOCK;
-  trash_days = 1;
+  trash_days = DEFAULT_TRASH_DAYS;
   capacity = 0;
   inodes = 0;
   hash = 0;
