@@ -4,6 +4,7 @@ use Rattle.std.specs.Option.{option_map}
 use Rattle.std.specs.List.{AllByRecursion}
 use Rattle.std.proofs.lemmas.Option.{none-some, same_Some}
 use Rattle.std.proofs.lemmas.Bool.{cond-true, cond-false, eq-eqb, ne_eqb, cases_eq}
+use Rattle.jv_model.specs.declared.tables.TheConstants.{TABLE_OF_LISTS}
 use Rattle.jv_model.specs.declared.limits.TheConstants.{DIRECTORY_LENGTH, FULL_MODE, READ_ONLY_MODE}
 use Rattle.jv_model.specs.declared.row.RowKey.{RowKey}
 use Rattle.jv_model.specs.declared.row.Counters.{Counters}
@@ -125,9 +126,9 @@ module _ (setting : Setting) (at : ℕ) where
   -- no list, no slice
 
   no_list : (key : RowKey) → listed key (get rows key) ≡ []
-  no_list key = elim (cases_eq key.tab 4) [
-    | inl e ↦ cond-true _ _ _ (eq-eqb key.tab 4 e) ∙ ap (λ o. records_in (row_in o)) (none_at 4 key (first_entries setting at) e tt)
-    | inr apart ↦ cond-false _ _ _ (ne_eqb key.tab 4 apart)
+  no_list key = elim (cases_eq key.tab TABLE_OF_LISTS) [
+    | inl e ↦ cond-true _ _ _ (eq-eqb key.tab TABLE_OF_LISTS e) ∙ ap (λ o. records_in (row_in o)) (none_at 4 key (first_entries setting at) e tt)
+    | inr apart ↦ cond-false _ _ _ (ne_eqb key.tab TABLE_OF_LISTS apart)
   ]
 
   lists_have : (P : Rec → Type 0) → ListsHave P rows
