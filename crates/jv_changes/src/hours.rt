@@ -14,7 +14,8 @@ use jiff::civil::DateTime;
 use jiff::tz::Offset;
 use jv_model::lifetimes::{FIRST_HOUR, HOUR};
 use jv_model::{
-    DIRECTORY_LENGTH, MAX_NAME, Moment, Name, Node, Sequence, TRASH_ROOT, TxFault, copied,
+    DIRECTORY_LENGTH, MAX_NAME, Moment, Name, Node, READ_ONLY_MODE, Sequence, TRASH_ROOT, TxFault,
+    copied,
 };
 use jv_outside::Keeper;
 use jv_rows::{Draft, needed_node};
@@ -141,7 +142,7 @@ fn hour_node(alloc: Global, now: Moment) -> Node
 {
     Node {
         kind: 2,
-        mode: 0o555,
+        mode: READ_ONLY_MODE,
         uid: 0,
         gid: 0,
         nlink: 2,

@@ -2,6 +2,7 @@
 use Rattle.std.proofs.Common.{◌≡◌, ◌≢◌, ℕ, ◌+◌, ◌≤◌, false, true, List, [], ◌∷◌, length, Option, Some, Ok, Err, refl}
 use Rattle.std.proofs.Common.{sym, ap}
 use Rattle.std.proofs.Common.{subst, ◌∙◌, arith}
+use Rattle.jv_model.specs.declared.limits.TheConstants.{LAST_CLIENT}
 use Rattle.jv_model.specs.declared.act.ActKind.TheVariants.{Answered, Miss, Quiet}
 use Rattle.jv_model.specs.declared.act.Told.TheVariants.{Refused as ToldRefused}
 use Rattle.jv_model.specs.declared.fault.Device.{Device}
@@ -170,7 +171,7 @@ sees_same g v m md count file handle opened named (asked ∷ others) first =
 
 module _ (now entry block : ℕ) (h : ClientValue) (d : Doing) (offset len : ℕ) (cache : Cached) (fetch : Fetching)
     (b : BlockId) (asks : IsAsking block h d offset len cache fetch (NeedsBlock b)) (before : Shared)
-    (length_is : before.yard.setting.block ≡ block) (low : h.id ≤ 7) (yard : YardValue) where
+    (length_is : before.yard.setting.block ≡ block) (low : h.id ≤ LAST_CLIENT) (yard : YardValue) where
   abbrev handle : ℕ
   handle = handle_of d.op
 

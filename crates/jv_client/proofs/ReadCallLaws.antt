@@ -1,6 +1,7 @@
 -- What the calls of a reading that asks for something leave of the client is what the step promises.
 use Rattle.std.proofs.Common.{◌≡◌, ℕ, ◌≤◌, List, Option, Some, Ok, refl, ap, subst, ◌∙◌}
 use Rattle.std.specs.Option.{option_map}
+use Rattle.jv_model.specs.declared.limits.TheConstants.{LAST_CLIENT}
 use Rattle.jv_model.specs.declared.act.ActKind.TheVariants.{Look, Quiet}
 use Rattle.jv_model.specs.declared.act.Told.TheVariants.{Refused as ToldRefused}
 use Rattle.jv_model.specs.declared.fault.Fault.TheVariants.{NoMemory}
@@ -140,7 +141,7 @@ module _ (now entry block : ℕ) (h : ClientValue) (d : Doing) (offset len : ℕ
 
 module _ (now entry block : ℕ) (h : ClientValue) (d : Doing) (offset len : ℕ) (cache : Cached) (fetch : Fetching)
     (b : BlockId) (asks : IsAsking block h d offset len cache fetch (NeedsBlock b)) (before : Shared)
-    (length_is : before.yard.setting.block ≡ block) (low : h.id ≤ 7) (yard : YardValue) (bytes : List ℕ)
+    (length_is : before.yard.setting.block ≡ block) (low : h.id ≤ LAST_CLIENT) (yard : YardValue) (bytes : List ℕ)
     (gets : GetsBlock h.id (name_in before.yard.setting b) before.yard yard (Ok (Some bytes))) (filled : Fetching)
     (kept : Cached) (fills : Fills b bytes fetch filled cache kept) where
   abbrev now_used : Shared

@@ -1,6 +1,7 @@
 //! Reading: looks at windows that the handle didn't see, then blocks that the cache doesn't have, one a step.
 ghost use Rattle.std.specs.Prelude.{◌≡◌, ◌≢◌, ◌≤◌, ℕ, length, IfOk, IfSome, IsSome, OnErr, OnOk, None, Some};
 ghost use Rattle.std.specs.Option.{option_map};
+ghost use Rattle.jv_model.specs.declared.limits.TheConstants.{LAST_CLIENT};
 ghost use Rattle.jv_model.specs.declared.profile.Does.TheVariants.{Reads};
 ghost use Rattle.jv_outside.specs.Carriage.{Carriage};
 ghost use Rattle.jv_outside.specs.Store.{Store};
@@ -368,7 +369,7 @@ fn read_block<D: Depot, H: Shelf>(
     client: ClientId,
     block: BlockId,
 ) -> Result<Option<Bytes>, Fault>
-    ensures low { client ≤ 7 }
+    ensures low { client ≤ LAST_CLIENT }
     ensures read { let seen = ⟦<Yard<D, H> as ObservedYard>⟧.seen in
         ReadsBlock client block (seen yard.old) (seen yard.new) result }
 {

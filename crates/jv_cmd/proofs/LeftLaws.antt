@@ -2,6 +2,7 @@
 use Rattle.std.proofs.Common.{◌≡◌, ℕ, ◌<◌, ◌≤◌, Bool, true, false, List, None, Some, IsSome, is_some, inl, inr, refl, sym, ap, subst, ◌∙◌}
 use Rattle.std.specs.Prelude.{◌⊎◌, ◌&&◌, if◌then◌else◌}
 use Rattle.std.proofs.lemmas.Bool.{false≢true, cases_lt}
+use Rattle.jv_model.specs.declared.limits.TheConstants.{LAST_CLIENT}
 use Rattle.jv_model.specs.declared.setting.Setting.{Setting}
 use Rattle.jv_model.specs.declared.slice.BlockId.{BlockId}
 use Rattle.jv_model.specs.FiniteMap.{get}
@@ -28,7 +29,7 @@ use Rattle.jv_cmd.specs.Run.{Leaves}
 
 -- What a yard found on its shelf is what it has staged in the end.
 Found-left : (setting : Setting) (depot : Holding ObjectMap) (shelf : Holding StagedMap) (before left : Shared)
-    → IsStarted setting depot shelf before.yard → StaysPut before left → (client : ℕ) → client ≤ 7
+    → IsStarted setting depot shelf before.yard → StaysPut before left → (client : ℕ) → client ≤ LAST_CLIENT
     → IsFound left.yard.setting left.yard.shelf.content client (left.yard.staged client)
 Found-left setting depot shelf before left started stays client low =
     subst (λ (s : Setting). IsFound s left.yard.shelf.content client (left.yard.staged client))
@@ -40,11 +41,11 @@ Found-left setting depot shelf before left started stays client low =
 
 -- A session has left `v`, and the next one begins with `w`.
 module _ (t : Tree) (g : Known) (v w : Shared) (store : HasStore t g v)
-    (found : (client : ℕ) → client ≤ 7 → IsFound v.yard.setting v.yard.shelf.content client (v.yard.staged client))
+    (found : (client : ℕ) → client ≤ LAST_CLIENT → IsFound v.yard.setting v.yard.shelf.content client (v.yard.staged client))
     (depot : Holding ObjectMap) (shelf : Holding StagedMap) (started : IsStarted v.yard.setting depot shelf w.yard)
     (rows : w.keeper.rows ≡ v.keeper.rows) (objects : depot.content ≡ v.yard.depot.content)
     (blocks : shelf.content ≡ v.yard.shelf.content)
-    (eight : (client : ℕ) (name : List ℕ) → 7 < client → staged_since client name w.yard.staged ≡ None) where
+    (eight : (client : ℕ) (name : List ℕ) → LAST_CLIENT < client → staged_since client name w.yard.staged ≡ None) where
   abbrev setting : Setting
   setting = v.yard.setting
 
@@ -53,7 +54,7 @@ module _ (t : Tree) (g : Known) (v w : Shared) (store : HasStore t g v)
 
   -- each copy of a block has the bytes that are known of it
 
-  known_shelved : (client : ℕ) (b : BlockId) (bytes : List ℕ) → client ≤ 7 → IsBlock setting.block b
+  known_shelved : (client : ℕ) (b : BlockId) (bytes : List ℕ) → client ≤ LAST_CLIENT → IsBlock setting.block b
       → staged_at client (name_in setting b) store.staged ≡ Some bytes → g.blocks b ≡ Some bytes
   known_shelved client b bytes low is at =
       let name = name_in setting b in
@@ -67,10 +68,10 @@ module _ (t : Tree) (g : Known) (v w : Shared) (store : HasStore t g v)
       (ap (λ test. if test then staged_at client name store.staged else None) (λ i. passes i && there i) ∙ at)
 
   -- there are eight clients
-  client_is : (client : ℕ) (name : List ℕ) → IsSome (staged_since client name w.yard.staged) → client ≤ 7
-  client_is client name some = by_number (cases_lt 7 client)
+  client_is : (client : ℕ) (name : List ℕ) → IsSome (staged_since client name w.yard.staged) → client ≤ LAST_CLIENT
+  client_is client name some = by_number (cases_lt LAST_CLIENT client)
     where
-      by_number : (7 < client) ⊎ (client ≤ 7) → client ≤ 7
+      by_number : (LAST_CLIENT < client) ⊎ (client ≤ LAST_CLIENT) → client ≤ LAST_CLIENT
       by_number (inl high) = absurd (false≢true (sym (ap is_some (eight client name high)) ∙ some))
       by_number (inr low) = low
 
@@ -146,7 +147,7 @@ pub IsFresh-left : (setting : Setting) (depot depot' : Holding ObjectMap) (shelf
     (before left next : Shared) (t : Tree) → IsStarted setting depot shelf before.yard → StaysPut before left → Leaves left t
     → IsStarted left.yard.setting depot' shelf' next.yard → next.keeper.rows ≡ left.keeper.rows
     → depot'.content ≡ left.yard.depot.content → shelf'.content ≡ left.yard.shelf.content
-    → ((client : ℕ) (name : List ℕ) → 7 < client → staged_since client name next.yard.staged ≡ None) → IsFresh next
+    → ((client : ℕ) (name : List ℕ) → LAST_CLIENT < client → staged_since client name next.yard.staged ≡ None) → IsFresh next
 IsFresh-left setting depot depot' shelf shelf' before left next t started stays leaves again rows objects blocks eight =
     IsFresh-after t leaves.known left next leaves.store (Found-left setting depot shelf before left started stays)
     depot' shelf' again rows objects blocks eight

@@ -3,13 +3,10 @@ ghost use Rattle.jv_cmd.specs.Faults.{UsesKeeper, ended_by};
 ghost use Rattle.jv_cmd.specs.Opening.{CannotRead, ReadsSetting, OpensVolume};
 
 use crate::ended::Ended;
-use jv_model::{Down, RowFault, Setting, Text};
+use jv_model::{Down, ROWS_VERSION, RowFault, Setting, Text};
 use jv_outside::Keeper;
 use jv_rows::read_setting;
 use std::alloc::Global;
-
-/// The version of the rows that is known, and that `format` writes.
-pub(crate) const VERSION: u32 = 1;
 
 /// Opens the keeper at a place.
 fn attach<K: Keeper>(keeper: &mut K, place: &Text) -> Result<(), Ended>
@@ -54,7 +51,7 @@ pub(crate) fn open_volume<K: Keeper>(
         return Err(Ended::NoVolume);
     };
     let version = setting.version;
-    if version > VERSION {
+    if version > ROWS_VERSION {
         return Err(Ended::NewerVersion(version));
     }
     Ok(setting)

@@ -5,6 +5,7 @@ use Rattle.std.specs.Prelude.{◌==◌, nat_lt, slice_index, unwrap_or, Contains
 use Rattle.std.proofs.lemmas.Bool.{cases_eq, eq-eqb, eqb-false}
 use Rattle.std.proofs.lemmas.List.Elements.{All-from_recursion, All-contains, All-contains_itself}
 use Rattle.std.proofs.lemmas.List.Sums.{count_by_more_yes, sum_by-take-le}
+use Rattle.jv_model.specs.declared.tables.TheConstants.{TABLE_OF_LISTS}
 use Rattle.jv_model.specs.declared.limits.TheConstants.{WINDOW}
 use Rattle.jv_model.specs.declared.row.RowKey.{RowKey}
 use Rattle.jv_model.specs.declared.row.SliceRow.{SliceRow}
@@ -72,7 +73,7 @@ naming-le rows id key = below (get rows key) (sum-remove _ names rows key)
 
     below : (o : Option Cell) → sum_over names (remove rows key) + share names key o ≡ sum_over names rows
         → records_naming id (listed key o) ≤ sum_over names rows
-    below None e = omega (arith, nothing (key.tab == 4))
+    below None e = omega (arith, nothing (key.tab == TABLE_OF_LISTS))
     below (Some cell) e = omega (arith, e)
 
 module _ (rows : Rows) (w : WholeSlices rows) where

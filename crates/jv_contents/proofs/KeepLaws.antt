@@ -2,6 +2,7 @@
 -- giving of a number.
 use Rattle.std.proofs.Common.{◌≡◌, ℕ, ◌+◌, ◌≤◌, ◌^◌, ◌⊎◌, inl, inr, Bool, true, false, true≢false, cond, List, [], length, Option, None, Some, refl, sym, ap, ◌∙◌, arith}
 use Rattle.std.specs.Prelude.{◌==◌, ◌||◌, nat_lt, if◌then◌else◌}
+use Rattle.jv_model.specs.declared.tables.TheConstants.{TABLE_OF_LISTS, TABLE_OF_SLICES, TABLE_OF_DEAD}
 use Rattle.jv_model.specs.declared.row.RowKey.{RowKey}
 use Rattle.jv_model.specs.declared.row.SliceRow.{SliceRow}
 use Rattle.jv_model.specs.declared.slice.Rec.{Rec}
@@ -24,7 +25,7 @@ use Rattle.jv_contents.proofs.FlightLaws.{flies-still}
 use Rattle.jv_contents.proofs.BlockLaws.{has_blocks-still, below-rows}
 
 abbrev is_list_key : RowKey → Bool
-is_list_key key = key.tab == 4
+is_list_key key = key.tab == TABLE_OF_LISTS
 
 -- ---- changes that leave lists and slices
 
@@ -43,7 +44,7 @@ module _ (rows after : Rows) (stay : SlicesStay rows after) where
       get-retain_keys after is_list_key key ∙ by_table key (is_list_key key) refl ∙ sym (get-retain_keys rows is_list_key key))
     where
       by_table : (key : RowKey) (b : Bool) → is_list_key key ≡ b → cond b (get after key) None ≡ cond b (get rows key) None
-      by_table key true e = stay key (ap (λ b. b || (key.tab == 5) || (key.tab == 9)) e)
+      by_table key true e = stay key (ap (λ b. b || (key.tab == TABLE_OF_SLICES) || (key.tab == TABLE_OF_DEAD)) e)
       by_table key false e = refl
 
   -- a sum over lists stays

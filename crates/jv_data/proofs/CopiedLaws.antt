@@ -2,6 +2,7 @@
 use Rattle.std.proofs.Common.{◌≡◌, ◌≢◌, ℕ, ◌+◌, ◌<◌, ◌≤◌, ◌^◌, ◌⊎◌, inl, inr, true, false, List, [], length, None, Some, refl, sym, ap, subst, ◌∙◌, arith}
 use Rattle.std.specs.Prelude.{◌==◌, ◌||◌, max, nat_lt, if◌then◌else◌}
 use Rattle.std.proofs.lemmas.Bool.{cases_eq, eq-eqb, ne_eqb, eqb-true, or_parts}
+use Rattle.jv_model.specs.declared.tables.TheConstants.{TABLE_OF_LISTS, TABLE_OF_SLICES, TABLE_OF_DEAD}
 use Rattle.jv_model.specs.declared.limits.TheConstants.{FILE_END, FULL_COUNT}
 use Rattle.jv_model.specs.declared.row.Counters.{Counters}
 use Rattle.jv_model.specs.declared.row.Node.{Node as NodeRow}
@@ -88,10 +89,10 @@ module _ (rows : Rows) (course : Course) (was : NodeRow) (c : Counters) (now end
     pub lives-copied : (id : ℕ) (slice : SliceRow) → slice_row_at rows id ≡ Some slice → slice_row_at last id ≡ None → ⊥
     lives-copied id slice here none = lives-added added due with_parts last adjusted id slice (move.slices id ∙ slice_row-stay rows middle quiet.apart id ∙ here) none
 
-    get_last : (key : RowKey) → (key.tab == 4) ≡ true → get last key ≡ get (rows_copied rows course parts middle) key
+    get_last : (key : RowKey) → (key.tab == TABLE_OF_LISTS) ≡ true → get last key ≡ get (rows_copied rows course parts middle) key
     get_last key four =
-        let tab = eqb-true key.tab 4 four in
-        others-adjusted [] added due with_parts last adjusted key (ne_eqb key.tab 5 (λ e. omega (arith, tab, e))) (ne_eqb key.tab 9 (λ e. omega (arith, tab, e)))
+        let tab = eqb-true key.tab TABLE_OF_LISTS four in
+        others-adjusted [] added due with_parts last adjusted key (ne_eqb key.tab TABLE_OF_SLICES (λ e. omega (arith, tab, e))) (ne_eqb key.tab TABLE_OF_DEAD (λ e. omega (arith, tab, e)))
         ∙ ap (λ (x : Rows). get x key) copying.is
 
     lists_last : (i u : ℕ) → lists_of last i u ≡ lists_of (rows_copied rows course parts middle) i u
@@ -134,12 +135,12 @@ module _ (rows : Rows) (course : Course) (was : NodeRow) (c : Counters) (now end
     -- all rows that it may not change are as before
     pub rest-copied : (key : RowKey) → may_change course.target key ≡ false → get last key ≡ get rows key
     rest-copied = rest-then rows course.target was c now end whole there file counters last rest
-        (λ key four apart. get_last key (eq-eqb key.tab 4 four) ∙ get-copied-file rows course middle parts key apart)
+        (λ key four apart. get_last key (eq-eqb key.tab TABLE_OF_LISTS four) ∙ get-copied-file rows course middle parts key apart)
 
-    owners : (key : RowKey) → key.tab ≡ 4 → get last key ≢ None → (get rows key ≢ None) ⊎ (key.a ≡ course.target)
+    owners : (key : RowKey) → key.tab ≡ TABLE_OF_LISTS → get last key ≢ None → (get rows key ≢ None) ⊎ (key.a ≡ course.target)
     owners key four is = elim (cases_eq key.a course.target) [
       | inl same ↦ inr same
-      | inr apart ↦ inl (λ none. is (get_last key (eq-eqb key.tab 4 four) ∙ get-copied-file rows course middle parts key apart
+      | inr apart ↦ inl (λ none. is (get_last key (eq-eqb key.tab TABLE_OF_LISTS four) ∙ get-copied-file rows course middle parts key apart
           ∙ quiet.apart key (ap is_of_slices four) ∙ none))
     ]
 

@@ -2,6 +2,7 @@
 -- the tree is that of the model's truncate or copy.
 use Rattle.std.proofs.Common.{◌≡◌, ◌≢◌, ℕ, ◌+◌, ◌<◌, ◌≤◌, ◌⊎◌, false, None, Some, refl, sym, ap, subst, ◌∙◌}
 use Rattle.std.specs.Prelude.{max}
+use Rattle.jv_model.specs.declared.tables.TheConstants.{TABLE_OF_LISTS}
 use Rattle.jv_model.specs.declared.limits.TheConstants.{FILE_END}
 use Rattle.jv_model.specs.declared.row.Counters.{Counters}
 use Rattle.jv_model.specs.declared.row.Node.{Node as NodeRow}
@@ -45,7 +46,7 @@ module _ (rows : Rows) (inode : ℕ) (was : NodeRow) (c : Counters) (now length 
     pub go : SlicesGo more middle last
     pub others : (i : ℕ) → i ≢ inode → (p : ℕ) → place_in (lists_of last i) p ≡ place_in (lists_of rows i) p
     pub past : (p : ℕ) → length ≤ p → place_in (lists_of last inode) p ≡ Zero
-    pub lists : (key : RowKey) → key.tab ≡ 4 → get last key ≢ None → (get rows key ≢ None) ⊎ (key.a ≡ inode)
+    pub lists : (key : RowKey) → key.tab ≡ TABLE_OF_LISTS → get last key ≢ None → (get rows key ≢ None) ⊎ (key.a ≡ inode)
 
   module _ (small : length ≤ FILE_END) (given : 0 < next_slice rows) (more : ℕ) (last : Rows) (l : ListsChange more last) where
     node_then : (i : ℕ) → node_row_at last i ≡ node_row_at middle i

@@ -4,6 +4,7 @@ use Rattle.std.specs.Prelude.{◌==◌, nat_lt, if◌then◌else◌}
 use Rattle.std.specs.List.{AllByRecursion}
 use Rattle.std.proofs.lemmas.Bool.{cases_eq, cases_lt, cond-true, cond-false, eq-eqb, ne_eqb}
 use Rattle.std.proofs.lemmas.List.{length-append, append-nil}
+use Rattle.jv_model.specs.declared.tables.TheConstants.{TABLE_OF_LISTS}
 use Rattle.jv_model.specs.declared.limits.TheConstants.{FILE_END, WINDOW}
 use Rattle.jv_model.specs.declared.row.RowKey.{RowKey}
 use Rattle.jv_model.specs.declared.row.Row.TheVariants.{OfList}
@@ -78,8 +79,8 @@ gets-none rows src from dst to len u none = record {
 -- ---- records that are added to a list
 
 -- counts lag behind by them
-pub move-append : (start middle : Rows) (added : List Rec) (key : RowKey) (old new : List Rec) → key.tab ≡ 4 → ListsMove start middle [] added
-    → listed key (get middle key) ≡ old → (four : (key.tab == 4) ≡ true)
+pub move-append : (start middle : Rows) (added : List Rec) (key : RowKey) (old new : List Rec) → key.tab ≡ TABLE_OF_LISTS → ListsMove start middle [] added
+    → listed key (get middle key) ≡ old → (four : (key.tab == TABLE_OF_LISTS) ≡ true)
     → AllByRecursion IsRecord new → AllByRecursion (λ r. r.id ≢ 0 → HadSize start r.id r.size) new
     → ListsMove start (alter middle key (Some (Ok (OfList (old ++ new))))) [] (added ++ new)
 move-append start middle added key old new tab m stood four are names = record {
@@ -130,7 +131,7 @@ module _ (rows : Rows) (c : Course) (middle : Rows) where
   abbrev cell : ℕ → List Rec → Option Cell
   cell done shown = Some (Ok (OfList (lists_of rows c.target (window_at c done) ++ shown)))
 
-  pub get-copied : (parts : List (ℕ × List Rec)) (k : RowKey) → (k.tab == 4) ≡ false → get (copied parts) k ≡ get middle k
+  pub get-copied : (parts : List (ℕ × List Rec)) (k : RowKey) → (k.tab == TABLE_OF_LISTS) ≡ false → get (copied parts) k ≡ get middle k
   get-copied [] k other = refl
   get-copied (d ∷ ds) k other = get-other (copied ds) (key d.0) (cell d.0 d.1) k other ∙ get-copied ds k other
 

@@ -1,5 +1,6 @@
 -- What a transaction on the bytes of files does, by the tree that the rows have with the bytes that are known of slices.
 use Rattle.std.specs.Prelude.{◌≡◌, ◌⊎◌, ℕ, ◌+◌, ◌<◌, Bool, false, ◌&&◌, ◌||◌, ◌==◌, Option, None, Some, Result, Ok, Err, IfErr, IfSome, OnOk, OnErr}
+use Rattle.jv_model.specs.declared.tables.TheConstants.{TABLE_OF_COUNTERS, TABLE_OF_SLICES, TABLE_OF_DEAD, TABLE_OF_LISTS, TABLE_OF_NODES}
 use Rattle.jv_model.specs.declared.fault.Fault.{Fault}
 use Rattle.jv_model.specs.declared.fault.Fault.TheVariants.{NoSpace}
 use Rattle.jv_model.specs.declared.fault.RowFault.TheVariants.{Bad, Failed, Memory}
@@ -73,7 +74,7 @@ pub record Changes {A : Type 0} (makes : Makes) (ready : Rows → Told → Type 
 
 -- the rows that a transaction on a file's bytes may change: the counters, slices and dead slices, and the file's own row and lists
 abbrev pub may_change : ℕ → RowKey → Bool
-may_change inode key = (key.tab == 1) || (key.tab == 5) || (key.tab == 9) || (((key.tab == 4) || (key.tab == 2)) && (key.a == inode))
+may_change inode key = (key.tab == TABLE_OF_COUNTERS) || (key.tab == TABLE_OF_SLICES) || (key.tab == TABLE_OF_DEAD) || (((key.tab == TABLE_OF_LISTS) || (key.tab == TABLE_OF_NODES)) && (key.a == inode))
 
 -- Where a transaction on a file's bytes was made over whole rows, all rows that it may not change are as before: those of the setting, of
 -- entries, sessions, sustained and dropped files, and other files' rows and lists.

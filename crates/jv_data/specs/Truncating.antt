@@ -1,6 +1,7 @@
 -- What a truncate does to a file's lists: the one that its length lies inside of reads zero from there on, and those behind it are dropped.
 use Rattle.std.specs.Prelude.{◌≡◌, ◌≢◌, ℕ, ◌+◌, ◌*◌, ◌/◌, ◌%◌, ◌<◌, ◌≤◌, ◌^◌, true, ◌==◌, ◌||◌, nat_le, nat_lt, if◌then◌else◌, List, [], ◌∷◌, ◌++◌, Option, None, Some, Result, Ok, IfOk, OnOk, IsTrue}
 use Rattle.std.specs.List.{AllByRecursion}
+use Rattle.jv_model.specs.declared.tables.TheConstants.{TABLE_OF_SETTING}
 use Rattle.jv_model.specs.declared.fault.TxFault.{TxFault}
 use Rattle.jv_model.specs.declared.lifetimes.TheConstants.{DAY}
 use Rattle.jv_model.specs.declared.limits.TheConstants.{WINDOW}
@@ -109,7 +110,7 @@ pub record ListsCut (inode len now : ℕ) (rows middle after : Rows) : Type 0 wh
 
 -- changes that leave setting, lists, slices and dead slices as they are stored
 abbrev pub LeaveSlices : Option RowMap → List Change → Type 0
-LeaveSlices rows changes = (known : RowMap) → rows ≡ Some known → (key : RowKey) → IsTrue ((key.tab == 0) || is_of_slices key.tab)
+LeaveSlices rows changes = (known : RowMap) → rows ≡ Some known → (key : RowKey) → IsTrue ((key.tab == TABLE_OF_SETTING) || is_of_slices key.tab)
     → get (drafted changes known) key ≡ get (typed known) key
 
 -- The moment when slices that die at a moment are due.

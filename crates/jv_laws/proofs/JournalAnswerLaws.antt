@@ -3,6 +3,7 @@ use Rattle.std.proofs.Common.{◌≡◌, ℕ, zero, suc, ◌-◌, ◌<◌, Bool,
 use Rattle.std.proofs.lemmas.Bool.{and_left, and_right}
 use Rattle.std.specs.List.{AllByRecursion}
 use Rattle.std.proofs.lemmas.Bool.Decides.{leb_tells}
+use Rattle.jv_model.specs.declared.tables.TheConstants.{TABLE_OF_DEAD, TABLE_OF_DROPPED}
 use Rattle.jv_model.specs.declared.act.TheConstants.{NO_CLIENT}
 use Rattle.jv_model.specs.declared.act.Act.{Act}
 use Rattle.jv_model.specs.declared.act.ActKind.{ActKind}
@@ -54,7 +55,7 @@ none_missed start s client c d r inode window false h = let g = h.goes_on in cc
 none_cleaned : (s : State) (c : ModelClient) (d : Doing) (r : Reply) (part : Part) → CleansItem s c (settled_doing d r) part → ⊥
 none_cleaned s c d r part h = let e = h.stage in cc
 
-none_row : (s : State) (c : ModelClient) (d : Doing) (r : Reply) (table key : ℕ) (b : Bool) → MatchBool b (CleansItem s c (settled_doing d r) Files × DropsFile s key) ((table ≡ 9) × CleansItem s c (settled_doing d r) MoreBlocks) → ⊥
+none_row : (s : State) (c : ModelClient) (d : Doing) (r : Reply) (table key : ℕ) (b : Bool) → MatchBool b (CleansItem s c (settled_doing d r) Files × DropsFile s key) ((table ≡ TABLE_OF_DEAD) × CleansItem s c (settled_doing d r) MoreBlocks) → ⊥
 none_row s c d r table key true h = none_cleaned s c d r Files h.0
 none_row s c d r table key false h = none_cleaned s c d r MoreBlocks h.1
 
@@ -98,7 +99,7 @@ module _ (start : Start) (alone : Bool) (s : State) (client now : ℕ) (c : Mode
   settled_step (Settled commit) may = let ready = may.ready in absurd (cc)
   settled_step (Expired sid) may = absurd (none_cleaned s c d r _ may.0)
   settled_step (Purged inode) may = absurd (none_cleaned s c d r _ may.0)
-  settled_step (Cleaned table key) may = absurd (none_row s c d r table key (table == 8) may)
+  settled_step (Cleaned table key) may = absurd (none_row s c d r table key (table == TABLE_OF_DROPPED) may)
   settled_step Quiet may = absurd (cc)
   settled_step (Miss inode window) may = absurd (none_missed start s client c d r inode window (is_compaction d.does) may)
   settled_step Crashed may = absurd may

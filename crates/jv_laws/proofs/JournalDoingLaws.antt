@@ -4,6 +4,7 @@ use Rattle.std.proofs.Math.Bool.{or-false}
 use Rattle.std.proofs.lemmas.Bool.{and_parts, or_left}
 use Rattle.std.specs.List.{AllByRecursion}
 use Rattle.std.proofs.lemmas.Bool.Decides.{eqb_tells}
+use Rattle.jv_model.specs.declared.tables.TheConstants.{TABLE_OF_DEAD, TABLE_OF_DROPPED}
 use Rattle.jv_model.specs.declared.act.TheConstants.{NO_CLIENT}
 use Rattle.jv_model.specs.declared.act.Act.{Act}
 use Rattle.jv_model.specs.declared.act.ActKind.{ActKind}
@@ -246,7 +247,7 @@ module _ (s : State) (client now : ℕ) (start : Start) (c : ModelClient) (d : D
   item_flushed : (part : Part) → CleansItem s c d part → IsTrue (is_flushed d.flush c.pending)
   item_flushed part h = cleaning_flushed c d d.stage h.k ok h.stage
 
-  row_flushed : (table key : ℕ) (b : Bool) → MatchBool b (CleansItem s c d Files × DropsFile s key) ((table ≡ 9) × CleansItem s c d MoreBlocks) → IsTrue (is_flushed d.flush c.pending)
+  row_flushed : (table key : ℕ) (b : Bool) → MatchBool b (CleansItem s c d Files × DropsFile s key) ((table ≡ TABLE_OF_DEAD) × CleansItem s c d MoreBlocks) → IsTrue (is_flushed d.flush c.pending)
   row_flushed table key true h = item_flushed Files h.0
   row_flushed table key false h = item_flushed MoreBlocks h.1
 
@@ -422,7 +423,7 @@ module _ (limits : Limits) (start : Start) (alone : Bool) (s : State) (act : Act
   own_step (Settled commit) may = own_stage _ (ok_quieted s act.client c act.at d d.stage h.stage h.stage)
   own_step (Expired sid) may = own_stage (Cleans _) (item_flushed s act.client act.at start c d h.stage Sessions may.0)
   own_step (Purged inode) may = own_stage (Cleans _) (item_flushed s act.client act.at start c d h.stage Trash may.0)
-  own_step (Cleaned table key) may = own_stage (Cleans _) (row_flushed s act.client act.at start c d h.stage table key (table == 8) may)
+  own_step (Cleaned table key) may = own_stage (Cleans _) (row_flushed s act.client act.at start c d h.stage table key (table == TABLE_OF_DROPPED) may)
   own_step Quiet may = own_stage _ (ok_quieted s act.client c act.at d d.stage h.stage h.stage)
   own_step (Miss inode window) may = own_stage _ (ok_missed d.does (is_flushed d.flush c.pending) window s.owed d.stage (miss_flushed s act.client act.at start c d h.stage inode window (is_compaction d.does) may) h.stage)
   own_step Crashed may = absurd may

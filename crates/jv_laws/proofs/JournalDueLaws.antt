@@ -3,6 +3,7 @@ use Rattle.std.proofs.Common.{◌≡◌, ℕ, suc, ◌+◌, ◌≤◌, ◌<◌, 
 use Rattle.std.proofs.lemmas.Bool.{and_parts}
 use Rattle.std.proofs.lemmas.List.{take-append-le, take_all}
 use Rattle.std.proofs.lemmas.Bool.Decides.{nat_tests, leb_tells, eqb_tells}
+use Rattle.jv_model.specs.declared.tables.TheConstants.{TABLE_OF_DEAD, TABLE_OF_DROPPED}
 use Rattle.jv_model.specs.declared.limits.TheConstants.{MAX_ITEMS, TRASH_ROOT}
 use Rattle.jv_model.specs.declared.act.TheConstants.{NO_CLIENT}
 use Rattle.jv_model.specs.declared.act.Act.{Act}
@@ -268,7 +269,7 @@ module _ (run : Setup) (pre : List Act) (act : Act) (start : Start) (alone : Boo
     purge_found inode _ h may = let never = may.stage in absurd (cc)
 
     abbrev Row : ℕ → ℕ → Stage → Bool → Type 0
-    Row table key stage b = MatchBool b (CleansItem s c (record d { stage = stage }) Files × DropsFile s key) ((table ≡ 9) × CleansItem s c (record d { stage = stage }) MoreBlocks)
+    Row table key stage b = MatchBool b (CleansItem s c (record d { stage = stage }) Files × DropsFile s key) ((table ≡ TABLE_OF_DEAD) × CleansItem s c (record d { stage = stage }) MoreBlocks)
 
     then_row : (table key : ℕ) (k : Cleaning) (b : Bool) (x y : Cleaning) → x.part ≡ k.part → y.part ≡ Slices → FoundBy run pre act.client k.part
         → Row table key (Cleans k) b → Then (Cleans (if b then x else y))
@@ -287,11 +288,11 @@ module _ (run : Setup) (pre : List Act) (act : Act) (start : Start) (alone : Boo
     no_other_row table key stage true none may = let e = may.0.stage in cc
     no_other_row table key stage false none may = let e = may.1.stage in cc
 
-    row_found : (table key : ℕ) (stage : Stage) → Before stage → Row table key stage (table == 8)
+    row_found : (table key : ℕ) (stage : Stage) → Before stage → Row table key stage (table == TABLE_OF_DROPPED)
         → Own (after_cleaning s act.client table key (record d { stage = stage }))
-    row_found table key (Cleans k) h may = own_stage (Cleans _) (then_row table key k (table == 8) _ _ refl refl h may)
-    row_found table key (Working quiets started) h may = absurd (no_row table key quiets started (table == 8) may)
-    row_found table key stage h may = absurd (no_other_row table key stage (table == 8) refl may)
+    row_found table key (Cleans k) h may = own_stage (Cleans _) (then_row table key k (table == TABLE_OF_DROPPED) _ _ refl refl h may)
+    row_found table key (Working quiets started) h may = absurd (no_row table key quiets started (table == TABLE_OF_DROPPED) may)
+    row_found table key stage h may = absurd (no_other_row table key stage (table == TABLE_OF_DROPPED) refl may)
 
   -- requests that changed nothing
 

@@ -1,6 +1,7 @@
 -- What holds of every journal that is legal so far, in terms of its entries' numbers and lines.
 use Rattle.std.specs.Prelude.{◌≡◌, ℕ, suc, ◌+◌, ◌-◌, ◌≤◌, ◌<◌, Bool, true, false, ◌&&◌, not, ◌==◌, nat_lt, nat_le, if◌then◌else◌, IsTrue, IsSomeAnd, IfSome, ◌↔◌, ◌⊎◌, List, [], ◌∷◌, ◌++◌, length, take, Option, None, Some}
 use Rattle.std.specs.List.{AllByRecursion}
+use Rattle.jv_model.specs.declared.tables.TheConstants.{TABLE_OF_DROPPED}
 use Rattle.jv_model.specs.declared.limits.TheConstants.{LAST_MOMENT, MAX_ITEMS}
 use Rattle.jv_model.specs.declared.act.Act.{Act}
 use Rattle.jv_model.specs.declared.act.ActKind.{ActKind}
@@ -358,11 +359,11 @@ ExpiresOnlyGone = (run : Setup) (journal : List Act) (act : Act) → AllAllowed 
 pub record IsGone (journal : List Act) (t : Tree) (inode : ℕ) : Type 0 where
   pub was : inode < t.next_inode
   pub gone : node_at t inode ≡ None
-  pub once : (number : ℕ) → IfSome (entry_at journal number) (λ act. act.kind ≡ Cleaned 8 inode → ⊥)
+  pub once : (number : ℕ) → IfSome (entry_at journal number) (λ act. act.kind ≡ Cleaned TABLE_OF_DROPPED inode → ⊥)
 
 -- a cleaning drops only rows of removed files, those of each once
 abbrev pub DropsOnlyGone : Type 0
-DropsOnlyGone = (run : Setup) (journal : List Act) (act : Act) → AllAllowed (at_start run) (journal ++ act ∷ []) → (inode : ℕ) → act.kind ≡ Cleaned 8 inode
+DropsOnlyGone = (run : Setup) (journal : List Act) (act : Act) → AllAllowed (at_start run) (journal ++ act ∷ []) → (inode : ℕ) → act.kind ≡ Cleaned TABLE_OF_DROPPED inode
     → IsGone journal (begun_to act.line (reached run journal)).state.tree inode
 
 -- whether an entry is a cleaning's

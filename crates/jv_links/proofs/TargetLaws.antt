@@ -4,14 +4,14 @@ use Rattle.std.specs.Prelude.{IsTrue, nat_lt}
 use Rattle.std.specs.List.{list_any}
 use Rattle.std.proofs.lemmas.Bool.{false≢true, cond_both, and_parts, not-true, le-leb, leb-true}
 use Rattle.std.proofs.lemmas.Option.{same_Some}
-use Rattle.jv_model.specs.declared.limits.TheConstants.{MAX_LINKS}
+use Rattle.jv_model.specs.declared.limits.TheConstants.{MAX_LINKS, READ_ONLY_MODE}
 use Rattle.jv_model.specs.tree.Caller.{Caller}
 use Rattle.jv_model.specs.tree.Changes.{status_changed, take_entry, put_entry, with_node}
 use Rattle.jv_model.specs.tree.HourNames.{hour_at}
 use Rattle.jv_model.specs.tree.Removing.{Fate, Linked, Trashed, Sustained, Dropped, fate_of, with_fate, remove_entry, remove_directory}
 use Rattle.jv_model.specs.tree.Renaming.{without_target}
 use Rattle.jv_model.specs.tree.Trash.{hour_inode, hour_place, trash_place, trash_name, with_hour}
-use Rattle.jv_model.specs.tree.Tree.{Tree, Node, Directory, EntryKey, trash_root, in_trash, new_node, read_only_mode, node_at, is_directory, entry_count, link_count, links_fit}
+use Rattle.jv_model.specs.tree.Tree.{Tree, Node, Directory, EntryKey, trash_root, in_trash, new_node, node_at, is_directory, entry_count, link_count, links_fit}
 use Rattle.jv_volume.specs.Shape.{Shape, WholeShape, shape_of, is_there, is_dir, names, named}
 use Rattle.jv_volume.specs.TypedRows.{is_entry_name}
 use Rattle.jv_volume.proofs.ClimbLaws.{avoids_outside, avoids_without, outside_avoids}
@@ -33,7 +33,7 @@ use Rattle.jv_links.proofs.TrashStepLaws.{trash_hour, trash_stands, leaf_made}
 module _ (less : Tree) (now : ℕ) (place : EntryKey) (inode : ℕ) (may : IsToTrash less now place inode) (j : ℕ)
     (off : j ≢ trash_root) (here : is_some (node_at less j) ≡ true) where
   abbrev hour_node : Node
-  hour_node = new_node (Directory trash_root) read_only_mode now
+  hour_node = new_node (Directory trash_root) READ_ONLY_MODE now
 
   beside : link_count (with_hour less now (hour_at now)) j ≡ link_count less j
   unfolding with_hour

@@ -56,7 +56,7 @@ pub struct Node {
     pub mtime: u64,
     /// Seconds.
     pub ctime: u64,
-    /// Bytes; 4,096 for a directory.
+    /// Bytes; [`crate::DIRECTORY_LENGTH`] for a directory.
     pub length: u64,
     /// A directory's parent, else 0.
     pub parent: u64,
@@ -83,7 +83,7 @@ pub struct SliceRow {
 /// A mounted client.
 #[derive(Clone, Copy, Debug, PartialEq, Eq)]
 pub struct Session {
-    /// 0 to 7.
+    /// 0 to [`crate::LAST_CLIENT`].
     pub client: u8,
     /// Seconds.
     pub expiry: u64,

@@ -3,7 +3,8 @@ use Rattle.std.proofs.Common.{◌≡◌, ℕ, ◌+◌, ◌%◌, ◌<◌, ◌≤�
 use Rattle.std.proofs.lemmas.Bool.{cases_eq, cond-true, cond-false, cond_both, and_parts, eqb-true, eq-eqb, ne_eqb}
 use Rattle.std.proofs.lemmas.Bool.Decides.{nat_tests}
 use Rattle.std.proofs.lemmas.Option.{none-some}
-use Rattle.jv_model.specs.client.Pending.{PendingByte, Segment, comes_before, all_after, is_rising, stands_at, is_in_range, without_range, pending_of, pending_of_others, pending_end, end_of, run_length, first_segment, window_size, byte_set, written}
+use Rattle.jv_model.specs.declared.limits.TheConstants.{WINDOW}
+use Rattle.jv_model.specs.client.Pending.{PendingByte, Segment, comes_before, all_after, is_rising, stands_at, is_in_range, without_range, pending_of, pending_of_others, pending_end, end_of, run_length, first_segment, byte_set, written}
 use Rattle.jv_model.proofs.TestLaws.{some_same}
 
 -- an inode's first segment is its own, and its first byte lies in it
@@ -32,8 +33,8 @@ segment-some [] s h = absurd (none-some s h)
 segment-some (b ∷ bytes) s h =
     let same = some_same _ s h in
     let more : ℕ = run_length b.inode (b.position + 1) bytes in
-    let ahead : ℕ = cond ((b.position + 1) % window_size == 0) 1 (1 + more) in
-    let some : 0 < ahead = cond_both ((b.position + 1) % window_size == 0) 1 (1 + more) (λ n. 0 < n) (λ _. omega arith) (λ _. omega arith) in
+    let ahead : ℕ = cond ((b.position + 1) % WINDOW == 0) 1 (1 + more) in
+    let some : 0 < ahead = cond_both ((b.position + 1) % WINDOW == 0) 1 (1 + more) (λ n. 0 < n) (λ _. omega arith) (λ _. omega arith) in
     let is : cond (stands_at b.inode b.position b) ahead 0 ≡ ahead = cond-true (stands_at b.inode b.position b) ahead 0 (stands_here b) in
     subst (λ (t : Segment). 0 < t.len) same (subst (λ n. 0 < n) (sym is) some)
 

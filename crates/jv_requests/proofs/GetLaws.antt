@@ -2,6 +2,7 @@
 use Rattle.std.proofs.Common.{◌≡◌, ℕ, ◌<◌, ◌≤◌, Bool, true, false, List, [], ◌∷◌, Option, None, Some, Ok, Err, refl}
 use Rattle.std.proofs.Common.{sym, subst, ◌∙◌}
 use Rattle.std.specs.Prelude.{length, Contains}
+use Rattle.jv_model.specs.declared.limits.TheConstants.{LAST_CLIENT}
 use Rattle.jv_model.specs.declared.act.ActKind.TheVariants.{Answered, Quiet}
 use Rattle.jv_model.specs.declared.act.Told.{Told}
 use Rattle.jv_model.specs.declared.act.Told.TheVariants.{Looks, Refused as ToldRefused}
@@ -72,7 +73,7 @@ module _ (s : State) (g : Known) (v : Shared) (has : HasStore s.tree g v) (clien
 
   pub got-block : (window long : ℕ) (list : List Rec) (content : Content) → IsView g v window long list content
       → (b : BlockId) (r : Rec) → Contains list r → 0 < r.id → b.index < block_count r.size v.yard.setting.block
-      → b ≡ block_at r.id r.size v.yard.setting.block b.index → client ≤ 7 → (value : Option (List ℕ))
+      → b ≡ block_at r.id r.size v.yard.setting.block b.index → client ≤ LAST_CLIENT → (value : Option (List ℕ))
       → GetsBlock client (name_in v.yard.setting b) v.yard yard (Ok value) → GotBlock g b value
   got-block window long list content view b r among some below is low value gets =
       let read = named_read s.tree g v has window long list content view b r among some below is client value low

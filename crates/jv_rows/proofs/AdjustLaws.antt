@@ -6,6 +6,7 @@ use Rattle.std.specs.Option.{option_or}
 use Rattle.std.specs.Ordering.{nat_cmp, eq_by_cmp}
 use Rattle.std.specs.BTreeMap.{is_at}
 use Rattle.std.proofs.lemmas.Bool.{cases_eq, eq-eqb, ne_eqb, eqb-true}
+use Rattle.jv_model.specs.declared.tables.TheConstants.{TABLE_OF_SLICES, TABLE_OF_DEAD}
 use Rattle.jv_model.specs.declared.fault.Fault.TheVariants.{NoSpace}
 use Rattle.jv_model.specs.declared.fault.RowFault.{RowFault}
 use Rattle.jv_model.specs.declared.fault.RowFault.TheVariants.{Bad, Failed, Memory}
@@ -46,7 +47,7 @@ apart_from_dead : (id : ℕ) (key : RowKey) → is_of_slice (λ i. i == id) key 
 apart_from_dead id key other same = not_itself id (subst (λ (k : RowKey). is_of_slice (λ i. i == id) k ≡ false) same other)
 
 slice_not_dead : (i j : ℕ) → slice_key i ≢ dead_key j
-slice_not_dead i j same = true≢false (ap (λ (k : RowKey). k.tab == 5) same)
+slice_not_dead i j same = true≢false (ap (λ (k : RowKey). k.tab == TABLE_OF_SLICES) same)
 
 dead_not_slice : (i j : ℕ) → dead_key i ≢ slice_key j
 dead_not_slice i j same = slice_not_dead j i (sym same)
@@ -175,14 +176,14 @@ neither true b e = absurd (cc)
 neither false b e = (refl, e)
 
 abbrev is_change_of_slice : Change → Bool
-is_change_of_slice change = (key_in change).tab == 5
+is_change_of_slice change = (key_in change).tab == TABLE_OF_SLICES
 
 none_of_slice : (changes : List Change) (id : ℕ) → list_any is_change_of_slice changes ≡ false → last_change (slice_key id) changes ≡ None
 none_of_slice [] id none = refl
 none_of_slice (first ∷ rest) id none =
     let both = neither (is_change_of_slice first) (list_any is_change_of_slice rest) none in
     let apart : eq_by_cmp row_cmp (slice_key id) (key_in first) ≡ false =
-    tied_apart row_key (key_in first) (slice_key id) (λ same. true≢false (sym (ap (λ (k : RowKey). k.tab == 5) (sym same)) ∙ both.0)) in
+    tied_apart row_key (key_in first) (slice_key id) (λ same. true≢false (sym (ap (λ (k : RowKey). k.tab == TABLE_OF_SLICES) (sym same)) ∙ both.0)) in
     ap (λ o. option_or o (cond (eq_by_cmp row_cmp (slice_key id) (key_in first)) (Some first) None)) (none_of_slice rest id both.1)
     ∙ ap (λ b. cond b (Some first) None) apart
 
@@ -324,7 +325,7 @@ out_there id counts fewer out q apart = out q ∙ ap (λ (b : Bool). cond b None
 
 -- keys of slices that pass a weaker test
 key_by : (P : ℕ → Bool) (Q : ℕ → Bool) → ((q : ℕ) → P q ≡ false → Q q ≡ false) → (key : RowKey) → is_of_slice P key ≡ false → is_of_slice Q key ≡ false
-key_by P Q f key none = by (((key.tab == 5) || (key.tab == 9)) && is_nil key.b) none
+key_by P Q f key none = by (((key.tab == TABLE_OF_SLICES) || (key.tab == TABLE_OF_DEAD)) && is_nil key.b) none
   where
     by : (b : Bool) → (b && P key.a) ≡ false → (b && Q key.a) ≡ false
     by true e = f key.a e

@@ -8,6 +8,7 @@ use Rattle.std.proofs.lemmas.Grind.{flat_map-append}
 use Rattle.std.proofs.lemmas.List.{append-nil}
 use Rattle.std.proofs.lemmas.List.Concat.{flat_map-cons}
 use Rattle.std.proofs.lemmas.List.Folds.{list_all-append}
+use Rattle.jv_model.specs.declared.tables.TheConstants.{TABLE_OF_LISTS}
 use Rattle.jv_model.specs.declared.fault.Down.{Down}
 use Rattle.jv_model.specs.declared.fault.Down.TheVariants.{Failed as DeviceFailed, Memory as DeviceMemory}
 use Rattle.jv_model.specs.declared.fault.RowFault.{RowFault}
@@ -177,21 +178,21 @@ bytes-push list rec =
 
 -- the row that is spelled by the bytes of a list, or none, and those of a record behind them
 row-push : (list : List Rec) (rec : Rec) → ListWidths list → IsTrue (list_all is_record list) → RecordWidths rec → IsRecord rec
-    → row_of 4 (list_bytes list ++ record_bytes rec) ≡ Some (OfList (list ++ rec ∷ []))
+    → row_of TABLE_OF_LISTS (list_bytes list ++ record_bytes rec) ≡ Some (OfList (list ++ rec ∷ []))
 row-push list rec widths all low is =
-    ap (row_of 4) (sym (bytes-push list rec)) ∙ list_row (list_bytes (list ++ rec ∷ []))
+    ap (row_of TABLE_OF_LISTS) (sym (bytes-push list rec)) ∙ list_row (list_bytes (list ++ rec ∷ []))
     ∙ ap (option_map OfList) (list_exact.again (list ++ rec ∷ []) (widths-push list rec widths low) (is_list-push list rec all is))
 
 -- ---- what becomes of the draft
 
-module _ (key : RowKey) (at : key.tab ≡ 4) (rec : Rec) (low : RecordWidths rec) (is : IsRecord rec) (changes : List Change) where
+module _ (key : RowKey) (at : key.tab ≡ TABLE_OF_LISTS) (rec : Rec) (low : RecordWidths rec) (is : IsRecord rec) (changes : List Change) where
   -- a put of a list's bytes with those of the record behind
   drafts-push : {E : Type 0} (list : List Rec) (bytes : List ℕ) (left : List Change) (result : Result (Unit {0}) E) → bytes ≡ list_bytes list → ListWidths list → IsTrue (list_all is_record list)
       → OnOk result (left ≡ changes ++ Put key (bytes ++ record_bytes rec) ∷ []) → OnErr result (left ≡ changes)
       → Drafts key (cell OfList (Some (list ++ rec ∷ []))) changes left result
   drafts-push list bytes left result spelled widths all ok err =
       drafts_put key (bytes ++ record_bytes rec) (OfList (list ++ rec ∷ [])) changes left result
-      (ap (λ (t : ℕ). row_of t (bytes ++ record_bytes rec)) at ∙ ap (λ (b : List ℕ). row_of 4 (b ++ record_bytes rec)) spelled ∙ row-push list rec widths all low is) ok err
+      (ap (λ (t : ℕ). row_of t (bytes ++ record_bytes rec)) at ∙ ap (λ (b : List ℕ). row_of TABLE_OF_LISTS (b ++ record_bytes rec)) spelled ∙ row-push list rec widths all low is) ok err
 
   pub appends_to-done : (bytes : List ℕ) (left : List Change) → AreBytes bytes → IsSome (list_of bytes) → left ≡ changes ++ Put key (bytes ++ record_bytes rec) ∷ []
       → AppendsTo key bytes rec changes left (Ok tt)

@@ -1,5 +1,6 @@
 //! One more record in the list of a window: its bytes go behind those of the row, which are gone over and not made a list.
 ghost use Rattle.std.specs.Prelude.{◌≡◌, ◌++◌, ◌∷◌, [], IfOk, OnOk, OnErr, IsTrue};
+ghost use Rattle.jv_model.specs.declared.tables.TheConstants.{TABLE_OF_LISTS};
 ghost use Rattle.jv_model.specs.blocks.Slices.{IsRecord};
 ghost use Rattle.jv_model.specs.rows.RowGrammar.{record_bytes, list_of};
 ghost use Rattle.jv_outside.specs.declared.batch.Change.TheVariants.{Put};
@@ -93,7 +94,7 @@ impl Draft {
 
     // Adds that a list, which these bytes spell, has one record more.
     fn put_behind(&mut self, key: RowKey, bytes: Bytes, rec: &Rec) -> Result<(), RowFault>
-        requires tab { key.tab ≡ 4 }
+        requires tab { key.tab ≡ TABLE_OF_LISTS }
         requires record { IsRecord rec.now }
         ensures { AppendsTo key bytes rec.now self.old self.new result }
     {

@@ -19,7 +19,7 @@ use crate::misread::Misread;
 use crate::reading::read_row;
 use jv_model::{
     Counters, Dead, Down, Dropped, Edge, List, Name, Node, RowFault, RowKey, Session, Setting,
-    SliceRow, copied,
+    SliceRow, TABLE_OF_SLICES, copied,
 };
 use jv_outside::{Batch, Change, Keeper};
 use std::alloc::{AllocError, Global};
@@ -52,11 +52,11 @@ fn is_of(key: &RowKey, change: &Change) -> bool
 
 // Whether a change is of a slice's row.
 fn is_of_slice(change: &Change) -> bool
-    ensures { result ≡ ((key_in change.now).tab == 5) }
+    ensures { result ≡ ((key_in change.now).tab == TABLE_OF_SLICES) }
 {
     match change {
-        Change::Put(at, _) => at.tab == 5,
-        Change::Del(at) => at.tab == 5,
+        Change::Put(at, _) => at.tab == TABLE_OF_SLICES,
+        Change::Del(at) => at.tab == TABLE_OF_SLICES,
     }
 }
 
@@ -321,7 +321,7 @@ impl Draft {
 
     // Whether some change is of a slice's row.
     pub(crate) fn changes_slices(&self) -> bool
-        ensures { result ≡ list_any (λ change. (key_in change).tab == 5) self.now }
+        ensures { result ≡ list_any (λ change. (key_in change).tab == TABLE_OF_SLICES) self.now }
     {
         self.batch
             .as_slice()

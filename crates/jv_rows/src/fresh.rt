@@ -5,16 +5,11 @@ ghost use Rattle.jv_rows.specs.FreshRows.{default_setting, fresh_directory, fres
 
 use crate::writing::{put_counters, put_node, put_setting};
 use jv_model::{
-    Counters, DEFAULT_BLOCK, Moment, Node, ROOT, SPACE_UNIT, Sequence, Setting, TRASH_ROOT, copied,
+    Counters, DEFAULT_BLOCK, DEFAULT_TRASH_DAYS, FULL_MODE, Moment, Node, READ_ONLY_MODE, ROOT,
+    ROWS_VERSION, SPACE_UNIT, Sequence, Setting, TRASH_ROOT, copied,
 };
 use jv_outside::Batch;
 use std::alloc::{AllocError, Global};
-
-/// The permission bits of the root.
-const ROOT_MODE: u16 = 0o777;
-
-/// The permission bits of the trash.
-const TRASH_MODE: u16 = 0o555;
 
 /// The numbers of a volume without files.
 const FRESH_COUNTERS: Counters = Counters {
@@ -31,9 +26,9 @@ pub fn default_setting(alloc: Global) -> Result<Setting, AllocError>
     ensures allowed { IfOk result (λ setting. IsTrue (is_setting setting)) }
 {
     Ok(Setting {
-        version: 1,
+        version: ROWS_VERSION,
         block: DEFAULT_BLOCK,
-        trash_days: 1,
+        trash_days: DEFAULT_TRASH_DAYS,
         capacity: 0,
         inodes: 0,
         hash: 0,
@@ -72,13 +67,13 @@ pub fn fresh_rows(alloc: Global, setting: &Setting, at: Moment) -> Result<Batch,
         alloc,
         &mut batch,
         ROOT,
-        &fresh_directory(alloc, ROOT_MODE, at),
+        &fresh_directory(alloc, FULL_MODE, at),
     )?;
     put_node(
         alloc,
         &mut batch,
         TRASH_ROOT,
-        &fresh_directory(alloc, TRASH_MODE, at),
+        &fresh_directory(alloc, READ_ONLY_MODE, at),
     )?;
     Ok(batch)
 }

@@ -3,7 +3,7 @@ use Rattle.std.proofs.Common.{◌≡◌, ℕ, ◌+◌, ◌≤◌, min, false, Li
 use Rattle.std.specs.Prelude.{codes, decimal, IfOk}
 use Rattle.std.specs.declared.alloc.AllocError.{AllocError}
 use Rattle.std.proofs.lemmas.List.{length_push}
-use Rattle.jv_model.specs.declared.limits.TheConstants.{LAST_MOMENT}
+use Rattle.jv_model.specs.declared.limits.TheConstants.{LAST_MOMENT, LAST_CLIENT, CLIENTS}
 use Rattle.jv_model.specs.declared.act.TheConstants.{NO_CLIENT}
 use Rattle.jv_model.specs.declared.act.Act.{Act}
 use Rattle.jv_model.specs.declared.act.ActKind.{ActKind}
@@ -231,11 +231,11 @@ module _ (v : Shared) (number : ℕ) (clock ticked : Ticks) (journal more : List
   Noting noted client kind by made = Notes s noted number client kind by clock ticked journal more made
 
   -- the client at a place, of eight
-  the_client : (k : ℕ) → length s.clients ≡ 8 → k ≤ 7 → (c : ClientValue) × (slice_get s.clients k ≡ Some c)
+  the_client : (k : ℕ) → length s.clients ≡ CLIENTS → k ≤ LAST_CLIENT → (c : ClientValue) × (slice_get s.clients k ≡ Some c)
   the_client k eight low = slice_get_inside s.clients k (omega (arith, eight, low))
 
   pub refuse_says : (client : ℕ) (fault : Fault) (s' : ScheduleValue) (made : Result ℕ Stopped) (now : ℕ)
-      (printed : Result (List ℕ) AllocError) (end : LineEnd) → client ≤ 7 → IsCalm (ToldRefused fault)
+      (printed : Result (List ℕ) AllocError) (end : LineEnd) → client ≤ LAST_CLIENT → IsCalm (ToldRefused fault)
       → Noting s' client (Answered (ToldRefused fault)) 0 made → made ≡ Ok now
       → IfOk printed (λ t. t ≡ printed_line s'.setting (Refused fault)) → LineSays printed end
       → LineGoes (IsRefused client fault) number before (after s') end

@@ -10,7 +10,7 @@ ghost use Rattle.jv_session.specs.Lines.{AtDoor, LineRuns, line_state};
 
 use crate::line_end::LineEnd;
 use jv_client::Client;
-use jv_model::{Bytes, ClientId, Journal, Limits, Line, Reply, Setting};
+use jv_model::{Bytes, CLIENTS, ClientId, Journal, Limits, Line, Reply, Setting};
 use jv_outside::{Carrier, Clock, Depot, Keeper, Shelf};
 use jv_script::print_reply;
 use jv_yard::{Alone, ObservedYard, Yard, YardDoor};
@@ -26,7 +26,7 @@ pub struct Schedule {
     pub(crate) at: u64,
     /// The seconds that lines let pass, at most the last moment there is.
     pub(crate) ticks: u64,
-    pub(crate) clients: [Client; 8],
+    pub(crate) clients: [Client; CLIENTS as usize],
     pub(crate) setting: Setting,
 }
 

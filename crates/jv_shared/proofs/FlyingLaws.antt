@@ -4,7 +4,7 @@ use Rattle.std.specs.Prelude.{slice_index}
 use Rattle.std.proofs.lemmas.Bool.{cases_lt}
 use Rattle.std.proofs.lemmas.List.{length-take, length-drop}
 use Rattle.std.proofs.lemmas.Nat.{mul-le}
-use Rattle.jv_model.specs.declared.limits.TheConstants.{WINDOW}
+use Rattle.jv_model.specs.declared.limits.TheConstants.{WINDOW, MIN_BLOCK, MAX_BLOCKS}
 use Rattle.jv_model.specs.declared.slice.Rec.{Rec}
 use Rattle.jv_model.specs.blocks.BlockNames.{IsBlock, name_in}
 use Rattle.jv_model.specs.blocks.Slices.{block_at, block_count, shown}
@@ -34,9 +34,9 @@ slice_block-is block id size index long positive low short there =
     record {
       id = positive;
       id_in_range = low;
-      index = elim (cases_lt index 1024) [
+      index = elim (cases_lt index MAX_BLOCKS) [
         | inl few ↦ few
-        | inr many ↦ absurd (omega (arith, begins, short, mul-le 1024 65536 index block many least))
+        | inr many ↦ absurd (omega (arith, begins, short, mul-le MAX_BLOCKS MIN_BLOCK index block many least))
       ];
       some = omega (arith, begins, least);
       size = omega arith;

@@ -1,6 +1,7 @@
 -- Laws of what clients share: what a client sees of a store that is a tree's, and what keeps it one.
 use Rattle.std.proofs.Common.{◌≡◌, ℕ, ◌<◌, ◌≤◌, Bool, true, false, List, length, Option, None, Some, refl, sym, ap, subst, ◌∙◌, arith}
 use Rattle.std.specs.Prelude.{◌&&◌, Contains, if◌then◌else◌, is_some, IsSome}
+use Rattle.jv_model.specs.declared.limits.TheConstants.{LAST_CLIENT}
 use Rattle.jv_model.specs.declared.setting.Setting.{Setting}
 use Rattle.jv_model.specs.declared.slice.BlockId.{BlockId}
 use Rattle.jv_model.specs.declared.slice.Rec.{Rec}
@@ -79,7 +80,7 @@ module _ (t : Tree) (g : Known) (v : Shared) (s : HasStore t g v) where
       (subst (λ (x : Tree). content_at x inode ≡ Some content) s.tree is)))))
 
   -- What a client reads of a block that is there is known of it: its own staged copy, or the depot's.
-  pub block_read : (client : ℕ) (b : BlockId) (value : Option (List ℕ)) → client ≤ 7 → IsThere (present_in v) b
+  pub block_read : (client : ℕ) (b : BlockId) (value : Option (List ℕ)) → client ≤ LAST_CLIENT → IsThere (present_in v) b
       → IsBlockOf v.yard client (name_in v.yard.setting b) value → value ≡ g.blocks b
   block_read client b value low there read = by_since (staged_since client (name_in v.yard.setting b) v.yard.staged) refl
     where
@@ -116,7 +117,7 @@ module _ (t : Tree) (g : Known) (v : Shared) (s : HasStore t g v) where
   pub named_read : (window length : ℕ) (list : List Rec) (content : Content) → IsView g v window length list content
       → (b : BlockId) (r : Rec) → Contains list r → 0 < r.id → b.index < block_count r.size v.yard.setting.block
       → b ≡ block_at r.id r.size v.yard.setting.block b.index
-      → (client : ℕ) (value : Option (List ℕ)) → client ≤ 7 → IsBlockOf v.yard client (name_in v.yard.setting b) value
+      → (client : ℕ) (value : Option (List ℕ)) → client ≤ LAST_CLIENT → IsBlockOf v.yard client (name_in v.yard.setting b) value
       → (value ≡ g.blocks b) × IsThere g.blocks b
   named_read window length list content view b r among some below is client value low read =
       let there = named_there v.yard.setting.block (rows_in v) g (present_in v) window length list content view b r among some below is in

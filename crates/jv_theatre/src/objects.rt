@@ -1,12 +1,9 @@
 //! The objects of a depot, and the blocks that are staged on a shelf.
 use crate::texts::shown_text;
-use jv_model::{ClientId, Sequence, copied};
+use jv_model::{ClientId, Sequence, copied, CLIENTS};
 use jv_outside::{MemDepot, MemShelf, Object, ObjectList, Staged, StagedList};
 use jv_scenes::Scene;
 use std::alloc::{AllocError, Global};
-
-/// How many clients there are.
-const CLIENTS: u8 = 8;
 
 /// The objects that a scene begins with. Of objects with one name the first stands.
 pub fn objects(alloc: Global, scene: &Scene) -> Result<ObjectList, AllocError> {

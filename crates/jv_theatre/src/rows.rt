@@ -1,15 +1,15 @@
 //! The rows of a keeper, before a run and after it.
-use jv_model::{Moment, RowKey, Rows, Sequence, copied};
+use jv_model::{
+    Moment, RowKey, Rows, Sequence, TABLE_OF_COUNTERS, TABLE_OF_DEAD, TABLE_OF_LISTS,
+    TABLE_OF_SLICES, copied,
+};
 use jv_outside::{Change, MemKeeper};
 use jv_rows::{default_setting, fresh_rows};
 use jv_scenes::Scene;
 use std::alloc::{AllocError, Global};
 
-/// The table of the counters.
-const COUNTERS: u8 = 1;
-
 /// The tables whose rows name slices by their numbers: lists, slices and dead slices.
-const OF_SLICES: [u8; 3] = [4, 5, 9];
+const OF_SLICES: [u8; 3] = [TABLE_OF_LISTS, TABLE_OF_SLICES, TABLE_OF_DEAD];
 
 /// Where the number of the next slice stands in the counters' row: from which byte on, and before which.
 const NEXT_SLICE: (usize, usize) = (8, 16);
@@ -82,7 +82,7 @@ fn push_unnumbered(
     if OF_SLICES.contains(&key.tab) {
         return Ok(());
     }
-    if key.tab == COUNTERS {
+    if key.tab == TABLE_OF_COUNTERS {
         return push_row(
             alloc,
             text,

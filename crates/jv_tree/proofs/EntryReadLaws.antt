@@ -9,6 +9,7 @@ use Rattle.std.specs.Ordering.{is_lt, nat_cmp, ordering_then}
 use Rattle.std.specs.Cmp.{nat_cmp_total, tied_itself}
 use Rattle.std.specs.FinMap.Entries.{put, find, by_order, below_all, is_sorted}
 use Rattle.std.proofs.lemmas.Bool.{and_parts}
+use Rattle.jv_model.specs.declared.tables.TheConstants.{TABLE_OF_EDGES}
 use Rattle.jv_model.specs.declared.fault.Fault.{Fault}
 use Rattle.jv_model.specs.declared.fault.RowFault.{RowFault}
 use Rattle.jv_model.specs.declared.fault.RowFault.TheVariants.{Bad, Failed, Memory}
@@ -97,19 +98,19 @@ module _ (dir : ℕ) (key : RowKey) (bytes : List ℕ) (others : List (EntryKey 
   by_edge None = sym (either (key.a == dir) (shown dir others))
   by_edge (Some edge) = by_dir edge (key.a == dir)
 
-  listed_at : (t : Bool) → (key.tab == 3) ≡ t → shown dir (entry_selected inode_named (entry_of_key key) (cell_of key bytes) others)
-      ≡ cond ((key.tab == 3) && (key.a == dir)) (edge_then key.b (edge_of bytes) (shown dir others)) (shown dir others)
+  listed_at : (t : Bool) → (key.tab == TABLE_OF_EDGES) ≡ t → shown dir (entry_selected inode_named (entry_of_key key) (cell_of key bytes) others)
+      ≡ cond ((key.tab == TABLE_OF_EDGES) && (key.a == dir)) (edge_then key.b (edge_of bytes) (shown dir others)) (shown dir others)
   listed_at true is =
       let cell_is : cell_of key bytes ≡ ok_or (option_map OfEdge (edge_of bytes)) bytes =
-      ap (λ (t : ℕ). ok_or (row_of t bytes) bytes) (eqb-true key.tab 3 is) ∙ ap (λ (r : Option Row). ok_or r bytes) (edge_row bytes) in
+      ap (λ (t : ℕ). ok_or (row_of t bytes) bytes) (eqb-true key.tab TABLE_OF_EDGES is) ∙ ap (λ (r : Option Row). ok_or r bytes) (edge_row bytes) in
       ap (λ (b : Bool). selected_by b (cell_of key bytes)) is ∙ ap (selected_by true) cell_is ∙ by_edge (edge_of bytes) ∙ sym (ap from_by is)
   listed_at false is = ap (λ (b : Bool). selected_by b (cell_of key bytes)) is ∙ sym (ap from_by is)
 
 entries-listed : (dir : ℕ) (es : List (RowKey × List ℕ)) → shown dir (entries_selected entry_of_key inode_named (typed_entries es)) ≡ entries_from dir es
 entries-listed dir [] = refl
 entries-listed dir (e ∷ es) =
-    listed_at dir e.0 e.1 (entries_selected entry_of_key inode_named (typed_entries es)) (e.0.tab == 3) refl
-    ∙ ap (λ (l : List (List ℕ × ℕ)). cond ((e.0.tab == 3) && (e.0.a == dir)) (edge_then e.0.b (edge_of e.1) l) l) (entries-listed dir es)
+    listed_at dir e.0 e.1 (entries_selected entry_of_key inode_named (typed_entries es)) (e.0.tab == TABLE_OF_EDGES) refl
+    ∙ ap (λ (l : List (List ℕ × ℕ)). cond ((e.0.tab == TABLE_OF_EDGES) && (e.0.a == dir)) (edge_then e.0.b (edge_of e.1) l) l) (entries-listed dir es)
 
 -- ---- whole rows have no entry without a name
 
@@ -117,7 +118,7 @@ abbrev IsStored : RowMap → RowKey × List ℕ → Type 0
 IsStored known e = get known e.0 ≡ Some e.1
 
 abbrev IsNamed : RowKey × List ℕ → Type 0
-IsNamed e = e.0.tab ≡ 3 → e.0.b ≡ [] → ⊥
+IsNamed e = e.0.tab ≡ TABLE_OF_EDGES → e.0.b ≡ [] → ⊥
 
 all_weaker : {A : Type 0} (P Q : A → Type 0) (xs : List A) → ((x : A) → P x → Q x) → AllByRecursion P xs → AllByRecursion Q xs
 all_weaker P Q [] weaker all = tt
@@ -133,7 +134,7 @@ is_named known whole e there table nameless =
 all_named : (known : RowMap) → Whole (typed known) → AllByRecursion IsNamed known.list
 all_named known whole = all_weaker (IsStored known) IsNamed known.list (is_named known whole) (all-stored row_key known)
 
-named_behind : (dir : ℕ) (key : RowKey) → key.tab ≡ 3 → key.a ≡ dir → (name : List ℕ) → key.b ≡ name → (key.b ≡ [] → ⊥)
+named_behind : (dir : ℕ) (key : RowKey) → key.tab ≡ TABLE_OF_EDGES → key.a ≡ dir → (name : List ℕ) → key.b ≡ name → (key.b ≡ [] → ⊥)
     → is_lt (row_cmp (edge_key dir []) key) ≡ true
 named_behind dir key table number [] is some = absurd (some is)
 named_behind dir key table number (x ∷ xs) is some =
@@ -142,10 +143,10 @@ named_behind dir key table number (x ∷ xs) is some =
 
 module _ (dir : ℕ) (e : RowKey × List ℕ) (es : List (RowKey × List ℕ)) (named : IsNamed e)
     (rest : entries_from dir (filter (behind (edge_key dir [])) es) ≡ entries_from dir es) where
-  outside : behind (edge_key dir []) e ≡ false → (t : Bool) → ((e.0.tab == 3) && (e.0.a == dir)) ≡ t → t ≡ false
+  outside : behind (edge_key dir []) e ≡ false → (t : Bool) → ((e.0.tab == TABLE_OF_EDGES) && (e.0.a == dir)) ≡ t → t ≡ false
   outside before true is =
-      let both = and_parts (e.0.tab == 3) (e.0.a == dir) is in
-      let table : e.0.tab ≡ 3 = eqb-true e.0.tab 3 both.0 in
+      let both = and_parts (e.0.tab == TABLE_OF_EDGES) (e.0.a == dir) is in
+      let table : e.0.tab ≡ TABLE_OF_EDGES = eqb-true e.0.tab TABLE_OF_EDGES both.0 in
       let later : is_lt (row_cmp (edge_key dir []) e.0) ≡ true = named_behind dir e.0 table (eqb-true e.0.a dir both.1) e.0.b refl (named table) in
       let passes : behind (edge_key dir []) e ≡ true = ap (λ (b : Bool). b && is_lt (row_cmp (edge_key dir []) e.0)) both.0 ∙ later in
       absurd (true≢false (sym passes ∙ before))
@@ -153,9 +154,9 @@ module _ (dir : ℕ) (e : RowKey × List ℕ) (es : List (RowKey × List ℕ)) (
 
   start_at : (b : Bool) → behind (edge_key dir []) e ≡ b
       → entries_from dir (cond b (e ∷ filter (behind (edge_key dir [])) es) (filter (behind (edge_key dir [])) es)) ≡ entries_from dir (e ∷ es)
-  start_at true is = ap (λ (l : List (List ℕ × ℕ)). cond ((e.0.tab == 3) && (e.0.a == dir)) (edge_then e.0.b (edge_of e.1) l) l) rest
+  start_at true is = ap (λ (l : List (List ℕ × ℕ)). cond ((e.0.tab == TABLE_OF_EDGES) && (e.0.a == dir)) (edge_then e.0.b (edge_of e.1) l) l) rest
   start_at false is = rest ∙ sym (ap (λ (b : Bool). cond b (edge_then e.0.b (edge_of e.1) (entries_from dir es)) (entries_from dir es))
-      (outside is ((e.0.tab == 3) && (e.0.a == dir)) refl))
+      (outside is ((e.0.tab == TABLE_OF_EDGES) && (e.0.a == dir)) refl))
 
 from_start : (dir : ℕ) (es : List (RowKey × List ℕ)) → AllByRecursion IsNamed es → entries_from dir (filter (behind (edge_key dir [])) es) ≡ entries_from dir es
 from_start dir [] all = refl

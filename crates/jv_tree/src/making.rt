@@ -12,17 +12,14 @@ ghost use Rattle.jv_rows.specs.Walks.{ComesToEntry, HasNodeRow};
 ghost use Rattle.jv_tree.specs.Entering.{has_no_zero, new_pair, place_of, IsFreePlace, IsNewKind, new_row, enter, Grows, GetsEntry};
 
 use jv_model::{
-    Bytes, Counters, DIRECTORY_LENGTH, Edge, FULL_COUNT, Fault, MAX_PATH, Moment, Node, Path, ROOT,
-    RowFault, SPACE_UNIT, Sequence, Setting, TRASH_ROOT, TxFault, Who, copied,
+    Bytes, Counters, DIRECTORY_LENGTH, Edge, FULL_COUNT, FULL_MODE, Fault, MAX_PATH, Moment, Node,
+    Path, ROOT, RowFault, SPACE_UNIT, Sequence, Setting, TRASH_ROOT, TxFault, Who, copied,
 };
 use jv_outside::Keeper;
 use jv_rows::{
     Draft, EntryPlace, in_session, needed_counters, needed_setting, read_edge, walk_to_entry,
 };
 use std::alloc::Global;
-
-/// All may do all with a symlink: its target's bits decide.
-const SYMLINK_MODE: u16 = 0o777;
 
 // Whether a new entry may stand there: not in the trash, and not in the place of `.trash`.
 fn may_be_new(dir: u64, name: &[u8]) -> bool
@@ -232,7 +229,8 @@ pub fn symlink<K: Keeper>(
     let node = Node {
         length: target.len() as u64,
         target: copied(alloc, target.as_slice())?,
-        ..new_node(alloc, 3, SYMLINK_MODE, who.now)
+        // All may do all with a symlink: its target's bits decide.
+        ..new_node(alloc, 3, FULL_MODE, who.now)
     };
     enter(alloc, k, who.now, &mut place, &node)
 }

@@ -9,7 +9,7 @@ ghost use Rattle.jv_rows.specs.Transactions.{IsFor, Looks, Transacts, Always};
 
 use jv_model::{
     Attr, Bytes, EntryList, Fault, FileKind, Gone, Node, Path, Row, RowKey, RowList, Sequence,
-    Space, TxFault, Who,
+    Space, TABLE_OF_EDGES, TxFault, Who,
 };
 use jv_outside::Keeper;
 use jv_rows::{Draft, in_session, needed_counters, needed_setting, scan_rows, walk_to};
@@ -159,12 +159,12 @@ fn entries_in<K: Keeper>(alloc: Global, k: &mut K, dir: u64) -> Result<EntryList
 {
     let mut entries = Sequence::new(alloc);
     let mut last = RowKey {
-        tab: 3,
+        tab: TABLE_OF_EDGES,
         a: dir,
         b: Sequence::new(alloc),
     };
     loop {
-        let page = scan_rows(alloc, k, 3, Some(&last), PAGE)?;
+        let page = scan_rows(alloc, k, TABLE_OF_EDGES, Some(&last), PAGE)?;
         let next = last_key(alloc, page.as_slice())?;
         // No list has 2^63 entries, so that the loop ends.
         let count = entries.len();

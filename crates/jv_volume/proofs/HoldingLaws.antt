@@ -3,12 +3,13 @@ use Rattle.std.proofs.Common.{◌≡◌, ℕ, ◌≤◌, Bool, true, false, not,
 use Rattle.std.proofs.Common.{is_some, Result, Ok, Err, refl, sym, ap, subst, ◌∙◌, arith}
 use Rattle.std.specs.Prelude.{IsTrue}
 use Rattle.std.proofs.lemmas.Bool.{false≢true, and_parts, not-true, false_from_ne_true}
+use Rattle.jv_model.specs.declared.limits.TheConstants.{FULL_COUNT}
 use Rattle.jv_model.specs.declared.op.Op.{Op}
 use Rattle.jv_model.specs.declared.op.Op.TheVariants as op
 use Rattle.jv_model.specs.declared.fault.Fault.{Fault}
 use Rattle.jv_model.specs.FiniteMap.{get}
 use Rattle.jv_model.specs.tree.Attempt.{◌>>=◌}
-use Rattle.jv_model.specs.tree.Tree.{Tree, Node, File, Directory, Symlink, Content, full_count, node_at, content_of}
+use Rattle.jv_model.specs.tree.Tree.{Tree, Node, File, Directory, Symlink, Content, node_at, content_of}
 use Rattle.jv_model.specs.tree.Tree.{content_at, is_sustained}
 use Rattle.jv_model.specs.tree.Changes.{touched, with_content, overwritten, resized, copied_over}
 use Rattle.jv_model.specs.tree.Caller.{Caller, Outcome, outcome}
@@ -84,7 +85,7 @@ kept_by _ who = none_more
 
 -- the trees in which inodes of hours lie past those that are given to new nodes
 abbrev IsLow : Tree → Type 0
-IsLow t = t.next_inode ≤ full_count
+IsLow t = t.next_inode ≤ FULL_COUNT
 
 module _ (t : Tree) (who : Caller) where
   same : (more : ℕ → Bool) (after : Tree) → after ≡ t → KeepsFiles (IsLow t) more t after

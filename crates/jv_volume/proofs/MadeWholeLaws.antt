@@ -2,7 +2,7 @@
 use Rattle.std.proofs.Common.{◌≡◌, ℕ, ◌≤◌, ◌<◌, true, None, Some, Ok, refl, sym, ap, subst, ◌∙◌, arith}
 use Rattle.std.specs.Prelude.{IsTrue}
 use Rattle.std.specs.Option.{option_map}
-use Rattle.jv_model.specs.declared.limits.TheConstants.{FILE_END}
+use Rattle.jv_model.specs.declared.limits.TheConstants.{FILE_END, FULL_COUNT}
 use Rattle.jv_model.specs.declared.row.RowKey.{RowKey}
 use Rattle.jv_model.specs.declared.row.Row.{Row}
 use Rattle.jv_model.specs.declared.row.Counters.{Counters}
@@ -11,7 +11,7 @@ use Rattle.jv_model.specs.declared.row.Row.TheVariants.{OfCounters, OfNode, OfEd
 use Rattle.jv_model.specs.FiniteMap.{insert}
 use Rattle.jv_model.specs.rows.RowKeys.{row_key}
 use Rattle.jv_model.specs.rows.RowPlaces.{counters_key, node_key, edge_key}
-use Rattle.jv_model.specs.tree.Tree.{Tree, EntryKey, full_count, node_at, link_count}
+use Rattle.jv_model.specs.tree.Tree.{Tree, EntryKey, node_at, link_count}
 use Rattle.jv_model.specs.tree.Making.{may_be_new, with_next}
 use Rattle.jv_model.proofs.FiniteMapLaws.{get-insert}
 use Rattle.jv_volume.specs.TypedRows.{Cell, Rows, is_entry_name, is_key, is_typed}
@@ -35,7 +35,7 @@ use Rattle.jv_volume.proofs.StoredLaws.{same_shape, found_counters, stored-again
 pub record MayBeMade (place : EntryKey) (row : NodeRow) (byte : ℕ → ℕ) (c : Counters) : Type 0 where
   pub may : may_be_new place ≡ true
   pub name : IsTrue (is_entry_name place.name)
-  pub room : c.inode < full_count
+  pub room : c.inode < FULL_COUNT
   pub small : row.length ≤ FILE_END
   pub parent : (parent : ℕ) → form_of (Some (node_of byte row)) ≡ Dir parent → parent ≡ place.dir
 
@@ -126,7 +126,7 @@ module _ (bytes : ℕ → ℕ → ℕ) (rows : Rows) (now : ℕ) (place : EntryK
 
     shape_made : WholeShape (shape_of (with_next t now place (node_of (bytes c.inode) row)))
     shape_made =
-        whole-with_next t now place shape made.free made.within may.may (subst (λ n. n < full_count) (sym next_is) may.room) (node_of (bytes c.inode) row) may.parent
+        whole-with_next t now place shape made.free made.within may.may (subst (λ n. n < FULL_COUNT) (sym next_is) may.room) (node_of (bytes c.inode) row) may.parent
 
     -- the rows after a creation are whole
     pub whole-made : Whole after

@@ -4,6 +4,7 @@ use Rattle.std.specs.Prelude.{◌==◌, ◌||◌, nat_lt, IsTrue, if◌then◌el
 use Rattle.std.specs.List.{AllByRecursion}
 use Rattle.std.specs.Ordering.{eq_by_cmp}
 use Rattle.std.specs.FinMap.Entries.{where_key}
+use Rattle.jv_model.specs.declared.tables.TheConstants.{TABLE_OF_LISTS, TABLE_OF_SLICES, TABLE_OF_DEAD}
 use Rattle.jv_model.specs.declared.limits.TheConstants.{FULL_COUNT}
 use Rattle.jv_model.specs.declared.row.RowKey.{RowKey}
 use Rattle.jv_model.specs.declared.row.Counters.{Counters}
@@ -68,13 +69,13 @@ module _ {K X : Type 0} (order : KeyOrder K) (f : K → X → ℕ) (test : K →
 -- ---- what quiet changes keep
 
 abbrev is_list_key : RowKey → Bool
-is_list_key key = key.tab == 4
+is_list_key key = key.tab == TABLE_OF_LISTS
 
 naming_nothing : (id : ℕ) (key : RowKey) (cell : Cell) → is_list_key key ≡ false → records_naming id (listed key (Some cell)) ≡ 0
 naming_nothing id key cell other = ap (λ b. records_naming id (if b then records_in (row_in (Some cell)) else [])) other
 
 of_lists : (key : RowKey) → is_list_key key ≡ true → IsTrue (is_of_slices key.tab)
-of_lists key is = ap (λ b. b || (key.tab == 5) || (key.tab == 9)) is
+of_lists key is = ap (λ b. b || (key.tab == TABLE_OF_SLICES) || (key.tab == TABLE_OF_DEAD)) is
 
 module _ (rows after : Rows) (q : Quiet rows after) where
   quiet-cell : (key : RowKey) → IsTrue (is_of_slices key.tab) → get after key ≡ get rows key

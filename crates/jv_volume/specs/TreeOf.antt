@@ -2,6 +2,7 @@
 use Rattle.std.specs.Prelude.{ℕ, ◌&&◌, ◌==◌, nat_lt, if◌then◌else◌, List, [], ◌∷◌, Option, None, Some, bytes_eq, unwrap_or}
 use Rattle.std.specs.Option.{option_map}
 use Rattle.std.specs.Int.{w64, from_be_bytes}
+use Rattle.jv_model.specs.declared.tables.TheConstants.{TABLE_OF_EDGES, TABLE_OF_SUSTAINED, TABLE_OF_NODES, TABLE_OF_SESSIONS}
 use Rattle.jv_model.specs.declared.row.RowKey.{RowKey}
 use Rattle.jv_model.specs.declared.row.Row.{Row}
 use Rattle.jv_model.specs.declared.row.Counters.{Counters}
@@ -32,10 +33,10 @@ abbrev pub number_of : ℕ → RowKey → Option ℕ
 number_of tab key = (if key.tab == tab && is_nil key.b then Some key.a else None)
 
 abbrev pub entry_of_key : RowKey → Option EntryKey
-entry_of_key key = (if key.tab == 3 then Some (record { dir = key.a; name = key.b }) else None)
+entry_of_key key = (if key.tab == TABLE_OF_EDGES then Some (record { dir = key.a; name = key.b }) else None)
 
 abbrev pub pair_of_key : RowKey → Option SustainedFile
-pair_of_key key = (if key.tab == 7 && bytes_eq (long (from_be_bytes w64 key.b)) key.b then Some (record { sid = key.a; inode = from_be_bytes w64 key.b }) else None)
+pair_of_key key = (if key.tab == TABLE_OF_SUSTAINED && bytes_eq (long (from_be_bytes w64 key.b)) key.b then Some (record { sid = key.a; inode = from_be_bytes w64 key.b }) else None)
 
 -- nodes
 
@@ -50,7 +51,7 @@ abbrev pub node_of : (ℕ → ℕ) → NodeRow → Node
 node_of byte row = record { kind = kind_of byte row; mode = row.mode; uid = row.uid; gid = row.gid; mtime = row.mtime; ctime = row.ctime }
 
 unfoldable pub nodes_of : (ℕ → ℕ → ℕ) → Rows → Map number_key Node
-nodes_of bytes rows = selected (number_of 2) (λ inode row. option_map (node_of (bytes inode)) (node_in row)) rows
+nodes_of bytes rows = selected (number_of TABLE_OF_NODES) (λ inode row. option_map (node_of (bytes inode)) (node_in row)) rows
 
 unfoldable pub entries_of : Rows → Map entry_key ℕ
 entries_of rows = selected entry_of_key (λ at row. option_map (λ edge. edge.inode) (edge_in row)) rows
@@ -59,7 +60,7 @@ abbrev pub session_of : Session → SessionEntry
 session_of row = record { client = row.client; expiry = row.expiry }
 
 unfoldable pub sessions_of : Rows → Map number_key SessionEntry
-sessions_of rows = selected (number_of 6) (λ sid row. option_map session_of (session_in row)) rows
+sessions_of rows = selected (number_of TABLE_OF_SESSIONS) (λ sid row. option_map session_of (session_in row)) rows
 
 unfoldable pub sustained_of : Rows → Map pair_key (Unit {0})
 sustained_of rows = selected pair_of_key (λ pair row. if sustained_in row then Some tt else None) rows

@@ -1,5 +1,6 @@
 -- What a yard's calls keep, and what is read of one whose staged blocks are on its shelf.
 use Rattle.std.proofs.Common.{◌≡◌, ◌↔◌, ℕ, ◌≤◌, List, length, Option, None, Some, IsSome, is_some, true, false, refl, sym, ap, subst, ◌∙◌}
+use Rattle.jv_model.specs.declared.limits.TheConstants.{LAST_CLIENT}
 use Rattle.jv_model.specs.declared.setting.Setting.{Setting}
 use Rattle.jv_model.specs.declared.slice.BlockId.{BlockId}
 use Rattle.jv_model.specs.blocks.BlockNames.{IsBlock, name_in}
@@ -52,7 +53,7 @@ module _ (yard : YardValue) (objects : ObjectMap) (blocks : StagedMap) (client :
       ((λ none. let gone : is_some (staged_at client name blocks) ≡ false = ap is_some (sym found ∙ none) in absurd (cc)), (λ both. absurd (let h = both.0 in cc)))
 
   -- nothing is read exactly where the block is in neither place
-  pub none_in_neither : IsKept yard → client ≤ 7 → IsBlockOf yard client name value → (value ≡ None) ↔ ((staged_since client name yard.staged ≡ None) × (bytes_at name objects ≡ None))
+  pub none_in_neither : IsKept yard → client ≤ LAST_CLIENT → IsBlockOf yard client name value → (value ≡ None) ↔ ((staged_since client name yard.staged ≡ None) × (bytes_at name objects ≡ None))
   none_in_neither kept low read = none_by _ refl (λ is. kept.there blocks shelf client name low is) read
 
 -- a parcel that stands for a block and its bytes may be put

@@ -1,5 +1,6 @@
 ghost use Rattle.std.specs.Prelude.{◌≡◌, ◌<◌, ◌≤◌, IfOk};
 ghost use Rattle.jv_yard.specs.BlockCalls.{IsBlockParcel};
+ghost use Rattle.jv_model.specs.declared.limits.TheConstants.{LAST_CLIENT};
 
 use jv_model::{BlockId, ClientId, Moment, Name, Sequence, Setting, copied};
 use jv_outside::{
@@ -39,7 +40,7 @@ fn failing_at(alloc: Global, number: u64) -> Result<Fails, AllocError> {
 }
 
 fn staged(alloc: Global, client: u8, name: Name, bytes: &[u8]) -> Result<Staged, AllocError>
-    requires { client ≤ 7 }
+    requires { client ≤ LAST_CLIENT }
 {
     Ok(Staged {
         client: ClientId(client),

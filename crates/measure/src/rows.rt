@@ -1,10 +1,7 @@
 //! Rows through a keeper in memory.
-use jv_model::{Down, RowKey, Sequence, copied};
+use jv_model::{Down, RowKey, Sequence, TABLE_OF_NODES, copied};
 use jv_outside::{Batch, Fails, Keeper, MemKeeper};
 use std::alloc::Global;
-
-/// The table of all rows.
-const TABLE: u8 = 2;
 
 /// The bytes of each row.
 const BYTES: [u8; 48] = [7; 48];
@@ -21,7 +18,7 @@ const PAGE: u32 = 256;
 /// The key of a row by its number. Keys of different numbers are different.
 fn key(alloc: Global, number: u32) -> RowKey {
     RowKey {
-        tab: TABLE,
+        tab: TABLE_OF_NODES,
         a: u64::from(number).wrapping_mul(SPREAD),
         b: Sequence::new(alloc),
     }
@@ -67,7 +64,7 @@ pub fn scanned(alloc: Global, count: u32) -> Result<u64, Down> {
     let mut found = 0u64;
     let mut last = None;
     for _ in 0..=count / PAGE {
-        let page = keeper.scan(TABLE, last.as_ref(), PAGE)?;
+        let page = keeper.scan(TABLE_OF_NODES, last.as_ref(), PAGE)?;
         for (row, _) in page.as_slice() {
             found = found.saturating_add(1);
             last = Some(row.copied(alloc)?);

@@ -8,13 +8,13 @@ ghost use Rattle.jv_cmd.specs.Words.{Answers, Parses, Reads, Refuses, asked, com
 
 use super::program::program;
 use super::refusal::{refused, told};
-use super::request::{
-    Command, MAX_BUFFER, MAX_CACHE, MAX_UPLOADS, MIN_BUFFER, SessionOptions, WordsFault,
-};
+use super::request::{Command, SessionOptions, WordsFault};
 use super::values::{block_size, number_within, place, seed};
-use crate::volume::VERSION;
 use clap::ArgMatches;
-use jv_model::{FULL_COUNT, MAX_CAPACITY, MAX_TRASH_DAYS, Setting, Text, copied};
+use jv_model::{
+    FULL_COUNT, MAX_BUFFER, MAX_CACHE, MAX_CAPACITY, MAX_TRASH_DAYS, MAX_UPLOADS, MIN_BUFFER,
+    ROWS_VERSION, Setting, Text, copied,
+};
 use jv_rows::allows_setting;
 use std::alloc::{AllocError, Global};
 
@@ -121,7 +121,7 @@ fn setting_fields(alloc: Global, values: &ArgMatches<'_>) -> Result<Setting, Bad
     let name = copied_in(alloc, values, "name")?;
     let bucket = copied_in(alloc, values, "bucket")?;
     Ok(Setting {
-        version: VERSION,
+        version: ROWS_VERSION,
         block,
         trash_days,
         capacity,

@@ -1,6 +1,7 @@
 -- What a journal has reached, and what one more entry does to it: the tree, the clients, and whose blocks are owed. It
 -- knows no lines, clock or text.
 use Rattle.std.specs.Prelude.{ℕ, ◌+◌, ◌%◌, Bool, true, false, ◌&&◌, ◌||◌, not, ◌==◌, nat_lt, if◌then◌else◌, List, [], ◌∷◌, ◌++◌, map, filter, is_some, Option, None, Some, unwrap_or}
+use Rattle.jv_model.specs.declared.tables.TheConstants.{TABLE_OF_DROPPED}
 use Rattle.jv_model.specs.declared.limits.TheConstants.{TRASH_ROOT}
 use Rattle.jv_model.specs.declared.act.Act.{Act}
 use Rattle.jv_model.specs.declared.act.ActKind.{ActKind}
@@ -458,8 +459,8 @@ after_purge s client inode d =
 abbrev pub after_cleaning : State → ℕ → ℕ → ℕ → Doing → State
 after_cleaning s client table key d =
     let k = cleaning_of d.stage in
-    after_item (record s { dropped = (if table == 8 then key ∷ s.dropped else s.dropped) }) client
-    (if table == 8 then record k { files = k.files + 1 } else record k { part = Slices; slices = k.slices + 1 })
+    after_item (record s { dropped = (if table == TABLE_OF_DROPPED then key ∷ s.dropped else s.dropped) }) client
+    (if table == TABLE_OF_DROPPED then record k { files = k.files + 1 } else record k { part = Slices; slices = k.slices + 1 })
 
 abbrev pub settled : ℕ → State → State
 settled commit s = record s { owed = filter (λ o. not (o.commit == commit)) s.owed }

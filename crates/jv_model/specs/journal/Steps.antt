@@ -3,6 +3,7 @@
 use Rattle.std.specs.Prelude.{◌≡◌, ℕ, ◌+◌, ◌%◌, ◌≤◌, ◌<◌, Bool, true, false, ◌&&◌, ◌||◌, not, ◌==◌, nat_le, nat_lt, if◌then◌else◌, IsTrue, MatchBool, IsSomeAnd, List, [], ◌∷◌, length, is_some, Option, None, Some, Result, Ok, Err}
 use Rattle.std.specs.List.{list_any}
 use Rattle.std.specs.Option.{option_map}
+use Rattle.jv_model.specs.declared.tables.TheConstants.{TABLE_OF_DROPPED, TABLE_OF_DEAD}
 use Rattle.jv_model.specs.declared.limits.TheConstants.{FULL_COUNT, FILE_END, WINDOW}
 use Rattle.jv_model.specs.declared.lifetimes.TheConstants.{UPLOAD_LIFE}
 use Rattle.jv_model.specs.declared.limits.TheConstants.{MAX_MISSES, MAX_ITEMS}
@@ -300,7 +301,7 @@ pub record DropsFile (s : State) (inode : ℕ) : Type 0 where
   pub once : is_among inode s.dropped ≡ false
 
 abbrev pub CleansRow : State → ModelClient → Doing → ℕ → ℕ → Type 0
-CleansRow s c d table key = MatchBool (table == 8) (CleansItem s c d Files × DropsFile s key) ((table ≡ 9) × CleansItem s c d MoreBlocks)
+CleansRow s c d table key = MatchBool (table == TABLE_OF_DROPPED) (CleansItem s c d Files × DropsFile s key) ((table ≡ TABLE_OF_DEAD) × CleansItem s c d MoreBlocks)
 
 -- a request of a cleaning found nothing more in its part; blocks of slices are removed in any number
 abbrev finds_none : State → ModelClient → ℕ → Part → Bool

@@ -3,7 +3,8 @@ use Rattle.std.specs.Prelude.{ℕ, ◌-◌, ◌*◌, ◌/◌, zero, suc, Bool, t
 use Rattle.std.specs.List.{flat_map, list_all}
 use Rattle.std.specs.Option.{option_map}
 use Rattle.std.specs.Str.{is_utf8}
-use Rattle.jv_model.specs.declared.limits.TheConstants.{MIN_BLOCK, MAX_BLOCK, MIN_VOLUME_NAME, MAX_VOLUME_NAME, MAX_BUCKET, MAX_TRASH_DAYS, MAX_CAPACITY, FULL_COUNT, SPACE_UNIT, MAX_PATH, MAX_MODE}
+use Rattle.jv_model.specs.declared.tables.TheConstants.{TABLE_OF_SETTING, TABLE_OF_COUNTERS, TABLE_OF_NODES, TABLE_OF_EDGES, TABLE_OF_LISTS, TABLE_OF_SLICES, TABLE_OF_SESSIONS, TABLE_OF_SUSTAINED, TABLE_OF_DROPPED, TABLE_OF_DEAD}
+use Rattle.jv_model.specs.declared.limits.TheConstants.{MIN_BLOCK, MAX_BLOCK, MIN_VOLUME_NAME, MAX_VOLUME_NAME, MAX_BUCKET, MAX_TRASH_DAYS, MAX_CAPACITY, FULL_COUNT, SPACE_UNIT, MAX_PATH, MAX_MODE, LAST_CLIENT}
 use Rattle.jv_model.specs.declared.setting.Setting.{Setting}
 use Rattle.jv_model.specs.declared.slice.Rec.{Rec}
 use Rattle.jv_model.specs.declared.row.Counters.{Counters}
@@ -182,7 +183,7 @@ slice_of bytes = do
 -- ---- table 6: a mounted client
 
 abbrev pub is_session : Session → Bool
-is_session s = nat_le s.client 7
+is_session s = nat_le s.client LAST_CLIENT
 
 unfoldable pub session_bytes : Session → List ℕ
 session_bytes s = byte s.client ++ long s.expiry
@@ -224,16 +225,16 @@ dead_of bytes = do
 -- the row that the bytes spell in the table of that number
 unfoldable pub row_of : ℕ → List ℕ → Option Row
 row_of tab bytes =
-    if tab == 0 then option_map OfSetting (setting_of bytes) else
-    if tab == 1 then option_map OfCounters (counters_of bytes) else
-    if tab == 2 then option_map OfNode (node_of bytes) else
-    if tab == 3 then option_map OfEdge (edge_of bytes) else
-    if tab == 4 then option_map OfList (list_of bytes) else
-    if tab == 5 then option_map OfSlice (slice_of bytes) else
-    if tab == 6 then option_map OfSession (session_of bytes) else
-    if tab == 7 then option_map (λ _. OfSustained) (sustained_of bytes) else
-    if tab == 8 then option_map OfDropped (dropped_of bytes) else
-    if tab == 9 then option_map OfDead (dead_of bytes) else
+    if tab == TABLE_OF_SETTING then option_map OfSetting (setting_of bytes) else
+    if tab == TABLE_OF_COUNTERS then option_map OfCounters (counters_of bytes) else
+    if tab == TABLE_OF_NODES then option_map OfNode (node_of bytes) else
+    if tab == TABLE_OF_EDGES then option_map OfEdge (edge_of bytes) else
+    if tab == TABLE_OF_LISTS then option_map OfList (list_of bytes) else
+    if tab == TABLE_OF_SLICES then option_map OfSlice (slice_of bytes) else
+    if tab == TABLE_OF_SESSIONS then option_map OfSession (session_of bytes) else
+    if tab == TABLE_OF_SUSTAINED then option_map (λ _. OfSustained) (sustained_of bytes) else
+    if tab == TABLE_OF_DROPPED then option_map OfDropped (dropped_of bytes) else
+    if tab == TABLE_OF_DEAD then option_map OfDead (dead_of bytes) else
     None
 
 -- its bytes

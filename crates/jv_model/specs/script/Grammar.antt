@@ -1,7 +1,7 @@
 -- The whole grammar of a script: which line a text is, if it is one. A text is the bytes of a line without its line feed.
 use Rattle.std.specs.Prelude.{ℕ, ◌+◌, ◌%◌, Bool, true, false, ◌&&◌, not, ◌==◌, nat_lt, nat_le, if◌then◌else◌, List, [], ◌∷◌, ◌++◌, length, replicate, Option, None, Some, option_map, codes, bytes_eq, sum_by}
 use Rattle.std.specs.List.{list_all, flat_map}
-use Rattle.jv_model.specs.declared.limits.TheConstants.{MAX_TICK, MAX_DATA, LAST_MOMENT}
+use Rattle.jv_model.specs.declared.limits.TheConstants.{MAX_TICK, MAX_DATA, LAST_MOMENT, MAX_SHORT_NUMBER}
 use Rattle.jv_model.specs.declared.basics.How.{How}
 use Rattle.jv_model.specs.declared.basics.How.TheVariants as how
 use Rattle.jv_model.specs.declared.op.Op.{Op}
@@ -173,7 +173,7 @@ utimes_of first second = do
 unfoldable pub compact_of : List ℕ → List ℕ → Option Op
 compact_of first second = do
   path ← path_of first
-  window ← number_up_to 4294967295 second
+  window ← number_up_to MAX_SHORT_NUMBER second
   Some (Compact path window)
 
 -- operations of two words: those of two paths, or of a target and a path, behind the others
@@ -209,8 +209,8 @@ write_of first second third = do
 unfoldable pub chown_of : List ℕ → List ℕ → List ℕ → Option Op
 chown_of first second third = do
   path ← path_of first
-  uid ← number_up_to 4294967295 second
-  gid ← number_up_to 4294967295 third
+  uid ← number_up_to MAX_SHORT_NUMBER second
+  gid ← number_up_to MAX_SHORT_NUMBER third
   Some (Chown path uid gid)
 
 -- how a rename treats a target that is there

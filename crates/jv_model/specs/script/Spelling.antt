@@ -1,7 +1,7 @@
 -- How the fields of a script's line are spelled: words, numbers, modes, digits and letters.
 use Rattle.std.specs.Prelude.{ℕ, ◌+◌, ◌-◌, ◌*◌, Bool, true, false, ◌&&◌, ◌||◌, not, ◌==◌, nat_lt, nat_le, if◌then◌else◌, List, [], ◌∷◌, length, Option, None, Some, fold}
 use Rattle.std.specs.List.{list_all}
-use Rattle.jv_model.specs.declared.limits.TheConstants.{MAX_DATA, MAX_NAME}
+use Rattle.jv_model.specs.declared.limits.TheConstants.{MAX_DATA, MAX_NAME, MAX_NUMBER, LAST_CLIENT}
 pub use Rattle.jv_model.specs.Optional.{◌>>=◌}
 use Rattle.jv_model.specs.Lists.{parted}
 
@@ -28,7 +28,7 @@ is_numeral (digit ∷ more ∷ digits) = not (digit == 48) && list_all is_decima
 
 -- a number, at most the greatest of 64 bits
 unfoldable pub number_of : List ℕ → Option ℕ
-number_of text = (if is_numeral text then at_most 18446744073709551615 (value_of 10 text) else None)
+number_of text = (if is_numeral text then at_most MAX_NUMBER (value_of 10 text) else None)
 
 -- the length of a read
 unfoldable pub length_of : List ℕ → Option ℕ
@@ -75,7 +75,7 @@ bytes_of_digits (high ∷ low ∷ digits) = byte_of high low ∷ bytes_of_digits
 
 -- a client's letter, A to H
 unfoldable pub client_of : List ℕ → Option ℕ
-client_of (letter ∷ []) = (if nat_le 65 letter && nat_le letter 72 then Some (letter - 65) else None)
+client_of (letter ∷ []) = (if nat_le 65 letter && nat_le letter (65 + LAST_CLIENT) then Some (letter - 65) else None)
 client_of _ = None
 
 -- an empty text or a comment

@@ -7,7 +7,7 @@ use Rattle.std.proofs.Common.{ap}
 use Rattle.std.specs.Ordering.{nat_cmp, on}
 use Rattle.std.specs.Cmp.{on_total}
 use Rattle.std.specs.Cmp.Lexicographic.{slice_cmp, nat_list_cmp_total}
-use Rattle.jv_model.specs.declared.limits.TheConstants.{ROOT, TRASH_ROOT, FULL_COUNT, MAX_LINKS, SPACE_UNIT, GIB}
+use Rattle.jv_model.specs.declared.limits.TheConstants.{ROOT, TRASH_ROOT, FULL_COUNT, MAX_LINKS, SPACE_UNIT, GIB, FULL_MODE, READ_ONLY_MODE}
 use Rattle.jv_model.specs.declared.setting.Setting.{Setting}
 use Rattle.jv_model.specs.FiniteMap.{KeyOrder, Map, number_key, text_key, empty_map, get, insert, first_where, sum_over}
 use Rattle.jv_model.specs.Lists.{first_number}
@@ -94,27 +94,15 @@ trash_root = TRASH_ROOT
 abbrev pub in_trash : ℕ → Bool
 in_trash dir = nat_le trash_root dir
 
--- a stored number that stands here refuses to grow
-abbrev pub full_count : ℕ
-full_count = FULL_COUNT
-
 abbrev pub new_node : Kind → ℕ → ℕ → Node
 new_node kind mode now = record { kind = kind; mode = mode; uid = 0; gid = 0; mtime = now; ctime = now }
-
--- all permissions, 0777
-abbrev pub full_mode : ℕ
-full_mode = 511
-
--- no permission to write, 0555
-abbrev pub read_only_mode : ℕ
-read_only_mode = 365
 
 -- the tree of a volume that was just formatted
 abbrev pub fresh_tree : Setting → ℕ → Tree
 fresh_tree setting now = record {
   setting = setting;
-  nodes = insert (insert empty_map root (new_node (Directory root) full_mode now))
-      trash_root (new_node (Directory root) read_only_mode now);
+  nodes = insert (insert empty_map root (new_node (Directory root) FULL_MODE now))
+      trash_root (new_node (Directory root) READ_ONLY_MODE now);
   entries = empty_map;
   sessions = empty_map;
   sustained = empty_map;
@@ -149,10 +137,10 @@ used_inodes t = sum_over node_count t.nodes
 
 -- the limits in bytes and inodes; a limit of 0 in the setting stands for 2^62
 abbrev pub space_limit : Setting → ℕ
-space_limit s = (if s.capacity == 0 then full_count else s.capacity * GIB)
+space_limit s = (if s.capacity == 0 then FULL_COUNT else s.capacity * GIB)
 
 abbrev pub inode_limit : Setting → ℕ
-inode_limit s = (if s.inodes == 0 then full_count else s.inodes)
+inode_limit s = (if s.inodes == 0 then FULL_COUNT else s.inodes)
 
 -- whether a sum may become `after`: it is within its limit, or didn't grow
 abbrev pub sum_fits : ℕ → ℕ → ℕ → Bool
