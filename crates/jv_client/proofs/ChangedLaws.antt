@@ -13,9 +13,10 @@ use Rattle.jv_model.specs.declared.op.Reply.TheVariants as reply
 use Rattle.jv_model.specs.declared.profile.Does.TheVariants as does
 use Rattle.jv_model.specs.tree.FileBytes.{copy, truncate}
 use Rattle.jv_model.specs.journal.Steps.{told_of}
+use Rattle.jv_model.specs.client.OpForms.{changes_bytes}
+use Rattle.jv_model.specs.tree.Trash.{due_after}
 use Rattle.jv_outside.specs.Store.{Store}
 use Rattle.jv_data.specs.Changing.{AnyTold, Changes, IsCrowded, Never, count_in}
-use Rattle.jv_data.specs.Truncating.{due_after}
 use Rattle.jv_metadata.specs.Attempts.{mapped}
 use Rattle.jv_shared.specs.Shared.{Shared}
 use Rattle.jv_handles.specs.Handles.{inode_here}
@@ -25,7 +26,7 @@ use Rattle.jv_client.specs.declared.doing.Doing.{Doing}
 use Rattle.jv_client.specs.declared.made.Made.{Made}
 use Rattle.jv_client.specs.declared.made.Made.TheVariants.{Both}
 use Rattle.jv_client.specs.ClientValue.{ClientValue, session_here}
-use Rattle.jv_client.specs.Changing.{TriesChange, TriesCopy, TriesTruncate, copied_to, cut_to, is_change}
+use Rattle.jv_client.specs.Changing.{TriesChange, TriesCopy, TriesTruncate, copied_to, cut_to}
 use Rattle.jv_client.specs.Ending.{ended, told_here}
 use Rattle.jv_client.specs.UnderWay.{ClosesOpen, IsReady, changes_files, left}
 use Rattle.jv_client.specs.Makes.{Makes}
@@ -53,12 +54,12 @@ mapped-err {A} f (Err other) fault e =
 
 -- it may be tried
 pub may-try : (h : ClientValue) (d : Doing) → h.doing ≡ Some d → IsReady h → IsTrue (changes_files d.does)
-    → IsTrue (is_change d.op)
+    → IsTrue (changes_bytes d.op)
 may-try h d busy ready changes = by_form (changes-one h d changes busy ready)
   where
-    by_form : ChangesOne h d → IsTrue (is_change d.op)
-    by_form (OfTruncate handle len file of_op of_does opened) = ap is_change of_op
-    by_form (OfCopy source from target to len file other of_op of_does opened there) = ap is_change of_op
+    by_form : ChangesOne h d → IsTrue (changes_bytes d.op)
+    by_form (OfTruncate handle len file of_op of_does opened) = ap changes_bytes of_op
+    by_form (OfCopy source from target to len file other of_op of_does opened there) = ap changes_bytes of_op
 
 -- the handle of a close is open once views of a file are dropped
 pub closes-blind : (h : ClientValue) (inode : ℕ) → IsTrue (is_some h.doing) → IsReady h

@@ -1,5 +1,5 @@
 -- What the transaction of a truncate or a copy promises, without a journal.
-use Rattle.std.specs.Prelude.{◌≡◌, ℕ, Bool, true, false, List, Option, Result}
+use Rattle.std.specs.Prelude.{◌≡◌, ℕ, List, Option, Result}
 use Rattle.jv_model.specs.declared.act.ActKind.TheVariants.{Truncated, Copied}
 use Rattle.jv_model.specs.declared.basics.Who.{Who}
 use Rattle.jv_model.specs.declared.fault.TxFault.{TxFault}
@@ -9,20 +9,14 @@ use Rattle.jv_model.specs.declared.op.Op.TheVariants as op
 use Rattle.jv_model.specs.declared.op.Reply.TheVariants.{Done, Count}
 use Rattle.jv_model.specs.tree.Caller.{Caller}
 use Rattle.jv_model.specs.tree.FileBytes as model
+use Rattle.jv_model.specs.tree.Trash.{due_after}
 use Rattle.jv_outside.specs.Store.{Store}
 use Rattle.jv_rows.specs.Transactions.{IsFor}
 use Rattle.jv_data.specs.Changing.{Changes, AnyTold, IsCrowded, Never, count_in}
-use Rattle.jv_data.specs.Truncating.{due_after}
 use Rattle.jv_metadata.specs.Attempts.{mapped}
 use Rattle.jv_handles.specs.declared.handle.Handle.{Handle}
 use Rattle.jv_handles.specs.Handles.{inode_here}
 use Rattle.jv_client.specs.declared.changes.Changed.{Changed}
-
--- the operations that change the bytes of a file in one transaction
-abbrev pub is_change : Op → Bool
-is_change (op.Truncate handle len) = true
-is_change (op.Copy source from target to len) = true
-is_change o = false
 
 -- a file that was made so long
 abbrev pub cut_to : ℕ → ℕ → Changed

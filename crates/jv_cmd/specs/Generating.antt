@@ -1,5 +1,5 @@
 -- What a session is whose script is drawn from a seed: one that reads the script's text, but that prints a summary in place of answers.
-use Rattle.std.specs.Prelude.{◌≡◌, ◌≢◌, ℕ, Bool, true, false, ◌==◌, if◌then◌else◌, List, [], ◌∷◌, ◌++◌, length, drop, Option, None, Some, unwrap_or, IsSomeAnd, codes, decimal}
+use Rattle.std.specs.Prelude.{◌≡◌, ◌≢◌, ℕ, Bool, false, ◌==◌, if◌then◌else◌, List, [], ◌∷◌, ◌++◌, length, drop, Option, None, Some, unwrap_or, IsSomeAnd, codes, decimal}
 use Rattle.std.specs.List.{flat_map}
 use Rattle.jv_model.specs.declared.fault.Device.{Device}
 use Rattle.jv_model.specs.declared.fault.Fault.TheVariants.{NotFound}
@@ -12,6 +12,7 @@ use Rattle.jv_model.specs.declared.op.Reply.TheVariants.{Refused, Data, Done}
 use Rattle.jv_model.specs.script.Grammar.{data_of}
 use Rattle.jv_model.specs.script.Printed.{hex_pair, number_word}
 use Rattle.jv_model.specs.script.ReplyText.{mode_digits}
+use Rattle.jv_model.specs.client.OpForms.{is_read as is_read_op}
 use Rattle.jv_outside.specs.Causes.{RoseTimes}
 use Rattle.jv_outside.specs.Stream.{Stream, HasAll, IsCut}
 use Rattle.jv_client.specs.Makes.{faults_of}
@@ -66,10 +67,6 @@ script_text seed = flat_map line_text (script seed)
 -- the bytes that the DATA of an answer spells
 abbrev pub spelled_bytes : List ℕ → List ℕ
 spelled_bytes digits = unwrap_or (data_of digits) []
-
-abbrev pub is_read_op : Op → Bool
-is_read_op (Read handle position size) = true
-is_read_op _ = false
 
 abbrev pub is_read : Line → Bool
 is_read (Do client operation) = is_read_op operation

@@ -1,8 +1,9 @@
 //! An operation's transaction.
 ghost use Rattle.std.specs.Prelude.{◌≡◌, IsTrue};
-ghost use Rattle.jv_metadata.specs.Attempts.{AnswersPlainly, Asks, attempt, is_metadata, is_spelled, TellsKept};
+ghost use Rattle.jv_metadata.specs.Attempts.{AnswersPlainly, Asks, attempt, is_spelled, TellsKept};
 ghost use Rattle.jv_links.specs.Removals.{HoldsFiles};
 ghost use Rattle.jv_model.specs.tree.Caller.{Caller};
+ghost use Rattle.jv_model.specs.client.OpForms.{is_metadata};
 ghost use Rattle.jv_rows.specs.Transactions.{IsFor, Transacts};
 
 use crate::answers::{

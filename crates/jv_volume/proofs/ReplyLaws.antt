@@ -28,7 +28,8 @@ use Rattle.jv_model.specs.tree.Renaming.{renamed, replacing, exchanging, unless_
 use Rattle.jv_model.specs.tree.Sessions.{with_session, mount, beat, umount, release}
 use Rattle.jv_model.specs.tree.FileBytes.{truncate, copy_bytes, copy}
 use Rattle.jv_model.specs.tree.TreeAct.{tree_act}
-use Rattle.jv_volume.specs.Holding.{is_mount_op, opens_file, is_device_or_memory}
+use Rattle.jv_model.specs.client.OpForms.{is_mount_op, opens_file}
+use Rattle.jv_volume.specs.Holding.{is_device_or_memory}
 use Rattle.jv_volume.proofs.WalkShapeLaws.{onwards}
 
 -- The refusals of operations on the tree. One by a session that is gone is by the caller's.
