@@ -20,14 +20,15 @@ use jv_outside::Keeper;
 use jv_rows::{Draft, adjust, key_of_list, needed_setting, next_list, read_slice, spell_list};
 use std::alloc::Global;
 
-/// Makes a file `len` bytes long, and sets its times. Bytes past a lower end are gone, and those up to a greater one read
-/// zero. A slice that nothing names any more is dead, and its blocks may be removed `trash-days` days later.
+/// Makes a file `len` bytes long, and sets its times. Bytes past a lower end are gone, and those up to a greater one
+/// read zero. A slice that nothing names any more is dead, and its blocks may be removed `trash-days` days later.
+/// POSIX.1-2017, ftruncate.
 ///
 /// # Errors
 ///
-/// Stale where the session is gone, or the inode isn't a file's; then FileTooLarge for a length past 2^40; then NoSpace where
-/// the volume has no room. Bad for a malformed row, or without bytes where a row is absent that has to be there. Failed if the
-/// keeper failed. Memory.
+/// Stale where the session is gone, or the inode isn't a file's; then FileTooLarge for a length past 2^40; then NoSpace
+/// where the volume has no room. Bad for a malformed row, or without bytes where a row is absent that has to be there.
+/// Failed if the keeper failed. Memory. On error no row has changed.
 pub fn truncate<K: Keeper>(
     alloc: Global,
     k: &mut K,
