@@ -50,7 +50,7 @@ mapped-err f (Ok x) fault e = absurd (cc e)
 mapped-err {A} f (Err other) fault e =
     let same : other ≡ fault = cc e in ap (λ (fault : TxFault). let result : Result A TxFault = Err fault in result) same
 
--- ---- what is wanted before it
+-- ---- what is needed before it
 
 -- it may be tried
 pub may-try : (h : ClientValue) (d : Doing) → h.doing ≡ Some d → IsReady h → IsTrue (changes_files d.does)

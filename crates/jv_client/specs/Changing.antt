@@ -18,7 +18,7 @@ use Rattle.jv_handles.specs.declared.handle.Handle.{Handle}
 use Rattle.jv_handles.specs.Handles.{inode_here}
 use Rattle.jv_client.specs.declared.changes.Changed.{Changed}
 
--- a file that was made so long
+-- a file that was made `len` bytes long
 abbrev pub cut_to : ℕ → ℕ → Changed
 cut_to inode len = record { kind = Truncated inode len; reply = Done; inode = inode }
 

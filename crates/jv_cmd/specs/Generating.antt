@@ -128,7 +128,7 @@ abbrev pub RunsScript : Option ℕ → (Device → ℕ) → StageValue → Stage
 RunsScript None answers before after ended = RunsLines answers before after ended
 RunsScript (Some seed) answers before after ended = RunsDrawn seed answers before after ended
 
--- the run of a script ended, and so often each device failed and an operation was answered so
+-- the run of a script ended; `answers` is how often each device failed and an operation was answered so
 pub record EndsScript (seed : Option ℕ) (before after : StageValue) (ended : Ended) : Type 0 where
   pub answers : Device → ℕ
   pub runs : RunsScript seed answers before after ended

@@ -32,7 +32,7 @@ fn find_linkable<K: Keeper>(alloc: Global, k: &mut K, sid: u64, path: &Path) -> 
     Ok(node.inode)
 }
 
-// The links of a directory as its row has them, which are never too many: the proof wants the bound of their type, as an entry of
+// The links of a directory as its row has them, which are never too many: the proof needs the bound of their type, as an entry of
 // a file or a symlink adds none to them.
 fn stored_links(links: u32) -> u32
     ensures is { result ≡ links }

@@ -10,7 +10,7 @@ type Write = (u64, &'static str);
 /// A window, a position in it, and the text of the segment that begins there.
 type Segment = (u32, u32, &'static str);
 
-/// Writes texts, and takes out the segments that are wanted, the least one first.
+/// Writes texts, and takes out the segments that are asked for, the least one first.
 fn assert_leaves(
     rt: &(impl Abort + AllocGlobal),
     name: &str,

@@ -23,7 +23,7 @@ use Rattle.jv_reading.specs.declared.table.BlockKey.{BlockKey}
 use Rattle.jv_reading.specs.declared.copying.Overlap.{Overlap}
 use Rattle.jv_reading.specs.Overlaps.{BeginsBy, HasOverlaps, IsByteOf, IsListed, IsOverlap, Entries, Overlaps, ShowsPiece, key_cmp, key_of, or_none, overlaps_under, reaches, with_overlap}
 
--- the table's order takes blocks as equal exactly where they are the same
+-- the table's order takes blocks as equal if and only if they are the same
 pub same_at : (a b : BlockId) → is_at (key_cmp (key_of a)) (key_of b) ≡ is_same_block a b
 same_at a b =
     then_eq a.id b.id (ordering_then (nat_cmp a.index b.index) (nat_cmp a.size b.size))
