@@ -33,12 +33,11 @@ struct Course {
 }
 
 /// Copies at most `len` bytes of the file `src` from the position `from` on, as far as it goes, to the position `to` of
-/// the file `dst`, which may be the same, and returns how many. Each list of the target gets, behind what it had,
-/// a record for every piece that [`jv_slices::plan`] finds in what is copied into its window; a hole is a piece, too, and
+/// the file `dst`, which may be the same, and returns how many. Each list of the target gets, behind what it had, a
+/// record for every piece that [`jv_slices::plan`] finds in what is copied into its window; a hole is a piece, too, and
 /// each window of the source has a plan of its own. So there is at most one for each byte copied. No block is read or
-/// written. The target reaches at least to
-/// the last byte copied, and its times are set. No slice dies. A copy of 0 bytes changes nothing. Linux,
-/// copy_file_range.
+/// written. The target reaches at least to the last byte copied, and its times are set. No slice dies. A copy of 0
+/// bytes changes nothing. Linux, copy_file_range.
 ///
 /// # Errors
 ///
