@@ -19,6 +19,7 @@ use Rattle.jv_model.specs.client.Submission.{is_flushed}
 use Rattle.jv_model.specs.client.ModelClient.{ModelClient, Working as AtWork, inode_at, with_file}
 use Rattle.jv_model.specs.journal.State.{State, after_told}
 use Rattle.jv_model.specs.journal.Steps.{Start}
+use Rattle.jv_model.specs.client.OpForms.{is_umount}
 use Rattle.jv_steps.specs.IsStep.{IsStep}
 use Rattle.jv_steps.proofs.AnswerStepLaws.{closed-at_once, flushed-at_once, read-at_once, stats-answered}
 use Rattle.jv_shared.specs.Shared.{HasStore, Known, Shared}
@@ -39,7 +40,7 @@ use Rattle.jv_client.proofs.EndingLaws.{holds-told, keeps_bytes}
 use Rattle.jv_client.proofs.KeptLaws.{client-ended, client-told}
 use Rattle.jv_client.proofs.AnswerLaws.{Rests, ended-rests, makes-as, makes-ended, request-lands, rests-flight, same-yard}
 use Rattle.jv_client.proofs.AnswerLaws.{told-rests, uses-none}
-use Rattle.jv_client.specs.CacheUse.{CacheUse, is_umount}
+use Rattle.jv_client.specs.CacheUse.{CacheUse}
 use Rattle.jv_client.specs.Stats.{IsStatsOf, AnswersNumbers}
 use Rattle.jv_client.proofs.CacheUseLaws.{cache-ended, cache-stays}
 use Rattle.jv_client.proofs.FormLaws.{flushed-same, none_left, nothing_asked, under_way}

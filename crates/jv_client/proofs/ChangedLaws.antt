@@ -13,11 +13,11 @@ use Rattle.jv_model.specs.declared.op.Reply.TheVariants as reply
 use Rattle.jv_model.specs.declared.profile.Does.TheVariants as does
 use Rattle.jv_model.specs.tree.FileBytes.{copy, truncate}
 use Rattle.jv_model.specs.journal.Steps.{told_of}
+use Rattle.jv_model.specs.client.OpForms.{changes_bytes}
+use Rattle.jv_model.specs.tree.Trash.{due_after}
 use Rattle.jv_outside.specs.Store.{Store}
 use Rattle.jv_data.specs.Changing.{AnyTold, Changes, IsCrowded, Never, count_in}
-use Rattle.jv_data.specs.Truncating.{due_after}
 use Rattle.jv_metadata.specs.Attempts.{mapped}
-use Rattle.jv_volume.specs.Holding.{changes_bytes}
 use Rattle.jv_shared.specs.Shared.{Shared}
 use Rattle.jv_handles.specs.Handles.{inode_here}
 use Rattle.jv_handles.proofs.TableLaws.{the_some}
@@ -50,7 +50,7 @@ mapped-err f (Ok x) fault e = absurd (cc e)
 mapped-err {A} f (Err other) fault e =
     let same : other ≡ fault = cc e in ap (λ (fault : TxFault). let result : Result A TxFault = Err fault in result) same
 
--- ---- what is wanted before it
+-- ---- what is needed before it
 
 -- it may be tried
 pub may-try : (h : ClientValue) (d : Doing) → h.doing ≡ Some d → IsReady h → IsTrue (changes_files d.does)

@@ -25,10 +25,11 @@ use Rattle.jv_model.specs.client.ModelClient.{ModelClient, inode_at}
 use Rattle.jv_model.specs.client.Profile.{handle_of}
 use Rattle.jv_model.specs.client.Submission.{is_flushed}
 use Rattle.jv_model.specs.journal.State.{State, after_told, caller, without_views}
+use Rattle.jv_model.specs.client.OpForms.{is_umount}
+use Rattle.jv_model.specs.tree.Trash.{due_after}
 use Rattle.jv_outside.specs.Store.{Store}
 use Rattle.jv_rows.specs.Transactions.{IsFor}
 use Rattle.jv_data.specs.Changing.{AnyTold, Changes, IsCrowded, Never, count_in}
-use Rattle.jv_data.specs.Truncating.{due_after}
 use Rattle.jv_volume.specs.Holding.{Stays}
 use Rattle.jv_shared.specs.Keeping.{KeepsShared}
 use Rattle.jv_shared.specs.Shared.{HasStore, Known, Shared}
@@ -47,7 +48,6 @@ use Rattle.jv_client.specs.Held.{IsClient, IsHeld, Holds, in_flight}
 use Rattle.jv_client.specs.UnderWay.{IsReady, changes_files, left}
 use Rattle.jv_client.specs.Makes.{Makes, StepsTo}
 use Rattle.jv_client.specs.Transacting.{EndsUnmade}
-use Rattle.jv_client.specs.CacheUse.{is_umount}
 use Rattle.jv_client.proofs.CacheUseLaws.{cache-stays}
 use Rattle.jv_client.proofs.AnswerLaws.{request-lands}
 use Rattle.jv_client.proofs.HeldLaws.{client-doing, doing_of, holds-doing, holds-later}

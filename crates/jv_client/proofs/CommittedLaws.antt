@@ -21,6 +21,7 @@ use Rattle.jv_model.specs.client.Profile.{handle_of}
 use Rattle.jv_model.specs.client.ModelClient.{ModelClient, Working, is_last_of_removed}
 use Rattle.jv_model.specs.journal.State.{State, after_told, answer_then, finished}
 use Rattle.jv_model.specs.journal.Steps.{told_of}
+use Rattle.jv_model.specs.client.OpForms.{is_umount, is_write}
 use Rattle.jv_outside.specs.Causes.{RoseIf}
 use Rattle.jv_outside.specs.Store.{Store}
 use Rattle.jv_volume.proofs.HoldingLaws.{stays-committed}
@@ -42,13 +43,12 @@ use Rattle.jv_client.specs.UnderWay.{IsReady, answer_here, ends_itself, left, le
 use Rattle.jv_client.specs.Makes.{IsCalm, Makes, StepsTo, TellsBad, UsesDevices, asks_nothing, faults_of}
 use Rattle.jv_client.specs.Makes.{step_of, tells_failure}
 use Rattle.jv_client.specs.Flushing.{Follows, Answers, Writes, GoesOn, written_alone}
-use Rattle.jv_client.specs.CacheUse.{is_umount}
 use Rattle.jv_client.proofs.CacheUseLaws.{cache-ended, cache-stays}
 use Rattle.jv_client.proofs.AfterCommitLaws.{falls-without, way-without}
 use Rattle.jv_client.proofs.AnswerLaws.{Rests, makes-as, makes-ended, rests-flight, same-yard, told-rests}
 use Rattle.jv_client.proofs.CommitLaws.{IsCommit, grown, leads-answered, leads-left, leads-then}
 use Rattle.jv_client.proofs.CommitLaws.{number-is, record_for, rest, segment, used, without}
-use Rattle.jv_client.proofs.EndingLaws.{holds-told, is_write, keeps_bytes}
+use Rattle.jv_client.proofs.EndingLaws.{holds-told, keeps_bytes}
 use Rattle.jv_client.proofs.EndsAfterLaws.{answered-so, goes-on, told-same, waits-to_write}
 use Rattle.jv_client.proofs.HeldLaws.{doing_of, holds-doing}
 use Rattle.jv_client.proofs.KeptLaws.{moved-client, told-client}

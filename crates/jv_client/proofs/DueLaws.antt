@@ -15,7 +15,7 @@ use Rattle.jv_model.specs.client.Pending.{PendingByte}
 use Rattle.jv_model.specs.client.Profile.{handle_of}
 use Rattle.jv_model.specs.client.Submission.{is_flushed}
 use Rattle.jv_model.specs.journal.Steps.{transacts}
-use Rattle.jv_metadata.specs.Attempts.{is_metadata}
+use Rattle.jv_model.specs.client.OpForms.{is_tried, is_metadata, is_transaction}
 use Rattle.jv_steps.proofs.GiftLaws.{IsDirect}
 use Rattle.jv_handles.specs.declared.handle.Handle.{Handle}
 use Rattle.jv_client.specs.declared.doing.Doing.{Doing}
@@ -25,9 +25,8 @@ use Rattle.jv_client.specs.ClientValue.{ClientValue}
 use Rattle.jv_client.specs.Held.{flush_of_code, is_last_here, stage_of}
 use Rattle.jv_client.specs.UnderWay.{FlushesFor, Closes, Syncs, Describes, ReadsNothing, Reads, Truncates, IsForm}
 use Rattle.jv_client.specs.UnderWay.{Mounts, Transacts, Leaves, Writes, Flushes, Copies, TellsStats, IsAt}
-use Rattle.jv_client.specs.UnderWay.{IsReady, asks_more, changes_files, has_segment, is_transaction, left}
+use Rattle.jv_client.specs.UnderWay.{IsReady, asks_more, changes_files, has_segment, left}
 use Rattle.jv_client.specs.UnderWay.{left_of, makes_transaction}
-use Rattle.jv_client.specs.Transacting.{is_tried}
 use Rattle.jv_client.proofs.FormLaws.{no_quiets, under_way}
 
 -- ---- it made no request yet

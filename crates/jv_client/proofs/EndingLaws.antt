@@ -16,6 +16,7 @@ use Rattle.jv_model.specs.client.Pending.{PendingByte, pending_of_others}
 use Rattle.jv_model.specs.client.ModelClient.{ModelClient, OpenFile, unmounted, with_file, inode_at, held_inodes}
 use Rattle.jv_model.specs.journal.State.{after_told, finished, refused_as}
 use Rattle.jv_model.specs.Lists.{is_among}
+use Rattle.jv_model.specs.client.OpForms.{is_write}
 use Rattle.jv_volume.specs.Holding.{IsHoldable}
 use Rattle.jv_shared.specs.Shared.{Known, Shared}
 use Rattle.jv_handles.specs.Handles.{inode_here}
@@ -27,10 +28,6 @@ use Rattle.jv_client.proofs.LastLaws.{inode-same, is_last-same}
 use Rattle.jv_client.proofs.HeldLaws.{held-doing, holds-doing, holds-unmounted}
 
 -- a write that is done keeps its bytes
-abbrev pub is_write : Op → Bool
-is_write (op.Write handle offset bytes) = true
-is_write _ = false
-
 abbrev pub keeps_bytes : Op → Told → Bool
 keeps_bytes o (Fine a b c d) = is_write o
 keeps_bytes o (Looks first second len) = is_write o

@@ -14,6 +14,7 @@ use Rattle.jv_model.specs.client.Profile.{handle_of}
 use Rattle.jv_model.specs.client.ModelClient.{ModelClient, file_of, is_last_of_removed}
 use Rattle.jv_model.specs.journal.State.{answer_then}
 use Rattle.jv_model.specs.journal.Steps.{told_of}
+use Rattle.jv_model.specs.client.OpForms.{is_write, is_transaction}
 use Rattle.jv_handles.specs.declared.handle.Handle.{Handle}
 use Rattle.jv_client.specs.declared.doing.Doing.{Doing}
 use Rattle.jv_client.specs.declared.doing.Flush.TheVariants as flush
@@ -22,10 +23,9 @@ use Rattle.jv_client.specs.Held.{is_last_here, segment_left}
 use Rattle.jv_client.specs.UnderWay.{FlushesFor, Closes, Syncs, Describes, ReadsNothing, Reads}
 use Rattle.jv_client.specs.UnderWay.{Truncates as FlushTruncates}
 use Rattle.jv_client.specs.UnderWay.{HasRoom, Beside, Alone, IsForm, Mounts, Transacts, Leaves, Writes, Flushes, Copies}
-use Rattle.jv_client.specs.UnderWay.{TellsStats, answer_here, ends_itself, is_transaction}
+use Rattle.jv_client.specs.UnderWay.{TellsStats, answer_here, ends_itself}
 use Rattle.jv_client.specs.Flushing.{without_segment, written_alone}
 use Rattle.jv_client.proofs.AfterCommitLaws.{still-open}
-use Rattle.jv_client.proofs.EndingLaws.{is_write}
 use Rattle.jv_client.proofs.HeldLaws.{doing_of}
 
 -- an answer after a flush: the model's, of no write

@@ -11,6 +11,7 @@ use Rattle.jv_model.specs.client.Pending.{PendingByte}
 use Rattle.jv_model.specs.client.ModelClient.{file_of}
 use Rattle.jv_model.specs.client.Profile.{handle_of}
 use Rattle.jv_model.specs.client.Submission.{is_flushed}
+use Rattle.jv_model.specs.client.OpForms.{is_transaction}
 use Rattle.jv_handles.specs.declared.handle.Handle.{Handle}
 use Rattle.jv_client.specs.declared.doing.Doing.{Doing}
 use Rattle.jv_client.specs.declared.doing.Flush.{Flush}
@@ -22,7 +23,7 @@ use Rattle.jv_client.specs.Held.{flush_of_code, is_last_here}
 use Rattle.jv_client.specs.UnderWay.{ClosesOpen, Closes, Copies, Describes, Flushes, FlushesFor, IsAt, IsForm, IsReady}
 use Rattle.jv_client.specs.UnderWay.{IsUnderWay, IsWorking, Leaves, Mounts, Reads, ReadsNothing, Syncs, TellsStats}
 use Rattle.jv_client.specs.UnderWay.{Transacts, Truncates, Writes, asks_more, does_of, ends_itself, has_more, has_segment}
-use Rattle.jv_client.specs.UnderWay.{is_transaction, left, left_of}
+use Rattle.jv_client.specs.UnderWay.{left, left_of}
 
 -- ---- the operation in progress
 

@@ -21,6 +21,7 @@ use Rattle.jv_model.specs.journal.Reading.{Asked, asked_parts, fresh_view}
 use Rattle.jv_model.specs.journal.State.{State, after_told, sees_first}
 use Rattle.jv_model.specs.journal.Steps.{file_in_use, is_failure}
 use Rattle.jv_model.specs.blocks.BlockNames.{name_in}
+use Rattle.jv_model.specs.client.OpForms.{is_read, is_umount}
 use Rattle.jv_outside.specs.Causes.{RoseIf}
 use Rattle.jv_cache.specs.Cached.{Cached}
 use Rattle.jv_contents.specs.Blocks.{Blocks, told_by}
@@ -59,7 +60,7 @@ use Rattle.jv_client.specs.ClientValue.{ClientValue}
 use Rattle.jv_client.specs.Getting.{Fills, IsMissed, IsUnread, yard_fault}
 use Rattle.jv_client.specs.Held.{Holds, IsClient, IsHeld, in_flight}
 use Rattle.jv_client.specs.Makes.{Makes, StepsTo, TellsBad, UsesDevices, faults_of, step_of, tells_failure}
-use Rattle.jv_client.specs.CacheUse.{KeepsOne, LooksOnly, MovesInRead, is_read, is_umount}
+use Rattle.jv_client.specs.CacheUse.{KeepsOne, LooksOnly, MovesInRead}
 use Rattle.jv_client.specs.Reading.{GoesAhead, LookedUp, read_of, told_read}
 use Rattle.jv_client.proofs.CacheUseLaws.{cache-read}
 use Rattle.jv_client.specs.YardUse.{PutsNone, YardUse}

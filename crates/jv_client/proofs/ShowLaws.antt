@@ -17,6 +17,7 @@ use Rattle.jv_model.specs.client.ModelClient.{ModelClient, Doing as ModelDoing, 
 use Rattle.jv_model.specs.client.Profile.{handle_of}
 use Rattle.jv_model.specs.journal.Reading.{asked_parts}
 use Rattle.jv_model.specs.journal.State.{State}
+use Rattle.jv_model.specs.client.OpForms.{is_read, is_umount}
 use Rattle.jv_cache.specs.Cached.{Cached}
 use Rattle.jv_contents.specs.Blocks.{Blocks, told_by}
 use Rattle.jv_shared.specs.Shared.{HasStore, Known, Shared}
@@ -41,7 +42,7 @@ use Rattle.jv_client.specs.Makes.{Makes, tells_failure}
 use Rattle.jv_client.specs.Transacting.{Fails}
 use Rattle.jv_client.specs.UnderWay.{IsReady, asks_more, does_of, has_more, has_not_seen, has_segment, left}
 use Rattle.jv_client.specs.Reading.{Begins, IsAhead, IsCachedAs, ReadsAtOnce, Shows, need_in, read_of, told_read}
-use Rattle.jv_client.specs.CacheUse.{CacheUse, LooksOnly, is_read, is_umount}
+use Rattle.jv_client.specs.CacheUse.{CacheUse, LooksOnly}
 use Rattle.jv_client.proofs.CacheUseLaws.{cache-read}
 use Rattle.jv_client.proofs.FormLaws.{under_way}
 use Rattle.jv_client.proofs.HeldLaws.{client-doing, doing_of, holds-doing}

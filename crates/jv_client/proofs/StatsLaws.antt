@@ -77,7 +77,7 @@ module _ (h : ClientValue) (done : Made) where
   pub stats-flushing : (segment : Segment) → IsReady h → left h ≡ Some segment → AnswersStats h done
   stats-flushing segment ready next = stats-other (left_in segment h.doing ready.doing next)
 
--- the numbers that were told
+-- the numbers that were answered
 pub stats-told : (h : ClientValue) (done : Made) → IsStatsOf h done → AnswersStats h done
 stats-told h done numbers = by_doing h.doing
   where

@@ -24,13 +24,13 @@ use Rattle.jv_model.specs.journal.State.{State, Gift, after_told, caller, gift_o
 use Rattle.jv_model.specs.journal.State.{newly_sustained, transacted}
 use Rattle.jv_model.specs.journal.Steps.{entry_of_gift, told_of, transacts}
 use Rattle.jv_model.specs.Lists.{is_among}
+use Rattle.jv_model.specs.client.OpForms.{is_metadata, takes_entries, is_write}
 use Rattle.jv_outside.specs.Store.{Store}
-use Rattle.jv_volume.specs.Holding.{takes_entries}
 use Rattle.jv_volume.proofs.HoldingLaws.{sustains_none, sustains_held}
 use Rattle.jv_volume.proofs.OpeningLaws.{opened_file}
 use Rattle.jv_links.specs.Removals.{HoldsFiles, is_inode}
 use Rattle.jv_metadata.specs.declared.answers.Answer.{Answer}
-use Rattle.jv_metadata.specs.Attempts.{KeepsOne, TellsKept, attempt, is_metadata}
+use Rattle.jv_metadata.specs.Attempts.{KeepsOne, TellsKept, attempt}
 use Rattle.jv_shared.specs.Keeping.{KeepsShared}
 use Rattle.jv_shared.specs.Shared.{HasStore, Known, Shared}
 use Rattle.jv_handles.specs.Handles.{held_here, inode_here}
@@ -57,7 +57,7 @@ use Rattle.jv_client.proofs.CacheUseLaws.{cache-ended}
 use Rattle.jv_client.proofs.AnswerLaws.{Rests, makes-ended, request-lands, rests-flight, same-yard, told-rests}
 use Rattle.jv_client.proofs.HeldLaws.{client-doing, doing_of, holds-later}
 use Rattle.jv_client.proofs.LastLaws.{is_last-same}
-use Rattle.jv_client.proofs.EndingLaws.{holds-told, is_write, keeps_bytes}
+use Rattle.jv_client.proofs.EndingLaws.{holds-told, keeps_bytes}
 use Rattle.jv_client.proofs.KeptLaws.{cache-goes, held-goes, told-client}
 use Rattle.jv_client.proofs.ClosingLaws.{closes-given}
 use Rattle.jv_client.proofs.DueLaws.{IsFirst, MakesOne, OfMount, OfMetadata, first-flushed, first-stage}

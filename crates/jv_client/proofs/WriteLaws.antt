@@ -12,6 +12,7 @@ use Rattle.jv_model.specs.declared.profile.Does.TheVariants as does
 use Rattle.jv_model.specs.client.Pending.{first_segment, written}
 use Rattle.jv_model.specs.client.ModelClient.{file_of}
 use Rattle.jv_model.proofs.PendingLaws.{no_first_segment}
+use Rattle.jv_model.specs.client.OpForms.{is_umount}
 use Rattle.jv_pending.specs.Held.{PendingValue}
 use Rattle.jv_steps.proofs.AnswerStepLaws.{written-at_once}
 use Rattle.jv_handles.specs.declared.handle.Handle.{Handle}
@@ -28,7 +29,6 @@ use Rattle.jv_client.proofs.HeldLaws.{client-doing, doing_of}
 use Rattle.jv_client.proofs.KeptLaws.{held-goes}
 use Rattle.jv_client.proofs.AnswerLaws.{makes-as}
 use Rattle.jv_client.proofs.FormLaws.{flushed-same, none_left, under_way}
-use Rattle.jv_client.specs.CacheUse.{is_umount}
 use Rattle.jv_client.proofs.CacheUseLaws.{cache-stays}
 use Rattle.jv_client.proofs.AtOnceLaws.{answers-makes, is_done}
 use Rattle.jv_client.proofs.WrittenLaws.{model_wrote, wrote, wrote-client, wrote-holds}

@@ -9,16 +9,16 @@ use Rattle.jv_model.specs.declared.op.Op.TheVariants as op
 use Rattle.jv_model.specs.declared.op.Reply.TheVariants.{Done, Count}
 use Rattle.jv_model.specs.tree.Caller.{Caller}
 use Rattle.jv_model.specs.tree.FileBytes as model
+use Rattle.jv_model.specs.tree.Trash.{due_after}
 use Rattle.jv_outside.specs.Store.{Store}
 use Rattle.jv_rows.specs.Transactions.{IsFor}
 use Rattle.jv_data.specs.Changing.{Changes, AnyTold, IsCrowded, Never, count_in}
-use Rattle.jv_data.specs.Truncating.{due_after}
 use Rattle.jv_metadata.specs.Attempts.{mapped}
 use Rattle.jv_handles.specs.declared.handle.Handle.{Handle}
 use Rattle.jv_handles.specs.Handles.{inode_here}
 use Rattle.jv_client.specs.declared.changes.Changed.{Changed}
 
--- a file that was made so long
+-- a file that was made `len` bytes long
 abbrev pub cut_to : ℕ → ℕ → Changed
 cut_to inode len = record { kind = Truncated inode len; reply = Done; inode = inode }
 

@@ -15,7 +15,7 @@ use Rattle.jv_pending.specs.Held.{PendingValue}
 use Rattle.jv_model.specs.client.Pending.{PendingByte, Segment, written}
 use Rattle.jv_model.specs.client.Profile.{handle_of}
 use Rattle.jv_model.specs.client.ModelClient.{file_of}
-use Rattle.jv_metadata.specs.Attempts.{is_metadata}
+use Rattle.jv_model.specs.client.OpForms.{closed_by, is_transaction}
 use Rattle.jv_fetching.specs.declared.need.Need.{Need}
 use Rattle.jv_fetching.specs.declared.need.Need.TheVariants as need
 use Rattle.jv_fetching.specs.Fetching.{Fetching, fetch_left}
@@ -56,16 +56,6 @@ asks_more h d = elim d.does [
   | does.Collects delete ↦ false
   | does.Uploads ↦ false
 ]
-
--- the operations that are one transaction, but for a close, which may be none
-abbrev pub is_transaction : Op → Bool
-is_transaction (op.Close handle) = false
-is_transaction o = is_metadata o
-
--- the handle that an operation closes, which is open
-abbrev pub closed_by : Op → Option ℕ
-closed_by (op.Close handle) = Some handle
-closed_by _ = None
 
 abbrev pub ClosesOpen : Op → List (Option Handle) → Type 0
 ClosesOpen o handles = IfSome (closed_by o) (λ handle. IsTrue (is_some (file_of handles handle)))

@@ -1,7 +1,7 @@
 //! Operations that change the bytes of files in one transaction: truncates and copies.
 ghost use Rattle.std.specs.Prelude.{◌≡◌, ℕ, IfSome, IsSome, IsTrue, None, map};
+ghost use Rattle.jv_model.specs.client.OpForms.{changes_bytes};
 ghost use Rattle.jv_outside.specs.Carriage.{Carriage};
-ghost use Rattle.jv_volume.specs.Holding.{changes_bytes};
 ghost use Rattle.jv_yard.specs.YardValue.{YardValue};
 ghost use Rattle.jv_handles.specs.Handles.{unseen};
 ghost use Rattle.jv_client.specs.Shared.{shared};

@@ -41,7 +41,7 @@ struct Found {
     bytes: Bytes,
 }
 
-/// How a reading stands once it has gone as far as it wants no request.
+/// How a reading stands once it has gone as far as it needs no request.
 #[derive(Drop)]
 enum Ahead {
     /// It needs this next.
@@ -51,7 +51,7 @@ enum Ahead {
 }
 
 impl Client {
-    /// Begins a reading, whose file has nothing pending: makes its first request, or answers where it wants none.
+    /// Begins a reading, whose file has nothing pending: makes its first request, or answers where it needs none.
     pub(crate) fn read<K: Keeper, D: Depot, H: Shelf>(
         &mut self,
         offset: u64,
@@ -117,7 +117,7 @@ impl Client {
         }
     }
 
-    /// Begins a reading, and goes ahead as far as it wants no request. Returns what it found where it wants none at all.
+    /// Begins a reading, and goes ahead as far as it needs no request. Returns what it found where it needs none at all.
     fn begin_reading(
         &mut self,
         offset: u64,
@@ -233,7 +233,7 @@ impl Client {
         )
     }
 
-    /// Goes on after a request, or answers with it where the reading wants nothing more.
+    /// Goes on after a request, or answers with it where the reading needs nothing more.
     fn go_on_reading(&mut self, kind: ActKind, ahead: Ahead) -> Made
         ensures { GoesOnAfter kind ahead self.old self.new result }
     {
@@ -344,7 +344,7 @@ fn take_from(progress: &mut Progress) -> Fetch
     }
 }
 
-/// Goes ahead with a reading as far as it wants no request.
+/// Goes ahead with a reading as far as it needs no request.
 fn read_ahead(mut fetch: Fetch, views: &Views, cache: &mut BlockCache) -> Result<Ahead, AllocError>
     ensures looks { LooksUp cache.old cache.new }
     ensures comes { IfOk result (ComesTo views.now cache.old fetch) }

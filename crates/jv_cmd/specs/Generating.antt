@@ -12,9 +12,9 @@ use Rattle.jv_model.specs.declared.op.Reply.TheVariants.{Refused, Data, Done}
 use Rattle.jv_model.specs.script.Grammar.{data_of}
 use Rattle.jv_model.specs.script.Printed.{hex_pair, number_word}
 use Rattle.jv_model.specs.script.ReplyText.{mode_digits}
+use Rattle.jv_model.specs.client.OpForms.{is_read}
 use Rattle.jv_outside.specs.Causes.{RoseTimes}
 use Rattle.jv_outside.specs.Stream.{Stream, HasAll, IsCut}
-use Rattle.jv_client.specs.CacheUse.{is_read}
 use Rattle.jv_client.specs.Makes.{faults_of}
 use Rattle.jv_generator.specs.Script.{script}
 use Rattle.jv_generator.specs.Summary.{summary_line, totals_of}
@@ -128,7 +128,7 @@ abbrev pub RunsScript : Option ℕ → (Device → ℕ) → StageValue → Stage
 RunsScript None answers before after ended = RunsLines answers before after ended
 RunsScript (Some seed) answers before after ended = RunsDrawn seed answers before after ended
 
--- the run of a script ended, and so often each device failed and an operation was answered so
+-- the run of a script ended; `answers` is how often each device failed and an operation was answered so
 pub record EndsScript (seed : Option ℕ) (before after : StageValue) (ended : Ended) : Type 0 where
   pub answers : Device → ℕ
   pub runs : RunsScript seed answers before after ended

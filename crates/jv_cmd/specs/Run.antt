@@ -86,7 +86,7 @@ IsKnownClock (Some answers) before after = (before.answers ≡ Some answers) × 
 pub record BeginWith (bytes : Option (List ℕ)) (texts : List (List ℕ)) : Type 0 where
   pub known : IfSome bytes (λ all. (more : List (List ℕ)) × (texts_of all ≡ texts ++ more))
 
--- the texts are the first ones of the source, they are lines of the grammar, and they are few and short enough
+-- the texts are the first ones of the source, they are lines of the grammar, at most `MAX_LINES` of them, and none is longer than `MAX_LINE` bytes
 pub record AreLines (bytes : Option (List ℕ)) (texts : List (List ℕ)) (lines : List Line) : Type 0 where
   pub first : BeginWith bytes texts
   pub each : map line_of texts ≡ map Some lines

@@ -54,8 +54,8 @@ pub record DoneOn (start : Beginning) (before now : StageValue) (lines : List Li
   pub reaches : (known : Option (ℕ → ℕ)) (more : List Line) (status : ℕ) → IsKnownClock known before.clock now.clock
       → Reaches (session_run start known (lines ++ more) status) more done asked text now.journal s now.devices
 
--- What was done with devices, whatever they hold: so often the clock was asked, and so often each device failed and an operation was
--- answered so.
+-- What was done with devices, whatever they hold: the clock was asked `asked` times, and each device failed as often as `failed` says,
+-- and an operation was answered so each time.
 pub record HasUsed (before now : StageValue) (asked : ℕ) (failed : Device → ℕ) : Type 0 where
   pub passes : Passes before.clock.answers now.clock.answers asked
   pub stays : StaysPut before.devices now.devices

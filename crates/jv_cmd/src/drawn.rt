@@ -4,7 +4,7 @@ ghost use Rattle.std.specs.Prelude.{◌≡◌, ◌≤◌, ◌++◌, ◌∷◌, [
 ghost use Rattle.jv_model.specs.declared.limits.TheConstants.{MAX_DATA};
 ghost use Rattle.jv_model.specs.script.Printed.{number_word};
 ghost use Rattle.jv_model.specs.script.ReplyText.{mode_digits};
-ghost use Rattle.jv_client.specs.CacheUse.{is_read};
+ghost use Rattle.jv_model.specs.client.OpForms.{is_read};
 ghost use Rattle.jv_generator.specs.Summary.{totals_of, with_reply};
 ghost use Rattle.jv_generator.specs.Script.{script};
 ghost use Rattle.jv_cmd.specs.Generating.{EndsScript, PrintsSummary, SumsUp, create_words, is_read_line, line_text, operation_text, read_words, repeated_text, replies_said, reply_said, script_text, spelled_bytes, summary_of, write_words};

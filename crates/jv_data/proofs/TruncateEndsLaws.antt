@@ -24,7 +24,7 @@ use Rattle.jv_model.specs.declared.basics.Who.{Who}
 use Rattle.jv_rows.specs.Transactions.{Agrees, IsFor}
 use Rattle.jv_rows.proofs.TransactionLaws.{Past, of_known, past-as, past-calm, past-ends, past-fails, past-looks, past-refuses, past-stops, fails-commit}
 use Rattle.jv_data.specs.Resizing.{ResizesFile, AreSized}
-use Rattle.jv_data.specs.Truncating.{due_after, ListsCut, LeaveSlices, Cut, Kept, Shortens, list_after, CutsFile}
+use Rattle.jv_data.specs.Truncating.{ListsCut, LeaveSlices, Cut, Kept, Shortens, list_after, CutsFile}
 use Rattle.jv_data.proofs.BeginningLaws.{content_found}
 use Rattle.jv_data.proofs.CommitLaws.{looks-any}
 use Rattle.jv_outside.specs.Rows.{applied}
@@ -52,6 +52,7 @@ use Rattle.jv_volume.specs.Whole.{Whole, Quiet}
 use Rattle.jv_model.specs.declared.row.Node.{Node as NodeRow}
 use Rattle.jv_model.specs.declared.row.RowKey.{RowKey}
 use Rattle.jv_model.specs.declared.row.SliceRow.{SliceRow}
+use Rattle.jv_model.specs.tree.Trash.{due_after}
 use Rattle.jv_volume.specs.TreeOf.{content_of, tree_of}
 use Rattle.jv_volume.specs.TypedRows.{Rows, typed}
 use Rattle.jv_contents.specs.Bytes.{Told, spot_byte, bytes_of, tree_with}

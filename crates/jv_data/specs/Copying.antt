@@ -28,8 +28,8 @@ abbrev pub pieces_len : List Piece → ℕ
 pieces_len [] = 0
 pieces_len (piece ∷ pieces) = piece.len + pieces_len pieces
 
--- Records that show, from a position of a window on, a range of a file that is no longer than a window: one for each visible piece of
--- the window that it begins in, then one for each of the next window.
+-- Records that show, from a position of a window on, a range of a file that is no longer than a window: those of the pieces that a plan
+-- has of the window in which the range begins, and behind them those of the next window's plan. They are as many as the pieces.
 pub record ArePieces (lists : Lists) (from pos len : ℕ) (shown : List Rec) : Type 0 where
   pub first : List Piece
   pub next : List Piece
@@ -37,7 +37,7 @@ pub record ArePieces (lists : Lists) (from pos len : ℕ) (shown : List Rec) : T
   pub next_plan : IsPlan (lists (from / WINDOW + 1)) 0 (from % WINDOW + len - WINDOW) next
   pub is : shown ≡ records_of_plan pos (first ++ next)
 
--- records of slices with rows that show, from a position of a window on, a range of a file, one for each piece
+-- records of slices with rows that show, from a position of a window on, a range of a file, as many as its plans have pieces
 pub record IsShown (rows : Rows) (inode from pos len : ℕ) (shown : List Rec) : Type 0 where
   pub fills : Fills (λ q. place_in (lists_of rows inode) (from + (q - pos))) pos (pos + len) shown
   pub slices : HaveSlices rows shown
@@ -106,14 +106,14 @@ bytes_before to window = window * WINDOW - to
 abbrev pub bytes_in : (to len window : ℕ) → ℕ
 bytes_in to len window = min (to + len) (window * WINDOW + WINDOW) - max to (window * WINDOW)
 
--- a window's list of the target, with one record more for each visible piece of the range that is copied there
+-- a window's list of the target: what it had, and behind it the records of the pieces of what is copied into this window
 pub record GetsPieces (rows : Rows) (src from dst to len window : ℕ) (list : List Rec) : Type 0 where
   pub added : List Rec
   pub pieces : ArePieces (lists_of rows src) (from + bytes_before to window) ((to + bytes_before to window) % WINDOW) (bytes_in to len window) added
   pub is : list ≡ lists_of rows dst window ++ added
 
--- Where a copy was made over whole rows, each list of the target got one record for each visible piece of the range, cut at the windows of
--- both files, and no other record.
+-- Where a copy was made over whole rows, each list of the target gained the records of its part of the range, a plan for each window of
+-- the source that the part touches, and is otherwise as it was.
 abbrev pub AddsPieces : (src from dst to : ℕ) → Store → Store → Result ℕ TxFault → Type 0
 AddsPieces src from dst to before after result = IfOk result (λ len. (known left : RowMap) → before.rows ≡ Some known → Whole (typed known)
     → after.rows ≡ Some left → (window : ℕ) → GetsPieces (typed known) src from dst to len window (lists_of (typed left) dst window))

@@ -3,7 +3,6 @@ use Rattle.std.specs.Prelude.{◌≡◌, ◌≢◌, ℕ, ◌+◌, ◌*◌, ◌/�
 use Rattle.std.specs.List.{AllByRecursion}
 use Rattle.jv_model.specs.declared.tables.TheConstants.{TABLE_OF_SETTING}
 use Rattle.jv_model.specs.declared.fault.TxFault.{TxFault}
-use Rattle.jv_model.specs.declared.lifetimes.TheConstants.{DAY}
 use Rattle.jv_model.specs.declared.limits.TheConstants.{WINDOW}
 use Rattle.jv_model.specs.declared.row.Node.{Node}
 use Rattle.jv_model.specs.declared.row.Row.TheVariants.{OfList, OfSlice}
@@ -14,6 +13,7 @@ use Rattle.jv_model.specs.declared.slice.Rec.{Rec}
 use Rattle.jv_model.specs.FiniteMap.{get, alter}
 use Rattle.jv_model.specs.rows.RowKeys.{RowMap}
 use Rattle.jv_model.specs.rows.RowPlaces.{list_key, slice_key}
+use Rattle.jv_model.specs.tree.Trash.{due_after}
 use Rattle.jv_outside.specs.declared.batch.Change.{Change}
 use Rattle.jv_outside.specs.Store.{Store}
 use Rattle.jv_rows.specs.Counts.{Adjusted}
@@ -85,10 +85,6 @@ pub record Dropped (inode : ℕ) (last : Option ℕ) (rows middle after : Rows) 
 -- the last window that begins before a length, if one does
 abbrev pub IsLastBefore : ℕ → Option ℕ → Type 0
 IsLastBefore len last = (window : ℕ) → is_past last window ≡ nat_le len (window * WINDOW)
-
--- when a slice may go that died at a moment: as many days later as the trash has
-abbrev pub due_after : ℕ → Setting → ℕ
-due_after now setting = now + setting.trash_days * DAY
 
 -- that moment by the setting of rows
 pub record IsDue (now : ℕ) (rows : Rows) (due : ℕ) : Type 0 where

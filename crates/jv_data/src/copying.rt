@@ -33,10 +33,11 @@ struct Course {
 }
 
 /// Copies at most `len` bytes of the file `src` from the position `from` on, as far as it goes, to the position `to` of
-/// the file `dst`, which may be the same, and returns how many. The target's lists get one record for each visible piece
-/// of the range, holes among them, cut at the windows of both files: at most one for each byte copied. No block is read
-/// or written. The target reaches at least to the last byte copied, and its times are set. No slice dies. A copy of 0
-/// bytes changes nothing.
+/// the file `dst`, which may be the same, and returns how many. Each list of the target gets, behind what it had, a
+/// record for every piece that [`jv_slices::plan`] finds in what is copied into its window; a hole is a piece, too, and
+/// each window of the source has a plan of its own. So there is at most one for each byte copied. No block is read or
+/// written. The target reaches at least to the last byte copied, and its times are set. No slice dies. A copy of 0
+/// bytes changes nothing. Linux, copy_file_range.
 ///
 /// # Errors
 ///
@@ -44,7 +45,7 @@ struct Course {
 /// are one file and the ranges have a position in common; then FileTooLarge where the target's range would end past
 /// 2^40; then NoSpace where the volume has no room, or a slice would be named more than 2^62 times. Bad for a malformed
 /// row, for a list of the source that names a slice without a row, or without bytes where setting or counters are
-/// needed and absent. Failed if the keeper failed. Memory.
+/// needed and absent. Failed if the keeper failed. Memory. On error no row has changed.
 pub fn copy_range<K: Keeper>(
     alloc: Global,
     k: &mut K,
@@ -171,7 +172,7 @@ fn copy_part<K: Keeper>(
     Ok(new)
 }
 
-/// The records that show, from a position of a window on, a range of a file: one for each of its visible pieces.
+/// The records that show, from a position of a window on, a range of a file: as many as a reader sees pieces there.
 fn shown<K: Keeper>(
     alloc: Global,
     k: &mut K,

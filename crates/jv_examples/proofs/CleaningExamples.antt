@@ -426,7 +426,7 @@ unfolding journals_compute replies_on_literals
 copied_prints = refl
 
 -- The session of a client that cleans up is expired by another one, between a slice that it found and the removal of its
--- block: the removal wants no session, and what comes after it is refused.
+-- block: the removal needs no session, and what comes after it is refused.
 abbrev expired_cleaner_run : Setup
 expired_cleaner_run = run_of (
     Do 0 (Mount false)

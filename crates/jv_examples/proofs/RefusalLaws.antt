@@ -1,4 +1,4 @@
--- What an entry wants, in the form in which closed examples of journals that may not be use it.
+-- What an entry needs, in the form in which closed examples of journals that may not be use it.
 use Rattle.std.proofs.Common.{◌≡◌, ◌≤◌, ◌<◌, ◌+◌, ℕ, Bool, true, false, ◌&&◌, ◌||◌, ◌==◌, nat_lt, IsTrue, Option, None, Some, List, [], ◌∷◌, ◌++◌, length, refl, sym, arith, ap, ◌∙◌, subst}
 use Rattle.std.specs.List.{list_any}
 use Rattle.std.specs.Option.{option_map}

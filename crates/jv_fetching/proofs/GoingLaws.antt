@@ -379,7 +379,7 @@ goes_on views cache later f after begun result (inr (none, first)) on =
     goes_to_then views cache cache later f (with_begun f begun) after result begins
     (went_on views cache later f after begun result on)
 
--- what it waits for it wants, and with a part that was read it has one less
+-- what it waits for it needs, and with a part that was read it has one less
 stops_on : (views : SeenViews) (cache later : Cached) (f after : Fetching) (begun : Begun) (result : Option Need)
     → GoesOn begun cache later (record f { begun = None }) after result → Stops views f after result
 stops_on views cache later f after begun result (Waits part b missed is) = ap block_needed is ∙ missed.next

@@ -82,6 +82,21 @@ fn has(alloc: Global, depot: &mut MemDepot, name: &[u8], bytes: &[u8]) -> Result
     }
 }
 
+/// Whether the depot has the three blocks of these bytes under their names.
+fn has_blocks(alloc: Global, depot: &mut MemDepot, bytes: &[u8]) -> Result<bool, AllocError> {
+    let names = [
+        b"test/chunks/0/0/7_0_65536".as_slice(),
+        b"test/chunks/0/0/7_1_65536".as_slice(),
+        b"test/chunks/0/0/7_2_32768".as_slice(),
+    ];
+    for (name, part) in names.iter().zip(bytes.chunks(65_536)) {
+        if !has(alloc, depot, *name, part)? {
+            return Ok(false);
+        }
+    }
+    Ok(true)
+}
+
 #[test]
 fn a_slice_is_put_block_by_block(rt: HostRuntime) -> Result<(), Fail> {
     let alloc = rt.alloc();
@@ -97,15 +112,8 @@ fn a_slice_is_put_block_by_block(rt: HostRuntime) -> Result<(), Fail> {
         );
     }
     assert_eq!(rt; put(alloc, &mut yard, &mut carrier, 3, &bytes), None);
-    let names = [
-        b"test/chunks/0/0/7_0_65536".as_slice(),
-        b"test/chunks/0/0/7_1_65536".as_slice(),
-        b"test/chunks/0/0/7_2_32768".as_slice(),
-    ];
     let (mut depot, _) = yard.into_parts();
-    for (name, part) in names.iter().zip(bytes.chunks(65_536)) {
-        assert!(rt; has(alloc, &mut depot, *name, part)?);
-    }
+    assert!(rt; has_blocks(alloc, &mut depot, &bytes)?);
     Ok(())
 }
 

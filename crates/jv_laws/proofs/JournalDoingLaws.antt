@@ -196,7 +196,7 @@ module _ (s : State) (client : ℕ) (c : ModelClient) (now : ℕ) (d : Doing) wh
   ok_quieted (Requesting requests) all h = ok_if d.does F (judges d.does requests && not (has_session s.tree c)) _ _ (IsRefusedReply refl) h
   ok_quieted (Replying answer) all h = h
 
--- what an entry of an operation wants committed
+-- what an entry of an operation needs committed
 
 abbrev with_doing_stage : Doing → Stage → Doing
 with_doing_stage d stage = record d { stage = stage }

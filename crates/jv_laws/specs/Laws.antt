@@ -35,7 +35,7 @@ use Rattle.jv_model.specs.Lists.{numbered}
 
 -- growth
 
--- a longer journal is legal so far exactly where its first part is, and the rest may follow it
+-- a longer journal is legal so far if and only if its first part is, and the rest may follow it
 abbrev pub JournalsGrow : Type 0
 JournalsGrow = (run : Setup) (journal more : List Act)
     → AllAllowed (at_start run) (journal ++ more) ↔ (AllAllowed (at_start run) journal × AllAllowed (reached run journal) more)

@@ -130,7 +130,7 @@ module _ (t : Tree) (now : ℕ) (from : EntryKey) (source : ℕ) (to : EntryKey)
 abbrev last_change : ℕ → ℕ → EntryKey → Tree → Result Tree Fault
 last_change now source to u = Ok (change_node u source (moved_node now to.dir))
 
--- a change that is refused for want of room is, whatever comes after it
+-- a change that is refused because there is no room is, whatever comes after it
 pub required_then : (b : Bool) (u : Tree) (change : Tree → Result Tree Fault)
     → ((require b NoSpace >>= (λ _. Ok u)) >>= change) ≡ (require b NoSpace >>= (λ _. change u))
 required_then true u change = refl

@@ -53,12 +53,13 @@ fn find_removable<K: Keeper>(
     })
 }
 
-/// Removes the entry of a file or a symlink, and returns what became of that.
+/// Removes the entry of a file or a symlink, and returns what became of that. POSIX.1-2017, unlinkat; JuiceFS, Trash.
 ///
 /// # Errors
 ///
-/// Stale where the session is gone, a walk's to the entry's directory, NotPermitted for `.trash`, its hours and directories, and
-/// NotFound where there is no such entry. Bad for a row that is malformed or names none, Failed if the keeper failed, Memory.
+/// Stale where the session is gone, a walk's to the entry's directory, NotPermitted for `.trash`, its hours and
+/// directories, and NotFound where there is no such entry. Bad for a row that is malformed or names none, Failed if the
+/// keeper failed, Memory. On error no row has changed.
 pub fn unlink<K: Keeper>(
     alloc: Global,
     k: &mut K,
@@ -87,7 +88,7 @@ pub fn unlink<K: Keeper>(
     }
 }
 
-/// Removes an empty directory.
+/// Removes an empty directory. POSIX.1-2017, unlinkat with AT_REMOVEDIR.
 ///
 /// # Errors
 ///

@@ -15,12 +15,13 @@ use Rattle.jv_model.specs.tree.Making as making
 use Rattle.jv_model.specs.tree.Removing as removing
 use Rattle.jv_model.specs.tree.Renaming as renaming
 use Rattle.jv_model.specs.tree.Sessions as sessions
+use Rattle.jv_model.specs.client.OpForms.{takes_entries}
+pub use Rattle.jv_model.specs.client.OpForms.{is_metadata}
 use Rattle.jv_outside.specs.Store.{Store}
 use Rattle.jv_volume.specs.TypedRows.{typed}
 use Rattle.jv_volume.specs.TreeOf.{tree_of}
 use Rattle.jv_volume.specs.Whole.{Whole}
 use Rattle.jv_links.specs.Removals.{HoldsFiles, is_inode}
-use Rattle.jv_volume.specs.Holding.{takes_entries}
 pub use Rattle.jv_model.specs.script.Spelled.{is_spelled}
 use Rattle.jv_metadata.specs.declared.answers.Answer.{Answer}
 
@@ -36,41 +37,6 @@ plain reply = record { reply = reply; kept = None }
 -- an answer that was given is none
 abbrev pub AnswersPlainly : Result Answer TxFault → Type 0
 AnswersPlainly result = IfOk result (λ answer. is_refused answer.reply ≡ false)
-
--- the operations that are one transaction on metadata and no more
-abbrev pub is_metadata : Op → Bool
-is_metadata (op.Mount writeback) = false
-is_metadata op.Umount = true
-is_metadata op.Beat = true
-is_metadata (op.Lookup path) = true
-is_metadata (op.Stat path) = true
-is_metadata (op.Lstat path) = true
-is_metadata (op.Fstat handle) = true
-is_metadata (op.Mkdir path mode) = true
-is_metadata (op.Create path mode) = true
-is_metadata (op.Open path) = true
-is_metadata (op.Close handle) = true
-is_metadata (op.Flush handle) = false
-is_metadata (op.Read handle offset len) = false
-is_metadata (op.Write handle offset bytes) = false
-is_metadata (op.Truncate handle len) = false
-is_metadata (op.Copy source from target to len) = false
-is_metadata (op.Readdir path) = true
-is_metadata (op.Chmod path mode) = true
-is_metadata (op.Chown path uid gid) = true
-is_metadata (op.Utimes path mtime) = true
-is_metadata op.Statfs = true
-is_metadata (op.Symlink target path) = true
-is_metadata (op.Readlink path) = true
-is_metadata (op.Unlink path) = true
-is_metadata (op.Rmdir path) = true
-is_metadata (op.Link path to) = true
-is_metadata (op.Rename path to how) = true
-is_metadata (op.Compact path window) = false
-is_metadata op.Clean = false
-is_metadata (op.Gc delete) = false
-is_metadata op.Upload = false
-is_metadata op.Stats = false
 
 -- the model's transaction of an operation
 abbrev pub attempt : Tree → Caller → Op → Result Outcome Fault

@@ -16,7 +16,7 @@ pub struct RowKey {
 }
 
 impl RowKey {
-    /// A copy of the key.
+    /// A copy of the key. The only error is out of memory.
     pub fn copied(&self, alloc: Global) -> Result<RowKey, AllocError>
         ensures { IfOk result (λ copy. copy ≡ self.now) }
     {

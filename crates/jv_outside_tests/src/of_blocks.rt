@@ -278,7 +278,7 @@ fn fails(worker: &mut Worker, same: &Parcel) -> bool {
 }
 
 #[test]
-fn a_carrier_fails_as_told(rt: HostRuntime) -> Result<(), AllocError> {
+fn a_carrier_fails_as_asked(rt: HostRuntime) -> Result<(), AllocError> {
     let alloc = rt.alloc();
     let same = held(alloc)?;
     let carrier = MemCarrier::new(alloc, failing_at(alloc, 1)?);

@@ -106,7 +106,7 @@ module _ (s : State) (g : Known) (v : Shared) (has : HasStore s.tree g v) (clien
               s.copied) (sym none) (get-begins start alone s client now d busy offset len does started at flushed sees)
           steps start alone misses (Later at) = get-step start alone s client now d busy offset len does misses at
 
-      -- or that was all it wanted, and it answers with what it read
+      -- or that was all it needed, and it answers with what it read
       module _ (file : OpenFile) (opened : file_in_use mine d ≡ Some file) (first second : ℕ) (bytes : List ℕ)
           (reads : reading mine.views (handle_of d.op) file (asked_parts offset len) first second ≡ Some bytes) where
         abbrev told : Told

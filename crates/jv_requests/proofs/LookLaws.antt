@@ -165,7 +165,7 @@ module _ (s : State) (client now : ℕ) (d : Doing) (busy : (s.clients client).d
           (known_is v.keeper.rows has.rows (λ known. view.list ≡ lists_of (typed known) file.inode window)
           has.rows_are looks.list))
 
-      -- or that was all it wanted, and it answers with what it read
+      -- or that was all it needed, and it answers with what it read
       module _ (first second : ℕ) (bytes : List ℕ)
           (reads : reading (with_look s d file.inode window mine).views (handle_of d.op) file (asked_parts offset len)
           first second ≡ Some bytes) where

@@ -359,6 +359,10 @@ impl Draft {
     }
 
     /// Makes all the changes, or none of them after an error.
+    ///
+    /// # Errors
+    ///
+    /// [`Down::Failed`] if the keeper failed, and [`Down::Memory`] out of memory.
     pub fn commit<K: Keeper>(&self, k: &mut K) -> Result<(), Down>
         ensures { Commits (K.seen k.old) (K.seen k.new) result self.now }
     {

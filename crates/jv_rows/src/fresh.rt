@@ -20,7 +20,7 @@ const FRESH_COUNTERS: Counters = Counters {
     used_inodes: 0,
 };
 
-/// The setting of a volume named `juicefs` over memory, with default options.
+/// The setting of a volume named `juicefs` over memory, with default options. The only error is out of memory.
 pub fn default_setting(alloc: Global) -> Result<Setting, AllocError>
     ensures fields { IfOk result (λ setting. setting ≡ default_setting) }
     ensures allowed { IfOk result (λ setting. IsTrue (is_setting setting)) }
@@ -55,7 +55,8 @@ fn fresh_directory(alloc: Global, mode: u16, at: Moment) -> Node
     }
 }
 
-/// The rows of a volume that is formatted at a moment: its setting, its counters, its root and its trash.
+/// The rows of a volume that is formatted at a moment: its setting, its counters, its root and its trash. The moment is
+/// in seconds. The only error is out of memory. JuiceFS, Command Reference: `format`.
 pub fn fresh_rows(alloc: Global, setting: &Setting, at: Moment) -> Result<Batch, AllocError>
     requires { IsTrue (is_setting setting.now) }
     ensures { IfOk result (λ batch. batch ≡ fresh_rows setting.now at) }

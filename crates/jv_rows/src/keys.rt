@@ -42,7 +42,7 @@ pub fn key_of_node(alloc: Global, inode: u64) -> RowKey
     }
 }
 
-/// Where an entry of a directory stands.
+/// Where an entry of a directory stands. The only error is out of memory.
 pub fn key_of_edge(alloc: Global, dir: u64, name: &Name) -> Result<RowKey, AllocError>
     ensures { IfOk result (λ key. key ≡ edge_key dir name.now) }
 {
@@ -53,7 +53,7 @@ pub fn key_of_edge(alloc: Global, dir: u64, name: &Name) -> Result<RowKey, Alloc
     })
 }
 
-/// Where the records of a window stand.
+/// Where the records of a window stand. The only error is out of memory.
 pub fn key_of_list(alloc: Global, inode: u64, window: u32) -> Result<RowKey, AllocError>
     ensures { IfOk result (λ key. key ≡ list_key inode window) }
 {
@@ -86,7 +86,7 @@ pub fn key_of_session(alloc: Global, sid: u64) -> RowKey
     }
 }
 
-/// Where a file stands that a session keeps.
+/// Where a file stands that a session keeps. The only error is out of memory.
 pub fn key_of_sustained(alloc: Global, sid: u64, inode: u64) -> Result<RowKey, AllocError>
     ensures { IfOk result (λ key. key ≡ sustained_key sid inode) }
 {

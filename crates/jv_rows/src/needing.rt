@@ -19,7 +19,12 @@ use jv_model::{Counters, Fault, Gone, Node, RowFault, RowKey, Sequence, Setting,
 use jv_outside::Keeper;
 use std::alloc::Global;
 
-/// Refuses with ESTALE where the session is gone.
+/// Refuses where the session is gone. No row changes.
+///
+/// # Errors
+///
+/// Stale (ESTALE) with the session where it has no row. Bad where its row is malformed. Failed if the keeper failed.
+/// Memory.
 pub fn in_session<K: Keeper>(alloc: Global, k: &mut K, sid: u64) -> Result<(), TxFault>
     ensures { Looks (K.seen k.old) (K.seen k.new) result
         (λ t. require (is_some (get t.sessions sid)) (Stale (Session sid))) }
@@ -31,6 +36,11 @@ pub fn in_session<K: Keeper>(alloc: Global, k: &mut K, sid: u64) -> Result<(), T
 }
 
 /// The setting, which each volume has.
+///
+/// # Errors
+///
+/// Bad where the row is malformed, and without bytes where it is absent. Failed if the keeper failed. Memory. The rows
+/// are the same in each case.
 pub fn needed_setting<K: Keeper>(
     alloc: Global,
     k: &mut K,
@@ -45,7 +55,7 @@ pub fn needed_setting<K: Keeper>(
     }
 }
 
-/// The next numbers and the running totals, which each volume has.
+/// The next numbers and the running totals, which each volume has. Errors are as of [`needed_setting`].
 pub fn needed_counters<K: Keeper>(
     alloc: Global,
     k: &mut K,
@@ -60,7 +70,7 @@ pub fn needed_counters<K: Keeper>(
     }
 }
 
-/// A node that has to be there.
+/// A node that has to be there. Errors are as of [`needed_setting`].
 pub fn needed_node<K: Keeper>(
     alloc: Global,
     k: &mut K,

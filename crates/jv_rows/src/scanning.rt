@@ -42,6 +42,11 @@ fn row_in(alloc: Global, tab: u8, bytes: &[u8]) -> Result<Row, Misread>
 }
 
 /// The row that the bytes spell in the table of that number.
+///
+/// # Errors
+///
+/// [`Misread::Malformed`] where no row of the table has these bytes, or there is no such table, and [`Misread::Memory`]
+/// out of memory.
 pub fn parse_row(alloc: Global, tab: u8, bytes: &[u8]) -> Result<Row, Misread>
     ensures reads { ReadsAs result (row_of tab bytes.now) }
     ensures sound { IfOk result (IsSpelled (row_of tab) row_bytes is_row bytes.now) }
@@ -76,8 +81,13 @@ fn typed_rows(alloc: Global, rows: Rows) -> Result<RowList, RowFault>
     Ok(list)
 }
 
-/// The first `n` rows of a table after a key, or from the table's first on. The first of them that is
-/// malformed is Bad. Their keys are not judged, as [`crate::read_setting`] says.
+/// The first `n` rows of a table after a key, or from the table's first on. Their keys are not judged, as
+/// [`crate::read_setting`] says.
+///
+/// # Errors
+///
+/// [`RowFault::Bad`] with the key and the bytes of the first row that is malformed, [`RowFault::Failed`] if the keeper
+/// failed, and [`RowFault::Memory`] out of memory. The rows are the same in each case.
 pub fn scan_rows<K: Keeper>(
     alloc: Global,
     k: &mut K,

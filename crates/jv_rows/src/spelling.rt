@@ -24,7 +24,7 @@ const DROPPED_LEN: usize = 8;
 
 const DEAD_LEN: usize = 12;
 
-/// The bytes of a setting.
+/// The bytes of a setting. The only error is out of memory, here and for the rows of each other table.
 #[tactic(auto, unfolding(jv_model::specs::rows::RowGrammar::setting_bytes))]
 pub fn spell_setting(alloc: Global, s: &Setting) -> Result<Bytes, AllocError>
     requires { IsTrue (is_setting s.now) }

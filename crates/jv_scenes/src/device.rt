@@ -40,7 +40,7 @@ impl Device {
         }
     }
 
-    /// The device of a name.
+    /// The device of a name, or `None` where no device has it.
     pub fn named(name: &str) -> Option<Device> {
         match name {
             "source" => Some(Device::Source),
@@ -69,7 +69,7 @@ impl Device {
         }
     }
 
-    /// What a line says whose operation met this device when it failed, where an operation calls it.
+    /// What a line says whose operation met this device when it failed, or `None` where no operation calls it.
     pub fn failure(self) -> Option<&'static str> {
         match self {
             Device::Keeper => Some("err EIO keeper"),

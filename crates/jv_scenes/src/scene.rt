@@ -130,7 +130,7 @@ impl Scene {
         }
     }
 
-    /// The bytes of the script.
+    /// The bytes of the script. The only error is out of memory.
     pub fn source(&self, alloc: Global, variant: Variant<'_>) -> Result<Bytes, AllocError> {
         match variant {
             Variant::List => bytes_of(alloc, self.list.as_slice()),
@@ -168,7 +168,7 @@ impl Scene {
         self.script.iter().all(is_plain)
     }
 
-    /// The calls of a device that fail.
+    /// The calls of a device that fail. The only error is out of memory.
     pub fn fails_of(
         &self,
         alloc: Global,
@@ -192,7 +192,7 @@ impl Scene {
     }
 }
 
-/// The bytes of pieces.
+/// The bytes of pieces. The only error is out of memory.
 pub fn bytes_of(alloc: Global, pieces: &[Piece]) -> Result<Bytes, AllocError> {
     let mut bytes = Vec::new(alloc);
     for piece in pieces {

@@ -48,7 +48,7 @@ pub number_in : (digits : List ℕ) → is_numeral digits ≡ true → value_of 
 unfolding number_of
 number_in digits all small = rw (all, le-leb (value_of 10 digits) MAX_NUMBER (omega arith)) refl
 
--- a front that passes the greatest number already
+-- a prefix that passes the greatest number already
 pub number_over : (digits : List ℕ) (i : ℕ) → is_numeral digits ≡ true → 2 ^ 64 ≤ value_of 10 (take i digits) → number_of digits ≡ None
 unfolding number_of
 number_over digits i all large = rw (all, lt-leb (value_of 10 digits) MAX_NUMBER (omega (arith, value_of-take-le digits i))) refl

@@ -215,7 +215,7 @@ begins_long_from bytes k within =
     let first : get_or (drop k bytes) 0 0 ≡ get_or bytes k 0 = get_or-drop k bytes 0 0 ∙ rw add-zero refl in
     begins_long_at (drop k bytes) (omega (arith, length-drop k bytes)) ∙ rw (first, get_or-drop k bytes 1 0, get_or-drop k bytes 2 0, get_or-drop k bytes 3 0) refl
 
--- bytes that begin no run in a front that is longer by three
+-- bytes that begin no run in a prefix that is longer by three
 pub no_long_in_front : (bytes : List ℕ) (n : ℕ) → n + 3 ≤ length bytes → HasNoLongBefore n (take (n + 3) bytes) → HasNoLongBefore n bytes
 no_long_in_front bytes n within none k below =
     let front = take (n + 3) bytes in

@@ -33,7 +33,7 @@ pub record IsPlainFront (bytes : List ℕ) (n : ℕ) : Type 0 where
   pub within : n ≤ length bytes
   pub parts : parts_of (runs_of bytes) ≡ Plain (take n bytes) ∷ parts_of (runs_of (drop n bytes))
 
--- a `+`, where one is wanted
+-- a `+`, where one is needed
 abbrev pub joint : Bool → List ℕ
 joint true = 43 ∷ []
 joint false = []

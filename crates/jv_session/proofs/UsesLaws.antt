@@ -168,7 +168,7 @@ uses_then start now later m n f g a b = record {
   limits = b.limits ∙ a.limits;
 }
 
--- the clock was asked so often, and no device is used, nor is one said to have failed
+-- the clock was asked `asks` times, and no device is used, nor is one said to have failed
 pub uses_clock : (before after : LineState) (asks : ℕ) → Passes before.clock.answers after.clock.answers asks
     → after.devices ≡ before.devices → AnswersSo before.journal after.journal no_failures → before.schedule.at ≤ after.schedule.at
     → after.schedule.limits ≡ before.schedule.limits → LineUses before after asks no_failures

@@ -14,7 +14,7 @@ use Rattle.jv_model.specs.blocks.Slices.{is_same_block, with_block}
 use Rattle.jv_slices.specs.declared.blocks.OrderedBlock.{OrderedBlock}
 use Rattle.jv_slices.specs.Listing.{ordered_of, ordered_cmp, Lists}
 
--- two numbers compare as equal exactly where they are
+-- two numbers compare as equal if and only if they are
 pub then_eq : (a b : ℕ) (o : Ordering) → is_eq (ordering_then (nat_cmp a b) o) ≡ ((a == b) && is_eq o)
 then_eq a b o =
     ⊎_elim (λ (e : a ≡ b). rw (le-ltb a b (omega arith), eq-eqb a b e) refl)
@@ -31,7 +31,7 @@ pub and_assoc : (x y z : Bool) → (x && (y && z)) ≡ (x && y && z)
 and_assoc true y z = refl
 and_assoc false y z = refl
 
--- the set's order takes blocks as equal exactly where they are the same
+-- the set's order takes blocks as equal if and only if they are the same
 pub same_at : (a b : BlockId) → is_at (ordered_cmp (ordered_of a)) (ordered_of b) ≡ is_same_block a b
 same_at a b =
     then_eq a.id b.id (ordering_then (nat_cmp a.index b.index) (nat_cmp a.size b.size))

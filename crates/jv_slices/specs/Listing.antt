@@ -11,7 +11,7 @@ use Rattle.jv_model.specs.declared.slice.Piece.{Piece}
 use Rattle.jv_slices.specs.declared.blocks.OrderedBlock.{OrderedBlock}
 use Rattle.jv_slices.specs.declared.blocks.TheConstants.{FEW}
 
--- few pieces, none longer than a block
+-- at most `FEW` pieces, none longer than a block
 abbrev pub AreFew : ℕ → List Piece → Type 0
 AreFew block pieces = (length pieces ≤ FEW) × All (λ piece. piece.len ≤ block) pieces
 

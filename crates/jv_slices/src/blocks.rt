@@ -28,7 +28,8 @@ pub fn block_len(size: u32, block: u32, index: u32) -> u32
     block.min(size - index * block)
 }
 
-/// The blocks that pieces need, each once, as a reader reaches them from piece to piece.
+/// The blocks that pieces need, each once, as a reader reaches them from piece to piece. Lengths are in bytes. The only
+/// error is out of memory.
 #[tactic(auto, unfolding(jv_model::specs::blocks::Slices::needed_blocks))]
 pub fn needs(alloc: Global, pieces: &Pieces, block: u32) -> Result<BlockKeys, AllocError>
     requires some { 0 < block }

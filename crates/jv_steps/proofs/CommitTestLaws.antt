@@ -71,7 +71,7 @@ module _ (s : State) (now : ℕ) (c : ModelClient) (segment : Segment) (started 
       (λ _. some_or content (Stale (GoneNode segment.inode)) >>= (λ content. Ok content.length)))
       >>= (λ _. require in_time (TimedOut started now) >>= (λ _. require room NoSpace >>= (λ _. Ok left_by)))
 
-  -- what a commit wants
+  -- what a commit needs
   abbrev IsAllowed : Type 0
   IsAllowed =
       IsTrue (has_session s.tree c) × IsTrue (is_some (node_at s.tree segment.inode)) × (now < started + UPLOAD_LIFE)

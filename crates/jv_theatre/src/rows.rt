@@ -43,13 +43,19 @@ fn add_row(alloc: Global, rows: &mut Rows, key: &RowKey, bytes: &[u8]) -> Result
     rows.push((key, copied(alloc, bytes)?))
 }
 
+/// Adds the rows of a table of a keeper.
+fn add_table(keeper: &mut MemKeeper, tab: u8, all: &mut Rows) -> Result<(), AllocError> {
+    for row in keeper.rows_in(tab)?.into_vec() {
+        all.push(row)?;
+    }
+    Ok(())
+}
+
 /// All rows of a keeper.
 pub fn rows_of(alloc: Global, keeper: &mut MemKeeper) -> Result<Rows, AllocError> {
     let mut all = Sequence::new(alloc);
     for tab in 0..=u8::MAX {
-        for row in keeper.rows_in(tab)?.into_vec() {
-            all.push(row)?;
-        }
+        add_table(keeper, tab, &mut all)?;
     }
     Ok(all)
 }

@@ -28,12 +28,13 @@ fn may_be_new(dir: u64, name: &[u8]) -> bool
     dir < TRASH_ROOT && !(dir == ROOT && name == b".trash".as_slice())
 }
 
-/// Where a new entry may stand: not in the trash, and not where one is. No row changes.
+/// Where a new entry may stand: not in the trash, and not where one is. No row changes. POSIX.1-2017, 4.13 "Pathname
+/// Resolution".
 ///
 /// # Errors
 ///
-/// As of [`jv_rows::walk_to_entry`], NotPermitted in the trash and in the place of `.trash`, and AlreadyExists where an entry
-/// is. Bad for a malformed entry, Failed if the keeper failed, Memory.
+/// As of [`jv_rows::walk_to_entry`], NotPermitted in the trash and in the place of `.trash`, and AlreadyExists where an
+/// entry is. Bad for a malformed entry, Failed if the keeper failed, Memory.
 pub fn new_place<K: Keeper>(alloc: Global, k: &mut K, path: &Path) -> Result<EntryPlace, TxFault>
     ensures { ComesToEntry (K.seen k.old) (K.seen k.new) result (λ t. new_pair t path.now) }
 {
@@ -142,12 +143,13 @@ fn new_node(alloc: Global, kind: u8, mode: u16, now: Moment) -> Node
 }
 
 /// Makes an empty directory with these permission bits, at most [`jv_model::MAX_MODE`], and returns its inode.
+/// POSIX.1-2017, mkdirat.
 ///
 /// # Errors
 ///
-/// Stale where the session is gone, then as of [`new_place`], and NoSpace where a limit of the volume, the inodes or the link
-/// count of the directory leaves no room. Bad for a malformed setting or malformed counters, and without bytes where one of
-/// them is absent. Failed if the keeper failed. Memory.
+/// Stale where the session is gone, then as of [`new_place`], and NoSpace where a limit of the volume, the inodes or
+/// the link count of the directory leaves no room. Bad for a malformed setting or malformed counters, and without bytes
+/// where one of them is absent. Failed if the keeper failed. Memory. On error no row has changed.
 pub fn mkdir<K: Keeper>(
     alloc: Global,
     k: &mut K,
@@ -172,7 +174,8 @@ pub fn mkdir<K: Keeper>(
     enter(alloc, k, who.now, &mut place, &node)
 }
 
-/// Makes an empty file with these permission bits, at most [`jv_model::MAX_MODE`], and returns its inode.
+/// Makes an empty file with these permission bits, at most [`jv_model::MAX_MODE`], and returns its inode. POSIX.1-2017,
+/// openat with O_CREAT and O_EXCL.
 ///
 /// # Errors
 ///
@@ -202,7 +205,7 @@ pub fn create<K: Keeper>(
     )
 }
 
-/// Makes a symlink with a target, and returns its inode.
+/// Makes a symlink with a target, and returns its inode. POSIX.1-2017, symlinkat.
 ///
 /// # Errors
 ///

@@ -16,8 +16,9 @@ use Rattle.jv_model.specs.tree.Caller.{Caller, Outcome, outcome}
 use Rattle.jv_model.specs.tree.FileBytes.{committed, truncated, copied, truncate, copy}
 use Rattle.jv_model.specs.tree.TreeAct.{tree_act}
 use Rattle.jv_model.specs.Lists.{is_among}
+use Rattle.jv_model.specs.client.OpForms.{changes_bytes, takes_entries}
 use Rattle.jv_volume.specs.Shape.{Regular, Shape, WholeShape, form_of, is_there, shape_of}
-use Rattle.jv_volume.specs.Holding.{IsHoldable, HasBytes, Kept, New as NewFile, Stays, changes_bytes, takes_entries}
+use Rattle.jv_volume.specs.Holding.{IsHoldable, HasBytes, Kept, New as NewFile, Stays}
 use Rattle.jv_volume.proofs.ShapeMapLaws.{pair_of, is_there-form, form-content}
 use Rattle.jv_volume.proofs.ChangeLaws.{change_node-setting}
 use Rattle.jv_volume.proofs.SameShapeLaws.{between, shape-committed, shape-truncated, shape-copied}

@@ -369,7 +369,7 @@ module _ (t : Tree) (now : ℕ) (from : EntryKey) (inode : ℕ) (to : EntryKey) 
       ∙ link_count-put_entry-leaf (take_entry t now from) now to inode j still_vacant (is_directory-take_entry t now from inode ∙ leaf)
       ∙ link_count-take_entry-leaf t now from inode j there leaf
 
-  -- a directory that moves takes one from the parent that it had, and gives one to the parent that it gets
+  -- a directory that moves is one less for the parent that it had, and one more for the parent that it gets
   pub link_count-moved_dir : is_directory t inode ≡ true → is_directory t from.dir ≡ true → is_directory t to.dir ≡ true
       → link_count (moved t now from inode to) j + standing j from ≡ link_count t j + standing j to
   link_count-moved_dir is before after =

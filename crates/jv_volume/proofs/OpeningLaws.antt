@@ -20,8 +20,9 @@ use Rattle.jv_model.specs.tree.Walk.{is_absolute, names_of, stepped, walk_names,
 use Rattle.jv_model.specs.tree.Making.{with_next, entered, create}
 use Rattle.jv_model.specs.tree.Reading.{file_inode, open_file}
 use Rattle.jv_model.specs.tree.TreeAct.{tree_act}
+use Rattle.jv_model.specs.client.OpForms.{opens_file}
 use Rattle.jv_volume.specs.Shape.{Regular, Shape, WholeShape, form_of, is_there, is_dir, shape_of}
-use Rattle.jv_volume.specs.Holding.{IsHoldable, opens_file}
+use Rattle.jv_volume.specs.Holding.{IsHoldable}
 use Rattle.jv_volume.proofs.ShapeMapLaws.{get-inserted, shape-put_entry, is_directory-form}
 use Rattle.jv_volume.proofs.WalkShapeLaws.{went_on, required, same_Ok, onwards, root_directory, path_named}
 use Rattle.jv_volume.proofs.OperationShapeLaws.{is_entered}

@@ -30,7 +30,7 @@ use Rattle.jv_model.specs.tree.Sessions.{with_session, mount, beat, umount, rele
 use Rattle.jv_model.specs.tree.FileBytes.{truncate, copy_bytes, copy}
 use Rattle.jv_model.specs.tree.TreeAct.{tree_act}
 use Rattle.jv_model.specs.journal.Steps.{is_device_or_memory}
-use Rattle.jv_volume.specs.Holding.{is_mount_op, opens_file}
+use Rattle.jv_model.specs.client.OpForms.{is_mount_op, opens_file}
 use Rattle.jv_volume.proofs.WalkShapeLaws.{onwards}
 
 -- The refusals of operations on the tree. One by a session that is gone is by the caller's.

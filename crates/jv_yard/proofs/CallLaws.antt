@@ -52,7 +52,7 @@ module _ (yard : YardValue) (objects : ObjectMap) (blocks : StagedMap) (client :
       let some : is_some (staged_at client name blocks) ≡ true = there refl in
       ((λ none. let gone : is_some (staged_at client name blocks) ≡ false = ap is_some (sym found ∙ none) in absurd (cc)), (λ both. absurd (let h = both.0 in cc)))
 
-  -- nothing is read exactly where the block is in neither place
+  -- nothing is read if and only if the block is in neither place
   pub none_in_neither : IsKept yard → client ≤ LAST_CLIENT → IsBlockOf yard client name value → (value ≡ None) ↔ ((staged_since client name yard.staged ≡ None) × (bytes_at name objects ≡ None))
   none_in_neither kept low read = none_by _ refl (λ is. kept.there blocks shelf client name low is) read
 

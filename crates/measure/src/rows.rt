@@ -1,7 +1,7 @@
 //! Rows through a keeper in memory.
-use jv_model::{Down, RowKey, Sequence, TABLE_OF_NODES, copied};
+use jv_model::{Down, RowKey, Sequence, TABLE_OF_NODES, copied, Rows};
 use jv_outside::{Batch, Fails, Keeper, MemKeeper};
-use std::alloc::Global;
+use std::alloc::{AllocError, Global};
 
 /// The bytes of each row.
 const BYTES: [u8; 48] = [7; 48];
@@ -58,6 +58,19 @@ pub fn read(alloc: Global, count: u32) -> Result<u64, Down> {
     Ok(found)
 }
 
+/// Copies the key of each row of a page, and returns the last copy, which is `last` where there is no row.
+fn last_key(
+    alloc: Global,
+    page: &Rows,
+    last: Option<RowKey>,
+) -> Result<Option<RowKey>, AllocError> {
+    let mut last = last;
+    for (row, _) in page.as_slice() {
+        last = Some(row.copied(alloc)?);
+    }
+    Ok(last)
+}
+
 /// Writes `count` rows and scans them page by page. Returns the number of those that are there.
 pub fn scanned(alloc: Global, count: u32) -> Result<u64, Down> {
     let mut keeper = written_keeper(alloc, count)?;
@@ -65,10 +78,8 @@ pub fn scanned(alloc: Global, count: u32) -> Result<u64, Down> {
     let mut last = None;
     for _ in 0..=count / PAGE {
         let page = keeper.scan(TABLE_OF_NODES, last.as_ref(), PAGE)?;
-        for (row, _) in page.as_slice() {
-            found = found.saturating_add(1);
-            last = Some(row.copied(alloc)?);
-        }
+        found = found.saturating_add(page.len() as u64);
+        last = last_key(alloc, &page, last)?;
     }
     Ok(found)
 }

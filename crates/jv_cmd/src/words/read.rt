@@ -35,10 +35,13 @@ impl From<AllocError> for BadValue {
     }
 }
 
-/// Reads the words after the program's name.
+/// Reads the words after the program's name. JuiceFS, Command Reference: `format`, `mount`.
 ///
-/// They are refused if and only if they ask for no command: where `clap` refuses them, also for a request for help, and
-/// where a value is out of its range. The text of a refusal ends with a line feed.
+/// # Errors
+///
+/// [`WordsFault::Refused`] with the text for standard error, which ends with a line feed, if and only if the words ask
+/// for no command: where `clap` refuses them, also for a request for help, and where a value is out of its range.
+/// [`WordsFault::Memory`] out of memory.
 pub fn read_words(alloc: Global, words: &[String]) -> Result<Command, WordsFault>
     ensures asked { Answers (asked (map string_bytes words.now)) result }
     ensures refusal { IfErr result (Refuses (map string_bytes words.now)) }

@@ -179,7 +179,7 @@ session_gone c = reply.Refused (Stale (Session (session_of c)))
 abbrev pub has_session : Tree → ModelClient → Bool
 has_session t c = is_some (get t.sessions (session_of c))
 
--- A request of the flush: the first takes a number for the slice, in a transaction that wants the session; the others
+-- A request of the flush: the first takes a number for the slice, in a transaction that needs the session; the others
 -- bring the blocks, from the moment of the second on.
 abbrev pub flushing_on : State → ModelClient → ℕ → ℕ → ℕ → Stage
 flushing_on s c now quiets started = (if quiets == 0 then if has_session s.tree c then Working 1 0 else Replying (session_gone c)
@@ -212,7 +212,7 @@ removes_block Slices = false
 removes_block Blocks = true
 removes_block MoreBlocks = true
 
--- A request of a cleaning that found nothing more in its part, or a slice, or that removed a block, which wants no session.
+-- A request of a cleaning that found nothing more in its part, or a slice, or that removed a block, which needs no session.
 abbrev pub cleaning_on : State → ModelClient → Cleaning → Stage
 cleaning_on s c k = (if has_session s.tree c || removes_block k.part then Cleans (record k { part = next_part k.part }) else Replying (session_gone c))
 
@@ -220,7 +220,7 @@ abbrev pub is_collecting : Does → Bool
 is_collecting (Collects delete) = true
 is_collecting _ = false
 
--- A collection lists a page of names and judges them in a transaction, which wants the session. Where it removes none, every
+-- A collection lists a page of names and judges them in a transaction, which needs the session. Where it removes none, every
 -- second request is such a transaction; else the second one is, and others stand between removals.
 abbrev pub judges : Does → ℕ → Bool
 judges (Collects true) requests = requests == 1

@@ -401,7 +401,7 @@ told_of (reply.Uploaded None) = Fine 0 0 0 0
 told_of (reply.Uploaded (Some block)) = Fine block.id block.index block.size 1
 told_of (reply.CacheStats hits misses cached pending) = Fine hits misses cached pending
 
--- the session is gone at a transaction that wants it: all but the requests for blocks are
+-- the session is gone at a transaction that needs it: all but the requests for blocks are
 abbrev asks_rows : ModelClient → Doing → Bool
 asks_rows c d = elim d.stage [
   | Working quiets started ↦ nat_le 3 quiets
@@ -525,7 +525,7 @@ pub data EndsUpload (alone : Bool) (s : State) (client : ℕ) (c : ModelClient) 
   Sent : (id index size : ℕ) → d.stage ≡ Requesting 1 → told ≡ Fine id index size 1 → EndsUpload alone s client c d told
   FoundNone : IsTrue (is_ready c d) → d.moved ≡ false → IsTrue (not alone || owes_none s client) → told ≡ Fine 0 0 0 0 → EndsUpload alone s client c d told
 
--- The answers of an operation, each with what it wants.
+-- The answers of an operation, each with what it needs.
 pub data MayAnswer (start : Start) (alone : Bool) (s : State) (client now : ℕ) (c : ModelClient) (d : Doing) (told : Told) : Type 0 where
   Fails : must_answer d ≡ false → IsTrue (is_failure told) → MayAnswer start alone s client now c d told
   Settles : (answer : Reply) → d.stage ≡ Replying answer → told ≡ told_of answer → MayAnswer start alone s client now c d told

@@ -22,6 +22,10 @@ hour_of inode = (if inode == FIRST_HOUR then 0 else inode - trash_root)
 abbrev pub is_due : Setting → ℕ → ℕ → Bool
 is_due setting now hour = nat_le ((hour + 1) * HOUR + setting.trash_days * DAY) now
 
+-- when a slice may go that nothing names any more from a moment on: the volume's days later
+abbrev pub due_after : ℕ → Setting → ℕ
+due_after now setting = now + setting.trash_days * DAY
+
 abbrev pub hour_place : ℕ → EntryKey
 hour_place hour = record { dir = trash_root; name = hour_name hour }
 
