@@ -1,31 +1,11 @@
 use jv_flushing::{PutFault, put_block};
-use jv_model::{ClientId, MAX_BLOCK, MIN_BLOCK, Moment, Sequence, Setting, WINDOW, copied};
-use jv_outside::{
-    Carrier, Depot, Fails, MemCarrier, MemDepot, MemShelf, ObjectList, Shelf, StagedList,
-};
+use jv_model::{ClientId, MAX_BLOCK, MIN_BLOCK, Moment, WINDOW, copied};
+use jv_outside::{Carrier, Depot, MemCarrier, MemDepot, MemShelf, ObjectList, Shelf, StagedList};
+use jv_samples::{failing_at, setting};
 use jv_slices::blocks_of;
 use jv_yard::Yard;
 use std::alloc::{AllocError, Global};
 use std::test::Fail;
-
-fn setting(alloc: Global) -> Result<Setting, AllocError> {
-    Ok(Setting {
-        version: 1,
-        block: 65_536,
-        trash_days: 1,
-        capacity: 0,
-        inodes: 0,
-        hash: 0,
-        name: copied(alloc, b"test")?,
-        bucket: copied(alloc, b"/tmp")?,
-    })
-}
-
-fn failing_at(alloc: Global, number: u64) -> Result<Fails, AllocError> {
-    let mut numbers = Sequence::new(alloc);
-    numbers.push(number)?;
-    Ok(Fails::At(numbers))
-}
 
 /// A yard over a depot without objects, which fails at one call.
 fn started(alloc: Global, fails: u64) -> Result<Option<Yard<MemDepot, MemShelf>>, AllocError> {

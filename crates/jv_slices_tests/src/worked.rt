@@ -1,22 +1,16 @@
 ghost use Rattle.std.specs.Prelude.{All, IfOk};
 ghost use Rattle.jv_model.specs.blocks.Slices.{IsRecord};
 
-use jv_model::{BlockId, List, Piece, Rec, Setting, Spot, copied};
+use jv_model::{BlockId, List, Piece, Rec, Setting, Spot};
+use jv_samples::setting;
 use jv_slices::{block_len, block_name, blocks_of, byte_at, needs, parse_block_name, plan};
 use std::alloc::{AllocError, Global};
 use std::test::Fail;
 
-fn setting(alloc: Global, hash: u8) -> Result<Setting, AllocError> {
-    Ok(Setting {
-        version: 1,
-        block: 65_536,
-        trash_days: 1,
-        capacity: 0,
-        inodes: 0,
-        hash,
-        name: copied(alloc, b"test")?,
-        bucket: copied(alloc, b"/tmp")?,
-    })
+fn setting_with(alloc: Global, hash: u8) -> Result<Setting, AllocError> {
+    let mut setting = setting(alloc)?;
+    setting.hash = hash;
+    Ok(setting)
 }
 
 #[test]
@@ -48,7 +42,7 @@ fn a_name_is_spelled_and_read_again(rt: HostRuntime) -> Result<(), Fail> {
         ),
     ];
     for (row, hash, id, index, size, text) in rows {
-        let setting = setting(rt.alloc(), hash)?;
+        let setting = setting_with(rt.alloc(), hash)?;
         let name = block_name(rt.alloc(), &setting, id, index, size)?;
         assert_eq!(rt; name.as_slice(), text.as_bytes(), "{row}");
         let block = BlockId { id, index, size };
