@@ -4,6 +4,7 @@ use Rattle.std.proofs.lemmas.Bool.{cases_lt, cond-true, cond-false, lt-ltb, le-l
 use Rattle.std.proofs.lemmas.List.{append-nil}
 use Rattle.std.proofs.lemmas.Option.{none-some}
 use Rattle.std.proofs.lemmas.List.Elements.{filter-append}
+use Rattle.jv_model.specs.declared.limits.TheConstants.{FILE_END}
 use Rattle.jv_model.proofs.TestLaws.{some_same}
 use Rattle.jv_model.specs.Lists.{first_item, last_item}
 use Rattle.jv_pending.specs.Runs.{Run, Before, start_place, end_place, Rise, InOrder, runs_before, runs_from, runs_within, first_place, with_runs}
@@ -103,7 +104,7 @@ pub Before-end : (n : ℕ) (xs : List Run) (r : Run) → Before n xs → start_p
 Before-end n [] r b h = (h, tt)
 Before-end n (x ∷ xs) r b h = (b.0, Before-end n xs r b.1 h)
 
-pub file_last : (low : ℕ) (xs : List Run) (r : Run) → Rise low (xs ++ r ∷ []) → r.0.from < 1099511627776
+pub file_last : (low : ℕ) (xs : List Run) (r : Run) → Rise low (xs ++ r ∷ []) → r.0.from < FILE_END
 file_last low [] r h = h.0
 file_last low (x ∷ xs) r h = file_last (start_place x + 1) xs r h.2
 
@@ -237,7 +238,7 @@ pub first_nothing : (xs : List Run) → None ≡ first_item xs → xs ≡ []
 first_nothing [] h = refl
 first_nothing (x ∷ xs) h = absurd (none-some x h)
 
-pub first_at : (n low : ℕ) (es : List Run) (r : Run) (t : List Run) → Rise low es → runs_from n es ≡ r ∷ t → (r.0.from < 1099511627776) × (n ≤ start_place r) × (runs_from (start_place r) es ≡ r ∷ t)
+pub first_at : (n low : ℕ) (es : List Run) (r : Run) (t : List Run) → Rise low es → runs_from n es ≡ r ∷ t → (r.0.from < FILE_END) × (n ≤ start_place r) × (runs_from (start_place r) es ≡ r ∷ t)
 first_at n low es r t e h =
     let s : Rise n (r ∷ t) = subst (Rise n) h (Rise-from n low es e) in
     let k = s.1 in

@@ -5,6 +5,7 @@ use Rattle.std.proofs.lemmas.Bool.Decides.{nat_tests}
 use Rattle.std.proofs.lemmas.Option.{none-some}
 use Rattle.std.proofs.lemmas.List.{append-nil, length-append}
 use Rattle.std.proofs.lemmas.List.Elements.{filter-append}
+use Rattle.jv_model.specs.declared.limits.TheConstants.{FILE_END, WINDOW}
 use Rattle.jv_model.specs.client.Pending.{PendingByte, Segment, stands_at, comes_before, all_after, is_rising, is_in_range, without_range, pending_of, run_length, first_segment, bytes_in_range, pending_end}
 use Rattle.jv_model.proofs.TestLaws.{some_same}
 use Rattle.jv_model.specs.Lists.{first_item, last_item}
@@ -30,13 +31,13 @@ rising low [] r = refl
 rising low (b ∷ bs) r = and_from (all_after b.inode b.position bs) (is_rising bs) (after_all b (byte_place b + 1) bs (omega arith) r.2) (rising (byte_place b + 1) bs r.2)
 
 -- tests that no byte of a list passes, or that all pass
-pub filter_none : (q : PendingByte → Bool) (low : ℕ) (bs : List PendingByte) → Rises low bs → ((b : PendingByte) → low ≤ byte_place b → b.position < 1099511627776 → q b ≡ false) → filter q bs ≡ []
+pub filter_none : (q : PendingByte → Bool) (low : ℕ) (bs : List PendingByte) → Rises low bs → ((b : PendingByte) → low ≤ byte_place b → b.position < FILE_END → q b ≡ false) → filter q bs ≡ []
 filter_none q low [] r f = refl
 filter_none q low (b ∷ bs) r f =
     cond-false (q b) (b ∷ filter q bs) (filter q bs) (f b r.1 r.0)
     ∙ filter_none q (byte_place b + 1) bs r.2 (λ x l p. f x (let k = r.1 in omega arith) p)
 
-pub filter_all : (q : PendingByte → Bool) (low : ℕ) (bs : List PendingByte) → Rises low bs → ((b : PendingByte) → low ≤ byte_place b → b.position < 1099511627776 → q b ≡ true) → filter q bs ≡ bs
+pub filter_all : (q : PendingByte → Bool) (low : ℕ) (bs : List PendingByte) → Rises low bs → ((b : PendingByte) → low ≤ byte_place b → b.position < FILE_END → q b ≡ true) → filter q bs ≡ bs
 filter_all q low [] r f = refl
 filter_all q low (b ∷ bs) r f =
     cond-true (q b) (b ∷ filter q bs) (filter q bs) (f b r.1 r.0)
@@ -120,30 +121,30 @@ run_length_none : (i f : ℕ) (t : List PendingByte) → Rises (place i f + 1) t
 run_length_none i f [] r = refl
 run_length_none i f (x ∷ t) r = cond-false (stands_at i f x) _ 0 (stands_apart i f x (λ e. let k = r.1 in omega arith))
 
-pub run_length_placed : (i f : ℕ) (bs : List ℕ) (t : List PendingByte) → 0 < length bs → f % 67108864 + length bs ≤ 67108864 → f + length bs ≤ 1099511627776 → (0 < (f + length bs) % 67108864 → Rises (place i (f + length bs) + 1) t) → run_length i f (placed i f bs ++ t) ≡ length bs
+pub run_length_placed : (i f : ℕ) (bs : List ℕ) (t : List PendingByte) → 0 < length bs → f % WINDOW + length bs ≤ WINDOW → f + length bs ≤ FILE_END → (0 < (f + length bs) % WINDOW → Rises (place i (f + length bs) + 1) t) → run_length i f (placed i f bs ++ t) ≡ length bs
 run_length_placed i f [] t s w l r = absurd (omega arith)
 run_length_placed i f (b ∷ []) t s w l r =
     cond-true (stands_at i f (record { inode = i; position = f; byte = b })) _ 0 (stands_here i f (record { inode = i; position = f; byte = b }) (omega arith) (omega arith) refl)
     ∙ ⊎_elim
-    (λ z. cond-true (eqb ((f + 1) % 67108864) 0) 1 (1 + run_length i (f + 1) t) (eq-eqb ((f + 1) % 67108864) 0 z))
-    (λ n. cond-false (eqb ((f + 1) % 67108864) 0) 1 (1 + run_length i (f + 1) t) (ne_eqb ((f + 1) % 67108864) 0 n) ∙ ap (λ k. 1 + k) (run_length_none i (f + 1) t (r (omega arith))))
-    (cases_eq ((f + 1) % 67108864) 0)
+    (λ z. cond-true (eqb ((f + 1) % WINDOW) 0) 1 (1 + run_length i (f + 1) t) (eq-eqb ((f + 1) % WINDOW) 0 z))
+    (λ n. cond-false (eqb ((f + 1) % WINDOW) 0) 1 (1 + run_length i (f + 1) t) (ne_eqb ((f + 1) % WINDOW) 0 n) ∙ ap (λ k. 1 + k) (run_length_none i (f + 1) t (r (omega arith))))
+    (cases_eq ((f + 1) % WINDOW) 0)
 run_length_placed i f (b ∷ c ∷ bs) t s w l r =
-    let n : (f + 1) % 67108864 ≡ f % 67108864 + 1 = omega arith in
+    let n : (f + 1) % WINDOW ≡ f % WINDOW + 1 = omega arith in
     cond-true (stands_at i f (record { inode = i; position = f; byte = b })) _ 0 (stands_here i f (record { inode = i; position = f; byte = b }) (omega arith) (omega arith) refl)
-    ∙ cond-false (eqb ((f + 1) % 67108864) 0) 1 (1 + run_length i (f + 1) (placed i (f + 1) (c ∷ bs) ++ t)) (ne_eqb ((f + 1) % 67108864) 0 (λ e. omega arith))
-    ∙ ap (λ k. 1 + k) (run_length_placed i (f + 1) (c ∷ bs) t (omega arith) (omega arith) (omega arith) (λ m. Rises-weaker (place i (f + length (b ∷ c ∷ bs)) + 1) (place i (f + 1 + length (c ∷ bs)) + 1) t (omega arith) (r (subst (λ k. 0 < k % 67108864) (let d : f + 1 + length (c ∷ bs) ≡ f + length (b ∷ c ∷ bs) = omega arith in d) m))))
+    ∙ cond-false (eqb ((f + 1) % WINDOW) 0) 1 (1 + run_length i (f + 1) (placed i (f + 1) (c ∷ bs) ++ t)) (ne_eqb ((f + 1) % WINDOW) 0 (λ e. omega arith))
+    ∙ ap (λ k. 1 + k) (run_length_placed i (f + 1) (c ∷ bs) t (omega arith) (omega arith) (omega arith) (λ m. Rises-weaker (place i (f + length (b ∷ c ∷ bs)) + 1) (place i (f + 1 + length (c ∷ bs)) + 1) t (omega arith) (r (subst (λ k. 0 < k % WINDOW) (let d : f + 1 + length (c ∷ bs) ≡ f + length (b ∷ c ∷ bs) = omega arith in d) m))))
     ∙ omega arith
 
-first_run : (i f : ℕ) (bs : List ℕ) (t : List PendingByte) → 0 < length bs → f % 67108864 + length bs ≤ 67108864 → f + length bs ≤ 1099511627776 → (0 < (f + length bs) % 67108864 → Rises (place i (f + length bs) + 1) t) → first_segment (placed i f bs ++ t) ≡ Some (record { inode = i; from = f; len = length bs })
+first_run : (i f : ℕ) (bs : List ℕ) (t : List PendingByte) → 0 < length bs → f % WINDOW + length bs ≤ WINDOW → f + length bs ≤ FILE_END → (0 < (f + length bs) % WINDOW → Rises (place i (f + length bs) + 1) t) → first_segment (placed i f bs ++ t) ≡ Some (record { inode = i; from = f; len = length bs })
 first_run i f [] t s w l n = absurd (omega arith)
 first_run i f (b ∷ bs) t s w l n = ap (λ k. Some (record { inode = i; from = f; len = k })) (run_length_placed i f (b ∷ bs) t s w l n)
 
-pub first_placed : (r : Run) (t : List PendingByte) → IsRun r → (0 < end_of_run r % 67108864 → Rises (end_place r + 1) t) → first_segment (placed r.0.inode r.0.from r.1 ++ t) ≡ Some (segment_of_run r)
+pub first_placed : (r : Run) (t : List PendingByte) → IsRun r → (0 < end_of_run r % WINDOW → Rises (end_place r + 1) t) → first_segment (placed r.0.inode r.0.from r.1 ++ t) ≡ Some (segment_of_run r)
 first_placed r t h n = first_run r.0.inode r.0.from r.1 t h.some h.in_window h.in_file n
 
 -- the bytes after a run lie apart from it, but where its window ends
-pub apart : (r : Run) (rs : List Run) → InOrder (end_place r) rs → 0 < end_of_run r % 67108864 → Rises (end_place r + 1) (pending_bytes rs)
+pub apart : (r : Run) (rs : List Run) → InOrder (end_place r) rs → 0 < end_of_run r % WINDOW → Rises (end_place r + 1) (pending_bytes rs)
 apart r [] o h = tt
 apart r (x ∷ rs) o h =
     let starts : end_place r + 1 ≤ start_place x =
@@ -246,10 +247,10 @@ end_placed i f [] h = absurd (omega arith)
 end_placed i f (b ∷ []) h = refl
 end_placed i f (b ∷ c ∷ bs) h = end_placed i (f + 1) (c ∷ bs) (omega arith) ∙ omega arith
 
-pub end_is : (i : ℕ) (rs : List Run) (r : Run) → InOrder 0 rs → Some r ≡ last_item (runs_before (place i 1099511627776) rs) → r.0.inode ≡ i → pending_end (pending_of i (pending_bytes rs)) ≡ end_of_run r
+pub end_is : (i : ℕ) (rs : List Run) (r : Run) → InOrder 0 rs → Some r ≡ last_item (runs_before (place i FILE_END) rs) → r.0.inode ≡ i → pending_end (pending_of i (pending_bytes rs)) ≡ end_of_run r
 end_is i rs r o h e =
     let low = Rise-order 0 rs o in
-    let n : ℕ = place i 1099511627776 in
+    let n : ℕ = place i FILE_END in
     let s = last_split (runs_before n rs) r h in
     let some = (last_is_run n rs r o h).some in
     let last = end_placed r.0.inode r.0.from r.1 some in
@@ -264,31 +265,31 @@ end_is i rs r o h e =
     ∙ end_append (pending_of i (pending_bytes s.0)) (placed r.0.inode r.0.from r.1) (omega arith)
     ∙ last
 
-no_end : (i : ℕ) (rs : List Run) → InOrder 0 rs → NoneOf i (runs_before (place i 1099511627776) rs) → pending_end (pending_of i (pending_bytes rs)) ≡ 0
+no_end : (i : ℕ) (rs : List Run) → InOrder 0 rs → NoneOf i (runs_before (place i FILE_END) rs) → pending_end (pending_of i (pending_bytes rs)) ≡ 0
 no_end i rs o h =
     let low = Rise-order 0 rs o in
-    let n : ℕ = place i 1099511627776 in
+    let n : ℕ = place i FILE_END in
     ap (λ (t : List Run). pending_end (pending_of i (pending_bytes t))) (sym (whole n 0 rs low))
     ∙ ap pending_end (of_append i (runs_before n rs) (runs_from n rs)
     ∙ ap (λ (t : List PendingByte). t ++ pending_of i (pending_bytes (runs_from n rs))) (of_none i (runs_before n rs) h)
     ∙ of_none i (runs_from n rs) (none_from i n (runs_from n rs) (omega arith) (Rise-from n 0 rs low)))
 
-pub end_none : (i : ℕ) (rs : List Run) → InOrder 0 rs → None ≡ last_item (runs_before (place i 1099511627776) rs) → pending_end (pending_of i (pending_bytes rs)) ≡ 0
-end_none i rs o h = no_end i rs o (subst (NoneOf i) (sym (last_nothing (runs_before (place i 1099511627776) rs) h)) tt)
+pub end_none : (i : ℕ) (rs : List Run) → InOrder 0 rs → None ≡ last_item (runs_before (place i FILE_END) rs) → pending_end (pending_of i (pending_bytes rs)) ≡ 0
+end_none i rs o h = no_end i rs o (subst (NoneOf i) (sym (last_nothing (runs_before (place i FILE_END) rs) h)) tt)
 
-pub end_other : (i : ℕ) (rs : List Run) (r : Run) → InOrder 0 rs → Some r ≡ last_item (runs_before (place i 1099511627776) rs) → (r.0.inode ≡ i → ⊥) → pending_end (pending_of i (pending_bytes rs)) ≡ 0
+pub end_other : (i : ℕ) (rs : List Run) (r : Run) → InOrder 0 rs → Some r ≡ last_item (runs_before (place i FILE_END) rs) → (r.0.inode ≡ i → ⊥) → pending_end (pending_of i (pending_bytes rs)) ≡ 0
 end_other i rs r o h n =
     let low = Rise-order 0 rs o in
-    let s = last_split (runs_before (place i 1099511627776) rs) r h in
-    let f = last_file (place i 1099511627776) rs r low h in
+    let s = last_split (runs_before (place i FILE_END) rs) r h in
+    let f = last_file (place i FILE_END) rs r low h in
     let k = f.1 in
-    let front = Before-last 0 s.0 r (subst (Rise 0) s.1 (Rise-before (place i 1099511627776) 0 rs low)) in
+    let front = Before-last 0 s.0 r (subst (Rise 0) s.1 (Rise-before (place i FILE_END) 0 rs low)) in
     no_end i rs o (subst (NoneOf i) (sym s.1) (none_before i (s.0 ++ r ∷ []) (Before-end (place i 0) s.0 r (Before-weaker (start_place r) (place i 0) s.0 (omega arith) front.0) (omega arith))))
 
 -- the run that an inode's first segment names
 pub record Named (start : RunStart) (len : ℕ) (rs : List Run) : Type 0 where
   pub bytes : List ℕ
-  pub file : start.from < 1099511627776
+  pub file : start.from < FILE_END
   pub len_is : length bytes ≡ len
   pub found : bytes_at start rs ≡ Some bytes
   pub all : rs ≡ runs_before (place_of start) rs ++ (start, bytes) ∷ runs_from (place_of start + 1) rs

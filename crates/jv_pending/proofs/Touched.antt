@@ -4,6 +4,7 @@ use Rattle.std.proofs.lemmas.Bool.{cases_lt, cases_eq, cases_order}
 use Rattle.std.proofs.lemmas.Option.{none-some}
 use Rattle.std.proofs.lemmas.List.{append_assoc, append-nil, take_all}
 use Rattle.std.proofs.lemmas.List.Elements.{filter-append}
+use Rattle.jv_model.specs.declared.limits.TheConstants.{FILE_END}
 use Rattle.jv_model.proofs.TestLaws.{some_same}
 use Rattle.jv_model.specs.Lists.{first_item, last_item}
 use Rattle.jv_pending.specs.declared.run.RunStart.{RunStart}
@@ -27,7 +28,7 @@ last_nothing [] h = refl
 last_nothing (x ∷ []) h = absurd (none-some x h)
 last_nothing (x ∷ y ∷ xs) h = absurd (cons_none y xs (last_nothing (y ∷ xs) h))
 
-pub last_file : (n : ℕ) (rs : List Run) (r : Run) → Rise 0 rs → Some r ≡ last_item (runs_before n rs) → (r.0.from < 1099511627776) × (start_place r < n)
+pub last_file : (n : ℕ) (rs : List Run) (r : Run) → Rise 0 rs → Some r ≡ last_item (runs_before n rs) → (r.0.from < FILE_END) × (start_place r < n)
 last_file n rs r o h =
     let s = last_split (runs_before n rs) r h in
     (file_last 0 s.0 r (subst (Rise 0) s.1 (Rise-before n 0 rs o)), last_early n s.0 r (subst (Before n) s.1 (Before-before n rs)))
@@ -68,28 +69,28 @@ within_before first end rs = subst (Before end) (sym (within_is first end rs)) (
 pub take_none : (n : ℕ) → take {A = ℕ} n [] ≡ []
 take_none n = take_all n [] (omega arith)
 
-head_late : (i from low : ℕ) (mid : List Run) (first : RunStart) → first.inode ≡ i → low ≡ place_of first + 1 → Rise low mid → BeginBy i 1099511627776 mid → joined_from from mid ≡ first.from → head_of from mid ≡ []
+head_late : (i from low : ℕ) (mid : List Run) (first : RunStart) → first.inode ≡ i → low ≡ place_of first + 1 → Rise low mid → BeginBy i FILE_END mid → joined_from from mid ≡ first.from → head_of from mid ≡ []
 head_late i from low [] first e l r b j = refl
 head_late i from low (x ∷ mid) first e l r b j =
     let k = r.1 in
     let n = b.0 in
     ap (λ m. take m x.1) (let z : from - x.0.from ≡ 0 = omega arith in z)
 
-pub head_is : (i from to : ℕ) (rs : List Run) (first end : RunStart) → Rise 0 rs → to ≤ 1099511627776 → from < to → IsTouched i from to rs first end → head_of from (runs_within (place_of first) (place_of end) rs) ≡ take (from - first.from) (unwrap_or (bytes_at first rs) [])
+pub head_is : (i from to : ℕ) (rs : List Run) (first end : RunStart) → Rise 0 rs → to ≤ FILE_END → from < to → IsTouched i from to rs first end → head_of from (runs_within (place_of first) (place_of end) rs) ≡ take (from - first.from) (unwrap_or (bytes_at first rs) [])
 head_is i from to rs first end o file lt t =
     let ff = t.first_from in
     let fi = t.first_inode in
     let ei = t.end_inode in
     let ef = t.end_from in
     let g = gap_le to in
-    let here : first.from < 1099511627776 = omega arith in
+    let here : first.from < FILE_END = omega arith in
     let up : place_of first < place_of end = omega arith in
     elim (bytes_at first rs) as (λ b. bytes_at first rs ≡ b → head_of from (runs_within (place_of first) (place_of end) rs) ≡ take (from - first.from) (unwrap_or b [])) [
       | None ↦ λ e.
           let m : runs_within (place_of first) (place_of end) rs ≡ runs_within (place_of first + 1) (place_of end) rs =
           within_is (place_of first) (place_of end) rs ∙ ap (runs_before (place_of end)) (absent first here 0 rs o e) ∙ sym (within_is (place_of first + 1) (place_of end) rs) in
           head_late i from (place_of first + 1) (runs_within (place_of first) (place_of end) rs) first fi refl (subst (Rise (place_of first + 1)) (sym m) (within_rise (place_of first + 1) (place_of end) rs o))
-          (BeginBy-weaker i (to + gap to - 1) 1099511627776 (runs_within (place_of first) (place_of end) rs) (omega arith) t.of_inode) t.begins
+          (BeginBy-weaker i (to + gap to - 1) FILE_END (runs_within (place_of first) (place_of end) rs) (omega arith) t.of_inode) t.begins
           ∙ sym (take_none (from - first.from))
       | Some v ↦ λ e.
           ap (head_of from) (within_is (place_of first) (place_of end) rs ∙ ap (runs_before (place_of end)) (present first here 0 rs v o e) ∙ before_yes (place_of end) (first, v) (runs_from (place_of first + 1) rs) up)
@@ -159,7 +160,7 @@ late i from low [] o r = tt
 late i from low (x ∷ rs) o r = λ e. let s = o.0.some in let k = r.1 in omega arith
 
 -- the run that begins last up to a position and reaches it is the first that a write touches
-pub first_reaches : (i from : ℕ) (rs : List Run) (r : Run) → InOrder 0 rs → Some r ≡ last_item (runs_before (place i from + 1) rs) → from < 1099511627776 → r.0.inode ≡ i → from + 1 ≤ end_of_run r + gap from → IsFirst i from rs r.0
+pub first_reaches : (i from : ℕ) (rs : List Run) (r : Run) → InOrder 0 rs → Some r ≡ last_item (runs_before (place i from + 1) rs) → from < FILE_END → r.0.inode ≡ i → from + 1 ≤ end_of_run r + gap from → IsFirst i from rs r.0
 first_reaches i from rs r o h file e reach =
     let low = Rise-order 0 rs o in
     let s = last_split (runs_before (place i from + 1) rs) r h in
@@ -208,7 +209,7 @@ first_here i from rs o b =
 pub first_none : (i from : ℕ) (rs : List Run) → InOrder 0 rs → None ≡ last_item (runs_before (place i from + 1) rs) → IsFirst i from rs (record { inode = i; from = from })
 first_none i from rs o h = first_here i from rs o (subst (EndBy (place i from - gap from)) (sym (last_nothing (runs_before (place i from + 1) rs) h)) tt)
 
-pub first_apart : (i from : ℕ) (rs : List Run) (r : Run) → InOrder 0 rs → Some r ≡ last_item (runs_before (place i from + 1) rs) → from < 1099511627776 → (r.0.inode ≡ i → end_of_run r + gap from ≤ from) → IsFirst i from rs (record { inode = i; from = from })
+pub first_apart : (i from : ℕ) (rs : List Run) (r : Run) → InOrder 0 rs → Some r ≡ last_item (runs_before (place i from + 1) rs) → from < FILE_END → (r.0.inode ≡ i → end_of_run r + gap from ≤ from) → IsFirst i from rs (record { inode = i; from = from })
 first_apart i from rs r o h file apart =
     let s = last_split (runs_before (place i from + 1) rs) r h in
     let early = last_early (place i from + 1) s.0 r (subst (Before (place i from + 1)) s.1 (Before-before (place i from + 1) rs)) in
@@ -223,7 +224,7 @@ first_apart i from rs r o h file apart =
     first_here i from rs o (subst (EndBy (place i from - gap from)) (sym s.1) (end_by_last 0 (place i from - gap from) s.0 r front ends))
 
 -- the runs that a write touches, by the first of them
-begin_by : (i low to : ℕ) (mid : List Run) → i * 1099511627776 ≤ low → to ≤ 1099511627776 → Rise low mid → Before (place i to) mid → BeginBy i (to - 1) mid
+begin_by : (i low to : ℕ) (mid : List Run) → i * FILE_END ≤ low → to ≤ FILE_END → Rise low mid → Before (place i to) mid → BeginBy i (to - 1) mid
 begin_by i low to [] l h r b = tt
 begin_by i low to (x ∷ mid) l h r b =
     let k = r.1 in
@@ -231,11 +232,11 @@ begin_by i low to (x ∷ mid) l h r b =
     let f = r.0 in
     (omega arith, omega arith, begin_by i (start_place x + 1) to mid (omega arith) h r.2 b.1)
 
-reaches_by : (i from : ℕ) (mid : List Run) → IfSome (first_item mid) (λ r. r.0.inode ≡ i → from + 1 ≤ end_of_run r + gap from) → BeginBy i 1099511627776 mid → Reaches from mid
+reaches_by : (i from : ℕ) (mid : List Run) → IfSome (first_item mid) (λ r. r.0.inode ≡ i → from + 1 ≤ end_of_run r + gap from) → BeginBy i FILE_END mid → Reaches from mid
 reaches_by i from [] h b = tt
 reaches_by i from (x ∷ mid) h b = h b.0
 
-begins_by : (i from low : ℕ) (mid : List Run) (first : RunStart) → first.inode ≡ i → first.from ≤ from → place_of first ≤ low → Rise low mid → BeginBy i 1099511627776 mid → (first.from < from → IsSomeAnd (first_item mid) (λ r. r.0 ≡ first)) → joined_from from mid ≡ first.from
+begins_by : (i from low : ℕ) (mid : List Run) (first : RunStart) → first.inode ≡ i → first.from ≤ from → place_of first ≤ low → Rise low mid → BeginBy i FILE_END mid → (first.from < from → IsSomeAnd (first_item mid) (λ r. r.0 ≡ first)) → joined_from from mid ≡ first.from
 begins_by i from low [] first e l k r b h = ⊎_elim (λ lt. absurd (h lt)) (λ ge. omega arith) (cases_lt first.from from)
 begins_by i from low (x ∷ mid) first e l k r b h =
     let m = r.1 in
@@ -258,21 +259,21 @@ first_kept : (n : ℕ) (rs : List Run) (first : RunStart) → place_of first < n
 first_kept n [] first l h = absurd h
 first_kept n (x ∷ rs) first l h = subst (λ (t : List Run). IsSomeAnd (first_item t) (λ r. r.0 ≡ first)) (sym (before_yes n x rs (let q : place_of x.0 ≡ place_of first = ap place_of h in omega arith))) h
 
-pub touched : (i from to : ℕ) (rs : List Run) (first end : RunStart) → InOrder 0 rs → from < to → to ≤ 1099511627776 → IsFirst i from rs first → end.inode ≡ i → end.from ≡ to + gap to → IsTouched i from to rs first end
+pub touched : (i from to : ℕ) (rs : List Run) (first end : RunStart) → InOrder 0 rs → from < to → to ≤ FILE_END → IsFirst i from rs first → end.inode ≡ i → end.from ≡ to + gap to → IsTouched i from to rs first end
 touched i from to rs first end o lt file f ei ef =
     let low = Rise-order 0 rs o in
     let g = gap_le to in
     let fi = f.inode_is in
     let ff = f.from_is in
     let up : place_of first < place_of end = omega arith in
-    let top : to + gap to ≤ 1099511627776 = ⊎_elim (λ z. let e = z.1 in omega arith) (λ z. let p = z.0 in ⊎_elim (λ l. omega arith) (λ s. absurd (omega arith)) (cases_lt to 1099511627776)) (gap_tells to) in
+    let top : to + gap to ≤ FILE_END = ⊎_elim (λ z. let e = z.1 in omega arith) (λ z. let p = z.0 in ⊎_elim (λ l. omega arith) (λ s. absurd (omega arith)) (cases_lt to FILE_END)) (gap_tells to) in
     let mid : List Run = runs_within (place_of first) (place_of end) rs in
     let behind : List Run = runs_from (place_of first) rs in
     let same : mid ≡ runs_before (place_of end) behind = within_is (place_of first) (place_of end) rs in
     let last : place_of end ≡ place i (to + gap to) = omega arith in
     let rises : Rise (place_of first) mid = within_rise (place_of first) (place_of end) rs low in
     let all : BeginBy i (to + gap to - 1) mid = begin_by i (place_of first) (to + gap to) mid (omega arith) top rises (subst (λ n. Before n mid) last (within_before (place_of first) (place_of end) rs)) in
-    let wide : BeginBy i 1099511627776 mid = BeginBy-weaker i (to + gap to - 1) 1099511627776 mid (omega arith) all in
+    let wide : BeginBy i FILE_END mid = BeginBy-weaker i (to + gap to - 1) FILE_END mid (omega arith) all in
     let q = InOrder-from (place_of end) 0 rs o in
     record {
       first_inode = fi;
