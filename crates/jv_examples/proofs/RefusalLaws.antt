@@ -108,7 +108,7 @@ abbrev fault_of : Told → Fault
 fault_of (ToldRefused fault) = fault
 fault_of _ = NoMemory
 
--- a refusal that isn't settled has its cause in the request that was just made
+-- a refusal that isn't decided yet has its cause in the request that was just made
 pub refused_by_cause : {start : Start} {alone : Bool} {s : State} {client now : ℕ} {c : ModelClient} {d : Doing} {fault : Fault}
     → is_failure (ToldRefused fault) ≡ false → is_replying d.stage ≡ false → is_refusal (option_map told_of (answer_then c d)) ≡ false
     → MayAnswer start alone s client now c d (ToldRefused fault) → IsRefusedIn start s client now c d fault
@@ -281,7 +281,7 @@ abbrev is_stats : Does → Bool
 is_stats (Answers CacheStats) = true
 is_stats _ = false
 
--- once the answer is settled, no request was made that might be refused
+-- once the answer is decided, no request was made that might be refused
 pub settled_not_refused : {start : Start} {s : State} {client now : ℕ} {c : ModelClient} {o : Op} {does : Does} {flush : Flush} {moved : Bool} {answer : Reply} {fault : Fault}
     → IsRefusedIn start s client now c (record { op = o; does = does; flush = flush; stage = Replying answer; moved = moved }) fault → ⊥
 settled_not_refused (SessionGone asks gone e) = absurd (cc)
@@ -300,7 +300,7 @@ abbrev reply_in : Reply → Stage → Reply
 reply_in other (Replying answer) = answer
 reply_in other _ = other
 
--- a settled answer is the one that is answered
+-- a decided answer is the one that is answered
 pub settled_is_told : {start : Start} {alone : Bool} {s : State} {client now : ℕ} {c : ModelClient} {o : Op} {does : Does} {flush : Flush} {moved : Bool} {answer : Reply} {told : Told}
     → is_stats does ≡ false → MayAnswer start alone s client now c (record { op = o; does = does; flush = flush; stage = Replying answer; moved = moved }) told → told ≡ told_of answer
 settled_is_told other (Fails must fails) = absurd (cc)

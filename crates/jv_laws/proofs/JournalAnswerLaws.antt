@@ -24,7 +24,7 @@ use Rattle.jv_laws.proofs.JournalStates.{of_kind}
 use Rattle.jv_laws.proofs.JournalDoingLaws.{doing_given}
 use Rattle.jv_laws.proofs.JournalLineLaws.{due_at_worker, due_at_own}
 
--- an operation whose answer is settled
+-- an operation whose answer is decided
 
 abbrev settled_doing : Doing → Reply → Doing
 settled_doing d r = record d { stage = Replying r; moved = true }
@@ -106,7 +106,7 @@ module _ (start : Start) (alone : Bool) (s : State) (client now : ℕ) (c : Mode
   settled_step (Ticked by) may = absurd may
   settled_step (Answered told) may = ap Answered (settled_answer told may)
 
--- a client whose answer is settled, and has to come on the present line
+-- a client whose answer is decided, and has to come on the present line
 
 data IsOnLine (client : ℕ) (due : Due) : Type 0 where
   Answering : due ≡ ToAnswer client → IsOnLine client due

@@ -174,4 +174,5 @@ pub enum Finding {
     },
 }
 
+/// What a check of a volume finds, in the order in which it does.
 pub type Findings = Sequence<Finding>;

@@ -51,6 +51,7 @@ pub struct BlockId {
     pub size: u32,
 }
 
+/// Blocks, as a reader needs them one after another.
 pub type BlockKeys = Sequence<BlockId>;
 
 /// An object as a listing shows it.
@@ -62,8 +63,10 @@ pub struct Seen {
     pub at: Moment,
 }
 
+/// Objects that a depot lists, in the order of their names.
 pub type SeenList = Sequence<Seen>;
 
+/// Names of blocks that a shelf lists, in their order.
 pub type NameList = Sequence<Name>;
 
 /// Entries of a directory: names with the inodes that they name.

@@ -63,9 +63,9 @@ pub data Stage : Type 0 where
   Compacting : Compaction → Stage
   Cleans : Cleaning → Stage
   Requesting : (requests : ℕ) → Stage  -- requests of a collection or an upload
-  Replying : Reply → Stage  -- its answer is settled, in this same step
+  Replying : Reply → Stage  -- its answer is decided, and comes in this same step
 
--- the answer is settled, and comes in the same step
+-- the answer is decided, and comes in the same step
 abbrev pub is_replying : Stage → Bool
 is_replying (Replying reply) = true
 is_replying _ = false

@@ -74,7 +74,7 @@ run_length inode position (b ∷ bs) = (if stands_at inode position b
     then (if (position + 1) % WINDOW == 0 then 1 else 1 + run_length inode (position + 1) bs)
     else 0)
 
--- the least maximal run of pending positions inside a window, which a flush commits first
+-- the least segment: pending positions in a row, as many as there are inside one window; a flush commits it first
 abbrev pub first_segment : List PendingByte → Option Segment
 first_segment [] = None
 first_segment (b ∷ bs) = Some (record { inode = b.inode; from = b.position; len = run_length b.inode b.position (b ∷ bs) })

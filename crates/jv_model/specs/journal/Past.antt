@@ -196,7 +196,7 @@ abbrev pub settled_reply : Stage → Option Reply
 settled_reply (Replying r) = Some r
 settled_reply _ = None
 
--- the reply that an answer stands for: the one that is settled, or the one of the answer's numbers
+-- the reply that an answer stands for: the one that is decided, or the one of the answer's numbers
 abbrev pub reply_of : ModelClient → Doing → Told → Reply
 reply_of c doing told = elim (settled_reply doing.stage) [ None ↦ told_reply c doing told | Some settled ↦ settled ]
 

@@ -140,7 +140,7 @@ given entry does (NewSession sid) c = record c { session = Some sid; writeback =
 given entry does (NewHandle handle inode) c = record c { handles = with_file handle (Some (record { inode = inode; opened = entry })) c.handles }
 given entry does Nothing c = c
 
--- the client after its transaction, whose reply is settled
+-- the client after its transaction, whose reply is decided
 abbrev pub replied : ℕ → Does → Reply → ModelClient → ModelClient
 replied entry does answer c = with_stage (Replying answer) (given entry does (gift_of answer) c)
 
@@ -240,7 +240,7 @@ look_refusal t c inode = (if not (has_session t c) then Some (session_gone c)
     else if is_some (node_at t inode) then None
     else Some (reply.Refused (Stale (Node inode))))
 
--- a look that is refused settles the answer
+-- a look that is refused decides the answer
 abbrev pub refused_look : State → ModelClient → ℕ → Stage → Stage
 refused_look s c inode stage = elim (look_refusal s.tree c inode) [ None ↦ stage | Some answer ↦ Replying answer ]
 
