@@ -5,9 +5,10 @@ use Rattle.std.proofs.lemmas.Bool.{false≢true, cases_lt}
 use Rattle.jv_model.specs.declared.limits.TheConstants.{LAST_CLIENT}
 use Rattle.jv_model.specs.declared.setting.Setting.{Setting}
 use Rattle.jv_model.specs.declared.slice.BlockId.{BlockId}
-use Rattle.jv_model.specs.FiniteMap.{get}
+use Rattle.jv_model.specs.FiniteMap.{get, text_key}
 use Rattle.jv_model.specs.blocks.BlockNames.{IsBlock, name_in}
 use Rattle.jv_model.specs.tree.Tree.{Tree}
+use Rattle.jv_model.proofs.FiniteMapLaws.{get-empty_map}
 use Rattle.jv_model.proofs.TestLaws.{known_is, some_same}
 use Rattle.jv_outside.specs.Blocks.{StagedMap, staged_at}
 use Rattle.jv_outside.specs.Holding.{Holding}
@@ -17,7 +18,7 @@ use Rattle.jv_volume.specs.Slices.{next_slice}
 use Rattle.jv_contents.specs.Blocks.{AreBelow, HasBlocks}
 use Rattle.jv_yard.specs.Contents.{blocks_in, is_block}
 use Rattle.jv_yard.specs.Later.{AreAlike, Contents, IsCopy, IsStagedWith, contents_of}
-use Rattle.jv_yard.specs.Staging.{Staging, staged_since}
+use Rattle.jv_yard.specs.Staging.{ClientStaging, Staging, staged_since}
 use Rattle.jv_yard.specs.Starting.{IsFound, IsStarted}
 use Rattle.jv_yard.specs.YardValue.{NamesBlock}
 use Rattle.jv_yard.proofs.CallLaws.{IsKept-started}
@@ -44,8 +45,7 @@ module _ (t : Tree) (g : Known) (v w : Shared) (store : HasStore t g v)
     (found : (client : ℕ) → client ≤ LAST_CLIENT → IsFound v.yard.setting v.yard.shelf.content client (v.yard.staged client))
     (depot : Holding ObjectMap) (shelf : Holding StagedMap) (started : IsStarted v.yard.setting depot shelf w.yard)
     (rows : w.keeper.rows ≡ v.keeper.rows) (objects : depot.content ≡ v.yard.depot.content)
-    (blocks : shelf.content ≡ v.yard.shelf.content)
-    (eight : (client : ℕ) (name : List ℕ) → LAST_CLIENT < client → staged_since client name w.yard.staged ≡ None) where
+    (blocks : shelf.content ≡ v.yard.shelf.content) where
   abbrev setting : Setting
   setting = v.yard.setting
 
@@ -67,12 +67,16 @@ module _ (t : Tree) (g : Known) (v w : Shared) (store : HasStore t g v)
       store.staged_copies client b bytes
       (ap (λ test. if test then staged_at client name store.staged else None) (λ i. passes i && there i) ∙ at)
 
-  -- there are eight clients
+  -- no other client than those of a session has staged anything
+  no_others : (client : ℕ) (name : List ℕ) → LAST_CLIENT < client → staged_since client name w.yard.staged ≡ None
+  no_others client name high =
+      ap (λ (staging : ClientStaging). get staging name) (started.no_others client high) ∙ get-empty_map text_key name
+
   client_is : (client : ℕ) (name : List ℕ) → IsSome (staged_since client name w.yard.staged) → client ≤ LAST_CLIENT
   client_is client name some = by_number (cases_lt LAST_CLIENT client)
     where
       by_number : (LAST_CLIENT < client) ⊎ (client ≤ LAST_CLIENT) → client ≤ LAST_CLIENT
-      by_number (inl high) = absurd (false≢true (sym (ap is_some (eight client name high)) ∙ some))
+      by_number (inl high) = absurd (false≢true (sym (ap is_some (no_others client name high)) ∙ some))
       by_number (inr low) = low
 
   known_copy : (b : BlockId) (bytes : List ℕ) → IsBlock setting.block b → IsCopy contents (name_in setting b) bytes
@@ -142,12 +146,11 @@ module _ (t : Tree) (g : Known) (v w : Shared) (store : HasStore t g v)
   }
 
 -- A session began with a yard that was started (`before`) and has left `left`, with its tree. The next one begins with the rows left, and
--- with a yard that is started over a depot and a shelf with what is left there. There are eight clients.
+-- with a yard that is started over a depot and a shelf with what is left there.
 pub IsFresh-left : (setting : Setting) (depot depot' : Holding ObjectMap) (shelf shelf' : Holding StagedMap)
     (before left next : Shared) (t : Tree) → IsStarted setting depot shelf before.yard → StaysPut before left → Leaves left t
     → IsStarted left.yard.setting depot' shelf' next.yard → next.keeper.rows ≡ left.keeper.rows
-    → depot'.content ≡ left.yard.depot.content → shelf'.content ≡ left.yard.shelf.content
-    → ((client : ℕ) (name : List ℕ) → LAST_CLIENT < client → staged_since client name next.yard.staged ≡ None) → IsFresh next
-IsFresh-left setting depot depot' shelf shelf' before left next t started stays leaves again rows objects blocks eight =
+    → depot'.content ≡ left.yard.depot.content → shelf'.content ≡ left.yard.shelf.content → IsFresh next
+IsFresh-left setting depot depot' shelf shelf' before left next t started stays leaves again rows objects blocks =
     IsFresh-after t leaves.known left next leaves.store (Found-left setting depot shelf before left started stays)
-    depot' shelf' again rows objects blocks eight
+    depot' shelf' again rows objects blocks
