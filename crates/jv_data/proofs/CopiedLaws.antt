@@ -20,14 +20,14 @@ use Rattle.jv_volume.specs.Views.{row_in, records_in, node_row_at, counters_at, 
 use Rattle.jv_volume.specs.TreeOf.{content_of}
 use Rattle.jv_volume.specs.Slices.{records_naming, place_in, next_slice, WholeSlices}
 use Rattle.jv_volume.specs.Whole.{Quiet, Whole, is_of_slices}
-use Rattle.jv_volume.proofs.QuietLaws.{quiet-slices, quiet-lists_of}
+use Rattle.jv_volume.proofs.QuietLaws.{quiet-slices, lists_of-stay, slice_row-stay}
 use Rattle.jv_contents.specs.Bytes.{Told, bytes_of, tree_with}
 use Rattle.jv_contents.specs.Counts.{HadSize, KeepsOthers, record_count}
 use Rattle.jv_contents.specs.Places.{put_over}
 use Rattle.jv_contents.proofs.BlockLaws.{place_has_row}
 use Rattle.jv_contents.proofs.ByteLaws.{past-put_over}
 use Rattle.jv_contents.proofs.CountLaws.{ListsMove, move-none, others-adjusted, go-adjusted, lives-added, full-many}
-use Rattle.jv_contents.proofs.KeepLaws.{record_count-stay, slice_row-stay}
+use Rattle.jv_contents.proofs.KeepLaws.{record_count-stay}
 use Rattle.jv_contents.proofs.PlaceLaws.{place_in-same}
 use Rattle.jv_contents.proofs.WholeLaws.{SlicesGo}
 use Rattle.jv_data.specs.declared.copying.Course.{Course}
@@ -54,7 +54,7 @@ module _ (rows : Rows) (course : Course) (was : NodeRow) (c : Counters) (now end
   quiet = quiet-sized rows course.target was c now end whole there file counters
 
   list_same : (i u : ℕ) → lists_of middle i u ≡ lists_of rows i u
-  list_same i u = quiet-lists_of rows middle quiet i u
+  list_same i u = lists_of-stay rows middle quiet.apart i u
 
   within : course.to + course.len ≤ FILE_END
   within = omega (arith, long, small)

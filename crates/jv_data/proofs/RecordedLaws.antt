@@ -22,12 +22,12 @@ use Rattle.jv_volume.specs.Views.{lists_of, node_row_at, slice_row_at, counters_
 use Rattle.jv_volume.specs.TreeOf.{content_of}
 use Rattle.jv_volume.specs.Slices.{IsUnknown, next_slice, place_in}
 use Rattle.jv_volume.specs.Whole.{IsRowAt, Quiet, Whole}
-use Rattle.jv_volume.proofs.QuietLaws.{quiet-lists_of}
+use Rattle.jv_volume.proofs.QuietLaws.{lists_of-stay, slice_row-stay}
 use Rattle.jv_contents.specs.Places.{put_over}
 use Rattle.jv_contents.specs.Bytes.{Told, spot_byte, bytes_of, tree_with}
 use Rattle.jv_contents.specs.Counts.{KeepsOthers}
 use Rattle.jv_contents.proofs.ByteLaws.{byte-committed, past-put_over}
-use Rattle.jv_contents.proofs.KeepLaws.{unknown-stay, slice_row-stay, keeps-stay_then}
+use Rattle.jv_contents.proofs.KeepLaws.{unknown-stay, keeps-stay_then}
 use Rattle.jv_contents.proofs.PlaceLaws.{place_in-same}
 use Rattle.jv_data.specs.Changing.{may_change}
 use Rattle.jv_data.proofs.BesideLaws.{Beside, beside-alter, beside-then, formed-beside, list_is_row, whole-formed}
@@ -57,7 +57,7 @@ module _ (rows : Rows) (inode window : ℕ) (low : window < 2 ^ 32) (was : NodeR
   quiet = quiet-sized rows inode was c now end whole there file counters
 
   pub same_list : list ≡ lists_of middle inode window
-  same_list = list_is ∙ sym (quiet-lists_of rows middle quiet inode window)
+  same_list = list_is ∙ sym (lists_of-stay rows middle quiet.apart inode window)
 
   abbrev pub last : Rows
   last = recorded_rows middle inode window low rec list same_list is some small
@@ -115,7 +115,7 @@ module _ (rows : Rows) (inode window : ℕ) (low : window < 2 ^ 32) (was : NodeR
 
   -- what lists show
   lists_middle : (i p : ℕ) → place_in (lists_of middle i) p ≡ place_in (lists_of rows i) p
-  lists_middle i p = place_in-same (lists_of middle i) (lists_of rows i) (λ u. quiet-lists_of rows middle quiet i u) p
+  lists_middle i p = place_in-same (lists_of middle i) (lists_of rows i) (λ u. lists_of-stay rows middle quiet.apart i u) p
 
   own_places : (p : ℕ) → place_in (lists_of last inode) p ≡ put_over (place_in (lists_of rows inode)) from rec.len (shown rec) p
   own_places p = places-recorded middle inode window low rec list same_list is some small p

@@ -32,9 +32,9 @@ use Rattle.jv_rows.specs.Drafts.{drafted}
 use Rattle.jv_model.specs.declared.slice.Spot.TheVariants.{Zero}
 use Rattle.jv_contents.specs.Counts.{KeepsOthers}
 use Rattle.jv_contents.proofs.ByteLaws.{byte-grown}
-use Rattle.jv_contents.proofs.KeepLaws.{keeps-stay, slice_row-stay}
+use Rattle.jv_contents.proofs.KeepLaws.{keeps-stay}
 use Rattle.jv_contents.proofs.PlaceLaws.{place_in-same}
-use Rattle.jv_volume.proofs.QuietLaws.{quiet-lists_of}
+use Rattle.jv_volume.proofs.QuietLaws.{lists_of-stay, slice_row-stay}
 use Rattle.jv_volume.specs.Slices.{place_in}
 use Rattle.jv_data.proofs.BesideLaws.{beside-none}
 use Rattle.jv_data.proofs.ChangedLaws.{tree-changed}
@@ -238,7 +238,7 @@ module _ (sid now inode len : ℕ) where
               | Cut shorter c ↦ show_last (typed known) inode was s.counters now len whole (there known is) h.file s.there small left
                   (subst (λ (rows : Rows). ListsCut inode len now (typed known) rows left) s.is c) u
                   ∙ sym (cond-true _ _ _ (lt-ltb len was.length shorter))
-              | Kept longer same ↦ ap (λ (rows : Rows). lists_of rows inode u) (same ∙ s.is) ∙ quiet-lists_of (typed known) sized_known quiet inode u
+              | Kept longer same ↦ ap (λ (rows : Rows). lists_of rows inode u) (same ∙ s.is) ∙ lists_of-stay (typed known) sized_known quiet.apart inode u
                   ∙ sym (cond-false _ _ _ (le-ltb len was.length longer))
             ]
 
@@ -257,7 +257,7 @@ module _ (sid now inode len : ℕ) where
                 (content_found known inode was whole (there known is) h.file (bytes_of told (typed known)))))
               where
                 shown : (i p : ℕ) → place_in (lists_of sized_known i) p ≡ place_in (lists_of (typed known) i) p
-                shown i p = place_in-same (lists_of sized_known i) (lists_of (typed known) i) (λ u. quiet-lists_of (typed known) sized_known quiet i u) p
+                shown i p = place_in-same (lists_of sized_known i) (lists_of (typed known) i) (λ u. lists_of-stay (typed known) sized_known quiet.apart i u) p
 
                 past_was : (p : ℕ) → was.length ≤ p → place_in (lists_of (typed known) inode) p ≡ Zero
                 past_was = whole.files.past inode was (there known is) h.file

@@ -17,13 +17,12 @@ use Rattle.jv_volume.specs.TypedRows.{Cell, Rows, is_key}
 use Rattle.jv_volume.specs.Views.{row_in, records_in, node_row_at, counters_at, lists_of, slice_row_at, dead_at}
 use Rattle.jv_volume.specs.Slices.{place_in, next_slice, WholeSlices}
 use Rattle.jv_volume.specs.Whole.{Quiet, Whole, is_of_slices}
-use Rattle.jv_volume.proofs.QuietLaws.{quiet-slices, quiet-lists_of}
+use Rattle.jv_volume.proofs.QuietLaws.{quiet-slices, lists_of-stay, slice_row-stay}
 use Rattle.jv_contents.specs.Bytes.{Told, tree_with}
 use Rattle.jv_contents.specs.Counts.{KeepsOthers}
 use Rattle.jv_contents.specs.Places.{with_list, cut_list, cut_at}
 use Rattle.jv_contents.proofs.ByteLaws.{past-cut}
 use Rattle.jv_contents.proofs.CountLaws.{ListsMove, move-none, others-adjusted, dead_after, go-adjusted}
-use Rattle.jv_contents.proofs.KeepLaws.{slice_row-stay}
 use Rattle.jv_contents.proofs.PlaceLaws.{place_in-same, place_in-cut}
 use Rattle.jv_contents.proofs.WholeLaws.{SlicesGo}
 use Rattle.jv_data.specs.Changing.{may_change}
@@ -76,7 +75,7 @@ module _ (rows : Rows) (inode : ℕ) (was : NodeRow) (c : Counters) (now len : �
   quiet = quiet-sized rows inode was c now len whole there file counters
 
   list_same : (i u : ℕ) → lists_of middle i u ≡ lists_of rows i u
-  list_same i u = quiet-lists_of rows middle quiet i u
+  list_same i u = lists_of-stay rows middle quiet.apart i u
 
   low : window < 2 ^ 32
   low = grind (arith, small)

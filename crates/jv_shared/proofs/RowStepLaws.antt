@@ -18,13 +18,14 @@ use Rattle.jv_volume.specs.TreeOf.{tree_of}
 use Rattle.jv_volume.specs.Slices.{IsUnknown, WholeSlices, listed, next_slice}
 use Rattle.jv_volume.specs.Whole.{Quiet, Whole, no_bytes, SlicesStay}
 use Rattle.jv_volume.proofs.TreeOfLaws.{setting-tree_of}
+use Rattle.jv_volume.proofs.QuietLaws.{slice_row-stay}
 use Rattle.jv_contents.specs.Blocks.{AreBelow, Blocks, HasBlocks, told_by}
 use Rattle.jv_contents.specs.Bytes.{Told, bytes_of, tree_with}
 use Rattle.jv_contents.specs.Counts.{KeepsOthers}
 use Rattle.jv_contents.specs.Flights.{Flight, IsComplete}
 use Rattle.jv_contents.proofs.BlockLaws.{below-rows, grows-none, has_blocks-on, named_has_row}
 use Rattle.jv_contents.proofs.FlightLaws.{complete-there, flies-new}
-use Rattle.jv_contents.proofs.KeepLaws.{below-keeps, bytes-stay, has_blocks-stay, keeps-quiet, slice_row-stay, stay-counters, unknown-stay}
+use Rattle.jv_contents.proofs.KeepLaws.{below-keeps, bytes-stay, has_blocks-stay, keeps-quiet, stay-counters, unknown-stay}
 use Rattle.jv_contents.proofs.WholeLaws.{all-mapped}
 use Rattle.jv_yard.specs.Contents.{blocks_in}
 use Rattle.jv_shared.specs.Shared.{AreSized, HasStore, Known, Shared, present_in, rows_in, typed_in, with_size}
