@@ -28,7 +28,8 @@ use Rattle.jv_client.specs.declared.made.Made.TheVariants.{Both}
 use Rattle.jv_client.specs.ClientValue.{ClientValue, session_here}
 use Rattle.jv_client.specs.Changing.{TriesChange, TriesCopy, TriesTruncate, copied_to, cut_to}
 use Rattle.jv_client.specs.Ending.{ended, told_here}
-use Rattle.jv_client.specs.UnderWay.{ClosesOpen, IsReady, changes_files, left}
+use Rattle.jv_steps.specs.Stages.{changes_files}
+use Rattle.jv_client.specs.UnderWay.{ClosesOpen, IsReady, left}
 use Rattle.jv_client.specs.Makes.{Makes}
 use Rattle.jv_client.specs.Transacting.{EndsUnmade}
 use Rattle.jv_client.proofs.AnswerLaws.{makes-as}

@@ -36,6 +36,7 @@ use Rattle.jv_shared.specs.Shared.{HasStore, Known, Shared}
 use Rattle.jv_handles.specs.Handles.{inode_here, unseen}
 use Rattle.jv_handles.proofs.HandleLaws.{handles-forgotten}
 use Rattle.jv_handles.proofs.SeenLaws.{views-left}
+use Rattle.jv_steps.specs.Stages.{changes_files}
 use Rattle.jv_requests.specs.Request.{Request}
 use Rattle.jv_requests.proofs.ChangeLaws.{change-never_bad, change-never_moved, copy-not_made, copy-not_made_calm}
 use Rattle.jv_requests.proofs.ChangeLaws.{copy-request, truncate-not_made, truncate-not_made_calm, truncate-request}
@@ -45,7 +46,7 @@ use Rattle.jv_client.specs.declared.made.Made.TheVariants.{Both}
 use Rattle.jv_client.specs.ClientValue.{ClientValue, session_here}
 use Rattle.jv_client.specs.Ending.{ended}
 use Rattle.jv_client.specs.Held.{IsClient, IsHeld, Holds, in_flight}
-use Rattle.jv_client.specs.UnderWay.{IsReady, changes_files, left}
+use Rattle.jv_client.specs.UnderWay.{IsReady, left}
 use Rattle.jv_client.specs.Makes.{Makes, StepsTo}
 use Rattle.jv_client.specs.Transacting.{EndsUnmade}
 use Rattle.jv_client.proofs.CacheUseLaws.{cache-stays}

@@ -23,9 +23,10 @@ use Rattle.jv_client.specs.declared.doing.Progress.{Progress}
 use Rattle.jv_client.specs.declared.doing.Progress.TheVariants as progress
 use Rattle.jv_client.specs.ClientValue.{ClientValue}
 use Rattle.jv_client.specs.Held.{flush_of_code, is_last_here, stage_of}
+use Rattle.jv_steps.specs.Stages.{changes_files}
 use Rattle.jv_client.specs.UnderWay.{FlushesFor, Closes, Syncs, Describes, ReadsNothing, Reads, Truncates, IsForm}
 use Rattle.jv_client.specs.UnderWay.{Mounts, Transacts, Leaves, Writes, Flushes, Copies, TellsStats, IsAt}
-use Rattle.jv_client.specs.UnderWay.{IsReady, asks_more, changes_files, has_segment, left}
+use Rattle.jv_client.specs.UnderWay.{IsReady, asks_more, has_segment, left}
 use Rattle.jv_client.specs.UnderWay.{left_of, makes_transaction}
 use Rattle.jv_client.proofs.FormLaws.{no_quiets, under_way}
 

@@ -16,6 +16,7 @@ use Rattle.jv_model.specs.journal.State.{answer_then}
 use Rattle.jv_model.specs.journal.Steps.{told_of}
 use Rattle.jv_model.specs.client.OpForms.{is_write, is_transaction}
 use Rattle.jv_handles.specs.declared.handle.Handle.{Handle}
+use Rattle.jv_model.proofs.PendingLaws.{no_first_segment}
 use Rattle.jv_client.specs.declared.doing.Doing.{Doing}
 use Rattle.jv_client.specs.declared.doing.Flush.TheVariants as flush
 use Rattle.jv_client.specs.ClientValue.{ClientValue}
@@ -125,15 +126,11 @@ pub record WaitsToWrite (h : ClientValue) (d : Doing) (segment : Segment) (handl
 module _ (h : ClientValue) (d : Doing) (segment : Segment) (next : segment_left d.flush h.pending ≡ Some segment)
     (over : segment_left d.flush (without_segment segment h).pending ≡ None) (handle offset : ℕ) (bytes : List ℕ)
     (of_op : d.op ≡ op.Write handle offset bytes) where
-  nothing-left : (pending : List PendingByte) → first_segment pending ≡ None → pending ≡ []
-  nothing-left [] none = refl
-  nothing-left (b ∷ pending) none = absurd (cc none)
-
   committed-all : HasRoom h d.flush (length bytes) → (without_segment segment h).pending ≡ []
   committed-all (Beside first few) =
       absurd (let none = ap (λ f. segment_left f h.pending) first in cc (sym next ∙ none))
   committed-all (Alone first few) =
-      nothing-left (without_segment segment h).pending
+      no_first_segment (without_segment segment h).pending
       (sym (ap (λ f. segment_left f (without_segment segment h).pending) first) ∙ over)
 
   other-op : {A : Type 0} (o : Op) → d.op ≡ o → is_write o ≡ false → A

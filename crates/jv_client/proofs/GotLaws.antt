@@ -19,7 +19,7 @@ use Rattle.jv_model.specs.client.ModelClient.{ModelClient, OpenFile, Doing as Mo
 use Rattle.jv_model.specs.client.Profile.{handle_of}
 use Rattle.jv_model.specs.journal.Reading.{Asked, asked_parts, fresh_view}
 use Rattle.jv_model.specs.journal.State.{State, after_told, sees_first}
-use Rattle.jv_model.specs.journal.Steps.{file_in_use, is_failure}
+use Rattle.jv_model.specs.journal.Steps.{file_in_use}
 use Rattle.jv_model.specs.blocks.BlockNames.{name_in}
 use Rattle.jv_model.specs.client.OpForms.{is_read, is_umount}
 use Rattle.jv_outside.specs.Causes.{RoseIf}
@@ -51,13 +51,14 @@ use Rattle.jv_fetching.proofs.SameLaws.{fetches_show}
 use Rattle.jv_steps.specs.IsStep.{at_stage}
 use Rattle.jv_steps.proofs.LookStepLaws.{sees_first-is}
 use Rattle.jv_requests.specs.Request.{Request}
-use Rattle.jv_requests.proofs.GetLaws.{GotBlock, MayGet, get-answered, get-request, got-block}
+use Rattle.jv_requests.proofs.GetLaws.{GotBlock, MayGet, get-answered, get-request, got-block, fails-yard}
 use Rattle.jv_client.specs.declared.doing.Doing.{Doing}
 use Rattle.jv_client.specs.declared.made.Made.{Made}
 use Rattle.jv_client.specs.declared.made.Made.TheVariants as made
 use Rattle.jv_client.specs.declared.reading.Found.{Found}
 use Rattle.jv_client.specs.ClientValue.{ClientValue}
-use Rattle.jv_client.specs.Getting.{Fills, IsMissed, IsUnread, yard_fault}
+use Rattle.jv_yard.specs.Refusals.{yard_fault}
+use Rattle.jv_client.specs.Getting.{Fills, IsMissed, IsUnread}
 use Rattle.jv_client.specs.Held.{Holds, IsClient, IsHeld, in_flight}
 use Rattle.jv_client.specs.Makes.{Makes, StepsTo, TellsBad, UsesDevices, faults_of, step_of, tells_failure}
 use Rattle.jv_client.specs.CacheUse.{KeepsOne, LooksOnly, MovesInRead}
@@ -151,11 +152,6 @@ yard-unread now h done Shelf before after refused = record {
   puts = PutsNone (ap (λ (y : YardValue). y.log) refused.1) (ap (λ (y : YardValue). y.depot.content) refused.1);
 }
 yard-unread now h done Memory before after refused = yard-got now h done before after refused
-
-fails-unread : (why : YardFault) → is_failure (ToldRefused (yard_fault why)) ≡ true
-fails-unread Depot = refl
-fails-unread Shelf = refl
-fails-unread Memory = refl
 
 -- ---- the model asks for the block
 
@@ -400,7 +396,7 @@ module _ (now entry block : ℕ) (h : ClientValue) (d : Doing) (offset len : ℕ
       (made.Answer (ToldRefused fault) (RefusedReply fault))) (sym unread.is)
       (failed now entry block h d offset len cache fetch (NeedsBlock b) asks before used
       (same-gets before yard h.id name (Err unread.why) unread.gets) (yard_fault unread.why) cache cached-before
-      (fails-unread unread.why) (uses-unread unread.why before yard unread.gets)
+      (fails-yard unread.why) (uses-unread unread.why before yard unread.gets)
       (yard-unread now h (unread_as unread.why) unread.why before.yard yard unread.gets)
       (LooksOnly (LookedUp cache asks.looked refl)))
 

@@ -2,9 +2,8 @@
 use Rattle.std.specs.Prelude.{◌≡◌, ℕ, ◌<◌, List, length, Option, None, Some, IfSome, Result, Ok, Err}
 use Rattle.jv_model.specs.declared.act.ActKind.{ActKind}
 use Rattle.jv_model.specs.declared.act.ActKind.TheVariants.{Miss}
-use Rattle.jv_model.specs.declared.fault.Device.TheVariants.{Depot as TheDepot, Shelf as TheShelf}
 use Rattle.jv_model.specs.declared.fault.Fault.{Fault}
-use Rattle.jv_model.specs.declared.fault.Fault.TheVariants.{DeviceFailed, NoMemory, TryAgain}
+use Rattle.jv_model.specs.declared.fault.Fault.TheVariants.{TryAgain}
 use Rattle.jv_model.specs.declared.slice.BlockId.{BlockId}
 use Rattle.jv_model.specs.client.Profile.{handle_of}
 use Rattle.jv_model.specs.journal.Reading.{Asked}
@@ -17,19 +16,13 @@ use Rattle.jv_fetching.specs.Calls.{Keeps, LacksBlock}
 use Rattle.jv_fetching.specs.Fetching.{Fetching, fetch_left, first_window}
 use Rattle.jv_fetching.specs.Going.{CanFetch, IsFetching}
 use Rattle.jv_yard.specs.declared.faults.YardFault.{YardFault}
-use Rattle.jv_yard.specs.declared.faults.YardFault.TheVariants.{Depot, Shelf, Memory}
 use Rattle.jv_yard.specs.BlockCalls.{GetsBlock}
+use Rattle.jv_yard.specs.Refusals.{yard_fault}
 use Rattle.jv_yard.specs.YardValue.{YardValue}
 use Rattle.jv_client.specs.declared.doing.Doing.{Doing}
 use Rattle.jv_client.specs.declared.made.Made.{Made}
 use Rattle.jv_client.specs.ClientValue.{ClientValue}
 use Rattle.jv_client.specs.Transacting.{Refuses}
-
--- what the fault of a yard is to the client
-abbrev pub yard_fault : YardFault → Fault
-yard_fault Depot = DeviceFailed TheDepot
-yard_fault Shelf = DeviceFailed TheShelf
-yard_fault Memory = NoMemory
 
 -- a device failed or memory ran out before a block's bytes came
 pub record IsUnread (client : ℕ) (b : BlockId) (before after : YardValue) (fault : Fault) : Type 0 where

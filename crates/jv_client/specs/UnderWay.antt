@@ -209,11 +209,6 @@ abbrev pub tells_stats : Does → Bool
 tells_stats (does.Answers answer.CacheStats) = true
 tells_stats _ = false
 
-abbrev pub changes_files : Does → Bool
-changes_files does.Truncates = true
-changes_files does.Copies = true
-changes_files _ = false
-
 -- a write whose handle is open, and that there is room for
 abbrev pub MayKeep : Op → List (Option Handle) → PendingValue → Type 0
 MayKeep (op.Write handle offset bytes) handles pending = IsTrue (is_some (file_of handles handle)) × (offset + length bytes ≤ FILE_END)

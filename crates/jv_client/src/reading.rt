@@ -14,7 +14,8 @@ ghost use Rattle.jv_client.specs.ClientValue.{ClientValue};
 ghost use Rattle.jv_client.specs.Shared.{shared};
 ghost use Rattle.jv_client.specs.UnderWay.{IsReady, does_of, left, names_open};
 ghost use Rattle.jv_client.specs.Makes.{Makes};
-ghost use Rattle.jv_client.specs.Getting.{HasFilled, IsBlockIn, IsMissedBy, ReadsBlock, yard_fault};
+ghost use Rattle.jv_yard.specs.Refusals.{yard_fault};
+ghost use Rattle.jv_client.specs.Getting.{HasFilled, IsBlockIn, IsMissedBy, ReadsBlock};
 ghost use Rattle.jv_client.specs.Reading.{Begins, ClientComesTo, ComesTo, GoesOnAfter, IsAhead, IsCachedAs, IsMade, OnlyLooksUp, Shows, fetch_at, fetch_in, need_at, need_in, put_at};
 
 use crate::answers::looks;

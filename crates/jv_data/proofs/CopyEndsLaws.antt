@@ -3,7 +3,7 @@ use Rattle.std.proofs.Common.{◌≡◌, ◌≢◌, ℕ, ◌+◌, ◌-◌, ◌<�
 use Rattle.std.specs.Prelude.{◌==◌, ◌&&◌, not, min, max, nat_le, is_some, IfErr, IsTrue}
 use Rattle.std.specs.Option.{option_map}
 use Rattle.std.proofs.lemmas.Option.{same_Some}
-use Rattle.std.proofs.lemmas.Bool.{and_from, or_right, le-leb, leb-true, eqb-false, ne_eqb}
+use Rattle.std.proofs.lemmas.Bool.{and_from, leb-true, eqb-false, ne_eqb}
 use Rattle.jv_model.specs.declared.fault.Down.{Down}
 use Rattle.jv_model.specs.declared.fault.Fault.{Fault}
 use Rattle.jv_model.specs.declared.fault.Fault.TheVariants.{FileTooLarge, Invalid, NoSpace, Stale}
@@ -27,7 +27,7 @@ use Rattle.jv_model.specs.tree.Attempt.{◌>>=◌, require, some_or}
 use Rattle.jv_model.specs.tree.Caller.{Caller, Outcome, answered}
 use Rattle.jv_model.specs.tree.Changes.{copied_over, with_content}
 use Rattle.jv_model.specs.tree.FileBytes.{copied, overlap, copy, length_seen}
-use Rattle.jv_model.specs.tree.Tree.{Tree, Content, content_at, fits, sum_fits, space_limit, used_space, inode_limit, used_inodes}
+use Rattle.jv_model.specs.tree.Tree.{Tree, Content, content_at, fits, space_limit, used_space, inode_limit, used_inodes}
 use Rattle.jv_outside.specs.declared.batch.Change.{Change}
 use Rattle.jv_outside.specs.Rows.{applied}
 use Rattle.jv_outside.specs.Store.{Store, Commits}
@@ -56,6 +56,7 @@ use Rattle.jv_data.proofs.RefusedLaws.{changes-refused}
 use Rattle.jv_data.proofs.RestLaws.{of_left}
 use Rattle.jv_data.proofs.SizedLaws.{sized_rows}
 use Rattle.jv_data.proofs.TruncateLaws.{has_named}
+use Rattle.jv_data.proofs.CountersLaws.{fits-same}
 
 -- ---- the model's copy, by its steps
 
@@ -71,10 +72,8 @@ two_files true (Some source) (Some target) f g h rest = refl
 
 -- a tree fits in place of itself
 fits_same : (t : Tree) → fits t t ≡ true
-fits_same t = and_from _ _ (same (space_limit t.setting) (used_space t)) (same (inode_limit t.setting) (used_inodes t))
-  where
-    same : (limit n : ℕ) → sum_fits limit n n ≡ true
-    same limit n = or_right (nat_le n limit) (nat_le n n) (le-leb n n (omega arith))
+fits_same t =
+    and_from _ _ (fits-same (space_limit t.setting) (used_space t)) (fits-same (inode_limit t.setting) (used_inodes t))
 
 -- the bytes of a file that a range of a file is copied to
 abbrev bytes_copied : Option Content → Option Content → (from to n : ℕ) → ℕ → ℕ

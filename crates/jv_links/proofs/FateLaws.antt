@@ -29,6 +29,7 @@ use Rattle.jv_changes.proofs.DraftedLaws.{Stays, stays-none, stays-then, stays-s
 use Rattle.jv_links.specs.declared.fates.Fate.{Fate}
 use Rattle.jv_links.specs.declared.fates.Fate.TheVariants.{Linked, Trashed, Dropped, Sustained}
 use Rattle.jv_links.specs.Removals.{MayLose, TellsFate, fate_in}
+use Rattle.jv_links.proofs.LossLaws.{fate_by}
 
 -- the links of a file or a symlink are its entries
 link_count-leaf : (t : Tree) (inode : ℕ) → is_directory t inode ≡ false → link_count t inode ≡ entry_count t inode
@@ -81,10 +82,6 @@ module _ (caller : Caller) (place : EntryKey) (inode : ℕ) (draft : List Change
         (λ known is bytes t m r. record { left = t; is = refl; minds = m })
 
     -- what is answered of the model's fate
-    abbrev fate_by : Bool → Bool → Bool → model.Fate
-    fate_by several days used = (if several then model.Linked else if days then model.Trashed else if used
-        then model.Sustained else model.Dropped)
-
     several_is : (b : Bool) → nat_lt 1 row.nlink ≡ b → (known : RowMap) → before.rows ≡ Some known
         → (bytes : ℕ → ℕ → ℕ) (t : Tree) → Minds known draft bytes t
         → MayLose t caller place inode → nat_lt 1 (entry_count t inode) ≡ b

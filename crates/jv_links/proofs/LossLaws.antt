@@ -54,7 +54,7 @@ fate_from model.Dropped model.Trashed e = absurd (cc)
 fate_from model.Dropped model.Sustained e = absurd (cc)
 fate_from model.Dropped model.Dropped e = refl
 
-abbrev fate_by : Bool → Bool → Bool → model.Fate
+abbrev pub fate_by : Bool → Bool → Bool → model.Fate
 fate_by several days used = (if several then model.Linked else if days then model.Trashed else if used
     then model.Sustained else model.Dropped)
 
