@@ -106,6 +106,31 @@ ends_after : (i low : ℕ) (b : PendingByte) (bs : List PendingByte) → RiseFro
 ends_after i low b [] r = omega arith
 ends_after i low b (c ∷ cs) r = let l = ends_after i (b.position + 1) c cs r.2 in let m = r.2.1 in omega arith
 
+-- a run from the first of them on ends by the last
+run_ends : (i j low p : ℕ) (b : PendingByte) (bs : List PendingByte) → RiseFrom i low (b ∷ bs) → p ≤ b.position
+    → p + run_length j p (b ∷ bs) ≤ pending_end (b ∷ bs)
+run_ends i j low p b [] r first =
+    let most : run_length j p (b ∷ []) ≤ 1 = cond_both (stands_at j p b) (cond ((p + 1) % WINDOW == 0) 1 1) 0 (λ n. n ≤ 1)
+        (λ _. cond_both ((p + 1) % WINDOW == 0) 1 1 (λ n. n ≤ 1) (λ _. omega arith) (λ _. omega arith)) (λ _. omega arith) in
+    omega (arith, most, first)
+run_ends i j low p b (c ∷ cs) r first =
+    let more : ℕ = run_length j (p + 1) (c ∷ cs) in
+    let rises = r.2.1 in
+    let later : p + 1 + more ≤ pending_end (c ∷ cs) = run_ends i j (b.position + 1) (p + 1) c cs r.2 (omega (arith, first, rises)) in
+    let most : run_length j p (b ∷ c ∷ cs) ≤ 1 + more = cond_both (stands_at j p b) (cond ((p + 1) % WINDOW == 0) 1 (1 + more)) 0 (λ n. n ≤ 1 + more)
+        (λ _. cond_both ((p + 1) % WINDOW == 0) 1 (1 + more) (λ n. n ≤ 1 + more) (λ _. omega arith) (λ _. omega arith)) (λ _. omega arith) in
+    omega (arith, later, most)
+
+-- an inode's first segment ends by its last byte
+pub segment-ends : (i : ℕ) (bytes : List PendingByte) (s : Segment) → is_rising bytes ≡ true → first_segment (pending_of i bytes) ≡ Some s
+    → s.from + s.len ≤ end_of i bytes
+segment-ends i bytes s rising first = of_list (pending_of i bytes) (rises i bytes rising) first
+  where
+    of_list : (bs : List PendingByte) → RiseFrom i 0 bs → first_segment bs ≡ Some s → s.from + s.len ≤ pending_end bs
+    of_list [] r e = absurd (none-some s e)
+    of_list (b ∷ bs) r e = subst (λ (t : Segment). t.from + t.len ≤ pending_end (b ∷ bs)) (some_same _ s e)
+        (run_ends i b.inode 0 b.position b bs r (omega arith))
+
 -- the others' bytes stay
 pub others_stay : (i f n : ℕ) (bytes : List PendingByte) → pending_of_others i (without_range i f n bytes) ≡ pending_of_others i bytes
 others_stay i f n [] = refl

@@ -115,6 +115,8 @@ impl Pending {
             next_segment (Some at.inode) self.now.bytes ≡ Some (segment_at at)) }
         ensures some { IfSome result (λ at. 0 < at.len) }
         ensures inside { IfSome result (λ at. at.pos + at.len ≤ WINDOW) }
+        ensures ends { IfSome result (λ at.
+            (segment_at at).from + at.len ≤ end_of at.inode self.now.bytes) }
         ensures file { IfSome result (λ at. at.window * WINDOW < FILE_END) }
     {
         find_first(&self.runs, inode)
