@@ -88,7 +88,8 @@ fn a_slice_is_put_block_by_block(rt: HostRuntime) -> Result<(), Fail> {
     for index in 0..3 {
         assert_eq!(rt;
             put(alloc, &mut yard, &mut carrier, index, &bytes),
-            Some(Ok(()))
+            Some(Ok(())),
+            "block {index}"
         );
     }
     assert_eq!(rt; put(alloc, &mut yard, &mut carrier, 3, &bytes), None);
@@ -105,10 +106,16 @@ fn a_device_that_fails_is_named_and_the_next_put_succeeds(rt: HostRuntime) -> Re
     let Some(mut yard) = started(alloc, 1)? else {
         return Err(Fail::from(AllocError));
     };
-    for result in [Err(PutFault::Carrier), Err(PutFault::Depot), Ok(())] {
+    let rows = [
+        ("the carrier fails", Err(PutFault::Carrier)),
+        ("the depot fails", Err(PutFault::Depot)),
+        ("none fails", Ok(())),
+    ];
+    for (name, result) in rows {
         assert_eq!(rt;
             put(alloc, &mut yard, &mut carrier, 1, &bytes),
-            Some(result)
+            Some(result),
+            "{name}"
         );
     }
     assert_eq!(rt; yard.log().len(), 1);

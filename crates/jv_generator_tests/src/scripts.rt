@@ -95,7 +95,10 @@ fn near_the_end(alloc: Global) -> Result<Generator, AllocError> {
 fn the_last_two_lines_flush_the_last_files(rt: HostRuntime) -> Result<(), Fail> {
     let mut script = near_the_end(rt.alloc())?;
     for handle in [15, 16] {
-        assert!(rt; is_next(rt.alloc(), &mut script, flush(handle))?);
+        assert!(rt;
+            is_next(rt.alloc(), &mut script, flush(handle))?,
+            "handle {handle}"
+        );
     }
     let end = script.next(rt.alloc())?;
     assert!(rt; end.is_none());

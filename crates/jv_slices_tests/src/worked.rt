@@ -82,16 +82,16 @@ fn a_later_record_parts_an_earlier_one(rt: HostRuntime) -> Result<(), Fail> {
     let pieces = plan(rt.alloc(), &list, 0, 12)?;
     let of = |id, size, at| Spot::Slice { id, size, at };
     let wanted = [
-        (0, 3, of(1, 10, 0)),
-        (3, 2, of(2, 2, 0)),
-        (5, 5, of(1, 10, 5)),
-        (10, 2, Spot::Zero),
+        ("before it", 0, 3, of(1, 10, 0)),
+        ("the later one", 3, 2, of(2, 2, 0)),
+        ("behind it", 5, 5, of(1, 10, 5)),
+        ("past both", 10, 2, Spot::Zero),
     ];
     assert_eq!(rt; pieces.len(), wanted.len());
-    for ((from, len, spot), piece) in wanted.iter().zip(pieces.as_slice()) {
+    for ((name, from, len, spot), piece) in wanted.iter().zip(pieces.as_slice()) {
         let (from, len, spot) = (*from, *len, *spot);
-        assert_eq!(rt; *piece, Piece { from, len, spot });
-        assert_eq!(rt; byte_at(&list, from), spot);
+        assert_eq!(rt; *piece, Piece { from, len, spot }, "{name}");
+        assert_eq!(rt; byte_at(&list, from), spot, "{name}");
     }
     let keys = needs(rt.alloc(), &pieces, 6)?;
     let wanted = [(1, 0, 6), (2, 0, 2), (1, 1, 4)].map(|(id, index, size)| BlockId {
