@@ -1,7 +1,6 @@
 -- The lines of a script as bytes.
 use Rattle.std.specs.Prelude.{ℕ, Bool, ◌==◌, if◌then◌else◌, List, [], ◌∷◌}
-use Rattle.std.specs.List.{list_any}
-use Rattle.jv_model.specs.tree.Walk.{before_part}
+use Rattle.std.specs.List.{list_any, onto_first}
 
 abbrev pub is_feed : ℕ → Bool
 is_feed byte = byte == 10
@@ -13,4 +12,4 @@ has_feed = list_any is_feed
 -- may lack; nothing after the last line feed is no line.
 abbrev pub texts_of : List ℕ → List (List ℕ)
 texts_of [] = []
-texts_of (byte ∷ bytes) = if is_feed byte then [] ∷ texts_of bytes else before_part byte (texts_of bytes)
+texts_of (byte ∷ bytes) = if is_feed byte then [] ∷ texts_of bytes else onto_first byte (texts_of bytes)

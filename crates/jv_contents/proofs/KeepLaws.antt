@@ -20,16 +20,6 @@ use Rattle.jv_contents.proofs.PlaceLaws.{place_in-same}
 use Rattle.jv_contents.proofs.FlightLaws.{flies-still}
 use Rattle.jv_contents.proofs.BlockLaws.{has_blocks-still, below-rows}
 
-<<<<<<< HEAD
-abbrev is_list_key : RowKey → Bool
-is_list_key key = key.tab == TABLE_OF_LISTS
-
-||||||| 92d4eb1c
-abbrev is_list_key : RowKey → Bool
-is_list_key key = key.tab == 4
-
-=======
->>>>>>> twicelow/twicelow
 -- ---- changes that leave lists and slices
 
 -- the counters' row alone
@@ -42,54 +32,6 @@ stay-counters rows after others key is = elim (others key) [
 -- ---- what they keep
 
 module _ (rows after : Rows) (stay : SlicesStay rows after) where
-<<<<<<< HEAD
-  kept_lists : retain_keys is_list_key after ≡ retain_keys is_list_key rows
-  kept_lists = same_maps (retain_keys is_list_key after) (retain_keys is_list_key rows) (λ key.
-      get-retain_keys after is_list_key key ∙ by_table key (is_list_key key) refl ∙ sym (get-retain_keys rows is_list_key key))
-    where
-      by_table : (key : RowKey) (b : Bool) → is_list_key key ≡ b → cond b (get after key) None ≡ cond b (get rows key) None
-      by_table key true e = stay key (ap (λ b. b || (key.tab == TABLE_OF_SLICES) || (key.tab == TABLE_OF_DEAD)) e)
-      by_table key false e = refl
-
-  -- a sum over lists stays
-  pub sum-stay : (f : List Rec → ℕ) → f [] ≡ 0 → sum_over (λ key cell. f (listed key (Some cell))) after ≡ sum_over (λ key cell. f (listed key (Some cell))) rows
-  sum-stay f none =
-      sym (sum-retain_keys row_key (λ key cell. f (listed key (Some cell))) is_list_key nothing after)
-      ∙ ap (sum_over (λ key cell. f (listed key (Some cell)))) kept_lists
-      ∙ sum-retain_keys row_key (λ key cell. f (listed key (Some cell))) is_list_key nothing rows
-    where
-      nothing : (key : RowKey) (cell : Cell) → is_list_key key ≡ false → f (listed key (Some cell)) ≡ 0
-      nothing key cell other = ap (λ b. f (if b then records_in (row_in (Some cell)) else [])) other ∙ none
-
-  pub named_by-stay : (id : ℕ) → named_by after id ≡ named_by rows id
-  unfolding named_by
-  named_by-stay id = sum-stay (records_naming id) refl
-
-||||||| 92d4eb1c
-  kept_lists : retain_keys is_list_key after ≡ retain_keys is_list_key rows
-  kept_lists = same_maps (retain_keys is_list_key after) (retain_keys is_list_key rows) (λ key.
-      get-retain_keys after is_list_key key ∙ by_table key (is_list_key key) refl ∙ sym (get-retain_keys rows is_list_key key))
-    where
-      by_table : (key : RowKey) (b : Bool) → is_list_key key ≡ b → cond b (get after key) None ≡ cond b (get rows key) None
-      by_table key true e = stay key (ap (λ b. b || (key.tab == 5) || (key.tab == 9)) e)
-      by_table key false e = refl
-
-  -- a sum over lists stays
-  pub sum-stay : (f : List Rec → ℕ) → f [] ≡ 0 → sum_over (λ key cell. f (listed key (Some cell))) after ≡ sum_over (λ key cell. f (listed key (Some cell))) rows
-  sum-stay f none =
-      sym (sum-retain_keys row_key (λ key cell. f (listed key (Some cell))) is_list_key nothing after)
-      ∙ ap (sum_over (λ key cell. f (listed key (Some cell)))) kept_lists
-      ∙ sum-retain_keys row_key (λ key cell. f (listed key (Some cell))) is_list_key nothing rows
-    where
-      nothing : (key : RowKey) (cell : Cell) → is_list_key key ≡ false → f (listed key (Some cell)) ≡ 0
-      nothing key cell other = ap (λ b. f (if b then records_in (row_in (Some cell)) else [])) other ∙ none
-
-  pub named_by-stay : (id : ℕ) → named_by after id ≡ named_by rows id
-  unfolding named_by
-  named_by-stay id = sum-stay (records_naming id) refl
-
-=======
->>>>>>> twicelow/twicelow
   pub record_count-stay : record_count after ≡ record_count rows
   unfolding record_count
   record_count-stay = sum-stay rows after stay length refl
