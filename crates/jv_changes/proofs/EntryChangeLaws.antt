@@ -17,6 +17,7 @@ use Rattle.jv_model.specs.rows.RowPlaces.{node_key, edge_key}
 use Rattle.jv_model.specs.tree.Attempt.{◌>>=◌, require}
 use Rattle.jv_model.specs.tree.Tree.{Tree, Node, EntryKey, parent_of, is_directory, link_count, links_fit, node_at}
 use Rattle.jv_model.specs.tree.Changes.{put_entry, take_entry}
+use Rattle.jv_model.proofs.TestLaws.{some_same}
 use Rattle.jv_outside.specs.declared.batch.Change.{Change}
 use Rattle.jv_outside.specs.Store.{Store}
 use Rattle.jv_rows.specs.Drafts.{drafted}
@@ -169,13 +170,10 @@ module _ (known : RowMap) (was : List Change) (bytes : ℕ → ℕ → ℕ) (t :
     minds-entry_in name changes is = minds-sound known changes bytes (put_entry t now at inode) rows_in
         (sound-three rows at inode row dir here there apart (Some edge_cell) (typed known)
         (sound-minds known was bytes t m)
-        (λ x e. subst (IsRowAt (edge_key at.dir at.name)) (same_cell edge_cell x e)
+        (λ x e. subst (IsRowAt (edge_key at.dir at.name)) (some_same edge_cell x e)
         (record { key_is = name; cell_is = refl })) now
         (dir.nlink + links_by row.kind) (row.nlink + to_node row.kind))
         is tree_in stored_in
-      where
-        same_cell : (x y : Cell) → Some x ≡ Some y → x ≡ y
-        same_cell x y e = cc
 
 -- ---- whether links can be stored
 

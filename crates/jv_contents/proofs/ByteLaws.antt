@@ -6,9 +6,8 @@ use Rattle.jv_model.specs.declared.slice.Rec.{Rec}
 use Rattle.jv_model.specs.declared.slice.Spot.{Spot}
 use Rattle.jv_model.specs.declared.slice.Spot.TheVariants.{Zero, Slice}
 use Rattle.jv_model.specs.tree.Tree.{Content}
-use Rattle.jv_model.specs.tree.Changes.{byte_within, resized, patched, overwritten, copied_over}
+use Rattle.jv_model.specs.tree.Changes.{byte_within, resized, patched, overwritten, copied_over, content_of}
 use Rattle.jv_model.specs.blocks.Slices.{shown}
-use Rattle.jv_volume.specs.TreeOf.{content_of}
 use Rattle.jv_contents.specs.Places.{put_over, cut_at}
 use Rattle.jv_contents.specs.Bytes.{Told, spot_byte}
 

@@ -25,7 +25,7 @@ use Rattle.jv_model.specs.rows.RowKeys.{RowMap}
 use Rattle.jv_model.specs.rows.RowPlaces.{node_key, slice_key}
 use Rattle.jv_model.specs.tree.Attempt.{◌>>=◌, require, some_or}
 use Rattle.jv_model.specs.tree.Caller.{Caller, Outcome, answered}
-use Rattle.jv_model.specs.tree.Changes.{copied_over, with_content}
+use Rattle.jv_model.specs.tree.Changes.{copied_over, with_content, content_of}
 use Rattle.jv_model.specs.tree.FileBytes.{copied, overlap, copy, length_seen}
 use Rattle.jv_model.specs.tree.Tree.{Tree, Content, content_at, fits, space_limit, used_space, inode_limit, used_inodes}
 use Rattle.jv_outside.specs.declared.batch.Change.{Change}
@@ -35,7 +35,7 @@ use Rattle.jv_rows.specs.Counts.{is_named, IsFull as CountIsFull, FailsToRecount
 use Rattle.jv_rows.specs.Drafts.{drafted, IsNoRow}
 use Rattle.jv_rows.specs.Transactions.{BadFault, IsFor, Looks, TransactionCounts}
 use Rattle.jv_rows.proofs.TransactionLaws.{Past, if_known, of_known, past-start, past-as, past-calm, past-ends, past-fails, past-looks, past-refuses, past-stops, fails-commit}
-use Rattle.jv_volume.specs.TreeOf.{content_of, tree_of}
+use Rattle.jv_volume.specs.TreeOf.{tree_of}
 use Rattle.jv_volume.specs.TypedRows.{Rows, typed}
 use Rattle.jv_volume.specs.Views.{row_in, node_in, node_row_at, lists_of}
 use Rattle.jv_volume.specs.Slices.{records_naming}

@@ -12,11 +12,11 @@ use Rattle.jv_model.specs.declared.slice.Spot.TheVariants.{Zero}
 use Rattle.jv_model.specs.FiniteMap.{get}
 use Rattle.jv_model.specs.rows.RowPlaces.{counters_key, node_key, dropped_key}
 use Rattle.jv_model.specs.tree.Tree.{Tree, Content}
-use Rattle.jv_model.specs.tree.Changes.{resized, copied_over, with_content}
+use Rattle.jv_model.specs.tree.Changes.{resized, copied_over, with_content, content_of}
 use Rattle.jv_model.specs.tree.FileBytes.{truncated}
 use Rattle.jv_volume.specs.TypedRows.{Rows}
 use Rattle.jv_volume.specs.Views.{row_in, counters_in, counters_at, node_in, node_row_at, dropped_in, dropped_at, lists_of}
-use Rattle.jv_volume.specs.TreeOf.{content_of, counters_of, or_no_counters}
+use Rattle.jv_volume.specs.TreeOf.{counters_of, or_no_counters}
 use Rattle.jv_volume.specs.Slices.{next_slice, place_in, WholeSlices}
 use Rattle.jv_volume.specs.Whole.{Quiet, Whole, is_of_slices}
 use Rattle.jv_volume.proofs.QuietLaws.{quiet-slices}

@@ -16,9 +16,9 @@ use Rattle.jv_model.specs.rows.RowKeys.{RowMap}
 use Rattle.jv_model.specs.tree.Attempt.{◌>>=◌, some_or}
 use Rattle.jv_model.specs.tree.Tree.{Tree, content_at, content_of as content_in}
 use Rattle.jv_model.specs.tree.FileBytes.{length_seen}
+use Rattle.jv_model.specs.tree.Changes.{content_of}
 use Rattle.jv_outside.specs.Store.{Store}
 use Rattle.jv_volume.specs.TypedRows.{typed}
-use Rattle.jv_volume.specs.TreeOf.{content_of}
 use Rattle.jv_volume.specs.Views.{row_in, node_in, node_row_at}
 use Rattle.jv_volume.proofs.StoredLaws.{found_node, no_node, whole-stored}
 use Rattle.jv_rows.specs.Drafts.{Sees, cell, drafted}

@@ -15,11 +15,10 @@ use Rattle.jv_model.specs.FiniteMap.{get}
 use Rattle.jv_model.specs.blocks.Slices.{IsRecord, shown}
 use Rattle.jv_model.specs.rows.RowPlaces.{list_key, slice_key}
 use Rattle.jv_model.specs.tree.Tree.{Tree, Content}
-use Rattle.jv_model.specs.tree.Changes.{overwritten, with_content}
+use Rattle.jv_model.specs.tree.Changes.{overwritten, with_content, content_of}
 use Rattle.jv_model.specs.tree.FileBytes.{committed}
 use Rattle.jv_volume.specs.TypedRows.{Cell, Rows}
 use Rattle.jv_volume.specs.Views.{lists_of, node_row_at, slice_row_at, counters_at}
-use Rattle.jv_volume.specs.TreeOf.{content_of}
 use Rattle.jv_volume.specs.Slices.{IsUnknown, next_slice, place_in}
 use Rattle.jv_volume.specs.Whole.{IsRowAt, Quiet, Whole}
 use Rattle.jv_volume.proofs.QuietLaws.{lists_of-stay, slice_row-stay}

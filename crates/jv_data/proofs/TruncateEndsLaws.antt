@@ -16,7 +16,7 @@ use Rattle.jv_model.specs.FiniteMap.{get}
 use Rattle.jv_model.specs.rows.RowKeys.{RowMap}
 use Rattle.jv_model.specs.tree.Attempt.{◌>>=◌, require, some_or}
 use Rattle.jv_model.specs.tree.Caller.{Caller, Outcome, done}
-use Rattle.jv_model.specs.tree.Changes.{resized, with_content}
+use Rattle.jv_model.specs.tree.Changes.{resized, with_content, content_of}
 use Rattle.jv_model.specs.tree.FileBytes.{truncated, truncate, length_seen}
 use Rattle.jv_model.specs.tree.Tree.{Tree, Content, content_at, fits}
 use Rattle.jv_outside.specs.Store.{Store, Commits}
@@ -53,7 +53,7 @@ use Rattle.jv_model.specs.declared.row.Node.{Node as NodeRow}
 use Rattle.jv_model.specs.declared.row.RowKey.{RowKey}
 use Rattle.jv_model.specs.declared.row.SliceRow.{SliceRow}
 use Rattle.jv_model.specs.tree.Trash.{due_after}
-use Rattle.jv_volume.specs.TreeOf.{content_of, tree_of}
+use Rattle.jv_volume.specs.TreeOf.{tree_of}
 use Rattle.jv_volume.specs.TypedRows.{Rows, typed}
 use Rattle.jv_contents.specs.Bytes.{Told, spot_byte, bytes_of, tree_with}
 use Rattle.jv_data.specs.Changing.{Makes, DieUntil, AnyTold, Never, Changed, Changes, may_change, KeepsRest}

@@ -8,6 +8,7 @@ use Rattle.jv_model.specs.declared.setting.Setting.{Setting}
 use Rattle.jv_model.specs.tree.Tree.{fresh_tree}
 use Rattle.jv_model.specs.journal.Past.{Setup, begun_to, begin_next, advance, after}
 use Rattle.jv_model.proofs.TreeComputes.{tree_computes}
+use Rattle.jv_model.specs.script.ReplyText.{with_feed}
 
 -- on an `unfolding` line: computes where a journal that is written out leads
 unfoldable pub journals_compute : ⊤
@@ -56,4 +57,4 @@ entry = entry_at 1000
 
 -- lines of text
 abbrev pub printed : List (List ℕ) → List ℕ
-printed = flat_map (λ line. line ++ 10 ∷ [])
+printed = flat_map with_feed

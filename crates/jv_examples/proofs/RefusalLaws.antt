@@ -25,6 +25,7 @@ use Rattle.jv_model.specs.journal.Steps.{IsRefusedIn, SessionGone, InodeGone, Co
 use Rattle.jv_model.specs.journal.Steps.{AnswersAtOnce, ReadsFresh, MayBeGone, Owes, MayBeCleaned, MissesBlock, may_be_cleaned, asked_of, file_in_use, begins_step, told_of, is_failure, has_judged}
 use Rattle.jv_model.specs.journal.Past.{Past, begun_to, advance, past}
 use Rattle.jv_model.specs.journal.Legal.{Allowed, AllAllowed}
+use Rattle.jv_model.proofs.TestLaws.{either_kept}
 
 pub never : false ≡ true → ⊥
 never e = absurd (cc)
@@ -167,14 +168,9 @@ abbrev compaction_in : Compaction → Stage → Compaction
 compaction_in other (Compacting k) = k
 compaction_in other _ = other
 
-either_implied : (a b x y : Bool) → (IsTrue a → IsTrue b) → (IsTrue x → IsTrue y) → IsTrue (a || x) → IsTrue (b || y)
-either_implied true b x y f g h = subst (λ yes. IsTrue (yes || y)) (sym (f refl)) refl
-either_implied false true x y f g h = refl
-either_implied false false x y f g h = g h
-
 any_implied : (p q : Change → Bool) → ((change : Change) → IsTrue (p change) → IsTrue (q change)) → (changes : List Change) → IsTrue (list_any p changes) → IsTrue (list_any q changes)
 any_implied p q f [] h = h
-any_implied p q f (change ∷ changes) h = either_implied (p change) (q change) _ _ (f change) (any_implied p q f changes) h
+any_implied p q f (change ∷ changes) h = either_kept (p change) _ (q change) _ (f change) (any_implied p q f changes) h
 
 and_middle : (a b x : Bool) → IsTrue (a && b && x) → IsTrue b
 and_middle true true x h = refl

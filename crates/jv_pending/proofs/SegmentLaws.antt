@@ -6,6 +6,7 @@ use Rattle.std.proofs.lemmas.Option.{none-some}
 use Rattle.jv_model.specs.declared.limits.TheConstants.{WINDOW}
 use Rattle.jv_model.specs.client.Pending.{PendingByte, Segment, comes_before, all_after, is_rising, stands_at, is_in_range, without_range, pending_of, pending_of_others, pending_end, end_of, run_length, first_segment, byte_set, written}
 use Rattle.jv_model.proofs.TestLaws.{some_same}
+use Rattle.jv_model.proofs.PendingLaws.{no_first_segment}
 
 -- an inode's first segment is its own, and its first byte lies in it
 out_of_range : (i f n : ℕ) (b : PendingByte) → (b.inode ≡ i → ⊥) → is_in_range i f n b ≡ false
@@ -163,11 +164,7 @@ others_all i (b ∷ bytes) h =
     (cases_eq b.inode i)
 
 pub none_of_others : (i : ℕ) (bytes : List PendingByte) → first_segment (pending_of i bytes) ≡ None → pending_of i bytes ≡ []
-none_of_others i bytes h = none (pending_of i bytes) h
-  where
-    none : (bs : List PendingByte) → first_segment bs ≡ None → bs ≡ []
-    none [] e = refl
-    none (b ∷ bs) e = absurd (some_segment b bs e)
+none_of_others i bytes h = no_first_segment (pending_of i bytes) h
 
 pub no_end : (i : ℕ) (bytes : List PendingByte) → first_segment (pending_of i bytes) ≡ None → end_of i bytes ≡ 0
 no_end i bytes h = ap pending_end (none_of_others i bytes h)

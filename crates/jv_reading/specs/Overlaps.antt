@@ -1,5 +1,5 @@
 -- Where the bytes of blocks are shown in a part of a window. Positions are counted from the part's first.
-use Rattle.std.specs.Prelude.{◌≡◌, ℕ, ◌+◌, ◌/◌, ◌%◌, ◌<◌, ◌≤◌, Bool, true, ◌&&◌, nat_le, nat_lt, List, [], ◌∷◌, ◌++◌, if◌then◌else◌, Option, None, Some, All}
+use Rattle.std.specs.Prelude.{◌≡◌, ℕ, ◌+◌, ◌/◌, ◌%◌, ◌<◌, ◌≤◌, Bool, true, List, [], ◌∷◌, ◌++◌, if◌then◌else◌, Option, None, Some, All}
 use Rattle.std.specs.List.{filter_map, list_any}
 use Rattle.std.specs.Global.{Vec}
 use Rattle.std.specs.BTreeMap.{is_at}
@@ -9,6 +9,7 @@ use Rattle.jv_model.specs.declared.slice.Piece.{Piece}
 use Rattle.jv_model.specs.declared.slice.Spot.{Spot}
 use Rattle.jv_model.specs.declared.slice.Spot.TheVariants.{Zero, Slice}
 use Rattle.jv_model.specs.blocks.Slices.{block_at, is_same_block, place_after}
+use Rattle.jv_model.specs.Ranges.{in_range}
 use Rattle.jv_reading.specs.declared.copying.Overlap.{Overlap}
 use Rattle.jv_reading.specs.declared.copying.Shown.{Shown}
 use Rattle.jv_reading.specs.declared.table.Table.{Table}
@@ -52,7 +53,7 @@ with_overlap overlaps block overlap b = (if is_same_block block b then overlaps 
 
 -- the overlap has this position
 abbrev pub reaches : ℕ → Overlap → Bool
-reaches position overlap = nat_le overlap.start position && nat_lt position (overlap.start + overlap.len)
+reaches position overlap = in_range overlap.start overlap.len position
 
 -- the spot is the byte at a place of a block
 abbrev pub IsByteOf : ℕ → BlockId → ℕ → Spot → Type 0

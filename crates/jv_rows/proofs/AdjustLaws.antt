@@ -22,6 +22,7 @@ use Rattle.jv_model.specs.rows.RowGrammar.{is_slice}
 use Rattle.jv_model.specs.rows.RowKeys.{RowMap, row_key, row_cmp}
 use Rattle.jv_model.specs.rows.RowPlaces.{slice_key, dead_key}
 use Rattle.jv_model.specs.Lists.{is_nil}
+use Rattle.jv_model.proofs.TestLaws.{and_false}
 use Rattle.jv_outside.specs.declared.batch.Change.{Change}
 use Rattle.jv_outside.specs.Store.{Store, IsSame}
 use Rattle.jv_volume.specs.TypedRows.{Cell, Rows}
@@ -362,10 +363,6 @@ module _ (gone added : List Rec) (due id : ℕ) (fewer more fewer' more' : Count
         | inl e ↦ subst (λ i. is_done gone added fewer more i ≡ false) e (ap (λ b. is_named gone added id && not b) left ∙ and_false (is_named gone added id))
         | inr ne ↦ ap (λ b. is_named gone added q && not b) (sym (left_next q ne)) ∙ none
       ]
-    where
-      and_false : (b : Bool) → (b && false) ≡ false
-      and_false true = refl
-      and_false false = refl
 
   -- and so is the slice
   done_here : is_done gone added fewer' more' id ≡ true
@@ -375,11 +372,7 @@ module _ (gone added : List Rec) (due id : ℕ) (fewer more fewer' more' : Count
   not_this q none = ne_eqb q id (λ e. true≢false (sym done_here ∙ ap (is_done gone added fewer' more') (sym e) ∙ none))
 
   still : (q : ℕ) → is_left fewer more q ≡ true → is_done gone added fewer more q ≡ false
-  still q is = ap (λ b. is_named gone added q && not b) is ∙ (by (is_named gone added q))
-    where
-      by : (b : Bool) → (b && false) ≡ false
-      by true = refl
-      by false = refl
+  still q is = ap (λ b. is_named gone added q && not b) is ∙ and_false (is_named gone added q)
 
   -- a slice that is still to be recounted stands as it did
   pub stands-left : (q : ℕ) → is_left fewer more q ≡ true → (known : RowMap) → get (drafted between known) (slice_key q) ≡ get (drafted changes known) (slice_key q)

@@ -23,7 +23,7 @@ use Rattle.jv_model.specs.rows.RowFields.{◌>>=◌, whole}
 use Rattle.jv_model.specs.rows.RowGrammar.{record_at, record_bytes, records_at, is_list, list_bytes, list_of, row_of}
 use Rattle.jv_model.specs.rows.RowKeys.{RowMap}
 use Rattle.jv_model.specs.rows.RowPlaces.{list_key}
-use Rattle.jv_model.proofs.TestLaws.{some_of}
+use Rattle.jv_model.proofs.TestLaws.{some_of, and_false}
 use Rattle.jv_model.specs.Lists.{is_nil}
 use Rattle.jv_outside.specs.declared.batch.Change.{Change}
 use Rattle.jv_outside.specs.declared.batch.Change.TheVariants.{Put}
@@ -57,10 +57,6 @@ well-record r true None is = refl
 well-record r false None is = refl
 well-record r true (Some x) is = ap (λ (c : Bool). is_nil x.1 && (c && list_all is_record x.0)) is
 well-record r false (Some x) is = ap (λ (c : Bool). is_nil x.1 && (c && list_all is_record x.0)) is ∙ and_false (is_nil x.1)
-  where
-    and_false : (b : Bool) → (b && false) ≡ false
-    and_false true = refl
-    and_false false = refl
 
 -- how many records are left: one, and those behind it
 one_more : (count i : ℕ) → i < count → count - i ≡ suc (count - (i + 1))

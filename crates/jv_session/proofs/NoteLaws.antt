@@ -13,11 +13,11 @@ use Rattle.jv_model.specs.declared.fault.Device.{Device}
 use Rattle.jv_model.specs.declared.fault.Fault.{Fault}
 use Rattle.jv_model.specs.declared.op.Reply.TheVariants.{Refused}
 use Rattle.jv_model.specs.declared.setting.Setting.{Setting}
-use Rattle.jv_model.specs.script.ReplyText.{printed_line}
+use Rattle.jv_model.specs.script.ReplyText.{printed_line, with_feed}
 use Rattle.jv_model.specs.tree.Tree.{Tree}
 use Rattle.jv_model.specs.client.ModelClient.{Doing, ModelClient, unmounted}
 use Rattle.jv_model.specs.journal.State.{State, effect, of_doing}
-use Rattle.jv_model.specs.journal.Past.{Past, Setup, NoMore, CrashEntry, TickEntry, Refusal, with_feed}
+use Rattle.jv_model.specs.journal.Past.{Past, Setup, NoMore, CrashEntry, TickEntry, Refusal}
 use Rattle.jv_model.specs.journal.Stepping.{entry_of}
 use Rattle.jv_laws.specs.OnLines.{IsNow, Leads}
 use Rattle.jv_laws.proofs.JournalGrowthLaws.{advanced, begun_to-begun}

@@ -16,9 +16,10 @@ use Rattle.jv_model.specs.blocks.Slices.{IsRecord, block_at, block_count, stored
 use Rattle.jv_model.specs.journal.Reading.{bytes_from}
 use Rattle.jv_model.specs.tree.Tree.{Content, Kind, File, Directory, Symlink, content_at}
 use Rattle.jv_model.specs.tree.Tree.{content_of as content_in}
+use Rattle.jv_model.specs.tree.Changes.{content_of}
 use Rattle.jv_volume.specs.TypedRows.{Rows}
 use Rattle.jv_volume.specs.Views.{row_in, records_in, lists_of, node_row_at}
-use Rattle.jv_volume.specs.TreeOf.{node_of, content_of}
+use Rattle.jv_volume.specs.TreeOf.{node_of}
 use Rattle.jv_volume.specs.Slices.{listed, next_slice, WholeSlices}
 use Rattle.jv_volume.proofs.TreeOfLaws.{node_at-tree_of}
 use Rattle.jv_contents.specs.Blocks.{Blocks, HasBlocks, IsThere, told_by}

@@ -1,19 +1,18 @@
 -- The last name of a path without the byte 0 may stand in an entry.
-use Rattle.std.proofs.Common.{◌≡◌, ℕ, Bool, true, false, not, ◌&&◌, ◌||◌, ◌==◌, List, [], ◌∷◌, length, Some, Result, Ok, refl, sym, ap, subst, ◌∙◌, arith}
+use Rattle.std.proofs.Common.{◌≡◌, ℕ, Bool, true, false, not, ◌&&◌, ◌||◌, ◌==◌, List, [], ◌∷◌, length, Some, Ok, refl, sym, ap, subst, ◌∙◌, arith}
 use Rattle.std.specs.Prelude.{nat_le, filter, is_some, if◌then◌else◌}
 use Rattle.std.specs.List.{list_all, onto_first}
 use Rattle.std.proofs.lemmas.Bool.{and_parts, and_from, le-leb, false≢true}
-use Rattle.jv_model.specs.declared.limits.TheConstants.{MAX_NAME, MAX_PATH, MAX_SYMLINKS}
-use Rattle.jv_model.specs.declared.fault.Fault.{Fault}
+use Rattle.jv_model.specs.declared.limits.TheConstants.{MAX_NAME, MAX_PATH}
 use Rattle.jv_model.specs.declared.fault.Fault.TheVariants.{AlreadyExists, Invalid, NameTooLong, NotADirectory, NotPermitted}
 use Rattle.jv_model.specs.FiniteMap.{get}
 use Rattle.jv_model.specs.tree.Attempt.{◌>>=◌, require, some_or}
-use Rattle.jv_model.specs.tree.Tree.{Tree, EntryKey, root, is_directory}
-use Rattle.jv_model.specs.tree.Walk.{is_dot, is_dot_dot, names_of, all_but_last, walk, entry_of}
+use Rattle.jv_model.specs.tree.Tree.{Tree, EntryKey, is_directory}
+use Rattle.jv_model.specs.tree.Walk.{is_dot, is_dot_dot, names_of, entry_of}
 use Rattle.jv_model.specs.tree.Making.{may_be_new, new_place}
 use Rattle.jv_model.specs.Lists.{is_nil, parted, last_item, has_no_zero}
 use Rattle.jv_volume.specs.TypedRows.{is_entry_name}
-use Rattle.jv_volume.proofs.WalkShapeLaws.{went_on, required, was_some, same_Ok}
+use Rattle.jv_volume.proofs.WalkShapeLaws.{went_on, required, was_some, same_Ok, above, of_dir, of_length, of_name}
 
 -- no slash, and no byte 0
 abbrev is_plain : List ℕ → Bool
@@ -71,26 +70,14 @@ entry_name name is short =
     λ i. some_byte name both.0 i && short i && both.1 i
 
 module _ (t : Tree) (path : List ℕ) (plain : has_no_zero path ≡ true) where
-  abbrev above : Result ℕ Fault
-  above = walk MAX_SYMLINKS t true root (all_but_last (names_of path))
-
-  abbrev of_length : List ℕ → ℕ → Result EntryKey Fault
-  of_length name dir = require (nat_le (length name) MAX_NAME) NameTooLong >>= (λ _. Ok (record { dir = dir; name = name }))
-
-  abbrev of_dir : List ℕ → ℕ → Result EntryKey Fault
-  of_dir name dir = require (is_directory t dir) NotADirectory >>= (λ _. of_length name dir)
-
-  abbrev of_name : List ℕ → Result EntryKey Fault
-  of_name name = require (not (is_dot name || is_dot_dot name)) Invalid >>= (λ _. above >>= of_dir name)
-
   -- the name of a path's entry
   pub entry_of-name : (place : EntryKey) → entry_of t path ≡ Ok place → is_entry_name place.name ≡ true
   entry_of-name place h =
-      let short = went_on (require (nat_le (length path) MAX_PATH) NameTooLong) (λ _. some_or (last_item (names_of path)) Invalid >>= of_name) place h in
-      let name = went_on (some_or (last_item (names_of path)) Invalid) of_name place short.2 in
-      let dots = went_on (require (not (is_dot name.0 || is_dot_dot name.0)) Invalid) (λ _. above >>= of_dir name.0) place name.2 in
-      let dir = went_on above (of_dir name.0) place dots.2 in
-      let within = went_on (require (is_directory t dir.0) NotADirectory) (λ _. of_length name.0 dir.0) place dir.2 in
+      let short = went_on (require (nat_le (length path) MAX_PATH) NameTooLong) (λ _. some_or (last_item (names_of path)) Invalid >>= (of_name t path)) place h in
+      let name = went_on (some_or (last_item (names_of path)) Invalid) (of_name t path) place short.2 in
+      let dots = went_on (require (not (is_dot name.0 || is_dot_dot name.0)) Invalid) (λ _. (above t path) >>= of_dir t path name.0) place name.2 in
+      let dir = went_on (above t path) (of_dir t path name.0) place dots.2 in
+      let within = went_on (require (is_directory t dir.0) NotADirectory) (λ _. of_length t path name.0 dir.0) place dir.2 in
       let fits = went_on (require (nat_le (length name.0) MAX_NAME) NameTooLong) (λ _. Ok (record { dir = dir.0; name = name.0 })) place within.2 in
       let same : record { dir = dir.0; name = name.0 } ≡ place = same_Ok _ place fits.2 in
       let last = last_is (names_of path) name.0 (names_filter (parted 47 path) (plain_parts path plain)) (was_some _ Invalid name.0 name.1) in

@@ -143,16 +143,16 @@ module _ (t : Tree) (w : WholeShape (shape_of t)) where
 -- the places of entries
 
 module _ (t : Tree) (path : List ℕ) where
-  abbrev of_length : List ℕ → ℕ → Result EntryKey Fault
+  abbrev pub of_length : List ℕ → ℕ → Result EntryKey Fault
   of_length name dir = require (nat_le (length name) MAX_NAME) NameTooLong >>= (λ _. Ok (record { dir = dir; name = name }))
 
-  abbrev of_dir : List ℕ → ℕ → Result EntryKey Fault
+  abbrev pub of_dir : List ℕ → ℕ → Result EntryKey Fault
   of_dir name dir = require (is_directory t dir) NotADirectory >>= (λ _. of_length name dir)
 
-  abbrev above : Result ℕ Fault
+  abbrev pub above : Result ℕ Fault
   above = walk MAX_SYMLINKS t true root (all_but_last (names_of path))
 
-  abbrev of_name : List ℕ → Result EntryKey Fault
+  abbrev pub of_name : List ℕ → Result EntryKey Fault
   of_name name = require (not (is_dot name || is_dot_dot name)) Invalid >>= (λ _. above >>= of_dir name)
 
   -- the entry of a path stands in a directory

@@ -22,9 +22,10 @@ use Rattle.jv_model.specs.tree.Tree.{Tree, File, Directory, EntryKey, entry_key,
 use Rattle.jv_model.specs.tree.Making.{with_next}
 use Rattle.jv_model.proofs.FiniteMapLaws.{get-empty_map}
 use Rattle.jv_model.proofs.TreeComputes.{maps_compute}
+use Rattle.jv_model.specs.tree.Changes.{content_of}
 use Rattle.jv_volume.specs.TypedRows.{Cell, Rows}
 use Rattle.jv_volume.specs.Views.{row_in, node_in, records_in, slice_in, dropped_in, dead_in, lists_of, node_row_at, slice_row_at, dropped_at, dead_at}
-use Rattle.jv_volume.specs.TreeOf.{content_of, tree_of, selected, nodes_of, entries_of, sessions_of, sustained_of}
+use Rattle.jv_volume.specs.TreeOf.{tree_of, selected, nodes_of, entries_of, sessions_of, sustained_of}
 use Rattle.jv_volume.specs.Shape.{WholeShape, shape_of}
 use Rattle.jv_volume.specs.Stored.{Stored, node_row, edge_row, session_row, counters_row}
 use Rattle.jv_volume.specs.Slices.{count_in, listed, ListsHave, HasLists, OfFile, named_by, place_in, slice_count, next_slice, WholeSlices, WholeFiles}

@@ -1,5 +1,5 @@
 -- The tree that rows have. The bytes of files come from elsewhere: a transaction on rows sees none.
-use Rattle.std.specs.Prelude.{ℕ, ◌&&◌, ◌==◌, nat_lt, if◌then◌else◌, List, [], ◌∷◌, Option, None, Some, bytes_eq, unwrap_or}
+use Rattle.std.specs.Prelude.{ℕ, ◌&&◌, ◌==◌, if◌then◌else◌, List, [], ◌∷◌, Option, None, Some, bytes_eq, unwrap_or}
 use Rattle.std.specs.Option.{option_map}
 use Rattle.std.specs.Int.{w64, from_be_bytes}
 use Rattle.jv_model.specs.declared.tables.TheConstants.{TABLE_OF_EDGES, TABLE_OF_SUSTAINED, TABLE_OF_NODES, TABLE_OF_SESSIONS}
@@ -11,8 +11,9 @@ use Rattle.jv_model.specs.declared.row.Session.{Session}
 use Rattle.jv_model.specs.declared.setting.Setting.{Setting}
 use Rattle.jv_model.specs.FiniteMap.{KeyOrder, Map, number_key, map_of}
 use Rattle.jv_model.specs.rows.RowFields.{long}
-use Rattle.jv_model.specs.tree.Tree.{Tree, Node, Content, Kind, File, Directory, Symlink, EntryKey, entry_key, SessionEntry, SustainedFile, pair_key}
+use Rattle.jv_model.specs.tree.Tree.{Tree, Node, Kind, File, Directory, Symlink, EntryKey, entry_key, SessionEntry, SustainedFile, pair_key}
 use Rattle.jv_model.specs.Lists.{is_nil}
+use Rattle.jv_model.specs.tree.Changes.{content_of}
 use Rattle.jv_volume.specs.TypedRows.{Cell, Rows}
 use Rattle.jv_volume.specs.Views.{row_in, setting_at, counters_at, node_in, edge_in, session_in, sustained_in}
 
@@ -39,10 +40,6 @@ abbrev pub pair_of_key : RowKey → Option SustainedFile
 pair_of_key key = (if key.tab == TABLE_OF_SUSTAINED && bytes_eq (long (from_be_bytes w64 key.b)) key.b then Some (record { sid = key.a; inode = from_be_bytes w64 key.b }) else None)
 
 -- nodes
-
--- a file's bytes, none from its length on
-abbrev pub content_of : ℕ → (ℕ → ℕ) → Content
-content_of length byte = record { length = length; byte = λ position. if nat_lt position length then byte position else 0 }
 
 abbrev pub kind_of : (ℕ → ℕ) → NodeRow → Kind
 kind_of byte row = (if row.kind == 1 then File (content_of row.length byte) else if row.kind == 2 then Directory row.parent else Symlink row.target)

@@ -24,7 +24,7 @@ use Rattle.jv_model.specs.client.Profile.{handle_of}
 use Rattle.jv_model.specs.journal.State.{State, state_at_start, set_client, effect}
 use Rattle.jv_model.specs.journal.Reading.{reading}
 use Rattle.jv_model.specs.journal.Steps.{Start, asked_of, file_in_use, begins_step, must_answer}
-use Rattle.jv_model.specs.script.ReplyText.{printed_line}
+use Rattle.jv_model.specs.script.ReplyText.{printed_line, with_feed}
 
 -- what a run begins with, and what it ends with
 pub record Setup : Type 0 where
@@ -77,9 +77,6 @@ at_start run = record {
 }
 
 -- lines
-
-abbrev pub with_feed : List ℕ → List ℕ
-with_feed text = text ++ 10 ∷ []
 
 abbrev ends_now : Option Doing → Bool
 ends_now None = false

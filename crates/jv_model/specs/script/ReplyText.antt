@@ -76,6 +76,10 @@ reply_text setting (reply.Entries entries) = codes "ok " ++ entries_text entries
 reply_text setting (reply.Target target) = codes "ok " ++ path_text target
 reply_text setting (reply.Uploaded block) = codes "ok " ++ uploaded_text setting block
 
+-- a text and a line feed
+abbrev pub with_feed : List ℕ → List ℕ
+with_feed text = text ++ 10 ∷ []
+
 -- the line that is printed
 abbrev pub printed_line : Setting → Reply → List ℕ
-printed_line setting answer = reply_text setting answer ++ 10 ∷ []
+printed_line setting answer = with_feed (reply_text setting answer)
