@@ -1,7 +1,7 @@
 -- What a commit leaves of its client where the operation goes on: it goes on well, and fewer requests are left.
 use Rattle.std.proofs.Common.{◌≡◌, ℕ, ◌+◌, ◌*◌, ◌-◌, ◌≤◌, ◌<◌, true, false, ◌||◌, length}
 use Rattle.std.proofs.Common.{Option, None, Some, refl, sym, ap, ◌∙◌, arith}
-use Rattle.std.specs.Prelude.{is_some, IfSome}
+use Rattle.std.specs.Prelude.{is_some}
 use Rattle.std.proofs.lemmas.Bool.{not-false}
 use Rattle.jv_model.specs.declared.op.Op.{Op}
 use Rattle.jv_model.specs.declared.op.Op.TheVariants as op
@@ -27,6 +27,7 @@ use Rattle.jv_client.specs.UnderWay.{has_not_seen, has_segment, moved_to, readin
 use Rattle.jv_client.specs.Flushing.{without_segment}
 use Rattle.jv_client.proofs.GoesOnLaws.{Continues, form-on}
 use Rattle.jv_client.proofs.NextSegmentLaws.{own_file}
+use Rattle.jv_client.proofs.ReadyLaws.{few-none}
 
 -- ---- what is open
 
@@ -140,10 +141,6 @@ module _ (h : ClientValue) (d : Doing) (segment : Segment) (form : IsForm h d)
 
   module _ (fewer : length without_it.pending + segment.len ≡ length h.pending)
       (goes : segment_left d.flush without_it.pending ≡ None → ends_itself without_it d ≡ false) where
-    few-here : (o : Option Segment) → IfSome o (λ (segment : Segment). 0 ≤ 1 + segment.len)
-    few-here None = tt
-    few-here (Some segment) = omega arith
-
     asks-here : (o : Option Segment) → segment_left d.flush without_it.pending ≡ o
         → (has_segment after_request asking || asks_more after_request asking) ≡ true
     asks-here (Some other) e = ap (λ (o : Option Segment). is_some o || asks_more after_request asking) e
@@ -156,7 +153,7 @@ module _ (h : ClientValue) (d : Doing) (segment : Segment) (form : IsForm h d)
       form = form-on h after_request (continues h segment (omega (arith, fewer)) (Some asking)) d
           (progress.Working 0 0 0) form;
       at = record {
-        few = few-here (segment_left d.flush without_it.pending);
+        few = few-none (segment_left d.flush without_it.pending);
         segment = λ less. absurd (omega (arith, less));
         numbered = λ less. absurd (omega (arith, less));
       };

@@ -167,6 +167,11 @@ still_form h d doing (Copies source from target to len file other o does first o
     Copies source from target to len file other o does first opened there session
 still_form h d doing (TellsStats o does first session) = TellsStats o does first session
 
+-- no request of a segment was made
+pub few-none : (o : Option Segment) → IfSome o (λ (segment : Segment). 0 ≤ 1 + segment.len)
+few-none None = tt
+few-none (Some segment) = omega arith
+
 -- a built operation that is accepted is under way
 pub begun-ready : (h : ClientValue) (o : Op) (d : Doing) → IsReady h → is_built_op h.limits o ≡ true
     → submission_of (is_some h.doing) (is_some h.session) (names_closed h.handles (profile o).handles)
@@ -186,7 +191,3 @@ begun-ready h o d ready built none same =
       asks = λ moved. absurd (cc moved);
     } in
     record { buffer = ready.buffer; doing = subst (IsUnderWay (record h { doing = Some d })) (sym same) way }
-  where
-    few-none : (o : Option Segment) → IfSome o (λ (segment : Segment). 0 ≤ 1 + segment.len)
-    few-none None = tt
-    few-none (Some segment) = omega arith

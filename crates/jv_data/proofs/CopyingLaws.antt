@@ -23,22 +23,19 @@ use Rattle.jv_data.specs.Copying.{ShowsRange, part_len, window_at, rows_added, C
 use Rattle.jv_data.specs.Records.{HasRecords}
 use Rattle.jv_data.proofs.TruncateLaws.{looks-then}
 
+-- records that are allowed pass the test
+pub all_allowed : (list : List Rec) → AllByRecursion IsRecord list → list_all is_record list ≡ true
+all_allowed [] all = refl
+all_allowed (r ∷ rs) all = (λ i. all.0 i && all_allowed rs all.1 i)
+
 -- a list with more records is one that the grammar allows
 pub is_list-append : (list more : List Rec) → AllByRecursion IsRecord list → AllByRecursion IsRecord more → 0 < length more → IsTrue (is_list (list ++ more))
 is_list-append [] [] all come some = absurd (omega (arith, some))
-is_list-append [] (r ∷ rs) all come some = records (r ∷ rs) come
-  where
-    records : (list : List Rec) → AllByRecursion IsRecord list → list_all is_record list ≡ true
-    records [] all = refl
-    records (r ∷ rs) all = (λ i. all.0 i && records rs all.1 i)
+is_list-append [] (r ∷ rs) all come some = all_allowed (r ∷ rs) come
 is_list-append (x ∷ xs) more all come some = (λ i. all.0 i && records xs all.1 i)
   where
-    those : (list : List Rec) → AllByRecursion IsRecord list → list_all is_record list ≡ true
-    those [] all = refl
-    those (r ∷ rs) all = (λ i. all.0 i && those rs all.1 i)
-
     records : (list : List Rec) → AllByRecursion IsRecord list → list_all is_record (list ++ more) ≡ true
-    records [] all = those more come
+    records [] all = all_allowed more come
     records (r ∷ rs) all = (λ i. all.0 i && records rs all.1 i)
 
 -- ---- one part

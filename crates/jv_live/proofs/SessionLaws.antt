@@ -53,11 +53,6 @@ pub fresh-steps : (before middle : Store) (changes : List Change) → changes �
 fresh-steps before middle changes none act rest p =
     subst (λ ch. PastSteps Always before middle ch (λ t. t) act rest) (sym none) (steps-start Always before middle act rest p)
 
--- what isn't there at all
-pub absent : {A : Type 0} (found : Option A) → ((x : A) → found ≡ Some x → ⊥) → found ≡ None
-absent None none = refl
-absent (Some x) none = absurd (none x refl)
-
 -- a step that was made wasn't refused
 pub not_made : {A : Type 0} (t : Tree) (refused : Fault) → ◌≡◌ {A = Result Tree Fault} (Ok t) (Err refused) → A
 not_made t refused e = absurd (cc)
