@@ -1,4 +1,7 @@
-//! The numbers of the tables of rows, which begin the keys.
+//! The numbers of the tables of rows, which begin the keys, and the version of the rows.
+
+/// The version of rows that this program writes, and the last that it reads.
+pub const ROWS_VERSION: u32 = 1;
 
 /// What the volume was formatted with: one row.
 pub const TABLE_OF_SETTING: u8 = 0;
