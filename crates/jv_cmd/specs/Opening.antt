@@ -1,6 +1,6 @@
 -- What a keeper's row of the setting is to a command.
 use Rattle.std.specs.Prelude.{◌≡◌, ℕ, ◌<◌, List, Option, None, Some, Result, IfOk, IfErr, IfSome, IsSome, IsSomeAnd, IsTrue}
-use Rattle.jv_model.specs.declared.limits.TheConstants.{ROWS_VERSION}
+use Rattle.jv_model.specs.declared.tables.TheConstants.{ROWS_VERSION}
 use Rattle.jv_model.specs.declared.setting.Setting.{Setting}
 use Rattle.jv_model.specs.FiniteMap.{get}
 use Rattle.jv_model.specs.rows.RowGrammar.{is_setting, setting_of}

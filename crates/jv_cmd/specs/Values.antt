@@ -1,7 +1,8 @@
 -- The values of a command line, each as what its text stands for. A text is bytes.
 use Rattle.std.specs.Prelude.{ℕ, ◌-◌, ◌*◌, Bool, false, ◌&&◌, ◌||◌, ◌==◌, nat_lt, nat_le, if◌then◌else◌, List, length, take, drop, slice_get, Option, None, Some, option_and_then, codes, bytes_eq}
 use Rattle.std.specs.Option.{option_map_or}
-use Rattle.jv_model.specs.declared.limits.TheConstants.{KIB, MIB, MAX_DIGITS}
+use Rattle.jv_model.specs.declared.options.TheConstants.{MAX_DIGITS}
+use Rattle.jv_model.specs.declared.limits.TheConstants.{KIB, MIB}
 use Rattle.jv_model.specs.rows.RowGrammar.{is_block}
 use Rattle.jv_model.specs.script.Spelling.{is_numeral, value_of}
 

@@ -4,7 +4,9 @@ use Rattle.std.specs.Option.{option_map_or}
 use Rattle.clap.specs.Words.{Row, Text, fault_of, first_of, subcommand_of, subcommand_rows_of}
 use Rattle.clap.specs.declared.parser.matches.ArgMatches.{ArgMatches}
 use Rattle.clap.specs.Kinds.{Kinds}
-use Rattle.jv_model.specs.declared.limits.TheConstants.{FULL_COUNT, MAX_CAPACITY, MAX_TRASH_DAYS, ROWS_VERSION, MAX_BUFFER, MAX_CACHE, MAX_UPLOADS, MIN_BUFFER}
+use Rattle.jv_model.specs.declared.tables.TheConstants.{ROWS_VERSION}
+use Rattle.jv_model.specs.declared.options.TheConstants.{MAX_CACHE, MIN_BUFFER, MAX_BUFFER, MAX_UPLOADS}
+use Rattle.jv_model.specs.declared.limits.TheConstants.{FULL_COUNT, MAX_CAPACITY, MAX_TRASH_DAYS}
 use Rattle.jv_model.specs.Optional.{◌>>=◌}
 use Rattle.jv_model.specs.declared.setting.Setting.{Setting}
 use Rattle.jv_model.specs.rows.RowGrammar.{is_setting}

@@ -3,7 +3,8 @@ ghost use Rattle.jv_cmd.specs.Faults.{UsesKeeper, ended_by};
 ghost use Rattle.jv_cmd.specs.Opening.{CannotRead, ReadsSetting, OpensVolume};
 
 use crate::ended::Ended;
-use jv_model::{Down, ROWS_VERSION, RowFault, Setting, Text};
+use jv_model::tables::ROWS_VERSION;
+use jv_model::{Down, RowFault, Setting, Text};
 use jv_outside::Keeper;
 use jv_rows::read_setting;
 use std::alloc::Global;

@@ -3,7 +3,8 @@ ghost use Rattle.std.specs.Prelude.{Ok};
 ghost use Rattle.jv_model.specs.tree.Tree as model;
 ghost use Rattle.jv_rows.specs.Transactions.{Looks};
 
-use jv_model::{RowKey, Sequence, TABLE_OF_EDGES, TxFault};
+use jv_model::tables::TABLE_OF_EDGES;
+use jv_model::{RowKey, Sequence, TxFault};
 use jv_outside::Keeper;
 use jv_rows::scan_rows;
 use std::alloc::Global;

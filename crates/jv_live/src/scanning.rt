@@ -3,7 +3,8 @@ ghost use Rattle.std.specs.Prelude.{◌≡◌, IfOk, IfSome};
 ghost use Rattle.jv_live.specs.Steps.{last_key, number_in, first_kept, IsSpelled, FindsKept};
 ghost use Rattle.jv_model.specs.rows.RowFields.{long};
 
-use jv_model::{Row, RowKey, Sequence, TABLE_OF_SUSTAINED, TxFault};
+use jv_model::tables::TABLE_OF_SUSTAINED;
+use jv_model::{Row, RowKey, Sequence, TxFault};
 use jv_outside::Keeper;
 use jv_rows::{key_of_sustained, scan_rows};
 use std::alloc::{AllocError, Global};

@@ -10,12 +10,13 @@ mod journal;
 pub mod lifetimes;
 mod limits;
 mod op;
+pub mod options;
 mod profile;
 mod row;
 mod sequence;
 mod setting;
 mod slice;
-mod tables;
+pub mod tables;
 
 pub use act::{Act, ActKind, NO_CLIENT, Told};
 pub use basics::{ClientId, How, InodeList, Limits, Moment, Who};
@@ -23,12 +24,11 @@ pub use bytes::{Bytes, Name, Path, Text, copied};
 pub use fault::{Busy, Device, Down, Fault, Gone, RowFault, TxFault};
 pub use journal::Journal;
 pub use limits::{
-    CLIENTS, DEFAULT_BLOCK, DEFAULT_BUFFER, DEFAULT_TRASH_DAYS, DIRECTORY_LENGTH, FILE_END,
-    FULL_COUNT, FULL_MODE, GIB, KIB, LAST_CLIENT, LAST_MOMENT, MAX_BLOCK, MAX_BLOCKS, MAX_BUCKET,
-    MAX_BUFFER, MAX_CACHE, MAX_CAPACITY, MAX_DATA, MAX_DIGITS, MAX_HANDLES, MAX_ITEMS, MAX_LINE,
-    MAX_LINES, MAX_LINKS, MAX_MISSES, MAX_MODE, MAX_NAME, MAX_NUMBER, MAX_PATH, MAX_SHORT_NUMBER,
-    MAX_SYMLINKS, MAX_TICK, MAX_TRASH_DAYS, MAX_UPLOADS, MAX_VOLUME_NAME, MIB, MIN_BLOCK,
-    MIN_BUFFER, MIN_VOLUME_NAME, READ_ONLY_MODE, ROOT, ROWS_VERSION, SPACE_UNIT, TRASH_ROOT, WINDOW,
+    CLIENTS, DEFAULT_BLOCK, DEFAULT_BUFFER, DIRECTORY_LENGTH, FILE_END, FULL_COUNT, FULL_MODE, GIB,
+    KIB, LAST_CLIENT, LAST_MOMENT, MAX_BLOCK, MAX_BLOCKS, MAX_BUCKET, MAX_CAPACITY, MAX_DATA,
+    MAX_HANDLES, MAX_ITEMS, MAX_LINE, MAX_LINES, MAX_LINKS, MAX_MISSES, MAX_MODE, MAX_NAME,
+    MAX_PATH, MAX_SYMLINKS, MAX_TICK, MAX_TRASH_DAYS, MAX_VOLUME_NAME, MIB, MIN_BLOCK,
+    MIN_VOLUME_NAME, READ_ONLY_MODE, ROOT, SPACE_UNIT, TRASH_ROOT, WINDOW,
 };
 pub use op::{Line, Op, Reply, Step};
 pub use profile::{Answer, Does, Flushes, Handles, Profile};
@@ -40,8 +40,4 @@ pub use sequence::{Sequence, push_in_room};
 pub use setting::{Attr, FileKind, Setting, Space};
 pub use slice::{
     BlockId, BlockKeys, EntryList, List, NameList, Piece, Pieces, Rec, Seen, SeenList, Spot,
-};
-pub use tables::{
-    TABLE_OF_COUNTERS, TABLE_OF_DEAD, TABLE_OF_DROPPED, TABLE_OF_EDGES, TABLE_OF_LISTS,
-    TABLE_OF_NODES, TABLE_OF_SESSIONS, TABLE_OF_SETTING, TABLE_OF_SLICES, TABLE_OF_SUSTAINED,
 };

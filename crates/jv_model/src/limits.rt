@@ -21,15 +21,6 @@ pub const MAX_BLOCKS: u32 = 1_024;
 /// A stored count that stands here doesn't grow any more: 2^62.
 pub const FULL_COUNT: u64 = 4_611_686_018_427_387_904;
 
-/// The greatest number of a script: 2^64 - 1.
-pub const MAX_NUMBER: u64 = 18_446_744_073_709_551_615;
-
-/// The greatest number of a script where a row has 32 bits for it: a window, a user or a group.
-pub const MAX_SHORT_NUMBER: u32 = 4_294_967_295;
-
-/// The most digits of a number among the words of a command.
-pub const MAX_DIGITS: usize = 19;
-
 /// The greatest link count of an inode (`LINK_MAX`): 2^32 - 1.
 pub const MAX_LINKS: u32 = 4_294_967_295;
 
@@ -72,9 +63,6 @@ pub const FULL_MODE: u16 = 0o777;
 /// The mode of the trash and of its hours: none may write.
 pub const READ_ONLY_MODE: u16 = 0o555;
 
-/// The version of rows that this program writes, and the last that it reads.
-pub const ROWS_VERSION: u32 = 1;
-
 /// The clients of a volume, A to H.
 pub const CLIENTS: u8 = 8;
 
@@ -99,9 +87,6 @@ pub const MAX_BLOCK: u32 = 16_777_216;
 /// The length of a block in bytes where no option sets another.
 pub const DEFAULT_BLOCK: u32 = 4_194_304;
 
-/// The days that a removed file stays in the trash where no option sets another number.
-pub const DEFAULT_TRASH_DAYS: u32 = 1;
-
 /// The most days that a removed file stays in the trash.
 pub const MAX_TRASH_DAYS: u32 = 36_500;
 
@@ -113,18 +98,6 @@ pub const MAX_DATA: u64 = 8_388_608;
 
 /// The most open handles of a client.
 pub const MAX_HANDLES: usize = 1_024;
-
-/// The largest cache of a client, in MiB.
-pub const MAX_CACHE: u64 = 256;
-
-/// The least bound on bytes that wait for their commit, in MiB.
-pub const MIN_BUFFER: u64 = 8;
-
-/// The greatest bound on bytes that wait for their commit, in MiB.
-pub const MAX_BUFFER: u64 = 256;
-
-/// The most uploads at once.
-pub const MAX_UPLOADS: u64 = 64;
 
 /// The bytes that may wait for their commit in a client where no option sets another number.
 pub const DEFAULT_BUFFER: u64 = 33_554_432;

@@ -1,4 +1,7 @@
-//! The numbers of the tables of rows, which begin the keys.
+//! The numbers of the tables of rows, which begin the keys, the version of the rows, and the length of a record.
+
+/// The version of rows that this program writes, and the last that it reads.
+pub const ROWS_VERSION: u32 = 1;
 
 /// What the volume was formatted with: one row.
 pub const TABLE_OF_SETTING: u8 = 0;
@@ -29,3 +32,6 @@ pub const TABLE_OF_DROPPED: u8 = 8;
 
 /// Slices that are gone, by number.
 pub const TABLE_OF_DEAD: u8 = 9;
+
+/// The bytes of a record in a row of lists.
+pub const RECORD_LENGTH: usize = 24;

@@ -112,14 +112,14 @@ run_ends : (i j low p : ℕ) (b : PendingByte) (bs : List PendingByte) → RiseF
     → p + run_length j p (b ∷ bs) ≤ pending_end (b ∷ bs)
 run_ends i j low p b [] r first =
     let most : run_length j p (b ∷ []) ≤ 1 = cond_both (stands_at j p b) (cond ((p + 1) % WINDOW == 0) 1 1) 0 (λ n. n ≤ 1)
-        (λ _. cond_both ((p + 1) % WINDOW == 0) 1 1 (λ n. n ≤ 1) (λ _. omega arith) (λ _. omega arith)) (λ _. omega arith) in
+    (λ _. cond_both ((p + 1) % WINDOW == 0) 1 1 (λ n. n ≤ 1) (λ _. omega arith) (λ _. omega arith)) (λ _. omega arith) in
     omega (arith, most, first)
 run_ends i j low p b (c ∷ cs) r first =
     let more : ℕ = run_length j (p + 1) (c ∷ cs) in
     let rises = r.2.1 in
     let later : p + 1 + more ≤ pending_end (c ∷ cs) = run_ends i j (b.position + 1) (p + 1) c cs r.2 (omega (arith, first, rises)) in
     let most : run_length j p (b ∷ c ∷ cs) ≤ 1 + more = cond_both (stands_at j p b) (cond ((p + 1) % WINDOW == 0) 1 (1 + more)) 0 (λ n. n ≤ 1 + more)
-        (λ _. cond_both ((p + 1) % WINDOW == 0) 1 (1 + more) (λ n. n ≤ 1 + more) (λ _. omega arith) (λ _. omega arith)) (λ _. omega arith) in
+    (λ _. cond_both ((p + 1) % WINDOW == 0) 1 (1 + more) (λ n. n ≤ 1 + more) (λ _. omega arith) (λ _. omega arith)) (λ _. omega arith) in
     omega (arith, later, most)
 
 -- an inode's first segment ends by its last byte

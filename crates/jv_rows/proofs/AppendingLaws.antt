@@ -8,7 +8,7 @@ use Rattle.std.proofs.lemmas.Grind.{flat_map-append}
 use Rattle.std.proofs.lemmas.List.{append-nil}
 use Rattle.std.proofs.lemmas.List.Concat.{flat_map-cons}
 use Rattle.std.proofs.lemmas.List.Folds.{list_all-append}
-use Rattle.jv_model.specs.declared.tables.TheConstants.{TABLE_OF_LISTS}
+use Rattle.jv_model.specs.declared.tables.TheConstants.{TABLE_OF_LISTS, RECORD_LENGTH}
 use Rattle.jv_model.specs.declared.fault.Down.{Down}
 use Rattle.jv_model.specs.declared.fault.Down.TheVariants.{Failed as DeviceFailed, Memory as DeviceMemory}
 use Rattle.jv_model.specs.declared.fault.RowFault.{RowFault}
@@ -82,11 +82,11 @@ some_records n bytes x e = first (record_at bytes) x e
     first None x e = absurd (cc)
     first (Some y) x e = behind y.0 (records_at n y.1) x e
 
-module _ (bytes : List ℕ) (count : ℕ) (count_is : count ≡ length bytes / 24) where
+module _ (bytes : List ℕ) (count : ℕ) (count_is : count ≡ length bytes / RECORD_LENGTH) where
   -- records that aren't well are no list
   no_list : is_well (records_at count bytes) ≡ false → list_of bytes ≡ None
   unfolding list_of
-  no_list h = none (records_at (length bytes / 24) bytes) (ap (λ (n : ℕ). is_well (records_at n bytes)) (sym count_is) ∙ h)
+  no_list h = none (records_at (length bytes / RECORD_LENGTH) bytes) (ap (λ (n : ℕ). is_well (records_at n bytes)) (sym count_is) ∙ h)
     where
       either : (a b c : Bool) (rs : List Rec) → (a && b) ≡ false → cond (a && (c && b)) (Some rs) None ≡ None
       either true b true rs h = ap (λ (t : Bool). cond t (Some rs) None) h
@@ -137,7 +137,7 @@ module _ (bytes : List ℕ) (count : ℕ) (count_is : count ≡ length bytes / 2
     pub all_over : count ≤ i → count ≢ 0 → true ≡ (length rest == 0) → IsSome (list_of bytes)
     unfolding list_of
     all_over le some test =
-        listed (records_at (length bytes / 24) bytes) (λ x e. some_records (count - 1) bytes x (ap (λ (n : ℕ). records_at n bytes) (sym one ∙ count_is) ∙ e))
+        listed (records_at (length bytes / RECORD_LENGTH) bytes) (λ x e. some_records (count - 1) bytes x (ap (λ (n : ℕ). records_at n bytes) (sym one ∙ count_is) ∙ e))
         (ap (λ (n : ℕ). is_well (records_at n bytes)) (sym count_is) ∙ sym (over le) ∙ nothing_left rest true test)
       where
         one : count ≡ suc (count - 1)

@@ -1,6 +1,8 @@
 -- The rows of a volume that was just formatted.
 use Rattle.std.specs.Prelude.{ℕ, ◌+◌, List, [], ◌∷◌, codes}
-use Rattle.jv_model.specs.declared.limits.TheConstants.{ROOT, TRASH_ROOT, SPACE_UNIT, DEFAULT_BLOCK, FULL_MODE, READ_ONLY_MODE, ROWS_VERSION, DEFAULT_TRASH_DAYS}
+use Rattle.jv_model.specs.declared.tables.TheConstants.{ROWS_VERSION}
+use Rattle.jv_model.specs.declared.options.TheConstants.{DEFAULT_TRASH_DAYS}
+use Rattle.jv_model.specs.declared.limits.TheConstants.{ROOT, TRASH_ROOT, SPACE_UNIT, DEFAULT_BLOCK, FULL_MODE, READ_ONLY_MODE}
 use Rattle.jv_model.specs.declared.row.Counters.{Counters}
 use Rattle.jv_model.specs.declared.row.Node.{Node}
 use Rattle.jv_model.specs.declared.setting.Setting.{Setting}

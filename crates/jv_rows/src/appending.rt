@@ -11,8 +11,9 @@ use crate::drafts::{Draft, last_of};
 use crate::keys::key_of_list;
 use crate::misread::Misread;
 use crate::parsing::take_record;
-use crate::spelling::{RECORD_LEN, put_record};
+use crate::spelling::put_record;
 use crate::widths::{are_bytes, has_record_widths};
+use jv_model::tables::RECORD_LENGTH;
 use jv_model::{Bytes, Down, Rec, RowFault, RowKey, Sequence, copied};
 use jv_outside::{Change, Keeper};
 use std::alloc::AllocError;
@@ -21,7 +22,7 @@ use std::alloc::AllocError;
 fn judge_list(bytes: &[u8]) -> Result<(), Misread>
     ensures { Judges result (list_of bytes.now) }
 {
-    let count = bytes.len() / RECORD_LEN;
+    let count = bytes.len() / RECORD_LENGTH;
     if count == 0 {
         return Err(Misread::Malformed);
     }
@@ -47,7 +48,7 @@ fn with_record(bytes: Bytes, rec: &Rec) -> Result<Bytes, AllocError>
     ensures { IfOk result (λ longer. longer ≡ bytes ++ record_bytes rec.now) }
 {
     let mut out = bytes.into_vec();
-    out.reserve_exact(RECORD_LEN)?;
+    out.reserve_exact(RECORD_LENGTH)?;
     put_record(&mut out, rec)?;
     Ok(Sequence::from_vec(out))
 }

@@ -17,9 +17,10 @@ use crate::keys::{
 };
 use crate::misread::Misread;
 use crate::reading::read_row;
+use jv_model::tables::TABLE_OF_SLICES;
 use jv_model::{
     Counters, Dead, Down, Dropped, Edge, List, Name, Node, RowFault, RowKey, Session, Setting,
-    SliceRow, TABLE_OF_SLICES, copied,
+    SliceRow, copied,
 };
 use jv_outside::{Batch, Change, Keeper};
 use std::alloc::{AllocError, Global};

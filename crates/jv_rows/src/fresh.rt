@@ -4,9 +4,11 @@ ghost use Rattle.jv_model.specs.rows.RowGrammar.{is_setting};
 ghost use Rattle.jv_rows.specs.FreshRows.{default_setting, fresh_directory, fresh_rows};
 
 use crate::writing::{put_counters, put_node, put_setting};
+use jv_model::options::DEFAULT_TRASH_DAYS;
+use jv_model::tables::ROWS_VERSION;
 use jv_model::{
-    Counters, DEFAULT_BLOCK, DEFAULT_TRASH_DAYS, FULL_MODE, Moment, Node, READ_ONLY_MODE, ROOT,
-    ROWS_VERSION, SPACE_UNIT, Sequence, Setting, TRASH_ROOT, copied,
+    Counters, DEFAULT_BLOCK, FULL_MODE, Moment, Node, READ_ONLY_MODE, ROOT, SPACE_UNIT, Sequence,
+    Setting, TRASH_ROOT, copied,
 };
 use jv_outside::Batch;
 use std::alloc::{AllocError, Global};

@@ -5,7 +5,8 @@ ghost use Rattle.jv_rows.specs.Lists.{last_list_key, window_in, list_of_row, IsS
 
 use crate::keys::key_of_list;
 use crate::scanning::scan_rows;
-use jv_model::{List, Row, RowFault, RowKey, Sequence, TABLE_OF_LISTS};
+use jv_model::tables::TABLE_OF_LISTS;
+use jv_model::{List, Row, RowFault, RowKey, Sequence};
 use jv_outside::Keeper;
 use std::alloc::{AllocError, Global};
 

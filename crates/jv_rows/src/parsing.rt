@@ -10,7 +10,7 @@ use crate::allowed::{
 };
 use crate::fields::{take_byte, take_front, take_half, take_long, take_word};
 use crate::misread::Misread;
-use crate::spelling::RECORD_LEN;
+use jv_model::tables::RECORD_LENGTH;
 use jv_model::{
     Counters, Dead, Dropped, Edge, List, Node, Rec, Sequence, Session, Setting, SliceRow, copied,
 };
@@ -163,7 +163,7 @@ fn take_records(alloc: Global, count: usize, bytes: &[u8]) -> Result<(Vec<Rec>, 
 pub fn parse_list(alloc: Global, bytes: &[u8]) -> Result<List, Misread>
     ensures { ReadsAs result (list_of bytes.now) }
 {
-    let (records, rest) = take_records(alloc, bytes.len() / RECORD_LEN, bytes)?;
+    let (records, rest) = take_records(alloc, bytes.len() / RECORD_LENGTH, bytes)?;
     let list = Sequence::from_vec(records);
     let allowed = allows_list(&list);
     settled(list, allowed, rest)

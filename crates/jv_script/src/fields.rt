@@ -4,7 +4,8 @@ ghost use Rattle.std.specs.List.{list_all};
 ghost use Rattle.jv_model.specs.script.Spelling.{client_of, mode_of, number_of, length_of, is_numeral, is_decimal_digit, is_octal_digit};
 ghost use Rattle.jv_model.specs.script.Grammar.{number_up_to, seconds_of};
 
-use jv_model::{ClientId, LAST_CLIENT, MAX_DATA, MAX_SHORT_NUMBER, MAX_TICK};
+use jv_model::options::MAX_SHORT_NUMBER;
+use jv_model::{ClientId, LAST_CLIENT, MAX_DATA, MAX_TICK};
 
 /// The client of a letter, A to H.
 #[tactic(auto, unfolding(jv_model::specs::script::Spelling::client_of))]

@@ -1,9 +1,7 @@
 //! The slices of a volume: whether its rows agree on them, and whether their blocks are there.
 use crate::stage::Stock;
-use jv_model::{
-    List, Name, Rec, RowKey, Rows, Setting, SliceRow, TABLE_OF_LISTS, TABLE_OF_SETTING,
-    TABLE_OF_SLICES,
-};
+use jv_model::tables::{TABLE_OF_LISTS, TABLE_OF_SETTING, TABLE_OF_SLICES};
+use jv_model::{List, Name, Rec, RowKey, Rows, Setting, SliceRow};
 use jv_rows::{Misread, parse_list, parse_setting, parse_slice};
 use jv_slices::{block_len, block_name, blocks_of};
 use std::alloc::{AllocError, Global};

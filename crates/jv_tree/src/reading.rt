@@ -7,9 +7,10 @@ ghost use Rattle.jv_tree.specs.Attributes.{kind_in, attr_in};
 ghost use Rattle.jv_tree.specs.Directories.{last_of, entries_within, all_within};
 ghost use Rattle.jv_rows.specs.Transactions.{IsFor, Looks, Transacts, Always};
 
+use jv_model::tables::TABLE_OF_EDGES;
 use jv_model::{
     Attr, Bytes, EntryList, Fault, FileKind, Gone, Node, Path, Row, RowKey, RowList, Sequence,
-    Space, TABLE_OF_EDGES, TxFault, Who,
+    Space, TxFault, Who,
 };
 use jv_outside::Keeper;
 use jv_rows::{Draft, in_session, needed_counters, needed_setting, scan_rows, walk_to};

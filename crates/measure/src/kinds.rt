@@ -1,7 +1,8 @@
 //! Rows of each kind, spelled and read again through a keeper in memory.
+use jv_model::tables::ROWS_VERSION;
 use jv_model::{
-    Bytes, Counters, Dead, Down, Dropped, Edge, List, MIN_BLOCK, Node, ROWS_VERSION, Rec, Row,
-    RowFault, Sequence, Session, Setting, SliceRow, copied,
+    Bytes, Counters, Dead, Down, Dropped, Edge, List, MIN_BLOCK, Node, Rec, Row, RowFault,
+    Sequence, Session, Setting, SliceRow, copied,
 };
 use jv_outside::{Batch, Fails, Keeper, MemKeeper};
 use jv_rows::{

@@ -1,5 +1,6 @@
 //! Lines of a script, and the text of answers.
-use jv_model::{Bytes, Down, Line, MIN_BLOCK, Op, ROWS_VERSION, Reply, Sequence, Setting, copied};
+use jv_model::tables::ROWS_VERSION;
+use jv_model::{Bytes, Down, Line, MIN_BLOCK, Op, Reply, Sequence, Setting, copied};
 use jv_script::{BadLine, print_reply, read_line};
 use std::alloc::{AllocError, Global};
 

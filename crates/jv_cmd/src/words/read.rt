@@ -11,10 +11,9 @@ use super::refusal::{refused, told};
 use super::request::{Command, SessionOptions, WordsFault};
 use super::values::{block_size, number_within, place, seed};
 use clap::ArgMatches;
-use jv_model::{
-    FULL_COUNT, MAX_BUFFER, MAX_CACHE, MAX_CAPACITY, MAX_TRASH_DAYS, MAX_UPLOADS, MIN_BUFFER,
-    ROWS_VERSION, Setting, Text, copied,
-};
+use jv_model::options::{MAX_BUFFER, MAX_CACHE, MAX_UPLOADS, MIN_BUFFER};
+use jv_model::tables::ROWS_VERSION;
+use jv_model::{FULL_COUNT, MAX_CAPACITY, MAX_TRASH_DAYS, Setting, Text, copied};
 use jv_rows::allows_setting;
 use std::alloc::{AllocError, Global};
 

@@ -5,7 +5,8 @@ ghost use Rattle.jv_model.specs.script.Spelling.{is_numeral, is_decimal_digit, n
 ghost use Rattle.jv_model.specs.rows.RowGrammar.{is_block};
 ghost use Rattle.jv_cmd.specs.Values.{number_of_digits, number_within, digits_of, unit_of, block_size_of, place_of};
 
-use jv_model::{KIB, MAX_BLOCK, MAX_DIGITS, MIB};
+use jv_model::options::MAX_DIGITS;
+use jv_model::{KIB, MAX_BLOCK, MIB};
 use jv_rows::allows_block;
 use jv_script::is_numeral;
 

@@ -3,7 +3,7 @@ use Rattle.std.specs.Prelude.{ℕ, ◌-◌, ◌*◌, ◌/◌, zero, suc, Bool, t
 use Rattle.std.specs.List.{flat_map, list_all}
 use Rattle.std.specs.Option.{option_map}
 use Rattle.std.specs.Str.{is_utf8}
-use Rattle.jv_model.specs.declared.tables.TheConstants.{TABLE_OF_SETTING, TABLE_OF_COUNTERS, TABLE_OF_NODES, TABLE_OF_EDGES, TABLE_OF_LISTS, TABLE_OF_SLICES, TABLE_OF_SESSIONS, TABLE_OF_SUSTAINED, TABLE_OF_DROPPED, TABLE_OF_DEAD}
+use Rattle.jv_model.specs.declared.tables.TheConstants.{TABLE_OF_SETTING, TABLE_OF_COUNTERS, TABLE_OF_NODES, TABLE_OF_EDGES, TABLE_OF_LISTS, TABLE_OF_SLICES, TABLE_OF_SESSIONS, TABLE_OF_SUSTAINED, TABLE_OF_DROPPED, TABLE_OF_DEAD, RECORD_LENGTH}
 use Rattle.jv_model.specs.declared.limits.TheConstants.{MIN_BLOCK, MAX_BLOCK, MIN_VOLUME_NAME, MAX_VOLUME_NAME, MAX_BUCKET, MAX_TRASH_DAYS, MAX_CAPACITY, FULL_COUNT, SPACE_UNIT, MAX_PATH, MAX_MODE, LAST_CLIENT}
 use Rattle.jv_model.specs.declared.setting.Setting.{Setting}
 use Rattle.jv_model.specs.declared.slice.Rec.{Rec}
@@ -160,10 +160,10 @@ records_at (suc n) bytes = do
   others ← records_at n first.1
   Some (first.0 ∷ others.0, others.1)
 
--- records of 24 bytes each
+-- records, each of RECORD_LENGTH bytes
 unfoldable pub list_of : List ℕ → Option (List Rec)
 list_of bytes = do
-  records ← records_at (length bytes / 24) bytes
+  records ← records_at (length bytes / RECORD_LENGTH) bytes
   whole is_list records.0 records.1
 
 -- ---- table 5: a slice

@@ -1,7 +1,8 @@
 -- How the fields of a script's line are spelled: words, numbers, modes, digits and letters.
 use Rattle.std.specs.Prelude.{ℕ, ◌+◌, ◌-◌, ◌*◌, Bool, true, false, ◌&&◌, ◌||◌, not, ◌==◌, nat_lt, nat_le, if◌then◌else◌, List, [], ◌∷◌, length, Option, None, Some, fold}
 use Rattle.std.specs.List.{list_all}
-use Rattle.jv_model.specs.declared.limits.TheConstants.{MAX_DATA, MAX_NAME, MAX_NUMBER, LAST_CLIENT}
+use Rattle.jv_model.specs.declared.limits.TheConstants.{MAX_DATA, MAX_NAME, LAST_CLIENT}
+use Rattle.jv_model.specs.declared.options.TheConstants.{MAX_NUMBER}
 pub use Rattle.jv_model.specs.Optional.{◌>>=◌}
 use Rattle.jv_model.specs.Lists.{parted}
 
