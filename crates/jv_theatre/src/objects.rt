@@ -1,6 +1,6 @@
 //! The objects of a depot, and the blocks that are staged on a shelf.
 use crate::texts::shown_text;
-use jv_model::{ClientId, Sequence, copied, CLIENTS};
+use jv_model::{CLIENTS, ClientId, Sequence, copied};
 use jv_outside::{MemDepot, MemShelf, Object, ObjectList, Staged, StagedList};
 use jv_scenes::Scene;
 use std::alloc::{AllocError, Global};

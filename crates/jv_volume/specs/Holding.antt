@@ -19,4 +19,3 @@ pub record Stays (t after : Tree) : Type 0 where
   pub setting : after.setting ≡ t.setting
   pub next : t.next_inode ≤ after.next_inode
   pub holdable : (inode : ℕ) → IsHoldable t inode → IsHoldable after inode
-

@@ -1,6 +1,6 @@
 //! Rows through a keeper in memory.
-use jv_model::{Down, RowKey, Sequence, copied, Rows};
 use jv_model::tables::TABLE_OF_NODES;
+use jv_model::{Down, RowKey, Rows, Sequence, copied};
 use jv_outside::{Batch, Fails, Keeper, MemKeeper};
 use std::alloc::{AllocError, Global};
 
