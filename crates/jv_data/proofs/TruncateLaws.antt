@@ -17,7 +17,7 @@ use Rattle.jv_model.specs.declared.row.SliceRow.{SliceRow}
 use Rattle.jv_model.specs.declared.slice.Rec.{Rec}
 use Rattle.jv_model.specs.FiniteMap.{get, alter}
 use Rattle.jv_model.specs.rows.RowGrammar.{is_slice, slice_of, slice_bytes, list_bytes}
-use Rattle.jv_model.specs.rows.RowKeys.{RowMap, row_key}
+use Rattle.jv_model.specs.rows.RowKeys.{RowMap, row_key, is_key_of}
 use Rattle.jv_model.specs.rows.RowPlaces.{list_key, slice_key}
 use Rattle.jv_outside.specs.declared.batch.Change.{Change}
 use Rattle.jv_outside.specs.Store.{Store}
@@ -26,7 +26,7 @@ use Rattle.jv_rows.specs.Drafts.{drafted, IsNoRow, Sees}
 use Rattle.jv_rows.specs.Lists.{is_past, HasList, HasNoList, RefusesList, FindsList}
 use Rattle.jv_rows.specs.Readings.{ReadsRow}
 use Rattle.jv_rows.specs.Tables.{slice_row}
-use Rattle.jv_rows.specs.Transactions.{Agrees, BadFault, Looks, IsBad, Malformed, NamesNone, is_key_of}
+use Rattle.jv_rows.specs.Transactions.{Agrees, BadFault, Looks, IsBad, Malformed, NamesNone}
 use Rattle.jv_rows.proofs.DraftLaws.{sees_stored}
 use Rattle.jv_rows.proofs.TransactionLaws.{FailsBy, fails-memory, if_known, of_known, past-ends, fails-looks, fails-sees, stands-sees, drafted-none}
 use Rattle.jv_volume.specs.TypedRows.{Rows, typed}

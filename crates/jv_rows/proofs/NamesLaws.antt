@@ -1,18 +1,15 @@
 -- The names of a path, found byte by byte.
-use Rattle.std.proofs.Common.{◌≡◌, ℕ, Bool, true, false, List, [], ◌∷◌, ◌++◌, filter, Some, refl, sym, ap, ◌∙◌, append_assoc, append-nil}
-use Rattle.std.specs.Prelude.{if◌then◌else◌, not, ◌==◌}
+use Rattle.std.proofs.Common.{◌≡◌, ℕ, Bool, true, false, List, [], ◌∷◌, ◌++◌, Some, refl, sym, ap, ◌∙◌, append_assoc, append-nil}
+use Rattle.std.specs.Prelude.{if◌then◌else◌, ◌==◌}
 use Rattle.std.specs.List.{onto_first}
-use Rattle.jv_model.specs.tree.Walk.{names_of, all_but_last}
-use Rattle.jv_model.specs.Lists.{is_nil, parted, last_item}
+use Rattle.jv_model.specs.tree.Walk.{names_of, all_but_last, only_names}
+use Rattle.jv_model.specs.Lists.{parted, last_item}
 use Rattle.jv_rows.specs.Walks.{one_name}
 
 -- the names of a path that is left, behind the part of a name
 abbrev pub names_from : List ℕ → List ℕ → List (List ℕ)
 names_from name [] = one_name name
 names_from name (b ∷ bs) = (if b == 47 then one_name name ++ names_from [] bs else names_from (name ++ b ∷ []) bs)
-
-abbrev only_names : List (List ℕ) → List (List ℕ)
-only_names parts = filter (λ name. not (is_nil name)) parts
 
 -- parts, the first of which goes on from the part of a name
 abbrev joined : List ℕ → List (List ℕ) → List (List ℕ)

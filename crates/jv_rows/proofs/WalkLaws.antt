@@ -13,7 +13,7 @@ use Rattle.jv_model.specs.declared.fault.TxFault.{TxFault}
 use Rattle.jv_model.specs.declared.fault.TxFault.TheVariants.{Refused, Rows as OfRows}
 use Rattle.jv_model.specs.FiniteMap.{get}
 use Rattle.jv_model.specs.rows.RowGrammar.{node_bytes, is_node, edge_bytes, is_edge}
-use Rattle.jv_model.specs.rows.RowKeys.{RowMap, row_key}
+use Rattle.jv_model.specs.rows.RowKeys.{RowMap, row_key, is_key_of}
 use Rattle.jv_model.specs.rows.RowPlaces.{node_key, edge_key}
 use Rattle.jv_model.specs.tree.Tree.{Tree, Kind, File, Directory, Symlink, Node, EntryKey, root, trash_root, node_at, parent_of, parent_at}
 use Rattle.jv_outside.specs.Store.{Store}
@@ -28,7 +28,7 @@ use Rattle.jv_volume.proofs.StoredLaws.{whole-stored, whole-shape, found_node, n
 use Rattle.jv_volume.proofs.WalkShapeLaws.{parent_directory}
 use Rattle.jv_volume.proofs.ClimbLaws.{dir_parent}
 use Rattle.jv_rows.specs.Drafts.{Sees}
-use Rattle.jv_rows.specs.Transactions.{NamesNone, Lacks, Looks, is_key_of, names, is_needed}
+use Rattle.jv_rows.specs.Transactions.{NamesNone, Lacks, Looks, names, is_needed}
 use Rattle.jv_rows.specs.Walks.{HasNodeRow, HasEdgeRow, Comes}
 use Rattle.jv_rows.specs.declared.walking.Place.{Place}
 use Rattle.jv_rows.proofs.TransactionLaws.{Past, of_known, if_known}

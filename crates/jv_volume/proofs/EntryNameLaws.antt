@@ -1,6 +1,6 @@
 -- The last name of a path without the byte 0 may stand in an entry.
 use Rattle.std.proofs.Common.{◌≡◌, ℕ, Bool, true, false, not, ◌&&◌, ◌||◌, ◌==◌, List, [], ◌∷◌, length, Some, Ok, refl, sym, ap, subst, ◌∙◌, arith}
-use Rattle.std.specs.Prelude.{nat_le, filter, is_some, if◌then◌else◌}
+use Rattle.std.specs.Prelude.{nat_le, is_some, if◌then◌else◌}
 use Rattle.std.specs.List.{list_all, onto_first}
 use Rattle.std.proofs.lemmas.Bool.{and_parts, and_from, le-leb, false≢true}
 use Rattle.jv_model.specs.declared.limits.TheConstants.{MAX_NAME, MAX_PATH}
@@ -8,7 +8,7 @@ use Rattle.jv_model.specs.declared.fault.Fault.TheVariants.{AlreadyExists, Inval
 use Rattle.jv_model.specs.FiniteMap.{get}
 use Rattle.jv_model.specs.tree.Attempt.{◌>>=◌, require, some_or}
 use Rattle.jv_model.specs.tree.Tree.{Tree, EntryKey, is_directory}
-use Rattle.jv_model.specs.tree.Walk.{is_dot, is_dot_dot, names_of, entry_of}
+use Rattle.jv_model.specs.tree.Walk.{is_dot, is_dot_dot, names_of, entry_of, only_names}
 use Rattle.jv_model.specs.tree.Making.{may_be_new, new_place}
 use Rattle.jv_model.specs.Lists.{is_nil, parted, last_item, has_no_zero}
 use Rattle.jv_volume.specs.TypedRows.{is_entry_name}
@@ -49,11 +49,11 @@ names_step : (part : List ℕ) (rest : List (List ℕ)) (full : Bool) → not (i
 names_step part rest true e is h = and_from _ _ (and_from _ _ e is) h
 names_step part rest false e is h = h
 
-names_filter : (parts : List (List ℕ)) → all_plain parts ≡ true → all_names (filter (λ name. not (is_nil name)) parts) ≡ true
+names_filter : (parts : List (List ℕ)) → all_plain parts ≡ true → all_names (only_names parts) ≡ true
 names_filter [] h = refl
 names_filter (part ∷ parts) h =
     let both = and_parts (is_plain part) (all_plain parts) h in
-    names_step part (filter (λ name. not (is_nil name)) parts) (not (is_nil part)) refl both.0 (names_filter parts both.1)
+    names_step part (only_names parts) (not (is_nil part)) refl both.0 (names_filter parts both.1)
 
 last_is : (names : List (List ℕ)) (name : List ℕ) → all_names names ≡ true → last_item names ≡ Some name → is_name name ≡ true
 last_is [] name h e = absurd (cc)

@@ -16,9 +16,13 @@ abbrev pub is_absolute : List ℕ → Bool
 is_absolute [] = false
 is_absolute (b ∷ bs) = b == 47
 
+-- the names among the parts of a path, which have a byte or more
+abbrev pub only_names : List (List ℕ) → List (List ℕ)
+only_names parts = filter (λ name. not (is_nil name)) parts
+
 -- the names of a path
 abbrev pub names_of : List ℕ → List (List ℕ)
-names_of path = filter (λ name. not (is_nil name)) (parted 47 path)
+names_of path = only_names (parted 47 path)
 
 abbrev pub is_dot : List ℕ → Bool
 is_dot name = bytes_eq name (codes ".")
