@@ -1,5 +1,5 @@
 -- What closed examples of whole journals share.
-use Rattle.std.specs.Prelude.{ℕ, false, List, [], ◌∷◌, ◌++◌, Some, ⊤}
+use Rattle.std.specs.Prelude.{ℕ, false, List, [], Some, ⊤}
 use Rattle.std.specs.List.{flat_map}
 use Rattle.jv_model.specs.declared.act.Act.{Act}
 use Rattle.jv_model.specs.declared.act.ActKind.{ActKind}
