@@ -13,7 +13,8 @@ use Rattle.jv_model.specs.journal.Steps.{Settles, AtOnce, ReadsViews, CleanedUp,
 use Rattle.jv_model.specs.journal.Past.{Setup, text_of}
 use Rattle.jv_model.specs.journal.Legal.{Legal, Refuses}
 use Rattle.jv_model.proofs.ReplyTextExamples.{replies_on_literals}
-use Rattle.jv_examples.proofs.JournalRuns.{plain_setting, run_of, run_on, entry, entry_at, printed, journals_compute, ◌∴◌}
+use Rattle.jv_examples.proofs.JournalRuns.{run_of, run_on, entry, entry_at, printed, journals_compute, ◌∴◌}
+use Rattle.jv_examples.proofs.TreeRuns.{plain_setting}
 
 -- a volume that keeps what is removed for a day
 abbrev trash_setting : Setting

@@ -15,14 +15,14 @@ use Rattle.jv_model.specs.declared.op.Reply.{Reply}
 use Rattle.jv_model.specs.declared.profile.Answer.TheVariants.{CacheStats}
 use Rattle.jv_model.specs.declared.profile.Does.{Does}
 use Rattle.jv_model.specs.declared.profile.Does.TheVariants.{Answers, Compacts, Collects, Uploads}
-use Rattle.jv_model.specs.client.ModelClient.{ModelClient, Compaction, Doing, OpenFile, View, Flush, Stage, Working, LookedAgain, Compacting, Requesting, Replying, is_replying}
+use Rattle.jv_model.specs.client.ModelClient.{ModelClient, Compaction, Doing, OpenFile, View, Flush, Stage, Working, LookedAgain, Compacting, Requesting, Replying, is_replying, Cleans}
 use Rattle.jv_model.specs.client.Origins.{Origin, Start as AtStart, Zero, Committed, Made, missing_commit}
 use Rattle.jv_model.specs.client.Profile.{handle_of}
 use Rattle.jv_model.specs.journal.Reading.{fresh_view, reading}
 use Rattle.jv_model.specs.journal.State.{State, Change, answer_then}
 use Rattle.jv_model.specs.journal.Steps.{Start, IsEntry, MayStep, MayAnswer, Fails, Settles, AtOnce, CountsCache, ReadsViews, CleanedUp, HasCompacted, TooShort, HasReplaced, HasCollected, HasUploaded, Sent, FoundNone, Refuses}
 use Rattle.jv_model.specs.journal.Steps.{IsRefusedIn, SessionGone, InodeGone, CommitLate, CommitTooLarge, NumberRefused, CompactionCrowded, CompactionLate, AnotherList, BlockOwed, MissedTooOften, InReading, InCompaction}
-use Rattle.jv_model.specs.journal.Steps.{AnswersAtOnce, ReadsFresh, MayBeGone, Owes, MayBeCleaned, MissesBlock, may_be_cleaned, asked_of, file_in_use, begins_step, told_of, is_failure, has_judged}
+use Rattle.jv_model.specs.journal.Steps.{AnswersAtOnce, ReadsFresh, MayBeGone, Owes, MayBeCleaned, MissesBlock, may_be_cleaned, asked_of, file_in_use, begins_step, told_of, is_failure, has_judged, is_working}
 use Rattle.jv_model.specs.journal.Past.{Past, begun_to, advance, past}
 use Rattle.jv_model.specs.journal.Legal.{Allowed, AllAllowed}
 use Rattle.jv_model.proofs.TestLaws.{either_kept}
@@ -55,11 +55,7 @@ abbrev pub first_number : Told → ℕ
 first_number (Fine a b c d) = a
 first_number _ = 0
 
-abbrev is_at_work : Stage → Bool
-is_at_work (Working quiets started) = true
-is_at_work _ = false
-
-judged_is_over : (does : Does) (stage : Stage) → IsTrue (has_judged does stage) → is_at_work stage ≡ false
+judged_is_over : (does : Does) (stage : Stage) → IsTrue (has_judged does stage) → is_working stage ≡ false
 judged_is_over does (Requesting requests) judged = refl
 judged_is_over does _ judged = absurd (cc)
 
@@ -72,15 +68,15 @@ has_own_numbers _ = false
 
 -- an operation at work that is done is answered by what it answers at once
 pub fine_at_once : {start : Start} {alone : Bool} {s : State} {client now : ℕ} {c : ModelClient} {d : Doing} {m n k l : ℕ}
-    → is_at_work d.stage ≡ true → has_own_numbers d.does ≡ false → MayAnswer start alone s client now c d (Fine m n k l) → AnswersAtOnce c d (Fine m n k l)
+    → is_working d.stage ≡ true → has_own_numbers d.does ≡ false → MayAnswer start alone s client now c d (Fine m n k l) → AnswersAtOnce c d (Fine m n k l)
 fine_at_once work own (Fails must fails) = absurd (cc)
-fine_at_once work own (Settles answer stage e) = let no = sym work ∙ ap is_at_work stage in absurd (cc)
+fine_at_once work own (Settles answer stage e) = let no = sym work ∙ ap is_working stage in absurd (cc)
 fine_at_once work own (AtOnce h) = h
 fine_at_once work own (CountsCache hits misses cached ready first does e) = let no = sym own ∙ ap has_own_numbers does in absurd (cc)
 fine_at_once work own (ReadsViews h) = let no = h.same in absurd (cc)
-fine_at_once work own (CleanedUp h) = let no = sym work ∙ ap is_at_work h.stage in absurd (cc)
-fine_at_once work own (HasCompacted (TooShort k records stage quiets on few e)) = let no = sym work ∙ ap is_at_work stage in absurd (cc)
-fine_at_once work own (HasCompacted (HasReplaced k before after stage replaced two e)) = let no = sym work ∙ ap is_at_work stage in absurd (cc)
+fine_at_once work own (CleanedUp h) = let no = sym work ∙ ap is_working h.stage in absurd (cc)
+fine_at_once work own (HasCompacted (TooShort k records stage quiets on few e)) = let no = sym work ∙ ap is_working stage in absurd (cc)
+fine_at_once work own (HasCompacted (HasReplaced k before after stage replaced two e)) = let no = sym work ∙ ap is_working stage in absurd (cc)
 fine_at_once {d = d} work own (HasCollected count bytes judged e) = let no = sym work ∙ judged_is_over d.does d.stage judged in absurd (cc)
 fine_at_once work own (HasUploaded does h) = let no = sym own ∙ ap has_own_numbers does in absurd (cc)
 fine_at_once work own (Refuses fault moved h e) = absurd (cc)
@@ -145,6 +141,10 @@ try_again_after_look unlooked (AnotherList k looked found stage unchanged other 
 try_again_after_look unlooked (BlockOwed position number from to view owed (InReading misses window file asked stage file_is part fresh first last) begins ends commit e) = let yes = sym unlooked ∙ ap may_have_looked stage in absurd (cc)
 try_again_after_look unlooked (BlockOwed position number from to view owed (InCompaction k stage missed later view_is first last) begins ends commit e) = let yes = sym unlooked ∙ ap may_have_looked stage in absurd (cc)
 try_again_after_look unlooked (MissedTooOften window owed stage e) = absurd (cc)
+
+abbrev pub is_cleans : Stage → Bool
+is_cleans (Cleans k) = true
+is_cleans _ = false
 
 abbrev pub is_compacting : Stage → Bool
 is_compacting (Compacting k) = true

@@ -30,7 +30,7 @@ Chain k [] = Unit {0}
 Chain k (r ∷ rows) = Follows k r × Chain r.0 rows
 
 -- the key of the last row, or a key where there is none
-abbrev pub last_or : RowKey → List (RowKey × List ℕ) → RowKey
+abbrev pub last_or : {X : Type 0} → RowKey → List (RowKey × X) → RowKey
 last_or k [] = k
 last_or k (r ∷ rows) = last_or r.0 rows
 

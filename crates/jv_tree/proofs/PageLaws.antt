@@ -32,12 +32,7 @@ last_is (x ∷ []) r (suc i) len is = absurd (omega (arith, len))
 last_is (x ∷ y ∷ page) r zero len is = absurd (omega (arith, len))
 last_is (x ∷ y ∷ page) r (suc i) len is = last_is (y ∷ page) r i (omega (arith, len)) is
 
--- the key of the last row, or a key where there is none
-abbrev last_from : RowKey → List (RowKey × Row) → RowKey
-last_from k [] = k
-last_from k (r ∷ rows) = last_from r.0 rows
-
-last_of-from : (k : RowKey) (list : List (RowKey × Row)) (key : RowKey) → last_of list ≡ Some key → last_from k list ≡ key
+last_of-from : (k : RowKey) (list : List (RowKey × Row)) (key : RowKey) → last_of list ≡ Some key → last_or k list ≡ key
 last_of-from k [] key e = absurd (true≢false (sym (ap is_some e)))
 last_of-from k (r ∷ []) key e = some_same r.0 key e
 last_of-from k (r ∷ x ∷ rows) key e = last_of-from r.0 (x ∷ rows) key e
@@ -79,11 +74,11 @@ edge_by bytes row (Some edge) e h = record { edge = edge; spelled = e; is = sym 
 edge_is : (key : RowKey) (bytes : List ℕ) (row : Row) → key.tab ≡ TABLE_OF_EDGES → row_of key.tab bytes ≡ Some row → EdgeRead bytes row
 edge_is key bytes row tab is = edge_by bytes row (edge_of bytes) refl (sym (edge_row bytes) ∙ ap (λ (t : ℕ). row_of t bytes) (sym tab) ∙ is)
 
-last-read : (k : RowKey) (rows : List (RowKey × List ℕ)) (list : List (RowKey × Row)) → rows_read rows ≡ Ok list → last_from k list ≡ last_or k rows
-last-read k [] list read = sym (ap (last_from k) (same_ok [] list read))
+last-read : (k : RowKey) (rows : List (RowKey × List ℕ)) (list : List (RowKey × Row)) → rows_read rows ≡ Ok list → last_or k list ≡ last_or k rows
+last-read k [] list read = sym (ap (last_or k) (same_ok [] list read))
 last-read k (r ∷ rows) list read =
     let f = read_first r.0 r.1 (row_of r.0.tab r.1) (rows_read rows) list read in
-    ap (last_from k) f.list_is ∙ last-read r.0 rows f.rest f.others_are
+    ap (last_or k) f.list_is ∙ last-read r.0 rows f.rest f.others_are
 
 -- ---- the entries of a page
 
@@ -180,7 +175,7 @@ page-none dir (r ∷ rows) (suc n) list some read last =
 
 -- ---- the loop
 
-last_within : (dir : ℕ) (k : RowKey) (list : List (RowKey × Row)) → k.a ≡ dir → all_within dir list ≡ true → (last_from k list).a ≡ dir
+last_within : (dir : ℕ) (k : RowKey) (list : List (RowKey × Row)) → k.a ≡ dir → all_within dir list ≡ true → (last_or k list).a ≡ dir
 last_within dir k [] is all = is
 last_within dir k (r ∷ rows) is all =
     let each = all_first (is_entry r.1) (r.0.a == dir) (all_within dir rows) all in

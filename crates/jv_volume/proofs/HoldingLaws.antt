@@ -13,7 +13,7 @@ use Rattle.jv_model.specs.tree.Tree.{Tree, Node, File, Directory, Symlink, Conte
 use Rattle.jv_model.specs.tree.Tree.{content_at, is_sustained}
 use Rattle.jv_model.specs.tree.Changes.{touched, with_content, overwritten, resized, copied_over}
 use Rattle.jv_model.specs.tree.Caller.{Caller, Outcome, outcome}
-use Rattle.jv_model.specs.tree.FileBytes.{committed, truncated, copied, truncate, copy}
+use Rattle.jv_model.specs.tree.FileBytes.{committed, truncated, copied, truncate, copy, copied_between}
 use Rattle.jv_model.specs.tree.TreeAct.{tree_act}
 use Rattle.jv_model.specs.Lists.{is_among}
 use Rattle.jv_model.specs.client.OpForms.{changes_bytes, takes_entries}
@@ -21,7 +21,7 @@ use Rattle.jv_volume.specs.Shape.{Regular, Shape, WholeShape, form_of, is_there,
 use Rattle.jv_volume.specs.Holding.{IsHoldable, HasBytes, Kept, New as NewFile, Stays}
 use Rattle.jv_volume.proofs.ShapeMapLaws.{pair_of, is_there-form, form-content}
 use Rattle.jv_volume.proofs.ChangeLaws.{change_node-setting}
-use Rattle.jv_volume.proofs.SameShapeLaws.{between, shape-committed, shape-truncated, shape-copied}
+use Rattle.jv_volume.proofs.SameShapeLaws.{shape-committed, shape-truncated, shape-copied}
 use Rattle.jv_volume.proofs.KeptFilesLaws.{KeepsFiles, NodeKept, Gone, Same, New, keeps-none}
 use Rattle.jv_volume.proofs.KeptOperationLaws.{none_more, those_held, keeps-create, keeps-mkdir, keeps-symlink}
 use Rattle.jv_volume.proofs.KeptOperationLaws.{keeps-link, keeps-chmod, keeps-chown, keeps-utimes, keeps-rmdir}
@@ -176,14 +176,14 @@ module _ (t : Tree) where
   alike-copied now source from target to len =
       record { shape = shape-copied t now source from target to len; setting = by_test (len == 0) }
     where
-      by_contents : (a b : Option Content) → (between t now a from target b to len).setting ≡ t.setting
+      by_contents : (a b : Option Content) → (copied_between t now a from target b to len).setting ≡ t.setting
       by_contents None b = refl
       by_contents (Some content) None = refl
       by_contents (Some content) (Some other) = setting-with_content now target (copied_over content from other to len)
 
       by_test : (b : Bool) → (elim b as (λ _. Tree) [
         | true ↦ t
-        | false ↦ between t now (content_at t source) from target (content_at t target) to len
+        | false ↦ copied_between t now (content_at t source) from target (content_at t target) to len
       ]).setting ≡ t.setting
       by_test true = refl
       by_test false = by_contents (content_at t source) (content_at t target)

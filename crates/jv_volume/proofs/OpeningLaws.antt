@@ -13,7 +13,7 @@ use Rattle.jv_model.specs.declared.op.Reply.TheVariants.{FileOpened}
 use Rattle.jv_model.specs.FiniteMap.{number_key}
 use Rattle.jv_model.specs.tree.Attempt.{◌>>=◌, require}
 use Rattle.jv_model.specs.tree.Tree.{Tree, Node, File, Directory, Symlink, EntryKey, root, trash_root, new_node}
-use Rattle.jv_model.specs.tree.Tree.{node_at, parent_of, target_at, is_directory}
+use Rattle.jv_model.specs.tree.Tree.{node_at, parent_of, target_at, is_directory, target_in}
 use Rattle.jv_model.specs.tree.Changes.{empty_content, put_node}
 use Rattle.jv_model.specs.tree.Caller.{Caller, Outcome, outcome, in_session}
 use Rattle.jv_model.specs.tree.Walk.{is_absolute, names_of, stepped, walk_names, walk, inode_of}
@@ -27,7 +27,6 @@ use Rattle.jv_volume.proofs.ShapeMapLaws.{get-inserted, shape-put_entry, is_dire
 use Rattle.jv_volume.proofs.WalkShapeLaws.{went_on, required, same_Ok, onwards, root_directory, path_named}
 use Rattle.jv_volume.proofs.OperationShapeLaws.{is_entered}
 use Rattle.jv_volume.proofs.ReplyLaws.{opens_none}
-use Rattle.jv_volume.proofs.StoredLaws.{target_in}
 
 -- where a followed walk leads
 

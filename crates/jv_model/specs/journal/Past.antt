@@ -239,7 +239,7 @@ requested (CrashEntry client) = CrashEntry client
 requested (TickEntry by) = TickEntry by
 requested (DrainEntries client) = DrainEntries client
 
-abbrev says_more : Due → List ℕ → List ℕ
+abbrev pub says_more : Due → List ℕ → List ℕ
 says_more (OneStep client) said = more_text
 says_more _ said = said
 

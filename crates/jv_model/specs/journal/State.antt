@@ -244,7 +244,7 @@ look_refusal t c inode = (if not (has_session t c) then Some (session_gone c)
 abbrev pub refused_look : State → ModelClient → ℕ → Stage → Stage
 refused_look s c inode stage = elim (look_refusal s.tree c inode) [ None ↦ stage | Some answer ↦ Replying answer ]
 
-abbrev sees : ModelClient → ℕ → Option OpenFile → List Asked → Bool
+abbrev pub sees : ModelClient → ℕ → Option OpenFile → List Asked → Bool
 sees c handle None parts = false
 sees c handle (Some file) [] = false
 sees c handle (Some file) (asked ∷ others) = is_some (fresh_view c.views handle file asked.window)

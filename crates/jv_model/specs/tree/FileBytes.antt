@@ -25,7 +25,7 @@ truncated t now inode len = elim (content_at t inode) [
   | Some content ↦ with_content t now inode (resized content len)
 ]
 
-abbrev copied_between : Tree → ℕ → Option Content → ℕ → ℕ → Option Content → ℕ → ℕ → Tree
+abbrev pub copied_between : Tree → ℕ → Option Content → ℕ → ℕ → Option Content → ℕ → ℕ → Tree
 copied_between t now (Some source) from target (Some content) to len = with_content t now target (copied_over source from content to len)
 copied_between t now _ from target _ to len = t
 

@@ -172,13 +172,13 @@ parent_at t inode = parent_of (node_at t inode)
 abbrev pub is_directory : Tree → ℕ → Bool
 is_directory t inode = is_some (parent_at t inode)
 
-abbrev target_of : Option Node → Option (List ℕ)
-target_of None = None
-target_of (Some node) = elim node.kind [ File content ↦ None | Directory parent ↦ None | Symlink target ↦ Some target ]
+abbrev pub target_in : Option Node → Option (List ℕ)
+target_in None = None
+target_in (Some node) = elim node.kind [ File content ↦ None | Directory parent ↦ None | Symlink target ↦ Some target ]
 
 -- the target of a symlink, where the inode is one
 abbrev pub target_at : Tree → ℕ → Option (List ℕ)
-target_at t inode = target_of (node_at t inode)
+target_at t inode = target_in (node_at t inode)
 
 -- whether a directory has entries
 abbrev pub has_entries : Tree → ℕ → Bool
