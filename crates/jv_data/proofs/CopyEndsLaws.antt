@@ -7,7 +7,7 @@ use Rattle.std.proofs.lemmas.Bool.{and_from, leb-true, eqb-false, ne_eqb}
 use Rattle.jv_model.specs.declared.fault.Down.{Down}
 use Rattle.jv_model.specs.declared.fault.Fault.{Fault}
 use Rattle.jv_model.specs.declared.fault.Fault.TheVariants.{FileTooLarge, Invalid, NoSpace, Stale}
-use Rattle.jv_model.specs.declared.fault.Gone.TheVariants.{Session, Node as GoneNode}
+use Rattle.jv_model.specs.declared.fault.Gone.TheVariants.{Node as GoneNode}
 use Rattle.jv_model.specs.declared.fault.RowFault.TheVariants.{Bad, Failed, Memory}
 use Rattle.jv_model.specs.declared.fault.TxFault.{TxFault}
 use Rattle.jv_model.specs.declared.fault.TxFault.TheVariants.{Refused, Moved, Rows as OfRows}
@@ -24,7 +24,7 @@ use Rattle.jv_model.specs.rows.RowFaults.{row_fault}
 use Rattle.jv_model.specs.rows.RowKeys.{RowMap}
 use Rattle.jv_model.specs.rows.RowPlaces.{node_key, slice_key}
 use Rattle.jv_model.specs.tree.Attempt.{◌>>=◌, require, some_or}
-use Rattle.jv_model.specs.tree.Caller.{Caller, Outcome, answered}
+use Rattle.jv_model.specs.tree.Caller.{Caller, Outcome, answered, session_there}
 use Rattle.jv_model.specs.tree.Changes.{copied_over, with_content, content_of}
 use Rattle.jv_model.specs.tree.FileBytes.{copied, overlap, copy, length_seen}
 use Rattle.jv_model.specs.tree.Tree.{Tree, Content, content_at, fits, space_limit, used_space, inode_limit, used_inodes}
@@ -121,7 +121,7 @@ module _ (sid now src dst from to len : ℕ) (due : Setting → ℕ) where
   -- of two files that a session sees
   abbrev pub act : Tree → Result Outcome Fault
   act t = do
-    _ ← require (is_some (get t.sessions sid)) (Stale (Session sid))
+    _ ← session_there t sid
     source ← some_or (content_at t src) (Stale (GoneNode src))
     _ ← some_or (content_at t dst) (Stale (GoneNode dst))
     starting (min len (source.length - from)) t

@@ -6,7 +6,7 @@ use Rattle.std.proofs.lemmas.Option.{same_Some}
 use Rattle.std.proofs.lemmas.Bool.{cond-true, cond-false, le-leb, lt-leb, lt-ltb, le-ltb}
 use Rattle.jv_model.specs.declared.fault.Fault.{Fault}
 use Rattle.jv_model.specs.declared.fault.Fault.TheVariants.{FileTooLarge, NoSpace, Stale}
-use Rattle.jv_model.specs.declared.fault.Gone.TheVariants.{Session, Node as GoneNode}
+use Rattle.jv_model.specs.declared.fault.Gone.TheVariants.{Node as GoneNode}
 use Rattle.jv_model.specs.declared.fault.RowFault.TheVariants.{Bad, Failed, Memory}
 use Rattle.jv_model.specs.declared.fault.TxFault.{TxFault}
 use Rattle.jv_model.specs.declared.fault.TxFault.TheVariants.{Refused, Moved, Rows as OfRows}
@@ -15,7 +15,7 @@ use Rattle.jv_model.specs.declared.op.Reply.TheVariants.{Done}
 use Rattle.jv_model.specs.FiniteMap.{get}
 use Rattle.jv_model.specs.rows.RowKeys.{RowMap}
 use Rattle.jv_model.specs.tree.Attempt.{◌>>=◌, require, some_or}
-use Rattle.jv_model.specs.tree.Caller.{Caller, Outcome, done}
+use Rattle.jv_model.specs.tree.Caller.{Caller, Outcome, done, session_there}
 use Rattle.jv_model.specs.tree.Changes.{resized, with_content, content_of}
 use Rattle.jv_model.specs.tree.FileBytes.{truncated, truncate, length_seen}
 use Rattle.jv_model.specs.tree.Tree.{Tree, Content, content_at, fits}
@@ -62,7 +62,7 @@ use Rattle.jv_data.specs.Committing.{HasFile}
 -- the model's truncate of a file that a session sees
 abbrev pub truncating : (sid now inode len : ℕ) → Tree → Result Outcome Fault
 truncating sid now inode len t = do
-  _ ← require (is_some (get t.sessions sid)) (Stale (Session sid))
+  _ ← session_there t sid
   content ← some_or (content_at t inode) (Stale (GoneNode inode))
   _ ← require (nat_le len FILE_END) FileTooLarge
   _ ← require (fits t (truncated t now inode len)) NoSpace

@@ -3,8 +3,7 @@ use Rattle.std.specs.Prelude.{◌≡◌, ℕ, true, false, ◌&&◌, not, is_som
 use Rattle.jv_model.specs.declared.basics.How.{How}
 use Rattle.jv_model.specs.declared.basics.How.TheVariants.{Plain, NoReplace, Exchange}
 use Rattle.jv_model.specs.declared.fault.Fault.{Fault}
-use Rattle.jv_model.specs.declared.fault.Fault.TheVariants.{AlreadyExists, NotFound, NotPermitted, NoSpace, Stale}
-use Rattle.jv_model.specs.declared.fault.Gone.TheVariants.{Session}
+use Rattle.jv_model.specs.declared.fault.Fault.TheVariants.{AlreadyExists, NotFound, NotPermitted, NoSpace}
 use Rattle.jv_model.specs.declared.fault.TxFault.{TxFault}
 use Rattle.jv_model.specs.declared.op.Reply.TheVariants.{Done}
 use Rattle.jv_model.specs.FiniteMap.{get}
@@ -13,7 +12,7 @@ use Rattle.jv_model.specs.tree.Tree.{Tree, EntryKey, is_directory, links_fit}
 use Rattle.jv_model.specs.tree.Walk.{entry_of}
 use Rattle.jv_model.specs.tree.Making.{may_be_new}
 use Rattle.jv_model.specs.tree.Renaming.{may_leave, moved, is_inside, renamed, renamed_over, unless_same, exchanging}
-use Rattle.jv_model.specs.tree.Caller.{Caller, Outcome}
+use Rattle.jv_model.specs.tree.Caller.{Caller, Outcome, session_there}
 use Rattle.jv_outside.specs.Store.{Store}
 use Rattle.jv_rows.specs.declared.walking.Place.{Place}
 use Rattle.jv_model.specs.rows.RowGrammar.{is_node}
@@ -42,7 +41,7 @@ move_in (Err fault) = Err fault
 -- what a rename asks before it looks at its target
 abbrev pub move_asked : Tree → ℕ → List ℕ → List ℕ → How → Result Move Fault
 move_asked t sid path to how = do
-  _ ← require (is_some (get t.sessions sid)) (Stale (Session sid))
+  _ ← session_there t sid
   from ← entry_of t path
   target ← entry_of t to
   _ ← require (may_leave how from && may_be_new target) NotPermitted

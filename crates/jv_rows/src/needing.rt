@@ -1,6 +1,5 @@
 //! What transactions need first: the caller's session, and rows that have to be there.
-ghost use Rattle.std.specs.Prelude.{◌≡◌, [], is_some};
-ghost use Rattle.jv_model.specs.FiniteMap.{get};
+ghost use Rattle.std.specs.Prelude.{◌≡◌, []};
 ghost use Rattle.jv_model.specs.declared.fault.Fault.TheVariants.{Stale};
 ghost use Rattle.jv_model.specs.declared.fault.Gone.TheVariants.{Session};
 ghost use Rattle.jv_model.specs.declared.fault.RowFault.TheVariants.{Bad};
@@ -8,7 +7,7 @@ ghost use Rattle.jv_model.specs.declared.fault.TxFault.TheVariants.{Rows as OfRo
 ghost use Rattle.jv_model.specs.declared.row.Row.TheVariants.{OfSetting, OfCounters, OfNode};
 ghost use Rattle.jv_model.specs.rows.RowGrammar.{is_setting, is_counters, is_node};
 ghost use Rattle.jv_model.specs.rows.RowPlaces.{setting_key, counters_key, node_key};
-ghost use Rattle.jv_model.specs.tree.Attempt.{require};
+ghost use Rattle.jv_model.specs.tree.Caller.{session_there};
 ghost use Rattle.jv_rows.specs.Drafts.{Needs};
 ghost use Rattle.jv_rows.specs.Transactions.{Looks};
 
@@ -27,7 +26,7 @@ use std::alloc::Global;
 /// Memory.
 pub fn in_session<K: Keeper>(alloc: Global, k: &mut K, sid: u64) -> Result<(), TxFault>
     ensures { Looks (K.seen k.old) (K.seen k.new) result
-        (λ t. require (is_some (get t.sessions sid)) (Stale (Session sid))) }
+        (λ t. session_there t sid) }
 {
     match read_session(alloc, k, sid)? {
         Some(_) => Ok(()),
