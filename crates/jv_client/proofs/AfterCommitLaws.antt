@@ -22,7 +22,7 @@ use Rattle.jv_client.specs.Held.{is_last_here, segment_left}
 use Rattle.jv_client.specs.UnderWay.{FlushesFor, Closes, Syncs, Describes, ReadsNothing, Reads}
 use Rattle.jv_client.specs.UnderWay.{Truncates as FlushTruncates}
 use Rattle.jv_client.specs.UnderWay.{IsForm, Mounts, Transacts, Leaves, Writes, Flushes, Copies}
-use Rattle.jv_client.specs.UnderWay.{TellsStats, IsUnderWay, ClosesOpen, asks_more, ends_itself}
+use Rattle.jv_client.specs.UnderWay.{SaysStats, IsUnderWay, ClosesOpen, asks_more, ends_itself}
 use Rattle.jv_client.specs.UnderWay.{has_not_seen, has_segment, moved_to, reading_steps, steps_in, steps_left}
 use Rattle.jv_client.specs.Flushing.{without_segment}
 use Rattle.jv_client.proofs.GoesOnLaws.{Continues, form-on}
@@ -97,7 +97,7 @@ module _ (h : ClientValue) (d : Doing) where
       by_form (Flushes handle file for first opened session) = by_reason handle for
       by_form (Copies source from target to len file other o e first opened there session) =
           asking does.Copies e refl
-      by_form (TellsStats o e first session) = absurd (cc (ending (does.Answers answer.CacheStats) e))
+      by_form (SaysStats o e first session) = absurd (cc (ending (does.Answers answer.CacheStats) e))
 
 -- ---- it goes on well
 
@@ -131,7 +131,7 @@ module _ (h : ClientValue) (d : Doing) (segment : Segment) (form : IsForm h d)
       by_form (Flushes handle file for first opened session) = unseen-file handle file opened first for offset
       by_form (Copies source from target to n file other o e first opened there session) =
           other_does does.Copies e (λ same. cc same)
-      by_form (TellsStats o e first session) = other_does (does.Answers answer.CacheStats) e (λ same. cc same)
+      by_form (SaysStats o e first session) = other_does (does.Answers answer.CacheStats) e (λ same. cc same)
 
   abbrev asking : Doing
   asking = moved_to (progress.Working 0 0 0) d

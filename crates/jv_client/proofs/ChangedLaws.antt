@@ -16,7 +16,7 @@ use Rattle.jv_model.specs.journal.Steps.{told_of}
 use Rattle.jv_model.specs.client.OpForms.{changes_bytes}
 use Rattle.jv_model.specs.tree.Trash.{due_after}
 use Rattle.jv_outside.specs.Store.{Store}
-use Rattle.jv_data.specs.Changing.{AnyTold, Changes, IsCrowded, Never, count_in}
+use Rattle.jv_data.specs.Changing.{AnyBytes, Changes, IsCrowded, Never, count_in}
 use Rattle.jv_metadata.specs.Attempts.{mapped}
 use Rattle.jv_shared.specs.Shared.{Shared}
 use Rattle.jv_handles.specs.Handles.{inode_here}
@@ -109,7 +109,7 @@ module _ (now entry : ℕ) (h : ClientValue) (d : Doing) (busy : h.doing ≡ Som
         (named (op.Truncate handle len) of_op (cut_to inode len) came.2) refl (answered (cut_to inode len) came.2)
         (truncated-makes now h d busy ready flushed changes v keeper entry handle len of_op
         (λ caller for own. subst (λ (made : Result (Unit {0}) TxFault). Changes {A = Unit {0}}
-        (record { own = 0; size = 0; more = 1; due = due_after now }) AnyTold Never v.keeper keeper made
+        (record { own = 0; size = 0; more = 1; due = due_after now }) AnyBytes Never v.keeper keeper made
         (λ unit. reply.Done) (λ t. truncate t caller len)) came.1 (tried.changes caller for own)))
 
     made-copy : (source from target to len : ℕ) → d.op ≡ op.Copy source from target to len
@@ -126,7 +126,7 @@ module _ (now entry : ℕ) (h : ClientValue) (d : Doing) (busy : h.doing ≡ Som
         (named (op.Copy source from target to len) of_op copied came.2) refl (answered copied came.2)
         (copied-makes now h d busy ready flushed changes v keeper entry source from target to len of_op came.0
         (λ caller for own other. subst (λ (made : Result ℕ TxFault). Changes {A = ℕ}
-        (record { own = 0; size = 0; more = count_in made; due = due_after now }) AnyTold (IsCrowded FILE_END) v.keeper
+        (record { own = 0; size = 0; more = count_in made; due = due_after now }) AnyBytes (IsCrowded FILE_END) v.keeper
         keeper made (λ n. reply.Count n) (λ t. copy t caller from to len)) came.1 (tried.changes caller for own other)))
 
     pub change-made : TriesChange h.handles d.op asks_as v.keeper keeper (Ok changed)
@@ -154,7 +154,7 @@ module _ (now entry : ℕ) (h : ClientValue) (d : Doing) (busy : h.doing ≡ Som
           tried.result_is in
           truncate-unmade now h d busy ready flushed changes v keeper entry after done handle len of_op of_does fault
           (λ caller for own. subst (λ (made : Result (Unit {0}) TxFault). Changes {A = Unit {0}}
-          (record { own = 0; size = 0; more = 1; due = due_after now }) AnyTold Never v.keeper keeper made
+          (record { own = 0; size = 0; more = 1; due = due_after now }) AnyBytes Never v.keeper keeper made
           (λ unit. reply.Done) (λ t. truncate t caller len)) none (tried.changes caller for own)) ends
 
       by_copy : (source from target to len : ℕ) → d.op ≡ op.Copy source from target to len → d.does ≡ does.Copies
@@ -167,7 +167,7 @@ module _ (now entry : ℕ) (h : ClientValue) (d : Doing) (busy : h.doing ≡ Som
           copy-unmade now h d busy ready flushed changes v keeper entry after done source from target to len of_op
           of_does fault
           (λ caller for own other. subst (λ (made : Result ℕ TxFault). Changes {A = ℕ}
-          (record { own = 0; size = 0; more = count_in made; due = due_after now }) AnyTold (IsCrowded FILE_END) v.keeper
+          (record { own = 0; size = 0; more = count_in made; due = due_after now }) AnyBytes (IsCrowded FILE_END) v.keeper
           keeper made (λ n. reply.Count n) (λ t. copy t caller from to len)) none (tried.changes caller for own other))
           ends
 

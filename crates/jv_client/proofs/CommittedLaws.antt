@@ -40,8 +40,8 @@ use Rattle.jv_client.specs.ClientValue.{ClientValue, session_here}
 use Rattle.jv_client.specs.Ending.{told_here}
 use Rattle.jv_client.specs.Held.{IsHeld, IsClient, Holds, in_flight, is_last_here, segment_left}
 use Rattle.jv_client.specs.UnderWay.{IsReady, answer_here, ends_itself, left, left_of, moved_to}
-use Rattle.jv_client.specs.Makes.{IsCalm, Makes, StepsTo, TellsBad, UsesDevices, asks_nothing, faults_of}
-use Rattle.jv_client.specs.Makes.{step_of, tells_failure}
+use Rattle.jv_client.specs.Makes.{IsCalm, Makes, StepsTo, SaysBad, UsesDevices, asks_nothing, faults_of}
+use Rattle.jv_client.specs.Makes.{step_of, says_failure}
 use Rattle.jv_client.specs.Flushing.{Follows, Answers, Writes, GoesOn, written_alone}
 use Rattle.jv_client.proofs.CacheUseLaws.{cache-ended, cache-stays}
 use Rattle.jv_client.proofs.AfterCommitLaws.{falls-without, way-without}
@@ -91,8 +91,8 @@ module _ (h : ClientValue) (d : Doing) (v : Shared) (keeper : Store) (at : Segme
   left-between o e = sym (ap (left_of between.pending) is_commit.busy) ∙ e
 
   -- what a step with a commit does to devices
-  uses : (outcome : Made) → ((failed : Device) → tells_failure failed outcome ≡ false) → asks_nothing outcome ≡ false
-      → TellsBad v (step_of outcome) → UsesDevices outcome v used_here
+  uses : (outcome : Made) → ((failed : Device) → says_failure failed outcome ≡ false) → asks_nothing outcome ≡ false
+      → SaysBad v (step_of outcome) → UsesDevices outcome v used_here
   uses outcome calm asks bad = record {
     keeper_at = (commits [] (λ setting. 0)).opened_at;
     carrier_at = refl;

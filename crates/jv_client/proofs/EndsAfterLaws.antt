@@ -24,7 +24,7 @@ use Rattle.jv_client.specs.Held.{is_last_here, segment_left}
 use Rattle.jv_client.specs.UnderWay.{FlushesFor, Closes, Syncs, Describes, ReadsNothing, Reads}
 use Rattle.jv_client.specs.UnderWay.{Truncates as FlushTruncates}
 use Rattle.jv_client.specs.UnderWay.{HasRoom, Beside, Alone, IsForm, Mounts, Transacts, Leaves, Writes, Flushes, Copies}
-use Rattle.jv_client.specs.UnderWay.{TellsStats, answer_here, ends_itself}
+use Rattle.jv_client.specs.UnderWay.{SaysStats, answer_here, ends_itself}
 use Rattle.jv_client.specs.Flushing.{without_segment, written_alone}
 use Rattle.jv_client.proofs.AfterCommitLaws.{still-open}
 use Rattle.jv_client.proofs.HeldLaws.{doing_of}
@@ -112,7 +112,7 @@ module _ (m : ModelClient) (c : ClientValue) (d : Doing)
       answered-so (Flushes handle file for first opened session) = by_reason handle for
       answered-so (Copies source from target to len file other o e first opened there session) =
           never does.Copies e refl
-      answered-so (TellsStats o e first session) = no_segment first
+      answered-so (SaysStats o e first session) = no_segment first
 
 -- ---- a write that had to wait for room
 
@@ -166,4 +166,4 @@ module _ (h : ClientValue) (d : Doing) (segment : Segment) (next : segment_left 
   waits-to_write (Flushes other file for first opened session) = not-flushing other for
   waits-to_write (Copies source from target to len file other o e first opened there session) =
       other-op (op.Copy source from target to len) o refl
-  waits-to_write (TellsStats o e first session) = other-op op.Stats o refl
+  waits-to_write (SaysStats o e first session) = other-op op.Stats o refl

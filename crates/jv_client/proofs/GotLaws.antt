@@ -24,7 +24,7 @@ use Rattle.jv_model.specs.blocks.BlockNames.{name_in}
 use Rattle.jv_model.specs.client.OpForms.{is_read, is_umount}
 use Rattle.jv_outside.specs.Causes.{RoseIf}
 use Rattle.jv_cache.specs.Cached.{Cached}
-use Rattle.jv_contents.specs.Blocks.{Blocks, told_by}
+use Rattle.jv_contents.specs.Blocks.{Blocks, known_by}
 use Rattle.jv_yard.specs.declared.faults.YardFault.{YardFault}
 use Rattle.jv_yard.specs.declared.faults.YardFault.TheVariants.{Depot, Shelf, Memory}
 use Rattle.jv_yard.specs.BlockCalls.{GetsBlock}
@@ -60,7 +60,7 @@ use Rattle.jv_client.specs.ClientValue.{ClientValue}
 use Rattle.jv_yard.specs.Refusals.{yard_fault}
 use Rattle.jv_client.specs.Getting.{Fills, IsMissed, IsUnread}
 use Rattle.jv_client.specs.Held.{Holds, IsClient, IsHeld, in_flight}
-use Rattle.jv_client.specs.Makes.{Makes, StepsTo, TellsBad, UsesDevices, faults_of, step_of, tells_failure}
+use Rattle.jv_client.specs.Makes.{Makes, StepsTo, SaysBad, UsesDevices, faults_of, step_of, says_failure}
 use Rattle.jv_client.specs.CacheUse.{KeepsOne, LooksOnly, MovesInRead}
 use Rattle.jv_client.specs.Reading.{GoesAhead, LookedUp, read_of, told_read}
 use Rattle.jv_client.proofs.CacheUseLaws.{cache-read}
@@ -77,8 +77,8 @@ use Rattle.jv_client.proofs.ReadFailedLaws.{failed}
 -- ---- devices
 
 -- a block was read, and nothing else was asked
-uses-got : (done : Made) (before : Shared) (yard : YardValue) → ((device : Device) → tells_failure device done ≡ false)
-    → yard ≡ before.yard → TellsBad before (step_of done) → UsesDevices done before (record before { yard = yard })
+uses-got : (done : Made) (before : Shared) (yard : YardValue) → ((device : Device) → says_failure device done ≡ false)
+    → yard ≡ before.yard → SaysBad before (step_of done) → UsesDevices done before (record before { yard = yard })
 uses-got done before yard fine same bad =
     subst (λ (yard : YardValue). UsesDevices done before (record before { yard = yard })) (sym same)
     (uses-none done before fine bad)
@@ -111,7 +111,7 @@ uses-unread Depot before yard refused =
       bad = tt;
     }
   where
-    by_device : (device : Device) → RoseIf (tells_failure device (unread_as Depot)) (faults_of device before)
+    by_device : (device : Device) → RoseIf (says_failure device (unread_as Depot)) (faults_of device before)
         (faults_of device (record before { yard = yard }))
     by_device TheKeeper = refl
     by_device TheDepot = refused.0.cause
@@ -133,7 +133,7 @@ uses-unread Shelf before yard refused =
       bad = tt;
     }
   where
-    by_device : (device : Device) → RoseIf (tells_failure device (unread_as Shelf)) (faults_of device before)
+    by_device : (device : Device) → RoseIf (says_failure device (unread_as Shelf)) (faults_of device before)
         (faults_of device (record before { yard = yard }))
     by_device TheKeeper = refl
     by_device TheDepot = ap (λ (y : YardValue). y.depot.faults) refused.1
@@ -306,7 +306,7 @@ module _ (now entry block : ℕ) (h : ClientValue) (d : Doing) (offset len : ℕ
         leads-over : (found : Found)
             → ((blocks : Blocks) (all : List Asked) → HasCached blocks file.views filled.block kept
             → IsFetching blocks file.views all filled
-            → IsReadBy (told_by filled.block blocks) file.views all (read_of found))
+            → IsReadBy (known_by filled.block blocks) file.views all (read_of found))
             → StepsTo s g before h now (Quiet ∷ Answered (told_read found) ∷ []) (Done (Data found.bytes))
             (over h.handles later h) used
         leads-over found read = record {
@@ -363,7 +363,7 @@ module _ (now entry block : ℕ) (h : ClientValue) (d : Doing) (offset len : ℕ
       pub get-over : (found : Found)
           → ((blocks : Blocks) (all : List Asked) → HasCached blocks file.views filled.block kept
           → IsFetching blocks file.views all filled
-          → IsReadBy (told_by filled.block blocks) file.views all (read_of found))
+          → IsReadBy (known_by filled.block blocks) file.views all (read_of found))
           → Makes now entry h (over h.handles later h) before used (made.Both Quiet (told_read found) (Data found.bytes))
       get-over found read = record {
         id = refl;

@@ -30,7 +30,7 @@ use Rattle.jv_volume.proofs.HoldingLaws.{sustains_none, sustains_held}
 use Rattle.jv_volume.proofs.OpeningLaws.{opened_file}
 use Rattle.jv_links.specs.Removals.{HoldsFiles, is_inode}
 use Rattle.jv_metadata.specs.declared.answers.Answer.{Answer}
-use Rattle.jv_metadata.specs.Attempts.{KeepsOne, TellsKept, attempt}
+use Rattle.jv_metadata.specs.Attempts.{KeepsOne, SaysKept, attempt}
 use Rattle.jv_shared.specs.Keeping.{KeepsShared}
 use Rattle.jv_shared.specs.Shared.{HasStore, Known, Shared}
 use Rattle.jv_handles.specs.Handles.{held_here, inode_here}
@@ -177,10 +177,10 @@ module _ (now : ℕ) (h : ClientValue) (d : Doing) (busy : h.doing ≡ Some d) (
         asks
 
     -- the file that the session keeps from then on
-    comes-told : (answer : Answer) → TellsKept who d.op v.keeper (Ok answer) → (inode : ℕ)
+    comes-told : (answer : Answer) → SaysKept who d.op v.keeper (Ok answer) → (inode : ℕ)
         → (is_sustained (transacted s h.id now d.op).tree who.sid inode && not (is_sustained s.tree who.sid inode))
         ≡ is_inode answer.kept inode
-    comes-told answer tells inode = by_takes (takes_entries d.op) refl tells
+    comes-told answer says inode = by_takes (takes_entries d.op) refl says
       where
         by_takes : (b : Bool) → takes_entries d.op ≡ b
             → MatchBool b (KeepsOne who d.op v.keeper answer.kept) (answer.kept ≡ None)
@@ -193,7 +193,7 @@ module _ (now : ℕ) (h : ClientValue) (d : Doing) (busy : h.doing ≡ Some d) (
             sustains_none s.tree who d.op e inode ∙ sym (ap (λ kept. is_inode kept inode) none)
 
     module _ (answer : Answer) (t : Tree) (does : transacted s h.id now d.op ≡ record { tree = t; reply = answer.reply })
-        (told : TellsKept who d.op v.keeper (Ok answer)) where
+        (told : SaysKept who d.op v.keeper (Ok answer)) where
       abbrev out : Outcome
       out = record { tree = t; reply = answer.reply }
 
@@ -281,7 +281,7 @@ module _ (now : ℕ) (h : ClientValue) (d : Doing) (busy : h.doing ≡ Some d) (
         let tx = tried.does who known in
         let request = transaction-request s h.id now (doing_of d) busy first.started stage flushed transacts g v has
         (in_flight h) keeper (HoldsFiles who.held) files (λ (answer : Answer). answer.reply) answer tx in
-        leads-made s g has holds is answer request.0 request.1 (tried.tells who known) request.2
+        leads-made s g has holds is answer request.0 request.1 (tried.says who known) request.2
 
     pub transaction-made : (entry : ℕ) → Makes now entry h (answered_here entry d.op answer h) v used made
     transaction-made entry =

@@ -23,7 +23,7 @@ use Rattle.jv_client.specs.declared.doing.Doing.{Doing}
 use Rattle.jv_client.specs.declared.made.Made.TheVariants as made
 use Rattle.jv_client.specs.ClientValue.{ClientValue}
 use Rattle.jv_client.specs.Held.{segment_left}
-use Rattle.jv_client.specs.UnderWay.{Alone, Beside, Closes, Copies, Describes, Flushes, FlushesFor, HasKept, HasRoom, IsForm, IsReady, Leaves, MayKeep, Mounts, Reads, ReadsNothing, Syncs, TellsStats, Transacts, Truncates, Writes, ends_itself, keeps, left, left_of}
+use Rattle.jv_client.specs.UnderWay.{Alone, Beside, Closes, Copies, Describes, Flushes, FlushesFor, HasKept, HasRoom, IsForm, IsReady, Leaves, MayKeep, Mounts, Reads, ReadsNothing, Syncs, SaysStats, Transacts, Truncates, Writes, ends_itself, keeps, left, left_of}
 use Rattle.jv_client.specs.Makes.{Makes}
 use Rattle.jv_client.proofs.HeldLaws.{client-doing, doing_of}
 use Rattle.jv_client.proofs.KeptLaws.{held-goes}
@@ -76,7 +76,7 @@ module _ (h : ClientValue) (d : Doing) (kept : keeps d.does ≡ true) where
   write_of (Flushes handle file for first opened session) = flushed-write handle for
   write_of (Copies source from target to len file other of_op of_does first opened there session) =
       other_keeps does.Copies of_does refl
-  write_of (TellsStats of_op of_does first session) = other_keeps (does.Answers answer.CacheStats) of_does refl
+  write_of (SaysStats of_op of_does first session) = other_keeps (does.Answers answer.CacheStats) of_does refl
 
 -- ---- a write that has nothing left to commit
 

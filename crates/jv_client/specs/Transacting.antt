@@ -21,7 +21,7 @@ use Rattle.jv_rows.specs.Transactions.{Transacts, FaultCause, BadFault}
 use Rattle.jv_volume.specs.TypedRows.{typed}
 use Rattle.jv_links.specs.Removals.{HoldsFiles}
 use Rattle.jv_metadata.specs.declared.answers.Answer.{Answer}
-use Rattle.jv_metadata.specs.Attempts.{AnswersPlainly, attempt, TellsKept}
+use Rattle.jv_metadata.specs.Attempts.{AnswersPlainly, attempt, SaysKept}
 use Rattle.jv_handles.specs.declared.handle.Handle.{Handle}
 use Rattle.jv_handles.specs.Handles.{held_here, inode_here, new_handle}
 use Rattle.jv_client.specs.declared.made.Made.{Made}
@@ -41,7 +41,7 @@ pub record IsCaller (h : ClientValue) (o : Op) (now : ℕ) (who : Caller) : Type
 -- the transaction of an operation was tried
 pub record Attempts (h : ClientValue) (o : Op) (now : ℕ) (before after : Store) (result : Result Answer TxFault) : Type 0 where
   pub does : (who : Caller) → IsCaller h o now who → Transacts (HoldsFiles who.held) before after result (λ answer. answer.reply) (λ t. attempt t who o)
-  pub tells : (who : Caller) → IsCaller h o now who → TellsKept who o before result
+  pub says : (who : Caller) → IsCaller h o now who → SaysKept who o before result
   pub answers : AnswersPlainly result
 
 -- a client's session and its handles with what a reply hands to it, by the entry with this number

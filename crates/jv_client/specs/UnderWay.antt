@@ -86,7 +86,7 @@ pub data IsForm (h : ClientValue) (d : Doing) : Type 0 where
   Copies : (source from target to len : ℕ) (file other : Handle) → d.op ≡ op.Copy source from target to len → d.does ≡ does.Copies
       → d.flush ≡ flush.Files file.inode other.inode → file_of h.handles source ≡ Some file → file_of h.handles target ≡ Some other
       → IsTrue (is_some h.session) → IsForm h d
-  TellsStats : d.op ≡ op.Stats → d.does ≡ does.Answers answer.CacheStats → d.flush ≡ flush.Nothing → IsTrue (is_some h.session) → IsForm h d
+  SaysStats : d.op ≡ op.Stats → d.does ≡ does.Answers answer.CacheStats → d.flush ≡ flush.Nothing → IsTrue (is_some h.session) → IsForm h d
 
 -- Requests of a segment are made while there is one: for its slice's number, and then at most one for each of its bytes.
 pub record IsWorking (h : ClientValue) (d : Doing) (quiets id : ℕ) : Type 0 where
@@ -205,9 +205,9 @@ abbrev pub keeps : Does → Bool
 keeps (does.Answers (answer.Count bytes)) = true
 keeps _ = false
 
-abbrev pub tells_stats : Does → Bool
-tells_stats (does.Answers answer.CacheStats) = true
-tells_stats _ = false
+abbrev pub says_stats : Does → Bool
+says_stats (does.Answers answer.CacheStats) = true
+says_stats _ = false
 
 -- a write whose handle is open, and that there is room for
 abbrev pub MayKeep : Op → List (Option Handle) → PendingValue → Type 0

@@ -80,7 +80,7 @@ impl Client {
             Does::Reads(offset, len) => self.read(offset, len, k, yard, entry),
             Does::Truncates | Does::Copies => self.change(k, now),
             Does::Answers(Answer::Count(_)) => self.write(),
-            Does::Answers(Answer::CacheStats) => self.tell_stats(),
+            Does::Answers(Answer::CacheStats) => self.say_stats(),
             _ => self.end_at_once(),
         }
     }

@@ -12,7 +12,7 @@ use Rattle.jv_model.specs.rows.RowGrammar.{is_node, is_setting, setting_bytes, c
 use Rattle.jv_model.specs.rows.RowKeys.{row_key, RowMap}
 use Rattle.jv_model.specs.rows.RowPlaces.{setting_key, counters_key, node_key, slice_key}
 use Rattle.jv_model.proofs.FiniteMapLaws.{get-empty_map, same_maps}
-use Rattle.jv_model.proofs.TreeComputes.{maps_compute}
+use Rattle.jv_model.proofs.TreeComputeLaws.{maps_compute}
 use Rattle.jv_model.specs.blocks.BlockNames.{name_in}
 use Rattle.jv_outside.specs.Blocks.{StagedMap, staged_at, staged_key}
 use Rattle.jv_outside.specs.Holding.{Holding}
@@ -26,7 +26,7 @@ use Rattle.jv_volume.proofs.TypedLaws.{typed-insert-row}
 use Rattle.jv_volume.proofs.WrittenRowsLaws.{none_at}
 use Rattle.jv_rows.specs.FreshRows.{fresh_counters, fresh_directory, fresh_rows}
 use Rattle.jv_rows.specs.RoundTrips.{SettingWidths}
-use Rattle.jv_rows.proofs.ExactRows.{setting_exact, counters_exact, node_exact}
+use Rattle.jv_rows.proofs.ExactRowLaws.{setting_exact, counters_exact, node_exact}
 use Rattle.jv_yard.specs.Contents.{blocks_in, is_block}
 use Rattle.jv_yard.specs.Later.{IsCopy, contents_of}
 use Rattle.jv_yard.specs.Staging.{staged_since}

@@ -16,7 +16,7 @@ use Rattle.jv_outside.specs.Ticks.{Ticks}
 use Rattle.jv_outside.proofs.StreamLaws.{Gains-nil, Gains-trans}
 use Rattle.jv_session.specs.Stands.{ScheduleValue, fresh_schedule}
 use Rattle.jv_cmd.specs.declared.ended.Ended.{Ended}
-use Rattle.jv_cmd.specs.declared.ended.Ended.TheVariants.{Whole, OffLine, NoVolume, VolumeExists, NewerVersion, SettingOff, BadRow, SourceFailed, OutFailed, ClockFailed, KeeperFailed, DepotFailed, CarrierFailed, ShelfFailed, OutOfMemory}
+use Rattle.jv_cmd.specs.declared.ended.Ended.TheVariants.{Whole, LineNotRun, NoVolume, VolumeExists, NewerVersion, MalformedSetting, BadRow, SourceFailed, OutFailed, ClockFailed, KeeperFailed, DepotFailed, CarrierFailed, ShelfFailed, OutOfMemory}
 use Rattle.jv_cmd.specs.Cutting.{BeginsWith, CutsText, IsOverlong}
 use Rattle.jv_cmd.specs.Ends.{status_of}
 use Rattle.jv_cmd.specs.Faults.{CountsFaults, on_stage}
@@ -26,7 +26,7 @@ use Rattle.jv_cmd.specs.Generating.{EndsScript}
 use Rattle.jv_cmd.specs.Steps.{Advances, BeforeLine, Done, Going, LineEnds, OnLine, PrintsCut, ReadsBuilt, StopsIn, TextEnds, TextReads, Turns}
 use Rattle.jv_cmd.specs.Texts.{texts_of}
 use Rattle.jv_cmd.proofs.DoneLaws.{Done-more, Done-start, DoneMore}
-use Rattle.jv_cmd.proofs.EndLaws.{EndsScript-bad, EndsScript-last, EndsScript-next, IsIdle, IsOff-text, RunsWhole-cut, StopsAt-from, all_printed, gains_before, text_done}
+use Rattle.jv_cmd.proofs.EndLaws.{EndsScript-bad, EndsScript-last, EndsScript-next, IsIdle, IsNotRun-text, RunsWhole-cut, StopsAt-from, all_printed, gains_before, text_done}
 use Rattle.jv_cmd.proofs.StepLaws.{PrintsLine-empty}
 use Rattle.jv_cmd.proofs.ReadingLaws.{BeginsWith-cut, IsKnownClock-earlier, Rose-since, all_read}
 
@@ -46,7 +46,7 @@ EndsScript-none before setting empty is =
 pub TextEnds-from_reads : (number : ℕ) (text : List ℕ) (stage : StageValue) (s : ScheduleValue) (ended : Ended)
     → TextReads number text s.limits (Err ended) → TextEnds number text stage stage s s (Err ended)
 TextEnds-from_reads number text stage s Whole h = absurd h
-TextEnds-from_reads number text stage s (OffLine at) h =
+TextEnds-from_reads number text stage s (LineNotRun at) h =
     (h.0, h.1, record { out = refl; devices = refl; clock = refl; journal = refl })
 TextEnds-from_reads number text stage s SourceFailed h = absurd h
 TextEnds-from_reads number text stage s OutFailed h = absurd h
@@ -56,7 +56,7 @@ TextEnds-from_reads number text stage s OutOfMemory h = BeforeLine
 TextEnds-from_reads number text stage s NoVolume h = absurd h
 TextEnds-from_reads number text stage s VolumeExists h = absurd h
 TextEnds-from_reads number text stage s (NewerVersion version) h = absurd h
-TextEnds-from_reads number text stage s SettingOff h = absurd h
+TextEnds-from_reads number text stage s MalformedSetting h = absurd h
 TextEnds-from_reads number text stage s (BadRow key bytes) h = absurd h
 TextEnds-from_reads number text stage s KeeperFailed h = absurd h
 TextEnds-from_reads number text stage s DepotFailed h = absurd h
@@ -79,7 +79,7 @@ pub TextEnds-from_line : (number : ℕ) (text : List ℕ) (line : Line) (before 
     → LineEnds line number before after s s' ran → TextEnds number text before after s s' ran
 TextEnds-from_line number text line before after s s' (Ok unit) read ends = (line, read, ends)
 TextEnds-from_line number text line before after s s' (Err Whole) read ends = absurd ends
-TextEnds-from_line number text line before after s s' (Err (OffLine at)) read ends = absurd ends
+TextEnds-from_line number text line before after s s' (Err (LineNotRun at)) read ends = absurd ends
 TextEnds-from_line number text line before after s s' (Err SourceFailed) read ends = absurd ends
 TextEnds-from_line number text line before after s s' (Err OutFailed) read ends = (line, read, ends)
 TextEnds-from_line number text line before after s s' (Err ClockFailed) read ends = (line, read, ends.0, ends.1)
@@ -87,7 +87,7 @@ TextEnds-from_line number text line before after s s' (Err OutOfMemory) read end
 TextEnds-from_line number text line before after s s' (Err NoVolume) read ends = absurd ends
 TextEnds-from_line number text line before after s s' (Err VolumeExists) read ends = absurd ends
 TextEnds-from_line number text line before after s s' (Err (NewerVersion version)) read ends = absurd ends
-TextEnds-from_line number text line before after s s' (Err SettingOff) read ends = absurd ends
+TextEnds-from_line number text line before after s s' (Err MalformedSetting) read ends = absurd ends
 TextEnds-from_line number text line before after s s' (Err (BadRow key bytes)) read ends = (line, read, ends)
 TextEnds-from_line number text line before after s s' (Err KeeperFailed) read ends = absurd ends
 TextEnds-from_line number text line before after s s' (Err DepotFailed) read ends = absurd ends
@@ -225,7 +225,7 @@ module _ (left left0 : Option (List ℕ)) (before now after : StageValue) (n cou
         };
       }
   Turns-text (Err Whole) ends = absurd ends
-  Turns-text (Err (OffLine at)) ends =
+  Turns-text (Err (LineNotRun at)) ends =
       let d = going.lines_done in
       let still = ends.2 in
       let idle : IsIdle now after = record {
@@ -236,8 +236,8 @@ module _ (left left0 : Option (List ℕ)) (before now after : StageValue) (n cou
       } in
       let stops : StopsAt before d.texts d.lines (n + 1) = StopsAt-from left before now n going.text s d
       (take count held) (BeginsWith-cut left left0 held count cut)
-      (IsOff-text left before now n going.text s d (n + 1) (take count held) ends.1) in
-      EndsScript-last left before now after n going.text s d idle (OffLine at)
+      (IsNotRun-text left before now n going.text s d (n + 1) (take count held) ends.1) in
+      EndsScript-last left before now after n going.text s d idle (LineNotRun at)
       (subst (λ number. StopsAt before d.texts d.lines number) (sym ends.0) stops)
       (λ start known w t. all_printed left before now after n going.text s d idle
       (gains_still still.out) 3 start known w t)
@@ -283,7 +283,7 @@ module _ (left left0 : Option (List ℕ)) (before now after : StageValue) (n cou
   Turns-text (Err NoVolume) ends = absurd ends
   Turns-text (Err VolumeExists) ends = absurd ends
   Turns-text (Err (NewerVersion version)) ends = absurd ends
-  Turns-text (Err SettingOff) ends = absurd ends
+  Turns-text (Err MalformedSetting) ends = absurd ends
   Turns-text (Err KeeperFailed) ends = absurd ends
   Turns-text (Err DepotFailed) ends = absurd ends
   Turns-text (Err CarrierFailed) ends = absurd ends
@@ -326,17 +326,17 @@ module _ (left : Option (List ℕ)) (before now : StageValue) (source : Stream) 
       (record { source = calm ∙ going.calm.source; out = going.calm.out; clock = going.calm.clock })
 
   pub EndsScript-overlong : source.faults ≡ now.source.faults → IsOverlong left
-      → EndsScript None before (record now { source = source }) (OffLine (n + 1))
+      → EndsScript None before (record now { source = source }) (LineNotRun (n + 1))
   EndsScript-overlong calm long =
-      EndsScript-read (OffLine (n + 1)) (StopsAt-from left before now n going.text s
+      EndsScript-read (LineNotRun (n + 1)) (StopsAt-from left before now n going.text s
       going.lines_done long.next long.begins (TooLong long.long))
       (λ start known gains. gains)
       (record { source = calm ∙ going.calm.source; out = going.calm.out; clock = going.calm.clock })
 
   pub EndsScript-too_many : source.faults ≡ now.source.faults → (next : List ℕ) → BeginsWith left next → n ≡ MAX_LINES
-      → EndsScript None before (record now { source = source }) (OffLine (n + 1))
+      → EndsScript None before (record now { source = source }) (LineNotRun (n + 1))
   EndsScript-too_many calm next begins all =
-      EndsScript-read (OffLine (n + 1)) (StopsAt-from left before now n going.text s
+      EndsScript-read (LineNotRun (n + 1)) (StopsAt-from left before now n going.text s
       going.lines_done next begins
       (OneTooMany (omega (arith, all)))) (λ start known gains. gains)
       (record { source = calm ∙ going.calm.source; out = going.calm.out; clock = going.calm.clock })

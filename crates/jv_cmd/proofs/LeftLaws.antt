@@ -22,7 +22,7 @@ use Rattle.jv_yard.specs.Staging.{ClientStaging, Staging, staged_since}
 use Rattle.jv_yard.specs.Starting.{IsFound, IsStarted}
 use Rattle.jv_yard.specs.YardValue.{NamesBlock}
 use Rattle.jv_yard.proofs.CallLaws.{IsKept-started}
-use Rattle.jv_yard.proofs.ContentsLaws.{is_block-passes, is_block-tells}
+use Rattle.jv_yard.proofs.ContentsLaws.{is_block-passes, is_block-says}
 use Rattle.jv_shared.specs.Fresh.{IsFresh}
 use Rattle.jv_shared.specs.Shared.{HasStore, Known, Shared, staged_in}
 use Rattle.jv_session.specs.Lines.{StaysPut}
@@ -122,7 +122,7 @@ module _ (t : Tree) (g : Known) (v w : Shared) (store : HasStore t g v)
           → is_some (staged_since client (name_in setting b) w.yard.staged) ≡ staged
           → (if block && staged then staged_at client (name_in setting b) store.staged else None) ≡ Some bytes
           → b.id < next_slice (typed store.rows)
-      by_tests true true is some e = store.below b bytes (known_copy b bytes (is_block-tells setting.block b is)
+      by_tests true true is some e = store.below b bytes (known_copy b bytes (is_block-says setting.block b is)
           (inr (record { client = client; is = some; bytes_are = e })))
       by_tests true false is some e = absurd (cc)
       by_tests false staged is some e = absurd (cc)

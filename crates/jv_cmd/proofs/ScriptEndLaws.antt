@@ -4,7 +4,7 @@ use Rattle.jv_model.specs.declared.setting.Setting.{Setting}
 use Rattle.jv_outside.specs.Causes.{RoseIf}
 use Rattle.jv_outside.specs.Stream.{Stream, HasAll, IsCut}
 use Rattle.jv_cmd.specs.declared.ended.Ended.{Ended}
-use Rattle.jv_cmd.specs.declared.ended.Ended.TheVariants.{Whole, OffLine, NoVolume, VolumeExists, NewerVersion, SettingOff, BadRow, SourceFailed, OutFailed, ClockFailed, KeeperFailed, DepotFailed, CarrierFailed, ShelfFailed, OutOfMemory}
+use Rattle.jv_cmd.specs.declared.ended.Ended.TheVariants.{Whole, LineNotRun, NoVolume, VolumeExists, NewerVersion, MalformedSetting, BadRow, SourceFailed, OutFailed, ClockFailed, KeeperFailed, DepotFailed, CarrierFailed, ShelfFailed, OutOfMemory}
 use Rattle.jv_cmd.specs.Faults.{CountsFaults, on_stage, out_failed, source_failed}
 use Rattle.jv_cmd.specs.Generating.{EndsScript, PrintsSummary, SumsUp, script_text, summary_of, with_streams}
 use Rattle.jv_cmd.specs.Stages.{StageValue}
@@ -46,11 +46,11 @@ module _ (seed : ℕ) (before after : StageValue) (left said : Option (List ℕ)
   whole_faults Whole e h = record { source = calm_source; out = all_calm said before.out after.out (summary_of seed) h; clock = e.faults.clock }
   whole_faults OutFailed e h = record { source = calm_source; out = cut_rose said before.out after.out (summary_of seed) h; clock = e.faults.clock }
   whole_faults OutOfMemory e h = record { source = calm_source; out = ap (λ (stream : Stream). stream.faults) h; clock = e.faults.clock }
-  whole_faults (OffLine number) e h = absurd h
+  whole_faults (LineNotRun number) e h = absurd h
   whole_faults NoVolume e h = absurd h
   whole_faults VolumeExists e h = absurd h
   whole_faults (NewerVersion version) e h = absurd h
-  whole_faults SettingOff e h = absurd h
+  whole_faults MalformedSetting e h = absurd h
   whole_faults (BadRow key bytes) e h = absurd h
   whole_faults SourceFailed e h = absurd h
   whole_faults ClockFailed e h = absurd h
@@ -62,11 +62,11 @@ module _ (seed : ℕ) (before after : StageValue) (left said : Option (List ℕ)
   faults_of_run : (ran ended : Ended) → Inner ran → PrintsSummary seed said before.out after.out ran ended
       → CountsFaults ended (on_stage before) (on_stage after)
   faults_of_run Whole ended e h = whole_faults ended e h
-  faults_of_run (OffLine number) ended e h = same_faults (OffLine number) ended e refl refl h.0 h.1
+  faults_of_run (LineNotRun number) ended e h = same_faults (LineNotRun number) ended e refl refl h.0 h.1
   faults_of_run NoVolume ended e h = absurd e.runs.cause
   faults_of_run VolumeExists ended e h = absurd e.runs.cause
   faults_of_run (NewerVersion version) ended e h = absurd e.runs.cause
-  faults_of_run SettingOff ended e h = absurd e.runs.cause
+  faults_of_run MalformedSetting ended e h = absurd e.runs.cause
   faults_of_run (BadRow key bytes) ended e h = same_faults (BadRow key bytes) ended e refl refl h.0 h.1
   faults_of_run SourceFailed ended e h = (let rose = e.faults.source in absurd (omega (arith, rose)))
   faults_of_run OutFailed ended e h = (let rose = e.faults.out in absurd (omega (arith, rose)))

@@ -8,7 +8,7 @@ use Rattle.jv_model.specs.rows.RowKeys.{RowMap}
 use Rattle.jv_model.specs.rows.RowPlaces.{setting_key}
 use Rattle.jv_outside.specs.Store.{Store}
 use Rattle.jv_cmd.specs.declared.ended.Ended.{Ended}
-use Rattle.jv_cmd.specs.declared.ended.Ended.TheVariants.{NoVolume, NewerVersion, SettingOff, KeeperFailed, OutOfMemory}
+use Rattle.jv_cmd.specs.declared.ended.Ended.TheVariants.{NoVolume, NewerVersion, MalformedSetting, KeeperFailed, OutOfMemory}
 use Rattle.jv_cmd.specs.Faults.{UsesKeeper, ended_by}
 
 -- where the rows are known, that of the setting is so
@@ -19,8 +19,8 @@ abbrev pub IsAbsent : Option (List ℕ) → Type 0
 IsAbsent stored = stored ≡ None
 
 -- it is there, and malformed
-abbrev pub IsOff : Option (List ℕ) → Type 0
-IsOff stored = IsSomeAnd stored (λ bytes. setting_of bytes ≡ None)
+abbrev pub IsMalformed : Option (List ℕ) → Type 0
+IsMalformed stored = IsSomeAnd stored (λ bytes. setting_of bytes ≡ None)
 
 -- it spells this setting
 abbrev pub Spells : Setting → Option (List ℕ) → Type 0
@@ -36,7 +36,7 @@ HasVersion version stored = IsSomeAnd stored (λ bytes. IsSomeAnd (setting_of by
 
 -- why the setting wasn't read
 abbrev pub CannotRead : Option RowMap → Ended → Type 0
-CannotRead rows SettingOff = SettingRow rows IsOff
+CannotRead rows MalformedSetting = SettingRow rows IsMalformed
 CannotRead rows KeeperFailed = Unit {0}
 CannotRead rows OutOfMemory = Unit {0}
 CannotRead rows _ = ⊥

@@ -17,7 +17,7 @@ use Rattle.jv_client.specs.Makes.{faults_of}
 use Rattle.jv_session.specs.Lines.{AreFailures, BlocksStay, BreaksAt, CutsLine, FromThere, LineState, LineUses, StaysPut, line_state}
 use Rattle.jv_session.specs.Stands.{ScheduleValue, Stands}
 use Rattle.jv_cmd.specs.declared.ended.Ended.{Ended}
-use Rattle.jv_cmd.specs.declared.ended.Ended.TheVariants.{OffLine, BadRow, OutFailed, ClockFailed, OutOfMemory}
+use Rattle.jv_cmd.specs.declared.ended.Ended.TheVariants.{LineNotRun, BadRow, OutFailed, ClockFailed, OutOfMemory}
 use Rattle.jv_model.specs.declared.limits.TheConstants.{MAX_LINE, MAX_LINES}
 use Rattle.jv_cmd.specs.Texts.{texts_of}
 use Rattle.jv_cmd.specs.Stages.{StageValue}
@@ -121,9 +121,9 @@ pub record Advances (line : Line) (number : ℕ) (before after : StageValue) (s 
   pub kept : FromThere line number (used before s) (used after s') (λ p more. BlocksStay before.devices after.devices)
 
 -- a text that is no line, or a line that isn't built
-pub data IsOffText (text : List ℕ) (limits : Limits) : Type 0 where
-  NoLine : line_of text ≡ None → IsOffText text limits
-  LineUnbuilt : (line : Line) → line_of text ≡ Some line → is_built_line limits line ≡ false → IsOffText text limits
+pub data IsTextNotRun (text : List ℕ) (limits : Limits) : Type 0 where
+  NoLine : line_of text ≡ None → IsTextNotRun text limits
+  LineUnbuilt : (line : Line) → line_of text ≡ Some line → is_built_line limits line ≡ false → IsTextNotRun text limits
 
 -- the text is a line that may be run
 pub record ReadsBuilt (text : List ℕ) (limits : Limits) (line : Line) : Type 0 where
@@ -133,7 +133,7 @@ pub record ReadsBuilt (text : List ℕ) (limits : Limits) (line : Line) : Type 0
 -- a text was read
 abbrev pub TextReads : ℕ → List ℕ → Limits → Result Line Ended → Type 0
 TextReads number text limits (Ok line) = ReadsBuilt text limits line
-TextReads number text limits (Err (OffLine at)) = (at ≡ number) × IsOffText text limits
+TextReads number text limits (Err (LineNotRun at)) = (at ≡ number) × IsTextNotRun text limits
 TextReads number text limits (Err OutOfMemory) = Unit {0}
 TextReads number text limits (Err _) = ⊥
 
@@ -194,7 +194,7 @@ TextEnds number text before after s s' (Ok unit) = (line : Line) × ReadsBuilt t
     before after s s'
 TextEnds number text before after s s' (Err OutFailed) =
     (line : Line) × ReadsBuilt text s.limits line × PrintsCut line number before after s s'
-TextEnds number text before after s s' (Err (OffLine at)) = (at ≡ number) × IsOffText text s.limits × IsStill before after
+TextEnds number text before after s s' (Err (LineNotRun at)) = (at ≡ number) × IsTextNotRun text s.limits × IsStill before after
 TextEnds number text before after s s' (Err ClockFailed) =
     (line : Line) × ReadsBuilt text s.limits line × StopsIn line number before after s s' × Rose before.clock.faults
     after.clock.faults

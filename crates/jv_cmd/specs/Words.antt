@@ -111,10 +111,10 @@ Answers command (Ok answer) = command ≡ Some answer
 Answers command (Err (Refused text)) = command ≡ None
 Answers command (Err Memory) = Unit {0}
 
--- the value, or `Off` where there is none
+-- the value, or `OutOfRange` where there is none
 abbrev pub Reads : {T : Type 0} → Result T BadValue → Option T → Type 0
 Reads (Ok value) meant = meant ≡ Some value
-Reads (Err bad.Off) meant = meant ≡ None
+Reads (Err bad.OutOfRange) meant = meant ≡ None
 Reads (Err bad.Memory) meant = Unit {0}
 
 -- the words of a parse: where `clap` finds no fault, the command is the one that it stopped at

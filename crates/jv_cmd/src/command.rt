@@ -14,7 +14,7 @@ use crate::drawn::run_drawn;
 use crate::ended::{Ended, report, say};
 use crate::format::run_format;
 use crate::lines::run_script;
-use crate::stage::{ObservedStage, Stage};
+use crate::stage::{ObservedStage, RunStage};
 use crate::volume::open_volume;
 use crate::words::{Command, SessionOptions, WordsFault, read_words};
 use crate::world::{Finish, Observed, World};
@@ -161,7 +161,7 @@ fn run_attached<S: Source, O: Sink, E: Sink, K: Keeper, D: Depot, H: Shelf, C: C
 {
     match Yard::start(alloc, world.depot, world.shelf, &setting) {
         Ok(yard) => {
-            let stage = Stage {
+            let stage = RunStage {
                 limits: limits_of(options, setting.block),
                 source: world.source,
                 out: world.out,
@@ -191,13 +191,13 @@ fn run_staged<S: Source, O: Sink, K: Keeper, D: Depot, H: Shelf, C: Clock>(
     alloc: Global,
     generate: Option<u64>,
     setting: Setting,
-    stage: Stage<S, O, K, D, H, C>,
-) -> (Ended, Stage<S, O, K, D, H, C>)
+    stage: RunStage<S, O, K, D, H, C>,
+) -> (Ended, RunStage<S, O, K, D, H, C>)
     requires empty { stage.journal.acts ≡ [] }
     requires buffer { MAX_DATA ≤ stage.limits.buffer }
     requires yard { let given = ⟦<Alone<D, H> as YardDoor<D, H>>⟧.given in
         IsSomeAnd (given stage.door) (IsFirst setting) }
-    ensures runs { let seen = ⟦<Stage<S, O, K, D, H, C> as ObservedStage>⟧.seen in
+    ensures runs { let seen = ⟦<RunStage<S, O, K, D, H, C> as ObservedStage>⟧.seen in
         EndsScript generate (seen stage) (seen result.1) result.0 }
     ensures yard { IsSome (⟦<Alone<D, H> as YardDoor<D, H>>⟧.given result.1.door) }
 {

@@ -14,7 +14,7 @@ ghost use Rattle.jv_cmd.specs.Texts.{texts_of};
 use crate::ended::Ended;
 use crate::lines::{discard, run_script};
 use crate::reader::feed_in;
-use crate::stage::{ObservedStage, Stage};
+use crate::stage::{ObservedStage, RunStage};
 use itoa::Buffer;
 use jv_generator::{Generator, Totals};
 use jv_model::{Bytes, Fault, Line, Op, Reply, Setting};
@@ -287,13 +287,13 @@ pub(crate) fn run_drawn<S: Source, O: Sink, K: Keeper, D: Depot, H: Shelf, C: Cl
     alloc: Global,
     seed: u64,
     setting: Setting,
-    stage: Stage<S, O, K, D, H, C>,
-) -> (Ended, Stage<S, O, K, D, H, C>)
+    stage: RunStage<S, O, K, D, H, C>,
+) -> (Ended, RunStage<S, O, K, D, H, C>)
     requires empty { stage.journal.acts ≡ [] }
     requires buffer { MAX_DATA ≤ stage.limits.buffer }
     requires yard { let given = ⟦<Alone<D, H> as YardDoor<D, H>>⟧.given in
         IsSomeAnd (given stage.door) (IsFirst setting) }
-    ensures runs { let seen = ⟦<Stage<S, O, K, D, H, C> as ObservedStage>⟧.seen in
+    ensures runs { let seen = ⟦<RunStage<S, O, K, D, H, C> as ObservedStage>⟧.seen in
         EndsScript (Some seed) (seen stage) (seen result.1) result.0 }
     ensures yard { IsSome (⟦<Alone<D, H> as YardDoor<D, H>>⟧.given result.1.door) }
 {
@@ -303,7 +303,7 @@ pub(crate) fn run_drawn<S: Source, O: Sink, K: Keeper, D: Depot, H: Shelf, C: Cl
     let script = NeverSource::new(text);
     let none = Bytes::new(alloc);
     let answers = NeverSink::new(none);
-    let mut lines = Stage {
+    let mut lines = RunStage {
         limits: stage.limits,
         source: script,
         out: answers,
@@ -316,7 +316,7 @@ pub(crate) fn run_drawn<S: Source, O: Sink, K: Keeper, D: Depot, H: Shelf, C: Cl
     let ran = run_script(alloc, setting, &mut lines);
     let mut out = stage.out;
     let ended = print_summary(alloc, seed, ran, &lines.out, &mut out);
-    let stage = Stage {
+    let stage = RunStage {
         limits: lines.limits,
         source: stage.source,
         out,

@@ -34,7 +34,7 @@ pub(crate) fn stored_setting<K: Keeper>(
     attach(keeper, place)?;
     match read_setting(alloc, keeper) {
         Ok(found) => Ok(found),
-        Err(RowFault::Bad(_, _)) => Err(Ended::SettingOff),
+        Err(RowFault::Bad(_, _)) => Err(Ended::MalformedSetting),
         Err(RowFault::Failed) => Err(Ended::KeeperFailed),
         Err(RowFault::Memory) => Err(Ended::OutOfMemory),
     }

@@ -12,7 +12,7 @@ use Rattle.jv_volume.specs.Views.{lists_of, slice_row_at}
 use Rattle.jv_volume.specs.Slices.{IsUnknown, next_slice}
 use Rattle.jv_volume.specs.Whole.{is_of_slices, Quiet, SlicesStay}
 use Rattle.jv_volume.proofs.QuietLaws.{sum-stay, named_by-stay, slice_row-stay, dead-stay, lists_of-stay}
-use Rattle.jv_contents.specs.Bytes.{Told, spot_byte, bytes_of}
+use Rattle.jv_contents.specs.Bytes.{KnownBytes, spot_byte, bytes_of}
 use Rattle.jv_contents.specs.Blocks.{Blocks, Grows, HasBlocks, AreBelow}
 use Rattle.jv_contents.specs.Flights.{Flight, InFlight}
 use Rattle.jv_contents.specs.Counts.{HasDied, KeepsOthers, record_count}
@@ -44,8 +44,8 @@ module _ (rows after : Rows) (stay : SlicesStay rows after) where
   }
 
   -- what lists show stays
-  pub bytes-stay : (told : Told) (inode p : ℕ) → bytes_of told after inode p ≡ bytes_of told rows inode p
-  bytes-stay told inode p = ap (spot_byte told) (place_in-same (lists_of after inode) (lists_of rows inode) (λ w. lists_of-stay rows after stay inode w) p)
+  pub bytes-stay : (known_bytes : KnownBytes) (inode p : ℕ) → bytes_of known_bytes after inode p ≡ bytes_of known_bytes rows inode p
+  bytes-stay known_bytes inode p = ap (spot_byte known_bytes) (place_in-same (lists_of after inode) (lists_of rows inode) (λ w. lists_of-stay rows after stay inode w) p)
 
   -- and so do all blocks, blocks that are below the next number, and flights, also where the next number is a greater one
   pub has_blocks-stay : (block : ℕ) (blocks : Blocks) → HasBlocks block rows blocks → HasBlocks block after blocks

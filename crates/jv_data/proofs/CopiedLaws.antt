@@ -20,7 +20,7 @@ use Rattle.jv_volume.specs.Views.{row_in, records_in, node_row_at, counters_at, 
 use Rattle.jv_volume.specs.Slices.{records_naming, place_in, next_slice, WholeSlices}
 use Rattle.jv_volume.specs.Whole.{Quiet, Whole, is_of_slices}
 use Rattle.jv_volume.proofs.QuietLaws.{quiet-slices, lists_of-stay, slice_row-stay}
-use Rattle.jv_contents.specs.Bytes.{Told, bytes_of, tree_with}
+use Rattle.jv_contents.specs.Bytes.{KnownBytes, bytes_of, tree_with}
 use Rattle.jv_contents.specs.Counts.{HadSize, KeepsOthers, record_count}
 use Rattle.jv_contents.specs.Places.{put_over}
 use Rattle.jv_contents.proofs.BlockLaws.{place_has_row}
@@ -29,7 +29,7 @@ use Rattle.jv_contents.proofs.CountLaws.{ListsMove, move-none, others-adjusted, 
 use Rattle.jv_contents.proofs.KeepLaws.{record_count-stay}
 use Rattle.jv_contents.proofs.PlaceLaws.{place_in-same}
 use Rattle.jv_contents.proofs.WholeLaws.{SlicesGo}
-use Rattle.jv_data.specs.declared.copying.Course.{Course}
+use Rattle.jv_data.specs.declared.copying.CopyCourse.{CopyCourse}
 use Rattle.jv_data.specs.Changing.{may_change}
 use Rattle.jv_data.specs.Copying.{rows_copied, Copying, GetsPieces}
 use Rattle.jv_data.proofs.BesideLaws.{Beside, beside-then}
@@ -39,7 +39,7 @@ use Rattle.jv_data.proofs.RestLaws.{rest-then}
 use Rattle.jv_data.proofs.SameTreeLaws.{beside-adjusted}
 use Rattle.jv_data.proofs.SizedLaws.{sized_rows, quiet-sized}
 
-module _ (rows : Rows) (course : Course) (was : NodeRow) (c : Counters) (now end : ℕ) (whole : Whole rows)
+module _ (rows : Rows) (course : CopyCourse) (was : NodeRow) (c : Counters) (now end : ℕ) (whole : Whole rows)
     (there : node_row_at rows course.target ≡ Some was) (file : was.kind ≡ 1) (counters : counters_at rows ≡ Some c)
     (small : end ≤ FILE_END) (long : max was.length (course.to + course.len) ≡ end)
     (with_parts : Rows) (added : List Rec) (copying : Copying course course.len rows (sized_rows rows course.target was c now end whole there file counters) with_parts added) where
@@ -165,9 +165,9 @@ module _ (rows : Rows) (course : Course) (was : NodeRow) (c : Counters) (now end
       others-copied = others-changed rows course.target was c now end whole there file counters small given more last change
 
     -- the tree, where the source is a file
-    pub tree-copied_lists : (told : Told) (source : NodeRow) → node_row_at rows course.source ≡ Some source → source.kind ≡ 1
-        → tree_with told last ≡ with_content (tree_with told rows) now course.target (copied_over (content_of source.length (bytes_of told rows course.source)) course.from
-        (content_of was.length (bytes_of told rows course.target)) course.to course.len)
-    tree-copied_lists told source source_there source_file =
-        tree-copied rows course.target was c now end whole there file counters more last change told source.length (place_in (lists_of rows course.source))
+    pub tree-copied_lists : (known_bytes : KnownBytes) (source : NodeRow) → node_row_at rows course.source ≡ Some source → source.kind ≡ 1
+        → tree_with known_bytes last ≡ with_content (tree_with known_bytes rows) now course.target (copied_over (content_of source.length (bytes_of known_bytes rows course.source)) course.from
+        (content_of was.length (bytes_of known_bytes rows course.target)) course.to course.len)
+    tree-copied_lists known_bytes source source_there source_file =
+        tree-copied rows course.target was c now end whole there file counters more last change known_bytes source.length (place_in (lists_of rows course.source))
         (whole.files.past course.source source source_there source_file) course.from course.to course.len long shows

@@ -18,7 +18,7 @@ use Rattle.jv_rows.specs.Transactions.{Looks}
 use Rattle.jv_rows.proofs.TransactionLaws.{of_known}
 use Rattle.jv_volume.specs.TypedRows.{typed}
 use Rattle.jv_volume.specs.Views.{lists_of}
-use Rattle.jv_data.specs.declared.copying.Course.{Course}
+use Rattle.jv_data.specs.declared.copying.CopyCourse.{CopyCourse}
 use Rattle.jv_data.specs.Copying.{ShowsRange, part_len, window_at, rows_added, CopiesPart, Copying, CopiesLists}
 use Rattle.jv_data.specs.Records.{HasRecords}
 use Rattle.jv_data.proofs.TruncateLaws.{looks-then}
@@ -40,7 +40,7 @@ is_list-append (x ∷ xs) more all come some = (λ i. all.0 i && records xs all.
 
 -- ---- one part
 
-module _ (c : Course) (done : ℕ) (before : Store) (changes : List Change) where
+module _ (c : CopyCourse) (done : ℕ) (before : Store) (changes : List Change) where
   abbrev pos : ℕ
   pos = (c.to + done) % WINDOW
 
@@ -69,11 +69,11 @@ module _ (c : Course) (done : ℕ) (before : Store) (changes : List Change) wher
 -- ---- one part after another
 
 -- `done` bytes are copied
-pub record IsCopying (c : Course) (before now : Store) (changes changed : List Change) (done : ℕ) (added : List Rec) : Type 0 where
+pub record IsCopying (c : CopyCourse) (before now : Store) (changes changed : List Change) (done : ℕ) (added : List Rec) : Type 0 where
   pub looks : Looks {A = Unit {0}} before now (Ok tt) (λ t. Ok tt)
   pub so_far : (known : RowMap) → before.rows ≡ Some known → Copying c done (typed known) (drafted changes known) (drafted changed known) added
 
-module _ (c : Course) (before now : Store) (changes changed : List Change) (done : ℕ) (added : List Rec) (p : IsCopying c before now changes changed done added) where
+module _ (c : CopyCourse) (before now : Store) (changes changed : List Change) (done : ℕ) (added : List Rec) (p : IsCopying c before now changes changed done added) where
   pub copying-fails : (after : Store) (last : List Change) (fault : TxFault) → CopiesPart c done now after changed last (Err fault)
       → CopiesLists c before after changes last (Err fault)
   copying-fails after last fault z = record { looks = looks-then before now after (Err fault) p.looks z.looks; copied = tt }

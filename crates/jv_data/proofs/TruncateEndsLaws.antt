@@ -55,8 +55,8 @@ use Rattle.jv_model.specs.declared.row.SliceRow.{SliceRow}
 use Rattle.jv_model.specs.tree.Trash.{due_after}
 use Rattle.jv_volume.specs.TreeOf.{tree_of}
 use Rattle.jv_volume.specs.TypedRows.{Rows, typed}
-use Rattle.jv_contents.specs.Bytes.{Told, spot_byte, bytes_of, tree_with}
-use Rattle.jv_data.specs.Changing.{Makes, DieUntil, AnyTold, Never, Changed, Changes, may_change, KeepsRest}
+use Rattle.jv_contents.specs.Bytes.{KnownBytes, spot_byte, bytes_of, tree_with}
+use Rattle.jv_data.specs.Changing.{Makes, DieUntil, AnyBytes, Never, Changed, Changes, may_change, KeepsRest}
 use Rattle.jv_data.specs.Committing.{HasFile}
 
 -- the model's truncate of a file that a session sees
@@ -95,7 +95,7 @@ module _ (sid now inode len : ℕ) where
   act = truncating sid now inode len
 
   abbrev pub Ends : Store → Store → Result (Unit {0}) TxFault → Type 0
-  Ends before after result = Changes {A = Unit {0}} (makes now) AnyTold Never before after result (λ unit. Done) act
+  Ends before after result = Changes {A = Unit {0}} (makes now) AnyBytes Never before after result (λ unit. Done) act
 
   -- the content that the file gets
   abbrev content : Tree → Content
@@ -245,16 +245,16 @@ module _ (sid now inode len : ℕ) where
             stands : last.rows ≡ Some (applied d2 known)
             stands = commits.rows_are ∙ ap (option_map (applied d2)) (z.looks.rows_are ∙ at_sized)
 
-            tree_left : (told : Told) → tree_with told left ≡ truncated (tree_with told (typed known)) now inode len
-            tree_left told = by_lists (λ rows. tree_with told rows ≡ truncated (tree_with told (typed known)) now inode len)
-                (λ c. tree-cut_lists (typed known) inode was s.counters now len whole (there known is) h.file s.there small left c told)
-                (λ longer. tree-changed (typed known) inode was s.counters now len whole (there known is) h.file s.there sized_known (beside-none sized_known) told
-                (resized (content_of was.length (bytes_of told (typed known) inode)) len) refl
+            tree_left : (known_bytes : KnownBytes) → tree_with known_bytes left ≡ truncated (tree_with known_bytes (typed known)) now inode len
+            tree_left known_bytes = by_lists (λ rows. tree_with known_bytes rows ≡ truncated (tree_with known_bytes (typed known)) now inode len)
+                (λ c. tree-cut_lists (typed known) inode was s.counters now len whole (there known is) h.file s.there small left c known_bytes)
+                (λ longer. tree-changed (typed known) inode was s.counters now len whole (there known is) h.file s.there sized_known (beside-none sized_known) known_bytes
+                (resized (content_of was.length (bytes_of known_bytes (typed known) inode)) len) refl
                 (λ i apart p. shown i p)
                 (λ p high. shown inode p ∙ past_was p (omega (arith, longer, high)))
-                (λ p. ap (spot_byte told) (shown inode p) ∙ byte-grown told was.length (place_in (lists_of (typed known) inode)) past_was len longer p)
-                ∙ sym (ap (λ o. elim o as (λ _. Tree) [ None ↦ tree_with told (typed known) | Some old ↦ with_content (tree_with told (typed known)) now inode (resized old len) ])
-                (content_found known inode was whole (there known is) h.file (bytes_of told (typed known)))))
+                (λ p. ap (spot_byte known_bytes) (shown inode p) ∙ byte-grown known_bytes was.length (place_in (lists_of (typed known) inode)) past_was len longer p)
+                ∙ sym (ap (λ o. elim o as (λ _. Tree) [ None ↦ tree_with known_bytes (typed known) | Some old ↦ with_content (tree_with known_bytes (typed known)) now inode (resized old len) ])
+                (content_found known inode was whole (there known is) h.file (bytes_of known_bytes (typed known)))))
               where
                 shown : (i p : ℕ) → place_in (lists_of sized_known i) p ≡ place_in (lists_of (typed known) i) p
                 shown i p = place_in-same (lists_of sized_known i) (lists_of (typed known) i) (λ u. lists_of-stay (typed known) sized_known quiet.apart i u) p
@@ -262,16 +262,16 @@ module _ (sid now inode len : ℕ) where
                 past_was : (p : ℕ) → was.length ≤ p → place_in (lists_of (typed known) inode) p ≡ Zero
                 past_was = whole.files.past inode was (there known is) h.file
 
-            changed : (told : Told) → Changed (makes now) known last.rows told Done act
+            changed : (known_bytes : KnownBytes) → Changed (makes now) known last.rows known_bytes Done act
             unfolding drafted
-            changed told = record {
+            changed known_bytes = record {
               left = applied d2 known;
               is = stands;
               whole = whole_left;
               others = others_left;
               size = λ slice here. (let none = whole_left.slices.none in absurd (cc));
               dies = dies_left;
-              model = past_cut.goes_on known is whole (bytes_of told (typed known)) ∙ ap done (sym (tree_left told));
+              model = past_cut.goes_on known is whole (bytes_of known_bytes (typed known)) ∙ ap done (sym (tree_left known_bytes));
             }
 
           pub truncate-done : (last : Store) → Commits cut last (Ok tt) d2 → Ends before last (Ok tt)
@@ -279,7 +279,7 @@ module _ (sid now inode len : ℕ) where
             opened_at = commits.opened_at ∙ past_cut.opened_at;
             counts = commits.calm ∙ past_cut.calm;
             undone = tt;
-            lands = λ known is whole told ready. changed last commits known is whole told;
+            lands = λ known is whole known_bytes ready. changed last commits known is whole known_bytes;
             bad = tt;
           }
 
@@ -299,8 +299,8 @@ module _ (sid now inode len : ℕ) where
 -- the same by the caller of the model
 pub ends-as : (who : Who) (inode len now : ℕ) (before after : Store) (result : Result (Unit {0}) TxFault) → now ≡ who.now → Ends who.sid now inode len before after result
     → (caller : Caller) → IsFor who caller → caller.inode ≡ inode
-    → Changes {A = Unit {0}} (makes who.now) AnyTold Never before after result (λ unit. Done) (λ t. truncate t caller len)
+    → Changes {A = Unit {0}} (makes who.now) AnyBytes Never before after result (λ unit. Done) (λ t. truncate t caller len)
 ends-as who inode len now before after result now_is e caller for of =
-    subst (λ (act : Tree → Result Outcome Fault). Changes {A = Unit {0}} (makes who.now) AnyTold Never before after result (λ unit. Done) act)
+    subst (λ (act : Tree → Result Outcome Fault). Changes {A = Unit {0}} (makes who.now) AnyBytes Never before after result (λ unit. Done) act)
     (λ i t. sym (truncate-as t caller who.sid who.now inode len for.sid for.now of) i)
     (subst (λ (n : ℕ). Ends who.sid n inode len before after result) now_is e)

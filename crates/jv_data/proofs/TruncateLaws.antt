@@ -39,7 +39,7 @@ use Rattle.jv_contents.proofs.BlockLaws.{naming-le}
 use Rattle.jv_contents.proofs.CutLaws.{all-push, all-append}
 use Rattle.jv_data.proofs.CutListsLaws.{get-ended}
 use Rattle.jv_data.proofs.DroppedLaws.{get-without}
-use Rattle.jv_data.specs.Truncating.{HasSlice, HaveSlices, records_of, Follow, ChecksSlice, ChecksSlices, Dropping, Dropped, DropsLists, IsLastBefore, LeaveSlices, TellsDue, EndsList, CutsLists}
+use Rattle.jv_data.specs.Truncating.{HasSlice, HaveSlices, records_of, Follow, ChecksSlice, ChecksSlices, Dropping, Dropped, DropsLists, IsLastBefore, LeaveSlices, SaysDue, EndsList, CutsLists}
 
 -- ---- readings of which the model sees nothing
 
@@ -324,7 +324,7 @@ module _ (gone : List Rec) (due : ℕ) (before after : Store) (changes changed :
   }
 
 module _ (inode len now due : ℕ) (start : Option ℕ) (before told ended dropped after : Store) (d0 d1 d2 d3 : List Change) (gone none : List Rec)
-    (leave : LeaveSlices before.rows d0) (last : IsLastBefore len start) (t : TellsDue now before told (Ok due)) (e : EndsList inode len told ended d0 d1 (Ok tt))
+    (leave : LeaveSlices before.rows d0) (last : IsLastBefore len start) (t : SaysDue now before told (Ok due)) (e : EndsList inode len told ended d0 d1 (Ok tt))
     (d : DropsLists inode start ended dropped d1 d2 (Ok gone)) where
   so_far : Looks {A = Unit {0}} before dropped (Ok tt) (λ t. Ok tt)
   so_far = looks-then before ended dropped (Ok tt) (looks-then before told ended (Ok tt) t.looks e.looks) d.looks

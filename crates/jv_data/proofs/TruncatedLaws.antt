@@ -18,7 +18,7 @@ use Rattle.jv_volume.specs.Views.{row_in, records_in, node_row_at, counters_at, 
 use Rattle.jv_volume.specs.Slices.{place_in, next_slice, WholeSlices}
 use Rattle.jv_volume.specs.Whole.{Quiet, Whole, is_of_slices}
 use Rattle.jv_volume.proofs.QuietLaws.{quiet-slices, lists_of-stay, slice_row-stay}
-use Rattle.jv_contents.specs.Bytes.{Told, tree_with}
+use Rattle.jv_contents.specs.Bytes.{KnownBytes, tree_with}
 use Rattle.jv_contents.specs.Counts.{KeepsOthers}
 use Rattle.jv_contents.specs.Places.{with_list, cut_list, cut_at}
 use Rattle.jv_contents.proofs.ByteLaws.{past-cut}
@@ -197,5 +197,5 @@ module _ (rows : Rows) (inode : ℕ) (was : NodeRow) (c : Counters) (now len : �
     pub others-cut : KeepsOthers 0 1 rows last
     others-cut = others-changed rows inode was c now len whole there file counters small given 1 last change
 
-  pub tree-cut_lists : (told : Told) → tree_with told last ≡ truncated (tree_with told rows) now inode len
-  tree-cut_lists told = tree-cut rows inode was c now len whole there file counters 1 last change told shows
+  pub tree-cut_lists : (known_bytes : KnownBytes) → tree_with known_bytes last ≡ truncated (tree_with known_bytes rows) now inode len
+  tree-cut_lists known_bytes = tree-cut rows inode was c now len whole there file counters 1 last change known_bytes shows

@@ -20,7 +20,7 @@ use Rattle.jv_volume.specs.Slices.{place_in}
 use Rattle.jv_volume.specs.Whole.{Whole}
 use Rattle.jv_contents.specs.Fills.{Fills, records_of_plan}
 use Rattle.jv_contents.specs.Places.{Lists}
-use Rattle.jv_data.specs.declared.copying.Course.{Course}
+use Rattle.jv_data.specs.declared.copying.CopyCourse.{CopyCourse}
 use Rattle.jv_data.specs.Truncating.{HaveSlices, records_of}
 
 -- the lengths of pieces together
@@ -53,46 +53,46 @@ pub record ShowsRange (inode from pos len : ℕ) (before after : Store) (result 
 -- ---- parts of a copy, each in one window of the target
 
 -- how many bytes the part has that begins when `done` are done: as far as the window goes
-abbrev pub part_len : Course → ℕ → ℕ
+abbrev pub part_len : CopyCourse → ℕ → ℕ
 part_len c done = min (c.len - done) (WINDOW - (c.to + done) % WINDOW)
 
-abbrev pub window_at : Course → ℕ → ℕ
+abbrev pub window_at : CopyCourse → ℕ → ℕ
 window_at c done = (c.to + done) / WINDOW
 
 -- records that show the source there
-abbrev pub ShowPart : Rows → Course → ℕ → List Rec → Type 0
+abbrev pub ShowPart : Rows → CopyCourse → ℕ → List Rec → Type 0
 ShowPart rows c done shown = IsShown rows c.source (c.from + done) ((c.to + done) % WINDOW) (part_len c done) shown
 
 -- the list of the target's window with records added
-abbrev pub rows_added : Rows → Course → ℕ → List Rec → Rows → Rows
+abbrev pub rows_added : Rows → CopyCourse → ℕ → List Rec → Rows → Rows
 rows_added rows c done shown middle =
     alter middle (list_key c.target (window_at c done)) (Some (Ok (OfList (lists_of rows c.target (window_at c done) ++ shown))))
 
 -- The changes add a part to a window's list; the answer is its records.
-pub record CopiesPart (c : Course) (done : ℕ) (before after : Store) (changes changed : List Change) (result : Result (List Rec) TxFault) : Type 0 where
+pub record CopiesPart (c : CopyCourse) (done : ℕ) (before after : Store) (changes changed : List Change) (result : Result (List Rec) TxFault) : Type 0 where
   pub looks : Looks before after (without_answer result) (λ t. Ok tt)
   pub shows : IfOk result (λ shown. (known : RowMap) → before.rows ≡ Some known → ShowPart (typed known) c done shown)
   pub added : IfOk result (λ shown. (known : RowMap) → before.rows ≡ Some known
       → drafted changed known ≡ rows_added (typed known) c done shown (drafted changes known))
 
 -- parts that follow one another until `done` bytes are done, the latest first, each with how many were done before
-abbrev pub AreParts : Rows → Course → List (ℕ × List Rec) → ℕ → Type 0
+abbrev pub AreParts : Rows → CopyCourse → List (ℕ × List Rec) → ℕ → Type 0
 AreParts rows c [] done = done ≡ 0
 AreParts rows c (part ∷ parts) done = (part.0 < c.len) × (done ≡ part.0 + part_len c part.0) × ShowPart rows c part.0 part.1 × AreParts rows c parts part.0
 
-abbrev pub rows_copied : Rows → Course → List (ℕ × List Rec) → Rows → Rows
+abbrev pub rows_copied : Rows → CopyCourse → List (ℕ × List Rec) → Rows → Rows
 rows_copied rows c [] middle = middle
 rows_copied rows c (part ∷ parts) middle = rows_added rows c part.0 part.1 (rows_copied rows c parts middle)
 
 -- `done` bytes of a copy are done, by records that lists of the target got
-pub record Copying (c : Course) (done : ℕ) (rows middle after : Rows) (added : List Rec) : Type 0 where
+pub record Copying (c : CopyCourse) (done : ℕ) (rows middle after : Rows) (added : List Rec) : Type 0 where
   pub parts : List (ℕ × List Rec)
   pub follow : AreParts rows c parts done
   pub added_is : added ≡ records_of parts
   pub is : after ≡ rows_copied rows c parts middle
 
 -- The changes add all parts; the answer is their records.
-pub record CopiesLists (c : Course) (before after : Store) (changes changed : List Change) (result : Result (List Rec) TxFault) : Type 0 where
+pub record CopiesLists (c : CopyCourse) (before after : Store) (changes changed : List Change) (result : Result (List Rec) TxFault) : Type 0 where
   pub looks : Looks before after (without_answer result) (λ t. Ok tt)
   pub copied : IfOk result (λ added. (known : RowMap) → before.rows ≡ Some known
       → Copying c c.len (typed known) (drafted changes known) (drafted changed known) added)

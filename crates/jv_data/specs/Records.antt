@@ -26,7 +26,7 @@ use Rattle.jv_volume.specs.Views.{lists_of}
 use Rattle.jv_volume.specs.TreeOf.{tree_of}
 use Rattle.jv_volume.specs.Slices.{IsUnknown, next_slice}
 use Rattle.jv_volume.specs.Whole.{Whole, no_bytes}
-use Rattle.jv_contents.specs.Bytes.{Told, spot_byte}
+use Rattle.jv_contents.specs.Bytes.{KnownBytes, spot_byte}
 use Rattle.jv_data.specs.declared.looking.View.{View}
 use Rattle.jv_data.specs.Changing.{Changes, Never}
 
@@ -89,15 +89,15 @@ pub record TakesNumber (sid : ℕ) (before after : Store) (result : Result ℕ T
   pub bad : IfErr result (λ fault. IfSome before.rows (λ known. BadFault (typed known) fault))
 
 -- the bytes that a record shows
-pub record Shows (told : Told) (rec : Rec) (bytes : List ℕ) : Type 0 where
+pub record Shows (known_bytes : KnownBytes) (rec : Rec) (bytes : List ℕ) : Type 0 where
   pub long : length bytes ≡ rec.len
-  pub each : (n : ℕ) → n < rec.len → spot_byte told (shown rec n) ≡ slice_index bytes n
+  pub each : (n : ℕ) → n < rec.len → spot_byte known_bytes (shown rec n) ≡ slice_index bytes n
 
 -- a record's slice has a number and nothing else names it, and the record shows these bytes
-pub record IsNew (rec : Rec) (bytes : List ℕ) (rows : Rows) (told : Told) : Type 0 where
+pub record IsNew (rec : Rec) (bytes : List ℕ) (rows : Rows) (known_bytes : KnownBytes) : Type 0 where
   pub unknown : IsUnknown rows rec.id
   pub below : rec.id < next_slice rows
-  pub shows : Shows told rec bytes
+  pub shows : Shows known_bytes rec bytes
 
 -- the model's commit of bytes to a file, whose first block was begun at a moment
 abbrev pub committing : (sid inode from : ℕ) → List ℕ → (started now : ℕ) → Tree → Result Outcome Fault

@@ -110,7 +110,7 @@ LeaveSlices rows changes = (known : RowMap) → rows ≡ Some known → (key : R
     → get (drafted changes known) key ≡ get (typed known) key
 
 -- The moment when slices that die at a moment are due.
-pub record TellsDue (now : ℕ) (before after : Store) (result : Result ℕ TxFault) : Type 0 where
+pub record SaysDue (now : ℕ) (before after : Store) (result : Result ℕ TxFault) : Type 0 where
   pub looks : Looks before after (without_answer result) (λ t. Ok tt)
   pub due : IfOk result (λ due. (known : RowMap) → before.rows ≡ Some known → IsDue now (typed known) due)
 

@@ -1,7 +1,7 @@
 //! Truncates of files.
 ghost use Rattle.std.specs.Prelude.{◌≡◌, ◌<◌, ◌≤◌};
-ghost use Rattle.jv_data.specs.Changing.{Changes, AnyTold, KeepsRest, Never};
-ghost use Rattle.jv_data.specs.Truncating.{CutsFile, IsLastBefore, LeaveSlices, TellsDue};
+ghost use Rattle.jv_data.specs.Changing.{Changes, AnyBytes, KeepsRest, Never};
+ghost use Rattle.jv_data.specs.Truncating.{CutsFile, IsLastBefore, LeaveSlices, SaysDue};
 ghost use Rattle.jv_data.specs.Truncating.{ChecksSlice, ChecksSlices, CutsLists, DropsLists, EndsList, Shortens};
 ghost use Rattle.jv_model.specs.declared.limits.TheConstants.{FILE_END, LAST_MOMENT};
 ghost use Rattle.jv_model.specs.declared.op.Reply.TheVariants.{Done};
@@ -38,7 +38,7 @@ pub fn truncate<K: Keeper>(
 ) -> Result<(), TxFault>
     ensures changes { (caller : Caller) → IsFor who.entry.now caller → caller.inode ≡ inode
         → Changes (record { own = 0; size = 0; more = 1; due = due_after who.entry.now.now })
-        AnyTold Never (K.seen k.old) (K.seen k.new)
+        AnyBytes Never (K.seen k.old) (K.seen k.new)
         result (λ unit. Done) (λ t. model.truncate t caller len) }
     ensures lists { CutsFile inode len (K.seen k.old) (K.seen k.new) result }
     ensures rest { KeepsRest inode (K.seen k.old) (K.seen k.new) result }
@@ -104,7 +104,7 @@ fn cut<K: Keeper>(
 fn due_after<K: Keeper>(alloc: Global, k: &mut K, draft: &Draft, now: u64) -> Result<u64, TxFault>
     requires moment { now ≤ LAST_MOMENT }
     requires leave { LeaveSlices (K.seen k.old).rows draft.now }
-    ensures { TellsDue now (K.seen k.old) (K.seen k.new) result }
+    ensures { SaysDue now (K.seen k.old) (K.seen k.new) result }
 {
     let setting = needed_setting(alloc, k, draft)?;
     Ok(now + u64::from(setting.trash_days) * DAY)

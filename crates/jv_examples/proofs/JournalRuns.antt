@@ -7,7 +7,7 @@ use Rattle.jv_model.specs.declared.op.Line.{Line}
 use Rattle.jv_model.specs.declared.setting.Setting.{Setting}
 use Rattle.jv_model.specs.tree.Tree.{fresh_tree}
 use Rattle.jv_model.specs.journal.Past.{Setup, begun_to, begin_next, advance, after}
-use Rattle.jv_model.proofs.TreeComputes.{tree_computes}
+use Rattle.jv_model.proofs.TreeComputeLaws.{tree_computes}
 use Rattle.jv_model.specs.script.ReplyText.{with_feed}
 use Rattle.jv_examples.proofs.TreeRuns.{plain_setting}
 

@@ -4,7 +4,7 @@ use Rattle.std.proofs.Common.{refl}
 use Rattle.jv_model.specs.declared.limits.TheConstants.{FULL_COUNT}
 use Rattle.jv_model.specs.declared.op.Op.TheVariants as op
 use Rattle.jv_model.proofs.ReplyTextExamples.{replies_on_literals}
-use Rattle.jv_model.proofs.TreeComputes.{tree_computes}
+use Rattle.jv_model.proofs.TreeComputeLaws.{tree_computes}
 use Rattle.jv_examples.proofs.TreeRuns.{Event, Asks, Ticks, texts, plain_start, RunState}
 use Rattle.jv_model.specs.declared.fault.Fault.TheVariants.{NoSpace}
 use Rattle.jv_model.specs.tree.Tree.{Tree, Directory, EntryKey, new_node, is_directory, links_fit}

@@ -19,7 +19,7 @@ use Rattle.jv_model.specs.client.ModelClient.{ModelClient, Compaction, Doing, Op
 use Rattle.jv_model.specs.client.Origins.{Origin, Start as AtStart, Zero, Committed, Made, missing_commit}
 use Rattle.jv_model.specs.client.Profile.{handle_of}
 use Rattle.jv_model.specs.journal.Reading.{fresh_view, reading}
-use Rattle.jv_model.specs.journal.State.{State, Change, answer_then}
+use Rattle.jv_model.specs.journal.State.{State, FileChange, answer_then}
 use Rattle.jv_model.specs.journal.Steps.{Start, IsEntry, MayStep, MayAnswer, Fails, Settles, AtOnce, CountsCache, ReadsViews, CleanedUp, HasCompacted, TooShort, HasReplaced, HasCollected, HasUploaded, Sent, FoundNone, Refuses}
 use Rattle.jv_model.specs.journal.Steps.{IsRefusedIn, SessionGone, InodeGone, CommitLate, CommitTooLarge, NumberRefused, CompactionCrowded, CompactionLate, AnotherList, BlockOwed, MissedTooOften, InReading, InCompaction}
 use Rattle.jv_model.specs.journal.Steps.{AnswersAtOnce, ReadsFresh, MayBeGone, Owes, MayBeCleaned, MissesBlock, may_be_cleaned, asked_of, file_in_use, begins_step, told_of, is_failure, has_judged, is_working}
@@ -168,7 +168,7 @@ abbrev compaction_in : Compaction → Stage → Compaction
 compaction_in other (Compacting k) = k
 compaction_in other _ = other
 
-any_implied : (p q : Change → Bool) → ((change : Change) → IsTrue (p change) → IsTrue (q change)) → (changes : List Change) → IsTrue (list_any p changes) → IsTrue (list_any q changes)
+any_implied : (p q : FileChange → Bool) → ((change : FileChange) → IsTrue (p change) → IsTrue (q change)) → (changes : List FileChange) → IsTrue (list_any p changes) → IsTrue (list_any q changes)
 any_implied p q f [] h = h
 any_implied p q f (change ∷ changes) h = either_kept (p change) _ (q change) _ (f change) (any_implied p q f changes) h
 

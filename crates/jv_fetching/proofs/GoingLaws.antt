@@ -9,8 +9,8 @@ use Rattle.jv_model.specs.declared.slice.BlockId.{BlockId}
 use Rattle.jv_model.specs.declared.slice.Rec.{Rec}
 use Rattle.jv_model.specs.journal.Reading.{Asked, bytes_from, window_start}
 use Rattle.jv_cache.specs.Cached.{Cached, found_in, noted_in}
-use Rattle.jv_contents.specs.Blocks.{Blocks, told_by}
-use Rattle.jv_contents.specs.Bytes.{Told}
+use Rattle.jv_contents.specs.Blocks.{Blocks, known_by}
+use Rattle.jv_contents.specs.Bytes.{KnownBytes}
 use Rattle.jv_handles.specs.declared.views.View.{View}
 use Rattle.jv_handles.specs.Views.{SeenViews, view_at}
 use Rattle.jv_reading.specs.Parts.{IsNamed, Part, ReadsAs, window_byte}
@@ -242,8 +242,8 @@ module _ (views : SeenViews) (cache : Cached) (block : ℕ) (read : List Read) w
 
 -- the bytes of a part
 abbrev AreOf : List ℕ → Part → Type 0
-AreOf bytes part = (told : Told) → ReadsAs told part
-    → bytes ≡ bytes_from (window_byte told part.list) part.from (part.to - part.from)
+AreOf bytes part = (known_bytes : KnownBytes) → ReadsAs known_bytes part
+    → bytes ≡ bytes_from (window_byte known_bytes part.list) part.from (part.to - part.from)
 
 module _ (blocks : Blocks) (views : SeenViews) (block : ℕ) (parts : List Asked) (begun : Begun) (bytes : List ℕ)
     (has : HasBegun views block (Some begun) parts) (reads : ReadsBlocks blocks begun.part)
@@ -260,17 +260,17 @@ module _ (blocks : Blocks) (views : SeenViews) (block : ℕ) (parts : List Asked
     seen = seen;
     entry = by.entry;
     bytes = λ later grows.
-        let told = told_by begun.part.block later in
+        let known_bytes = known_by begun.part.block later in
         let from : ℕ = asked.from - window_start asked.window in
         let len : begun.part.to - begun.part.from ≡ shown_len view asked =
         ap (λ n. n - begun.part.from) by.part.to_is ∙ ap (λ n. from + shown_len view asked - n) by.part.from_is
         ∙ omega arith in
-        are told (reads later grows)
-        ∙ ap (λ (l : List Rec). bytes_from (window_byte told l) begun.part.from (begun.part.to - begun.part.from))
+        are known_bytes (reads later grows)
+        ∙ ap (λ (l : List Rec). bytes_from (window_byte known_bytes l) begun.part.from (begun.part.to - begun.part.from))
         by.part.list_is
-        ∙ ap (λ n. bytes_from (window_byte told view.list) n (begun.part.to - begun.part.from)) by.part.from_is
-        ∙ ap (λ n. bytes_from (window_byte told view.list) from n) len
-        ∙ ap (λ n. bytes_from (window_byte (told_by n later) view.list) from (shown_len view asked)) by.part.block_is;
+        ∙ ap (λ n. bytes_from (window_byte known_bytes view.list) n (begun.part.to - begun.part.from)) by.part.from_is
+        ∙ ap (λ n. bytes_from (window_byte known_bytes view.list) from n) len
+        ∙ ap (λ n. bytes_from (window_byte (known_by n later) view.list) from (shown_len view asked)) by.part.block_is;
   }
 
   read_first : (ps : List Asked) → HasBegun views block (Some begun) ps
@@ -541,8 +541,8 @@ module _ (cache later : Cached) (before middle : Fetching) where
       ended_on after from now =
           let same = some_same (record from.begun { part = from.part }) now.begun now.was in
           Ended from.part from.fills.0 from.fills.1 now.bytes
-          (subst (λ (begun : Begun). (told : Told) → ReadsAs told begun.part
-          → now.bytes ≡ bytes_from (window_byte told begun.part.list) begun.part.from (begun.part.to - begun.part.from))
+          (subst (λ (begun : Begun). (known_bytes : KnownBytes) → ReadsAs known_bytes begun.part
+          → now.bytes ≡ bytes_from (window_byte known_bytes begun.part.list) begun.part.from (begun.part.to - begun.part.from))
           (sym same) now.are)
           (subst (λ (begun : Begun). after ≡ ended begun.entry begun.is_full now.bytes before) (sym same) now.is)
 

@@ -15,7 +15,7 @@ use std::marker::Model;
 
 /// How far a reading is.
 #[derive(Drop)]
-struct Course {
+struct FetchCourse {
     /// The parts that aren't read yet.
     parts: Spans,
     /// The first of them, once it has begun.
@@ -32,7 +32,7 @@ pub struct Fetch {
     alloc: Global,
     /// The length of the volume's blocks.
     block: u32,
-    course: Box<Course>,
+    course: Box<FetchCourse>,
 }
 
 impl Model for Fetch {
@@ -65,7 +65,7 @@ impl Fetch {
         requires len { (0 < len) × (len ≤ WINDOW) }
         ensures { IfOk result (λ fetch. fetch ≡ begins block (asked_parts offset len)) }
     {
-        let course = Course {
+        let course = FetchCourse {
             parts: spans_of(offset, len),
             begun: None,
             first: None,

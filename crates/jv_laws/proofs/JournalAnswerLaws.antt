@@ -13,14 +13,14 @@ use Rattle.jv_model.specs.declared.fault.Fault.{Fault}
 use Rattle.jv_model.specs.declared.op.Reply.{Reply}
 use Rattle.jv_model.specs.declared.profile.Answer.{Answer}
 use Rattle.jv_model.specs.declared.profile.Does.TheVariants.{Answers}
-use Rattle.jv_model.specs.client.ModelClient.{ModelClient, Doing, Stage, Replying, Files, MoreBlocks, Part}
+use Rattle.jv_model.specs.client.ModelClient.{ModelClient, Doing, Stage, Replying, Files, MoreBlocks, CleaningPart}
 use Rattle.jv_model.specs.journal.State.{State, given, replied, transacted, newly_sustained, next_entry, gift_of, after_transaction, after_step, of_doing, effect, is_compaction}
 use Rattle.jv_model.specs.journal.Steps.{Start, transacts, Transaction, LooksAt, CompactionLooks, First, Again, CompactionMisses, MissesBlock, CleansItem, DropsFile, MayStep, MayAnswer, Fails, Settles, AtOnce, CountsCache, ReadsViews, CleanedUp, HasCompacted, HasCollected, HasUploaded, Refuses, TooShort, HasReplaced, Sent, FoundNone, IsRefusedIn, SessionGone, InodeGone, CommitLate, CommitTooLarge, NumberRefused, CompactionCrowded, CompactionLate, AnotherList, BlockOwed, MissedTooOften, InReading, InCompaction, begins_step, must_answer, told_of}
 use Rattle.jv_model.specs.journal.Past.{Past, Due, NoMore, Refusal, MayLack, ToAnswer, OneStep, StepMade, CrashEntry, TickEntry, DrainEntries, at_start, begun_by, begun_to, is_over, requested, lined, is_workers, after, advance, past, reached, line_reply, reply_of, refusal_reply}
 use Rattle.jv_model.specs.journal.Legal.{Allowed, AllAllowed, Refuses as RefusesSubmission, LacksMemory as RefusalLacks, OfClient, OfLine, OfWorker}
 use Rattle.jv_laws.specs.Laws.{AnswersModel, AnswersAsTree, is_transaction}
 use Rattle.jv_laws.proofs.JournalGrowthLaws.{AllAllowed-parts, past-append, own_client, others_kept, turned_begin_next, begun_to-begun}
-use Rattle.jv_laws.proofs.JournalStates.{of_kind}
+use Rattle.jv_laws.proofs.JournalStateLaws.{of_kind}
 use Rattle.jv_laws.proofs.JournalDoingLaws.{doing_given}
 use Rattle.jv_laws.proofs.JournalLineLaws.{due_at_worker, due_at_own}
 
@@ -52,7 +52,7 @@ none_missed : (start : Start) (s : State) (client : ℕ) (c : ModelClient) (d : 
 none_missed start s client c d r inode window true h = let e = h.stage in cc
 none_missed start s client c d r inode window false h = let g = h.goes_on in cc
 
-none_cleaned : (s : State) (c : ModelClient) (d : Doing) (r : Reply) (part : Part) → CleansItem s c (settled_doing d r) part → ⊥
+none_cleaned : (s : State) (c : ModelClient) (d : Doing) (r : Reply) (part : CleaningPart) → CleansItem s c (settled_doing d r) part → ⊥
 none_cleaned s c d r part h = let e = h.stage in cc
 
 none_row : (s : State) (c : ModelClient) (d : Doing) (r : Reply) (table key : ℕ) (b : Bool) → MatchBool b (CleansItem s c (settled_doing d r) Files × DropsFile s key) ((table ≡ TABLE_OF_DEAD) × CleansItem s c (settled_doing d r) MoreBlocks) → ⊥

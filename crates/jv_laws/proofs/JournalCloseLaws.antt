@@ -27,7 +27,7 @@ use Rattle.jv_model.specs.journal.Looks.{entry_at}
 use Rattle.jv_model.proofs.TestLaws.{either_kept}
 use Rattle.jv_laws.specs.Laws.{AnswersWrite, ClosesCommitWrites, ResolvesWrite, commits_position, loses_pending, is_fine_answer, HasCommitted}
 use Rattle.jv_laws.proofs.JournalGrowthLaws.{AllAllowed-append, AllAllowed-parts, own_client, others_kept}
-use Rattle.jv_laws.proofs.JournalStates.{entry_of, keeps_begun_to, reached-more, state-more, run_reached, of_kind}
+use Rattle.jv_laws.proofs.JournalStateLaws.{entry_of, keeps_begun_to, reached-more, state-more, run_reached, of_kind}
 use Rattle.jv_laws.proofs.JournalLooksLaws.{stage_files, transaction_files}
 use Rattle.jv_laws.proofs.JournalDoingLaws.{sound, fine_committed, nothing_pending}
 

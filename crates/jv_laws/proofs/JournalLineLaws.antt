@@ -26,7 +26,7 @@ use Rattle.jv_model.specs.journal.Stepping.{is_answer}
 use Rattle.jv_model.specs.Lists.{numbered}
 use Rattle.jv_laws.specs.Laws.{LinesHaveEntries, EndedLinesHaveEntries, RefusedLinesHaveOneEntry, FitsLine, EndsAnswered, IsOneStep, Idle, OneEntry, AndAnswer, kinds_on}
 use Rattle.jv_laws.proofs.JournalGrowthLaws.{AllAllowed-parts, past-append, frame_begun, line-begun_to, begun_to-begun, line_allowed, entered, line_of_advance}
-use Rattle.jv_laws.proofs.JournalStates.{publish_of}
+use Rattle.jv_laws.proofs.JournalStateLaws.{publish_of}
 
 -- entries so far of a line, by what it may still have
 

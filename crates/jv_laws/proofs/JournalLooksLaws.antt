@@ -26,7 +26,7 @@ use Rattle.jv_model.specs.journal.Legal.{Allowed, AllAllowed}
 use Rattle.jv_model.specs.journal.Looks.{entry_at, changes_file}
 use Rattle.jv_laws.specs.Laws.{FreshViewsAreFreshLooks, HasSeen}
 use Rattle.jv_laws.proofs.JournalGrowthLaws.{own_client, others_kept}
-use Rattle.jv_laws.proofs.JournalStates.{entry_of, entry_before, entry_last, entry_past, entry_within, holds_on, state-more, of_kind}
+use Rattle.jv_laws.proofs.JournalStateLaws.{entry_of, entry_before, entry_last, entry_past, entry_within, holds_on, state-more, of_kind}
 use Rattle.jv_laws.proofs.JournalOwedLaws.{is_of_operation, has_operation}
 
 -- what a client keeps where its stage changes

@@ -33,9 +33,9 @@ use Rattle.jv_model.specs.Optional.{provided}
 use Rattle.jv_laws.specs.Laws.{ReadsAreOfFreshLooks, AreSeen, AreRead, NoPart, OnePart, TwoParts, Returns, ReadsCiteLooks, CitesLooks, is_fine_answer}
 use Rattle.jv_laws.proofs.JournalStageLaws.{stage_fits, FitsIf, FitsClient, all_fit}
 use Rattle.jv_laws.proofs.JournalGrowthLaws.{AllAllowed-parts}
-use Rattle.jv_laws.proofs.JournalStates.{Entry, Steps, RefusedSubmission, LacksMemory, Crashes, Publishes, OfDrain, Ticks, entry_of}
+use Rattle.jv_laws.proofs.JournalStateLaws.{Entry, Steps, RefusedSubmission, LacksMemory, Crashes, Publishes, OfDrain, Ticks, entry_of}
 use Rattle.jv_laws.proofs.JournalLooksLaws.{IsShown, AllShown, shown, view_seen, first_found}
-use Rattle.jv_laws.proofs.JournalDoingLaws.{Sound, SoundIf, SoundClient, IsSettled, IsRefusedReply, IsDoneReply, IsFineReply, sound, fine_not_refused, fine_not_failure, not_fine, stage_flushed}
+use Rattle.jv_laws.proofs.JournalDoingLaws.{Sound, SoundIf, SoundClient, MayReply, IsRefusedReply, IsDoneReply, IsFineReply, sound, fine_not_refused, fine_not_failure, not_fine, stage_flushed}
 
 -- parts
 
@@ -148,7 +148,7 @@ module _ (run : Setup) (journal : List Act) (limits : Limits) (start : Start) (a
       let n : count ≡ 0 = cc in
       record { bytes = []; reply = r; count = n; read = NoPart none a b refl }
 
-  settled_read : (r : Reply) → DoesRead offset len d.does → told ≡ told_of r → d.stage ≡ Replying r → IsSettled d.does (is_flushed d.flush c.pending) r → Returned
+  settled_read : (r : Reply) → DoesRead offset len d.does → told ≡ told_of r → d.stage ≡ Replying r → MayReply d.does (is_flushed d.flush c.pending) r → Returned
   settled_read r does e st (IsRefusedReply x) = absurd (fine_not_refused told r refl e x)
   settled_read r (ReadsRange does) e st (IsDoneReply f fine) = let never : IsFineReply (Reads offset len) r = subst (λ x. IsFineReply x r) does fine in absurd never
   settled_read r (ReadsNothing none does) e st (IsDoneReply f fine) =
@@ -269,7 +269,7 @@ module _ (limits : Limits) (start : Start) (alone : Bool) (s : State) (client no
   not_counting e (ReadsNothing none f) = cc
   not_counting e (ReadsRange f) = cc
 
-  settled_cites : (r : Reply) → DoesRead offset len d.does → told ≡ told_of r → IsSettled d.does (is_flushed d.flush c.pending) r → CitesLooks (Answered told)
+  settled_cites : (r : Reply) → DoesRead offset len d.does → told ≡ told_of r → MayReply d.does (is_flushed d.flush c.pending) r → CitesLooks (Answered told)
   settled_cites r does e (IsRefusedReply x) = absurd (fine_not_refused told r fine e x)
   settled_cites r (ReadsRange does) e (IsDoneReply f g) = let never : IsFineReply (Reads offset len) r = subst (λ x. IsFineReply x r) does g in absurd never
   settled_cites r (ReadsNothing none does) e (IsDoneReply f g) =

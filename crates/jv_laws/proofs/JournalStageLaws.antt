@@ -29,7 +29,7 @@ use Rattle.jv_model.specs.journal.Legal.{Allowed, AllAllowed, Refuses as Refuses
 use Rattle.jv_laws.specs.Laws.{CleansOnlyInClean, cleans}
 use Rattle.jv_laws.proofs.JournalGrowthLaws.{AllAllowed-parts, own_client, others_kept}
 use Rattle.jv_laws.proofs.JournalDoingLaws.{doing_given, Sound, SoundIf, sound, cleaning_branch}
-use Rattle.jv_laws.proofs.JournalStates.{Entry, Steps, RefusedSubmission, LacksMemory, Crashes, Publishes, OfDrain, Ticks, entry_of, holds_on, of_kind}
+use Rattle.jv_laws.proofs.JournalStateLaws.{Entry, Steps, RefusedSubmission, LacksMemory, Crashes, Publishes, OfDrain, Ticks, entry_of, holds_on, of_kind}
 
 abbrev pub is_reading : Does → Bool
 is_reading (Reads offset len) = true

@@ -36,7 +36,7 @@ use Rattle.jv_changes.proofs.DraftingLaws.{PastSteps, OfWhole, steps-start, step
 use Rattle.jv_links.specs.declared.fates.Fate.{Fate as Told}
 use Rattle.jv_links.specs.declared.removing.Removable.{Removable}
 use Rattle.jv_links.specs.Removable.{removable_at, place_of, ComesToRemovable}
-use Rattle.jv_links.specs.Removals.{HoldsFiles, MayLose, TellsFate, TellsSustained, fate_in, is_inode, kept_by}
+use Rattle.jv_links.specs.Removals.{HoldsFiles, MayLose, SaysFate, SaysSustained, fate_in, is_inode, kept_by}
 use Rattle.jv_links.proofs.RemovingLaws.{unlink_at, unlink-is, removing-comes, removing-at, removing-kind, past-refused, past-passes}
 
 -- ---- what the session keeps after a removal, and didn't before
@@ -225,13 +225,13 @@ module _ (who : Who) (caller : Caller) (is_for : IsFor who caller) (path : List 
             (record { is = m.is; leaf = m.leaf; session = m.session; held = m.held; clock = m.clock }))
 
     -- what it answers of what the session keeps
-    pub unlink-tells : (fate : Told) → TellsFate caller place inode draft middle (Ok fate)
-        → TellsSustained caller.sid ready before (Some (Some (record { inode = inode; fate = fate }))) removes
-    unlink-tells fate tells known is whole bytes held i =
+    pub unlink-says : (fate : Told) → SaysFate caller place inode draft middle (Ok fate)
+        → SaysSustained caller.sid ready before (Some (Some (record { inode = inode; fate = fate }))) removes
+    unlink-says fate fate_says known is whole bytes held i =
         let t = tree_of bytes (typed known) in
         let m = may known is whole bytes held in
         ap (λ r. is_sustained (outcome t r).tree caller.sid i && not (is_sustained t caller.sid i))
         (begun.goes_on known is whole bytes held)
         ∙ kept-remove_entry t caller place inode m i
         ∙ ap (λ f. is_inode (kept_by f inode) i)
-        (sym (tells known (c.looks.rows_are ∙ is) bytes t (begun.minds known is whole bytes held) m))
+        (sym (fate_says known (c.looks.rows_are ∙ is) bytes t (begun.minds known is whole bytes held) m))

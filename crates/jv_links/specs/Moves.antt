@@ -23,7 +23,7 @@ use Rattle.jv_volume.specs.Shape.{WholeShape, is_top, shape_of}
 use Rattle.jv_volume.specs.TypedRows.{is_entry_name}
 use Rattle.jv_links.specs.declared.ends.Ends.{Ends}
 use Rattle.jv_links.specs.declared.fates.Removed.{Removed}
-use Rattle.jv_links.specs.Removals.{HoldsFiles, TellsSustained, renamed_in}
+use Rattle.jv_links.specs.Removals.{HoldsFiles, SaysSustained, renamed_in}
 
 -- an inode that is to be moved from one entry to another
 pub record Move : Type 0 where
@@ -108,7 +108,7 @@ renamed_with Exchange t who from source to target = do
 pub record Renames (sid : ℕ) (ready : Tree → Type 0) (before after : Store) (result : Result (Option Removed) TxFault)
     (act : Tree → Result Outcome Fault) : Type 0 where
   pub does : Transacts ready before after result (λ removed. Done) act
-  pub tells : TellsSustained sid ready before (renamed_in result) act
+  pub says : SaysSustained sid ready before (renamed_in result) act
 
 abbrev pub inode_of : Result (Option Place) TxFault → Result (Option ℕ) TxFault
 inode_of (Ok None) = Ok None

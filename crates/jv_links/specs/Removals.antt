@@ -43,8 +43,8 @@ fate_in model.Sustained = Sustained
 fate_in model.Dropped = Dropped
 
 -- the fate that a removal answers is the model's, for each tree that the rows in mind are those of
-abbrev pub TellsFate : Caller → EntryKey → ℕ → List Change → Store → Result Fate TxFault → Type 0
-TellsFate who place inode was before result = IfOk result (λ fate. (known : RowMap) → before.rows ≡ Some known
+abbrev pub SaysFate : Caller → EntryKey → ℕ → List Change → Store → Result Fate TxFault → Type 0
+SaysFate who place inode was before result = IfOk result (λ fate. (known : RowMap) → before.rows ≡ Some known
     → (bytes : ℕ → ℕ → ℕ) (t : Tree)
     → Minds known was bytes t → MayLose t who place inode → fate ≡ fate_in (model.fate_of t who place inode))
 
@@ -73,9 +73,9 @@ renamed_in (Ok removed) = Some removed
 renamed_in (Err fault) = None
 
 -- Over whole rows, whose tree is ready, what was removed says which file the session keeps from then on.
-abbrev pub TellsSustained : ℕ → (Tree → Type 0) → Store → Option (Option Removed) → (Tree → Result Outcome Fault)
+abbrev pub SaysSustained : ℕ → (Tree → Type 0) → Store → Option (Option Removed) → (Tree → Result Outcome Fault)
     → Type 0
-TellsSustained sid ready before result act = IfSome result (λ removed. (known : RowMap) → before.rows ≡ Some known
+SaysSustained sid ready before result act = IfSome result (λ removed. (known : RowMap) → before.rows ≡ Some known
     → Whole (typed known) → (bytes : ℕ → ℕ → ℕ)
     → ready (tree_of bytes (typed known)) → (inode : ℕ)
     → (is_sustained (outcome (tree_of bytes (typed known)) (act (tree_of bytes (typed known)))).tree sid inode && not

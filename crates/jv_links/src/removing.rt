@@ -1,7 +1,7 @@
 //! Entries removed, by POSIX.1-2017's "unlinkat" and "rmdir".
 ghost use Rattle.std.specs.Prelude.{◌≡◌, IsTrue};
 ghost use Rattle.jv_links.specs.Removable.{ComesToRemovable, removable_at};
-ghost use Rattle.jv_links.specs.Removals.{HoldsFiles, TellsSustained, removed_in};
+ghost use Rattle.jv_links.specs.Removals.{HoldsFiles, SaysSustained, removed_in};
 ghost use Rattle.jv_model.specs.declared.op.Reply.TheVariants.{Done};
 ghost use Rattle.jv_model.specs.tree.Caller.{Caller};
 ghost use Rattle.jv_model.specs.tree.Removing as model;
@@ -69,8 +69,8 @@ pub fn unlink<K: Keeper>(
     ensures does { (caller : Caller) → IsFor who.entry.now caller
         → Transacts (HoldsFiles caller.held) (K.seen k.old) (K.seen k.new)
         result (λ removed. Done) (λ t. model.unlink t caller path.now) }
-    ensures tells { (caller : Caller) → IsFor who.entry.now caller
-        → TellsSustained caller.sid (HoldsFiles caller.held) (K.seen k.old) (removed_in result)
+    ensures says { (caller : Caller) → IsFor who.entry.now caller
+        → SaysSustained caller.sid (HoldsFiles caller.held) (K.seen k.old) (removed_in result)
         (λ t. model.unlink t caller path.now) }
 {
     let entry = find_removable(alloc, k, who.sid, path)?;

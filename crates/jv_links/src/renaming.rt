@@ -1,7 +1,7 @@
 //! Entries renamed, by POSIX.1-2017's "renameat" and Linux's "renameat2".
 ghost use Rattle.std.specs.Prelude.{◌≡◌, IsTrue, None, Some};
 ghost use Rattle.jv_links.specs.Moves.{EndsStand, IsFreeMove, IsOverMove, Renames, Stands, place_of, renamed_with};
-ghost use Rattle.jv_links.specs.Removals.{HoldsFiles, TellsSustained, has_no_zero, renamed_in};
+ghost use Rattle.jv_links.specs.Removals.{HoldsFiles, SaysSustained, has_no_zero, renamed_in};
 ghost use Rattle.jv_model.specs.declared.op.Reply.TheVariants.{Done};
 ghost use Rattle.jv_model.specs.tree.Caller.{Caller};
 ghost use Rattle.jv_model.specs.tree.Renaming as model;
@@ -40,8 +40,8 @@ pub fn rename<K: Keeper>(
     ensures does { (caller : Caller) → IsFor who.entry.now caller
         → Transacts (HoldsFiles caller.held) (K.seen k.old) (K.seen k.new)
         result (λ removed. Done) (λ t. model.rename t caller path.now to.now how) }
-    ensures tells { (caller : Caller) → IsFor who.entry.now caller
-        → TellsSustained caller.sid (HoldsFiles caller.held) (K.seen k.old) (renamed_in result)
+    ensures says { (caller : Caller) → IsFor who.entry.now caller
+        → SaysSustained caller.sid (HoldsFiles caller.held) (K.seen k.old) (renamed_in result)
         (λ t. model.rename t caller path.now to.now how) }
 {
     let ends = find_ends(alloc, k, who.sid, path, to, how)?;

@@ -21,9 +21,9 @@ use Rattle.jv_rows.specs.Transactions.{Landed, Lands, Transacts, Always}
 use Rattle.jv_volume.specs.TypedRows.{typed}
 use Rattle.jv_volume.specs.TreeOf.{tree_of}
 use Rattle.jv_links.specs.declared.fates.Removed.{Removed}
-use Rattle.jv_links.specs.Removals.{HoldsFiles, TellsSustained, kept_of, removed_in, renamed_in}
+use Rattle.jv_links.specs.Removals.{HoldsFiles, SaysSustained, kept_of, removed_in, renamed_in}
 use Rattle.jv_metadata.specs.declared.answers.Answer.{Answer}
-use Rattle.jv_metadata.specs.Attempts.{AnswersPlainly, mapped, attempt, TellsKept}
+use Rattle.jv_metadata.specs.Attempts.{AnswersPlainly, mapped, attempt, SaysKept}
 
 -- what the tree does for an operation is its transaction
 pub tree_act-attempt : (t : Tree) (who : Caller) (o : Op) → tree_act t who o ≡ outcome t (attempt t who o)
@@ -109,25 +109,25 @@ answers-mapped f none (Err fault) result is = subst AnswersPlainly (sym is) tt
 -- ---- the file that is kept
 
 -- an unlink answers the file that is kept
-pub tells-unlinked : (who : Caller) (before : Store) (path : List ℕ) (o : Op) → o ≡ op.Unlink path → (made : Result Removed TxFault)
-    → TellsSustained who.sid (HoldsFiles who.held) before (removed_in made) (λ t. unlink t who path)
-    → (result : Result Answer TxFault) → result ≡ mapped (λ removed. record { reply = Done; kept = kept_of (Some removed) }) made → TellsKept who o before result
-tells-unlinked who before path o is made tells result same =
-    subst (λ x. TellsKept who x before result) (sym is) (subst (λ r. TellsKept who (op.Unlink path) before r) (sym same) (by_result made tells))
+pub says-unlinked : (who : Caller) (before : Store) (path : List ℕ) (o : Op) → o ≡ op.Unlink path → (made : Result Removed TxFault)
+    → SaysSustained who.sid (HoldsFiles who.held) before (removed_in made) (λ t. unlink t who path)
+    → (result : Result Answer TxFault) → result ≡ mapped (λ removed. record { reply = Done; kept = kept_of (Some removed) }) made → SaysKept who o before result
+says-unlinked who before path o is made says result same =
+    subst (λ x. SaysKept who x before result) (sym is) (subst (λ r. SaysKept who (op.Unlink path) before r) (sym same) (by_result made says))
   where
-    by_result : (m : Result Removed TxFault) → TellsSustained who.sid (HoldsFiles who.held) before (removed_in m) (λ t. unlink t who path)
-        → TellsKept who (op.Unlink path) before (mapped (λ removed. record { reply = Done; kept = kept_of (Some removed) }) m)
+    by_result : (m : Result Removed TxFault) → SaysSustained who.sid (HoldsFiles who.held) before (removed_in m) (λ t. unlink t who path)
+        → SaysKept who (op.Unlink path) before (mapped (λ removed. record { reply = Done; kept = kept_of (Some removed) }) m)
     by_result (Ok removed) h = λ known at whole bytes holds inode. h known at whole bytes holds inode
     by_result (Err fault) h = tt
 
 -- and so does a rename
-pub tells-renamed : (who : Caller) (before : Store) (path to : List ℕ) (how : How) (o : Op) → o ≡ op.Rename path to how → (made : Result (Option Removed) TxFault)
-    → TellsSustained who.sid (HoldsFiles who.held) before (renamed_in made) (λ t. rename t who path to how)
-    → (result : Result Answer TxFault) → result ≡ mapped (λ removed. record { reply = Done; kept = kept_of removed }) made → TellsKept who o before result
-tells-renamed who before path to how o is made tells result same =
-    subst (λ x. TellsKept who x before result) (sym is) (subst (λ r. TellsKept who (op.Rename path to how) before r) (sym same) (by_result made tells))
+pub says-renamed : (who : Caller) (before : Store) (path to : List ℕ) (how : How) (o : Op) → o ≡ op.Rename path to how → (made : Result (Option Removed) TxFault)
+    → SaysSustained who.sid (HoldsFiles who.held) before (renamed_in made) (λ t. rename t who path to how)
+    → (result : Result Answer TxFault) → result ≡ mapped (λ removed. record { reply = Done; kept = kept_of removed }) made → SaysKept who o before result
+says-renamed who before path to how o is made says result same =
+    subst (λ x. SaysKept who x before result) (sym is) (subst (λ r. SaysKept who (op.Rename path to how) before r) (sym same) (by_result made says))
   where
-    by_result : (m : Result (Option Removed) TxFault) → TellsSustained who.sid (HoldsFiles who.held) before (renamed_in m) (λ t. rename t who path to how)
-        → TellsKept who (op.Rename path to how) before (mapped (λ removed. record { reply = Done; kept = kept_of removed }) m)
+    by_result : (m : Result (Option Removed) TxFault) → SaysSustained who.sid (HoldsFiles who.held) before (renamed_in m) (λ t. rename t who path to how)
+        → SaysKept who (op.Rename path to how) before (mapped (λ removed. record { reply = Done; kept = kept_of removed }) m)
     by_result (Ok removed) h = λ known at whole bytes holds inode. h known at whole bytes holds inode
     by_result (Err fault) h = tt

@@ -85,5 +85,5 @@ KeepsOne who o before kept = (known : RowMap) → before.rows ≡ Some known →
     → (is_sustained (outcome (tree_of bytes (typed known)) (attempt (tree_of bytes (typed known)) who o)).tree who.sid inode
     && not (is_sustained (tree_of bytes (typed known)) who.sid inode)) ≡ is_inode kept inode
 
-abbrev pub TellsKept : Caller → Op → Store → Result Answer TxFault → Type 0
-TellsKept who o before result = IfOk result (λ answer. MatchBool (takes_entries o) (KeepsOne who o before answer.kept) (answer.kept ≡ None))
+abbrev pub SaysKept : Caller → Op → Store → Result Answer TxFault → Type 0
+SaysKept who o before result = IfOk result (λ answer. MatchBool (takes_entries o) (KeepsOne who o before answer.kept) (answer.kept ≡ None))

@@ -1,6 +1,6 @@
 //! An operation's transaction.
 ghost use Rattle.std.specs.Prelude.{◌≡◌, IsTrue};
-ghost use Rattle.jv_metadata.specs.Attempts.{AnswersPlainly, Asks, attempt, is_spelled, TellsKept};
+ghost use Rattle.jv_metadata.specs.Attempts.{AnswersPlainly, Asks, attempt, is_spelled, SaysKept};
 ghost use Rattle.jv_links.specs.Removals.{HoldsFiles};
 ghost use Rattle.jv_model.specs.tree.Caller.{Caller};
 ghost use Rattle.jv_model.specs.client.OpForms.{is_metadata};
@@ -40,8 +40,8 @@ pub fn transact<K: Keeper>(
     ensures does { (caller : Caller) → IsFor who.entry.now caller → Asks caller handle inode
         → Transacts (HoldsFiles caller.held) (K.seen k.old) (K.seen k.new)
         result (λ answer. answer.reply) (λ t. attempt t caller op.now) }
-    ensures tells { (caller : Caller) → IsFor who.entry.now caller
-        → TellsKept caller op.now (K.seen k.old) result }
+    ensures says { (caller : Caller) → IsFor who.entry.now caller
+        → SaysKept caller op.now (K.seen k.old) result }
     ensures answers { AnswersPlainly result }
 {
     match op {

@@ -80,14 +80,14 @@ above_none : (i : ℕ) (bs : List PendingByte) → Above i 0 bs
 above_none i [] = tt
 above_none i (b ∷ bs) = (λ e. omega arith, above_none i bs)
 
-before_tells : (i p : ℕ) (b : PendingByte) → comes_before i p b ≡ true → b.inode ≡ i → p < b.position
-before_tells i p b h e = grind (arith, nat_tests)
+before_says : (i p : ℕ) (b : PendingByte) → comes_before i p b ≡ true → b.inode ≡ i → p < b.position
+before_says i p b h e = grind (arith, nat_tests)
 
 above_after : (i p : ℕ) (bs : List PendingByte) → all_after i p bs ≡ true → Above i (p + 1) bs
 above_after i p [] h = tt
 above_after i p (b ∷ bs) h =
     let both = and_parts (comes_before i p b) (all_after i p bs) h in
-    (λ e. let l = before_tells i p b both.0 e in omega arith, above_after i p bs both.1)
+    (λ e. let l = before_says i p b both.0 e in omega arith, above_after i p bs both.1)
 
 -- the bytes of an inode rise
 rises_of : (i low : ℕ) (bs : List PendingByte) → is_rising bs ≡ true → Above i low bs → RiseFrom i low (pending_of i bs)

@@ -3,7 +3,7 @@ ghost use Rattle.jv_model.specs.declared.limits.TheConstants.{WINDOW};
 ghost use Rattle.jv_model.specs.declared.slice.Piece.{Piece as PieceSeen};
 ghost use Rattle.jv_model.specs.blocks.Slices.{IsRecord, IsPlan, needed_blocks};
 ghost use Rattle.jv_model.specs.journal.Reading.{bytes_from};
-ghost use Rattle.jv_contents.specs.Bytes.{Told};
+ghost use Rattle.jv_contents.specs.Bytes.{KnownBytes};
 ghost use Rattle.jv_reading.specs.Parts.{IsPartOf, IsNamed, FillsIn, ReadsAs, window_byte};
 
 use crate::table::{Table, copy_shown, table_of};
@@ -59,7 +59,8 @@ impl WindowRead {
             IsPlan list.now from to pieces → part.left ≡ needed_blocks block pieces) }
         ensures few { IfOk result (λ part. length part.left ≤ to - from) }
         ensures named { IfOk result (λ part. All (IsNamed list.now block) part.left) }
-        ensures reads { IfOk result (λ part. (told : Told) → ReadsAs told part) }
+        ensures reads { IfOk result (λ part.
+            (known_bytes : KnownBytes) → ReadsAs known_bytes part) }
     {
         let pieces = plan(alloc, list, from, to)?;
         let needed = needs(alloc, &pieces, block)?.into_vec();
@@ -102,8 +103,9 @@ impl WindowRead {
     /// The bytes, where no block is left. Takes no memory.
     pub fn into_bytes(self) -> Bytes
         requires { self.left ≡ [] }
-        ensures { (told : Told) → ReadsAs told self →
-            result ≡ bytes_from (window_byte told self.list) self.from (self.to - self.from) }
+        ensures { (known_bytes : KnownBytes) → ReadsAs known_bytes self →
+            result ≡ bytes_from (window_byte known_bytes self.list) self.from
+            (self.to - self.from) }
     {
         Bytes::from_vec(self.bytes)
     }

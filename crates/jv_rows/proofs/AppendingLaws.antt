@@ -39,7 +39,7 @@ use Rattle.jv_rows.specs.Reads.{Misses}
 use Rattle.jv_rows.specs.RoundTrips.{AreBytes, RecordWidths, ListWidths}
 use Rattle.jv_rows.specs.Tables.{list_row}
 use Rattle.jv_rows.proofs.DraftLaws.{left_by, get-applied, spelled_cell, drafts_put}
-use Rattle.jv_rows.proofs.ExactLists.{list_exact}
+use Rattle.jv_rows.proofs.ExactListLaws.{list_exact}
 use Rattle.jv_rows.proofs.ReaderLaws.{some_is}
 use Rattle.jv_rows.proofs.TransactionLaws.{of_known, if_known}
 

@@ -21,8 +21,8 @@ use Rattle.jv_model.specs.journal.Past.{Past, Setup, NoMore, CrashEntry, TickEnt
 use Rattle.jv_model.specs.journal.Stepping.{entry_of}
 use Rattle.jv_laws.specs.OnLines.{IsNow, Leads}
 use Rattle.jv_laws.proofs.JournalGrowthLaws.{advanced, begun_to-begun}
-use Rattle.jv_laws.proofs.EndedLines.{is_over_at, may_be_cut_at}
-use Rattle.jv_laws.proofs.NotedLines.{Notes as NotesEntry, refused_ran, crash_ran, tick_ran}
+use Rattle.jv_laws.proofs.EndedLineLaws.{is_over_at, may_be_cut_at}
+use Rattle.jv_laws.proofs.NotedLineLaws.{Notes as NotesEntry, refused_ran, crash_ran, tick_ran}
 use Rattle.jv_outside.specs.Ticks.{Ticks}
 use Rattle.jv_shared.specs.Shared.{Known, Shared}
 use Rattle.jv_client.specs.ClientValue.{ClientValue, crashed}

@@ -14,10 +14,10 @@ use Rattle.jv_outside.specs.Parcels.{StandsFor}
 use Rattle.jv_slices.proofs.BlockLaws.{block_begins}
 use Rattle.jv_volume.specs.TypedRows.{Rows, typed}
 use Rattle.jv_volume.specs.Slices.{next_slice}
-use Rattle.jv_contents.specs.Blocks.{told_by}
+use Rattle.jv_contents.specs.Blocks.{known_by}
 use Rattle.jv_contents.specs.Bytes.{spot_byte}
 use Rattle.jv_contents.specs.Flights.{Flight, InFlight, IsComplete, flight_block, flight_bytes}
-use Rattle.jv_contents.proofs.FlightLaws.{complete-shows, complete-told}
+use Rattle.jv_contents.proofs.FlightLaws.{complete-shows, complete-known}
 use Rattle.jv_yard.specs.BlockCalls.{IsBlockParcel}
 use Rattle.jv_yard.proofs.CallLaws.{block_parcel}
 use Rattle.jv_shared.specs.Lengths.{IsLength}
@@ -54,13 +54,13 @@ module _ (t : Tree) (g : Known) (v : Shared) (s : HasStore t g v) (f : Flight) (
   -- ---- a complete one
 
   -- its blocks have its bytes
-  pub flight-told : IsComplete v.yard.setting.block f → (k : ℕ) → k < length f.bytes
-      → told_by v.yard.setting.block g.blocks f.id (length f.bytes) k ≡ slice_index f.bytes k
-  flight-told complete k low = complete-told v.yard.setting.block (typed s.rows) g.blocks f flight_now complete (block_some t g v s) k low
+  pub flight-known : IsComplete v.yard.setting.block f → (k : ℕ) → k < length f.bytes
+      → known_by v.yard.setting.block g.blocks f.id (length f.bytes) k ≡ slice_index f.bytes k
+  flight-known complete k low = complete-known v.yard.setting.block (typed s.rows) g.blocks f flight_now complete (block_some t g v s) k low
 
   -- and a record of a part of it shows them
   pub flight-shown : IsComplete v.yard.setting.block f → (r : Rec) → r.id ≡ f.id → r.size ≡ length f.bytes → r.off + r.len ≤ length f.bytes
-      → (n : ℕ) → n < r.len → spot_byte (told_by v.yard.setting.block g.blocks) (shown r n) ≡ slice_index f.bytes (r.off + n)
+      → (n : ℕ) → n < r.len → spot_byte (known_by v.yard.setting.block g.blocks) (shown r n) ≡ slice_index f.bytes (r.off + n)
   flight-shown complete r own long inside n low =
       complete-shows v.yard.setting.block (typed s.rows) g.blocks f flight_now complete (block_some t g v s) r own long inside n low
 

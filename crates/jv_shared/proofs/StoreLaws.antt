@@ -19,7 +19,7 @@ use Rattle.jv_contents.proofs.BlockLaws.{has_blocks-grow, there-grows}
 use Rattle.jv_yard.specs.BlockCalls.{IsBlockBy, IsBlockOf}
 use Rattle.jv_yard.specs.Contents.{blocks_in, is_block}
 use Rattle.jv_yard.specs.Staging.{staged_since}
-use Rattle.jv_yard.proofs.ContentsLaws.{is_block-tells, read-depot}
+use Rattle.jv_yard.proofs.ContentsLaws.{is_block-says, read-depot}
 use Rattle.jv_shared.specs.Shared.{HasStore, Known, Shared, depot_blocks, present_in, rows_in, typed_in}
 use Rattle.jv_shared.specs.Lengths.{IsLength}
 use Rattle.jv_shared.specs.Seen.{IsView, ShowsWindow}
@@ -99,7 +99,7 @@ module _ (t : Tree) (g : Known) (v : Shared) (s : HasStore t g v) where
 
       by_since : (o : Option ℕ) → staged_since client (name_in v.yard.setting b) v.yard.staged ≡ o → value ≡ g.blocks b
       by_since None e =
-          read-depot v.yard s.objects client b value s.objects_are (is_block-tells v.yard.setting.block b passes) e read
+          read-depot v.yard s.objects client b value s.objects_are (is_block-says v.yard.setting.block b passes) e read
           ∙ here ∙ sym (s.copies b there.bytes here)
       by_since (Some since) e =
           let staged : IsSome (staged_since client (name_in v.yard.setting b) v.yard.staged) = ap is_some e in

@@ -9,7 +9,7 @@ use Rattle.jv_model.specs.tree.Tree.{Tree, Node, File, Directory, EntryKey, new_
 use Rattle.jv_model.specs.tree.Changes.{empty_content}
 use Rattle.jv_model.specs.tree.HourNames.{hour_name}
 use Rattle.jv_model.specs.tree.Trash.{hour_inode, trash_name}
-use Rattle.jv_model.proofs.TreeComputes.{maps_compute, names_compute}
+use Rattle.jv_model.proofs.TreeComputeLaws.{maps_compute, names_compute}
 use Rattle.jv_volume.specs.Shape.{Dir, Reaches, WholeShape, shape_of}
 
 -- a setting, of no meaning here

@@ -16,7 +16,7 @@ use Rattle.jv_model.specs.FiniteMap.{number_key, empty_map, get, insert, map_of}
 use Rattle.jv_model.specs.rows.RowPlaces.{setting_key, counters_key, node_key, edge_key, session_key, sustained_key, slice_key, dropped_key, dead_key}
 use Rattle.jv_model.specs.tree.Tree.{Tree, entry_key, pair_key, root, trash_root, fresh_tree, node_at, link_count}
 use Rattle.jv_model.proofs.FiniteMapLaws.{get-empty_map}
-use Rattle.jv_model.proofs.TreeComputes.{maps_compute}
+use Rattle.jv_model.proofs.TreeComputeLaws.{maps_compute}
 use Rattle.jv_model.specs.blocks.Slices.{IsRecord}
 use Rattle.jv_volume.specs.TypedRows.{Cell, Rows}
 use Rattle.jv_volume.specs.Views.{row_in, node_in, records_in, slice_in, dropped_in, dead_in, node_row_at, slice_row_at, dropped_at, dead_at}

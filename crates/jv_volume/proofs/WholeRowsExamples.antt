@@ -21,7 +21,7 @@ use Rattle.jv_model.specs.blocks.Slices.{IsRecord, place_by, stored_place}
 use Rattle.jv_model.specs.tree.Tree.{Tree, File, Directory, EntryKey, entry_key, pair_key, new_node, fresh_tree, node_at, link_count, root, trash_root}
 use Rattle.jv_model.specs.tree.Making.{with_next}
 use Rattle.jv_model.proofs.FiniteMapLaws.{get-empty_map}
-use Rattle.jv_model.proofs.TreeComputes.{maps_compute}
+use Rattle.jv_model.proofs.TreeComputeLaws.{maps_compute}
 use Rattle.jv_model.specs.tree.Changes.{content_of}
 use Rattle.jv_volume.specs.TypedRows.{Cell, Rows}
 use Rattle.jv_volume.specs.Views.{row_in, node_in, records_in, slice_in, dropped_in, dead_in, lists_of, node_row_at, slice_row_at, dropped_at, dead_at}

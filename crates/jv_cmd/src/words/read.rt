@@ -21,7 +21,7 @@ use std::alloc::{AllocError, Global};
 #[derive(Clone, Copy, Debug, PartialEq, Eq)]
 pub(crate) enum BadValue {
     /// A value is out of its range.
-    Off,
+    OutOfRange,
     /// Out of memory.
     Memory,
 }
@@ -48,7 +48,7 @@ pub fn read_words(alloc: Global, words: &[String]) -> Result<Command, WordsFault
     let matches = parse(alloc, words)?;
     match command(alloc, &matches) {
         Ok(command) => Ok(command),
-        Err(BadValue::Off) => Err(refused(alloc)),
+        Err(BadValue::OutOfRange) => Err(refused(alloc)),
         Err(BadValue::Memory) => Err(WordsFault::Memory),
     }
 }
@@ -66,7 +66,7 @@ fn command(alloc: Global, matches: &ArgMatches<'_>) -> Result<Command, BadValue>
     ensures { Reads result (command_at (subcommand_rows_of matches.now)) }
 {
     let Some((name, values)) = matches.subcommand() else {
-        return Err(BadValue::Off);
+        return Err(BadValue::OutOfRange);
     };
     if name == "format" {
         return format(alloc, values);
@@ -74,7 +74,7 @@ fn command(alloc: Global, matches: &ArgMatches<'_>) -> Result<Command, BadValue>
     if name == "session" {
         return session(alloc, values);
     }
-    Err(BadValue::Off)
+    Err(BadValue::OutOfRange)
 }
 
 #[tactic(auto, unfolding(crate::specs::Words::format_in))]
@@ -101,7 +101,7 @@ fn setting(alloc: Global, values: &ArgMatches<'_>) -> Result<Setting, BadValue>
     if has_text(values, "storage", "file") && has_text(values, "compress", "none") {
         stored_setting(alloc, values)
     } else {
-        Err(BadValue::Off)
+        Err(BadValue::OutOfRange)
     }
 }
 
@@ -141,7 +141,7 @@ fn where_allowed(setting: Setting) -> Result<Setting, BadValue>
     if allows_setting(&setting) {
         Ok(setting)
     } else {
-        Err(BadValue::Off)
+        Err(BadValue::OutOfRange)
     }
 }
 
@@ -171,15 +171,15 @@ fn seed_in(values: &ArgMatches<'_>) -> Result<Option<u64>, BadValue>
     let Some(text) = text_in(values, "generate") else {
         return Ok(None);
     };
-    let seed = seed(text).ok_or(BadValue::Off)?;
+    let seed = seed(text).ok_or(BadValue::OutOfRange)?;
     Ok(Some(seed))
 }
 
 fn place_in(alloc: Global, values: &ArgMatches<'_>) -> Result<Text, BadValue>
     ensures { Reads result (value_in place_of (codes "url") (rows_of (found_of values.now))) }
 {
-    let url = text_in(values, "url").ok_or(BadValue::Off)?;
-    let path = place(url).ok_or(BadValue::Off)?;
+    let url = text_in(values, "url").ok_or(BadValue::OutOfRange)?;
+    let path = place(url).ok_or(BadValue::OutOfRange)?;
     Ok(copied(alloc, path)?)
 }
 
@@ -187,7 +187,7 @@ fn place_in(alloc: Global, values: &ArgMatches<'_>) -> Result<Text, BadValue>
 fn copied_in(alloc: Global, values: &ArgMatches<'_>, id: &str) -> Result<Text, BadValue>
     ensures { Reads result (first_of id.now (rows_of (found_of values.now))) }
 {
-    let text = text_in(values, id).ok_or(BadValue::Off)?;
+    let text = text_in(values, id).ok_or(BadValue::OutOfRange)?;
     Ok(copied(alloc, text)?)
 }
 
@@ -195,8 +195,8 @@ fn block_in(values: &ArgMatches<'_>) -> Result<u32, BadValue>
     ensures { Reads result (value_in block_size_of (codes "block-size")
         (rows_of (found_of values.now))) }
 {
-    let text = text_in(values, "block-size").ok_or(BadValue::Off)?;
-    block_size(text).ok_or(BadValue::Off)
+    let text = text_in(values, "block-size").ok_or(BadValue::OutOfRange)?;
+    block_size(text).ok_or(BadValue::OutOfRange)
 }
 
 fn number_in(values: &ArgMatches<'_>, id: &str, least: u64, most: u64) -> Result<u64, BadValue>
@@ -204,8 +204,8 @@ fn number_in(values: &ArgMatches<'_>, id: &str, least: u64, most: u64) -> Result
         (rows_of (found_of values.now))) }
     ensures range { IfOk result (λ n. n ≤ most) }
 {
-    let text = text_in(values, id).ok_or(BadValue::Off)?;
-    number_within(least, most, text).ok_or(BadValue::Off)
+    let text = text_in(values, id).ok_or(BadValue::OutOfRange)?;
+    number_within(least, most, text).ok_or(BadValue::OutOfRange)
 }
 
 /// Whether the value of this name is this text.

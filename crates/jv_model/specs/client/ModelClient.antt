@@ -38,16 +38,16 @@ pub record Compaction : Type 0 where
 
 -- How far a cleaning is: first sessions, then the trash, then files, then slices. Once it asked for a slice it has found none,
 -- or removes the blocks of one that it found, one by one.
-pub data Part : Type 0 where
-  Sessions : Part
-  Trash : Part
-  Files : Part
-  Slices : Part
-  Blocks : Part  -- a slice was asked for
-  MoreBlocks : Part  -- a block of it was removed
+pub data CleaningPart : Type 0 where
+  Sessions : CleaningPart
+  Trash : CleaningPart
+  Files : CleaningPart
+  Slices : CleaningPart
+  Blocks : CleaningPart  -- a slice was asked for
+  MoreBlocks : CleaningPart  -- a block of it was removed
 
 pub record Cleaning : Type 0 where
-  pub part : Part
+  pub part : CleaningPart
   pub sessions : ℕ
   pub trash : ℕ  -- entries of the trash, hour directories not counted
   pub hours : ℕ

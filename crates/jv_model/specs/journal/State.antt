@@ -30,20 +30,20 @@ use Rattle.jv_model.specs.tree.Trash.{purged}
 use Rattle.jv_model.specs.client.Pending.{written, without_range, bytes_in_range, pending_of_others}
 use Rattle.jv_model.specs.client.Origins.{Marks, Owed, first_marks, marks_committed, marks_truncated, marks_copied, marks_compacted}
 use Rattle.jv_model.specs.client.Profile.{profile, handle_list, handle_of}
-use Rattle.jv_model.specs.client.ModelClient.{ModelClient, OpenFile, View, Doing, Stage, Part, Sessions, Trash, Files, Slices, Blocks, MoreBlocks, Cleaning, Working, Reading, Missing, LookedAgain, Compacting, Cleans, Requesting, Replying, unmounted, session_of, with_stage, with_file, file_of, free_handle, inode_at, held_inodes, is_last_of_removed, views_without}
+use Rattle.jv_model.specs.client.ModelClient.{ModelClient, OpenFile, View, Doing, Stage, CleaningPart, Sessions, Trash, Files, Slices, Blocks, MoreBlocks, Cleaning, Working, Reading, Missing, LookedAgain, Compacting, Cleans, Requesting, Replying, unmounted, session_of, with_stage, with_file, file_of, free_handle, inode_at, held_inodes, is_last_of_removed, views_without}
 use Rattle.jv_model.specs.client.Submission.{is_flushed}
 use Rattle.jv_model.specs.journal.Reading.{Asked, window_start, asked_parts, fresh_view}
 
 -- what an entry did to a file, by whomever
-pub data ChangeKind : Type 0 where
-  Written : ChangeKind  -- a commit, or a copy into it
-  Replaced : ChangeKind  -- a truncation, or a compaction: blocks that it had may go
-  Ended : ChangeKind  -- its node went
+pub data FileChangeKind : Type 0 where
+  Written : FileChangeKind  -- a commit, or a copy into it
+  Replaced : FileChangeKind  -- a truncation, or a compaction: blocks that it had may go
+  Ended : FileChangeKind  -- its node went
 
-pub record Change : Type 0 where
+pub record FileChange : Type 0 where
   pub entry : ℕ
   pub inode : ℕ
-  pub kind : ChangeKind
+  pub kind : FileChangeKind
 
 pub record State : Type 0 where
   pub count : ℕ  -- how many entries there are
@@ -51,7 +51,7 @@ pub record State : Type 0 where
   pub clients : ℕ → ModelClient
   pub marks : Marks  -- where each byte comes from
   pub owed : List Owed  -- commits of which blocks are staged
-  pub changes : List Change  -- the latest first
+  pub changes : List FileChange  -- the latest first
   pub swept : ℕ  -- the last request of a cleaning that left the tree, 0 for none
   pub copied : ℕ  -- positions copied so far
   pub dropped : List ℕ  -- inodes whose rows were cleaned
@@ -148,7 +148,7 @@ replied entry does answer c = with_stage (Replying answer) (given entry does (gi
 abbrev pub gone_between : Tree → Tree → List ℕ
 gone_between before after = map (λ node. node.0) (filter (λ node. not (is_some (node_at after node.0))) before.nodes.list)
 
-abbrev pub changed_at : ℕ → ChangeKind → ℕ → Change
+abbrev pub changed_at : ℕ → FileChangeKind → ℕ → FileChange
 changed_at entry kind inode = record { entry = entry; inode = inode; kind = kind }
 
 -- another tree, with the ends of the files that are in it no more
@@ -186,7 +186,7 @@ flushing_on s c now quiets started = (if quiets == 0 then if has_session s.tree 
     else if quiets == 1 then Working 2 now
     else Working (quiets + 1) started)
 
-abbrev pub next_part : Part → Part
+abbrev pub next_part : CleaningPart → CleaningPart
 next_part Sessions = Trash
 next_part Trash = Files
 next_part Files = Slices
@@ -195,7 +195,7 @@ next_part Blocks = MoreBlocks
 next_part MoreBlocks = MoreBlocks
 
 -- no slice may have been left
-abbrev pub is_last : Part → Bool
+abbrev pub is_last : CleaningPart → Bool
 is_last Sessions = false
 is_last Trash = false
 is_last Files = false
@@ -204,7 +204,7 @@ is_last Blocks = true
 is_last MoreBlocks = false
 
 -- a request of this part removes a block
-abbrev pub removes_block : Part → Bool
+abbrev pub removes_block : CleaningPart → Bool
 removes_block Sessions = false
 removes_block Trash = false
 removes_block Files = false

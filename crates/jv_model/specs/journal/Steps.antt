@@ -32,9 +32,9 @@ use Rattle.jv_model.specs.tree.Trash.{due_purge}
 use Rattle.jv_model.specs.client.Pending.{Segment, bytes_in_range}
 use Rattle.jv_model.specs.client.Origins.{Owed, missing_commit}
 use Rattle.jv_model.specs.client.Profile.{handle_of}
-use Rattle.jv_model.specs.client.ModelClient.{ModelClient, OpenFile, View, Doing, Stage, Part, Sessions, Trash, Files, Slices, Blocks, MoreBlocks, Cleaning, Compaction, Working, Reading, Missing, LookedAgain, Compacting, Cleans, Requesting, Replying, session_of, file_of, inode_at}
+use Rattle.jv_model.specs.client.ModelClient.{ModelClient, OpenFile, View, Doing, Stage, CleaningPart, Sessions, Trash, Files, Slices, Blocks, MoreBlocks, Cleaning, Compaction, Working, Reading, Missing, LookedAgain, Compacting, Cleans, Requesting, Replying, session_of, file_of, inode_at}
 use Rattle.jv_model.specs.client.Submission.{next_segment, is_flushed}
-use Rattle.jv_model.specs.journal.State.{State, ChangeKind, Written, Replaced, Ended, transacted, caller, has_session, look_refusal, sees_first, is_refused, is_cleaning, is_compaction, is_last, is_collecting, first_cleaning, answer_then, gift_of, Gift, NewSession, NewHandle, Nothing}
+use Rattle.jv_model.specs.journal.State.{State, FileChangeKind, Written, Replaced, Ended, transacted, caller, has_session, look_refusal, sees_first, is_refused, is_cleaning, is_compaction, is_last, is_collecting, first_cleaning, answer_then, gift_of, Gift, NewSession, NewHandle, Nothing}
 use Rattle.jv_model.specs.journal.Reading.{Asked, window_start, asked_parts, fresh_view, part_to_look, shows_all, reading}
 use Rattle.jv_model.specs.Lists.{is_among}
 
@@ -163,17 +163,17 @@ pub record LooksAt (s : State) (c : ModelClient) (d : Doing) (inode window : ℕ
   pub session : IsTrue (has_session s.tree c)
   pub there : IsTrue (is_some (node_at s.tree inode))
 
-abbrev is_written : ChangeKind → Bool
+abbrev is_written : FileChangeKind → Bool
 is_written Written = true
 is_written Replaced = false
 is_written Ended = false
 
-abbrev is_replaced : ChangeKind → Bool
+abbrev is_replaced : FileChangeKind → Bool
 is_replaced Written = false
 is_replaced Replaced = true
 is_replaced Ended = false
 
-abbrev takes_blocks : ChangeKind → Bool
+abbrev takes_blocks : FileChangeKind → Bool
 takes_blocks Written = false
 takes_blocks Replaced = true
 takes_blocks Ended = true
@@ -287,7 +287,7 @@ cleaning_in c d = elim d.stage [
 ]
 
 -- an item of a cleaning goes, in its part
-pub record CleansItem (s : State) (c : ModelClient) (d : Doing) (part : Part) : Type 0 where
+pub record CleansItem (s : State) (c : ModelClient) (d : Doing) (part : CleaningPart) : Type 0 where
   pub k : Cleaning
   pub stage : cleaning_in c d ≡ Some k
   pub at : k.part ≡ part
@@ -304,7 +304,7 @@ abbrev pub CleansRow : State → ModelClient → Doing → ℕ → ℕ → Type 
 CleansRow s c d table key = MatchBool (table == TABLE_OF_DROPPED) (CleansItem s c d Files × DropsFile s key) ((table ≡ TABLE_OF_DEAD) × CleansItem s c d MoreBlocks)
 
 -- a request of a cleaning found nothing more in its part; blocks of slices are removed in any number
-abbrev finds_none : State → ModelClient → ℕ → Part → Bool
+abbrev finds_none : State → ModelClient → ℕ → CleaningPart → Bool
 finds_none s c now Sessions = not (is_some (due_session s.tree (session_of c) now))
 finds_none s c now Trash = not (is_some (due_purge s.tree now))
 finds_none s c now Files = true

@@ -10,7 +10,7 @@ use Rattle.jv_model.specs.declared.op.Op.TheVariants.{Mount, Umount, Beat, Looku
 use Rattle.jv_model.specs.declared.op.Line.{Line}
 use Rattle.jv_model.specs.declared.op.Line.TheVariants.{Empty, Do, Begin, Step, Run, Crash, Drain, Tick}
 use Rattle.jv_model.specs.script.Spelling.{◌>>=◌, words, at_most, number_of, length_of, mode_of, is_hex_digit, bytes_of_digits, client_of, is_silent, byte_of}
-use Rattle.jv_model.specs.script.Printed.{Part, Plain, Repeated}
+use Rattle.jv_model.specs.script.Printed.{DataPart, Plain, Repeated}
 use Rattle.jv_model.specs.tree.Walk.{is_absolute}
 use Rattle.jv_model.specs.Optional.{provided}
 use Rattle.jv_model.specs.Lists.{parted}
@@ -67,27 +67,27 @@ abbrev pub is_pairs : List ℕ → Bool
 is_pairs text = nat_lt 0 (length text) && (length text % 2 == 0) && list_all is_hex_digit text
 
 -- `HHxN`: the byte of two digits, N times, N at least 1
-unfoldable pub repeated_of : List ℕ → Option Part
+unfoldable pub repeated_of : List ℕ → Option DataPart
 repeated_of (high ∷ low ∷ x ∷ digits) = do
   count ← number_of digits
   provided (is_hex_digit high && is_hex_digit low && (x == 120) && nat_lt 0 count) (Repeated (record { byte = byte_of high low; count = count }))
 repeated_of _ = None
 
 -- a part of the bytes of a write
-unfoldable pub part_of : List ℕ → Option Part
+unfoldable pub part_of : List ℕ → Option DataPart
 part_of text = (if is_pairs text then Some (Plain (bytes_of_digits text)) else repeated_of text)
 
 -- how many bytes a part has, and which
-abbrev pub part_length : Part → ℕ
+abbrev pub part_length : DataPart → ℕ
 part_length (Plain bytes) = length bytes
 part_length (Repeated run) = run.count
 
-abbrev pub part_bytes : Part → List ℕ
+abbrev pub part_bytes : DataPart → List ℕ
 part_bytes (Plain bytes) = bytes
 part_bytes (Repeated run) = replicate run.count run.byte
 
 -- the parts of texts, if each of them is one
-abbrev pub all_parts_of : List (List ℕ) → Option (List Part)
+abbrev pub all_parts_of : List (List ℕ) → Option (List DataPart)
 all_parts_of [] = Some []
 all_parts_of (text ∷ texts) = do
   part ← part_of text

@@ -12,8 +12,8 @@ use Rattle.jv_model.specs.tree.Tree.{trash_root}
 use Rattle.jv_rows.specs.Drafts.{Sees}
 use Rattle.jv_links.specs.Removals.{MayLose}
 use Rattle.jv_links.specs.declared.fates.Fate.TheVariants.{Trashed, Dropped, Sustained}
-use Rattle.jv_changes.proofs.DraftSteps.{drafting-exit}
-use Rattle.jv_links.proofs.FateLaws.{fate-none, fate-no_setting, fate-made, tells-trashed, tells-sustained, tells-dropped}
+use Rattle.jv_changes.proofs.DraftStepLaws.{drafting-exit}
+use Rattle.jv_links.proofs.FateLaws.{fate-none, fate-no_setting, fate-made, says-trashed, says-sustained, says-dropped}
 use Rattle.jv_links.proofs.fates.fate_of.Goals as goal
 use Rattle.jv_links.proofs.fates.fate_of.Goals.{else-setting-gt0-via-then-setting-gt0+else-dir-lt-TRASH_ROOT, else-setting-gt0-via-else-setting-gt0}
 
@@ -48,9 +48,9 @@ returns-then-dir-lt-TRASH_ROOT-clause-does g c caller place in_dir is_for =
     (g.K.Keeper.seen c.args.k.now) (g.K.Keeper.seen c.node.new.k) (Ok o)) c.in-Some.is c.in_ok-node.ensures)
     (g.K.Keeper.seen c.needed_setting.new.k) c.in_ok-setting.setting c.in_ok-setting.ensures Trashed
 
-pub returns-then-dir-lt-TRASH_ROOT-clause-tells : goal.returns-then-dir-lt-TRASH_ROOT-clause-tells
-returns-then-dir-lt-TRASH_ROOT-clause-tells g c caller place in_dir is_for =
-    tells-trashed caller place c.args.inode c.args.draft.now (g.K.Keeper.seen c.args.k.now)
+pub returns-then-dir-lt-TRASH_ROOT-clause-says : goal.returns-then-dir-lt-TRASH_ROOT-clause-says
+returns-then-dir-lt-TRASH_ROOT-clause-says g c caller place in_dir is_for =
+    says-trashed caller place c.args.inode c.args.draft.now (g.K.Keeper.seen c.args.k.now)
     (g.K.Keeper.seen c.node.new.k) c.in-Some.node
     (subst (λ (o : Option Node). Sees OfNode is_node (node_key c.args.inode) c.args.draft.now
     (g.K.Keeper.seen c.args.k.now) (g.K.Keeper.seen c.node.new.k) (Ok o)) c.in-Some.is c.in_ok-node.ensures)
@@ -67,9 +67,9 @@ returns-then-contains-clause-does g c caller place in_dir is_for =
     (g.K.Keeper.seen c.args.k.now) (g.K.Keeper.seen c.node.new.k) (Ok o)) c.in-Some.is c.in_ok-node.ensures)
     (g.K.Keeper.seen c.needed_setting.new.k) c.in_ok-setting.setting c.in_ok-setting.ensures Sustained
 
-pub returns-then-contains-clause-tells : goal.returns-then-contains-clause-tells
-returns-then-contains-clause-tells g c caller place in_dir is_for =
-    tells-sustained caller place c.args.inode c.args.draft.now (g.K.Keeper.seen c.args.k.now)
+pub returns-then-contains-clause-says : goal.returns-then-contains-clause-says
+returns-then-contains-clause-says g c caller place in_dir is_for =
+    says-sustained caller place c.args.inode c.args.draft.now (g.K.Keeper.seen c.args.k.now)
     (g.K.Keeper.seen c.node.new.k) c.in-Some.node
     (subst (λ (o : Option Node). Sees OfNode is_node (node_key c.args.inode) c.args.draft.now
     (g.K.Keeper.seen c.args.k.now) (g.K.Keeper.seen c.node.new.k) (Ok o)) c.in-Some.is c.in_ok-node.ensures)
@@ -93,9 +93,9 @@ returns-clause-does g c caller place in_dir is_for =
     (g.K.Keeper.seen c.args.k.now) (g.K.Keeper.seen c.node.new.k) (Ok o)) c.in-Some.is c.in_ok-node.ensures)
     (g.K.Keeper.seen c.needed_setting.new.k) c.in_ok-setting.setting c.in_ok-setting.ensures Dropped
 
-pub returns-clause-tells : goal.returns-clause-tells
-returns-clause-tells g c caller place in_dir is_for =
-    tells-dropped caller place c.args.inode c.args.draft.now (g.K.Keeper.seen c.args.k.now)
+pub returns-clause-says : goal.returns-clause-says
+returns-clause-says g c caller place in_dir is_for =
+    says-dropped caller place c.args.inode c.args.draft.now (g.K.Keeper.seen c.args.k.now)
     (g.K.Keeper.seen c.node.new.k) c.in-Some.node
     (subst (λ (o : Option Node). Sees OfNode is_node (node_key c.args.inode) c.args.draft.now
     (g.K.Keeper.seen c.args.k.now) (g.K.Keeper.seen c.node.new.k) (Ok o)) c.in-Some.is c.in_ok-node.ensures)

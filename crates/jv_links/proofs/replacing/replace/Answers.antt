@@ -57,7 +57,7 @@ returns-in-Ok g c caller how is_for =
     c.new-draft.result c.new-draft.ensures c.remove_target.new.draft (g.K.Keeper.seen c.remove_target.new.k)
     c.in_ok-removed.removed (c.in_ok-removed.ensures.does caller is_for) c.args.who.now.now is_for.now
     c.move_entry.new.draft (g.K.Keeper.seen c.move_entry.new.k)
-    c.in_ok-move_entry.ensures (c.in_ok-removed.ensures.tells caller is_for) (g.K.Keeper.seen c.commit.new.k)
+    c.in_ok-move_entry.ensures (c.in_ok-removed.ensures.says caller is_for) (g.K.Keeper.seen c.commit.new.k)
     c.in-Ok.ensures
 
 pub returns : goal.returns

@@ -1,6 +1,6 @@
 use Rattle.std.proofs.Common.{◌∙◌, ap, sym}
 use Rattle.std.specs.Option.{option_map}
-use Rattle.jv_pending.proofs.Entries.{between_from}
+use Rattle.jv_pending.proofs.EntryLaws.{between_from}
 use Rattle.jv_pending.proofs.run.first_from.Goals as goal
 use Rattle.jv_model.specs.Lists.{first_item}
 

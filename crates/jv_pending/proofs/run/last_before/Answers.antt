@@ -1,7 +1,7 @@
 use Rattle.std.proofs.Common.{◌∙◌, ap, sym}
 use Rattle.std.specs.Option.{option_map}
-use Rattle.jv_pending.proofs.Entries.{between_before}
-use Rattle.jv_pending.proofs.Parts.{last_end}
+use Rattle.jv_pending.proofs.EntryLaws.{between_before}
+use Rattle.jv_pending.proofs.PartLaws.{last_end}
 use Rattle.jv_pending.proofs.run.last_before.Goals as goal
 use Rattle.jv_model.specs.Lists.{last_item}
 

@@ -2,10 +2,10 @@ use Rattle.std.proofs.Common.{◌≡◌, ◌+◌, ◌-◌, ◌%◌, ◌∙◌, �
 use Rattle.std.proofs.lemmas.List.{take-take, take-append-drop, drop_all, append-nil}
 use Rattle.jv_pending.specs.declared.run.RunStart.{RunStart}
 use Rattle.jv_pending.specs.Runs.{place, gap, Rise, Starts, Writes}
-use Rattle.jv_pending.proofs.Parts.{with_rise}
-use Rattle.jv_pending.proofs.Outcomes.{some_value}
-use Rattle.jv_pending.proofs.Entries.{one_rises, there_before}
-use Rattle.jv_pending.proofs.Written.{no_gap, reaches_here, starts_behind, border_fits, border_written}
+use Rattle.jv_pending.proofs.PartLaws.{with_rise}
+use Rattle.jv_pending.proofs.OutcomeLaws.{some_value}
+use Rattle.jv_pending.proofs.EntryLaws.{one_rises, there_before}
+use Rattle.jv_pending.proofs.WrittenLaws.{no_gap, reaches_here, starts_behind, border_fits, border_written}
 use Rattle.jv_pending.proofs.write.+write_from.Goals as goal
 use Rattle.jv_model.specs.declared.limits.TheConstants.{FILE_END, WINDOW}
 

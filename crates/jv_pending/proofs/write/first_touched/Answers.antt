@@ -1,8 +1,8 @@
 use Rattle.std.proofs.Common.{◌≡◌, Some, None, subst, arith}
 use Rattle.jv_pending.specs.Runs.{Run, place_of, runs_before}
-use Rattle.jv_pending.proofs.Parts.{Rise-order}
-use Rattle.jv_pending.proofs.Joins.{gap_le}
-use Rattle.jv_pending.proofs.Touched.{last_is_run, first_reaches, first_none, first_apart}
+use Rattle.jv_pending.proofs.PartLaws.{Rise-order}
+use Rattle.jv_pending.proofs.JoinLaws.{gap_le}
+use Rattle.jv_pending.proofs.TouchedLaws.{last_is_run, first_reaches, first_none, first_apart}
 use Rattle.jv_pending.proofs.write.first_touched.Goals as goal
 use Rattle.jv_pending.proofs.write.first_touched.Goals.{else-start-inode-via-then-start-inode+else-from-end, else-start-inode-via-else-start-inode}
 use Rattle.jv_model.specs.Lists.{last_item}

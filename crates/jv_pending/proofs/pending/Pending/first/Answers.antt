@@ -6,8 +6,8 @@ use Rattle.jv_pending.specs.declared.segment.SegmentAt.{SegmentAt}
 use Rattle.jv_pending.specs.At.{segment_at}
 use Rattle.jv_pending.specs.Held.{PendingValue}
 use Rattle.jv_pending.specs.Runs.{pending_bytes}
-use Rattle.jv_pending.proofs.Order.{Rises-runs}
-use Rattle.jv_pending.proofs.Segments.{rising}
+use Rattle.jv_pending.proofs.OrderLaws.{Rises-runs}
+use Rattle.jv_pending.proofs.SegmentRunLaws.{rising}
 use Rattle.jv_pending.proofs.SegmentLaws.{segment-ends}
 use Rattle.jv_pending.proofs.pending.Pending.first.Goals as goal
 

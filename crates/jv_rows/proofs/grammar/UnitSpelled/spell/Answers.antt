@@ -3,7 +3,7 @@ use Rattle.jv_model.specs.declared.tables.TheConstants.{TABLE_OF_SUSTAINED}
 use Rattle.jv_model.specs.declared.row.Row.TheVariants.{OfSustained}
 use Rattle.jv_model.specs.rows.RowGrammar.{row_of}
 use Rattle.jv_rows.specs.Tables.{sustained_row}
-use Rattle.jv_rows.proofs.ExactRows.{sustained_exact}
+use Rattle.jv_rows.proofs.ExactRowLaws.{sustained_exact}
 use Rattle.jv_rows.proofs.grammar.UnitSpelled.spell.Goals as goal
 
 pub returns : goal.returns

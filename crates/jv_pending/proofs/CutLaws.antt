@@ -2,7 +2,7 @@
 use Rattle.std.proofs.Common.{◌≡◌, ℕ, ◌+◌, ◌-◌, ◌≤◌, List, [], ◌∷◌, length, refl, arith}
 use Rattle.std.proofs.lemmas.List.{append-nil, length-drop}
 use Rattle.jv_pending.specs.Runs.{Run, placed, end_place, IsRun, InOrder, IsCut, BeginBy, Reaches, joined_from, joined, tail_of}
-use Rattle.jv_pending.proofs.Joins.{gap_le, length_joined}
+use Rattle.jv_pending.proofs.JoinLaws.{gap_le, length_joined}
 use Rattle.jv_model.specs.declared.limits.TheConstants.{FILE_END}
 
 -- one run is bytes in a row

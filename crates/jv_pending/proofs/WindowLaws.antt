@@ -6,12 +6,12 @@ use Rattle.jv_model.specs.declared.limits.TheConstants.{FILE_END, WINDOW}
 use Rattle.jv_model.specs.client.Pending.{PendingByte, written}
 use Rattle.jv_pending.specs.Runs.{Run, place, place_of, bytes_at, runs_before, runs_from, runs_within, Rise, placed, pending_bytes, end_place, gap, IsRun, InOrder, end_after, IsCut, IsTouched, BeginBy, Reaches, head_of, tail_of, joined_from, joined, joined_behind, Rewrites}
 use Rattle.jv_pending.specs.declared.run.RunStart.{RunStart}
-use Rattle.jv_pending.proofs.Order.{EndBy-weaker, InOrder-left, InOrder-right, pending_bytes-append, length-placed, Rises-runs}
-use Rattle.jv_pending.proofs.Joins.{gap_le, gap_tells, length_joined, BeginBy-weaker, written_joined, order_joined}
-use Rattle.jv_pending.proofs.Cuts.{one_cut, joined_in_file}
-use Rattle.jv_pending.proofs.Parts.{thirds, within_is, Rise-order}
-use Rattle.jv_pending.proofs.Entries.{within_cons, absent}
-use Rattle.jv_pending.proofs.Touched.{head_is, take_none}
+use Rattle.jv_pending.proofs.OrderLaws.{EndBy-weaker, InOrder-left, InOrder-right, pending_bytes-append, length-placed, Rises-runs}
+use Rattle.jv_pending.proofs.JoinLaws.{gap_le, gap_says, length_joined, BeginBy-weaker, written_joined, order_joined}
+use Rattle.jv_pending.proofs.CutLaws.{one_cut, joined_in_file}
+use Rattle.jv_pending.proofs.PartLaws.{thirds, within_is, Rise-order}
+use Rattle.jv_pending.proofs.EntryLaws.{within_cons, absent}
+use Rattle.jv_pending.proofs.TouchedLaws.{head_is, take_none}
 
 -- the touched runs end in the window of the write
 tail_in_window : (i q to low : ℕ) (mid : List Run) → q * WINDOW < to → to ≤ q * WINDOW + WINDOW → InOrder low mid → BeginBy i (to + gap to - 1) mid → to + length (tail_of to mid) ≤ q * WINDOW + WINDOW
@@ -20,13 +20,13 @@ tail_in_window i q to low (x ∷ []) g l o a =
     let w = o.0.in_window in
     let b = a.1 in
     let n : length (drop (to - x.0.from) x.1) ≡ length x.1 - (to - x.0.from) = length-drop (to - x.0.from) x.1 in
-    let f : x.0.from / WINDOW ≤ q = ⊎_elim (λ z. let e = z.1 in omega arith) (λ z. let e = z.1 in let p = z.0 in omega arith) (gap_tells to) in
+    let f : x.0.from / WINDOW ≤ q = ⊎_elim (λ z. let e = z.1 in omega arith) (λ z. let e = z.1 in let p = z.0 in omega arith) (gap_says to) in
     omega arith
 tail_in_window i q to low (x ∷ y ∷ ms) g l o a = tail_in_window i q to (end_place x) (y ∷ ms) g l o.2 a.2
 
 -- the first of them begins there
 same_window : (f n from len : ℕ) → f ≤ from → from + 1 ≤ f + n + gap from → f % WINDOW + n ≤ WINDOW → 0 < len → from % WINDOW + len ≤ WINDOW → f / WINDOW ≡ from / WINDOW
-same_window f n from len h r w s l = ⊎_elim (λ z. let e = z.1 in let p = z.0 in omega arith) (λ z. let e = z.1 in let p = z.0 in omega arith) (gap_tells from)
+same_window f n from len h r w s l = ⊎_elim (λ z. let e = z.1 in let p = z.0 in omega arith) (λ z. let e = z.1 in let p = z.0 in omega arith) (gap_says from)
 
 tail_joined : (i to low : ℕ) (x : Run) (rest : List Run) → InOrder low (x ∷ rest) → BeginBy i to (x ∷ rest) → drop (to - x.0.from) x.1 ++ tail_of to rest ≡ tail_of to (x ∷ rest)
 tail_joined i to low x [] o a = append-nil (drop (to - x.0.from) x.1)

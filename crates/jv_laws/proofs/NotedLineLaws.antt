@@ -19,8 +19,8 @@ use Rattle.jv_model.specs.journal.Stepping.{entry_of}
 use Rattle.jv_model.specs.script.ReplyText.{printed_line, with_feed}
 use Rattle.jv_laws.proofs.JournalGrowthLaws.{own_client, other_client}
 use Rattle.jv_laws.specs.OnLines.{IsAlone, IsNow, Leads, SameLine}
-use Rattle.jv_laws.proofs.EntriesOfLines.{moment_asked, stands_on, entered, after_asking, leads_one}
-use Rattle.jv_laws.proofs.StepsOnLines.{IsDone}
+use Rattle.jv_laws.proofs.LineEntryLaws.{moment_asked, stands_on, entered, after_asking, leads_one}
+use Rattle.jv_laws.proofs.LineStepLaws.{IsDone}
 
 -- the one entry of a line is allowed, and leads there; the line prints this
 pub record Notes (q : Past) (act : Act) (text : List ℕ) (r : Past) : Type 0 where

@@ -5,12 +5,12 @@ use Rattle.std.proofs.lemmas.List.{append_assoc, append-nil, length-append, leng
 use Rattle.jv_model.specs.declared.limits.TheConstants.{FILE_END, WINDOW}
 use Rattle.jv_model.specs.client.Pending.{PendingByte, written}
 use Rattle.jv_pending.specs.Runs.{Run, place, placed, pending_bytes, end_of_run, end_place, start_place, gap, InOrder, Rise, end_after, IsCut, head_of, tail_of, joined_from, joined, EndBy, BeginBy, Reaches}
-use Rattle.jv_pending.proofs.Bytes.{Rises, Rises-weaker, front, back, front_from, back_from, written_is}
-use Rattle.jv_pending.proofs.Order.{EndBy-weaker, InOrder-weaker, InOrder-left, InOrder-right, InOrder-append, end_after_by, end_after_mono, pending_bytes-append, placed-append, Rises-runs, front_runs, back_runs, back_run, front_part, back_part}
+use Rattle.jv_pending.proofs.ByteLaws.{Rises, Rises-weaker, front, back, front_from, back_from, written_is}
+use Rattle.jv_pending.proofs.OrderLaws.{EndBy-weaker, InOrder-weaker, InOrder-left, InOrder-right, InOrder-append, end_after_by, end_after_mono, pending_bytes-append, placed-append, Rises-runs, front_runs, back_runs, back_run, front_part, back_part}
 
 -- a gap is 0 at the begin of a window, and 1 elsewhere
-pub gap_tells : (f : ℕ) → ((f % WINDOW ≡ 0) × (gap f ≡ 0)) ⊎ ((0 < f % WINDOW) × (gap f ≡ 1))
-gap_tells f =
+pub gap_says : (f : ℕ) → ((f % WINDOW ≡ 0) × (gap f ≡ 0)) ⊎ ((0 < f % WINDOW) × (gap f ≡ 1))
+gap_says f =
     ⊎_elim
     (λ e. inl (e, cond-true (eqb (f % WINDOW) 0) 0 1 (eq-eqb (f % WINDOW) 0 e)))
     (λ n. inr (omega arith, cond-false (eqb (f % WINDOW) 0) 0 1 (ne_eqb (f % WINDOW) 0 n)))
@@ -21,7 +21,7 @@ gap_le f =
     ⊎_elim
     (λ z. let e = z.1 in (omega arith, omega arith))
     (λ z. let e = z.1 in let l : 0 < f = omega (arith, z.0) in (omega arith, omega arith))
-    (gap_tells f)
+    (gap_says f)
 
 -- the bytes before the write
 head_from : (i from f : ℕ) (bs : List ℕ) → placed i f (take (from - f) bs) ≡ placed i (min f from) (take (from - f) bs)
@@ -154,5 +154,5 @@ order_after i to low (y ∷ ys) o l r =
     (cases_lt to FILE_END))
     (λ n. omega arith)
     (cases_eq (place i to) (start_place y)))
-    (gap_tells y.0.from) in
+    (gap_says y.0.from) in
     (o.0, starts, o.2)

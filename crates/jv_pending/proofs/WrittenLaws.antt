@@ -8,19 +8,19 @@ use Rattle.jv_model.specs.client.Pending.{PendingByte, written}
 use Rattle.jv_model.specs.Lists.{first_item}
 use Rattle.jv_pending.specs.declared.run.RunStart.{RunStart}
 use Rattle.jv_pending.specs.Runs.{Run, place, place_of, placed, start_place, end_place, end_of_run, gap, bytes_at, pending_bytes, InOrder, Rise, Before, EndBy, end_after, runs_before, runs_from, runs_within, with_runs, tail_of, joined_from, joined, BeginBy, Reaches, joined_behind, IsFirst, IsTouched, Starts, Writes}
-use Rattle.jv_pending.proofs.Bytes.{Rises, front, back, written_is, written-append}
-use Rattle.jv_pending.proofs.Order.{EndBy-weaker, InOrder-weaker, InOrder-left, InOrder-append, end_after_by, pending_bytes-append, Rises-runs, front_runs, back_runs}
-use Rattle.jv_pending.proofs.Joins.{gap_le, gap_tells}
-use Rattle.jv_pending.proofs.Parts.{Rise-order, Rise-weaker, Rise-before, Rise-from, Before-before, before_none, from_none, from_all, from_from, before_before, before_all, within_is, whole, with_before, with_here}
-use Rattle.jv_pending.proofs.Entries.{one_rises}
-use Rattle.jv_pending.proofs.Touched.{touched, late, end_early, InOrder-from, InOrder-before}
-use Rattle.jv_pending.proofs.Windows.{AtFirst, at_first, rewritten, rewritten_order, one_rewrites, at_reaches, joined_here, ends_by_border, joined_border}
+use Rattle.jv_pending.proofs.ByteLaws.{Rises, front, back, written_is, written-append}
+use Rattle.jv_pending.proofs.OrderLaws.{EndBy-weaker, InOrder-weaker, InOrder-left, InOrder-append, end_after_by, pending_bytes-append, Rises-runs, front_runs, back_runs}
+use Rattle.jv_pending.proofs.JoinLaws.{gap_le, gap_says}
+use Rattle.jv_pending.proofs.PartLaws.{Rise-order, Rise-weaker, Rise-before, Rise-from, Before-before, before_none, from_none, from_all, from_from, before_before, before_all, within_is, whole, with_before, with_here}
+use Rattle.jv_pending.proofs.EntryLaws.{one_rises}
+use Rattle.jv_pending.proofs.TouchedLaws.{touched, late, end_early, InOrder-from, InOrder-before}
+use Rattle.jv_pending.proofs.WindowLaws.{AtFirst, at_first, rewritten, rewritten_order, one_rewrites, at_reaches, joined_here, ends_by_border, joined_border}
 
 InOrder-at : (m n : ℕ) (rs : List Run) → m ≡ n → InOrder m rs → InOrder n rs
 InOrder-at m n rs e o = subst (λ k. InOrder k rs) e o
 
 pub no_gap : (n : ℕ) → n % WINDOW ≡ 0 → gap n ≡ 0
-no_gap n e = ⊎_elim (λ z. z.1) (λ z. absurd (let p = z.0 in omega arith)) (gap_tells n)
+no_gap n e = ⊎_elim (λ z. z.1) (λ z. absurd (let p = z.0 in omega arith)) (gap_says n)
 
 -- a write changes nothing before it
 pub written_over : (i f low : ℕ) (bs : List ℕ) (xs : List Run) (q : List PendingByte) → f + length bs ≤ FILE_END → EndBy (place i f) xs → Rises low (pending_bytes xs ++ q) → Rises low q → written i f bs (pending_bytes xs ++ q) ≡ pending_bytes xs ++ written i f bs q

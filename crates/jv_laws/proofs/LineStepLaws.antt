@@ -17,7 +17,7 @@ use Rattle.jv_model.specs.script.ReplyText.{printed_line}
 use Rattle.jv_laws.proofs.JournalGrowthLaws.{others_kept}
 use Rattle.jv_laws.proofs.JournalLineLaws.{is_aside, not_aside}
 use Rattle.jv_laws.specs.OnLines.{IsAlone, IsNow, Leads, SameLine}
-use Rattle.jv_laws.proofs.EntriesOfLines.{leads_more, moment_asked, moment_kept, stands_on, entered, after_asking, after_kept, leads_one}
+use Rattle.jv_laws.proofs.LineEntryLaws.{leads_more, moment_asked, moment_kept, stands_on, entered, after_asking, after_kept, leads_one}
 
 -- what an entry does, on any line
 

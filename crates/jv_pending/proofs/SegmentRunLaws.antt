@@ -11,13 +11,13 @@ use Rattle.jv_model.proofs.TestLaws.{some_same}
 use Rattle.jv_model.specs.Lists.{first_item, last_item}
 use Rattle.jv_pending.specs.declared.run.RunStart.{RunStart}
 use Rattle.jv_pending.specs.Runs.{Run, place, place_of, placed, pending_bytes, bytes_at, end_of_run, start_place, end_place, segment_of_run, IsRun, InOrder, Rise, Before, runs_before, runs_from, without_run}
-use Rattle.jv_pending.proofs.Places.{byte_place, stands_here, stands_apart, after_true}
-use Rattle.jv_pending.proofs.Bytes.{Rises, Rises-weaker, Rises-placed}
-use Rattle.jv_pending.proofs.Order.{Rises-runs, InOrder-weaker, pending_bytes-append, length-placed}
-use Rattle.jv_pending.proofs.Joins.{gap_tells}
-use Rattle.jv_pending.proofs.Parts.{Rise-order, Rise-before, Rise-from, Before-before, Before-weaker, Before-last, Before-end, from_all, whole, first_split, first_nothing, first_at}
-use Rattle.jv_pending.proofs.Entries.{there, present}
-use Rattle.jv_pending.proofs.Touched.{InOrder-from, last_split, last_nothing, last_file, last_is_run}
+use Rattle.jv_pending.proofs.PlaceLaws.{byte_place, stands_here, stands_apart, after_true}
+use Rattle.jv_pending.proofs.ByteLaws.{Rises, Rises-weaker, Rises-placed}
+use Rattle.jv_pending.proofs.OrderLaws.{Rises-runs, InOrder-weaker, pending_bytes-append, length-placed}
+use Rattle.jv_pending.proofs.JoinLaws.{gap_says}
+use Rattle.jv_pending.proofs.PartLaws.{Rise-order, Rise-before, Rise-from, Before-before, Before-weaker, Before-last, Before-end, from_all, whole, first_split, first_nothing, first_at}
+use Rattle.jv_pending.proofs.EntryLaws.{there, present}
+use Rattle.jv_pending.proofs.TouchedLaws.{InOrder-from, last_split, last_nothing, last_file, last_is_run}
 
 -- bytes that rise are rising
 after_all : (b : PendingByte) (low : ℕ) (bs : List PendingByte) → byte_place b < low → Rises low bs → all_after b.inode b.position bs ≡ true
@@ -152,7 +152,7 @@ apart r (x ∷ rs) o h =
     ⊎_elim
     (λ z. let e = z.0 in let c = z.1 in omega arith)
     (λ z. let c = z.1 in omega arith)
-    (gap_tells x.0.from) in
+    (gap_says x.0.from) in
     Rises-placed x.0.inode x.0.from (end_place r + 1) (end_of_run x) x.1 (pending_bytes rs) refl o.0.in_file starts (Rises-runs (end_place x) rs o.2)
 
 -- the runs are of other inodes

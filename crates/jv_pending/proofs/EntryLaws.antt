@@ -13,7 +13,7 @@ use Rattle.jv_model.specs.declared.limits.TheConstants.{FILE_END}
 use Rattle.jv_model.proofs.TestLaws.{some_same, nat_less}
 use Rattle.jv_pending.specs.declared.run.RunStart.{RunStart}
 use Rattle.jv_pending.specs.Runs.{Run, start_cmp, bytes_at, place_of, start_place, Rise, runs_before, runs_from, runs_within, with_runs, without_run, given_back}
-use Rattle.jv_pending.proofs.Parts.{before_yes, before_no, from_yes, from_no, before_none, from_all, Rise-from, whole, within_is, cut_before, cut_rest, cut_rise, with_before, with_from, with_here, with_rise, with_with}
+use Rattle.jv_pending.proofs.PartLaws.{before_yes, before_no, from_yes, from_no, before_none, from_all, Rise-from, whole, within_is, cut_before, cut_rest, cut_rise, with_before, with_from, with_here, with_rise, with_with}
 
 -- starts go as their places do
 cmp_equal : (m n : ℕ) → m ≡ n → nat_cmp m n ≡ Equal

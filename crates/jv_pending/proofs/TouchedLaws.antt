@@ -9,10 +9,10 @@ use Rattle.jv_model.proofs.TestLaws.{some_same}
 use Rattle.jv_model.specs.Lists.{first_item, last_item}
 use Rattle.jv_pending.specs.declared.run.RunStart.{RunStart}
 use Rattle.jv_pending.specs.Runs.{Run, place, place_of, start_place, end_place, end_of_run, gap, bytes_at, IsRun, InOrder, Rise, Before, EndBy, BeginBy, Reaches, IsFirst, IsTouched, runs_before, runs_from, runs_within, head_of, tail_of, joined_from}
-use Rattle.jv_pending.proofs.Order.{EndBy-weaker, InOrder-left}
-use Rattle.jv_pending.proofs.Joins.{BeginBy-weaker, gap_le, gap_tells, order_after}
-use Rattle.jv_pending.proofs.Parts.{before_yes, before_no, before_none, before_all, from_yes, from_no, from_none, from_all, Rise-order, Rise-before, Rise-from, Before-before, Before-weaker, Before-last, file_last, last_early, before_before, within_is, whole}
-use Rattle.jv_pending.proofs.Entries.{present, absent, there}
+use Rattle.jv_pending.proofs.OrderLaws.{EndBy-weaker, InOrder-left}
+use Rattle.jv_pending.proofs.JoinLaws.{BeginBy-weaker, gap_le, gap_says, order_after}
+use Rattle.jv_pending.proofs.PartLaws.{before_yes, before_no, before_none, before_all, from_yes, from_no, from_none, from_all, Rise-order, Rise-before, Rise-from, Before-before, Before-weaker, Before-last, file_last, last_early, before_before, within_is, whole}
+use Rattle.jv_pending.proofs.EntryLaws.{present, absent, there}
 
 -- the last run
 pub last_split : (xs : List Run) (r : Run) → Some r ≡ last_item xs → (t : List Run) × (xs ≡ t ++ r ∷ [])
@@ -266,7 +266,7 @@ touched i from to rs first end o lt file f ei ef =
     let fi = f.inode_is in
     let ff = f.from_is in
     let up : place_of first < place_of end = omega arith in
-    let top : to + gap to ≤ FILE_END = ⊎_elim (λ z. let e = z.1 in omega arith) (λ z. let p = z.0 in ⊎_elim (λ l. omega arith) (λ s. absurd (omega arith)) (cases_lt to FILE_END)) (gap_tells to) in
+    let top : to + gap to ≤ FILE_END = ⊎_elim (λ z. let e = z.1 in omega arith) (λ z. let p = z.0 in ⊎_elim (λ l. omega arith) (λ s. absurd (omega arith)) (cases_lt to FILE_END)) (gap_says to) in
     let mid : List Run = runs_within (place_of first) (place_of end) rs in
     let behind : List Run = runs_from (place_of first) rs in
     let same : mid ≡ runs_before (place_of end) behind = within_is (place_of first) (place_of end) rs in

@@ -4,7 +4,7 @@ use Rattle.std.proofs.lemmas.Bool.{cases_order, cases_lt, cond-true, cond-false,
 use Rattle.jv_model.specs.declared.limits.TheConstants.{FILE_END}
 use Rattle.jv_model.specs.client.Pending.{PendingByte, stands_at, comes_before, byte_set, written}
 use Rattle.jv_pending.specs.Runs.{place, placed}
-use Rattle.jv_pending.proofs.Places.{byte_place, stands_here, stands_apart, after_true, after_false}
+use Rattle.jv_pending.proofs.PlaceLaws.{byte_place, stands_here, stands_apart, after_true, after_false}
 
 -- the bytes rise strictly from a place on
 abbrev pub Rises : ℕ → List PendingByte → Type 0

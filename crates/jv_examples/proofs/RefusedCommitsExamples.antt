@@ -18,9 +18,9 @@ use Rattle.jv_examples.proofs.RefusalLaws.{entry_is_allowed, own_step, refused_b
 use Rattle.jv_examples.proofs.JournalRuns.{run_of, entry, entry_at, journals_compute, ◌∴◌}
 
 -- an upload that finds no block, where no threads upload, has none that is owed
-abbrev tells_none : Told → Bool
-tells_none (Fine a b c d) = d == 0
-tells_none _ = false
+abbrev says_none : Told → Bool
+says_none (Fine a b c d) = d == 0
+says_none _ = false
 
 none_is_owed : {start : Start} {s : State} {client now : ℕ} {c : ModelClient} {o : Op} {flush : ToFlush} → MayAnswer start true s client now c (record { op = o; does = Uploads; flush = flush; stage = Working 0 0; moved = false }) (Fine 0 0 0 0)
     → owes_none s client ≡ false → ⊥
@@ -33,7 +33,7 @@ none_is_owed (CleanedUp h) owed = let never = ap is_cleans h.stage in absurd (cc
 none_is_owed (HasCompacted (TooShort k records stage quiets on few e)) owed = let never = ap is_compacting stage in absurd (cc)
 none_is_owed (HasCompacted (HasReplaced k before after stage replaced two e)) owed = let never = ap is_compacting stage in absurd (cc)
 none_is_owed (HasCollected count bytes judged e) owed = absurd (cc)
-none_is_owed (HasUploaded does (Sent id index size stage e)) owed = let never = ap tells_none e in absurd (cc)
+none_is_owed (HasUploaded does (Sent id index size stage e)) owed = let never = ap says_none e in absurd (cc)
 none_is_owed (HasUploaded does (FoundNone ready first none_owed e)) owed = let never = sym owed ∙ none_owed in absurd (cc)
 none_is_owed (IsRefusedBy fault moved h e) owed = absurd (cc)
 

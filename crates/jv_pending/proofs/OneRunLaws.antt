@@ -6,11 +6,11 @@ use Rattle.jv_model.specs.client.Pending.{written}
 use Rattle.jv_model.specs.Lists.{last_item}
 use Rattle.jv_pending.specs.declared.run.RunStart.{RunStart}
 use Rattle.jv_pending.specs.Runs.{Run, place, place_of, placed, start_place, end_of_run, gap, bytes_at, pending_bytes, InOrder, Rise, Before, runs_before, runs_from, runs_within, with_runs, tail_of, joined_behind, IsFirst, IsOnly, Starts, Writes}
-use Rattle.jv_pending.proofs.Order.{pending_bytes-append, length-placed}
-use Rattle.jv_pending.proofs.Parts.{Rise-order, Rise-before, Rise-from, Before-weaker, Before-last, Before-end, before_all, before_before, from_none, from_from, within_is, whole}
-use Rattle.jv_pending.proofs.Entries.{put_back, swap_rises}
-use Rattle.jv_pending.proofs.Touched.{last_split, last_there, first_reaches}
-use Rattle.jv_pending.proofs.Written.{starts, reaches_here, window_written, all_order, all_written}
+use Rattle.jv_pending.proofs.OrderLaws.{pending_bytes-append, length-placed}
+use Rattle.jv_pending.proofs.PartLaws.{Rise-order, Rise-before, Rise-from, Before-weaker, Before-last, Before-end, before_all, before_before, from_none, from_from, within_is, whole}
+use Rattle.jv_pending.proofs.EntryLaws.{put_back, swap_rises}
+use Rattle.jv_pending.proofs.TouchedLaws.{last_split, last_there, first_reaches}
+use Rattle.jv_pending.proofs.WrittenLaws.{starts, reaches_here, window_written, all_order, all_written}
 
 -- the last run before a place, where it begins early enough, is the only one that a write touches
 module _ (n : ℕ) (rs : List Run) (r : Run) (o : InOrder 0 rs) (h : Some r ≡ last_item (runs_before n rs)) where
