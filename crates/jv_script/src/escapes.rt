@@ -67,7 +67,8 @@ fn is_sound(plain: &[u8], escapes: Option<&[u8]>) -> bool
 
 fn first_spelled(plain: &[u8], escapes: Option<&[u8]>) -> Option<u8>
     requires { list_all is_escape (escapes_left escapes) ≡ true }
-    ensures { result ≡ first_item (plain.now ++ flat_map escape_bytes (escapes_left escapes.entry)) }
+    ensures { result ≡ first_item (plain.now
+        ++ flat_map escape_bytes (escapes_left escapes.entry)) }
 {
     match plain {
         [first, ..] => Some(*first),
