@@ -8,6 +8,7 @@ ghost use Rattle.jv_outside.specs.Stream.{WritesAll};
 use itoa::Buffer;
 use jv_model::{Bytes, Down, RowKey};
 use jv_outside::{Sink, write_whole};
+use jv_script::hex_pair;
 
 /// How a command ended.
 #[derive(Debug, Drop, PartialEq, Eq)]
