@@ -18,7 +18,7 @@ use Rattle.jv_model.specs.declared.setting.Setting.{Setting}
 use Rattle.jv_model.specs.declared.slice.Rec.{Rec}
 use Rattle.jv_model.specs.rows.RowFaults.{row_fault}
 use Rattle.jv_model.specs.tree.Tree.{Tree, node_at}
-use Rattle.jv_model.specs.tree.FileBytes.{committed}
+use Rattle.jv_model.specs.tree.FileBytes.{commit_of, committed}
 use Rattle.jv_model.specs.client.Pending.{Segment, bytes_in_range, without_range}
 use Rattle.jv_model.specs.client.Submission.{next_segment}
 use Rattle.jv_model.specs.client.ModelClient.{ModelClient, Doing, Working, session_of}
@@ -43,7 +43,7 @@ use Rattle.jv_shared.proofs.StoreLaws.{block_some, rows_are}
 use Rattle.jv_steps.specs.IsStep.{IsStep, at_stage}
 use Rattle.jv_steps.specs.RefusesCommit.{RefusesCommit, Late, NoFile, NoRoom, NoSession}
 use Rattle.jv_steps.proofs.CommitStepLaws.{commit-answered, commit-left, commit-then}
-use Rattle.jv_steps.proofs.CommitTestLaws.{commit_tested, tests-allow, tests-commit, tests-done, tests-refuse}
+use Rattle.jv_steps.proofs.CommitTestLaws.{tests-allow, tests-commit, tests-done, tests-refuse}
 use Rattle.jv_steps.proofs.CommitTestLaws.{tests-undone}
 use Rattle.jv_steps.proofs.RefusalStepLaws.{commit-refused, goes-working}
 use Rattle.jv_requests.specs.Request.{Request}
@@ -120,10 +120,10 @@ module _ (s : State) (g : Known) (v : Shared) (store : HasStore s.tree g v) (cli
     made : Made
     made = (commits f.bytes at_once).lands store.rows store.rows_are store.whole known_bytes is_new
 
-    tested : commit_tested (session_of c) segment.inode segment.from patch started now s.tree
+    tested : commit_of (session_of c) segment.inode segment.from patch started now s.tree
         ≡ Ok (tree_with known_bytes (typed made.left))
     tested =
-        tests-done (commit_tested (session_of c) segment.inode segment.from patch started now s.tree)
+        tests-done (commit_of (session_of c) segment.inode segment.from patch started now s.tree)
         (record { tree = tree_with known_bytes (typed made.left); reply = reply.Done }) (sym committing-same ∙ made.model)
 
     tree-is : tree_with known_bytes (typed made.left) ≡ grown
@@ -195,10 +195,10 @@ module _ (s : State) (g : Known) (v : Shared) (store : HasStore s.tree g v) (cli
   module _ (fault : Fault)
       (commits : CommitsRecord sid now segment.inode window (whole_record pos f) started v.keeper keeper
       (Err (TxRefused fault))) where
-    undone : commit_tested (session_of c) segment.inode segment.from patch started now s.tree ≡ Err fault
+    undone : commit_of (session_of c) segment.inode segment.from patch started now s.tree ≡ Err fault
     undone = elim ((commits f.bytes at_once).lands store.rows store.rows_are store.whole known_bytes is_new) [
       | inl refused ↦
-          tests-undone (commit_tested (session_of c) segment.inode segment.from patch started now s.tree) fault
+          tests-undone (commit_of (session_of c) segment.inode segment.from patch started now s.tree) fault
           (sym committing-same ∙ refused)
       | inr full ↦ absurd full.full
     ]
