@@ -21,7 +21,7 @@ loop-c-preserved g c =
     })
 
 pub returns : goal.returns
-returns c = (
+returns g c = (
   c.loop-c.invariant.same,
   λ client low. c.loop-c.invariant.found client (omega arith),
   λ client high. ap (λ found. unwrap_or found empty_map) (slice_get_past c.loop-c.clients client (omega arith)),
