@@ -1,5 +1,5 @@
 -- What the calls of a reading do.
-use Rattle.std.specs.Prelude.{◌≡◌, ◌≢◌, ℕ, ◌≤◌, List, [], ◌∷◌, fold, length, is_some, true, None, Some}
+use Rattle.std.specs.Prelude.{◌≡◌, ◌≢◌, ℕ, ◌≤◌, List, [], ◌∷◌, fold, length, is_some, true, Option, None, Some}
 use Rattle.std.specs.List.{AllByRecursion}
 use Rattle.jv_model.specs.declared.slice.BlockId.{BlockId}
 use Rattle.jv_model.specs.declared.slice.Rec.{Rec}
