@@ -21,7 +21,7 @@ use Rattle.jv_model.specs.client.ModelClient.{ModelClient, free_handle}
 use Rattle.jv_model.specs.client.Profile.{handle_of}
 use Rattle.jv_model.specs.client.Submission.{is_flushed}
 use Rattle.jv_model.specs.journal.State.{State, Gift, after_told, caller, gift_of, is_refused}
-use Rattle.jv_model.specs.journal.State.{newly_sustained, transacted, is_refused}
+use Rattle.jv_model.specs.journal.State.{newly_sustained, transacted}
 use Rattle.jv_model.specs.journal.Steps.{entry_of_gift, told_of, transacts}
 use Rattle.jv_model.specs.Lists.{is_among}
 use Rattle.jv_model.specs.client.OpForms.{is_metadata, takes_entries, is_write}
